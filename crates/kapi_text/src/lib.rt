@@ -1,0 +1,12 @@
+//! Texts and lists as contracts see them, and want of memory.
+#![tactic(auto)]
+
+pub mod sequence;
+pub mod text;
+
+pub use sequence::{Sequence, TryCopy};
+use std::alloc::AllocError;
+pub use text::Text;
+
+/// Want of memory: a growth was refused, and nothing was changed.
+pub type Memory = AllocError;
