@@ -1,0 +1,4 @@
+pub mod Trees
+pub mod Slashes
+pub mod Bodies
+pub mod KeptGiven

@@ -1,0 +1,39 @@
+-- Trees: JSON objects as the data that they are (RFC 8259), each key once and in the order of its bytes.
+use Rattle.std.specs.Prelude.{ℕ, List, Bool, true, false, Option, Some, None, codes, is_some, option_and_then, option_map, unwrap_or, if◌then◌else◌}
+use Rattle.std.specs.Str.{is_utf8}
+use Rattle.serde_json.specs.Data.{Data, string, object, Members, no_members, put}
+use Rattle.serde_json.specs.Find.{get, as_null, as_object}
+use Rattle.serde_json.specs.Read.{read}
+
+-- the JSON object that the bytes are, if they are one (RFC 8259)
+unfoldable pub json_object : List ℕ → Option Data
+json_object text = if is_utf8 text then option_map object (option_and_then as_object (read text)) else None
+
+-- null
+abbrev pub is_null : Data → Bool
+is_null d = is_some (as_null d)
+
+-- an object without members
+abbrev pub is_empty_object : Data → Bool
+is_empty_object (object no_members) = true
+is_empty_object _ = false
+
+-- the members of an object, and none of anything else
+abbrev pub members_or_none : Option Data → Members
+members_or_none o = unwrap_or (option_and_then as_object o) no_members
+
+-- the members of an object's `metadata`; none where it is missing or no object
+abbrev pub metadata_of : Data → Members
+metadata_of tree = members_or_none (get (codes "metadata") tree)
+
+-- the value at a key of an object's `metadata`; none where that is missing or no object
+abbrev pub in_metadata : List ℕ → Data → Option Data
+in_metadata key tree = option_and_then (get key) (get (codes "metadata") tree)
+
+-- the tree with these members as its metadata; anything but an object has no other members
+abbrev pub with_metadata : Members → Data → Data
+with_metadata ms tree = object (put (codes "metadata") (object ms) (members_or_none (Some tree)))
+
+-- the tree with one text set in its metadata
+abbrev pub with_text : List ℕ → List ℕ → Data → Data
+with_text key text tree = with_metadata (put key (string text) (metadata_of tree)) tree

@@ -1,0 +1,81 @@
+ghost use Rattle.std.specs.Prelude.{◌≡◌, IfOk};
+ghost use Rattle.serde_json.specs.View.{view};
+ghost use Rattle.kapi_object.specs.Given.{given_if, given_of};
+ghost use Rattle.kapi_object.specs.Given.{text_given as text_given_of};
+ghost use Rattle.kapi_object.specs.Tree.{in_metadata as in_metadata_of};
+
+use crate::tree::in_metadata;
+use kapi_text::{Memory, Text, TryCopy};
+use serde_json::Value;
+use std::alloc::{AllocError, Global};
+
+/// What stands at a member that ought to be a text.
+#[derive(Debug, Drop)]
+pub enum GivenText {
+    /// Nothing, or null.
+    Absent,
+    Text(Text),
+    /// A value that is no text.
+    Mistyped,
+}
+
+impl TryCopy for GivenText {
+    fn copy(&self, alloc: Global) -> Result<GivenText, AllocError> {
+        match self {
+            GivenText::Absent => Ok(GivenText::Absent),
+            GivenText::Text(text) => Ok(GivenText::Text(text.copy(alloc)?)),
+            GivenText::Mistyped => Ok(GivenText::Mistyped),
+        }
+    }
+}
+
+/// What an object's metadata gives of its name, its namespace and its resource version.
+#[derive(Debug, Drop)]
+pub struct Given {
+    pub name: GivenText,
+    /// Absent on rows without namespaces.
+    pub namespace: GivenText,
+    pub resource_version: GivenText,
+}
+
+impl TryCopy for Given {
+    fn copy(&self, alloc: Global) -> Result<Given, AllocError> {
+        Ok(Given {
+            name: self.name.copy(alloc)?,
+            namespace: self.namespace.copy(alloc)?,
+            resource_version: self.resource_version.copy(alloc)?,
+        })
+    }
+}
+
+/// What a value gives where a text is wanted.
+fn text_given(alloc: Global, value: &Value) -> Result<GivenText, Memory>
+    ensures { IfOk result (λ g. g ≡ text_given_of (view value.now)) }
+{
+    match value {
+        Value::Null => Ok(GivenText::Absent),
+        Value::String(text) => Ok(GivenText::Text(Text::copy_of(alloc, text.as_str())?)),
+        _other => Ok(GivenText::Mistyped),
+    }
+}
+
+/// What the tree's metadata gives at a key.
+fn given_at(alloc: Global, tree: &Value, key: &str) -> Result<GivenText, Memory>
+    ensures { IfOk result (λ g. g ≡ given_if (in_metadata_of key.now (view tree.now))) }
+{
+    match in_metadata(tree, key) {
+        Some(value) => text_given(alloc, value),
+        None => Ok(GivenText::Absent),
+    }
+}
+
+/// What the tree's metadata gives.
+pub fn given_in(alloc: Global, tree: &Value) -> Result<Given, Memory>
+    ensures { IfOk result (λ g. g ≡ given_of (view tree.now)) }
+{
+    Ok(Given {
+        name: given_at(alloc, tree, "name")?,
+        namespace: given_at(alloc, tree, "namespace")?,
+        resource_version: given_at(alloc, tree, "resourceVersion")?,
+    })
+}
