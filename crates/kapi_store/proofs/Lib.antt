@@ -1,0 +1,7 @@
+pub mod SlotSteps
+pub mod Keys
+pub mod Trees
+pub mod Changes
+pub mod Stores
+pub mod Digits
+pub mod OnLiterals

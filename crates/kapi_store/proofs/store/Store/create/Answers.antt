@@ -1,0 +1,17 @@
+use Rattle.std.proofs.Common.{◌≡◌, ◌+◌, ◌∙◌, IsSome, sym, ap, subst, arith}
+use Rattle.std.specs.Map.{lookup}
+use Rattle.kapi_store.specs.declared.key.Key.{Key}
+use Rattle.kapi_store.specs.Keys.{is_key}
+use Rattle.kapi_store.specs.View.{state_of}
+use Rattle.kapi_store.proofs.Stores.{fits_one}
+use Rattle.kapi_store.proofs.store.Store.create.Goals as goal
+
+pub returns-clause-fits : goal.returns-clause-fits
+returns-clause-fits c =
+    let now : state_of c.self.inside ≡ c.args.self.now = c.self.view_is in
+    let Q : Key → Type 0 = λ k. IsSome (lookup (is_key k) c.make_slot.new.slots.entries) in
+    fits_one _ _ _ c.in_ok-ready.ensures
+    (c.in_ok-revision.ensures.next ∙ ap (λ s. s.revision + 1) (sym now))
+    c.in_ok-revision.ensures.last
+    (subst Q (sym c.in_ok-copy.ensures) c.in_ok-make_slot.ensures.slot)
+    (omega (arith, c.in_ok-reserve.ensures.ok))

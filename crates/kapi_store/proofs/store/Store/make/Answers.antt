@@ -1,0 +1,35 @@
+use Rattle.std.proofs.Common.{◌≡◌, ◌+◌, ◌≤◌, ◌∙◌, ap, sym, refl, subst, IsSome, Option, arith}
+use Rattle.kapi_object.specs.declared.object.Object.{Object}
+use Rattle.kapi_store.specs.declared.store.TheConstants.{LAST_REVISION}
+use Rattle.std.specs.Map.{lookup}
+use Rattle.kapi_store.specs.Keys.{is_key}
+use Rattle.kapi_store.specs.Changes.{placed, Follow}
+use Rattle.kapi_store.specs.State.{State, live, HasSlot}
+use Rattle.kapi_store.specs.View.{state_of}
+use Rattle.kapi_store.proofs.Stores.{next_store}
+use Rattle.kapi_store.proofs.store.Store.make.Goals as goal
+
+pub place-requires-clause-slot : goal.place-requires-clause-slot
+unfolding HasSlot
+place-requires-clause-slot c =
+    let now : state_of c.self.inside ≡ c.args.self.now = c.self.view_is in
+    let P : Option Object → Type 0 = λ o. IsSome o in
+    let Q : State → Type 0 = λ s. IsSome (lookup (is_key c.args.change.key) s.slots) in
+    λ some. subst Q (sym now) (c.requires.fits.slot (subst P c.requires.kept some))
+
+pub invariant_of-self : goal.invariant_of-self
+unfolding Follow
+invariant_of-self c =
+    let now : state_of c.self.inside ≡ c.args.self.now = c.self.view_is in
+    let next : c.args.change.revision ≡ c.args.self.now.revision + 1 = c.requires.fits.next.0 in
+    let last : c.args.self.now.revision + 1 ≤ LAST_REVISION = c.requires.fits.last in
+    next_store (state_of c.self.inside) _ c.args.change c.self.invariant c.place.ensures.ordered
+    (c.place.ensures.objects ∙ ap (λ o. placed c.args.change.key o (live c.self.inside.slots.entries)) c.requires.kept)
+    (rw c.unwrap.ensures at c.push.ensures.items)
+    refl refl
+    (next ∙ ap (λ s. s.revision + 1) (sym now))
+    (omega arith)
+
+pub returns-clause-revision : goal.returns-clause-revision
+unfolding Follow
+returns-clause-revision c = c.requires.fits.next.0

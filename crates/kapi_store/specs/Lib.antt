@@ -1,0 +1,6 @@
+pub mod Keys
+pub mod Stamps
+pub mod Changes
+pub mod State
+pub mod View
+pub mod Plain
