@@ -1,0 +1,11 @@
+pub mod Cutting
+pub mod Decided
+pub mod Digits
+pub mod HeadScans
+pub mod Heads
+pub mod Items
+pub mod Lists
+pub mod OnLiterals
+pub mod Printed
+pub mod Scanning
+pub mod Settling

@@ -1,0 +1,9 @@
+pub mod Cut
+pub mod Fields
+pub mod Head
+pub mod Inbox
+pub mod Message
+pub mod Reply
+pub mod Rules
+pub mod Scan
+pub mod Tied

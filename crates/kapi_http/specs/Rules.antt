@@ -1,0 +1,62 @@
+-- What a head must keep to be served, in the order in which it is looked at.
+use Rattle.std.specs.Prelude.{ℕ, ◌==◌, nat_lt, nat_le, if◌then◌else◌, not, ◌&&◌, List, [], ◌∷◌, length, codes, Option, Some, None, Result, Ok, Err}
+use Rattle.std.specs.List.{list_all}
+use Rattle.std.specs.Str.{bytes_eq}
+use Rattle.std.specs.Str.Parse.{digits_value}
+use Rattle.std.specs.Char.{is_ascii_digit}
+use Rattle.kapi_http.specs.Fields.{FieldBytes, values}
+use Rattle.kapi_http.specs.Head.{Says}
+use Rattle.kapi_http.specs.declared.message.Method.{Method}
+use Rattle.kapi_http.specs.declared.message.Method.TheVariants.{Get, Post, Put, Patch, Delete}
+use Rattle.kapi_http.specs.declared.message.Refusal.{Refusal}
+use Rattle.kapi_http.specs.declared.message.Refusal.TheVariants as refusal
+
+-- the method of that name, which is case-sensitive (RFC 9110 section 9.1)
+unfoldable pub method_named : List ℕ → Option Method
+method_named name =
+    if bytes_eq name (codes "GET") then Some Get
+    else if bytes_eq name (codes "POST") then Some Post
+    else if bytes_eq name (codes "PUT") then Some Put
+    else if bytes_eq name (codes "PATCH") then Some Patch
+    else if bytes_eq name (codes "DELETE") then Some Delete
+    else None
+
+-- a body of that size, where it is within the limit
+abbrev pub within_limit : ℕ → Result ℕ Refusal
+within_limit size = if nat_le size 1048576 then Ok size else Err refusal.BodyTooLarge
+
+-- the size that a Content-Length value gives: one or more digits and nothing else (RFC 9110 section 8.6)
+unfoldable pub content_length : List ℕ → Result ℕ Refusal
+content_length value =
+    if nat_lt 0 (length value) && list_all is_ascii_digit value then within_limit (digits_value 10 value)
+    else Err refusal.Length
+
+-- the size of the body, from the values of Transfer-Encoding and of Content-Length (RFC 9112 section 6.3); no transfer coding is read yet
+unfoldable pub size_by : List (List ℕ) → List (List ℕ) → Result ℕ Refusal
+size_by [] [] = Ok 0
+size_by [] (value ∷ []) = content_length value
+size_by [] (value ∷ other ∷ more) = Err refusal.Length
+size_by (coding ∷ codings) [] = Err refusal.TransferEncoding
+size_by (coding ∷ codings) (value ∷ more) = Err refusal.Length
+
+-- the size of the body that follows a head of these fields
+unfoldable pub body_size : List FieldBytes → Result ℕ Refusal
+body_size fields = size_by (values (codes "transfer-encoding") fields) (values (codes "content-length") fields)
+
+-- the method beside the body's size
+abbrev pub with_method : Method → Result ℕ Refusal → Result (Method × ℕ) Refusal
+with_method method (Ok size) = Ok (method, size)
+with_method method (Err why) = Err why
+
+-- the same, unless the method is none that is served
+abbrev pub if_served : Option Method → Result ℕ Refusal → Result (Method × ℕ) Refusal
+if_served None size = Err refusal.Method
+if_served (Some method) size = with_method method size
+
+-- the method and the body's size, or the first rule that the head breaks: HTTP/1.1, exactly one Host (RFC 9112 section 3.2), no Expect, a method that is served, a body of a known size within the limit
+unfoldable pub checked : Says → Result (Method × ℕ) Refusal
+checked h =
+    if h.minor == 0 then Err refusal.Version
+    else if not (length (values (codes "host") h.fields) == 1) then Err refusal.Host
+    else if not (length (values (codes "expect") h.fields) == 0) then Err refusal.Expectation
+    else if_served (method_named h.method) (body_size h.fields)

@@ -1,0 +1,149 @@
+//! The bytes of a connection that were not served yet.
+
+ghost use Rattle.std.specs.Prelude.{◌≡◌, ◌+◌, ◌<◌, ◌≤◌, ◌++◌, [], ◌↔◌, IfOk, IsFalse, IsTrue, OnOk, OnErr, Some, Ok, false, length};
+
+use crate::item::{Decision, Progress, advance, item, waits};
+use crate::message::{HttpFault, HttpRequest};
+use crate::scan::BEGIN;
+use kapi_text::Memory;
+use std::alloc::Global;
+use std::error::Error;
+use std::fmt;
+use std::marker::Model;
+
+/// The most bytes that a connection may have unserved.
+pub const KEPT_LIMIT: usize = 2_097_152;
+
+/// Why bytes were not taken.
+#[derive(Clone, Copy, Debug, PartialEq, Eq)]
+pub enum FeedError {
+    /// The unserved bytes would be above the limit.
+    Full,
+    /// A growth was refused.
+    Memory,
+    /// A fault was taken out, so that nothing more is read.
+    Ended,
+}
+
+impl fmt::Display for FeedError {
+    fn fmt<W: fmt::Write>(&self, f: &mut fmt::Formatter<W>) -> fmt::Result {
+        match self {
+            FeedError::Full => f.write_str("too many unserved bytes"),
+            FeedError::Memory => f.write_str("out of memory"),
+            FeedError::Ended => f.write_str("the connection has ended"),
+        }
+    }
+}
+
+impl Error for FeedError {}
+
+/// The bytes that were fed and not yet taken out.
+#[derive(Debug, Drop)]
+pub struct Inbox {
+    alloc: Global,
+    // The bytes before `start` were taken out.
+    bytes: Vec<u8>,
+    start: usize,
+    progress: Progress,
+    ended: bool,
+}
+
+const NOTHING_READ: Progress = Progress {
+    scan: BEGIN,
+    decision: Decision::Waits,
+};
+
+impl Model for Inbox {
+    ghost use Rattle.std.specs.Prelude.{drop};
+    ghost use Rattle.kapi_http.specs.Inbox.{Unserved};
+    ghost use Rattle.kapi_http.specs.Tied.{IsTied};
+
+    ghost Value = { Unserved };
+
+    ghost view = { λ i. record { kept = drop i.start i.bytes.items; ended = i.ended } };
+
+    ghost invariant = { λ i. IsTied i.bytes.items i.start i.progress };
+}
+
+impl Inbox {
+    ghost use Rattle.kapi_http.specs.Inbox.{after_next, next_of};
+
+    /// An inbox without bytes; takes no memory.
+    pub fn new(alloc: Global) -> Inbox
+        ensures { result ≡ record { kept = []; ended = false } }
+    {
+        Inbox {
+            alloc,
+            bytes: Vec::new(alloc),
+            start: 0,
+            progress: NOTHING_READ,
+            ended: false,
+        }
+    }
+
+    /// Takes bytes in, or none of them. After a fault was taken out, `Ended`; above 2,097,152 unserved bytes, `Full`.
+    pub fn feed(&mut self, piece: &[u8]) -> Result<(), FeedError>
+        ensures ok { OnOk result (self.new ≡ record { kept = self.old.kept ++ piece.now; ended = false }) }
+        ensures fits { OnOk result (length self.old.kept + length piece.now ≤ 2097152) }
+        ensures err { OnErr result (self.new ≡ self.old) }
+
+        // Tested in this order, and before any growth.
+        ensures ended { result ≡ Err FeedError.Ended ↔ IsTrue self.old.ended }
+        ensures full { result ≡ Err FeedError.Full
+            ↔ (IsFalse self.old.ended × (2097152 < length self.old.kept + length piece.now)) }
+    {
+        if self.ended {
+            return Err(FeedError::Ended);
+        }
+        if piece.len() > KEPT_LIMIT - (self.bytes.len() - self.start) {
+            return Err(FeedError::Full);
+        }
+        if self.bytes.extend_from_slice(piece).is_err() {
+            return Err(FeedError::Memory);
+        }
+        if waits(self.progress.decision) {
+            self.progress = advance(self.progress.scan, &self.bytes[self.start..]);
+        }
+        Ok(())
+    }
+
+    /// The first request or fault of the bytes, which stay; None where neither is whole, and after a fault was taken out.
+    pub fn next(&self) -> Result<Option<Result<HttpRequest, HttpFault>>, Memory>
+        ensures { IfOk result (λ o. o ≡ next_of self.now) }
+    {
+        if self.ended {
+            return Ok(None);
+        }
+        item(
+            self.alloc,
+            &self.bytes[self.start..],
+            self.progress.decision,
+        )
+    }
+
+    /// Takes out what `next` gives; after a fault nothing is read any more.
+    pub fn done(&mut self, item: &Result<HttpRequest, HttpFault>)
+        requires { next_of self.old ≡ Some item.now }
+        ensures { self.new ≡ after_next self.old item.now }
+    {
+        match item {
+            Ok(request) => {
+                let start = self.start + request.length;
+                // Moves the rest only where that is less than what was served before it.
+                if start > self.bytes.len() / 2 {
+                    self.bytes.drain(..start);
+                    self.start = 0;
+                } else {
+                    self.start = start;
+                }
+                self.progress = advance(BEGIN, &self.bytes[self.start..]);
+            }
+            Err(_) => {
+                self.bytes.clear();
+                self.start = 0;
+                self.progress = NOTHING_READ;
+                self.ended = true;
+            }
+        }
+    }
+}

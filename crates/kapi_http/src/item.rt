@@ -1,0 +1,230 @@
+//! What the bytes begin with: a whole request, a fault, or nothing yet.
+ghost use Rattle.std.specs.Prelude.{◌≡◌, ◌+◌, ◌≤◌, ◌<◌, [], All, IfOk, IsUtf8, length, take, map};
+ghost use Rattle.httparse.specs.Spans.{IsHeaderWithin, header_bytes, span_bytes};
+ghost use Rattle.kapi_http.specs.Cut.{code_of, fault_of, first, header_of, request_of, settled, settled_within, word_of};
+ghost use Rattle.kapi_http.specs.Fields.{fields_at};
+ghost use Rattle.kapi_http.specs.Head.{head_of};
+ghost use Rattle.kapi_http.specs.Inbox.{decision_of};
+ghost use Rattle.kapi_http.specs.Scan.{begin, scanned};
+ghost use Rattle.kapi_http.specs.Tied.{HasLines, HasRoom, IsRead, IsServed, is_waiting, method_sent};
+
+use crate::fields::some_lists;
+use crate::head::read_head;
+use crate::message::{Header, HttpFault, HttpRequest, Refusal, StatusCode};
+use crate::rules::{check, method_named};
+use crate::scan::{Scan, has_ended, scan_on};
+use httparse::spans::{EMPTY_HEADER_SPAN, HeaderSpan};
+use kapi_text::{Memory, Sequence, Text};
+use std::alloc::Global;
+use std::str;
+
+/// The most bytes that a head may have, with the empty lines before it and the one that ends it.
+pub const HEAD_LIMIT: usize = 16384;
+
+/// The most lines between the request line and the empty line.
+pub const LINE_LIMIT: usize = 64;
+
+/// What is settled of the bytes at hand.
+#[derive(Clone, Copy, Debug, PartialEq, Eq)]
+pub enum Decision {
+    /// The head is not whole yet.
+    Waits,
+    /// The request is refused; its head, where that was read, has so many bytes.
+    Refused(usize, Refusal),
+    /// The head has so many bytes, and the request so many in all.
+    Accepted(usize, usize),
+}
+
+/// How far the bytes at hand were read.
+#[derive(Clone, Copy, Debug, PartialEq, Eq)]
+pub struct Progress {
+    pub scan: Scan,
+    pub decision: Decision,
+}
+
+/// The head is not whole yet.
+pub fn waits(decision: Decision) -> bool
+    ensures { result ≡ is_waiting decision }
+{
+    matches!(decision, Decision::Waits)
+}
+
+#[tactic(auto, using(crate::proofs::Settling::lines_read))]
+/// Reads on from `scan`, which read the first `scan.at` bytes of `kept`, until the head is whole.
+pub fn advance(scan: Scan, kept: &[u8]) -> Progress
+    requires within { scan.at ≤ length kept.now }
+    requires limit { scan.at ≤ 16384 }
+    requires read { scan ≡ scanned begin (take scan.at kept.now) }
+    ensures decided { result.decision ≡ decision_of (settled kept.now) }
+    ensures read { result.decision ≡ Decision.Waits → IsRead result kept.now }
+{
+    let end = kept.len().min(HEAD_LIMIT);
+    let scan = scan_on(scan, &kept[scan.at..end]);
+    let decision = if has_ended(scan.place) {
+        decide(&kept[..scan.at], scan.lines)
+    } else if kept.len() >= HEAD_LIMIT {
+        Decision::Refused(0, Refusal::HeadTooLarge)
+    } else {
+        Decision::Waits
+    };
+    Progress { scan, decision }
+}
+
+// What a whole head settles; `lines` counts the request line too.
+fn decide(head: &[u8], lines: usize) -> Decision
+    requires lines { HasLines lines head.now }
+    requires small { length head.now ≤ 16384 }
+    ensures { result ≡ decision_of (settled_within lines head.now) }
+{
+    if lines > LINE_LIMIT + 1 {
+        return Decision::Refused(0, Refusal::HeadTooLarge);
+    }
+    let mut spans = [EMPTY_HEADER_SPAN; 64];
+    match read_head(head, &mut spans) {
+        Some(line) => match check(head, line, &spans[..line.headers]) {
+            Ok((_, size)) => Decision::Accepted(head.len(), head.len() + size),
+            Err(why) => Decision::Refused(head.len(), why),
+        },
+        None => Decision::Refused(head.len(), Refusal::NoHead),
+    }
+}
+
+/// The first item of `kept`, of which `decision` is settled.
+pub fn item(
+    alloc: Global,
+    kept: &[u8],
+    decision: Decision,
+) -> Result<Option<Result<HttpRequest, HttpFault>>, Memory>
+    requires { decision ≡ decision_of (settled kept.now) }
+    ensures { IfOk result (λ o. o ≡ first kept.now) }
+{
+    match decision {
+        Decision::Waits => Ok(None),
+        Decision::Refused(head, why) => {
+            let fault = fault(alloc, &kept[..head], why)?;
+            Ok(Some(Err(fault)))
+        }
+        Decision::Accepted(head, total) => {
+            if kept.len() < total {
+                return Ok(None);
+            }
+            let request = request(alloc, &kept[..head], &kept[head..total], total)?;
+            Ok(Some(Ok(request)))
+        }
+    }
+}
+
+// The fault of a head that was refused.
+fn fault(alloc: Global, head: &[u8], why: Refusal) -> Result<HttpFault, Memory>
+    requires { HasRoom head.now }
+    ensures { IfOk result (λ f. f ≡ fault_of (method_sent (head_of head.now)) why) }
+{
+    let mut spans = [EMPTY_HEADER_SPAN; 64];
+    match read_head(head, &mut spans) {
+        Some(line) => fault_by(alloc, line.method.of(head), why),
+        None => fault_by(alloc, b"", why),
+    }
+}
+
+// The fault of a request of that method.
+fn fault_by(alloc: Global, method: &[u8], why: Refusal) -> Result<HttpFault, Memory>
+    requires { IsUtf8 method.now }
+    ensures { IfOk result (λ f. f ≡ fault_of method.now why) }
+{
+    Ok(HttpFault {
+        code: code(why),
+        word: word(alloc, method, why)?,
+        no_body: method == b"HEAD".as_slice(),
+    })
+}
+
+fn word(alloc: Global, method: &[u8], why: Refusal) -> Result<Text, Memory>
+    requires { IsUtf8 method.now }
+    ensures { IfOk result (λ t. t ≡ word_of why method.now) }
+{
+    match why {
+        Refusal::NoHead => Text::copy_of(alloc, "head"),
+        Refusal::Host => Text::copy_of(alloc, "host"),
+        Refusal::Length => Text::copy_of(alloc, "length"),
+        Refusal::Method => text(alloc, method),
+        _ => Text::copy_of(alloc, ""),
+    }
+}
+
+fn code(why: Refusal) -> StatusCode
+    ensures { result ≡ code_of why }
+{
+    match why {
+        Refusal::HeadTooLarge => StatusCode::RequestHeaderFieldsTooLarge,
+        Refusal::NoHead => StatusCode::BadRequest,
+        Refusal::Version => StatusCode::HttpVersionNotSupported,
+        Refusal::Host => StatusCode::BadRequest,
+        Refusal::Expectation => StatusCode::ExpectationFailed,
+        Refusal::Method => StatusCode::MethodNotAllowed,
+        Refusal::Length => StatusCode::BadRequest,
+        Refusal::TransferEncoding => StatusCode::NotImplemented,
+        Refusal::BodyTooLarge => StatusCode::ContentTooLarge,
+    }
+}
+
+// The request of a head that keeps the rules, and of its body; `total` is its length as sent.
+fn request(alloc: Global, head: &[u8], body: &[u8], total: usize) -> Result<HttpRequest, Memory>
+    requires room { HasRoom head.now }
+    requires served { IsServed head.now }
+    ensures { IfOk result (λ r. (s : IsServed head.now) → r ≡ request_of s.says s.method body.now total) }
+{
+    let mut spans = [EMPTY_HEADER_SPAN; 64];
+    let Some(line) = read_head(head, &mut spans) else {
+        unreachable!()
+    };
+    let Some(method) = method_named(line.method.of(head)) else {
+        unreachable!()
+    };
+    let target = text(alloc, line.path.of(head))?;
+    let fields = &spans[..line.headers];
+    let headers = headers(alloc, head, fields)?;
+    let bytes = Vec::from_slice(alloc, body)?;
+    Ok(HttpRequest {
+        method,
+        target,
+        headers: Sequence::new(headers),
+        body: Sequence::new(bytes),
+        close: some_lists(head, fields, b"connection", b"close"),
+        length: total,
+    })
+}
+
+fn headers(alloc: Global, head: &[u8], spans: &[HeaderSpan]) -> Result<Vec<Header>, Memory>
+    requires within { All (IsHeaderWithin (length head.now)) spans.now }
+    requires names { All (λ h. IsUtf8 (span_bytes head.now h.name)) spans.now }
+    ensures { IfOk result (λ v. v.items ≡ map header_of (fields_at head.now spans.now)) }
+{
+    let mut headers = Vec::with_capacity(alloc, spans.len())?;
+    for span in spans {
+        headers.push(header(alloc, head, *span)?)?;
+    }
+    Ok(headers)
+}
+
+fn header(alloc: Global, head: &[u8], span: HeaderSpan) -> Result<Header, Memory>
+    requires within { IsHeaderWithin (length head.now) span }
+    requires name { IsUtf8 (span_bytes head.now span.name) }
+    ensures { IfOk result (λ h. h ≡ header_of (header_bytes head.now span)) }
+{
+    let name = text(alloc, span.name.of(head))?;
+    let value = Vec::from_slice(alloc, span.value.of(head))?;
+    Ok(Header {
+        name,
+        value: Sequence::new(value),
+    })
+}
+
+fn text(alloc: Global, bytes: &[u8]) -> Result<Text, Memory>
+    requires { IsUtf8 bytes.now }
+    ensures { IfOk result (λ t. t ≡ bytes.now) }
+{
+    match str::from_utf8(bytes) {
+        Ok(text) => Text::copy_of(alloc, text),
+        Err(_) => unreachable!(),
+    }
+}

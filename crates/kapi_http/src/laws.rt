@@ -1,0 +1,62 @@
+//! Laws of cutting requests, each the clause of a function that does nothing.
+ghost use Rattle.std.specs.Prelude.{◌≡◌, ◌∷◌, ◌+◌, codes, ◌<◌, ◌≤◌, ◌++◌, List, ℕ, [], IsSome, None, Some, drop, length, take};
+ghost use Rattle.std.specs.List.{flat_map};
+ghost use Rattle.httparse.specs.Grammar.{IsRequestHead, ReadsRequest, RequestHead, print_request};
+ghost use Rattle.kapi_http.specs.Cut.{Begins, cut, fault_of, first, request_of, settled, settled_of, taken};
+ghost use Rattle.kapi_http.specs.Head.{head_of, says};
+ghost use Rattle.kapi_http.specs.Scan.{begin, scanned};
+ghost use Rattle.kapi_http.specs.declared.message.HttpFault.{HttpFault};
+ghost use Rattle.kapi_http.specs.declared.message.Method.TheVariants.{Put};
+ghost use Rattle.kapi_http.specs.declared.message.Refusal.TheVariants.{Version};
+ghost use Rattle.kapi_http.specs.declared.message.HttpRequest.{HttpRequest};
+
+/// The head of the bytes as a function is the head of the grammar, both ways.
+pub fn heads_are_those_of_the_grammar()
+    ensures read { (bytes : List ℕ) → IsSome (head_of bytes)
+        → (h : RequestHead) × ReadsRequest bytes h [] × (head_of bytes ≡ Some (says h)) }
+    ensures whole { (bytes : List ℕ) (h : RequestHead) → ReadsRequest bytes h [] → head_of bytes ≡ Some (says h) }
+{}
+
+/// A head that is printed by the grammar within the limits is read, whatever follows it.
+pub fn printed_heads_are_read()
+    ensures { (h : RequestHead) (more : List ℕ) → IsRequestHead h → length (print_request h) ≤ 16384 → length h.fields ≤ 64
+        → settled (print_request h ++ more) ≡ settled_of (print_request h) (Some (says h)) }
+{}
+
+/// What is decided stays decided, whatever follows; a request has a byte at least and lies within the bytes.
+pub fn items_stay()
+    ensures stays { (bytes more : List ℕ) → IsSome (first bytes) → first (bytes ++ more) ≡ first bytes }
+    ensures some { (bytes : List ℕ) (r : HttpRequest) → first bytes ≡ Some (Ok r) → 0 < r.length }
+    ensures within { (bytes : List ℕ) (r : HttpRequest) → first bytes ≡ Some (Ok r) → r.length ≤ length bytes }
+{}
+
+/// What is cut from a front of a text is a beginning of what is cut from the whole.
+pub fn fronts_are_cut_alike()
+    ensures { (bytes more : List ℕ) → Begins (cut bytes) (cut (bytes ++ more)) }
+{}
+
+/// Feeding a text in any pieces, and taking all that is whole after each, gives what the whole text is cut to.
+pub fn pieces_are_cut_alike()
+    ensures { (pieces : List (List ℕ)) → taken [] pieces ≡ cut (flat_map (λ piece. piece) pieces) }
+{}
+
+/// A fault is decided on the shortest front that shows it: on the whole head, or on 16,384 bytes without its end.
+pub fn faults_are_decided_early()
+    ensures shown { (bytes : List ℕ) (f : HttpFault) → first bytes ≡ Some (Err f)
+        → first (take (scanned begin (take 16384 bytes)).at bytes) ≡ Some (Err f) }
+    ensures waits { (bytes : List ℕ) (k : ℕ) → k < (scanned begin (take 16384 bytes)).at → first (take k bytes) ≡ None }
+{}
+
+/// What two texts begin with, computed: a request with a body of two bytes, and one of HTTP/1.0.
+pub fn worked_texts()
+    ensures request { first (codes "\nPUT /x HTTP/1.1\r\nHost: a\r\nconnection: x, Close\r\nContent-Length: 02\r\n\r\nabc")
+        ≡ Some (Ok (request_of (record {
+          method = codes "PUT";
+          target = codes "/x";
+          minor = 1;
+          fields = (codes "Host", codes "a") ∷ (codes "connection", codes "x, Close") ∷ (codes "Content-Length", codes "02") ∷ [];
+        })
+        Put (codes "ab") 73)) }
+    ensures fault { first (codes "HEAD / HTTP/1.0\r\n\r\n") ≡ Some (Err (fault_of (codes "HEAD") Version)) }
+    ensures unfinished { first (codes "GET / HTTP/1.1\r\nHost: a\r\n\r") ≡ None }
+{}

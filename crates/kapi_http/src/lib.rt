@@ -1,0 +1,25 @@
+//! HTTP/1.1 messages (RFC 9110, RFC 9112): bytes that come in any pieces to whole requests, and replies to bytes.
+#![tactic(auto)]
+
+mod fields;
+mod head;
+mod inbox;
+mod item;
+mod laws;
+mod message;
+mod reply;
+mod rules;
+mod scan;
+
+pub use fields::{is_same, trimmed};
+pub use inbox::{FeedError, Inbox};
+pub use kapi_text::Memory;
+pub use laws::{
+    faults_are_decided_early, fronts_are_cut_alike, heads_are_those_of_the_grammar, items_stay,
+    pieces_are_cut_alike, printed_heads_are_read, worked_texts,
+};
+pub use message::{Header, HttpFault, HttpRequest, Method, Reply, StatusCode};
+pub use reply::write_reply;
+
+#[cfg(test)]
+mod tests;
