@@ -1,0 +1,5 @@
+pub mod Semicolons
+pub mod Ready
+pub mod Members
+pub mod Floats
+pub mod Created

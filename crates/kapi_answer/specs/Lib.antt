@@ -1,0 +1,12 @@
+pub mod Gives
+pub mod Headers
+pub mod Authorization
+pub mod Route
+pub mod Routes
+pub mod Create
+pub mod Created
+pub mod Status
+pub mod Failures
+pub mod Replies
+pub mod Answer
+pub mod Answers
