@@ -1,0 +1,53 @@
+//! The programs of Kapi. `kapi script` plays events from standard input and prints the answers.
+#![tactic(auto)]
+
+mod answer_text;
+mod command_line;
+mod escape;
+mod line;
+mod program;
+mod script;
+mod table;
+#[cfg(test)]
+mod tests;
+
+use command_line::command;
+use program::{Command, CommandFault};
+use script::{ScriptFault, script_run};
+use std::env;
+use std::io::{self, BufWriter};
+use std::process::ExitCode;
+
+fn main(rt: HostRuntime) -> io::Result<ExitCode> {
+    let mut words = Vec::new(rt.alloc());
+    for word in env::args(&rt)? {
+        words.push(word)?;
+    }
+    let mut borrowed = Vec::new(rt.alloc());
+    for word in words.as_slice() {
+        borrowed.push(word.as_str())?;
+    }
+    match command(rt.alloc(), borrowed.as_slice()) {
+        Ok(Command::Script) => run_script(&rt),
+        Err(fault) => refuse(&rt, &fault),
+    }
+}
+
+/// Plays the script on standard input: status 0, or 1 after a line on standard error.
+fn run_script<R: Input + Print + Eprint + AllocGlobal>(rt: &R) -> io::Result<ExitCode> {
+    let mut reader = rt.reader();
+    let mut writer = BufWriter::new(rt.alloc(), io::writer(rt))?;
+    match script_run(rt.alloc(), &mut reader, &mut writer) {
+        Ok(()) => Ok(ExitCode::SUCCESS),
+        Err(fault) => {
+            eprintln!(rt; "{fault}")?;
+            Ok(ExitCode::from(1))
+        }
+    }
+}
+
+/// A command line that names no program: status 2.
+fn refuse(rt: &impl Eprint, fault: &CommandFault) -> io::Result<ExitCode> {
+    eprintln!(rt; "{fault}")?;
+    Ok(ExitCode::from(2))
+}

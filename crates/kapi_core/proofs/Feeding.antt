@@ -1,0 +1,60 @@
+-- Bytes that come in are taken in as the machine that is data takes them.
+use Rattle.std.proofs.Common.{◌≡◌, ℕ, ◌+◌, ◌<◌, ◌≤◌, inl, inr, true, false, List, ◌++◌, length, Some, Result, Ok, Err, BTreeMap, refl, sym, ap, ◌∙◌}
+use Rattle.std.proofs.lemmas.Map.Steps.{set_value_same}
+use Rattle.std.specs.Map.{lookup, set_value}
+use Rattle.std.specs.Ordering.{nat_cmp}
+use Rattle.std.specs.BTreeMap.{is_at}
+use Rattle.kapi_http.specs.Inbox.{Unserved}
+use Rattle.kapi_http.specs.declared.inbox.FeedError.{FeedError}
+use Rattle.kapi_http.specs.declared.inbox.FeedError.TheVariants.{Full, Memory, Ended}
+use Rattle.kapi_store.specs.State.{State}
+use Rattle.kapi_core.specs.declared.connection.Connection.{Connection}
+use Rattle.kapi_core.specs.declared.event.ConnId.{ConnId}
+use Rattle.kapi_core.specs.declared.event.Event.TheVariants as event
+use Rattle.kapi_core.specs.declared.event.Answer.TheVariants as told
+use Rattle.kapi_core.specs.declared.machine.Core.{Core}
+use Rattle.kapi_core.specs.Feeds.{Feeds}
+use Rattle.kapi_core.specs.Machine.{Machine}
+use Rattle.kapi_core.specs.Stands.{TakesIn, StandsFor}
+use Rattle.kapi_core.proofs.AlikeLinks.{link_there}
+use Rattle.kapi_core.proofs.Steps.{made_for, fed, fed_full, fed_nowhere}
+
+-- with the same connections as before
+kept : (s : State) (es fs : List (ℕ × Connection)) (n : ℕ) (m : Machine) → fs ≡ es → StandsFor s es n m → StandsFor s fs n m
+kept s es fs n m is h = rw is h
+
+pub taken_in : (old : Core) (links : BTreeMap ℕ Connection) (conn : ConnId) (piece : List ℕ) (r : Result (Unit {0}) FeedError)
+    → Feeds old.connections.entries links.entries conn.0 piece r → TakesIn old (record old { connections = links }) conn piece r
+taken_in old links conn piece (Ok done) f = λ m h.
+    made_for old.store old.connections.entries old.next_id m old.store links.entries old.next_id (event.Feed conn piece) told.Done h
+    (fed old.store old.connections.entries links.entries old.next_id conn piece f.0 f.1 f.2 f.3)
+taken_in old links conn piece (Err Full) f = λ m h. rw f.3
+    (made_for old.store old.connections.entries old.next_id m old.store old.connections.entries old.next_id (event.Feed conn piece) told.Full h
+    (fed_full old.store old.connections.entries old.next_id conn piece f.0 f.1 f.2))
+taken_in old links conn piece (Err Ended) f = λ m h. rw f.1
+    (made_for old.store old.connections.entries old.next_id m old.store old.connections.entries old.next_id (event.Feed conn piece) told.Ended h
+    (λ ps l. elim f.0 [
+      | inl none ↦ fed_nowhere old.store old.connections.entries old.next_id conn piece none ps l
+      | inr c ↦ let there = link_there (is_at (nat_cmp conn.0)) old.connections.entries ps c.0 l c.1 in
+          absurd (let both : true ≡ false = sym c.2 ∙ there.2.2 in cc both)
+    ]))
+taken_in old links conn piece (Err Memory) f = λ m h. rw f h
+
+-- an inbox that did not change leaves the connections as they were
+unchanged : (es fs : List (ℕ × Connection)) (id : ℕ) (c : Connection) (u : Unserved) → lookup (is_at (nat_cmp id)) es ≡ Some c
+    → fs ≡ set_value (is_at (nat_cmp id)) es (record c { inbox = u }) → u ≡ c.inbox → fs ≡ es
+unchanged es fs id c u there is same =
+    is ∙ ap (λ v. set_value (is_at (nat_cmp id)) es (record c { inbox = v })) same ∙ set_value_same (is_at (nat_cmp id)) es c there
+
+-- what an inbox answers, its connection does
+pub fed_from : (es fs : List (ℕ × Connection)) (id : ℕ) (piece : List ℕ) (c : Connection) (u : Unserved) (r : Result (Unit {0}) FeedError)
+    → lookup (is_at (nat_cmp id)) es ≡ Some c → fs ≡ set_value (is_at (nat_cmp id)) es (record c { inbox = u })
+    → ((d : Unit {0}) → r ≡ Ok d → (u ≡ record { kept = c.inbox.kept ++ piece; ended = false }) × (length c.inbox.kept + length piece ≤ 2097152))
+    → ((e : FeedError) → r ≡ Err e → u ≡ c.inbox)
+    → (r ≡ Err Ended → c.inbox.ended ≡ true) → (r ≡ Err Full → 2097152 < length c.inbox.kept + length piece)
+    → Feeds es fs id piece r
+fed_from es fs id piece c u (Ok done) there is ok same ended full =
+    (c, there, (ok done refl).1, is ∙ ap (λ v. set_value (is_at (nat_cmp id)) es (record c { inbox = v })) (ok done refl).0)
+fed_from es fs id piece c u (Err Full) there is ok same ended full = (c, there, full refl, unchanged es fs id c u there is (same Full refl))
+fed_from es fs id piece c u (Err Ended) there is ok same ended full = (inr (c, there, ended refl), unchanged es fs id c u there is (same Ended refl))
+fed_from es fs id piece c u (Err Memory) there is ok same ended full = unchanged es fs id c u there is (same Memory refl)

@@ -1,0 +1,6 @@
+pub mod Writes
+pub mod Served
+pub mod AlikeLinks
+pub mod Steps
+pub mod Feeding
+pub mod Runs

@@ -1,0 +1,21 @@
+use Rattle.std.proofs.Common.{◌≡◌, ◌∙◌, ◌++◌, ◌+◌, ◌≤◌, false, length, sym, ap, subst, Result, OnOk, OnErr}
+use Rattle.std.specs.Option.{option_copied_mut}
+use Rattle.kapi_http.specs.declared.inbox.FeedError.{FeedError}
+use Rattle.kapi_core.proofs.Feeding.{fed_from}
+use Rattle.kapi_core.proofs.links.feed_at.Goals as goal
+
+pub returns-in-Some : goal.returns-in-Some
+returns-in-Some c =
+    let was = c.in-Some.connection.now in
+    let u = c.feed.new.self in
+    let piece = c.args.piece.now in
+    let Taken : Result (Unit {0}) FeedError → Type 0 = λ r. OnOk r (u ≡ record { kept = was.inbox.kept ++ piece; ended = false }) in
+    let Fitting : Result (Unit {0}) FeedError → Type 0 = λ r. OnOk r (length was.inbox.kept + length piece ≤ 2097152) in
+    let Unchanged : Result (Unit {0}) FeedError → Type 0 = λ r. OnErr r (u ≡ was.inbox) in
+    fed_from c.args.links.now.entries (c.get_mut.follows.lender (record { identity = was.identity; inbox = u })).entries c.args.id piece was u c.feed.result
+    (sym c.get_mut.ensures.value ∙ ap option_copied_mut c.in-Some.is)
+    (c.get_mut.follows.holds (record { identity = was.identity; inbox = u })).0
+    (λ done e. (subst Taken e c.feed.ensures.ok, subst Fitting e c.feed.ensures.fits))
+    (λ error e. subst Unchanged e c.feed.ensures.err)
+    (λ e. c.feed.ensures.ended.0 e)
+    (λ e. (c.feed.ensures.full.0 e).1)

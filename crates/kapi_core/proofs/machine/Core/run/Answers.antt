@@ -1,0 +1,23 @@
+use Rattle.std.proofs.Common.{◌≡◌, ◌+◌, ◌++◌, ◌∷◌, [], List, take, ap, sym, ◌∙◌, subst}
+use Rattle.std.proofs.lemmas.List.{take_more}
+use Rattle.kapi_core.specs.declared.event.Answer.{Answer}
+use Rattle.kapi_core.specs.declared.event.Event.{Event}
+use Rattle.kapi_core.proofs.Runs.{Ran, ran_nothing, ran_push}
+use Rattle.kapi_core.proofs.machine.Core.run.Goals as goal
+
+pub loop-event-init : goal.loop-event-init
+loop-event-init c =
+    let P : List Answer → Type 0 = λ told. Ran c.args.self.now c.args.self.now told [] in
+    subst P (sym c.new-answers.ensures.items) (ran_nothing c.args.self.now)
+
+pub loop-event-preserved : goal.loop-event-preserved
+loop-event-preserved c =
+    let events = c.args.events.now in
+    let i = c.loop-event.event-index in
+    let e = c.event-item.result in
+    let more : take (i + 1) events ≡ take i events ++ e ∷ [] =
+    take_more events i e c.loop-event-test.true ∙ ap (λ x. take i events ++ x ∷ []) (sym c.event-item.is) in
+    let P : List Event → Type 0 = λ es. Ran c.args.self.now c.step_into.new.self c.step_into.new.answers.items es in
+    subst P (sym more)
+    (ran_push c.args.self.now c.loop-event.self c.step_into.new.self c.loop-event.answers.items c.step_into.new.answers.items (take i events) e
+    c.loop-event.invariant c.in_default.ensures.made)

@@ -1,0 +1,4 @@
+pub mod Machine
+pub mod Stands
+pub mod Feeds
+pub mod Opening

@@ -1,0 +1,85 @@
+-- When the running machine stands for one that is data.
+use Rattle.std.specs.Prelude.{◌≡◌, ℕ, zero, suc, false, List, [], ◌∷◌, ◌++◌, drop, Option, None, Some, Result, Ok, Err}
+use Rattle.std.specs.declared.alloc.AllocError.{AllocError}
+use Rattle.kapi_http.specs.Cut.{first}
+use Rattle.kapi_http.specs.declared.message.HttpRequest.{HttpRequest}
+use Rattle.kapi_answer.specs.declared.respond.Output.{Output}
+use Rattle.kapi_http.specs.declared.inbox.FeedError.{FeedError}
+use Rattle.kapi_http.specs.declared.inbox.FeedError.TheVariants as fed
+use Rattle.kapi_rbac_types.specs.declared.identity.Identity.{Identity}
+use Rattle.kapi_store.specs.Plain.{plain_of}
+use Rattle.kapi_store.specs.State.{State}
+use Rattle.kapi_core.specs.declared.connection.Connection.{Connection}
+use Rattle.kapi_core.specs.declared.event.ConnId.{ConnId}
+use Rattle.kapi_core.specs.declared.event.Event.{Event}
+use Rattle.kapi_core.specs.declared.event.Event.TheVariants as event
+use Rattle.kapi_core.specs.declared.event.OpenError.{OpenError}
+use Rattle.kapi_core.specs.declared.event.OpenError.TheVariants as refused
+use Rattle.kapi_core.specs.declared.event.Answer.{Answer}
+use Rattle.kapi_core.specs.declared.event.Answer.TheVariants as told
+use Rattle.kapi_core.specs.declared.machine.Core.{Core}
+use Rattle.kapi_core.specs.Machine.{Link, Machine, step}
+
+-- so many whole requests stand in front of the rest
+unfoldable pub Serves : ℕ → List ℕ → List ℕ → Type 0
+Serves zero bytes rest = rest ≡ bytes
+Serves (suc k) bytes rest = (request : HttpRequest) × (first bytes ≡ Some (Ok request)) × Serves k (drop request.length bytes) rest
+
+-- a connection keeps what it was sent and did not serve
+abbrev pub IsLink : Connection → Link → Type 0
+IsLink c l = (c.identity ≡ l.identity) × Serves l.served l.sent c.inbox.kept × (c.inbox.ended ≡ false)
+
+-- the same connections by the same numbers
+unfoldable pub AreLinks : List (ℕ × Connection) → List (ℕ × Link) → Type 0
+AreLinks [] [] = Unit {0}
+AreLinks [] (p ∷ ps) = ⊥
+AreLinks (e ∷ es) [] = ⊥
+AreLinks (e ∷ es) (p ∷ ps) = (e.0 ≡ p.0) × IsLink e.1 p.1 × AreLinks es ps
+
+-- the store, the connections and the next number of a machine that is data
+pub record StandsFor (kept : State) (es : List (ℕ × Connection)) (next : ℕ) (m : Machine) : Type 0 where
+  pub store : plain_of kept ≡ m.store
+  pub next_id : next ≡ m.next_id
+  pub links : AreLinks es m.links
+
+-- the running machine stands for the one that is data
+abbrev pub Stands : Core → Machine → Type 0
+Stands core m = StandsFor core.store core.connections.entries core.next_id m
+
+-- a step as the machine makes it, for every machine that was stood for
+abbrev pub Makes : Core → Core → Event → Answer → Type 0
+Makes old new event answer = (m : Machine) → Stands old m → (answer ≡ (step m event).0) × Stands new (step m event).1
+
+-- nothing was changed
+abbrev pub Keeps : Core → Core → Type 0
+Keeps old new = (m : Machine) → Stands old m → Stands new m
+
+-- ---- what each call answers
+
+abbrev pub Opens : Core → Core → Identity → Result ConnId OpenError → Type 0
+Opens old new identity (Ok id) = Makes old new (event.Open identity) (told.Opened id)
+Opens old new identity (Err refused.TooMany) = Makes old new (event.Open identity) told.TooMany
+Opens old new identity (Err refused.Memory) = Keeps old new
+
+abbrev pub TakesIn : Core → Core → ConnId → List ℕ → Result (Unit {0}) FeedError → Type 0
+TakesIn old new conn piece (Ok done) = Makes old new (event.Feed conn piece) told.Done
+TakesIn old new conn piece (Err fed.Full) = Makes old new (event.Feed conn piece) told.Full
+TakesIn old new conn piece (Err fed.Ended) = Makes old new (event.Feed conn piece) told.Ended
+TakesIn old new conn piece (Err fed.Memory) = Keeps old new
+
+-- what is sent, if anything is
+abbrev pub sent_if : Option Output → Answer
+sent_if None = told.Nothing
+sent_if (Some output) = told.Sent output
+
+abbrev pub Sends : Core → Core → Event → Result (Option Output) AllocError → Type 0
+Sends old new event (Ok output) = Makes old new event (sent_if output)
+Sends old new event (Err e) = Keeps old new
+
+abbrev pub Steps : Core → Core → Event → Result Answer AllocError → Type 0
+Steps old new event (Ok answer) = Makes old new event answer
+Steps old new event (Err e) = Keeps old new
+
+-- one step more was made, and its answer put at the end
+abbrev pub Pushes : Core → Core → Event → List Answer → List Answer → Type 0
+Pushes old new event xs ys = (answer : Answer) × (ys ≡ xs ++ answer ∷ []) × Makes old new event answer

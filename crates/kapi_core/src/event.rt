@@ -1,0 +1,69 @@
+use kapi_answer::Output;
+use kapi_rbac_types::Identity;
+use kapi_text::{Memory, Sequence, Text};
+use thiserror::Error;
+
+/// The number of a connection. Numbers count up from 0 and are not used again.
+#[derive(Clone, Copy, Debug, PartialEq, Eq)]
+pub struct ConnId(pub u64);
+
+/// What happens to the machine.
+#[derive(Debug, Drop)]
+pub enum Event {
+    /// A connection is opened for an identity.
+    Open(Identity),
+    /// Bytes come in on a connection.
+    Feed(ConnId, Sequence<u8>),
+    /// The next whole request of a connection is answered.
+    Serve(ConnId),
+    /// The next event of a connection's watch is shown.
+    Pump(ConnId),
+    /// The controller makes its next write.
+    Turn,
+    /// A connection is closed.
+    Close(ConnId),
+}
+
+/// A write of the controller: the revision that it took and the name of what it wrote.
+#[derive(Debug, Drop)]
+pub struct Turned {
+    pub revision: u64,
+    pub name: Text,
+}
+
+/// What the machine answers to an event.
+#[derive(Debug, Drop)]
+pub enum Answer {
+    /// To an open: the new connection.
+    Opened(ConnId),
+    /// To a feed or a close.
+    Done,
+    /// To a serve, a pump or a turn that had nothing to do.
+    Nothing,
+    /// To a serve or a pump.
+    Sent(Output),
+    /// To a turn.
+    Turned(Turned),
+    /// To an open: 256 connections are open, or the numbers are used up.
+    TooMany,
+    /// To a feed: the bytes not yet served would be more than 2,097,152.
+    Full,
+    /// To a feed: there is no such connection, or it has ended.
+    Ended,
+}
+
+/// Why no connection was opened.
+#[derive(Clone, Copy, Debug, PartialEq, Eq, Error)]
+pub enum OpenError {
+    #[error("too many connections")]
+    TooMany,
+    #[error("out of memory")]
+    Memory,
+}
+
+/// What a run answered: one answer for each step made, and what stopped it before the last event, if anything did.
+#[derive(Debug, Drop)]
+pub struct Outputs {
+    pub answers: Sequence<Answer>,
+    pub stopped: Option<Memory>,
+}

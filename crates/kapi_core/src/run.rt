@@ -1,0 +1,104 @@
+ghost use Rattle.std.specs.Prelude.{◌≡◌, length, take, OnOk, OnErr, IsNone};
+ghost use Rattle.kapi_core.specs.Machine.{Machine, answers as answers_of, after};
+ghost use Rattle.kapi_core.specs.Stands.{Keeps, Pushes, Stands, Steps, sent_if};
+ghost use Rattle.kapi_core.specs.declared.event.Event.TheVariants as Events;
+
+use crate::event::{Answer, ConnId, Event, OpenError, Outputs};
+use crate::machine::Core;
+use kapi_answer::Output;
+use kapi_http::FeedError;
+use kapi_rbac_types::Identity;
+use kapi_text::{Memory, Sequence, TryCopy};
+use std::alloc::AllocError;
+
+impl Core {
+    /// Makes one step. Where memory runs out nothing has changed.
+    pub fn step(&mut self, event: &Event) -> Result<Answer, Memory>
+        ensures { Steps self.old self.new event.now result }
+    {
+        match event {
+            Event::Open(identity) => self.open_for(identity),
+            Event::Feed(conn, piece) => self.take_in(*conn, piece.as_slice()),
+            Event::Serve(conn) => Ok(sent(self.serve(*conn)?)),
+            Event::Pump(conn) => Ok(sent(self.pump(*conn)?)),
+            Event::Turn => self.make_turn(),
+            Event::Close(conn) => {
+                self.close(*conn);
+                Ok(Answer::Done)
+            }
+        }
+    }
+
+    fn open_for(&mut self, identity: &Identity) -> Result<Answer, Memory>
+        ensures { Steps self.old self.new (Events.Open identity.now) result }
+    {
+        let identity = identity.copy(self.allocator())?;
+        match self.open(identity) {
+            Ok(id) => Ok(Answer::Opened(id)),
+            Err(OpenError::TooMany) => Ok(Answer::TooMany),
+            Err(OpenError::Memory) => Err(AllocError),
+        }
+    }
+
+    fn take_in(&mut self, conn: ConnId, piece: &[u8]) -> Result<Answer, Memory>
+        ensures { Steps self.old self.new (Events.Feed conn piece.now) result }
+    {
+        match self.feed(conn, piece) {
+            Ok(()) => Ok(Answer::Done),
+            Err(FeedError::Full) => Ok(Answer::Full),
+            Err(FeedError::Ended) => Ok(Answer::Ended),
+            Err(FeedError::Memory) => Err(AllocError),
+        }
+    }
+
+    fn make_turn(&mut self) -> Result<Answer, Memory>
+        ensures { Steps self.old self.new Events.Turn result }
+    {
+        match self.turn()? {
+            Some(turned) => Ok(Answer::Turned(turned)),
+            None => Ok(Answer::Nothing),
+        }
+    }
+
+    /// Makes the steps of a list of events, one after the other, until memory runs out.
+    pub fn run(&mut self, events: &[Event]) -> Outputs
+        ensures answers { (m : Machine) → Stands self.old m → result.answers ≡ answers_of m (take (length result.answers) events.now) }
+        ensures state { (m : Machine) → Stands self.old m → Stands self.new (after m (take (length result.answers) events.now)) }
+        ensures all { IsNone result.stopped → length result.answers ≡ length events.now }
+    {
+        let mut answers = Vec::new(self.allocator());
+        for event in events {
+            if let Err(stopped) = self.step_into(&mut answers, event) {
+                return Outputs {
+                    answers: Sequence::new(answers),
+                    stopped: Some(stopped),
+                };
+            }
+        }
+        Outputs {
+            answers: Sequence::new(answers),
+            stopped: None,
+        }
+    }
+
+    /// Makes room for an answer first, so that a step that was made is always told.
+    fn step_into(&mut self, answers: &mut Vec<Answer>, event: &Event) -> Result<(), Memory>
+        ensures made { OnOk result (Pushes self.old self.new event.now answers.old.items answers.new.items) }
+        ensures kept { OnErr result (Keeps self.old self.new) }
+        ensures same { OnErr result (answers.new.items ≡ answers.old.items) }
+    {
+        answers.reserve(1)?;
+        let answer = self.step(event)?;
+        answers.push(answer)?;
+        Ok(())
+    }
+}
+
+fn sent(output: Option<Output>) -> Answer
+    ensures { result ≡ sent_if output }
+{
+    match output {
+        Some(output) => Answer::Sent(output),
+        None => Answer::Nothing,
+    }
+}

@@ -1,0 +1,13 @@
+//! Tests of the machine, from the bytes that are fed to the bytes that go out.
+#![tactic(auto)]
+
+#[cfg(test)]
+mod client;
+#[cfg(test)]
+mod faults;
+#[cfg(test)]
+mod limits;
+#[cfg(test)]
+mod requests;
+#[cfg(test)]
+mod tests;

@@ -1,0 +1,56 @@
+use crate::client::{exchange, feed, new_core, open_root, open_user};
+use kapi_core::{Answer, ConnId, Event};
+use std::test::Fail;
+
+#[test]
+fn opens_256_connections(rt: HostRuntime) -> Result<(), Fail> {
+    let alloc = rt.alloc();
+    let mut core = new_core(alloc)?;
+    let open = open_user(alloc, "x")?;
+    for number in 0..256u64 {
+        assert!(rt; matches!(core.step(&open)?, Answer::Opened(ConnId(id)) if id == number));
+    }
+    assert!(rt; matches!(core.step(&open)?, Answer::TooMany));
+    assert!(rt; matches!(core.step(&Event::Close(ConnId(7)))?, Answer::Done));
+    assert!(rt; matches!(core.step(&open)?, Answer::Opened(ConnId(256))));
+    assert!(rt; matches!(core.step(&open)?, Answer::TooMany));
+    assert!(rt; matches!(core.step(&feed(alloc, 7, b"x")?)?, Answer::Ended));
+    assert!(rt; matches!(core.step(&Event::Serve(ConnId(7)))?, Answer::Nothing));
+    Ok(())
+}
+
+#[test]
+fn keeps_2_097_152_bytes(rt: HostRuntime) -> Result<(), Fail> {
+    let alloc = rt.alloc();
+    let mut core = new_core(alloc)?;
+    core.step(&open_root(alloc)?)?;
+    let piece = vec![in alloc; b'\n'; 65_536]?;
+    for _ in 0..32 {
+        assert!(rt; matches!(core.step(&feed(alloc, 0, piece.as_slice())?)?, Answer::Done));
+    }
+    assert!(rt; matches!(core.step(&feed(alloc, 0, b"x")?)?, Answer::Full));
+    assert!(rt; matches!(core.step(&feed(alloc, 0, b"")?)?, Answer::Done));
+    Ok(())
+}
+
+#[test]
+fn refuses_a_head_of_16_384_bytes(rt: HostRuntime) -> Result<(), Fail> {
+    let alloc = rt.alloc();
+    let mut core = new_core(alloc)?;
+    core.step(&open_root(alloc)?)?;
+    let most = vec![in alloc; b'G'; 16_383]?;
+    assert!(rt; exchange(alloc, &mut core, 0, most.as_slice())?.is_empty());
+    core.step(&feed(alloc, 0, b"G")?)?;
+    let answer = core.step(&Event::Serve(ConnId(0)))?;
+    assert!(rt; closes_with(&answer, b"HTTP/1.1 431 Request Header Fields Too Large\r\n"));
+    assert!(rt; matches!(core.step(&feed(alloc, 0, b"")?)?, Answer::Ended));
+    Ok(())
+}
+
+/// Whether an answer begins with these bytes and ends its connection.
+fn closes_with(answer: &Answer, front: &[u8]) -> bool {
+    match answer {
+        Answer::Sent(output) => output.close && output.bytes.as_slice().starts_with(front),
+        _ => false,
+    }
+}

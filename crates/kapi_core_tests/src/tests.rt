@@ -1,0 +1,141 @@
+use crate::client::{exchange, feed, new_core, open_root, open_user};
+use crate::faults::FAULTS;
+use crate::requests::{DENIED, REQUESTS};
+use kapi_core::{Answer, ConnId, Event};
+use std::test::Fail;
+
+const CREATE: &[u8] =
+    b"POST /api/v1/namespaces/default/configmaps HTTP/1.1\r\nHost: a\r\nContent-Type: application/json\r\nContent-Length: 79\r\n\r\n{\"apiVersion\":\"v1\",\"kind\":\"ConfigMap\",\"metadata\":{\"name\":\"a\"},\"data\":{\"k\":\"v\"}}";
+
+const GET: &[u8] = b"GET /api/v1/namespaces/default/configmaps/a HTTP/1.1\r\nHost: a\r\n\r\n";
+
+const CREATED: &[u8] =
+    b"HTTP/1.1 201 Created\r\nContent-Type: application/json\r\nContent-Length: 168\r\n\r\n{\"apiVersion\":\"v1\",\"data\":{\"k\":\"v\"},\"kind\":\"ConfigMap\",\"metadata\":{\"name\":\"a\",\"namespace\":\"default\",\"resourceVersion\":\"6\",\"uid\":\"00000000-0000-4000-8000-000000000006\"}}";
+
+const FOUND: &[u8] =
+    b"HTTP/1.1 200 OK\r\nContent-Type: application/json\r\nContent-Length: 168\r\n\r\n{\"apiVersion\":\"v1\",\"data\":{\"k\":\"v\"},\"kind\":\"ConfigMap\",\"metadata\":{\"name\":\"a\",\"namespace\":\"default\",\"resourceVersion\":\"6\",\"uid\":\"00000000-0000-4000-8000-000000000006\"}}";
+
+#[test]
+fn runs_a_create_and_a_get(rt: HostRuntime) -> Result<(), Fail> {
+    let alloc = rt.alloc();
+    let mut core = new_core(alloc)?;
+    let mut events = Vec::new(alloc);
+    events.push(open_root(alloc)?)?;
+    events.push(feed(alloc, 0, CREATE)?)?;
+    events.push(Event::Serve(ConnId(0)))?;
+    events.push(feed(alloc, 0, GET)?)?;
+    events.push(Event::Serve(ConnId(0)))?;
+    events.push(Event::Serve(ConnId(0)))?;
+    events.push(Event::Pump(ConnId(0)))?;
+    events.push(Event::Turn)?;
+    events.push(Event::Close(ConnId(0)))?;
+    let outputs = core.run(events.as_slice());
+    assert!(rt; outputs.stopped.is_none());
+    let answers = outputs.answers.into_vec();
+    assert_eq!(rt; answers.len(), TOLD.len());
+    let mut sent = Vec::new(alloc);
+    for (answer, told) in answers.iter().zip(TOLD) {
+        assert_eq!(rt; name_of(answer), *told);
+        sent.extend_from_slice(bytes_of(answer))?;
+    }
+    let mut wanted = Vec::from_slice(alloc, CREATED)?;
+    wanted.extend_from_slice(FOUND)?;
+    assert_eq!(rt; sent.as_slice(), wanted.as_slice());
+    Ok(())
+}
+
+/// What the run of a create and a get is told, event by event.
+const TOLD: &[&str] = &[
+    "opened", "done", "sent", "done", "sent", "nothing", "nothing", "nothing", "done",
+];
+
+fn name_of(answer: &Answer) -> &'static str {
+    match answer {
+        Answer::Opened(_) => "opened",
+        Answer::Done => "done",
+        Answer::Nothing => "nothing",
+        Answer::Sent(output) => if output.close { "last" } else { "sent" },
+        Answer::Turned(_) => "turned",
+        Answer::TooMany => "too many",
+        Answer::Full => "full",
+        Answer::Ended => "ended",
+    }
+}
+
+fn bytes_of(answer: &Answer) -> &[u8] {
+    match answer {
+        Answer::Sent(output) => output.bytes.as_slice(),
+        _ => &[],
+    }
+}
+
+#[test]
+fn answers_alike_however_bytes_come(rt: HostRuntime) -> Result<(), Fail> {
+    let alloc = rt.alloc();
+    let mut core = new_core(alloc)?;
+    core.step(&open_root(alloc)?)?;
+    let mut both = Vec::from_slice(alloc, CREATE)?;
+    both.extend_from_slice(GET)?;
+    assert_eq!(rt;
+        exchange(alloc, &mut core, 0, both.as_slice())?.as_slice(),
+        CREATED
+    );
+    assert_eq!(rt; exchange(alloc, &mut core, 0, b"")?.as_slice(), FOUND);
+    let mut core = new_core(alloc)?;
+    core.step(&open_root(alloc)?)?;
+    let mut answered = Vec::new(alloc);
+    for byte in both.as_slice() {
+        answered.extend_from_slice(exchange(alloc, &mut core, 0, &[*byte])?.as_slice())?;
+    }
+    let mut wanted = Vec::from_slice(alloc, CREATED)?;
+    wanted.extend_from_slice(FOUND)?;
+    assert_eq!(rt; answered.as_slice(), wanted.as_slice());
+    Ok(())
+}
+
+#[test]
+fn tells_each_fault(rt: HostRuntime) -> Result<(), Fail> {
+    let alloc = rt.alloc();
+    for (name, bytes, reply) in FAULTS {
+        let mut core = new_core(alloc)?;
+        core.step(&open_root(alloc)?)?;
+        assert_eq!(rt;
+            exchange(alloc, &mut core, 0, bytes)?.as_slice(),
+            *reply,
+            "{name}"
+        );
+    }
+    Ok(())
+}
+
+#[test]
+fn answers_each_request(rt: HostRuntime) -> Result<(), Fail> {
+    let alloc = rt.alloc();
+    let mut core = new_core(alloc)?;
+    core.step(&open_root(alloc)?)?;
+    for (name, bytes, reply) in REQUESTS {
+        assert_eq!(rt;
+            exchange(alloc, &mut core, 0, bytes)?.as_slice(),
+            *reply,
+            "{name}"
+        );
+    }
+    assert!(rt; matches!(core.step(&feed(alloc, 0, b"")?)?, Answer::Ended));
+    Ok(())
+}
+
+#[test]
+fn denies_a_user_without_permissions(rt: HostRuntime) -> Result<(), Fail> {
+    let alloc = rt.alloc();
+    let mut core = new_core(alloc)?;
+    core.step(&open_root(alloc)?)?;
+    core.step(&open_user(alloc, "bob")?)?;
+    for (name, bytes, reply) in DENIED {
+        assert_eq!(rt;
+            exchange(alloc, &mut core, 1, bytes)?.as_slice(),
+            *reply,
+            "{name}"
+        );
+    }
+    Ok(())
+}
