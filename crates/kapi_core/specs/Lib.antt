@@ -2,3 +2,4 @@ pub mod Machine
 pub mod Stands
 pub mod Feeds
 pub mod Opening
+pub mod Table

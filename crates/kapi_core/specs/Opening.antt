@@ -5,10 +5,10 @@ use Rattle.kapi_object.specs.Admission.{object_of}
 use Rattle.kapi_object.specs.declared.fault.ObjectError.{ObjectError}
 use Rattle.kapi_object.specs.declared.row.ResourceRow.{ResourceRow}
 use Rattle.kapi_object.specs.declared.row.Schema.TheVariants as schema
-use Rattle.kapi_store.specs.Plain.{Plain, PlainChange, creation, written}
+use Rattle.kapi_store.specs.Plain.{Plain, PlainChange, creation, opened, written}
 use Rattle.kapi_store.specs.declared.error.StoreError.{StoreError}
 use Rattle.kapi_store.specs.declared.key.Key.{Key}
-use Rattle.kapi_core.specs.declared.opening.OpeningObject.{OpeningObject}
+use Rattle.kapi_core.specs.Machine.{Machine}
 
 -- a resource without namespaces and status, of version v1
 abbrev pub cluster_row : List ℕ → List ℕ → List ℕ → ResourceRow
@@ -33,6 +33,55 @@ created_if s key (Err e) = s
 unfoldable pub with_opening : List ℕ → List ℕ → List ℕ → List ℕ → List ℕ → Plain → Plain
 with_opening group plural kind name body s = created_if s (cluster_key group plural name) (object_of (cluster_row group plural kind) body)
 
--- the store with one opening object more, as the program has it
-abbrev pub with_object : OpeningObject → Plain → Plain
-with_object o s = with_opening o.group.now o.plural.now o.kind.now o.name.now o.body.now s
+-- ---- the five objects, in their order
+
+abbrev pub rbac_group : List ℕ
+rbac_group = codes "rbac.authorization.k8s.io"
+
+abbrev pub with_cluster_role : List ℕ → List ℕ → Plain → Plain
+with_cluster_role name body s = with_opening rbac_group (codes "clusterroles") (codes "ClusterRole") name body s
+
+abbrev pub with_cluster_role_binding : List ℕ → List ℕ → Plain → Plain
+with_cluster_role_binding name body s = with_opening rbac_group (codes "clusterrolebindings") (codes "ClusterRoleBinding") name body s
+
+-- the namespace `default`
+unfoldable pub with_default_namespace : Plain → Plain
+with_default_namespace s =
+    with_opening [] (codes "namespaces") (codes "Namespace") (codes "default") (codes "{\"metadata\":{\"name\":\"default\"}}") s
+
+-- everything may be done (Kubernetes, 'Using RBAC Authorization', user-facing roles)
+unfoldable pub with_cluster_admin : Plain → Plain
+with_cluster_admin s =
+    with_cluster_role (codes "cluster-admin")
+    (codes "{\"metadata\":{\"name\":\"cluster-admin\"},\"rules\":[{\"apiGroups\":[\"*\"],\"resources\":[\"*\"],\"verbs\":[\"*\"]},{\"nonResourceURLs\":[\"*\"],\"verbs\":[\"*\"]}]}")
+    s
+
+-- who has a name may ask what he may do
+unfoldable pub with_basic_user : Plain → Plain
+with_basic_user s =
+    with_cluster_role (codes "system:basic-user")
+    (codes "{\"metadata\":{\"name\":\"system:basic-user\"},\"rules\":[{\"apiGroups\":[\"authorization.k8s.io\"],\"resources\":[\"selfsubjectaccessreviews\",\"selfsubjectrulesreviews\"],\"verbs\":[\"create\"]}]}")
+    s
+
+-- to the group system:masters everything
+unfoldable pub with_cluster_admin_binding : Plain → Plain
+with_cluster_admin_binding s =
+    with_cluster_role_binding (codes "cluster-admin")
+    (codes "{\"metadata\":{\"name\":\"cluster-admin\"},\"roleRef\":{\"apiGroup\":\"rbac.authorization.k8s.io\",\"kind\":\"ClusterRole\",\"name\":\"cluster-admin\"},\"subjects\":[{\"apiGroup\":\"rbac.authorization.k8s.io\",\"kind\":\"Group\",\"name\":\"system:masters\"}]}")
+    s
+
+-- to the group system:authenticated those questions
+unfoldable pub with_basic_user_binding : Plain → Plain
+with_basic_user_binding s =
+    with_cluster_role_binding (codes "system:basic-user")
+    (codes "{\"metadata\":{\"name\":\"system:basic-user\"},\"roleRef\":{\"apiGroup\":\"rbac.authorization.k8s.io\",\"kind\":\"ClusterRole\",\"name\":\"system:basic-user\"},\"subjects\":[{\"apiGroup\":\"rbac.authorization.k8s.io\",\"kind\":\"Group\",\"name\":\"system:authenticated\"}]}")
+    s
+
+-- the opening objects, at the five revisions after the first
+unfoldable pub opening_store : List ResourceRow → ℕ → Plain
+opening_store table first =
+    with_basic_user_binding (with_cluster_admin_binding (with_basic_user (with_cluster_admin (with_default_namespace (opened table first)))))
+
+-- the machine as it begins: the opening objects and no connection
+abbrev pub opening : List ResourceRow → ℕ → Machine
+opening table first = record { store = opening_store table first; next_id = 0; links = [] }

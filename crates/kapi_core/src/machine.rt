@@ -2,6 +2,7 @@ ghost use Rattle.std.specs.Prelude.{◌≡◌, ◌≤◌, ◌&&◌, nat_lt, nat_
 ghost use Rattle.std.specs.BTreeMap.{is_at};
 ghost use Rattle.std.specs.Map.{remove_entry};
 ghost use Rattle.std.specs.Ordering.{nat_cmp};
+ghost use Rattle.kapi_core.specs.Opening.{opening};
 ghost use Rattle.kapi_core.specs.Stands.{Opens, TakesIn, Sends, Makes, Keeps, Stands};
 ghost use Rattle.kapi_core.specs.declared.event.Event.TheVariants as Event;
 ghost use Rattle.kapi_core.specs.declared.event.Answer.TheVariants as Answer;
@@ -41,11 +42,12 @@ impl Core {
     /// A machine with the opening objects at the revisions after `first`, and no connection.
     pub fn new(alloc: Global, table: Sequence<ResourceRow>, first: u64) -> Result<Core, Memory>
         requires { first ≤ LAST_FIRST }
-        ensures { IfOk result (λ core. Stands core (record { store = plain_of core.store; next_id = 0; links = [] })) }
+        ensures { IfOk result (λ core. Stands core (opening table first)) }
     {
+        let store = open_store(alloc, table, first)?;
         Ok(Core {
             alloc,
-            store: open_store(alloc, table, first)?,
+            store,
             connections: BTreeMap::new(alloc),
             next_id: 0,
         })

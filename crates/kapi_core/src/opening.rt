@@ -1,7 +1,8 @@
 ghost use Rattle.std.specs.Prelude.{◌≡◌, ◌≤◌, IfOk, OnOk};
 ghost use Rattle.kapi_object.specs.Object.{tree_of};
 ghost use Rattle.kapi_store.specs.Plain.{plain_of, creation};
-ghost use Rattle.kapi_core.specs.Opening.{cluster_key, cluster_row, with_object, written_if};
+ghost use Rattle.kapi_core.specs.Opening.{cluster_key, cluster_row, with_opening, written_if, opening_store};
+ghost use Rattle.kapi_core.specs.Opening.{with_default_namespace, with_cluster_admin, with_basic_user, with_cluster_admin_binding, with_basic_user_binding};
 
 use kapi_object::{Object, ObjectError, ResourceRow, Schema, read_object};
 use kapi_store::{Key, Store, StoreError};
@@ -12,75 +13,109 @@ use std::alloc::{AllocError, Global};
 pub const LAST_FIRST: u64 = 281_474_976_710_650;
 
 /// An object that every machine begins with. The RBAC kinds are trees without a row of their own yet.
-pub struct OpeningObject {
-    pub group: &'static str,
-    pub plural: &'static str,
-    pub kind: &'static str,
-    pub name: &'static str,
-    pub body: &'static [u8],
+#[derive(Drop)]
+struct OpeningObject<'a> {
+    group: &'a str,
+    plural: &'a str,
+    kind: &'a str,
+    name: &'a str,
+    body: &'a [u8],
 }
 
 const RBAC: &str = "rbac.authorization.k8s.io";
 
-pub const DEFAULT_NAMESPACE: OpeningObject = OpeningObject {
-    group: "",
-    plural: "namespaces",
-    kind: "Namespace",
-    name: "default",
-    body: b"{\"metadata\":{\"name\":\"default\"}}",
-};
-
-/// Everything may be done (Kubernetes, 'Using RBAC Authorization', user-facing roles).
-pub const CLUSTER_ADMIN: OpeningObject = OpeningObject {
-    group: RBAC,
-    plural: "clusterroles",
-    kind: "ClusterRole",
-    name: "cluster-admin",
-    body: b"{\"metadata\":{\"name\":\"cluster-admin\"},\"rules\":[{\"apiGroups\":[\"*\"],\"resources\":[\"*\"],\"verbs\":[\"*\"]},{\"nonResourceURLs\":[\"*\"],\"verbs\":[\"*\"]}]}",
-};
-
-/// Everybody who has a name may ask what he may do.
-pub const BASIC_USER: OpeningObject = OpeningObject {
-    group: RBAC,
-    plural: "clusterroles",
-    kind: "ClusterRole",
-    name: "system:basic-user",
-    body: b"{\"metadata\":{\"name\":\"system:basic-user\"},\"rules\":[{\"apiGroups\":[\"authorization.k8s.io\"],\"resources\":[\"selfsubjectaccessreviews\",\"selfsubjectrulesreviews\"],\"verbs\":[\"create\"]}]}",
-};
-
-pub const CLUSTER_ADMIN_BINDING: OpeningObject = OpeningObject {
-    group: RBAC,
-    plural: "clusterrolebindings",
-    kind: "ClusterRoleBinding",
-    name: "cluster-admin",
-    body: b"{\"metadata\":{\"name\":\"cluster-admin\"},\"roleRef\":{\"apiGroup\":\"rbac.authorization.k8s.io\",\"kind\":\"ClusterRole\",\"name\":\"cluster-admin\"},\"subjects\":[{\"apiGroup\":\"rbac.authorization.k8s.io\",\"kind\":\"Group\",\"name\":\"system:masters\"}]}",
-};
-
-pub const BASIC_USER_BINDING: OpeningObject = OpeningObject {
-    group: RBAC,
-    plural: "clusterrolebindings",
-    kind: "ClusterRoleBinding",
-    name: "system:basic-user",
-    body: b"{\"metadata\":{\"name\":\"system:basic-user\"},\"roleRef\":{\"apiGroup\":\"rbac.authorization.k8s.io\",\"kind\":\"ClusterRole\",\"name\":\"system:basic-user\"},\"subjects\":[{\"apiGroup\":\"rbac.authorization.k8s.io\",\"kind\":\"Group\",\"name\":\"system:authenticated\"}]}",
-};
-
 /// A store with the opening objects at the five revisions after `first`.
+#[tactic(auto, unfolding(crate::specs::Opening::opening_store))]
 pub fn open_store(alloc: Global, table: Sequence<ResourceRow>, first: u64) -> Result<Store, Memory>
     requires { first ≤ LAST_FIRST }
+    ensures { IfOk result (λ s. plain_of s ≡ opening_store table first) }
 {
     let mut store = Store::new(alloc, table, first);
-    create_opening(alloc, &mut store, &DEFAULT_NAMESPACE)?;
-    create_opening(alloc, &mut store, &CLUSTER_ADMIN)?;
-    create_opening(alloc, &mut store, &BASIC_USER)?;
-    create_opening(alloc, &mut store, &CLUSTER_ADMIN_BINDING)?;
-    create_opening(alloc, &mut store, &BASIC_USER_BINDING)?;
+    create_default_namespace(alloc, &mut store)?;
+    create_cluster_admin(alloc, &mut store)?;
+    create_basic_user(alloc, &mut store)?;
+    create_cluster_admin_binding(alloc, &mut store)?;
+    create_basic_user_binding(alloc, &mut store)?;
     Ok(store)
+}
+
+#[tactic(auto, unfolding(crate::specs::Opening::with_default_namespace))]
+fn create_default_namespace(alloc: Global, store: &mut Store) -> Result<(), Memory>
+    ensures { OnOk result (plain_of store.new ≡ with_default_namespace (plain_of store.old)) }
+{
+    let opening = OpeningObject {
+        group: "",
+        plural: "namespaces",
+        kind: "Namespace",
+        name: "default",
+        body: b"{\"metadata\":{\"name\":\"default\"}}",
+    };
+    create_opening(alloc, store, &opening)
+}
+
+/// Everything may be done (Kubernetes, 'Using RBAC Authorization', user-facing roles).
+#[tactic(auto, unfolding(crate::specs::Opening::with_cluster_admin))]
+fn create_cluster_admin(alloc: Global, store: &mut Store) -> Result<(), Memory>
+    ensures { OnOk result (plain_of store.new ≡ with_cluster_admin (plain_of store.old)) }
+{
+    let opening = OpeningObject {
+        group: RBAC,
+        plural: "clusterroles",
+        kind: "ClusterRole",
+        name: "cluster-admin",
+        body: b"{\"metadata\":{\"name\":\"cluster-admin\"},\"rules\":[{\"apiGroups\":[\"*\"],\"resources\":[\"*\"],\"verbs\":[\"*\"]},{\"nonResourceURLs\":[\"*\"],\"verbs\":[\"*\"]}]}",
+    };
+    create_opening(alloc, store, &opening)
+}
+
+/// Everybody who has a name may ask what he may do.
+#[tactic(auto, unfolding(crate::specs::Opening::with_basic_user))]
+fn create_basic_user(alloc: Global, store: &mut Store) -> Result<(), Memory>
+    ensures { OnOk result (plain_of store.new ≡ with_basic_user (plain_of store.old)) }
+{
+    let opening = OpeningObject {
+        group: RBAC,
+        plural: "clusterroles",
+        kind: "ClusterRole",
+        name: "system:basic-user",
+        body: b"{\"metadata\":{\"name\":\"system:basic-user\"},\"rules\":[{\"apiGroups\":[\"authorization.k8s.io\"],\"resources\":[\"selfsubjectaccessreviews\",\"selfsubjectrulesreviews\"],\"verbs\":[\"create\"]}]}",
+    };
+    create_opening(alloc, store, &opening)
+}
+
+#[tactic(auto, unfolding(crate::specs::Opening::with_cluster_admin_binding))]
+fn create_cluster_admin_binding(alloc: Global, store: &mut Store) -> Result<(), Memory>
+    ensures { OnOk result (plain_of store.new ≡ with_cluster_admin_binding (plain_of store.old)) }
+{
+    let opening = OpeningObject {
+        group: RBAC,
+        plural: "clusterrolebindings",
+        kind: "ClusterRoleBinding",
+        name: "cluster-admin",
+        body: b"{\"metadata\":{\"name\":\"cluster-admin\"},\"roleRef\":{\"apiGroup\":\"rbac.authorization.k8s.io\",\"kind\":\"ClusterRole\",\"name\":\"cluster-admin\"},\"subjects\":[{\"apiGroup\":\"rbac.authorization.k8s.io\",\"kind\":\"Group\",\"name\":\"system:masters\"}]}",
+    };
+    create_opening(alloc, store, &opening)
+}
+
+#[tactic(auto, unfolding(crate::specs::Opening::with_basic_user_binding))]
+fn create_basic_user_binding(alloc: Global, store: &mut Store) -> Result<(), Memory>
+    ensures { OnOk result (plain_of store.new ≡ with_basic_user_binding (plain_of store.old)) }
+{
+    let opening = OpeningObject {
+        group: RBAC,
+        plural: "clusterrolebindings",
+        kind: "ClusterRoleBinding",
+        name: "system:basic-user",
+        body: b"{\"metadata\":{\"name\":\"system:basic-user\"},\"roleRef\":{\"apiGroup\":\"rbac.authorization.k8s.io\",\"kind\":\"ClusterRole\",\"name\":\"system:basic-user\"},\"subjects\":[{\"apiGroup\":\"rbac.authorization.k8s.io\",\"kind\":\"Group\",\"name\":\"system:authenticated\"}]}",
+    };
+    create_opening(alloc, store, &opening)
 }
 
 /// Creates an opening object as any other object is created.
 #[tactic(auto, unfolding(crate::specs::Opening::with_opening))]
 fn create_opening(alloc: Global, store: &mut Store, opening: &OpeningObject) -> Result<(), Memory>
-    ensures { OnOk result (plain_of store.new ≡ with_object opening.now (plain_of store.old)) }
+    ensures { OnOk result (plain_of store.new ≡ with_opening opening.now.group.now opening.now.plural.now opening.now.kind.now
+        opening.now.name.now opening.now.body.now (plain_of store.old)) }
 {
     let row = opening_row(alloc, opening)?;
     let key = opening_key(alloc, opening)?;
