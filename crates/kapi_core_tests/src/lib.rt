@@ -9,5 +9,6 @@ mod faults;
 mod limits;
 #[cfg(test)]
 mod requests;
+pub mod rows;
 #[cfg(test)]
 mod tests;

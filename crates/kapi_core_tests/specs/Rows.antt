@@ -1,0 +1,109 @@
+-- Worked rows: events, and the answers that the machine that is data gives.
+use Rattle.std.specs.Prelude.{ℕ, Bool, true, false, List, [], ◌∷◌, ◌++◌, map, codes}
+use Rattle.std.specs.List.{repeat}
+use Rattle.kapi_answer.specs.declared.respond.Output.{Output}
+use Rattle.kapi_object.specs.declared.row.ResourceRow.{ResourceRow}
+use Rattle.kapi_object.specs.declared.row.Schema.TheVariants as schema
+use Rattle.kapi_rbac_types.specs.declared.identity.Identity.{Identity}
+use Rattle.kapi_core.specs.declared.event.Event.{Event}
+use Rattle.kapi_core.specs.declared.event.Event.TheVariants as event
+use Rattle.kapi_core.specs.declared.event.Answer.{Answer}
+use Rattle.kapi_core.specs.declared.event.Answer.TheVariants as told
+use Rattle.kapi_core.specs.Machine.{Machine}
+use Rattle.kapi_core.specs.Opening.{opening}
+
+-- the machine that the rows begin with
+abbrev pub core_row : List ℕ → List ℕ → Bool → Bool → ResourceRow
+core_row plural kind namespaced has_status =
+    record { group = []; version = codes "v1"; plural = plural; kind = kind; namespaced = namespaced; has_status = has_status; schema = schema.Open }
+
+abbrev pub start : Machine
+start = opening (core_row (codes "namespaces") (codes "Namespace") false true ∷ core_row (codes "configmaps") (codes "ConfigMap") true false ∷ []) 0
+
+abbrev pub root : Identity
+root = record { user = codes "root"; groups = codes "system:masters" ∷ [] }
+
+abbrev pub bob : Identity
+bob = record { user = codes "bob"; groups = [] }
+
+abbrev pub feed : ℕ → List ℕ → Event
+feed n piece = event.Feed (record { 0 = n }) piece
+
+abbrev pub serve : ℕ → Event
+serve n = event.Serve (record { 0 = n })
+
+abbrev pub opened : ℕ → Answer
+opened n = told.Opened (record { 0 = n })
+
+abbrev pub out : List ℕ → Answer
+out bytes = told.Sent (record { bytes = bytes; close = false })
+
+abbrev pub last : List ℕ → Answer
+last bytes = told.Sent (record { bytes = bytes; close = true })
+
+-- a config map is created, and read
+abbrev pub create_request : List ℕ
+create_request = codes "POST /api/v1/namespaces/default/configmaps HTTP/1.1\r\nHost: a\r\nContent-Type: application/json\r\nContent-Length: 79\r\n\r\n{\"apiVersion\":\"v1\",\"kind\":\"ConfigMap\",\"metadata\":{\"name\":\"a\"},\"data\":{\"k\":\"v\"}}"
+
+abbrev pub get_request : List ℕ
+get_request = codes "GET /api/v1/namespaces/default/configmaps/a HTTP/1.1\r\nHost: a\r\n\r\n"
+
+abbrev pub object_text : List ℕ
+object_text = codes "Content-Type: application/json\r\nContent-Length: 168\r\n\r\n{\"apiVersion\":\"v1\",\"data\":{\"k\":\"v\"},\"kind\":\"ConfigMap\",\"metadata\":{\"name\":\"a\",\"namespace\":\"default\",\"resourceVersion\":\"6\",\"uid\":\"00000000-0000-4000-8000-000000000006\"}}"
+
+abbrev pub created_reply : List ℕ
+created_reply = codes "HTTP/1.1 201 Created\r\n" ++ object_text
+
+abbrev pub found_reply : List ℕ
+found_reply = codes "HTTP/1.1 200 OK\r\n" ++ object_text
+
+abbrev pub create_and_get : List Event
+create_and_get = event.Open root ∷ feed 0 create_request ∷ serve 0 ∷ feed 0 get_request ∷ serve 0 ∷ []
+
+abbrev pub created_and_got : List Answer
+created_and_got = opened 0 ∷ told.Done ∷ out created_reply ∷ told.Done ∷ out found_reply ∷ []
+
+-- who is not in system:masters is denied before the route is looked at; who is learns that there is no such resource
+abbrev pub widget_request : List ℕ
+widget_request = codes "GET /api/v1/namespaces/default/widgets/x HTTP/1.1\r\nHost: a\r\n\r\n"
+
+abbrev pub denied_reply : List ℕ
+denied_reply = codes "HTTP/1.1 403 Forbidden\r\nContent-Type: application/json\r\nContent-Length: 285\r\n\r\n{\"apiVersion\":\"v1\",\"code\":403,\"details\":{\"causes\":[{\"message\":\"[\\\"get\\\",\\\"\\\",\\\"widgets\\\",\\\"\\\",\\\"x\\\"]\",\"reason\":\"MissingPermission\"}],\"kind\":\"widgets\",\"name\":\"x\"},\"kind\":\"Status\",\"message\":\"bob may not do this in namespace default\",\"metadata\":{},\"reason\":\"Forbidden\",\"status\":\"Failure\"}"
+
+abbrev pub no_resource_reply : List ℕ
+no_resource_reply = codes "HTTP/1.1 404 Not Found\r\nContent-Type: application/json\r\nContent-Length: 168\r\n\r\n{\"apiVersion\":\"v1\",\"code\":404,\"details\":{\"kind\":\"widgets\",\"name\":\"x\"},\"kind\":\"Status\",\"message\":\"no such resource\",\"metadata\":{},\"reason\":\"NotFound\",\"status\":\"Failure\"}"
+
+abbrev pub deny : List Event
+deny = event.Open root ∷ event.Open bob ∷ feed 1 widget_request ∷ serve 1 ∷ feed 0 widget_request ∷ serve 0 ∷ []
+
+abbrev pub denied : List Answer
+denied = opened 0 ∷ opened 1 ∷ told.Done ∷ out denied_reply ∷ told.Done ∷ out no_resource_reply ∷ []
+
+-- the same bytes in one piece, or each in a piece of its own, get the same replies
+abbrev pub both_requests : List ℕ
+both_requests = create_request ++ get_request
+
+abbrev pub in_one_piece : List Event
+in_one_piece = event.Open root ∷ feed 0 both_requests ∷ serve 0 ∷ serve 0 ∷ []
+
+abbrev pub served_in_one_piece : List Answer
+served_in_one_piece = opened 0 ∷ told.Done ∷ out created_reply ∷ out found_reply ∷ []
+
+abbrev pub byte_by_byte : List Event
+byte_by_byte = event.Open root ∷ map (λ b. feed 0 (b ∷ [])) both_requests ++ serve 0 ∷ serve 0 ∷ []
+
+abbrev pub served_byte_by_byte : List Answer
+served_byte_by_byte = opened 0 ∷ map (λ b. told.Done) both_requests ++ out created_reply ∷ out found_reply ∷ []
+
+-- bytes without the end of a head: at 16,384 they are too many, one less may still become a head
+abbrev pub headless : ℕ → List Event
+headless n = event.Open bob ∷ feed 0 (repeat n (codes "G")) ∷ serve 0 ∷ []
+
+abbrev pub waited_for : List Answer
+waited_for = opened 0 ∷ told.Done ∷ told.Nothing ∷ []
+
+abbrev pub too_long_reply : List ℕ
+too_long_reply = codes "HTTP/1.1 431 Request Header Fields Too Large\r\nContent-Type: application/json\r\nContent-Length: 123\r\nConnection: close\r\n\r\n{\"apiVersion\":\"v1\",\"code\":431,\"kind\":\"Status\",\"message\":\"Request Header Fields Too Large\",\"metadata\":{},\"status\":\"Failure\"}"
+
+abbrev pub too_long : List Answer
+too_long = opened 0 ∷ told.Done ∷ last too_long_reply ∷ []
