@@ -1,19 +1,14 @@
 //! The programs of Kapi. `kapi script` plays events from standard input and prints the answers.
 #![tactic(auto)]
 
-mod answer_text;
 mod command_line;
-mod escape;
-mod line;
 mod program;
-mod script;
-mod table;
 #[cfg(test)]
 mod tests;
 
 use command_line::command;
+use kapi_script::script_run;
 use program::{Command, CommandFault};
-use script::{ScriptFault, script_run};
 use std::env;
 use std::io::{self, BufWriter};
 use std::process::ExitCode;

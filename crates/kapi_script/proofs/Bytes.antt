@@ -1,0 +1,114 @@
+-- Lines, byte by byte.
+use Rattle.std.proofs.Common.{◌≡◌, ◌==◌, ℕ, ◌+◌, All, false, List, [], ◌∷◌, ◌++◌, Option, Result, Ok, Err, refl, sym, arith, subst, ap, ◌∙◌, Some, None, OnOk, take, append-nil, ◌<◌, ◌≤◌, length, drop, get_or, drop-cons, add-one}
+use Rattle.std.specs.Io.KnownBytes.{Consumes, IsAtEnd}
+use Rattle.kapi_core.specs.Stands.{Stands}
+use Rattle.std.proofs.lemmas.List.{drop_all}
+use Rattle.std.proofs.lemmas.List.Splits.{slice_split_at, slice_split_none}
+use Rattle.kapi_core.specs.declared.machine.Core.{Core}
+use Rattle.kapi_script.specs.Scripts.{lines, said, first_bad_from, start}
+use Rattle.kapi_script.specs.Playing.{ReachedBy, Reading, ReadsOn, Goes, Ends}
+use Rattle.kapi_script.specs.declared.script.Script.{Script}
+use Rattle.kapi_script.specs.declared.script.ScriptFault.{ScriptFault}
+use Rattle.kapi_script.specs.declared.script.ScriptFault.TheVariants as fault
+
+-- LF ends the line that was read
+pub line_ends : (all : List (List ℕ)) (byte : ℕ) (unread before line : List ℕ) (s : Script) (c : Option (List ℕ)) → byte ≡ 10 → line ≡ s.line.items
+    → Reading all (byte ∷ unread) s before c → ReachedBy all (line ∷ lines unread) s.lines s.core before c
+line_ends all byte unread before line s c e f h =
+    subst (λ ls. ReachedBy all ls s.lines s.core before c)
+    (slice_split_at (λ b. b == 10) s.line.items byte unread h.0 (rw e refl) ∙ ap (λ l. l ∷ lines unread) (sym f)) h.1
+
+-- the next line begins
+pub line_begins : (all : List (List ℕ)) (unread before items : List ℕ) (n : ℕ) (core : Core) (d : Option (List ℕ)) → items ≡ []
+    → ReachedBy all (lines unread) n core before d → All (λ b. (b == 10) ≡ false) items × ReachedBy all (lines (items ++ unread)) n core before d
+line_begins all unread before items n core d e h =
+    subst (λ xs. All (λ b. (b == 10) ≡ false) xs × ReachedBy all (lines (xs ++ unread)) n core before d) (sym e) ((λ k d below. absurd (omega (arith, below))), h)
+
+-- what ended a line ends the script
+pub line_failed : (all rest : List (List ℕ)) (unread before : List ℕ) (n : ℕ) (core : Core) (s : Script) (d : Option (List ℕ)) (result : Result (Unit {0}) ScriptFault) (e : ScriptFault)
+    → result ≡ Err e → Goes all rest n core before d result → ReadsOn all unread s before d (Err e)
+line_failed all rest unread before n core s d result (fault.BadLine number) is h = subst (λ r. Goes all rest n core before d r) is h
+line_failed all rest unread before n core s d result fault.Read is h = tt
+line_failed all rest unread before n core s d result fault.Write is h = tt
+line_failed all rest unread before n core s d result fault.Memory is h = tt
+
+-- nothing is left to be read but the last line
+pub last_line : (all : List (List ℕ)) (before line : List ℕ) (s : Script) (c : Option (List ℕ)) → line ≡ s.line.items → Reading all [] s before c
+    → ReachedBy all (line ∷ []) s.lines s.core before c
+last_line all before line s c e h =
+    subst (λ ls. ReachedBy all ls s.lines s.core before c)
+    (ap lines (append-nil s.line.items) ∙ slice_split_none (λ b. b == 10) s.line.items h.0 ∙ ap (λ l. l ∷ []) (sym e)) h.1
+
+-- all lines were played
+pub ended : (all : List (List ℕ)) (before : List ℕ) (n : ℕ) (core : Core) (d : Option (List ℕ)) (result : Result (Unit {0}) ScriptFault)
+    → Goes all [] n core before d result → Ends all before d result
+unfolding said first_bad_from
+ended all before n core d (Ok done) h =
+    let s = h.1.said_so_far [] in
+    (s.0, h.2 ∙ ap (λ t. Some (before ++ t)) (sym (s.1 ∙ append-nil h.0)), h.1.none_bad)
+ended all before n core d (Err (fault.BadLine number)) h = h
+ended all before n core d (Err fault.Read) h = tt
+ended all before n core d (Err fault.Write) h = tt
+ended all before n core d (Err fault.Memory) h = tt
+
+-- the next byte that is read
+pub byte_first : (all : List (List ℕ)) (bytes unread before : List ℕ) (i : ℕ) (s : Script) (c : Option (List ℕ)) → i < length bytes
+    → Reading all (drop i bytes ++ unread) s before c → Reading all (get_or bytes i 0 ∷ (drop (i + 1) bytes ++ unread)) s before c
+byte_first all bytes unread before i s c below h =
+    subst (λ xs. Reading all (xs ++ unread) s before c) (drop-cons bytes i 0 below ∙ ap (λ k. get_or bytes i 0 ∷ drop k bytes) (sym (add-one i))) h
+
+-- all bytes were read
+pub bytes_end : (all : List (List ℕ)) (bytes unread before : List ℕ) (i : ℕ) (s : Script) (c : Option (List ℕ)) → length bytes ≤ i
+    → Reading all (drop i bytes ++ unread) s before c → Reading all unread s before c
+bytes_end all bytes unread before i s c over h = subst (λ xs. Reading all (xs ++ unread) s before c) (drop_all i bytes over) h
+
+-- what ended the script does not depend on what was not read
+pub reads_failed : (all : List (List ℕ)) (unread other before : List ℕ) (s t : Script) (d : Option (List ℕ)) (e : ScriptFault)
+    → ReadsOn all unread s before d (Err e) → ReadsOn all other t before d (Err e)
+reads_failed all unread other before s t d (fault.BadLine number) h = h
+reads_failed all unread other before s t d fault.Read h = tt
+reads_failed all unread other before s t d fault.Write h = tt
+reads_failed all unread other before s t d fault.Memory h = tt
+
+some_same : (xs ys : List ℕ) → Some xs ≡ Some ys → xs ≡ ys
+some_same xs ys e = cc
+
+-- a piece was read of what was left
+pub read_some : (c d : Option (List ℕ)) (unread piece : List ℕ) → c ≡ Some unread → Consumes c d piece
+    → (rest : List ℕ) × (d ≡ Some rest) × (unread ≡ piece ++ rest)
+read_some None d unread piece e h = absurd (cc e)
+read_some (Some xs) None unread piece e h = absurd h
+read_some (Some xs) (Some ys) unread piece e h = (ys, refl, sym (some_same xs unread e) ∙ h)
+
+at_end : (d : Option (List ℕ)) (rest : List ℕ) → d ≡ Some rest → IsAtEnd d → rest ≡ []
+at_end None rest e h = absurd (cc e)
+at_end (Some xs) rest e h = sym (some_same xs rest e) ∙ h
+
+-- nothing was left
+pub read_none : (c d : Option (List ℕ)) (unread buffer : List ℕ) (count : ℕ) → c ≡ Some unread → Consumes c d (take count buffer) → count ≡ 0 → IsAtEnd d
+    → unread ≡ []
+read_none c d unread buffer count e h none end =
+    let r = read_some c d unread (take count buffer) e h in
+    r.2 ∙ ap (λ n. take n buffer ++ r.0) none ∙ at_end d r.0 r.1 end
+
+pub on_ok : (result : Result (Unit {0}) ScriptFault) (P : Type 0) → P → OnOk result P
+on_ok (Ok done) P p = p
+on_ok (Err e) P p = tt
+
+-- what ended the reading ends the script
+pub ends_failed : (all : List (List ℕ)) (unread before : List ℕ) (s : Script) (d : Option (List ℕ)) (e : ScriptFault)
+    → ReadsOn all unread s before d (Err e) → Ends all before d (Err e)
+ends_failed all unread before s d (fault.BadLine number) h = h
+ends_failed all unread before s d fault.Read h = tt
+ends_failed all unread before s d fault.Write h = tt
+ends_failed all unread before s d fault.Memory h = tt
+
+-- at the start nothing was read
+pub at_start : (text before items : List ℕ) (core : Core) (c : Option (List ℕ)) → items ≡ [] → Stands core start → c ≡ Some before
+    → All (λ b. (b == 10) ≡ false) items × ReachedBy (lines text) (lines (items ++ text)) 0 core before c
+at_start text before items core c none stands e =
+    line_begins (lines text) text before items 0 core c none (
+      [],
+      record { machine = start; stands = stands; said_so_far = λ refused. (refused, refl); none_bad = refl },
+      e ∙ ap Some (sym (append-nil before)),
+    )

@@ -1,0 +1,6 @@
+pub mod Appending
+pub mod Numbers
+pub mod Texts
+pub mod Lines
+pub mod Lined
+pub mod Bytes

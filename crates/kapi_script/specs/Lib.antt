@@ -1,0 +1,6 @@
+pub mod Escapes
+pub mod Events
+pub mod AnswerLines
+pub mod ProgramTable
+pub mod Scripts
+pub mod Playing

@@ -1,0 +1,13 @@
+//! Scripts: a text's lines as events, and the lines of their answers.
+#![tactic(auto)]
+
+mod answer_text;
+mod escape;
+mod line;
+mod script;
+mod table;
+#[cfg(test)]
+mod tests;
+
+pub use script::{ScriptFault, script_run};
+pub use table::program_table;

@@ -1,0 +1,278 @@
+ghost use Rattle.std.specs.Prelude.{◌≡◌, ◌+◌, ◌<◌, ◌≤◌, ◌++◌, [], ◌∷◌, List, ℕ, Some, OnOk, IfOk, IfErr, IfSome, length, take};
+ghost use Rattle.kapi_script.specs.declared.script.ScriptFault.TheVariants as Fault;
+ghost use Rattle.std.specs.Io.KnownBytes.{Appends, Consumes, IsAtEnd};
+ghost use Rattle.kapi_core.specs.Stands.{Keeps, Steps};
+ghost use Rattle.kapi_script.specs.Playing.{is_bad_play, Ends, Goes, Plays, ReachedBy, Reading, ReadsOn, Told, played_text};
+ghost use Rattle.kapi_script.specs.Scripts.{lines};
+
+use crate::answer_text::write_answer;
+use crate::line::parse_line;
+use crate::table::program_table;
+use kapi_core::{Answer, Core};
+use kapi_text::Memory;
+use std::alloc::Global;
+use std::io::{self, Read, Write};
+use thiserror::Error;
+
+/// How many bytes are read at a time.
+const READ_SIZE: usize = 65_536;
+
+/// How many reads a script may take.
+const READS: u64 = 4_294_967_296;
+
+/// Why a script was not played to its end. The answers before it are written.
+#[derive(Clone, Copy, Debug, PartialEq, Eq, Error)]
+pub enum ScriptFault {
+    /// A line of no known form; the first line is 1.
+    #[error("bad line {0}")]
+    BadLine(u64),
+    #[error("the script cannot be read")]
+    Read,
+    #[error("the answers cannot be written")]
+    Write,
+    #[error("out of memory")]
+    Memory,
+}
+
+impl From<Memory> for ScriptFault {
+    ghost use Rattle.std.specs.Prelude.{◌≡◌};
+    ghost use Rattle.kapi_script.specs.declared.script.ScriptFault.TheVariants.{Memory as NoMemory};
+
+    ghost from_gives = { λ _ e. e ≡ NoMemory };
+
+    fn from(_error: Memory) -> ScriptFault {
+        ScriptFault::Memory
+    }
+}
+
+/// A script that is being played: the machine, the line that was read so far, and how many lines were whole.
+#[derive(Drop)]
+struct Script {
+    core: Core,
+    line: Vec<u8>,
+    lines: u64,
+}
+
+/// What was made of a line.
+#[derive(Drop)]
+pub enum Played {
+    /// It is empty or a comment.
+    Skipped,
+    /// It has no known form.
+    Bad,
+    /// Memory ran out, and nothing was changed.
+    Refused,
+    Told(Answer),
+}
+
+/// Makes the step of a line, if it is one of a known form.
+#[tactic(auto, unfolding(crate::specs::Scripts::line_of))]
+fn play(alloc: Global, core: &mut Core, line: &[u8]) -> Played
+    ensures { Plays core.old core.new line.now result }
+{
+    if line.is_empty() || line[0] == b'#' {
+        return Played::Skipped;
+    }
+    match parse_line(alloc, line) {
+        Ok(Some(event)) => match core.step(&event) {
+            Ok(answer) => Played::Told(answer),
+            Err(_) => Played::Refused,
+        },
+        Ok(None) => Played::Bad,
+        Err(_) => Played::Refused,
+    }
+}
+
+fn is_bad(played: &Played) -> bool
+    ensures { result ≡ is_bad_play played.now }
+{
+    matches!(played, Played::Bad)
+}
+
+/// Writes the line that answers a line, if it has one, and hands it on at once.
+fn write_played<W: Write>(writer: &mut W, played: &Played) -> Result<(), ScriptFault>
+    ensures text { OnOk result (Appends (W.contents writer.old) (W.contents writer.new) (played_text played.now)) }
+    ensures fault { IfErr result (λ e. e ≡ Fault.Write) }
+{
+    if write_text(writer, played).is_err() || writer.flush().is_err() {
+        return Err(ScriptFault::Write);
+    }
+    Ok(())
+}
+
+#[tactic(auto, using(crate::proofs::Appending::appends_nothing))]
+fn write_text<W: Write>(writer: &mut W, played: &Played) -> io::Result<()>
+    ensures { OnOk result (Appends (W.contents writer.old) (W.contents writer.new) (played_text played.now)) }
+{
+    match played {
+        Played::Skipped | Played::Bad => Ok(()),
+        Played::Refused => writer.write_all(b"error Memory\n"),
+        Played::Told(answer) => write_answer(writer, answer),
+    }
+}
+
+/// Plays a line behind so many others, and writes its answer.
+fn play_line<W: Write>(
+    alloc: Global,
+    core: &mut Core,
+    lines: u64,
+    line: &[u8],
+    writer: &mut W,
+) -> Result<(), ScriptFault>
+    requires { lines < 18446744073709551615 }
+    ensures { (all rest : List (List ℕ)) (before : List ℕ) → ReachedBy all (line.now ∷ rest) lines core.old before (W.contents writer.old)
+        → Goes all rest (lines + 1) core.new before (W.contents writer.new) result }
+{
+    let played = play(alloc, core, line);
+    if is_bad(&played) {
+        return Err(ScriptFault::BadLine(lines + 1));
+    }
+    write_played(writer, &played)
+}
+
+/// Reads one byte more; LF ends a line.
+fn play_byte<W: Write>(
+    alloc: Global,
+    script: &mut Script,
+    byte: u8,
+    writer: &mut W,
+) -> Result<(), ScriptFault>
+    requires { script.old.lines < 18446744073709551615 }
+    ensures goes { (all : List (List ℕ)) (unread before : List ℕ) → Reading all (byte ∷ unread) script.old before (W.contents writer.old)
+        → ReadsOn all unread script.new before (W.contents writer.new) result }
+    ensures count { OnOk result (script.new.lines ≤ script.old.lines + 1) }
+{
+    if byte != b'\n' {
+        return push(&mut script.line, byte);
+    }
+    match play_line(
+        alloc,
+        &mut script.core,
+        script.lines,
+        script.line.as_slice(),
+        writer,
+    ) {
+        Ok(()) => {
+            script.lines += 1;
+            script.line.clear();
+            Ok(())
+        }
+        Err(fault) => Err(fault),
+    }
+}
+
+fn push(line: &mut Vec<u8>, byte: u8) -> Result<(), ScriptFault>
+    ensures pushed { OnOk result (line.new.items ≡ line.old.items ++ byte ∷ []) }
+    ensures fault { IfErr result (λ e. e ≡ Fault.Memory) }
+{
+    match line.push(byte) {
+        Ok(()) => Ok(()),
+        Err(_) => Err(ScriptFault::Memory),
+    }
+}
+
+/// Reads some bytes more.
+fn play_bytes<W: Write>(
+    alloc: Global,
+    script: &mut Script,
+    bytes: &[u8],
+    writer: &mut W,
+) -> Result<(), ScriptFault>
+    requires { script.old.lines + length bytes.now ≤ 18446744073709551615 }
+    ensures goes { (all : List (List ℕ)) (unread before : List ℕ) → Reading all (bytes.now ++ unread) script.old before (W.contents writer.old)
+        → ReadsOn all unread script.new before (W.contents writer.new) result }
+    ensures count { OnOk result (script.new.lines ≤ script.old.lines + length bytes.now) }
+{
+    for byte in bytes {
+        match play_byte(alloc, script, *byte, writer) {
+            Ok(()) => {}
+            Err(fault) => return Err(fault),
+        }
+    }
+    Ok(())
+}
+
+/// The last line may lack its end.
+fn end_script<W: Write>(
+    alloc: Global,
+    script: &mut Script,
+    writer: &mut W,
+) -> Result<(), ScriptFault>
+    requires { script.old.lines < 18446744073709551615 }
+    ensures { (all : List (List ℕ)) (before : List ℕ) → Reading all [] script.old before (W.contents writer.old)
+        → Ends all before (W.contents writer.new) result }
+{
+    play_line(
+        alloc,
+        &mut script.core,
+        script.lines,
+        script.line.as_slice(),
+        writer,
+    )
+}
+
+/// Plays the events that a reader gives, line by line, and writes the answers as they are made.
+///
+/// # Errors
+/// `BadLine` at the first line of no known form; `Read` where the reader fails or gives more than 2^32 pieces;
+/// `Write` where the writer fails; `Memory` where memory runs out outside an event.
+pub fn script_run<R: Read, W: Write>(
+    alloc: Global,
+    reader: &mut R,
+    writer: &mut W,
+) -> Result<(), ScriptFault>
+    ensures told { (text before : List ℕ) → R.remaining reader.old ≡ Some text → W.contents writer.old ≡ Some before
+        → Told text before (W.contents writer.new) result }
+    ensures whole { OnOk result (IsAtEnd (R.remaining reader.new)) }
+{
+    let core = Core::new(alloc, program_table(alloc)?, 0)?;
+    let mut script = Script {
+        core,
+        line: Vec::new(alloc),
+        lines: 0,
+    };
+    let mut buffer = vec![in alloc; 0u8; READ_SIZE]?;
+    play_all(alloc, &mut script, reader, buffer.as_mut_slice(), writer)
+}
+
+/// Reads to the end, a buffer at a time.
+fn play_all<R: Read, W: Write>(
+    alloc: Global,
+    script: &mut Script,
+    reader: &mut R,
+    buffer: &mut [u8],
+    writer: &mut W,
+) -> Result<(), ScriptFault>
+    requires lines { script.old.lines ≡ 0 }
+    requires room { 0 < length buffer.old }
+    requires size { length buffer.old ≤ 65536 }
+    ensures ends { (all : List (List ℕ)) (unread before : List ℕ) → R.remaining reader.old ≡ Some unread
+        → Reading all unread script.old before (W.contents writer.old) → Ends all before (W.contents writer.new) result }
+    ensures whole { OnOk result (IsAtEnd (R.remaining reader.new)) }
+{
+    for _ in 0..READS {
+        let count = read_into(reader, buffer)?;
+        if count == 0 {
+            return end_script(alloc, script, writer);
+        }
+        match play_bytes(alloc, script, &buffer[..count], writer) {
+            Ok(()) => {}
+            Err(fault) => return Err(fault),
+        }
+    }
+    Err(ScriptFault::Read)
+}
+
+/// How many bytes were read into the buffer; none only where no byte is left.
+fn read_into<R: Read>(reader: &mut R, buffer: &mut [u8]) -> Result<usize, ScriptFault>
+    requires { 0 < length buffer.old }
+    ensures within { IfOk result (λ n. n ≤ length buffer.old) }
+    ensures bytes { IfOk result (λ n. Consumes (R.remaining reader.old) (R.remaining reader.new) (take n buffer.new)) }
+    ensures end { IfOk result (λ n. n ≡ 0 → IsAtEnd (R.remaining reader.new)) }
+    ensures fault { IfErr result (λ e. e ≡ Fault.Read) }
+{
+    match reader.read(buffer) {
+        Ok(count) => Ok(count),
+        Err(_) => Err(ScriptFault::Read),
+    }
+}
