@@ -8,7 +8,7 @@ use Rattle.kapi_http.specs.Message.{status_number}
 use Rattle.kapi_http.specs.declared.message.Method.{Method}
 use Rattle.kapi_http.specs.declared.message.StatusCode.{StatusCode}
 use Rattle.kapi_http.specs.declared.message.StatusCode.TheVariants as status
-use Rattle.kapi_object.proofs.Trees.{put_has_no_float}
+use Rattle.kapi_object.proofs.NoFloats.{put_has_no_float}
 use Rattle.kapi_object.specs.declared.fault.FieldFault.{FieldFault}
 use Rattle.kapi_request_info.specs.declared.attributes.Attributes.{Attributes}
 use Rattle.kapi_rules.specs.declared.point.Point.{Point}

@@ -10,11 +10,14 @@ use Rattle.kapi_rbac_types.specs.declared.identity.Identity.{Identity}
 use Rattle.kapi_request_info.specs.Attributes.{info}
 use Rattle.kapi_request_info.specs.declared.attributes.Attributes.{Attributes}
 use Rattle.kapi_request_info.specs.declared.attributes.InfoError.{InfoError}
+use Rattle.kapi_request_info.specs.declared.attributes.InfoError.TheVariants as fault
 use Rattle.kapi_store.specs.Keys.{is_key}
 use Rattle.kapi_store.specs.Plain.{Plain, PlainChange, creation_at}
 use Rattle.kapi_store.specs.Stamps.{created_tree}
 use Rattle.kapi_store.specs.declared.key.Key.{Key}
 use Rattle.kapi_answer.specs.declared.respond.Output.{Output}
+use Rattle.kapi_answer.specs.declared.refusal.BadWord.{BadWord}
+use Rattle.kapi_answer.specs.declared.refusal.BadWord.TheVariants as word
 use Rattle.kapi_answer.specs.declared.refusal.Refusal.{Refusal}
 use Rattle.kapi_answer.specs.declared.refusal.Refusal.TheVariants as refusal
 use Rattle.kapi_answer.specs.declared.route.Action.{Action}
@@ -73,10 +76,17 @@ unfoldable pub answer_by : Plain → Identity → HttpRequest → Attributes →
 answer_by s identity request a (Ok outcome) = served s request.close outcome
 answer_by s identity request a (Err r) = (refusal_output identity.user request.method a request.close r, [])
 
--- the answer to a request whose target gives those attributes, or is no path
+-- the word for a fault of a target; the last case is that of no definition
+abbrev pub target_word : InfoError → BadWord
+target_word fault.BadPath = word.Target
+target_word fault.BadEscape = word.Escape
+target_word fault.BadQuery = word.Query
+target_word fault.Memory = word.Target
+
+-- the answer to a request whose target gives those attributes, or has a fault
 unfoldable pub answer_asked : Plain → Identity → HttpRequest → Result Attributes InfoError → Answered
 answer_asked s identity request (Ok a) = answer_by s identity request a (checked s identity request a)
-answer_asked s identity request (Err e) = (target_output request.close, [])
+answer_asked s identity request (Err e) = (target_output (target_word e) request.close, [])
 
 -- the answer to what was cut from a connection's bytes
 unfoldable pub answer : Plain → Identity → Result HttpRequest HttpFault → Answered

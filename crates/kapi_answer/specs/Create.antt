@@ -5,7 +5,7 @@ use Rattle.serde_json.specs.Data.{Data}
 use Rattle.kapi_object.specs.Admission.{object_of}
 use Rattle.kapi_object.specs.Given.{given_of}
 use Rattle.kapi_object.specs.Names.{is_name_on}
-use Rattle.kapi_object.specs.Tree.{with_text}
+use Rattle.kapi_object.specs.Tree.{with_text, without_member}
 use Rattle.kapi_object.specs.declared.fault.Cause.{Cause}
 use Rattle.kapi_object.specs.declared.fault.Cause.TheVariants as cause
 use Rattle.kapi_object.specs.declared.fault.FieldFault.{FieldFault}
@@ -96,9 +96,14 @@ valid name (Err faults) = Err (refused name (why.Invalid faults))
 unfoldable pub revision_left : Plain → List ℕ → Result (Unit {0}) Refusal
 revision_left s name = if s.revision == LAST_REVISION then Err (refused name why.NoRevisionLeft) else Ok tt
 
--- the tree with the namespace of its path
+-- the tree without its status, where that is a subresource of its own (Kubernetes API conventions, 'Spec and Status')
+abbrev pub unreported : ResourceRow → Data → Data
+unreported row tree = if row.has_status then without_member (codes "status") tree else tree
+
+-- the tree as it is stored at first: without a status of its own, with the namespace of its path
 abbrev pub in_place : ResourceRow → List ℕ → Data → Data
-in_place row namespace tree = if row.namespaced then with_text (codes "namespace") namespace tree else tree
+in_place row namespace tree =
+    if row.namespaced then with_text (codes "namespace") namespace (unreported row tree) else unreported row tree
 
 -- the place and the tree of the object that is to be created: body, name, namespace, existence, validity, revisions
 unfoldable pub to_create : Plain → ResourceRow → List ℕ → List ℕ → Result (Key × Data) Refusal

@@ -31,6 +31,8 @@ use Rattle.kapi_answer.specs.Status.{Subject, Failed, details_of, status_of, mis
 -- the word of a bad request
 abbrev pub word_text : BadWord → List ℕ
 word_text word.Target = codes "target"
+word_text word.Escape = codes "escape"
+word_text word.Query = codes "query"
 word_text word.Impersonation = codes "impersonation"
 word_text word.Json = codes "json"
 word_text word.Float = codes "float"
@@ -146,9 +148,9 @@ failure_of user m a r = record {
   details = details_of (subject_of a.point r) (causes_of a r);
 }
 
--- the failure that is told of a target that is no path
-abbrev pub bad_target : Failed
-bad_target = record { code = status.BadRequest; reason = codes "BadRequest"; message = codes "bad request: target"; details = no_members }
+-- the failure that is told of a target with a fault
+abbrev pub bad_target : BadWord → Failed
+bad_target w = record { code = status.BadRequest; reason = codes "BadRequest"; message = codes "bad request: " ++ word_text w; details = no_members }
 
 -- ---- replies
 
@@ -180,9 +182,9 @@ sent reply = record { bytes = text reply; close = reply.close }
 abbrev pub refusal_output : List ℕ → Method → Attributes → Bool → Refusal → Output
 refusal_output user m a close r = sent (json_reply (code_of r) (allowed_by r) close (compact_text (status_of (failure_of user m a r))))
 
--- what a request is sent whose target is no path
-abbrev pub target_output : Bool → Output
-target_output close = sent (json_reply status.BadRequest [] close (compact_text (status_of bad_target)))
+-- what a request is sent whose target has a fault
+abbrev pub target_output : BadWord → Bool → Output
+target_output w close = sent (json_reply status.BadRequest [] close (compact_text (status_of (bad_target w))))
 
 -- ---- bytes that are no request
 

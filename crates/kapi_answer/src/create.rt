@@ -2,7 +2,7 @@ ghost use Rattle.std.specs.Prelude.{◌≡◌, [], IfOk, if◌then◌else◌};
 ghost use Rattle.kapi_object.specs.Object.{tree_of};
 ghost use Rattle.kapi_store.specs.Plain.{plain_of};
 ghost use Rattle.kapi_answer.specs.Gives.{Gives};
-ghost use Rattle.kapi_answer.specs.Create.{admitted, refused as refused_of, named, named_text, is_same_namespace as is_same_namespace_of, in_namespace as in_namespace_of, key_of as key_of_lem, free_place, valid, revision_left, in_place, to_create};
+ghost use Rattle.kapi_answer.specs.Create.{admitted, refused as refused_of, named, named_text, is_same_namespace as is_same_namespace_of, in_namespace as in_namespace_of, key_of as key_of_lem, free_place, valid, revision_left, in_place, unreported as unreported_of, to_create};
 ghost use Rattle.kapi_answer.specs.Created.{new_data, object_data, admitted_data};
 
 use crate::refusal::{BadWord, CheckError, CreateRefusal, Refusal, RefusedCreate};
@@ -209,9 +209,21 @@ fn placed(
 ) -> Result<Object, Memory>
     ensures { IfOk result (λ o. tree_of o ≡ in_place row.now namespace.now (tree_of object)) }
 {
+    let object = unreported(row, object);
     if row.namespaced {
         object.in_namespace(alloc, namespace)
     } else {
         Ok(object)
+    }
+}
+
+/// The object without its status, where that is a subresource of its own (Kubernetes API conventions, 'Spec and Status').
+fn unreported(row: &ResourceRow, object: Object) -> Object
+    ensures { tree_of result ≡ unreported_of row.now (tree_of object) }
+{
+    if row.has_status {
+        object.without_status()
+    } else {
+        object
     }
 }

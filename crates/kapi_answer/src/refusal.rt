@@ -14,6 +14,8 @@ pub enum Place {
 #[derive(Clone, Copy, Debug, PartialEq, Eq)]
 pub enum BadWord {
     Target,
+    Escape,
+    Query,
     Impersonation,
     Json,
     Float,

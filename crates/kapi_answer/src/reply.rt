@@ -82,11 +82,11 @@ pub fn refusal_output(
     )
 }
 
-/// The reply to a request whose target is no path.
-pub fn target_output(alloc: Global, close: bool) -> Result<Output, Memory>
-    ensures { IfOk result (λ o. o ≡ target_output_of close) }
+/// The reply to a request whose target has a fault.
+pub fn target_output(alloc: Global, word: BadWord, close: bool) -> Result<Output, Memory>
+    ensures { IfOk result (λ o. o ≡ target_output_of word close) }
 {
-    let failure = bad_target(alloc)?;
+    let failure = bad_target(alloc, word)?;
     let body = status_text(alloc, failure)?;
     json_output(alloc, StatusCode::BadRequest, Vec::new(alloc), close, body)
 }
@@ -197,13 +197,13 @@ fn failure_of_fault(alloc: Global, code: StatusCode, word: &str) -> Result<Failu
     })
 }
 
-fn bad_target(alloc: Global) -> Result<Failure, Memory>
-    ensures { IfOk result (λ f. failure_data f ≡ bad_target_of) }
+fn bad_target(alloc: Global, bad: BadWord) -> Result<Failure, Memory>
+    ensures { IfOk result (λ f. failure_data f ≡ bad_target_of bad) }
 {
     Ok(Failure {
         code: StatusCode::BadRequest,
         reason: "BadRequest",
-        message: String::from_str(alloc, "bad request: target")?,
+        message: format!(in alloc; "bad request: {}", word(bad))?,
         details: Map::new(alloc),
     })
 }
@@ -281,6 +281,8 @@ fn word(word: BadWord) -> &'static str
 {
     match word {
         BadWord::Target => "target",
+        BadWord::Escape => "escape",
+        BadWord::Query => "query",
         BadWord::Impersonation => "impersonation",
         BadWord::Json => "json",
         BadWord::Float => "float",

@@ -1,4 +1,4 @@
-ghost use Rattle.std.specs.Prelude.{◌≡◌, ◌+◌, [], ◌∷◌, Some, Ok, IfOk, IfSome};
+ghost use Rattle.std.specs.Prelude.{◌≡◌, ◌+◌, [], ◌∷◌, None, Some, Ok, IfOk, IfSome};
 ghost use Rattle.serde_json.specs.Written.{compact_text};
 ghost use Rattle.kapi_object.specs.Object.{tree_of};
 ghost use Rattle.kapi_object.specs.declared.object.Object.{Object};
@@ -9,12 +9,13 @@ ghost use Rattle.kapi_answer.specs.Gives.{Gives};
 ghost use Rattle.kapi_answer.specs.Create.{key_of as key_of_lem};
 ghost use Rattle.kapi_answer.specs.Routes.{route_data};
 ghost use Rattle.kapi_answer.specs.Answer.{answer as answer_of, answer_asked as answer_asked_of, answer_by, acted, checked, served, found_at, create as creates_outcome};
+ghost use Rattle.kapi_answer.specs.Replies.{target_output as target_output_of};
 ghost use Rattle.kapi_answer.specs.Answers.{IsReady, answered_data, outcome_data};
 
 use crate::authorization::authorize;
 use crate::create::{NewObject, check_create, key_of};
 use crate::headers::{check_media_type, refuse_impersonation};
-use crate::refusal::{CheckError, Refusal};
+use crate::refusal::{BadWord, CheckError, Refusal};
 use crate::reply::{Asked, fault_output, json_output, refusal_output, target_output};
 use crate::route::{Action, Route, find_route};
 use kapi_http::{HttpFault, HttpRequest, StatusCode};
@@ -82,12 +83,22 @@ fn answer_request(
 {
     match info(alloc, request.method, request.target.as_str()) {
         Ok(attributes) => answer_asked(alloc, store, identity, request, &attributes),
-        Err(InfoError::BadPath) => Ok(Prepared {
-            output: target_output(alloc, request.close)?,
-            write: None,
-        }),
+        Err(InfoError::BadPath) => refuse_target(alloc, BadWord::Target, request.close),
+        Err(InfoError::BadEscape) => refuse_target(alloc, BadWord::Escape, request.close),
+        Err(InfoError::BadQuery) => refuse_target(alloc, BadWord::Query, request.close),
         Err(InfoError::Memory) => Err(AllocError),
     }
+}
+
+/// The answer to a request whose target has a fault.
+fn refuse_target(alloc: Global, word: BadWord, close: bool) -> Result<Prepared, Memory>
+    ensures gives { IfOk result (λ p. answered_data p ≡ (target_output_of word close, [])) }
+    ensures none { IfOk result (λ p. p.write ≡ None) }
+{
+    Ok(Prepared {
+        output: target_output(alloc, word, close)?,
+        write: None,
+    })
 }
 
 /// The answer to a request whose attributes are known.

@@ -4,6 +4,7 @@ use Rattle.serde_json.specs.Data.{Data}
 use Rattle.kapi_object.specs.Admission.{object_of}
 use Rattle.kapi_object.specs.declared.fault.ObjectError.{ObjectError}
 use Rattle.kapi_object.specs.declared.row.ResourceRow.{ResourceRow}
+use Rattle.kapi_object.specs.declared.row.Schema.{Schema}
 use Rattle.kapi_object.specs.declared.row.Schema.TheVariants as schema
 use Rattle.kapi_store.specs.Plain.{Plain, PlainChange, creation, opened, written}
 use Rattle.kapi_store.specs.declared.error.StoreError.{StoreError}
@@ -11,9 +12,9 @@ use Rattle.kapi_store.specs.declared.key.Key.{Key}
 use Rattle.kapi_core.specs.Machine.{Machine}
 
 -- a resource without namespaces and status, of version v1
-abbrev pub cluster_row : List ℕ → List ℕ → List ℕ → ResourceRow
-cluster_row group plural kind =
-    record { group = group; version = codes "v1"; plural = plural; kind = kind; namespaced = false; has_status = false; schema = schema.Open }
+abbrev pub cluster_row : List ℕ → List ℕ → List ℕ → Schema → ResourceRow
+cluster_row group plural kind of =
+    record { group = group; version = codes "v1"; plural = plural; kind = kind; namespaced = false; has_status = false; schema = of }
 
 -- the place of an object without namespace
 abbrev pub cluster_key : List ℕ → List ℕ → List ℕ → Key
@@ -30,8 +31,8 @@ created_if s key (Ok tree) = written_if s (creation s key tree)
 created_if s key (Err e) = s
 
 -- the store with one opening object more
-unfoldable pub with_opening : List ℕ → List ℕ → List ℕ → List ℕ → List ℕ → Plain → Plain
-with_opening group plural kind name body s = created_if s (cluster_key group plural name) (object_of (cluster_row group plural kind) body)
+unfoldable pub with_opening : List ℕ → List ℕ → List ℕ → Schema → List ℕ → List ℕ → Plain → Plain
+with_opening group plural kind of name body s = created_if s (cluster_key group plural name) (object_of (cluster_row group plural kind of) body)
 
 -- ---- the five objects, in their order
 
@@ -39,15 +40,15 @@ abbrev pub rbac_group : List ℕ
 rbac_group = codes "rbac.authorization.k8s.io"
 
 abbrev pub with_cluster_role : List ℕ → List ℕ → Plain → Plain
-with_cluster_role name body s = with_opening rbac_group (codes "clusterroles") (codes "ClusterRole") name body s
+with_cluster_role name body s = with_opening rbac_group (codes "clusterroles") (codes "ClusterRole") schema.ClusterRole name body s
 
 abbrev pub with_cluster_role_binding : List ℕ → List ℕ → Plain → Plain
-with_cluster_role_binding name body s = with_opening rbac_group (codes "clusterrolebindings") (codes "ClusterRoleBinding") name body s
+with_cluster_role_binding name body s = with_opening rbac_group (codes "clusterrolebindings") (codes "ClusterRoleBinding") schema.ClusterRoleBinding name body s
 
 -- the namespace `default`
 unfoldable pub with_default_namespace : Plain → Plain
 with_default_namespace s =
-    with_opening [] (codes "namespaces") (codes "Namespace") (codes "default") (codes "{\"metadata\":{\"name\":\"default\"}}") s
+    with_opening [] (codes "namespaces") (codes "Namespace") schema.Open (codes "default") (codes "{\"metadata\":{\"name\":\"default\"}}") s
 
 -- everything may be done (Kubernetes, 'Using RBAC Authorization', user-facing roles)
 unfoldable pub with_cluster_admin : Plain → Plain

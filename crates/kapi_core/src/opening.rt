@@ -12,12 +12,13 @@ use std::alloc::{AllocError, Global};
 /// The largest revision at which a machine may begin: the opening objects still find revisions.
 pub const LAST_FIRST: u64 = 281_474_976_710_650;
 
-/// An object that every machine begins with. The RBAC kinds are trees without a row of their own yet.
+/// An object that every machine begins with.
 #[derive(Drop)]
 struct OpeningObject<'a> {
     group: &'a str,
     plural: &'a str,
     kind: &'a str,
+    schema: Schema,
     name: &'a str,
     body: &'a [u8],
 }
@@ -47,6 +48,7 @@ fn create_default_namespace(alloc: Global, store: &mut Store) -> Result<(), Memo
         group: "",
         plural: "namespaces",
         kind: "Namespace",
+        schema: Schema::Open,
         name: "default",
         body: b"{\"metadata\":{\"name\":\"default\"}}",
     };
@@ -62,6 +64,7 @@ fn create_cluster_admin(alloc: Global, store: &mut Store) -> Result<(), Memory>
         group: RBAC,
         plural: "clusterroles",
         kind: "ClusterRole",
+        schema: Schema::ClusterRole,
         name: "cluster-admin",
         body: b"{\"metadata\":{\"name\":\"cluster-admin\"},\"rules\":[{\"apiGroups\":[\"*\"],\"resources\":[\"*\"],\"verbs\":[\"*\"]},{\"nonResourceURLs\":[\"*\"],\"verbs\":[\"*\"]}]}",
     };
@@ -77,6 +80,7 @@ fn create_basic_user(alloc: Global, store: &mut Store) -> Result<(), Memory>
         group: RBAC,
         plural: "clusterroles",
         kind: "ClusterRole",
+        schema: Schema::ClusterRole,
         name: "system:basic-user",
         body: b"{\"metadata\":{\"name\":\"system:basic-user\"},\"rules\":[{\"apiGroups\":[\"authorization.k8s.io\"],\"resources\":[\"selfsubjectaccessreviews\",\"selfsubjectrulesreviews\"],\"verbs\":[\"create\"]}]}",
     };
@@ -91,6 +95,7 @@ fn create_cluster_admin_binding(alloc: Global, store: &mut Store) -> Result<(), 
         group: RBAC,
         plural: "clusterrolebindings",
         kind: "ClusterRoleBinding",
+        schema: Schema::ClusterRoleBinding,
         name: "cluster-admin",
         body: b"{\"metadata\":{\"name\":\"cluster-admin\"},\"roleRef\":{\"apiGroup\":\"rbac.authorization.k8s.io\",\"kind\":\"ClusterRole\",\"name\":\"cluster-admin\"},\"subjects\":[{\"apiGroup\":\"rbac.authorization.k8s.io\",\"kind\":\"Group\",\"name\":\"system:masters\"}]}",
     };
@@ -105,6 +110,7 @@ fn create_basic_user_binding(alloc: Global, store: &mut Store) -> Result<(), Mem
         group: RBAC,
         plural: "clusterrolebindings",
         kind: "ClusterRoleBinding",
+        schema: Schema::ClusterRoleBinding,
         name: "system:basic-user",
         body: b"{\"metadata\":{\"name\":\"system:basic-user\"},\"roleRef\":{\"apiGroup\":\"rbac.authorization.k8s.io\",\"kind\":\"ClusterRole\",\"name\":\"system:basic-user\"},\"subjects\":[{\"apiGroup\":\"rbac.authorization.k8s.io\",\"kind\":\"Group\",\"name\":\"system:authenticated\"}]}",
     };
@@ -115,7 +121,7 @@ fn create_basic_user_binding(alloc: Global, store: &mut Store) -> Result<(), Mem
 #[tactic(auto, unfolding(crate::specs::Opening::with_opening))]
 fn create_opening(alloc: Global, store: &mut Store, opening: &OpeningObject) -> Result<(), Memory>
     ensures { OnOk result (plain_of store.new ≡ with_opening opening.now.group.now opening.now.plural.now opening.now.kind.now
-        opening.now.name.now opening.now.body.now (plain_of store.old)) }
+        opening.now.schema opening.now.name.now opening.now.body.now (plain_of store.old)) }
 {
     let row = opening_row(alloc, opening)?;
     let key = opening_key(alloc, opening)?;
@@ -152,7 +158,7 @@ fn opening_key(alloc: Global, opening: &OpeningObject) -> Result<Key, Memory>
 }
 
 fn opening_row(alloc: Global, opening: &OpeningObject) -> Result<ResourceRow, Memory>
-    ensures { IfOk result (λ r. r ≡ cluster_row opening.now.group.now opening.now.plural.now opening.now.kind.now) }
+    ensures { IfOk result (λ r. r ≡ cluster_row opening.now.group.now opening.now.plural.now opening.now.kind.now opening.now.schema) }
 {
     Ok(ResourceRow {
         group: Text::copy_of(alloc, opening.group)?,
@@ -161,6 +167,6 @@ fn opening_row(alloc: Global, opening: &OpeningObject) -> Result<ResourceRow, Me
         kind: Text::copy_of(alloc, opening.kind)?,
         namespaced: false,
         has_status: false,
-        schema: Schema::Open,
+        schema: opening.schema,
     })
 }

@@ -1,5 +1,5 @@
 -- Worked rows: events, and the answers that the machine that is data gives.
-use Rattle.std.specs.Prelude.{ℕ, Bool, true, false, List, [], ◌∷◌, ◌++◌, map, codes}
+use Rattle.std.specs.Prelude.{ℕ, ◌+◌, zero, suc, Bool, true, false, List, [], ◌∷◌, ◌++◌, map, codes}
 use Rattle.std.specs.List.{repeat}
 use Rattle.kapi_answer.specs.declared.respond.Output.{Output}
 use Rattle.kapi_object.specs.declared.row.ResourceRow.{ResourceRow}
@@ -107,3 +107,34 @@ too_long_reply = codes "HTTP/1.1 431 Request Header Fields Too Large\r\nContent-
 
 abbrev pub too_long : List Answer
 too_long = opened 0 ∷ told.Done ∷ last too_long_reply ∷ []
+
+-- 300 events: 50 connections, one after the other, each creates the same object, asks for what is not there, and is closed
+abbrev pub exists_reply : List ℕ
+exists_reply = codes "HTTP/1.1 409 Conflict\r\nContent-Type: application/json\r\nContent-Length: 187\r\n\r\n{\"apiVersion\":\"v1\",\"code\":409,\"details\":{\"kind\":\"configmaps\",\"name\":\"a\"},\"kind\":\"Status\",\"message\":\"configmaps a already exists\",\"metadata\":{},\"reason\":\"AlreadyExists\",\"status\":\"Failure\"}"
+
+abbrev pub round : ℕ → List Event
+round n =
+    event.Open root
+    ∷ feed n create_request
+    ∷ serve n
+    ∷ feed n widget_request
+    ∷ serve n
+    ∷ event.Close (record { 0 = n })
+    ∷ []
+
+abbrev pub rounds : ℕ → ℕ → List Event
+rounds zero n = []
+rounds (suc k) n = round n ++ rounds k (n + 1)
+
+abbrev pub round_answers : List ℕ → ℕ → List Answer
+round_answers reply n = opened n ∷ told.Done ∷ out reply ∷ told.Done ∷ out no_resource_reply ∷ told.Done ∷ []
+
+abbrev pub rounds_answers : ℕ → ℕ → List Answer
+rounds_answers zero n = []
+rounds_answers (suc k) n = round_answers exists_reply n ++ rounds_answers k (n + 1)
+
+abbrev pub mixed : List Event
+mixed = rounds 50 0
+
+abbrev pub mixed_answers : List Answer
+mixed_answers = round_answers created_reply 0 ++ rounds_answers 49 1

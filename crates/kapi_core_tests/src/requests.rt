@@ -2,8 +2,18 @@
 pub const REQUESTS: &[(&str, &[u8], &[u8])] = &[
     (
         "a bad target",
-        b"GET /a%20b HTTP/1.1\r\nHost: a\r\n\r\n",
+        b"GET /a%2Fb HTTP/1.1\r\nHost: a\r\n\r\n",
         b"HTTP/1.1 400 Bad Request\r\nContent-Type: application/json\r\nContent-Length: 133\r\n\r\n{\"apiVersion\":\"v1\",\"code\":400,\"kind\":\"Status\",\"message\":\"bad request: target\",\"metadata\":{},\"reason\":\"BadRequest\",\"status\":\"Failure\"}",
+    ),
+    (
+        "a bad escape",
+        b"GET /a%f HTTP/1.1\r\nHost: a\r\n\r\n",
+        b"HTTP/1.1 400 Bad Request\r\nContent-Type: application/json\r\nContent-Length: 133\r\n\r\n{\"apiVersion\":\"v1\",\"code\":400,\"kind\":\"Status\",\"message\":\"bad request: escape\",\"metadata\":{},\"reason\":\"BadRequest\",\"status\":\"Failure\"}",
+    ),
+    (
+        "a bad query",
+        b"GET /api/v1/pods?watch=yes HTTP/1.1\r\nHost: a\r\n\r\n",
+        b"HTTP/1.1 400 Bad Request\r\nContent-Type: application/json\r\nContent-Length: 132\r\n\r\n{\"apiVersion\":\"v1\",\"code\":400,\"kind\":\"Status\",\"message\":\"bad request: query\",\"metadata\":{},\"reason\":\"BadRequest\",\"status\":\"Failure\"}",
     ),
     (
         "an empty segment",

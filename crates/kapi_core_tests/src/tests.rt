@@ -15,6 +15,14 @@ const CREATED: &[u8] =
 const FOUND: &[u8] =
     b"HTTP/1.1 200 OK\r\nContent-Type: application/json\r\nContent-Length: 168\r\n\r\n{\"apiVersion\":\"v1\",\"data\":{\"k\":\"v\"},\"kind\":\"ConfigMap\",\"metadata\":{\"name\":\"a\",\"namespace\":\"default\",\"resourceVersion\":\"6\",\"uid\":\"00000000-0000-4000-8000-000000000006\"}}";
 
+const WIDGET: &[u8] = b"GET /api/v1/namespaces/default/widgets/x HTTP/1.1\r\nHost: a\r\n\r\n";
+
+const EXISTS: &[u8] =
+    b"HTTP/1.1 409 Conflict\r\nContent-Type: application/json\r\nContent-Length: 187\r\n\r\n{\"apiVersion\":\"v1\",\"code\":409,\"details\":{\"kind\":\"configmaps\",\"name\":\"a\"},\"kind\":\"Status\",\"message\":\"configmaps a already exists\",\"metadata\":{},\"reason\":\"AlreadyExists\",\"status\":\"Failure\"}";
+
+const NO_RESOURCE: &[u8] =
+    b"HTTP/1.1 404 Not Found\r\nContent-Type: application/json\r\nContent-Length: 168\r\n\r\n{\"apiVersion\":\"v1\",\"code\":404,\"details\":{\"kind\":\"widgets\",\"name\":\"x\"},\"kind\":\"Status\",\"message\":\"no such resource\",\"metadata\":{},\"reason\":\"NotFound\",\"status\":\"Failure\"}";
+
 #[test]
 fn runs_a_create_and_a_get(rt: HostRuntime) -> Result<(), Fail> {
     let alloc = rt.alloc();
@@ -42,6 +50,42 @@ fn runs_a_create_and_a_get(rt: HostRuntime) -> Result<(), Fail> {
     wanted.extend_from_slice(FOUND)?;
     assert_eq!(rt; sent.as_slice(), wanted.as_slice());
     Ok(())
+}
+
+/// Six events on each of 50 connections; what they are answered is computed from the definitions in the rows.
+#[test]
+fn answers_300_mixed_events(rt: HostRuntime) -> Result<(), Fail> {
+    let alloc = rt.alloc();
+    let mut core = new_core(alloc)?;
+    let mut events = Vec::new(alloc);
+    for number in 0..50 {
+        events.push(open_root(alloc)?)?;
+        events.push(feed(alloc, number, CREATE)?)?;
+        events.push(Event::Serve(ConnId(number)))?;
+        events.push(feed(alloc, number, WIDGET)?)?;
+        events.push(Event::Serve(ConnId(number)))?;
+        events.push(Event::Close(ConnId(number)))?;
+    }
+    let outputs = core.run(events.as_slice());
+    assert!(rt; outputs.stopped.is_none());
+    let answers = outputs.answers.into_vec();
+    assert_eq!(rt; answers.len(), 300);
+    for (index, answer) in answers.iter().enumerate() {
+        assert_eq!(rt; bytes_of(answer), mixed_bytes(index), "event {index}");
+    }
+    Ok(())
+}
+
+/// The bytes that go out at an event of that index.
+fn mixed_bytes(index: usize) -> &'static [u8] {
+    match index {
+        2 => CREATED,
+        _ => match index % 6 {
+            2 => EXISTS,
+            4 => NO_RESOURCE,
+            _ => &[],
+        },
+    }
 }
 
 /// What the run of a create and a get is told, event by event.

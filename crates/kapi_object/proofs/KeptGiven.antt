@@ -18,11 +18,11 @@ put_unless_other : (b : Bool) (q k : List ℕ) (d : Data) (ms : Members) → byt
 put_unless_other true q k d ms h = refl
 put_unless_other false q k d ms h = get_member-put_other q k d ms (apart q k h)
 
-keep_other : (q k : List ℕ) (o : Option Data) (ms : Members) → bytes_eq q k ≡ false → get_member q (keep k o ms) ≡ get_member q ms
+pub keep_other : (q k : List ℕ) (o : Option Data) (ms : Members) → bytes_eq q k ≡ false → get_member q (keep k o ms) ≡ get_member q ms
 keep_other q k None ms h = refl
 keep_other q k (Some d) ms h = put_unless_other (is_null d) q k d ms h
 
-keep_entries_other : (q k : List ℕ) (o : Option Data) (ms : Members) → bytes_eq q k ≡ false → get_member q (keep_entries k o ms) ≡ get_member q ms
+pub keep_entries_other : (q k : List ℕ) (o : Option Data) (ms : Members) → bytes_eq q k ≡ false → get_member q (keep_entries k o ms) ≡ get_member q ms
 keep_entries_other q k None ms h = refl
 keep_entries_other q k (Some d) ms h = put_unless_other (is_null d || is_empty_object d) q k d ms h
 
@@ -48,7 +48,7 @@ names_other q tree hl ha hn =
     keep_other q (codes "name") (in_metadata (codes "name") tree) (keep_entries (codes "annotations") (in_metadata (codes "annotations") tree) (keep_entries (codes "labels") (in_metadata (codes "labels") tree) no_members)) hn
     ∙ entries_other q tree hl ha
 
-place_other_at : (b : Bool) (q : List ℕ) (tree : Data) → bytes_eq q (codes "namespace") ≡ false
+pub place_other_at : (b : Bool) (q : List ℕ) (tree : Data) → bytes_eq q (codes "namespace") ≡ false
     → get_member q (if b then keep (codes "namespace") (in_metadata (codes "namespace") tree) (kept_names tree) else kept_names tree) ≡ get_member q (kept_names tree)
 place_other_at true q tree h = keep_other q (codes "namespace") (in_metadata (codes "namespace") tree) (kept_names tree) h
 place_other_at false q tree h = refl
@@ -59,7 +59,7 @@ place_given_at : (b : Bool) (tree : Data)
 place_given_at true tree = keep_same (codes "namespace") (in_metadata (codes "namespace") tree) (kept_names tree) (names_other (codes "namespace") tree refl refl refl)
 place_given_at false tree = ap given_if (names_other (codes "namespace") tree refl refl refl)
 
-kept_other : (q : List ℕ) (row : ResourceRow) (tree : Data) → bytes_eq q (codes "resourceVersion") ≡ false → get_member q (kept_metadata row tree) ≡ get_member q (kept_place row tree)
+pub kept_other : (q : List ℕ) (row : ResourceRow) (tree : Data) → bytes_eq q (codes "resourceVersion") ≡ false → get_member q (kept_metadata row tree) ≡ get_member q (kept_place row tree)
 unfolding kept_metadata
 kept_other q row tree h = keep_other q (codes "resourceVersion") (in_metadata (codes "resourceVersion") tree) (kept_place row tree) h
 
@@ -78,7 +78,7 @@ kept_version row tree =
     keep_same (codes "resourceVersion") (in_metadata (codes "resourceVersion") tree) (kept_place row tree)
     (place_other_at row.namespaced (codes "resourceVersion") tree refl ∙ names_other (codes "resourceVersion") tree refl refl refl)
 
-in_kept : (q : List ℕ) (row : ResourceRow) (tree : Data) → in_metadata q (kept_tree row tree) ≡ get_member q (kept_metadata row tree)
+pub in_kept : (q : List ℕ) (row : ResourceRow) (tree : Data) → in_metadata q (kept_tree row tree) ≡ get_member q (kept_metadata row tree)
 unfolding kept_tree
 in_kept q row tree = ap (option_and_then (get q)) (get_member-put (codes "metadata") (object (kept_metadata row tree)) (members_or_none (Some (filled row tree))))
 

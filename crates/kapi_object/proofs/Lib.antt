@@ -1,4 +1,13 @@
+pub mod NoFloats
 pub mod Trees
 pub mod Slashes
 pub mod Bodies
 pub mod KeptGiven
+pub mod Lists
+pub mod Puts
+pub mod CleanLists
+pub mod CleanRules
+pub mod CleanSelectors
+pub mod CleanBindings
+pub mod Clean
+pub mod Removal

@@ -8,31 +8,11 @@ use Rattle.serde_json.specs.Data.{Data, null, boolean, number, string, array, ob
 use Rattle.serde_json.specs.Find.{get, get_member}
 use Rattle.serde_json.specs.Written.{has_float, members_have_float}
 use Rattle.kapi_object.specs.Admission.{keep, keep_entries, kept_names, kept_place, kept_metadata, filled, kept_tree, version_of}
-use Rattle.kapi_object.specs.Tree.{is_null, is_empty_object, members_or_none, metadata_of, in_metadata, with_text}
+use Rattle.kapi_object.specs.Contents.{content_of}
+pub use Rattle.kapi_object.proofs.NoFloats.{put_has_no_float}
+use Rattle.kapi_object.proofs.NoFloats.{or_false, members_have_no_float, content_has_no_float}
+use Rattle.kapi_object.specs.Tree.{is_null, is_empty_object, members_or_none, metadata_of, in_metadata, with_text, put_if, with_content}
 use Rattle.kapi_object.specs.declared.row.ResourceRow.{ResourceRow}
-
--- of two tests that are false together, each is false
-or_false : (a b : Bool) → (a || b) ≡ false → (a ≡ false) × (b ≡ false)
-or_false true b h = (h, absurd (cc h))
-or_false false b h = (refl, h)
-
-pub put_has_no_float : (k : List ℕ) (d : Data) (ms : Members) → has_float d ≡ false → members_have_float ms ≡ false → members_have_float (put k d ms) ≡ false
-put_has_no_float k d no_members hd hm = rw hd refl
-put_has_no_float k d (member l e ms) hd hm =
-    let parts : (has_float e ≡ false) × (members_have_float ms ≡ false) = or_false (has_float e) (members_have_float ms) hm in
-    elim (slice_cmp nat_cmp k l) as (λ o. members_have_float (match_ordering o (member k d (member l e ms)) (member l d ms) (member l e (put k d ms))) ≡ false) [
-      | Less ↦ rw (hd, parts.0) parts.1
-      | Equal ↦ rw hd parts.1
-      | Greater ↦ rw parts.0 (put_has_no_float k d ms hd parts.1)
-    ]
-
-pub members_have_no_float : (d : Data) → has_float d ≡ false → members_have_float (members_or_none (Some d)) ≡ false
-members_have_no_float null h = refl
-members_have_no_float (boolean b) h = refl
-members_have_no_float (number n) h = refl
-members_have_no_float (string s) h = refl
-members_have_no_float (array ds) h = refl
-members_have_no_float (object ms) h = h
 
 pub member_has_no_float : (k : List ℕ) (ms : Members) → members_have_float ms ≡ false → members_have_float (members_or_none (get_member k ms)) ≡ false
 member_has_no_float k no_members h = refl
@@ -129,5 +109,18 @@ pub kept_tree_has_no_float : (row : ResourceRow) (d : Data) → has_float d ≡ 
 unfolding kept_tree
 kept_tree_has_no_float row d h =
     put_has_no_float (codes "metadata") (object (kept_metadata row d)) (members_or_none (Some (filled row d))) (kept_metadata_has_no_float row d h)
-    (put_has_no_float (codes "kind") (string row.kind) (put (codes "apiVersion") (string (version_of row)) (members_or_none (Some d))) refl
-    (put_has_no_float (codes "apiVersion") (string (version_of row)) (members_or_none (Some d)) refl (members_have_no_float d h)))
+    (put_has_no_float (codes "kind") (string row.kind) (put (codes "apiVersion") (string (version_of row)) (content_of row.schema d)) refl
+    (put_has_no_float (codes "apiVersion") (string (version_of row)) (content_of row.schema d) refl (content_has_no_float row.schema d h)))
+
+-- ---- nor does an object with other content
+
+put_if_has_no_float : (k : List ℕ) (o : Option Data) (ms : Members) → some_has_float o ≡ false → members_have_float ms ≡ false → members_have_float (put_if k o ms) ≡ false
+put_if_has_no_float k None ms ho hm = hm
+put_if_has_no_float k (Some d) ms ho hm = put_has_no_float k d ms ho hm
+
+pub with_content_has_no_float : (content : Members) (d : Data) → members_have_float content ≡ false → has_float d ≡ false → has_float (with_content content d) ≡ false
+unfolding with_content
+with_content_has_no_float content d hc h =
+    put_if_has_no_float (codes "metadata") (get (codes "metadata") d) _ (get_has_no_float (codes "metadata") d h)
+    (put_if_has_no_float (codes "kind") (get (codes "kind") d) _ (get_has_no_float (codes "kind") d h)
+    (put_if_has_no_float (codes "apiVersion") (get (codes "apiVersion") d) content (get_has_no_float (codes "apiVersion") d h) hc))

@@ -2,5 +2,10 @@ pub mod Tree
 pub mod Names
 pub mod Cause
 pub mod Given
+pub mod Faults
 pub mod Admission
 pub mod Object
+pub mod Kinds
+pub mod Selector
+pub mod Typed
+pub mod Contents

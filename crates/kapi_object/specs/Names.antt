@@ -4,6 +4,8 @@ use Rattle.std.specs.List.{list_all, list_any, slice_split, before_first, after_
 use Rattle.std.specs.Char.{is_ascii_alphanumeric, is_ascii_lowercase, is_ascii_digit}
 use Rattle.std.specs.Str.{bytes_eq}
 use Rattle.kapi_object.specs.declared.row.ResourceRow.{ResourceRow}
+use Rattle.kapi_object.specs.declared.row.Schema.{Schema}
+use Rattle.kapi_object.specs.declared.row.Schema.TheVariants.{Open}
 
 -- the text begins and ends with an ASCII letter or digit
 abbrev pub is_enclosed : List ℕ → Bool
@@ -52,6 +54,11 @@ is_label_value s = length s == 0 || is_label_name s
 abbrev pub is_namespaces : ResourceRow → Bool
 is_namespaces row = length row.group == 0 && bytes_eq row.plural (codes "namespaces")
 
+-- what a name on a row of the schema has to be: names of roles and bindings are path segments ('Using RBAC Authorization')
+abbrev pub is_name_by : Schema → ResourceRow → List ℕ → Bool
+is_name_by Open row s = if is_namespaces row then is_dns_label s else is_dns_subdomain s
+is_name_by _ row s = is_path_segment s
+
 -- what a name of an object of the row has to be (Kubernetes, 'Object Names and IDs')
 unfoldable pub is_name_on : ResourceRow → List ℕ → Bool
-is_name_on row s = if is_namespaces row then is_dns_label s else is_dns_subdomain s
+is_name_on row s = is_name_by row.schema row s

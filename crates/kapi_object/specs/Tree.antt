@@ -1,7 +1,9 @@
 -- Trees: JSON objects as the data that they are (RFC 8259), each key once and in the order of its bytes.
 use Rattle.std.specs.Prelude.{ℕ, List, Bool, true, false, Option, Some, None, codes, is_some, option_and_then, option_map, unwrap_or, if◌then◌else◌}
+use Rattle.std.specs.Cmp.Lexicographic.{slice_cmp}
+use Rattle.std.specs.Ordering.{nat_cmp, match_ordering}
 use Rattle.std.specs.Str.{is_utf8}
-use Rattle.serde_json.specs.Data.{Data, string, object, Members, no_members, put}
+use Rattle.serde_json.specs.Data.{Data, string, object, Members, no_members, member, put}
 use Rattle.serde_json.specs.Find.{get, as_null, as_object}
 use Rattle.serde_json.specs.Read.{read}
 
@@ -37,3 +39,25 @@ with_metadata ms tree = object (put (codes "metadata") (object ms) (members_or_n
 -- the tree with one text set in its metadata
 abbrev pub with_text : List ℕ → List ℕ → Data → Data
 with_text key text tree = with_metadata (put key (string text) (metadata_of tree)) tree
+
+-- the members with the value, if there is one
+abbrev pub put_if : List ℕ → Option Data → Members → Members
+put_if key None ms = ms
+put_if key (Some d) ms = put key d ms
+
+-- the object of the tree's version, kind and metadata that has these members beside them
+unfoldable pub with_content : Members → Data → Data
+with_content content tree =
+    object (put_if (codes "metadata") (get (codes "metadata") tree)
+    (put_if (codes "kind") (get (codes "kind") tree)
+    (put_if (codes "apiVersion") (get (codes "apiVersion") tree) content)))
+
+-- the members without the one of a key
+abbrev pub without : List ℕ → Members → Members
+without key no_members = no_members
+without key (member l d ms) = match_ordering (slice_cmp nat_cmp key l) (member l d (without key ms)) ms (member l d (without key ms))
+
+-- an object without the member of a key; anything else has none
+abbrev pub without_member : List ℕ → Data → Data
+without_member key (object ms) = object (without key ms)
+without_member key d = d

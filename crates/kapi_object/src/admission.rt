@@ -1,198 +1,28 @@
-ghost use Rattle.std.specs.Prelude.{◌≡◌, codes, false, ◌++◌, ◌∷◌, [], Some, OnOk, IfOk, ok_or, string_bytes};
+ghost use Rattle.std.specs.Prelude.{◌≡◌, [], codes, false, Some, OnOk, IfOk, ok_or, string_bytes};
 ghost use Rattle.serde_json.specs.Data.{Data, object};
 ghost use Rattle.serde_json.specs.Find.{get};
 ghost use Rattle.serde_json.specs.View.{view, members_view};
 ghost use Rattle.serde_json.specs.Written.{has_float as has_float_of};
-ghost use Rattle.kapi_object.specs.Admission.{Gives, fault, faults_in, faults_of, is_other, object_of};
-ghost use Rattle.kapi_object.specs.Admission.{metadata_faults, key_of, field_of, is_entry as is_entry_of, entry_faults as entry_faults_of, members_faults as members_faults_of, entries_faults as entries_faults_of};
-ghost use Rattle.kapi_object.specs.Admission.{keep as keep_of, keep_entries as keep_entries_of, kept_metadata as kept_metadata_of, kept_tree as kept_tree_of, version_of, admitted, admitted_open};
+ghost use Rattle.kapi_object.specs.Admission.{Gives, is_other, object_of};
+ghost use Rattle.kapi_object.specs.Admission.{keep as keep_of, keep_entries as keep_entries_of, kept_metadata as kept_metadata_of, kept_tree as kept_tree_of, version_of, admitted, faults_on};
 ghost use Rattle.kapi_object.specs.Given.{given_of};
 ghost use Rattle.kapi_object.specs.Given.{given_on as given_on_of};
 ghost use Rattle.kapi_object.specs.Object.{tree_of};
 ghost use Rattle.kapi_object.specs.Tree.{json_object};
 ghost use Rattle.kapi_object.specs.Tree.{in_metadata as in_metadata_of, is_empty_object as is_empty_object_of};
 
-use crate::fault::{Cause, FieldFault, ObjectError};
+use crate::contents::content;
+use crate::fault::{FieldFault, ObjectError};
 use crate::float::has_float;
 use crate::given::{Given, GivenText, given_in};
-use crate::names::{check_label_key, check_label_value};
+use crate::metadata::collect_metadata_faults;
 use crate::object::Object;
 use crate::row::{ResourceRow, Schema};
-use crate::tree::{in_metadata, into_members};
-use kapi_text::{Memory, Sequence, Text};
+use crate::tree::{has_no_members, in_metadata};
+use crate::typed::push_typed_faults;
+use kapi_text::{Memory, Sequence};
 use serde_json::{Map, Value, put};
 use std::alloc::Global;
-
-/// The two sorts of entries that metadata has.
-#[derive(Clone, Copy, Debug, PartialEq, Eq)]
-pub enum Entries {
-    Labels,
-    Annotations,
-}
-
-/// The member of the metadata that holds the entries.
-fn entries_key(sort: Entries) -> &'static str
-    ensures { result.now ≡ key_of sort }
-{
-    match sort {
-        Entries::Labels => "labels",
-        Entries::Annotations => "annotations",
-    }
-}
-
-/// The field that a fault of an entry is told at.
-fn entries_field(sort: Entries) -> &'static str
-    ensures { result.now ≡ field_of sort }
-{
-    match sort {
-        Entries::Labels => "metadata.labels",
-        Entries::Annotations => "metadata.annotations",
-    }
-}
-
-/// Whether the key and the text are an entry.
-fn is_entry(sort: Entries, key: &str, text: &str) -> bool
-    ensures { result ≡ is_entry_of sort key.now text.now }
-{
-    match sort {
-        Entries::Labels => check_label_key(key) && check_label_value(text),
-        Entries::Annotations => check_label_key(key),
-    }
-}
-
-fn push_fault(
-    alloc: Global,
-    faults: &mut Vec<FieldFault>,
-    field: &str,
-    cause: Cause,
-) -> Result<(), Memory>
-    ensures { OnOk result (faults.new.items ≡ faults.old.items ++ fault field.now cause ∷ []) }
-{
-    let field = Text::copy_of(alloc, field)?;
-    faults.push(FieldFault { field, cause })?;
-    Ok(())
-}
-
-/// Adds what is wrong with one entry, if anything.
-#[tactic(auto, unfolding(crate::specs::Admission::entry_faults))]
-fn push_entry_faults(
-    alloc: Global,
-    faults: &mut Vec<FieldFault>,
-    sort: Entries,
-    key: &str,
-    value: &Value,
-) -> Result<(), Memory>
-    ensures { OnOk result (faults.new.items ≡ faults.old.items ++ entry_faults_of sort key.now (view value.now)) }
-{
-    match value {
-        Value::String(text) => {
-            if is_entry(sort, key, text.as_str()) {
-                Ok(())
-            } else {
-                push_fault(alloc, faults, entries_field(sort), Cause::BadValue)
-            }
-        }
-        _other => push_fault(alloc, faults, entries_field(sort), Cause::WrongType),
-    }
-}
-
-/// Adds what is wrong with each entry, by key.
-#[tactic(auto, using(std::proofs::Common::append_assoc), unfolding(crate::specs::Admission::members_faults))]
-fn push_members_faults(
-    alloc: Global,
-    faults: &mut Vec<FieldFault>,
-    sort: Entries,
-    members: &Map<String, Value>,
-) -> Result<(), Memory>
-    ensures { OnOk result (faults.new.items
-        ≡ faults.old.items ++ members_faults_of sort (members_view members.now.entries)) }
-{
-    for (key, value) in members {
-        push_entry_faults(alloc, faults, sort, key.as_str(), value)?;
-    }
-    Ok(())
-}
-
-/// Adds what is wrong with the value where entries ought to stand.
-#[tactic(auto, unfolding(crate::specs::Admission::entries_faults))]
-fn push_entries_faults(
-    alloc: Global,
-    faults: &mut Vec<FieldFault>,
-    sort: Entries,
-    value: &Value,
-) -> Result<(), Memory>
-    ensures { OnOk result (faults.new.items ≡ faults.old.items ++ entries_faults_of sort (Some (view value.now))) }
-{
-    match value {
-        Value::Null => Ok(()),
-        Value::Object(members) => push_members_faults(alloc, faults, sort, members),
-        _other => push_fault(alloc, faults, entries_field(sort), Cause::WrongType),
-    }
-}
-
-/// Adds what is wrong with the labels or the annotations of a tree.
-#[tactic(auto, unfolding(crate::specs::Admission::entries_faults))]
-fn push_faults_in(
-    alloc: Global,
-    faults: &mut Vec<FieldFault>,
-    sort: Entries,
-    tree: &Value,
-) -> Result<(), Memory>
-    ensures { OnOk result (faults.new.items ≡ faults.old.items ++ faults_in sort (view tree.now)) }
-{
-    match in_metadata(tree, entries_key(sort)) {
-        Some(value) => push_entries_faults(alloc, faults, sort, value),
-        None => Ok(()),
-    }
-}
-
-/// Adds what is wrong with the value where the metadata ought to stand.
-fn push_value_fault(
-    alloc: Global,
-    faults: &mut Vec<FieldFault>,
-    value: &Value,
-) -> Result<(), Memory>
-    ensures { OnOk result (faults.new.items ≡ faults.old.items ++ metadata_faults (Some (view value.now))) }
-{
-    match value {
-        Value::Null => Ok(()),
-        Value::Object(_members) => Ok(()),
-        _other => push_fault(alloc, faults, "metadata", Cause::WrongType),
-    }
-}
-
-fn push_metadata_fault(
-    alloc: Global,
-    faults: &mut Vec<FieldFault>,
-    tree: &Value,
-) -> Result<(), Memory>
-    ensures { OnOk result (faults.new.items
-        ≡ faults.old.items ++ metadata_faults (get (codes "metadata") (view tree.now))) }
-{
-    match tree.get("metadata") {
-        Some(value) => push_value_fault(alloc, faults, value),
-        None => Ok(()),
-    }
-}
-
-/// What is wrong with the metadata, in order.
-#[tactic(auto, unfolding(crate::specs::Admission::faults_of))]
-fn collect_faults(alloc: Global, tree: &Value) -> Result<Vec<FieldFault>, Memory>
-    ensures { IfOk result (λ v. v.items ≡ faults_of (view tree.now)) }
-{
-    let mut faults = Vec::new(alloc);
-    push_metadata_fault(alloc, &mut faults, tree)?;
-    push_faults_in(alloc, &mut faults, Entries::Labels, tree)?;
-    push_faults_in(alloc, &mut faults, Entries::Annotations, tree)?;
-    Ok(faults)
-}
-
-#[tactic(auto, using(crate::proofs::Bodies::no_entries))]
-fn has_no_members(members: &Map<String, Value>) -> bool
-    ensures { result ≡ is_empty_object_of (object (members_view members.now.entries)) }
-{
-    members.len() == 0
-}
 
 fn is_empty_object(value: &Value) -> bool
     ensures { result ≡ is_empty_object_of (view value.now) }
@@ -256,7 +86,7 @@ fn kept_metadata(
     Ok(kept)
 }
 
-/// The tree as an Open row keeps it; `version` is the row's.
+/// The tree as the row keeps it; `version` is the row's.
 #[tactic(auto, unfolding(crate::specs::Admission::kept_tree))]
 fn kept_tree(alloc: Global, row: &ResourceRow, version: &str, tree: Value) -> Result<Value, Memory>
     requires { version.now ≡ version_of row.now }
@@ -265,7 +95,7 @@ fn kept_tree(alloc: Global, row: &ResourceRow, version: &str, tree: Value) -> Re
     let metadata = kept_metadata(alloc, row, &tree)?;
     let kind = Value::String(String::from_str(alloc, row.kind.as_str())?);
     let version = Value::String(String::from_str(alloc, version)?);
-    let mut members = into_members(alloc, tree);
+    let mut members = content(alloc, row.schema, tree)?;
     put(&mut members, alloc, "apiVersion", version)?;
     put(&mut members, alloc, "kind", kind)?;
     put(&mut members, alloc, "metadata", Value::Object(metadata))?;
@@ -336,28 +166,22 @@ fn read_tree(alloc: Global, bytes: &[u8]) -> Result<Value, ObjectError>
     }
 }
 
-/// The tree as it is kept on an Open row, or the list of its faults.
-#[tactic(auto, unfolding(crate::specs::Admission::admitted_open))]
-fn admit_open(
+/// What is wrong with a tree on a row of the schema, in order.
+#[tactic(auto, unfolding(crate::specs::Admission::faults_on))]
+pub fn collect_faults(
     alloc: Global,
-    row: &ResourceRow,
-    version: &str,
-    tree: Value,
-) -> Result<Object, ObjectError>
-    requires version { version.now ≡ version_of row.now }
-    requires whole { has_float_of (view tree) ≡ false }
-    ensures object { Gives tree_of result (admitted_open row.now (view tree)) }
-    ensures given { IfOk result (λ o. given_of (tree_of o) ≡ given_on_of row.now (view tree)) }
+    schema: Schema,
+    tree: &Value,
+) -> Result<Vec<FieldFault>, Memory>
+    ensures { IfOk result (λ v. v.items ≡ faults_on schema (view tree.now)) }
 {
-    let faults = collect_faults(alloc, &tree)?;
-    if !faults.is_empty() {
-        let given = given_on(alloc, row, &tree)?;
-        return Err(ObjectError::Invalid(given, Sequence::new(faults)));
-    }
-    Ok(Object::new(kept_tree(alloc, row, version, tree)?))
+    let mut faults = collect_metadata_faults(alloc, tree)?;
+    push_typed_faults(alloc, &mut faults, schema, tree)?;
+    Ok(faults)
 }
 
 /// The tree as its row keeps it, or the list of its faults.
+#[tactic(auto, unfolding(crate::specs::Admission::admitted))]
 fn admit(
     alloc: Global,
     row: &ResourceRow,
@@ -368,16 +192,21 @@ fn admit(
     requires whole { has_float_of (view tree) ≡ false }
     ensures object { Gives tree_of result (admitted row.now (view tree)) }
     ensures given { IfOk result (λ o. given_of (tree_of o) ≡ given_on_of row.now (view tree)) }
+    ensures clean { IfOk result (λ o. faults_on row.now.schema (tree_of o) ≡ []) }
 {
-    match row.schema {
-        Schema::Open => admit_open(alloc, row, version, tree),
+    let faults = collect_faults(alloc, row.schema, &tree)?;
+    if !faults.is_empty() {
+        let given = given_on(alloc, row, &tree)?;
+        return Err(ObjectError::Invalid(given, Sequence::new(faults)));
     }
+    Ok(Object::new(kept_tree(alloc, row, version, tree)?))
 }
 
 /// The object of a row that a body is, as the row keeps it.
 ///
 /// An Open row keeps the members of the body as they are, but for `apiVersion` and `kind`, which are filled in where
-/// they are missing, and `metadata`, of which name, namespace, resource version, labels and annotations are kept.
+/// they are missing, and `metadata`, of which name, namespace, resource version, labels and annotations are kept. A
+/// row of roles or bindings keeps the members of its kind alone (Kubernetes API, rbac.authorization.k8s.io/v1).
 #[tactic(auto, unfolding(crate::specs::Admission::read_as))]
 pub fn read_object(alloc: Global, row: &ResourceRow, bytes: &[u8]) -> Result<Object, ObjectError>
     ensures object { Gives tree_of result (object_of row.now bytes.now) }
@@ -385,6 +214,9 @@ pub fn read_object(alloc: Global, row: &ResourceRow, bytes: &[u8]) -> Result<Obj
     // what the object gives is what the body gives
     ensures given { IfOk result (λ o. (tree : Data)
         → json_object bytes.now ≡ Some tree → given_of (tree_of o) ≡ given_on_of row.now tree) }
+
+    // what is kept of a body without faults has none
+    ensures clean { IfOk result (λ o. faults_on row.now.schema (tree_of o) ≡ []) }
 {
     let tree = read_tree(alloc, bytes)?;
     if has_float(&tree) {

@@ -1,9 +1,10 @@
 ghost use Rattle.std.specs.Prelude.{◌≡◌, ◌==◌, ◌||◌};
 ghost use Rattle.std.specs.List.{list_all, list_any, slice_split};
-ghost use Rattle.kapi_object.specs.Names.{is_dns_label, is_dns_subdomain, is_path_segment, is_label_key, is_label_value, is_name_on};
+ghost use Rattle.kapi_object.specs.Names.{is_dns_label, is_dns_subdomain, is_path_segment, is_label_key, is_label_value, is_name_by, is_name_on};
+ghost use Rattle.kapi_object.specs.declared.row.Schema.TheVariants as Schemas;
 ghost use Rattle.kapi_object.specs.Names.{is_dns_part as is_dns_part_of, is_enclosed as is_enclosed_of, is_dns_byte as is_dns_byte_of, is_name_byte as is_name_byte_of, is_label_name as is_label_name_of};
 
-use crate::row::ResourceRow;
+use crate::row::{ResourceRow, Schema};
 
 /// The longest DNS label, label name and label value, in bytes (RFC 1123 section 2.1; Kubernetes, 'Labels and Selectors').
 const LABEL_LIMIT: usize = 63;
@@ -120,10 +121,20 @@ pub fn check_label_value(value: &str) -> bool
     value.is_empty() || is_label_name(value)
 }
 
-/// Whether a text is a name of an object of the row: of `namespaces` in the core group a DNS label, else a DNS subdomain.
+/// Whether a text is a name of an object of the row: of `namespaces` in the core group a DNS label, of roles and bindings
+/// a path segment, else a DNS subdomain.
 #[tactic(auto, unfolding(crate::specs::Names::is_name_on))]
 pub fn check_name(row: &ResourceRow, name: &str) -> bool
     ensures { result ≡ is_name_on row.now name.now }
+{
+    match row.schema {
+        Schema::Open => check_open_name(row, name),
+        _typed => check_rbac_name(name),
+    }
+}
+
+fn check_open_name(row: &ResourceRow, name: &str) -> bool
+    ensures { result ≡ is_name_by Schemas.Open row.now name.now }
 {
     if row.group.as_str().is_empty() && row.plural.as_str() == "namespaces" {
         check_namespace_name(name)

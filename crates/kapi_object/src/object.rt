@@ -2,10 +2,14 @@ ghost use Rattle.std.specs.Prelude.{◌≡◌, false};
 ghost use Rattle.serde_json.specs.View.{view};
 ghost use Rattle.serde_json.specs.Written.{has_float};
 
+use crate::admission::collect_faults;
+use crate::fault::FieldFault;
 use crate::given::{Given, given_in};
-use crate::tree::with_text;
+use crate::labels::Labels;
+use crate::row::Schema;
+use crate::tree::{in_metadata, with_content, with_text, without_member};
 use kapi_text::Memory;
-use serde_json::Value;
+use serde_json::{Map, Value};
 use std::alloc::Global;
 
 /// A declared object: a JSON tree (RFC 8259) without any number that reads as a float.
@@ -16,12 +20,14 @@ pub struct Object {
 }
 
 impl Object {
-    ghost use Rattle.std.specs.Prelude.{◌≡◌, IfOk};
-    ghost use Rattle.serde_json.specs.Written.{compact_text};
-    ghost use Rattle.std.specs.Prelude.{codes};
+    ghost use Rattle.std.specs.Prelude.{◌≡◌, false, codes, IfOk};
+    ghost use Rattle.serde_json.specs.View.{view, members_view};
+    ghost use Rattle.serde_json.specs.Written.{compact_text, members_have_float};
+    ghost use Rattle.kapi_object.specs.Admission.{faults_on};
     ghost use Rattle.kapi_object.specs.Given.{given_of};
     ghost use Rattle.kapi_object.specs.Object.{tree_of, stamped_tree};
-    ghost use Rattle.kapi_object.specs.Tree.{with_text as with_text_of};
+    ghost use Rattle.kapi_object.specs.Selector.{labels_of};
+    ghost use Rattle.kapi_object.specs.Tree.{in_metadata as in_metadata_of, with_content as with_content_of, with_text as with_text_of, without_member as without_member_of};
 
     /// The object that a tree without floats is.
     pub(crate) fn new(tree: Value) -> Object
@@ -52,6 +58,46 @@ impl Object {
         ensures { IfOk result (λ g. g ≡ given_of (tree_of self.now)) }
     {
         given_in(alloc, &self.tree)
+    }
+
+    /// The object's labels, borrowed; takes no memory.
+    pub fn labels(&self) -> Labels<'_>
+        ensures { labels_of result ≡ in_metadata_of (codes "labels") (tree_of self.now) }
+    {
+        Labels::new(in_metadata(&self.tree, "labels"))
+    }
+
+    /// The object's tree, borrowed; takes no memory.
+    pub fn as_tree(&self) -> &Value
+        ensures { view result.now ≡ tree_of self.now }
+    {
+        &self.tree
+    }
+
+    /// What is wrong with the object on a row of the schema, in order.
+    pub fn faults(&self, alloc: Global, schema: Schema) -> Result<Vec<FieldFault>, Memory>
+        ensures { IfOk result (λ v. v.items ≡ faults_on schema (tree_of self.now)) }
+    {
+        collect_faults(alloc, schema, &self.tree)
+    }
+
+    /// The object of the same version, kind and metadata that has these members beside them, and no other.
+    pub fn with_content(&self, alloc: Global, content: Map<String, Value>) -> Result<Object, Memory>
+        requires { members_have_float (members_view content.entries) ≡ false }
+        ensures { IfOk result (λ o. tree_of o ≡ with_content_of (members_view content.entries) (tree_of self.now)) }
+    {
+        Ok(Object {
+            tree: with_content(alloc, &self.tree, content)?,
+        })
+    }
+
+    /// The object without its member `status`; takes no memory.
+    pub fn without_status(self) -> Object
+        ensures { tree_of result ≡ without_member_of (codes "status") (tree_of self) }
+    {
+        Object {
+            tree: without_member(self.tree, "status"),
+        }
     }
 
     /// The object in a namespace: with that text as `metadata.namespace`.

@@ -8,6 +8,11 @@ use std::alloc::{AllocError, Global};
 pub enum Schema {
     /// Any members beside the metadata.
     Open,
+    /// Those of the kind of this name (Kubernetes API, rbac.authorization.k8s.io/v1), as of the three below.
+    Role,
+    ClusterRole,
+    RoleBinding,
+    ClusterRoleBinding,
 }
 
 /// A resource type that is served, as a line of Kubernetes' `kubectl api-resources`.

@@ -132,7 +132,8 @@ const FAULTY: [(&str, &str); 10] = [
     ),
 ];
 
-fn row(
+/// An Open row.
+pub fn row(
     alloc: Global,
     group: &str,
     plural: &str,
@@ -205,7 +206,7 @@ fn body_told(alloc: Global, row: &ResourceRow, body: &[u8]) -> Result<String, Al
 }
 
 /// Each body is told so.
-fn assert_told(
+pub fn assert_told(
     rt: &impl Abort,
     alloc: Global,
     row: &ResourceRow,
@@ -269,6 +270,19 @@ fn long_names_are_checked(rt: HostRuntime) -> Result<(), Fail> {
     assert!(rt; !check_name(&namespaces, "a.b"));
     let others = row(alloc, "apps", "namespaces", "Namespace", false)?;
     assert!(rt; check_name(&others, "a.b"));
+    assert!(rt; !check_name(&others, "a:b"));
+    let roles = ResourceRow {
+        schema: Schema::ClusterRole,
+        ..row(
+            alloc,
+            "rbac.authorization.k8s.io",
+            "clusterroles",
+            "ClusterRole",
+            false,
+        )?
+    };
+    assert!(rt; check_name(&roles, "a:B"));
+    assert!(rt; !check_name(&roles, "a/b"));
     Ok(())
 }
 
@@ -317,6 +331,20 @@ fn objects_are_changed(rt: HostRuntime) -> Result<(), Fail> {
         object_told(alloc, &changed.stamped(alloc, "u", "9")?)?.as_str(),
         told
     );
+    Ok(())
+}
+
+#[test]
+fn a_status_is_dropped(rt: HostRuntime) -> Result<(), Fail> {
+    let alloc = rt.alloc();
+    let nodes = row(alloc, "", "nodes", "Node", false)?;
+    let body = r#"{"metadata":{"name":"a"},"spec":{"status":1},"status":{},"z":2}"#;
+    let told =
+        r#"{"apiVersion":"v1","kind":"Node","metadata":{"name":"a"},"spec":{"status":1},"z":2} a - -"#;
+    let object = read_object(alloc, &nodes, body.as_bytes())?.without_status();
+    assert_eq!(rt; object_told(alloc, &object)?.as_str(), told);
+    let object = object.without_status();
+    assert_eq!(rt; object_told(alloc, &object)?.as_str(), told);
     Ok(())
 }
 

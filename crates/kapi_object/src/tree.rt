@@ -1,8 +1,10 @@
-ghost use Rattle.std.specs.Prelude.{◌≡◌, IfOk, Some, option_map};
+ghost use Rattle.std.specs.Prelude.{◌≡◌, IfOk, OnOk, Some, option_map};
+ghost use Rattle.serde_json.specs.Find.{get};
+ghost use Rattle.serde_json.specs.Data.{object};
 ghost use Rattle.serde_json.specs.View.{view, members_view};
-ghost use Rattle.kapi_object.specs.Tree.{metadata_of, members_or_none};
-ghost use Rattle.kapi_object.specs.Tree.{in_metadata as in_metadata_of};
-ghost use Rattle.kapi_object.specs.Tree.{with_text as with_text_of};
+ghost use Rattle.kapi_object.specs.Tree.{metadata_of, members_or_none, put_if};
+ghost use Rattle.kapi_object.specs.Tree.{in_metadata as in_metadata_of, is_empty_object as is_empty_object_of};
+ghost use Rattle.kapi_object.specs.Tree.{without, with_content as with_content_of, with_text as with_text_of, without_member as without_member_of};
 
 use kapi_text::Memory;
 use serde_json::{Map, Value, put};
@@ -16,6 +18,14 @@ pub fn into_members(alloc: Global, value: Value) -> Map<String, Value>
         Value::Object(members) => members,
         _other => Map::new(alloc),
     }
+}
+
+/// Whether an object has no members.
+#[tactic(auto, using(crate::proofs::Bodies::no_entries))]
+pub fn has_no_members(members: &Map<String, Value>) -> bool
+    ensures { result ≡ is_empty_object_of (object (members_view members.now.entries)) }
+{
+    members.len() == 0
 }
 
 /// The value at a key of the tree's `metadata`, if that is an object and has one.
@@ -45,4 +55,56 @@ pub fn with_text(alloc: Global, tree: Value, key: &str, text: &str) -> Result<Va
     let mut members = into_members(alloc, tree);
     put(&mut members, alloc, "metadata", Value::Object(metadata))?;
     Ok(Value::Object(members))
+}
+
+/// Puts the member of a key of the tree among others, if the tree has it.
+fn put_from(
+    alloc: Global,
+    members: &mut Map<String, Value>,
+    tree: &Value,
+    key: &str,
+) -> Result<(), Memory>
+    ensures { OnOk result (members_view members.new.entries
+        ≡ put_if key.now (get key.now (view tree.now)) (members_view members.old.entries)) }
+{
+    match tree.get(key) {
+        Some(value) => put(members, alloc, key, value.clone()?),
+        None => Ok(()),
+    }
+}
+
+/// The object of the same version, kind and metadata that has these members beside them, and no other.
+#[tactic(auto, unfolding(crate::specs::Tree::with_content))]
+pub fn with_content(
+    alloc: Global,
+    tree: &Value,
+    content: Map<String, Value>,
+) -> Result<Value, Memory>
+    ensures { IfOk result (λ v. view v ≡ with_content_of (members_view content.entries) (view tree.now)) }
+{
+    let mut members = content;
+    put_from(alloc, &mut members, tree, "apiVersion")?;
+    put_from(alloc, &mut members, tree, "kind")?;
+    put_from(alloc, &mut members, tree, "metadata")?;
+    Ok(Value::Object(members))
+}
+
+/// Takes the member of a key out.
+fn remove(members: &mut Map<String, Value>, key: &str)
+    ensures { members_view members.new.entries ≡ without key.now (members_view members.old.entries) }
+{
+    drop(members.remove(key));
+}
+
+/// The tree without the member of a key.
+pub fn without_member(tree: Value, key: &str) -> Value
+    ensures { view result ≡ without_member_of key.now (view tree) }
+{
+    match tree {
+        Value::Object(mut members) => {
+            remove(&mut members, key);
+            Value::Object(members)
+        }
+        other => other,
+    }
 }

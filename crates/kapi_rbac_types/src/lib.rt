@@ -1,8 +1,26 @@
-//! The words of role-based access control: who asks, and what a rule allows.
+//! The words of role-based access control: who asks, what a rule allows, roles, and whom they are bound to.
 #![tactic(auto)]
 
+mod binding;
+mod binding_form;
 mod identity;
 mod policy_rule;
+mod read_fault;
+mod role;
+mod role_form;
+mod role_ref;
+mod rules_form;
+mod subject;
+#[cfg(test)]
+mod tests;
 
+pub use binding::{ClusterRoleBinding, RoleBinding};
+pub use binding_form::{read_cluster_role_binding, read_role_binding};
 pub use identity::Identity;
+pub use kapi_object::{RoleKind, Selector};
 pub use policy_rule::PolicyRule;
+pub use read_fault::ReadFault;
+pub use role::{AggregationRule, ClusterRole, Role};
+pub use role_form::{read_cluster_role, read_role};
+pub use role_ref::RoleRef;
+pub use subject::{ServiceAccount, Subject, names};

@@ -1,1 +1,4 @@
+pub mod OnLiterals
 pub mod Paths
+pub mod Slashes
+pub mod Written

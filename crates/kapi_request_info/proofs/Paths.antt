@@ -1,6 +1,6 @@
 -- The last segment of a path.
 use Rattle.std.proofs.Common.{◌≡◌, ℕ, ◌==◌, if◌then◌else◌, Bool, true, false, List, [], ◌∷◌, ◌++◌, length, refl, ap, ◌∙◌}
-use Rattle.kapi_request_info.specs.Attributes.{without_last_empty}
+use Rattle.kapi_request_info.specs.Path.{without_last_empty}
 
 -- a segment in front of either list
 cons_cases : (b : Bool) (x : List ℕ) (xs ys : List (List ℕ)) → x ∷ (if b then xs else ys) ≡ (if b then x ∷ xs else x ∷ ys)

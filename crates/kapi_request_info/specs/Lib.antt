@@ -1,2 +1,9 @@
-pub mod Attributes
 pub mod Given
+pub mod Target
+pub mod Path
+pub mod Query
+pub mod Selector
+pub mod Resource
+pub mod Attributes
+pub mod Slashes
+pub mod Written

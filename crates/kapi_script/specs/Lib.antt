@@ -2,5 +2,6 @@ pub mod Escapes
 pub mod Events
 pub mod AnswerLines
 pub mod ProgramTable
+pub mod Resources
 pub mod Scripts
 pub mod Playing

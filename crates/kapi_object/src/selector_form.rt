@@ -1,0 +1,146 @@
+ghost use Rattle.std.specs.Prelude.{◌≡◌, IfOk, OnOk};
+ghost use Rattle.serde_json.specs.Data.{no_members};
+ghost use Rattle.serde_json.specs.View.{view, members_view};
+ghost use Rattle.kapi_object.specs.Contents.{labels_in, put_labels as put_labels_of, put_members as put_members_of, operator_at};
+ghost use Rattle.kapi_object.specs.Tree.{members_or_none};
+ghost use Rattle.kapi_object.specs.Typed.{member_of};
+
+use crate::path::member;
+use crate::selector::{Label, Operator, Requirement, Selector};
+use crate::tree::has_no_members;
+use crate::tree_form::{
+    FromTree, ToTree, put_items, put_texts, read_list, read_text, text_value, write_items,
+};
+use kapi_text::{Memory, Sequence, Text};
+use serde_json::{Map, Value, put};
+use std::alloc::Global;
+
+/// The operator that is the member of a key; any other text is as In.
+fn read_operator(alloc: Global, tree: &Value, key: &str) -> Result<Operator, Memory>
+    ensures { IfOk result (λ o. o ≡ operator_at key.now (view tree.now)) }
+{
+    let text = read_text(alloc, tree, key)?;
+    match Operator::read(text.as_str()) {
+        Some(operator) => Ok(operator),
+        None => Ok(Operator::In),
+    }
+}
+
+impl FromTree for Requirement {
+    ghost use Rattle.kapi_object.specs.Contents.{requirement_of};
+
+    ghost read_of = { requirement_of };
+
+    fn read(alloc: Global, tree: &Value) -> Result<Requirement, Memory> {
+        Ok(Requirement {
+            key: read_text(alloc, tree, "key")?,
+            operator: read_operator(alloc, tree, "operator")?,
+            values: read_list(alloc, tree, "values")?,
+        })
+    }
+}
+
+impl ToTree for Requirement {
+    ghost use Rattle.kapi_object.specs.Contents.{requirement_tree};
+
+    ghost tree_of = { requirement_tree };
+
+    #[tactic(auto, unfolding(crate::specs::Contents::requirement_tree))]
+    fn to_tree(&self, alloc: Global) -> Result<Value, Memory> {
+        let mut members = Map::new(alloc);
+        put(
+            &mut members,
+            alloc,
+            "key",
+            text_value(alloc, self.key.as_str())?,
+        )?;
+        put(
+            &mut members,
+            alloc,
+            "operator",
+            text_value(alloc, self.operator.as_str())?,
+        )?;
+        put_texts(alloc, &mut members, "values", self.values.as_slice())?;
+        Ok(Value::Object(members))
+    }
+}
+
+/// The labels that members are, in the order of their keys.
+fn labels_of_members(alloc: Global, members: &Map<String, Value>) -> Result<Vec<Label>, Memory>
+    ensures { IfOk result (λ v. v.items ≡ labels_in (members_view members.now.entries)) }
+{
+    let mut labels = Vec::new(alloc);
+    for (key, value) in members {
+        let key = Text::copy_of(alloc, key.as_str())?;
+        let value = Text::read(alloc, value)?;
+        labels.push(Label { key, value })?;
+    }
+    Ok(labels)
+}
+
+/// The labels that the member of a key is; none where it is absent.
+fn read_labels(alloc: Global, tree: &Value, key: &str) -> Result<Sequence<Label>, Memory>
+    ensures { IfOk result (λ s. s ≡ labels_in (members_or_none (member_of key.now (view tree.now)))) }
+{
+    match member(tree, key) {
+        Some(Value::Object(members)) => Ok(Sequence::new(labels_of_members(alloc, members)?)),
+        _other => Ok(Sequence::new(Vec::new(alloc))),
+    }
+}
+
+/// The members that labels are written as.
+fn label_members(alloc: Global, labels: &[Label]) -> Result<Map<String, Value>, Memory>
+    ensures { IfOk result (λ m. members_view m.entries ≡ put_labels_of labels.now no_members) }
+{
+    let mut members = Map::new(alloc);
+    for label in labels {
+        let value = text_value(alloc, label.value.as_str())?;
+        put(&mut members, alloc, label.key.as_str(), value)?;
+    }
+    Ok(members)
+}
+
+/// Puts an object at a key, unless it is empty.
+fn put_members(
+    alloc: Global,
+    members: &mut Map<String, Value>,
+    key: &str,
+    inner: Map<String, Value>,
+) -> Result<(), Memory>
+    ensures { OnOk result (members_view members.new.entries
+        ≡ put_members_of key.now (members_view inner.entries) (members_view members.old.entries)) }
+{
+    if has_no_members(&inner) {
+        return Ok(());
+    }
+    put(members, alloc, key, Value::Object(inner))
+}
+
+impl FromTree for Selector {
+    ghost use Rattle.kapi_object.specs.Contents.{selector_of};
+
+    ghost read_of = { selector_of };
+
+    fn read(alloc: Global, tree: &Value) -> Result<Selector, Memory> {
+        Ok(Selector {
+            match_labels: read_labels(alloc, tree, "matchLabels")?,
+            match_expressions: read_list(alloc, tree, "matchExpressions")?,
+        })
+    }
+}
+
+impl ToTree for Selector {
+    ghost use Rattle.kapi_object.specs.Contents.{selector_tree};
+
+    ghost tree_of = { selector_tree };
+
+    #[tactic(auto, unfolding(crate::specs::Contents::selector_tree))]
+    fn to_tree(&self, alloc: Global) -> Result<Value, Memory> {
+        let mut members = Map::new(alloc);
+        let labels = label_members(alloc, self.match_labels.as_slice())?;
+        put_members(alloc, &mut members, "matchLabels", labels)?;
+        let expressions = write_items(alloc, self.match_expressions.as_slice())?;
+        put_items(alloc, &mut members, "matchExpressions", expressions)?;
+        Ok(Value::Object(members))
+    }
+}

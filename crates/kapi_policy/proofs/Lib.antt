@@ -1,0 +1,5 @@
+mod Firsts
+mod Keys
+mod Inserts
+mod Decisions
+mod Sets

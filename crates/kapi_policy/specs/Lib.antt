@@ -1,0 +1,4 @@
+pub mod Objects
+pub mod Decided
+pub mod Views
+pub mod Laws

@@ -1,0 +1,101 @@
+use kapi_rbac_types::{ClusterRole, ClusterRoleBinding, Role, RoleBinding};
+use kapi_text::{Text, TryCopy};
+use std::alloc::{AllocError, Global};
+
+/// The place of an object that lives in a namespace. Places are in order of namespace and name, each by its bytes.
+#[derive(Debug, PartialEq, Eq, PartialOrd, Ord, Drop)]
+pub struct NamespacedName {
+    pub namespace: Text,
+    pub name: Text,
+}
+
+/// A policy object at its place: a role or role binding in a namespace, or a cluster role or cluster role binding of a name.
+#[derive(Debug, Drop)]
+pub enum PolicyPut {
+    Role(NamespacedName, Role),
+    ClusterRole(Text, ClusterRole),
+    RoleBinding(NamespacedName, RoleBinding),
+    ClusterRoleBinding(Text, ClusterRoleBinding),
+}
+
+/// The place of a policy object.
+#[derive(Debug, Drop)]
+pub enum PolicyKey {
+    Role(NamespacedName),
+    ClusterRole(Text),
+    RoleBinding(NamespacedName),
+    ClusterRoleBinding(Text),
+}
+
+/// One change of the policy objects.
+#[derive(Debug, Drop)]
+pub enum PolicyChange {
+    /// The object stands at its place, in place of one that stood there.
+    Put(PolicyPut),
+    /// No object stands at the place.
+    Delete(PolicyKey),
+}
+
+impl NamespacedName {
+    ghost use Rattle.std.specs.Prelude.{◌≡◌};
+    ghost use Rattle.kapi_policy.specs.Decided.{is_in as is_place_in};
+
+    /// Whether the object is one of this namespace.
+    pub fn is_in(&self, namespace: &str) -> bool
+        ensures { result ≡ is_place_in namespace.now self.now }
+    {
+        self.namespace.as_str() == namespace
+    }
+}
+
+impl TryCopy for NamespacedName {
+    fn copy(&self, alloc: Global) -> Result<NamespacedName, AllocError> {
+        Ok(NamespacedName {
+            namespace: self.namespace.copy(alloc)?,
+            name: self.name.copy(alloc)?,
+        })
+    }
+}
+
+impl TryCopy for PolicyPut {
+    fn copy(&self, alloc: Global) -> Result<PolicyPut, AllocError> {
+        match self {
+            PolicyPut::Role(place, role) => {
+                Ok(PolicyPut::Role(place.copy(alloc)?, role.copy(alloc)?))
+            }
+            PolicyPut::ClusterRole(name, role) => {
+                Ok(PolicyPut::ClusterRole(name.copy(alloc)?, role.copy(alloc)?))
+            }
+            PolicyPut::RoleBinding(place, binding) => Ok(PolicyPut::RoleBinding(
+                place.copy(alloc)?,
+                binding.copy(alloc)?,
+            )),
+            PolicyPut::ClusterRoleBinding(name, binding) => Ok(PolicyPut::ClusterRoleBinding(
+                name.copy(alloc)?,
+                binding.copy(alloc)?,
+            )),
+        }
+    }
+}
+
+impl TryCopy for PolicyKey {
+    fn copy(&self, alloc: Global) -> Result<PolicyKey, AllocError> {
+        match self {
+            PolicyKey::Role(place) => Ok(PolicyKey::Role(place.copy(alloc)?)),
+            PolicyKey::ClusterRole(name) => Ok(PolicyKey::ClusterRole(name.copy(alloc)?)),
+            PolicyKey::RoleBinding(place) => Ok(PolicyKey::RoleBinding(place.copy(alloc)?)),
+            PolicyKey::ClusterRoleBinding(name) => {
+                Ok(PolicyKey::ClusterRoleBinding(name.copy(alloc)?))
+            }
+        }
+    }
+}
+
+impl TryCopy for PolicyChange {
+    fn copy(&self, alloc: Global) -> Result<PolicyChange, AllocError> {
+        match self {
+            PolicyChange::Put(put) => Ok(PolicyChange::Put(put.copy(alloc)?)),
+            PolicyChange::Delete(key) => Ok(PolicyChange::Delete(key.copy(alloc)?)),
+        }
+    }
+}

@@ -1,0 +1,18 @@
+//! Role-based access control: the policy objects, who is allowed what by them, and the rules that an identity holds.
+#![tactic(auto)]
+
+mod binding;
+mod change;
+mod copies;
+mod decision;
+pub mod laws;
+mod plain;
+mod policy;
+#[cfg(test)]
+mod tests;
+mod walk;
+
+pub use change::{NamespacedName, PolicyChange, PolicyKey, PolicyPut};
+pub use decision::{BindingKind, Decision, Grant};
+pub use plain::PlainPolicy;
+pub use policy::{Policy, is_allowed};

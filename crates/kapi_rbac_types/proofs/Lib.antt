@@ -1,0 +1,6 @@
+pub mod Prefixes
+pub mod NoFloats
+pub mod RoundTrips
+pub mod Labels
+pub mod Selectors
+pub mod Laws

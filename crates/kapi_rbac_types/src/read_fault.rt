@@ -1,0 +1,41 @@
+ghost use Rattle.std.specs.Prelude.{◌≡◌};
+ghost use Rattle.kapi_object.specs.Object.{tree_of};
+ghost use Rattle.kapi_rbac_types.specs.Trees.{Gives, read_as};
+
+use kapi_object::{FieldFault, Object, Schema};
+use kapi_text::Sequence;
+use std::alloc::{AllocError, Global};
+use thiserror::Error;
+
+/// Why an object is not read as a role or a binding.
+#[derive(Debug, Drop, Error)]
+pub enum ReadFault {
+    /// Members of the object are at fault: each fault in order.
+    #[error("the object is invalid")]
+    Invalid(Sequence<FieldFault>),
+    #[error("want of memory")]
+    Memory,
+}
+
+impl From<AllocError> for ReadFault {
+    ghost use Rattle.kapi_rbac_types.specs.declared.read_fault.ReadFault.TheVariants.{Memory as WantOfMemory};
+
+    ghost from_gives = { λ _ e. e ≡ WantOfMemory };
+
+    fn from(_error: AllocError) -> ReadFault {
+        ReadFault::Memory
+    }
+}
+
+/// Whether an object has no fault on a row of the schema.
+#[tactic(auto, unfolding(crate::specs::Trees::read_as))]
+pub fn check(alloc: Global, object: &Object, schema: Schema) -> Result<(), ReadFault>
+    ensures { Gives result (read_as schema (λ d. tt) (tree_of object.now)) }
+{
+    let faults = object.faults(alloc, schema)?;
+    if faults.is_empty() {
+        Ok(())
+    } else {
+        Err(ReadFault::Invalid(Sequence::new(faults)))
+    }
+}

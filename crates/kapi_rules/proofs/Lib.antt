@@ -1,0 +1,5 @@
+pub mod Texts
+pub mod Parts
+pub mod Covers
+pub mod Law
+pub mod Listed

@@ -1,0 +1,6 @@
+pub mod Entries
+pub mod Points
+pub mod Rules
+pub mod Atoms
+pub mod Missing
+pub mod Worked

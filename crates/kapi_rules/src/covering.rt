@@ -1,0 +1,103 @@
+//! When an atom implies another.
+ghost use Rattle.std.specs.Prelude.{◌≡◌};
+ghost use Rattle.std.specs.List.{list_any};
+ghost use Rattle.std.specs.Option.{option_copied};
+ghost use Rattle.kapi_rules.specs.Atoms.{after_slash as behind_slash, implies as atom_implies, is_any_with, is_one_of, listed_cover, names_cover as names_cover_names, resource_covers as entry_covers};
+
+use crate::atom::{Atom, Names, ResourceAtom, UrlAtom};
+use crate::entries::{is_joined, is_listed, url_matches, word_matches};
+use kapi_text::Text;
+
+/// Whether an atom implies another: both are of one sort, and each part of the first covers that of the second. The resource
+/// `*/SUBRESOURCE` covers each resource that has just that behind its first slash.
+pub fn implies(a: &Atom, b: &Atom) -> bool
+    ensures { result ≡ atom_implies a.now b.now }
+{
+    match (a, b) {
+        (Atom::Resource(a), Atom::Resource(b)) => resource_implies(a, b),
+        (Atom::Url(a), Atom::Url(b)) => url_implies(a, b),
+        _ => false,
+    }
+}
+
+fn resource_implies(a: &ResourceAtom, b: &ResourceAtom) -> bool
+    ensures { result ≡ atom_implies (Atom.Resource a.now) (Atom.Resource b.now) }
+{
+    word_matches(a.verb.as_str(), b.verb.as_str())
+        && (word_matches(a.group.as_str(), b.group.as_str())
+            && (resource_covers(a.resource.as_str(), b.resource.as_str())
+                && names_cover(&a.names, &b.names)))
+}
+
+fn url_implies(a: &UrlAtom, b: &UrlAtom) -> bool
+    ensures { result ≡ atom_implies (Atom.Url a.now) (Atom.Url b.now) }
+{
+    word_matches(a.verb.as_str(), b.verb.as_str()) && url_matches(a.url.as_str(), b.url.as_str())
+}
+
+/// A resource entry covers another.
+pub fn resource_covers(entry: &str, covered: &str) -> bool
+    ensures { result ≡ entry_covers entry.now covered.now }
+{
+    word_matches(entry, covered) || is_any_with_rest(entry.as_bytes(), covered.as_bytes())
+}
+
+// The entry is `*/` and what stands behind the first slash of the other.
+fn is_any_with_rest(entry: &[u8], covered: &[u8]) -> bool
+    ensures { result ≡ is_any_with entry.now (behind_slash covered.now) }
+{
+    match after_slash(covered) {
+        Some(subresource) => is_joined(entry, b"*", subresource),
+        None => false,
+    }
+}
+
+// What stands behind the first slash, if there is one.
+fn after_slash(text: &[u8]) -> Option<&[u8]>
+    ensures { option_copied result ≡ behind_slash text.now }
+{
+    let mut rest = text;
+    while let [byte, after @ ..] = rest {
+        if *byte == b'/' {
+            return Some(after);
+        }
+        rest = after;
+    }
+    None
+}
+
+// All names cover every name, and a name itself alone.
+fn names_cover(names: &Names, covered: &Names) -> bool
+    ensures { result ≡ names_cover_names names.now covered.now }
+{
+    match (names, covered) {
+        (Names::All, _) => true,
+        (Names::One(_), Names::All) => false,
+        (Names::One(name), Names::One(covered)) => name.as_str() == covered.as_str(),
+    }
+}
+
+/// Some entry that lists resources covers another.
+pub fn some_resource_covers(entries: &[Text], covered: &str) -> bool
+    ensures { result ≡ list_any (λ e. entry_covers e covered.now) entries.now }
+{
+    entries
+        .iter()
+        .any(|entry| resource_covers(entry.as_str(), covered))
+}
+
+/// A list of names covers the names in it, and the empty list all names and each.
+pub fn some_name_covers(names: &[Text], covered: &Names) -> bool
+    ensures { result ≡ listed_cover names.now covered.now }
+{
+    names.is_empty() || is_covered(names, covered)
+}
+
+fn is_covered(names: &[Text], covered: &Names) -> bool
+    ensures { result ≡ is_one_of names.now covered.now }
+{
+    match covered {
+        Names::All => false,
+        Names::One(name) => is_listed(names, name.as_str()),
+    }
+}
