@@ -5,3 +5,4 @@ pub mod Changes
 pub mod Stores
 pub mod Digits
 pub mod OnLiterals
+pub mod Spans

@@ -40,6 +40,19 @@ module _ {K X : Type 0} where
   live_keys P (e ∷ es) h =
       elim e.1 as (λ o. AllByRecursion P (keys_of (held e.0 o (live es)))) [ None ↦ live_keys P es h.1 | Some x ↦ (h.0, live_keys P es h.1) ]
 
+  -- what is found is found after an insertion too
+  pub lookup_stays : (cmp : K → K → Ordering) (test : K → Bool) (k : K) (x : X) (es : List (K × X)) → IsSome (lookup test es) → IsSome (lookup test (insert_entry cmp es k x))
+  lookup_stays cmp test k x [] h = absurd (cc h)
+  lookup_stays cmp test k x (e ∷ es) h =
+      elim (cmp k e.0) as (λ o. IsSome (lookup test (match_ordering o ((k, x) ∷ e ∷ es) ((e.0, x) ∷ es) (e ∷ insert_entry cmp es k x)))) [
+        | Less ↦ elim (test k) as (λ b. IsSome (cond b (Some x) (lookup test (e ∷ es)))) [ true ↦ refl | false ↦ h ]
+        | Equal ↦ elim (test e.0) as (λ b. IsSome (cond b (Some e.1) (lookup test es)) → IsSome (cond b (Some x) (lookup test es))) [ true ↦ λ k. refl | false ↦ λ k. k ] h
+        | Greater ↦ elim (test e.0) as (λ b. IsSome (cond b (Some e.1) (lookup test es)) → IsSome (cond b (Some e.1) (lookup test (insert_entry cmp es k x)))) [
+          | true ↦ λ k. k
+          | false ↦ lookup_stays cmp test k x es
+        ] h
+      ]
+
   module _ (cmp : K → K → Ordering) (total : IsTotalOrder cmp) where
     pub live_sorted : (es : List (K × Option X)) → IsStrictlySortedBy cmp (keys_of es) → IsStrictlySortedBy cmp (keys_of (live es))
     unfolding live IsStrictlySortedBy

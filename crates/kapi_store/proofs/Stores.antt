@@ -10,7 +10,7 @@ use Rattle.kapi_store.specs.declared.change.Change.{Change}
 use Rattle.kapi_store.specs.declared.store.TheConstants.{LAST_REVISION}
 use Rattle.kapi_store.specs.Keys.{key_cmp, is_key}
 use Rattle.kapi_store.specs.Changes.{placed, placed_all, left_by, Follow, AreRemovals}
-use Rattle.kapi_store.specs.State.{State, objects, live, HasSlot, Same, Fits, IsStore}
+use Rattle.kapi_store.specs.State.{State, objects, live, HasSlot, HasSlots, Same, Fits, IsStore}
 use Rattle.kapi_store.specs.Plain.{Plain, plain_of, plain_change, opened, written, trees}
 use Rattle.kapi_store.proofs.Keys.{key_total}
 use Rattle.kapi_store.proofs.SlotSteps.{live_sorted}
@@ -53,6 +53,20 @@ fits_one s cs c is next last slot room = let P : List Change → Type 0 = λ cs.
   slot = λ _. slot;
   room = room;
 }
+
+-- a prepared write can still be made where slots and room have only grown
+pub fits_still : (s t : State) → t.revision ≡ s.revision → HasSlots s.slots t.slots → s.room ≤ t.room → (cs : List Change) → Fits s cs → Fits t cs
+unfolding HasSlot
+fits_still s t revision slots room cs h = record {
+  next = rw revision h.next;
+  last = rw revision h.last;
+  slot = has_slot_still cs h.slot;
+  room = let k : length cs ≤ s.room = h.room in omega arith;
+}
+  where
+    has_slot_still : (cs : List Change) → HasSlot s.slots cs → HasSlot t.slots cs
+    has_slot_still [] k = tt
+    has_slot_still (c ∷ cs) k = λ some. slots c.key (k some)
 
 -- the first of several changes is the next one
 pub fits_first : (s : State) (c : Change) (cs : List Change) → Fits s (c ∷ cs) → Fits s (c ∷ [])

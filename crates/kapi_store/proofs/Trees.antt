@@ -1,5 +1,5 @@
 -- What a write makes of the trees is what it makes of the objects.
-use Rattle.std.proofs.Common.{◌≡◌, List, [], ◌∷◌, Bool, true, false, cond, Option, None, Some, option_map, map, refl, ap, ◌∙◌}
+use Rattle.std.proofs.Common.{◌≡◌, ℕ, List, [], ◌∷◌, Bool, true, false, cond, Option, None, Some, option_map, map, refl, ap, ◌∙◌}
 use Rattle.std.specs.Ordering.{match_ordering}
 use Rattle.std.specs.declared.cmp.Ordering.{Ordering}
 use Rattle.std.specs.declared.cmp.Ordering.TheVariants.{Less, Equal, Greater}
@@ -9,11 +9,14 @@ use Rattle.std.proofs.lemmas.Map.Made.{lookup-map_values}
 use Rattle.std.specs.BTreeMap.{insert_entry}
 use Rattle.kapi_object.specs.declared.object.Object.{Object}
 use Rattle.kapi_object.specs.Object.{tree_of}
+use Rattle.kapi_object.specs.declared.row.ResourceRow.{ResourceRow}
+use Rattle.kapi_object.specs.declared.selector.Selector.{Selector}
 use Rattle.kapi_store.specs.declared.key.Key.{Key}
 use Rattle.kapi_store.specs.declared.change.Change.{Change}
 use Rattle.kapi_store.specs.Keys.{key_cmp, is_key}
 use Rattle.kapi_store.specs.Changes.{placed, placed_all, left_by}
 use Rattle.kapi_store.specs.Plain.{trees, trees_left_by, plain_change}
+use Rattle.kapi_store.specs.Listing.{is_listed, listed_objects, listed_trees}
 
 module _ {K X Y : Type 0} (f : X → Y) where
   mapped : List (K × X) → List (K × Y)
@@ -59,3 +62,14 @@ has_object_trees k os = ap is_some (lookup_trees k os) ∙ is_some_map (lookup (
     is_some_map : (o : Option Object) → is_some (option_map tree_of o) ≡ is_some o
     is_some_map None = refl
     is_some_map (Some x) = refl
+
+-- the trees of what is listed are the trees that are listed
+pub listed_objects_trees : (row : ResourceRow) (namespace : List ℕ) (selector : Selector) (name : List ℕ) (os : List (Key × Object))
+    → trees (listed_objects row namespace selector name os) ≡ listed_trees row namespace selector name (trees os)
+listed_objects_trees row namespace selector name [] = refl
+listed_objects_trees row namespace selector name (e ∷ os) =
+    elim (is_listed row namespace selector name e.0 (tree_of e.1)) as (λ b. trees (cond b (e ∷ listed_objects row namespace selector name os) (listed_objects row namespace selector name os))
+    ≡ cond b ((e.0, tree_of e.1) ∷ listed_trees row namespace selector name (trees os)) (listed_trees row namespace selector name (trees os))) [
+      | true ↦ ap (λ es. (e.0, tree_of e.1) ∷ es) (listed_objects_trees row namespace selector name os)
+      | false ↦ listed_objects_trees row namespace selector name os
+    ]

@@ -4,3 +4,5 @@ pub mod Changes
 pub mod State
 pub mod View
 pub mod Plain
+pub mod Listing
+pub mod Span

@@ -48,6 +48,10 @@ unfoldable pub HasSlot : List (Key × Option Object) → List Change → Type 0
 HasSlot slots [] = Unit {0}
 HasSlot slots (c ∷ cs) = IsSome c.new → IsSome (lookup (is_key c.key) slots)
 
+-- each key with a slot has one later too
+abbrev pub HasSlots : List (Key × Option Object) → List (Key × Option Object) → Type 0
+HasSlots before later = (k : Key) → IsSome (lookup (is_key k) before) → IsSome (lookup (is_key k) later)
+
 -- the store is as it was when the changes were prepared
 pub record Fits (s : State) (cs : List Change) : Type 0 where
   pub next : Follow s.revision cs

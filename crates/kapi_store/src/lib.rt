@@ -4,6 +4,7 @@
 pub mod change;
 pub mod error;
 pub mod key;
+pub mod listing;
 pub mod ready;
 mod rows;
 mod slots;
@@ -16,6 +17,7 @@ mod worked;
 pub use change::{Change, Shared};
 pub use error::StoreError;
 pub use key::Key;
+pub use listing::Listed;
 pub use ready::Ready;
 pub use store::{LAST_REVISION, Store};
 pub use worked::worked_rows;

@@ -6,7 +6,7 @@ ghost use Rattle.std.specs.Map.{lookup, keys_of, remove_entry};
 ghost use Rattle.std.specs.BTreeMap.{insert_entry};
 ghost use Rattle.kapi_store.specs.Keys.{key_cmp, is_key};
 ghost use Rattle.kapi_store.specs.Changes.{placed};
-ghost use Rattle.kapi_store.specs.State.{live};
+ghost use Rattle.kapi_store.specs.State.{live, HasSlots};
 
 use crate::change::Shared;
 use crate::key::Key;
@@ -31,6 +31,7 @@ pub fn make_slot(slots: &mut BTreeMap<Key, Option<Shared>>, key: Key) -> Result<
     requires { IsStrictlySortedBy key_cmp (keys_of slots.old.entries) }
     ensures objects { live slots.new.entries ≡ live slots.old.entries }
     ensures slot { OnOk result (IsSome (lookup (is_key key) slots.new.entries)) }
+    ensures others { HasSlots slots.old.entries slots.new.entries }
     ensures ordered { IsStrictlySortedBy key_cmp (keys_of slots.new.entries) }
 {
     if !slots.contains_key(&key) {

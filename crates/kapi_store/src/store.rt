@@ -1,11 +1,12 @@
 use crate::change::{Change, Shared};
 use crate::error::StoreError;
 use crate::key::Key;
+use crate::listing::{Listed, Selection};
 use crate::ready::Ready;
 use crate::rows::is_namespaced;
 use crate::slots::{find, make_slot, place};
 use crate::stamps::created;
-use kapi_object::{Object, ResourceRow};
+use kapi_object::{Object, ResourceRow, Selector};
 use kapi_text::{Memory, Sequence, TryCopy};
 use std::alloc::Global;
 use std::collections::BTreeMap;
@@ -47,9 +48,11 @@ impl Store {
     ghost use Rattle.std.specs.Map.{lookup};
     ghost use Rattle.kapi_object.specs.Object.{tree_of};
     ghost use Rattle.kapi_store.specs.Keys.{is_key};
+    ghost use Rattle.kapi_store.specs.declared.change.Change.{Change};
     ghost use Rattle.kapi_store.specs.Changes.{placed, placed_all, left_by};
     ghost use Rattle.kapi_store.specs.State.{objects as objects_of, Same, Fits, IsStore};
-    ghost use Rattle.kapi_store.specs.Plain.{plain_of, plain_change, has_object as has_object_at, has_namespace as has_namespace_of, revision_for, creation, opened, written, Gives};
+    ghost use Rattle.kapi_store.specs.Plain.{plain_of, plain_change, has_object as has_object_at, has_namespace as has_namespace_of, revision_for, creation, opened, written, trees, Gives};
+    ghost use Rattle.kapi_store.specs.Listing.{listed_objects, listed_trees, shown};
 
     /// A store with no object and no change, whose counter starts at `first`.
     pub fn new(alloc: Global, table: Sequence<ResourceRow>, first: u64) -> Store
@@ -86,6 +89,30 @@ impl Store {
         find(&self.slots, key)
     }
 
+    /// The objects of a resource that are in the namespace and of the name, or in all and of any where the text is
+    /// empty, and whose labels the selector means (Kubernetes, 'Labels and Selectors'), in the order of their keys.
+    ///
+    /// It looks at the objects between the first and the last key that may be listed, and at no others.
+    #[tactic(auto, using(crate::proofs::Trees::listed_objects_trees))]
+    pub fn list<'a>(
+        &'a self,
+        resource: &ResourceRow,
+        namespace: &str,
+        selector: &Selector,
+        name: &str,
+    ) -> Result<Vec<Listed<'a>>, Memory>
+        ensures objects { IfOk result (λ v. map shown v.items ≡ listed_objects resource.now namespace.now selector.now name.now (objects_of self.now)) }
+        ensures trees { IfOk result (λ v. trees (map shown v.items) ≡ listed_trees resource.now namespace.now selector.now name.now (plain_of self.now).objects) }
+    {
+        let selection = Selection {
+            row: resource,
+            namespace,
+            selector,
+            name,
+        };
+        selection.list_in(self.alloc, &self.slots)
+    }
+
     /// The revision of the last change, or the first one where there is none. Takes no memory.
     pub fn revision(&self) -> u64
         ensures number { result ≡ self.now.revision }
@@ -104,6 +131,9 @@ impl Store {
         ensures gives { Gives (map plain_change) result (creation (plain_of self.old) key (tree_of object)) }
         ensures same { Same self.old self.new }
         ensures fits { IfOk result (Fits self.new) }
+
+        // Another write that is prepared can still be made.
+        ensures others { (changes : List Change) → Fits self.old changes → Fits self.new changes }
     {
         let revision = self.next_for(&key)?;
         let new = Shared::new(self.alloc, created(self.alloc, object, revision)?)?;

@@ -1,7 +1,7 @@
 ghost use Rattle.std.specs.Prelude.{◌≡◌, ◌≤◌, IfOk};
 
 use super::*;
-use kapi_object::{Object, ResourceRow, Schema, read_object};
+use kapi_object::{Label, Object, ResourceRow, Schema, Selector, read_object};
 use kapi_text::{Sequence, Text, TryCopy};
 use std::alloc::Global;
 use std::test::Fail;
@@ -115,13 +115,26 @@ fn refusals_come_in_order(rt: HostRuntime) -> Result<(), Fail> {
 fn stamps_are_those_of_the_revision(rt: HostRuntime) -> Result<(), Fail> {
     let alloc = rt.alloc();
     let texts = [
-        (6, "00000000-0000-4000-8000-000000000006"),
-        (255, "00000000-0000-4000-8000-0000000000ff"),
-        (1_000_000, "00000000-0000-4000-8000-0000000f4240"),
-        (281_474_976_710_655, "00000000-0000-4000-8000-ffffffffffff"),
+        (6, r#""6","uid":"00000000-0000-4000-8000-000000000006""#),
+        (255, r#""255","uid":"00000000-0000-4000-8000-0000000000ff""#),
+        (
+            1_000_000,
+            r#""1000000","uid":"00000000-0000-4000-8000-0000000f4240""#,
+        ),
+        (
+            281_474_976_710_655,
+            r#""281474976710655","uid":"00000000-0000-4000-8000-ffffffffffff""#,
+        ),
     ];
-    for (revision, uid) in texts {
-        assert_eq!(rt; stamps::uid(alloc, revision)?.as_str(), uid);
+    for (revision, stamps) in texts {
+        let object = stamps::created(alloc, config_map(alloc, "a")?, revision)?;
+        let text = format!(in alloc;
+            r#"{{"apiVersion":"v1","kind":"ConfigMap","metadata":{{"name":"a","resourceVersion":{stamps}}}}}"#
+        )?;
+        assert_eq!(rt;
+            str::from_utf8(object.render(alloc)?.as_slice())?,
+            text.as_str()
+        );
     }
     Ok(())
 }
@@ -152,6 +165,99 @@ fn many_are_found_again(rt: HostRuntime) -> Result<(), Fail> {
         );
     }
     assert!(rt; store.get(&key(alloc, "unknowns", "", "10000")?).is_none());
+    let unknowns = row(alloc, "unknowns", "Unknown", false)?;
+    let list = store.list(&unknowns, "", &everything(alloc), "")?;
+    assert_eq!(rt; list.len(), 10_000);
+    for pair in list.windows(2) {
+        assert!(rt; pair[0].key < pair[1].key);
+    }
+    Ok(())
+}
+
+/// The selector that means all objects.
+fn everything(alloc: Global) -> Selector {
+    Selector {
+        match_labels: Sequence::new(Vec::new(alloc)),
+        match_expressions: Sequence::new(Vec::new(alloc)),
+    }
+}
+
+/// The selector of the objects with the label `tier` of this value.
+fn of_tier(alloc: Global, value: &str) -> Result<Selector, Fail> {
+    let mut labels = Vec::with_capacity(alloc, 1)?;
+    labels.push(Label {
+        key: Text::copy_of(alloc, "tier")?,
+        value: Text::copy_of(alloc, value)?,
+    })?;
+    Ok(Selector {
+        match_labels: Sequence::new(labels),
+        match_expressions: Sequence::new(Vec::new(alloc)),
+    })
+}
+
+/// A store with namespaces, config maps of two tiers, and a resource whose name begins as theirs does.
+fn store_of_tiers(alloc: Global) -> Result<Store, Fail> {
+    let places = [
+        ("namespaces", "", "n", "x"),
+        ("namespaces", "", "m", "x"),
+        ("namespaces", "", "nn", "x"),
+        ("configmaps", "nn", "a", "front"),
+        ("configmaps", "n", "b", "back"),
+        ("configmaps", "n", "a", "front"),
+        ("configmaps", "m", "ab", "front"),
+        ("configmaps", "m", "a", "back"),
+        ("configmapsets", "n", "a", "front"),
+    ];
+    let row = row(alloc, "configmaps", "ConfigMap", true)?;
+    let mut store = store_at(alloc, 0)?;
+    for (resource, namespace, name, tier) in places {
+        let text = format!(in alloc;
+            r#"{{"apiVersion":"v1","kind":"ConfigMap","metadata":{{"name":"{name}","labels":{{"tier":"{tier}"}}}}}}"#
+        )?;
+        let object = read_object(alloc, &row, text.as_bytes())?;
+        let ready = store.create(key(alloc, resource, namespace, name)?, object)?;
+        store.commit(ready);
+    }
+    Ok(store)
+}
+
+/// The places of a list, as a text.
+fn places(alloc: Global, list: &[Listed<'_>]) -> Result<String, Fail> {
+    let mut text = String::new(alloc);
+    for listed in list {
+        text.push_str(listed.key.namespace.as_str())?;
+        text.push('/')?;
+        text.push_str(listed.key.name.as_str())?;
+        text.push(' ')?;
+    }
+    Ok(text)
+}
+
+#[test]
+fn lists_show_what_is_asked_for(rt: HostRuntime) -> Result<(), Fail> {
+    let alloc = rt.alloc();
+    let store = store_of_tiers(alloc)?;
+    let row = row(alloc, "configmaps", "ConfigMap", true)?;
+    let lists = [
+        ("", "", "", "m/a m/ab n/a n/b nn/a "),
+        ("n", "", "", "n/a n/b "),
+        ("", "", "a", "m/a n/a nn/a "),
+        ("m", "", "a", "m/a "),
+        ("m", "", "b", ""),
+        ("o", "", "", ""),
+        ("", "front", "", "m/ab n/a nn/a "),
+        ("n", "back", "", "n/b "),
+        ("n", "back", "a", ""),
+    ];
+    for (namespace, tier, name, shown) in lists {
+        let selector = if tier.is_empty() {
+            everything(alloc)
+        } else {
+            of_tier(alloc, tier)?
+        };
+        let list = store.list(&row, namespace, &selector, name)?;
+        assert_eq!(rt; places(alloc, list.as_slice())?.as_str(), shown);
+    }
     Ok(())
 }
 
@@ -178,5 +284,14 @@ fn want_of_memory_changes_nothing(rt: HostRuntime) -> Result<(), Fail> {
     }
     assert!(rt; store.get(&place).is_some());
     assert_eq!(rt; store.revision(), 2);
+    let row = row(alloc, "configmaps", "ConfigMap", true)?;
+    let everything = everything(alloc);
+    let list = match store.list(&row, "default", &everything, "a") {
+        Ok(list) => list,
+        Err(_refused) => store
+            .list(&row, "default", &everything, "a")
+            .expect(&rt, "the same call"),
+    };
+    assert_eq!(rt; list.len(), 1);
     Ok(())
 }

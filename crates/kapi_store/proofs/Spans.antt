@@ -1,0 +1,129 @@
+-- What may be listed lies between the first key and the end.
+use Rattle.std.proofs.Common.{◌≡◌, ℕ, Bool, true, false, ◌&&◌, cond, List, [], ◌∷◌, Option, None, Some, refl, sym, ap, codes}
+use Rattle.std.specs.List.{filter}
+use Rattle.std.specs.Ordering.{nat_cmp, is_gt, is_le, ordering_then, ordering_reverse}
+use Rattle.std.specs.declared.cmp.Ordering.{Ordering}
+use Rattle.std.specs.declared.cmp.Ordering.TheVariants.{Less, Equal, Greater}
+use Rattle.std.specs.declared.ops.Bound.TheVariants.{Included, Excluded}
+use Rattle.std.specs.BTreeMap.Range.{range_contains, entries_between}
+use Rattle.std.specs.Cmp.{first_so, second_so, nat_cmp_total}
+use Rattle.std.specs.Cmp.Lexicographic.{slice_cmp}
+use Rattle.std.specs.Str.{bytes_eq}
+use Rattle.std.proofs.lemmas.Slice.Eq.{bytes_eq-Decides}
+use Rattle.kapi_object.specs.Object.{tree_of}
+use Rattle.kapi_object.specs.Selector.{matches}
+use Rattle.kapi_object.specs.Tree.{in_metadata}
+use Rattle.kapi_object.specs.declared.object.Object.{Object}
+use Rattle.kapi_object.specs.declared.row.ResourceRow.{ResourceRow}
+use Rattle.kapi_object.specs.declared.selector.Selector.{Selector}
+use Rattle.kapi_store.specs.declared.key.Key.{Key}
+use Rattle.kapi_store.specs.Keys.{key_cmp}
+use Rattle.kapi_store.specs.State.{held, live}
+use Rattle.kapi_store.specs.Listing.{is_asked, is_within, is_listed, listed_objects}
+use Rattle.kapi_store.specs.Span.{after, first_key, end_key}
+
+-- what is its own reverse is Equal
+own_reverse : (o : Ordering) → o ≡ ordering_reverse o → o ≡ Equal
+own_reverse Less h = absurd (cc h)
+own_reverse Equal h = refl
+own_reverse Greater h = absurd (cc h)
+
+byte_same : (b : ℕ) → nat_cmp b b ≡ Equal
+byte_same b = own_reverse (nat_cmp b b) (nat_cmp_total.antisymm b b)
+
+same : (t : List ℕ) → slice_cmp nat_cmp t t ≡ Equal
+same [] = refl
+same (b ∷ bs) = rw (byte_same b) (same bs)
+
+after_is_greater : (t : List ℕ) → slice_cmp nat_cmp (after t) t ≡ Greater
+after_is_greater [] = refl
+after_is_greater (b ∷ bs) = rw (byte_same b) (after_is_greater bs)
+
+after_is_past : (t : List ℕ) → slice_cmp nat_cmp t (after t) ≡ Less
+after_is_past [] = refl
+after_is_past (b ∷ bs) = rw (byte_same b) (after_is_past bs)
+
+-- nothing is below the empty text
+empty_is_least : (t : List ℕ) → is_le (slice_cmp nat_cmp [] t) ≡ true
+empty_is_least [] = refl
+empty_is_least (b ∷ bs) = refl
+
+empties_are_least : (s t : List ℕ) → is_le (ordering_then (slice_cmp nat_cmp [] s) (slice_cmp nat_cmp [] t)) ≡ true
+empties_are_least [] t = empty_is_least t
+empties_are_least (b ∷ bs) t = refl
+
+alike : (s t : List ℕ) → bytes_eq s t ≡ true → s ≡ t
+alike s t h = (bytes_eq-Decides s t).0 h
+
+and_true : (a : Bool) → a ≡ true → (a && true) ≡ true
+and_true a h = rw h refl
+
+-- what a key within what is asked for is
+within_parts : (row : ResourceRow) (namespace name : List ℕ) (k : Key) → is_within row namespace name k ≡ true
+    → (k.group ≡ row.group) × (k.resource ≡ row.plural) × (is_asked namespace k.namespace ≡ true) × (is_asked name k.name ≡ true)
+within_parts row namespace name k h =
+    let names : Bool = is_asked namespace k.namespace && is_asked name k.name in
+    let rest : (bytes_eq row.plural k.resource && names) ≡ true = second_so (bytes_eq row.group k.group) (bytes_eq row.plural k.resource && names) h in
+    let both : names ≡ true = second_so (bytes_eq row.plural k.resource) names rest in (
+      sym (alike row.group k.group (first_so (bytes_eq row.group k.group) (bytes_eq row.plural k.resource && names) h)),
+      sym (alike row.plural k.resource (first_so (bytes_eq row.plural k.resource) names rest)),
+      first_so (is_asked namespace k.namespace) (is_asked name k.name) both,
+      second_so (is_asked namespace k.namespace) (is_asked name k.name) both,
+    )
+
+-- a key within what is asked for is neither before the first key nor past the end
+pub within_is_between : (row : ResourceRow) (namespace name : List ℕ) (k : Key) → is_within row namespace name k ≡ true
+    → range_contains key_cmp (Included (first_key row namespace name)) (Excluded (end_key row namespace name)) k ≡ true
+unfolding first_key end_key
+within_is_between row [] name k h =
+    let is = within_parts row [] name k h in
+    rw (is.0, is.1, same row.group, same row.plural, after_is_greater row.plural) (and_true (is_le (ordering_then (slice_cmp nat_cmp [] k.namespace) (slice_cmp nat_cmp [] k.name))) (empties_are_least k.namespace k.name))
+within_is_between row (b ∷ bs) [] k h =
+    let is = within_parts row (b ∷ bs) [] k h in
+    let namespace : k.namespace ≡ b ∷ bs = sym (alike (b ∷ bs) k.namespace is.2) in
+    rw (is.0, is.1, namespace, same row.group, same row.plural, same (b ∷ bs), after_is_greater (b ∷ bs)) (and_true (is_le (slice_cmp nat_cmp [] k.name)) (empty_is_least k.name))
+within_is_between row (b ∷ bs) (c ∷ cs) k h =
+    let is = within_parts row (b ∷ bs) (c ∷ cs) k h in
+    let namespace : k.namespace ≡ b ∷ bs = sym (alike (b ∷ bs) k.namespace is.2) in
+    let name : k.name ≡ c ∷ cs = sym (alike (c ∷ cs) k.name is.3) in
+    rw (is.0, is.1, namespace, name, same row.group, same row.plural, same (b ∷ bs), same (c ∷ cs), after_is_greater (c ∷ cs)) refl
+
+-- the first key is before the end
+pub first_below_end : (row : ResourceRow) (namespace name : List ℕ) → is_gt (key_cmp (first_key row namespace name) (end_key row namespace name)) ≡ false
+unfolding first_key end_key
+first_below_end row [] name = rw (same row.group, after_is_past row.plural) refl
+first_below_end row (b ∷ bs) [] = rw (same row.group, same row.plural, after_is_past (b ∷ bs)) refl
+first_below_end row (b ∷ bs) (c ∷ cs) = rw (same row.group, same row.plural, same (b ∷ bs), after_is_past (c ∷ cs)) refl
+
+-- a test that fails where another does
+fails_too : (a b : Bool) → (a ≡ true → b ≡ true) → b ≡ false → a ≡ false
+fails_too true b h k = absurd (cc (h refl, k))
+fails_too false b h k = refl
+
+module _ {K X : Type 0} (r : K → Bool) (p : K × X → Bool) (in_range : (e : K × X) → p e ≡ true → r e.0 ≡ true) where
+  -- to take out slots that are out of range leaves what passes a test of those in range
+  pub live_between : (es : List (K × Option X)) → filter p (live (filter (λ e. r e.0) es)) ≡ filter p (live es)
+  unfolding live
+  live_between [] = refl
+  live_between (e ∷ es) =
+      elim (r e.0) as (λ b. r e.0 ≡ b → filter p (live (cond b (e ∷ filter (λ e. r e.0) es) (filter (λ e. r e.0) es))) ≡ filter p (held e.0 e.1 (live es))) [
+        | true ↦ λ is. elim e.1 as (λ o. filter p (held e.0 o (live (filter (λ e. r e.0) es))) ≡ filter p (held e.0 o (live es))) [
+          | None ↦ live_between es
+          | Some x ↦ ap (λ os. cond (p (e.0, x)) ((e.0, x) ∷ os) os) (live_between es)
+        ]
+        | false ↦ λ is. elim e.1 as (λ o. filter p (live (filter (λ e. r e.0) es)) ≡ filter p (held e.0 o (live es))) [
+          | None ↦ live_between es
+          | Some x ↦ rw (fails_too (p (e.0, x)) (r e.0) (in_range (e.0, x)) is) (live_between es)
+        ]
+      ] refl
+
+-- what is listed lies in the range, so that nothing else need be looked at
+pub listed_between : (row : ResourceRow) (namespace : List ℕ) (selector : Selector) (name : List ℕ) (es : List (Key × Option Object))
+    → listed_objects row namespace selector name (live (entries_between key_cmp (Included (first_key row namespace name)) (Excluded (end_key row namespace name)) es))
+    ≡ listed_objects row namespace selector name (live es)
+unfolding is_listed
+listed_between row namespace selector name es =
+    live_between (range_contains key_cmp (Included (first_key row namespace name)) (Excluded (end_key row namespace name)))
+    (λ e. is_listed row namespace selector name e.0 (tree_of e.1))
+    (λ e. λ h. within_is_between row namespace name e.0 (first_so (is_within row namespace name e.0) (matches selector (in_metadata (codes "labels") (tree_of e.1))) h))
+    es
