@@ -5,19 +5,16 @@ use Rattle.serde_json.specs.Events.{members_len}
 use Rattle.serde_json.specs.View.{items_of}
 use Rattle.serde_json.specs.Written.{has_float, items_have_float, members_have_float}
 use Rattle.kapi_http.specs.Message.{status_number}
-use Rattle.kapi_http.specs.declared.message.Method.{Method}
 use Rattle.kapi_http.specs.declared.message.StatusCode.{StatusCode}
 use Rattle.kapi_http.specs.declared.message.StatusCode.TheVariants as status
 use Rattle.kapi_object.proofs.NoFloats.{put_has_no_float}
 use Rattle.kapi_object.specs.declared.fault.FieldFault.{FieldFault}
 use Rattle.kapi_request_info.specs.declared.attributes.Attributes.{Attributes}
-use Rattle.kapi_rules.specs.declared.point.Point.{Point}
-use Rattle.kapi_rules.specs.declared.point.Point.TheVariants as point
 use Rattle.kapi_answer.specs.declared.refusal.Refusal.{Refusal}
 use Rattle.kapi_answer.specs.declared.refusal.Refusal.TheVariants as refusal
 use Rattle.kapi_answer.specs.declared.refusal.CreateRefusal.{CreateRefusal}
 use Rattle.kapi_answer.specs.declared.refusal.CreateRefusal.TheVariants as why
-use Rattle.kapi_answer.specs.Status.{Subject, Failed, with_some_text, with_causes, with_subject, with_some_object, details_of, status_of, invalid_field, missing_permission}
+use Rattle.kapi_answer.specs.Status.{Subject, Failed, with_some_text, with_causes, with_subject, with_some_object, details_of, status_of, invalid_field}
 use Rattle.kapi_answer.specs.Replies.{causes_of, create_causes, subject_of, fault_failure}
 
 -- one of two lists of members without floats

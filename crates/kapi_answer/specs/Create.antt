@@ -1,12 +1,11 @@
 -- The checks of a create, from its body on (Kubernetes, 'Kubernetes API Concepts', 'Object Names and IDs').
-use Rattle.std.specs.Prelude.{ℕ, ◌==◌, Bool, true, false, not, if◌then◌else◌, List, [], length, Result, Ok, Err}
+use Rattle.std.specs.Prelude.{ℕ, ◌==◌, Bool, true, false, if◌then◌else◌, List, [], length, Result, Ok, Err}
 use Rattle.std.specs.Str.{bytes_eq}
 use Rattle.serde_json.specs.Data.{Data}
 use Rattle.kapi_object.specs.Admission.{object_of}
 use Rattle.kapi_object.specs.Given.{given_of}
 use Rattle.kapi_object.specs.Names.{is_name_on}
 use Rattle.kapi_object.specs.Tree.{with_text, without_member}
-use Rattle.kapi_object.specs.declared.fault.Cause.{Cause}
 use Rattle.kapi_object.specs.declared.fault.Cause.TheVariants as cause
 use Rattle.kapi_object.specs.declared.fault.FieldFault.{FieldFault}
 use Rattle.kapi_object.specs.declared.fault.ObjectError.{ObjectError}

@@ -1,6 +1,6 @@
 -- The table of refusals: code, reason, message, causes and subject of each, and the replies.
-use Rattle.std.specs.Prelude.{ℕ, ◌==◌, Bool, true, false, not, if◌then◌else◌, List, [], ◌∷◌, ◌++◌, length, map, codes, Option, Some, None}
-use Rattle.serde_json.specs.Data.{Data, Members, no_members}
+use Rattle.std.specs.Prelude.{ℕ, ◌==◌, Bool, true, false, if◌then◌else◌, List, [], ◌∷◌, ◌++◌, length, map, codes, Option, Some, None}
+use Rattle.serde_json.specs.Data.{Data, no_members}
 use Rattle.serde_json.specs.Written.{compact_text}
 use Rattle.kapi_http.specs.Message.{method_text, status_phrase}
 use Rattle.kapi_http.specs.Reply.{text}
@@ -10,14 +10,12 @@ use Rattle.kapi_http.specs.declared.message.Method.TheVariants as method
 use Rattle.kapi_http.specs.declared.message.Reply.{Reply}
 use Rattle.kapi_http.specs.declared.message.StatusCode.{StatusCode}
 use Rattle.kapi_http.specs.declared.message.StatusCode.TheVariants as status
-use Rattle.kapi_object.specs.declared.fault.FieldFault.{FieldFault}
 use Rattle.kapi_rules.specs.declared.point.Point.{Point}
 use Rattle.kapi_rules.specs.declared.point.Point.TheVariants as point
 use Rattle.kapi_request_info.specs.declared.attributes.Attributes.{Attributes}
 use Rattle.kapi_answer.specs.declared.respond.Output.{Output}
 use Rattle.kapi_answer.specs.declared.refusal.Refusal.{Refusal}
 use Rattle.kapi_answer.specs.declared.refusal.Refusal.TheVariants as refusal
-use Rattle.kapi_answer.specs.declared.refusal.RefusedCreate.{RefusedCreate}
 use Rattle.kapi_answer.specs.declared.refusal.BadWord.{BadWord}
 use Rattle.kapi_answer.specs.declared.refusal.BadWord.TheVariants as word
 use Rattle.kapi_answer.specs.declared.refusal.CreateRefusal.{CreateRefusal}
@@ -124,7 +122,7 @@ causes_of a refusal.UnsupportedMediaType = []
 causes_of a refusal.NoObject = []
 causes_of a (refusal.Create c) = create_causes c.why
 
--- the name that a refusal is about: the path's, and in a create's later checks the body's
+-- the name that a refusal is about: that of the request's attributes, and in a create's later checks the body's
 unfoldable pub named_in : List ℕ → Refusal → List ℕ
 named_in name (refusal.BadRequest w) = name
 named_in name refusal.Forbidden = name

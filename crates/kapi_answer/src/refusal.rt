@@ -1,5 +1,6 @@
 use kapi_object::{Cause, FieldFault};
 use kapi_text::{Memory, Sequence, Text};
+use thiserror::Error;
 
 /// What a path of a served resource stands for.
 #[derive(Clone, Copy, Debug, PartialEq, Eq)]
@@ -62,9 +63,11 @@ pub enum CreateRefusal {
 }
 
 /// A check that failed, or want of memory in place of any answer.
-#[derive(Debug, Drop)]
+#[derive(Debug, Drop, Error)]
 pub enum CheckError {
+    #[error("the request is refused")]
     Refused(Refusal),
+    #[error("out of memory")]
     Memory,
 }
 

@@ -7,35 +7,25 @@ use crate::message::{HttpFault, HttpRequest};
 use crate::scan::BEGIN;
 use kapi_text::Memory;
 use std::alloc::Global;
-use std::error::Error;
-use std::fmt;
 use std::marker::Model;
+use thiserror::Error;
 
 /// The most bytes that a connection may have unserved.
 pub const KEPT_LIMIT: usize = 2_097_152;
 
 /// Why bytes were not taken.
-#[derive(Clone, Copy, Debug, PartialEq, Eq)]
+#[derive(Clone, Copy, Debug, PartialEq, Eq, Error)]
 pub enum FeedError {
     /// The unserved bytes would be above the limit.
+    #[error("too many unserved bytes")]
     Full,
     /// A growth was refused.
+    #[error("out of memory")]
     Memory,
     /// A fault was taken out, so that nothing more is read.
+    #[error("the connection has ended")]
     Ended,
 }
-
-impl fmt::Display for FeedError {
-    fn fmt<W: fmt::Write>(&self, f: &mut fmt::Formatter<W>) -> fmt::Result {
-        match self {
-            FeedError::Full => f.write_str("too many unserved bytes"),
-            FeedError::Memory => f.write_str("out of memory"),
-            FeedError::Ended => f.write_str("the connection has ended"),
-        }
-    }
-}
-
-impl Error for FeedError {}
 
 /// The bytes that were fed and not yet taken out.
 #[derive(Debug, Drop)]

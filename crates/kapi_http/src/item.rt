@@ -29,7 +29,7 @@ pub const LINE_LIMIT: usize = 64;
 pub enum Decision {
     /// The head is not whole yet.
     Waits,
-    /// The request is refused; its head, where that was read, has so many bytes.
+    /// The request is refused; its head has so many bytes, where it is whole and within the limits, and else 0 stands here.
     Refused(usize, Refusal),
     /// The head has so many bytes, and the request so many in all.
     Accepted(usize, usize),

@@ -150,7 +150,7 @@ pub enum Refusal {
     Expectation,
     /// The method is none that is served.
     Method,
-    /// The body's length is not given, or given twice.
+    /// A Content-Length field is not digits alone, is not the only one, or stands beside a Transfer-Encoding field.
     Length,
     /// There is a Transfer-Encoding field.
     TransferEncoding,

@@ -1,5 +1,6 @@
 pub mod NoFloats
-pub mod Trees
+pub mod Closed
+pub mod Ordered
 pub mod Slashes
 pub mod Bodies
 pub mod KeptGiven

@@ -1,17 +1,15 @@
 -- Members without one of them.
-use Rattle.std.proofs.Common.{◌≡◌, ℕ, List, [], ◌∷◌, false, refl, ap, cond, String, Global, string_bytes}
+use Rattle.std.proofs.Common.{◌≡◌, ℕ, List, [], ◌∷◌, refl, ap, cond, String, Global, string_bytes}
 use Rattle.std.specs.BTreeMap.{is_at}
 use Rattle.std.specs.Cmp.Lexicographic.{slice_cmp}
 use Rattle.std.specs.Map.{remove_entry}
 use Rattle.std.specs.Ordering.{nat_cmp, match_ordering, is_eq}
 use Rattle.std.specs.declared.cmp.Ordering.{Ordering}
 use Rattle.std.specs.declared.cmp.Ordering.TheVariants.{Less, Equal, Greater}
-use Rattle.serde_json.specs.Data.{Data, null, boolean, number, string, array, object, Members, no_members, member}
+use Rattle.serde_json.specs.Data.{Members, member}
 use Rattle.serde_json.specs.View.{view, members_view}
-use Rattle.serde_json.specs.Written.{has_float, members_have_float}
 use Rattle.serde_json.specs.declared.value.Value.{Value}
-use Rattle.kapi_object.proofs.NoFloats.{or_false}
-use Rattle.kapi_object.specs.Tree.{without, without_member}
+use Rattle.kapi_object.specs.Tree.{without}
 
 abbrev pub Entry : Type 0
 Entry = String Global × Value
@@ -26,21 +24,3 @@ pub members_view_removed : (key : List ℕ) (es : List Entry)
     → members_view (remove_entry (is_at (λ k. slice_cmp nat_cmp key (string_bytes k))) es) ≡ without key (members_view es)
 members_view_removed key [] = refl
 members_view_removed key (e ∷ es) = removed_at (slice_cmp nat_cmp key (string_bytes e.0)) e es _ _ (members_view_removed key es)
-
-without_has_no_float : (key : List ℕ) (ms : Members) → members_have_float ms ≡ false → members_have_float (without key ms) ≡ false
-without_has_no_float key no_members h = refl
-without_has_no_float key (member l d ms) h =
-    let parts : (has_float d ≡ false) × (members_have_float ms ≡ false) = or_false (has_float d) (members_have_float ms) h in
-    elim (slice_cmp nat_cmp key l) as (λ o. members_have_float (match_ordering o (member l d (without key ms)) ms (member l d (without key ms))) ≡ false) [
-      | Less ↦ rw parts.0 (without_has_no_float key ms parts.1)
-      | Equal ↦ parts.1
-      | Greater ↦ rw parts.0 (without_has_no_float key ms parts.1)
-    ]
-
-pub without_member_has_no_float : (key : List ℕ) (d : Data) → has_float d ≡ false → has_float (without_member key d) ≡ false
-without_member_has_no_float key null h = h
-without_member_has_no_float key (boolean b) h = h
-without_member_has_no_float key (number n) h = h
-without_member_has_no_float key (string s) h = h
-without_member_has_no_float key (array ds) h = h
-without_member_has_no_float key (object ms) h = without_has_no_float key ms h

@@ -15,9 +15,9 @@ use Rattle.kapi_object.specs.declared.selector.Operator.{Operator}
 use Rattle.kapi_object.specs.declared.selector.Operator.TheVariants as operator
 use Rattle.kapi_object.specs.declared.selector.Requirement.{Requirement}
 use Rattle.kapi_object.specs.declared.selector.Selector.{Selector}
-use Rattle.kapi_object.specs.Kinds.{role_kind, role_kind_text, subject_kind, subject_kind_text, operator_of, operator_text}
+use Rattle.kapi_object.specs.Kinds.{rbac_group, role_kind, role_kind_text, subject_kind, subject_kind_text, operator_of, operator_text}
 use Rattle.kapi_object.specs.Tree.{is_empty_object, members_or_none}
-use Rattle.kapi_object.specs.Typed.{member_of, is_empty, rbac_group}
+use Rattle.kapi_object.specs.Typed.{member_of, is_empty}
 
 -- ---- what stands in a tree, where it has no fault
 

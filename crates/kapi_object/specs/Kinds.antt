@@ -8,6 +8,10 @@ use Rattle.kapi_object.specs.declared.kinds.SubjectKind.TheVariants as subject
 use Rattle.kapi_object.specs.declared.selector.Operator.{Operator}
 use Rattle.kapi_object.specs.declared.selector.Operator.TheVariants as operator
 
+-- the API group of roles and bindings
+abbrev pub rbac_group : List ℕ
+rbac_group = codes "rbac.authorization.k8s.io"
+
 abbrev pub role_kind_text : RoleKind → List ℕ
 role_kind_text role.Role = codes "Role"
 role_kind_text role.ClusterRole = codes "ClusterRole"

@@ -1,4 +1,5 @@
 pub mod Tree
+pub mod Order
 pub mod Names
 pub mod Cause
 pub mod Given

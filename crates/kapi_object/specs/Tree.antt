@@ -1,4 +1,4 @@
--- Trees: JSON objects as the data that they are (RFC 8259), each key once and in the order of its bytes.
+-- Trees: JSON values as the data that they are (RFC 8259).
 use Rattle.std.specs.Prelude.{ℕ, List, Bool, true, false, Option, Some, None, codes, is_some, option_and_then, option_map, unwrap_or, if◌then◌else◌}
 use Rattle.std.specs.Cmp.Lexicographic.{slice_cmp}
 use Rattle.std.specs.Ordering.{nat_cmp, match_ordering}

@@ -20,7 +20,7 @@ use Rattle.kapi_object.specs.declared.text_rule.TextRule.TheVariants as rule
 use Rattle.kapi_object.specs.declared.typed.Scope.{Scope}
 use Rattle.kapi_object.specs.declared.typed.Scope.TheVariants.{Namespace, Cluster}
 use Rattle.kapi_object.specs.Faults.{fault, entries_faults}
-use Rattle.kapi_object.specs.Kinds.{operator_of, role_kind, subject_kind}
+use Rattle.kapi_object.specs.Kinds.{operator_of, rbac_group, role_kind, subject_kind}
 use Rattle.kapi_object.specs.Names.{is_dns_subdomain, is_path_segment, is_label_key, is_label_value}
 
 -- ---- members, and where their faults are told
@@ -43,10 +43,6 @@ abbrev pub item_path : List ℕ → ℕ → List ℕ
 item_path path index = path ++ codes "[" ++ decimal index ++ codes "]"
 
 -- ---- texts
-
--- the API group of roles and bindings
-abbrev pub rbac_group : List ℕ
-rbac_group = codes "rbac.authorization.k8s.io"
 
 -- a text that must be there, and not be empty
 abbrev pub is_required : TextRule → Bool

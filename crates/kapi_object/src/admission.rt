@@ -1,4 +1,4 @@
-ghost use Rattle.std.specs.Prelude.{◌≡◌, [], codes, false, Some, OnOk, IfOk, ok_or, string_bytes};
+ghost use Rattle.std.specs.Prelude.{◌≡◌, [], codes, true, false, Some, OnOk, IfOk, ok_or, string_bytes};
 ghost use Rattle.serde_json.specs.Data.{Data, object};
 ghost use Rattle.serde_json.specs.Find.{get};
 ghost use Rattle.serde_json.specs.View.{view, members_view};
@@ -8,6 +8,7 @@ ghost use Rattle.kapi_object.specs.Admission.{keep as keep_of, keep_entries as k
 ghost use Rattle.kapi_object.specs.Given.{given_of};
 ghost use Rattle.kapi_object.specs.Given.{given_on as given_on_of};
 ghost use Rattle.kapi_object.specs.Object.{tree_of};
+ghost use Rattle.kapi_object.specs.Order.{is_ordered};
 ghost use Rattle.kapi_object.specs.Tree.{json_object};
 ghost use Rattle.kapi_object.specs.Tree.{in_metadata as in_metadata_of, is_empty_object as is_empty_object_of};
 
@@ -146,7 +147,8 @@ fn has_other(tree: &Value, key: &str, text: &str) -> bool
 /// The JSON object that the bytes are.
 #[tactic(auto, unfolding(crate::specs::Tree::json_object))]
 fn read_tree(alloc: Global, bytes: &[u8]) -> Result<Value, ObjectError>
-    ensures { Gives view result (ok_or (json_object bytes.now) ObjectError.NotJson) }
+    ensures object { Gives view result (ok_or (json_object bytes.now) ObjectError.NotJson) }
+    ensures ordered { IfOk result (λ v. is_ordered (view v) ≡ true) }
 {
     match Value::from_slice(alloc, bytes) {
         Ok(tree) => {
@@ -190,6 +192,7 @@ fn admit(
 ) -> Result<Object, ObjectError>
     requires version { version.now ≡ version_of row.now }
     requires whole { has_float_of (view tree) ≡ false }
+    requires ordered { is_ordered (view tree) ≡ true }
     ensures object { Gives tree_of result (admitted row.now (view tree)) }
     ensures given { IfOk result (λ o. given_of (tree_of o) ≡ given_on_of row.now (view tree)) }
     ensures clean { IfOk result (λ o. faults_on row.now.schema (tree_of o) ≡ []) }

@@ -5,11 +5,10 @@ ghost use Rattle.kapi_object.specs.Contents.{content_of, role_kind_at, subject_k
 ghost use Rattle.kapi_object.specs.Contents.{put_rules as put_rules_of, put_aggregation as put_aggregation_of, put_binding as put_binding_of, kept_items as kept_items_of, kept_list as kept_list_of, kept_role_ref as kept_role_ref_of, role_content as role_content_of, cluster_role_content as cluster_role_content_of, binding_content as binding_content_of};
 ghost use Rattle.kapi_object.specs.Typed.{member_of};
 
-use crate::kinds::{RoleKind, SubjectKind};
+use crate::kinds::{RBAC_GROUP, RoleKind, SubjectKind};
 use crate::path::member;
 use crate::row::Schema;
 use crate::selector::Selector;
-use crate::text_rule::RBAC_GROUP;
 use crate::tree::into_members;
 use crate::tree_form::{
     put_items, put_text, put_texts, read_list, read_text, text_value, write_items,

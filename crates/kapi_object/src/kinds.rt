@@ -1,5 +1,8 @@
 ghost use Rattle.std.specs.Prelude.{◌≡◌};
 
+/// The API group of roles and bindings.
+pub const RBAC_GROUP: &str = "rbac.authorization.k8s.io";
+
 /// The two kinds of roles (Kubernetes, 'Using RBAC Authorization', 'Role and ClusterRole').
 #[derive(Clone, Copy, Debug, PartialEq, Eq)]
 pub enum RoleKind {

@@ -28,7 +28,7 @@ mod typed_tests;
 pub use admission::read_object;
 pub use fault::{Cause, FieldFault, ObjectError};
 pub use given::{Given, GivenText};
-pub use kinds::{RoleKind, SubjectKind};
+pub use kinds::{RBAC_GROUP, RoleKind, SubjectKind};
 pub use labels::Labels;
 pub use names::{
     check_label_key, check_label_value, check_name, check_namespace_name, check_object_name,

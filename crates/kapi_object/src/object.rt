@@ -1,6 +1,7 @@
-ghost use Rattle.std.specs.Prelude.{◌≡◌, false};
+ghost use Rattle.std.specs.Prelude.{◌≡◌, true, false};
 ghost use Rattle.serde_json.specs.View.{view};
 ghost use Rattle.serde_json.specs.Written.{has_float};
+ghost use Rattle.kapi_object.specs.Order.{is_ordered};
 
 use crate::admission::collect_faults;
 use crate::fault::FieldFault;
@@ -12,26 +13,30 @@ use kapi_text::Memory;
 use serde_json::{Map, Value};
 use std::alloc::Global;
 
-/// A declared object: a JSON tree (RFC 8259) without any number that reads as a float.
+/// A declared object: a JSON tree (RFC 8259) without any number that reads as a float, the members of each of its objects
+/// in the order of their keys.
 #[derive(Debug, Drop)]
 pub struct Object {
     tree: Value,
     ghost whole: { has_float (view tree) ≡ false },
+    ghost ordered: { is_ordered (view tree) ≡ true },
 }
 
 impl Object {
-    ghost use Rattle.std.specs.Prelude.{◌≡◌, false, codes, IfOk};
+    ghost use Rattle.std.specs.Prelude.{◌≡◌, true, false, codes, IfOk};
     ghost use Rattle.serde_json.specs.View.{view, members_view};
     ghost use Rattle.serde_json.specs.Written.{compact_text, members_have_float};
     ghost use Rattle.kapi_object.specs.Admission.{faults_on};
     ghost use Rattle.kapi_object.specs.Given.{given_of};
     ghost use Rattle.kapi_object.specs.Object.{tree_of, stamped_tree};
+    ghost use Rattle.kapi_object.specs.Order.{is_ordered, in_order};
     ghost use Rattle.kapi_object.specs.Selector.{labels_of};
     ghost use Rattle.kapi_object.specs.Tree.{in_metadata as in_metadata_of, with_content as with_content_of, with_text as with_text_of, without_member as without_member_of};
 
-    /// The object that a tree without floats is.
+    /// The object that an ordered tree without floats is.
     pub(crate) fn new(tree: Value) -> Object
-        requires { has_float (view tree) ≡ false }
+        requires whole { has_float (view tree) ≡ false }
+        requires ordered { is_ordered (view tree) ≡ true }
         ensures { tree_of result ≡ view tree }
     {
         Object { tree }
@@ -39,7 +44,8 @@ impl Object {
 
     /// The object's tree as JSON text: compact, keys in the order of their bytes.
     pub fn render(&self, alloc: Global) -> Result<Vec<u8>, Memory>
-        ensures { IfOk result (λ b. b.items ≡ compact_text (tree_of self.now)) }
+        ensures text { IfOk result (λ b. b.items ≡ compact_text (tree_of self.now)) }
+        ensures ordered { is_ordered (tree_of self.now) ≡ true }
     {
         self.tree.to_vec(alloc)
     }
@@ -83,7 +89,8 @@ impl Object {
 
     /// The object of the same version, kind and metadata that has these members beside them, and no other.
     pub fn with_content(&self, alloc: Global, content: Map<String, Value>) -> Result<Object, Memory>
-        requires { members_have_float (members_view content.entries) ≡ false }
+        requires whole { members_have_float (members_view content.entries) ≡ false }
+        requires ordered { in_order (members_view content.entries) ≡ true }
         ensures { IfOk result (λ o. tree_of o ≡ with_content_of (members_view content.entries) (tree_of self.now)) }
     {
         Ok(Object {

@@ -69,7 +69,7 @@ pub struct Label {
 /// of meta/v1). A selector without any matches everything.
 #[derive(Debug, Drop)]
 pub struct Selector {
-    /// In the order of their keys, by bytes.
+    /// In the order of their keys, by bytes, where they were read of an object.
     pub match_labels: Sequence<Label>,
     pub match_expressions: Sequence<Requirement>,
 }

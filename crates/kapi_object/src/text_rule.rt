@@ -1,10 +1,10 @@
 ghost use Rattle.std.specs.Prelude.{◌≡◌, ◌++◌, Some, OnOk};
 ghost use Rattle.serde_json.specs.View.{view};
-ghost use Rattle.kapi_object.specs.Typed.{text_faults, text_faults_at, absent_text_faults, given_text_faults, rbac_group};
+ghost use Rattle.kapi_object.specs.Typed.{text_faults, text_faults_at, absent_text_faults, given_text_faults};
 ghost use Rattle.kapi_object.specs.Typed.{is_required as is_required_of, is_right as is_right_of};
 
 use crate::fault::{Cause, FieldFault};
-use crate::kinds::{RoleKind, SubjectKind};
+use crate::kinds::{RBAC_GROUP, RoleKind, SubjectKind};
 use crate::metadata::push_fault;
 use crate::names::{check_label_key, check_label_value, check_object_name, check_rbac_name};
 use crate::path::{member, member_path};
@@ -12,9 +12,6 @@ use crate::selector::Operator;
 use kapi_text::Memory;
 use serde_json::Value;
 use std::alloc::Global;
-
-/// The API group of roles and bindings.
-pub const RBAC_GROUP: &str = "rbac.authorization.k8s.io";
 
 /// What a text of a typed body has to be; those of whom it is not said may be absent or empty.
 #[derive(Clone, Copy)]

@@ -12,7 +12,8 @@ use Rattle.kapi_object.specs.declared.kinds.RoleKind.{RoleKind}
 use Rattle.kapi_object.specs.declared.kinds.RoleKind.TheVariants as role_kind
 use Rattle.kapi_rules.specs.Rules.{allows}
 use Rattle.kapi_rules.specs.declared.point.Point.{Point}
-use Rattle.kapi_policy.specs.Decided.{Binding, bindings_in, bindings_of, cluster_binding, allowed, masters, allowed_if, decided, first_some, given, Granted, granted, granted_at, granted_by, held, is_master, rules_of, rules_of_kind}
+use Rattle.kapi_policy.specs.Decided.{Binding, bindings_in, bindings_of, cluster_binding, allowed, masters, allowed_if, decided, first_some, given, Granted, granted, granted_at, granted_by, held, rules_of, rules_of_kind}
+use Rattle.kapi_rbac_types.specs.Identities.{is_master}
 use Rattle.kapi_policy.specs.Laws.{cluster_wide, is_allowed, NamesFirst, rules_by}
 use Rattle.kapi_policy.specs.Objects.{PolicyObjects}
 

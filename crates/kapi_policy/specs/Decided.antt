@@ -1,5 +1,5 @@
 -- What bindings give an identity, and what is allowed by it (Kubernetes, 'Using RBAC Authorization', 'RoleBinding and ClusterRoleBinding').
-use Rattle.std.specs.Prelude.{ℕ, ◌==◌, Bool, ◌&&◌, if◌then◌else◌, List, [], ◌∷◌, ◌++◌, length, map, Option, Some, None, codes}
+use Rattle.std.specs.Prelude.{ℕ, ◌==◌, Bool, ◌&&◌, if◌then◌else◌, List, [], ◌∷◌, ◌++◌, length, map, Option, Some, None}
 use Rattle.std.specs.List.{filter, flat_map, list_any, position}
 use Rattle.std.specs.Map.{lookup}
 use Rattle.std.specs.Option.{option_or, unwrap_or}
@@ -14,6 +14,7 @@ use Rattle.kapi_rbac_types.specs.declared.role.ClusterRole.{ClusterRole}
 use Rattle.kapi_rbac_types.specs.declared.role.Role.{Role}
 use Rattle.kapi_rbac_types.specs.declared.role_ref.RoleRef.{RoleRef}
 use Rattle.kapi_rbac_types.specs.declared.subject.Subject.{Subject}
+use Rattle.kapi_rbac_types.specs.Identities.{is_master}
 use Rattle.kapi_rbac_types.specs.Subjects.{names}
 use Rattle.kapi_rules.specs.declared.point.Point.{Point}
 use Rattle.kapi_rules.specs.Rules.{allows}
@@ -122,10 +123,6 @@ first_some f (x ∷ xs) = option_or (f x) (first_some f xs)
 -- the first rule that allows the point, among those that the identity holds in the namespace
 unfoldable pub granted : PolicyObjects → Identity → List ℕ → Point → Option Granted
 granted objects identity namespace point = first_some (granted_by objects identity point) (bindings_in objects namespace)
-
--- the group that may do everything
-abbrev pub is_master : Identity → Bool
-is_master identity = list_any (λ g. bytes_eq g (codes "system:masters")) identity.groups
 
 abbrev pub allowed_if : Option Granted → Decided
 allowed_if None = denied

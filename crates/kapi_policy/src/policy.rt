@@ -1,7 +1,8 @@
 ghost use Rattle.std.specs.Prelude.{◌≡◌, ◌||◌, IfOk, IsOk, OnErr, OnOk, option_copied};
 ghost use Rattle.std.specs.List.{list_any};
 ghost use Rattle.kapi_rules.specs.Rules.{allows as rule_allows};
-ghost use Rattle.kapi_policy.specs.Decided.{decided, held as held_by, is_master, rules_of};
+ghost use Rattle.kapi_policy.specs.Decided.{decided, held as held_by, rules_of};
+ghost use Rattle.kapi_rbac_types.specs.Identities.{is_master};
 ghost use Rattle.kapi_policy.specs.Objects.{PolicyObjects, applied};
 ghost use Rattle.kapi_policy.specs.Views.{decision_of};
 ghost use Rattle.kapi_policy.specs.declared.change.PolicyKey.{PolicyKey};

@@ -6,7 +6,7 @@ ghost use Rattle.std.specs.Option.{unwrap_or};
 ghost use Rattle.std.specs.Str.{bytes_eq};
 ghost use Rattle.kapi_rbac_types.specs.Subjects.{names as names_of};
 ghost use Rattle.kapi_rules.specs.Rules.{allows as rule_allows};
-ghost use Rattle.kapi_policy.specs.Decided.{bindings_of, cluster_binding as cluster_binding_of, cluster_rules_in, decided, first_some, given as given_by, granted, granted_at, granted_by, held as held_by, is_master as is_master_of, is_place, namespace_binding as namespace_binding_of, rules_in, rules_of, rules_of_kind};
+ghost use Rattle.kapi_policy.specs.Decided.{bindings_of, cluster_binding as cluster_binding_of, cluster_rules_in, decided, first_some, given as given_by, granted, granted_at, granted_by, held as held_by, is_place, namespace_binding as namespace_binding_of, rules_in, rules_of, rules_of_kind};
 ghost use Rattle.kapi_policy.specs.Views.{binding_of, decision_of, granted_if};
 
 use crate::binding::Binding;
@@ -215,16 +215,6 @@ fn grant<'a>(
     namespace_grant(policy, identity, namespace, point)
 }
 
-fn is_master(identity: &Identity) -> bool
-    ensures { result ≡ is_master_of identity.now }
-{
-    identity
-        .groups
-        .as_slice()
-        .iter()
-        .any(|group| group.as_str() == "system:masters")
-}
-
 /// Whether the identity may do this in the namespace, and the first rule by which he may.
 #[tactic(auto, unfolding(crate::specs::Decided::decided))]
 pub fn decide<'a>(
@@ -235,7 +225,7 @@ pub fn decide<'a>(
 ) -> Decision<'a>
     ensures { decision_of result ≡ decided policy.now identity.now namespace.now point.now }
 {
-    if is_master(identity) {
+    if identity.is_master() {
         return Decision::Masters;
     }
     match grant(policy, identity, namespace, point) {

@@ -1,5 +1,5 @@
 pub mod Prefixes
-pub mod NoFloats
+pub mod Contents
 pub mod RoundTrips
 pub mod Labels
 pub mod Selectors

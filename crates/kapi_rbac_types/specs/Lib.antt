@@ -1,3 +1,4 @@
+pub mod Identities
 pub mod Subjects
 pub mod Trees
 pub mod Laws

@@ -1,11 +1,11 @@
 -- Whom the subjects of a binding mean (Kubernetes, 'Using RBAC Authorization', 'Referring to subjects').
 use Rattle.std.specs.Prelude.{ℕ, List, ◌∷◌, ◌++◌, length, Bool, not, ◌&&◌, ◌==◌, if◌then◌else◌, codes}
-use Rattle.std.specs.List.{list_any}
 use Rattle.std.specs.Str.{bytes_eq}
 use Rattle.kapi_rbac_types.specs.declared.identity.Identity.{Identity}
 use Rattle.kapi_rbac_types.specs.declared.subject.ServiceAccount.{ServiceAccount as Account}
 use Rattle.kapi_rbac_types.specs.declared.subject.Subject.{Subject}
 use Rattle.kapi_rbac_types.specs.declared.subject.Subject.TheVariants.{User, Group, ServiceAccount}
+use Rattle.kapi_rbac_types.specs.Identities.{is_in}
 
 -- the user `system:serviceaccount:NAMESPACE:NAME`; in no namespace there is no service account
 abbrev pub is_account : List ℕ → List ℕ → List ℕ → Bool
@@ -18,5 +18,5 @@ namespace_of account binding = if length account.namespace == 0 then binding els
 -- whether a subject of a binding in a namespace means the identity
 abbrev pub names : Subject → List ℕ → Identity → Bool
 names (User name) namespace identity = bytes_eq identity.user name
-names (Group name) namespace identity = list_any (λ g. bytes_eq g name) identity.groups
+names (Group name) namespace identity = is_in name identity
 names (ServiceAccount account) namespace identity = is_account identity.user (namespace_of account namespace) account.name

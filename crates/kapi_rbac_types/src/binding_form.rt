@@ -146,7 +146,7 @@ fn binding_content(
 
 impl RoleBinding {
     /// The role binding as an object with the version, the kind and the metadata of another.
-    #[tactic(auto, unfolding(crate::specs::Trees::read_as), using(crate::proofs::NoFloats::binding_has_no_float, crate::proofs::Laws::role_binding_reads_back))]
+    #[tactic(auto, unfolding(crate::specs::Trees::read_as), using(crate::proofs::Contents::binding_has_no_float, crate::proofs::Contents::binding_in_order, crate::proofs::Laws::role_binding_reads_back))]
     pub fn to_object(&self, alloc: Global, of: &Object) -> Result<Object, Memory>
         ensures written { IfOk result (λ o. tree_of o
             ≡ with_content (binding_content_of self.now.subjects self.now.role_ref) (tree_of of.now)) }
@@ -164,7 +164,7 @@ impl RoleBinding {
 
 impl ClusterRoleBinding {
     /// The cluster role binding as an object with the version, the kind and the metadata of another.
-    #[tactic(auto, unfolding(crate::specs::Trees::read_as), using(crate::proofs::NoFloats::binding_has_no_float, crate::proofs::Laws::cluster_role_binding_reads_back))]
+    #[tactic(auto, unfolding(crate::specs::Trees::read_as), using(crate::proofs::Contents::binding_has_no_float, crate::proofs::Contents::binding_in_order, crate::proofs::Laws::cluster_role_binding_reads_back))]
     pub fn to_object(&self, alloc: Global, of: &Object) -> Result<Object, Memory>
         ensures written { IfOk result (λ o. tree_of o
             ≡ with_content (binding_content_of self.now.subjects self.now.role_ref) (tree_of of.now)) }

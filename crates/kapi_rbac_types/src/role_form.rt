@@ -99,7 +99,7 @@ fn cluster_role_content(alloc: Global, role: &ClusterRole) -> Result<Map<String,
 
 impl Role {
     /// The role as an object with the version, the kind and the metadata of another.
-    #[tactic(auto, unfolding(crate::specs::Trees::read_as), using(crate::proofs::NoFloats::role_has_no_float, crate::proofs::Laws::role_reads_back))]
+    #[tactic(auto, unfolding(crate::specs::Trees::read_as), using(crate::proofs::Contents::role_has_no_float, crate::proofs::Contents::role_in_order, crate::proofs::Laws::role_reads_back))]
     pub fn to_object(&self, alloc: Global, of: &Object) -> Result<Object, Memory>
         ensures written { IfOk result (λ o. tree_of o ≡ with_content (role_content_of self.now) (tree_of of.now)) }
 
@@ -113,7 +113,7 @@ impl Role {
 
 impl ClusterRole {
     /// The cluster role as an object with the version, the kind and the metadata of another.
-    #[tactic(auto, unfolding(crate::specs::Trees::read_as), using(crate::proofs::NoFloats::cluster_role_has_no_float, crate::proofs::Laws::cluster_role_reads_back))]
+    #[tactic(auto, unfolding(crate::specs::Trees::read_as), using(crate::proofs::Contents::cluster_role_has_no_float, crate::proofs::Contents::cluster_role_in_order, crate::proofs::Laws::cluster_role_reads_back))]
     pub fn to_object(&self, alloc: Global, of: &Object) -> Result<Object, Memory>
         ensures written { IfOk result (λ o. tree_of o
             ≡ with_content (cluster_role_content_of self.now) (tree_of of.now)) }

@@ -1,5 +1,4 @@
 ghost use Rattle.std.specs.Prelude.{◌≡◌, ◌++◌, ◌∷◌, ◌==◌, length, if◌then◌else◌};
-ghost use Rattle.std.specs.List.{list_any};
 ghost use Rattle.std.specs.Str.{bytes_eq};
 ghost use Rattle.kapi_rbac_types.specs.Subjects.{names as names_of, is_account as is_account_of, namespace_of as namespace_of_account};
 
@@ -99,13 +98,6 @@ fn namespace_of<'a>(account: &'a ServiceAccount, binding_namespace: &'a str) -> 
     }
 }
 
-/// Whether one of the groups is this one.
-fn has_group(groups: &[Text], group: &str) -> bool
-    ensures { result ≡ list_any (λ g. bytes_eq g group.now) groups.now }
-{
-    groups.iter().any(|other| other.as_str() == group)
-}
-
 /// Whether a subject of a binding means the identity (Kubernetes, 'Using RBAC Authorization', 'Referring to subjects').
 /// The binding's namespace is empty for a ClusterRoleBinding. Takes no memory.
 pub fn names(subject: &Subject, binding_namespace: &str, identity: &Identity) -> bool
@@ -113,7 +105,7 @@ pub fn names(subject: &Subject, binding_namespace: &str, identity: &Identity) ->
 {
     match subject {
         Subject::User(name) => identity.user.as_str() == name.as_str(),
-        Subject::Group(name) => has_group(identity.groups.as_slice(), name.as_str()),
+        Subject::Group(name) => identity.is_in(name.as_str()),
         Subject::ServiceAccount(account) => is_account(
             identity.user.as_str(),
             namespace_of(account, binding_namespace),

@@ -237,24 +237,68 @@ target_from_authority b h = (both (is_target_byte b) (not (b == 47 || b == 63)) 
 authority_bytes : (authority : List ℕ) → is_authority authority ≡ true → All (λ b. (is_target_byte b && not (b == 47 || b == 63)) ≡ true) authority
 authority_bytes authority h = AllPass-from_list_all (λ b. is_target_byte b && not (b == 47 || b == 63)) authority h
 
-behind_known : (authority rest : List ℕ) → is_authority authority ≡ true → behind_authority (authority ++ 47 ∷ rest) ≡ 47 ∷ rest
-behind_known authority rest h =
-    let ends : ℕ → Bool = λ b. b == 47 || b == 63 in
-    let none = All-weaker (λ b. (is_target_byte b && not (ends b)) ≡ true) (λ b. ends b ≡ false) no_end authority (authority_bytes authority h) in
-    ap (λ n. drop n (authority ++ 47 ∷ rest)) (first_after ends authority 47 rest none refl) ∙ drop-append_seam authority (47 ∷ rest)
+no_end_in : (authority : List ℕ) → is_authority authority ≡ true → All (λ b. (b == 47 || b == 63) ≡ false) authority
+no_end_in authority h =
+    All-weaker (λ b. (is_target_byte b && not (b == 47 || b == 63)) ≡ true) (λ b. (b == 47 || b == 63) ≡ false) no_end authority (authority_bytes authority h)
+
+behind_known : (authority : List ℕ) (b : ℕ) (rest : List ℕ) → is_authority authority ≡ true → (b == 47 || b == 63) ≡ true
+    → behind_authority (authority ++ b ∷ rest) ≡ b ∷ rest
+behind_known authority b rest h ends =
+    ap (λ n. drop n (authority ++ b ∷ rest)) (first_after (λ b. b == 47 || b == 63) authority b rest (no_end_in authority h) ends)
+    ∙ drop-append_seam authority (b ∷ rest)
+
+behind_alone : (authority : List ℕ) → is_authority authority ≡ true → behind_authority authority ≡ []
+behind_alone authority h =
+    ap (λ n. drop n authority) (none_first (λ b. b == 47 || b == 63) authority (no_end_in authority h)) ∙ drop_all (length authority) authority (omega arith)
+
+clean_authority : (authority : List ℕ) → is_authority authority ≡ true → list_all is_target_byte authority ≡ true
+clean_authority authority h =
+    list_all-from_AllPass is_target_byte authority
+    (All-weaker (λ b. (is_target_byte b && not (b == 47 || b == 63)) ≡ true) (λ b. is_target_byte b ≡ true) target_from_authority authority (authority_bytes authority h))
 
 target_known : (authority rest : List ℕ) → is_authority authority ≡ true
-    → list_all is_target_byte (codes "http://" ++ (authority ++ 47 ∷ rest)) ≡ list_all is_target_byte (47 ∷ rest)
-target_known authority rest h =
-    let clean : list_all is_target_byte authority ≡ true =
-    list_all-from_AllPass is_target_byte authority (All-weaker (λ b. (is_target_byte b && not (b == 47 || b == 63)) ≡ true) (λ b. is_target_byte b ≡ true) target_from_authority authority (authority_bytes authority h)) in
-    rw (list_all-append is_target_byte authority (47 ∷ rest), clean)
+    → list_all is_target_byte (codes "http://" ++ (authority ++ rest)) ≡ list_all is_target_byte rest
+target_known authority rest h = rw (list_all-append is_target_byte authority rest, clean_authority authority h)
 
-path_on_known : (authority rest : List ℕ) → is_authority authority ≡ true → path_on (codes "http://" ++ (authority ++ 47 ∷ rest)) ≡ path_on (47 ∷ rest)
+path_on_known : (authority : List ℕ) (b : ℕ) (rest : List ℕ) → is_authority authority ≡ true → (b == 47 || b == 63) ≡ true
+    → path_on (codes "http://" ++ (authority ++ b ∷ rest)) ≡ Some (b ∷ rest)
 unfolding path_on
-path_on_known authority rest h = ap Some (behind_known authority rest h)
+path_on_known authority b rest h ends = ap Some (behind_known authority b rest h ends)
+
+path_on_alone : (authority : List ℕ) → is_authority authority ≡ true → path_on (codes "http://" ++ authority) ≡ Some []
+unfolding path_on
+path_on_alone authority h = ap Some (behind_alone authority h)
+
+path_on_path : (rest : List ℕ) → path_on (47 ∷ rest) ≡ Some (47 ∷ rest)
+unfolding path_on
+path_on_path rest = refl
+
+split_absolute : (authority rest : List ℕ) → is_authority authority ≡ true
+    → split_target (codes "http://" ++ (authority ++ 47 ∷ rest)) ≡ split_target (47 ∷ rest)
+unfolding split_target
+split_absolute authority rest h = rw (target_known authority (47 ∷ rest) h, path_on_known authority 47 rest h refl, path_on_path rest)
+
+split_pathless : (authority query : List ℕ) → is_authority authority ≡ true
+    → split_target (codes "http://" ++ (authority ++ 63 ∷ query)) ≡ split_target (codes "/?" ++ query)
+unfolding split_target
+split_pathless authority query h =
+    rw (target_known authority (63 ∷ query) h, path_on_known authority 63 query h refl, path_on_path (63 ∷ query))
+
+split_alone : (authority : List ℕ) → is_authority authority ≡ true → split_target (codes "http://" ++ authority) ≡ split_target (codes "/")
+unfolding split_target
+split_alone authority h = rw (clean_authority authority h, path_on_alone authority h, path_on_path [])
 
 pub info_absolute : (method : Method) (authority rest : List ℕ) → is_authority authority ≡ true
     → info method (codes "http://" ++ (authority ++ 47 ∷ rest)) ≡ info method (47 ∷ rest)
-unfolding info split_target
-info_absolute method authority rest h = rw (target_known authority rest h, path_on_known authority rest h)
+unfolding info
+info_absolute method authority rest h = rw (split_absolute authority rest h)
+
+pub info_pathless : (method : Method) (authority query : List ℕ) → is_authority authority ≡ true
+    → info method (codes "http://" ++ (authority ++ 63 ∷ query)) ≡ info method (codes "/?" ++ query)
+unfolding info
+info_pathless method authority query h = rw (split_pathless authority query h)
+
+pub info_alone : (method : Method) (authority : List ℕ) → is_authority authority ≡ true
+    → info method (codes "http://" ++ authority) ≡ info method (codes "/")
+unfolding info
+info_alone method authority h = rw (split_alone authority h)

@@ -11,6 +11,7 @@ use kapi_http::Method;
 use kapi_rules::Point;
 use kapi_text::{Memory, Sequence, Text, TryCopy};
 use std::alloc::{AllocError, AllocFailed, Global};
+use thiserror::Error;
 
 /// What a request asks for, as its method and target say (Kubernetes, 'Authorization Overview', request attributes).
 #[derive(Debug, Drop)]
@@ -39,14 +40,19 @@ impl TryCopy for Attributes {
 }
 
 /// Why a request has no attributes, in the order in which the faults are looked for.
-#[derive(Clone, Copy, Debug, PartialEq, Eq)]
+#[derive(Clone, Copy, Debug, PartialEq, Eq, Error)]
 pub enum InfoError {
     /// The target is no path of segments that name something, with or without a query (RFC 9112 section 3.2; RFC 3986 section 3.3).
+    #[error("the target is no path")]
     BadPath,
-    /// An escape of the path is cut short, or a segment is no UTF-8 (RFC 3986 section 2.1).
+    /// A `%` of the path has no two hexadecimal digits behind it, or a segment is no UTF-8 (RFC 3986 section 2.1).
+    #[error("the path has a bad escape")]
     BadEscape,
     /// A collection is to be watched or not by a value that is no Boolean.
+    #[error("a query value is no Boolean")]
     BadQuery,
+    /// A growth was refused.
+    #[error("out of memory")]
     Memory,
 }
 

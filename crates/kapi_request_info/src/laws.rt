@@ -18,8 +18,12 @@ pub fn written_paths_are_read()
         → info method (written set names ++ 63 ∷ query) ≡ attributes_by method (written set names) names (query_pairs query) }
 {}
 
-/// The scheme and the authority of an absolute target mean nothing.
+/// The scheme and the authority of an absolute target mean nothing; without a path it is as one with the path `/`.
 pub fn authorities_mean_nothing()
-    ensures { (method : Method) (authority rest : List ℕ) → is_authority authority ≡ true
+    ensures path { (method : Method) (authority rest : List ℕ) → is_authority authority ≡ true
         → info method (codes "http://" ++ (authority ++ 47 ∷ rest)) ≡ info method (47 ∷ rest) }
+    ensures query { (method : Method) (authority query : List ℕ) → is_authority authority ≡ true
+        → info method (codes "http://" ++ (authority ++ 63 ∷ query)) ≡ info method (codes "/?" ++ query) }
+    ensures alone { (method : Method) (authority : List ℕ) → is_authority authority ≡ true
+        → info method (codes "http://" ++ authority) ≡ info method (codes "/") }
 {}

@@ -29,7 +29,7 @@ pub fn segments(alloc: Global, path: &[u8]) -> Result<Vec<Text>, InfoError>
     texts(alloc, segments)
 }
 
-/// What stands between the slashes of a path, behind the first, decoded. An escape that is cut short stays as it is.
+/// What stands between the slashes of a path, behind the first, decoded. A `%` without two hexadecimal digits behind it stays as it is.
 fn pieces(alloc: Global, path: &[u8]) -> Result<Vec<Sequence<u8>>, Memory>
     ensures { IfOk result (λ v. v.items ≡ pieces_of path.now) }
 {

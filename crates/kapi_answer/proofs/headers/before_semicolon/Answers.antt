@@ -1,4 +1,4 @@
-use Rattle.std.proofs.Common.{◌≡◌, ◌==◌, ◌∙◌, sym}
+use Rattle.std.proofs.Common.{◌==◌, ◌∙◌, sym}
 use Rattle.kapi_answer.proofs.Semicolons.{before_found, before_nothing}
 use Rattle.kapi_answer.proofs.headers.before_semicolon.Goals as goal
 

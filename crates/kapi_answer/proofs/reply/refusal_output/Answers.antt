@@ -1,4 +1,4 @@
-use Rattle.std.proofs.Common.{◌≡◌, ◌∙◌, ap}
+use Rattle.std.proofs.Common.{◌∙◌, ap}
 use Rattle.serde_json.specs.Written.{members_have_float}
 use Rattle.kapi_answer.proofs.Floats.{details_whole}
 use Rattle.kapi_answer.proofs.reply.refusal_output.Goals as goal

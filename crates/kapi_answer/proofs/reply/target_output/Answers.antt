@@ -1,4 +1,4 @@
-use Rattle.std.proofs.Common.{◌≡◌, ap}
+use Rattle.std.proofs.Common.{ap}
 use Rattle.serde_json.specs.Written.{members_have_float}
 use Rattle.kapi_answer.proofs.reply.target_output.Goals as goal
 

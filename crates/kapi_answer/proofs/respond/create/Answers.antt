@@ -1,9 +1,7 @@
-use Rattle.std.proofs.Common.{◌≡◌, ◌+◌, ◌∷◌, [], refl, ◌∙◌}
+use Rattle.std.proofs.Common.{◌+◌, refl, ◌∙◌}
 use Rattle.kapi_object.specs.Object.{tree_of}
-use Rattle.kapi_object.specs.declared.object.Object.{Object}
-use Rattle.kapi_store.specs.Plain.{plain_of, plain_change, creation_at}
+use Rattle.kapi_store.specs.Plain.{plain_of, creation_at}
 use Rattle.kapi_store.specs.Stamps.{created_tree}
-use Rattle.kapi_store.specs.declared.change.Change.{Change}
 use Rattle.kapi_answer.proofs.Created.{created_changes, written_text, served_create}
 use Rattle.kapi_answer.proofs.respond.create.Goals as goal
 

@@ -3,11 +3,16 @@ use Rattle.std.proofs.Common.{◌≡◌, ◌==◌, [], length, true, rules}
 use Rattle.kapi_object.proofs.Clean.{none_if, kept_tree_has_no_fault}
 use Rattle.kapi_object.specs.Admission.{faults_on}
 use Rattle.kapi_object.proofs.KeptGiven.{given_of-kept_tree}
-use Rattle.kapi_object.proofs.Trees.{kept_tree_has_no_float}
+use Rattle.kapi_object.proofs.Closed.{kept_tree_holds}
+use Rattle.kapi_object.proofs.NoFloats.{no_floats}
+use Rattle.kapi_object.proofs.Ordered.{keys_in_order}
 use Rattle.kapi_object.proofs.admission.admit.Goals as goal
 
-pub new-requires-2 : goal.new-requires-2
-new-requires-2 c = rw c.in_ok-kept_tree.ensures (kept_tree_has_no_float c.args.row.now (view c.args.tree) c.requires.whole)
+pub new-requires-2-clause-whole : goal.new-requires-2-clause-whole
+new-requires-2-clause-whole c = rw c.in_ok-kept_tree.ensures (kept_tree_holds no_floats c.args.row.now (view c.args.tree) c.requires.whole)
+
+pub new-requires-2-clause-ordered : goal.new-requires-2-clause-ordered
+new-requires-2-clause-ordered c = rw c.in_ok-kept_tree.ensures (kept_tree_holds keys_in_order c.args.row.now (view c.args.tree) c.requires.ordered)
 
 pub returns-clause-given : goal.returns-clause-given
 returns-clause-given c = rw (c.new-2.ensures, c.in_ok-kept_tree.ensures) (given_of-kept_tree c.args.row.now (view c.args.tree))

@@ -1,14 +1,20 @@
--- Setting two texts in the metadata brings in no float.
-use Rattle.std.proofs.Common.{◌≡◌, false, codes}
+-- Two texts set in the metadata bring in no float, and leave the keys in order.
+use Rattle.std.proofs.Common.{◌≡◌, true, false, codes}
 use Rattle.serde_json.specs.View.{view}
 use Rattle.serde_json.specs.Written.{has_float}
-use Rattle.kapi_object.proofs.Trees.{with_text_has_no_float}
+use Rattle.kapi_object.specs.Order.{is_ordered}
+use Rattle.kapi_object.proofs.Closed.{with_text_holds}
+use Rattle.kapi_object.proofs.NoFloats.{no_floats}
+use Rattle.kapi_object.proofs.Ordered.{keys_in_order}
 use Rattle.kapi_object.proofs.object.Object.stamped.Goals as goal
 
 pub invariant_of-result : goal.invariant_of-result
 invariant_of-result c =
-    let first : has_float (view c.in_ok-tree.tree) ≡ false =
-    rw c.in_ok-tree.ensures (with_text_has_no_float (codes "uid") c.args.uid.now (view c.args.self.tree) c.args.self.whole) in
+    let whole : has_float (view c.in_ok-tree.tree) ≡ false =
+    rw c.in_ok-tree.ensures (with_text_holds no_floats (codes "uid") c.args.uid.now (view c.args.self.tree) c.args.self.whole) in
+    let ordered : is_ordered (view c.in_ok-tree.tree) ≡ true =
+    rw c.in_ok-tree.ensures (with_text_holds keys_in_order (codes "uid") c.args.uid.now (view c.args.self.tree) c.args.self.ordered) in
     record {
-      whole = rw c.in_ok-with_text.ensures (with_text_has_no_float (codes "resourceVersion") c.args.version.now (view c.in_ok-tree.tree) first);
+      whole = rw c.in_ok-with_text.ensures (with_text_holds no_floats (codes "resourceVersion") c.args.version.now (view c.in_ok-tree.tree) whole);
+      ordered = rw c.in_ok-with_text.ensures (with_text_holds keys_in_order (codes "resourceVersion") c.args.version.now (view c.in_ok-tree.tree) ordered);
     }
