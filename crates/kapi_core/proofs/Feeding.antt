@@ -1,5 +1,6 @@
 -- Bytes that come in are taken in as the machine that is data takes them.
-use Rattle.std.proofs.Common.{◌≡◌, ℕ, ◌+◌, ◌<◌, ◌≤◌, inl, inr, true, false, List, ◌++◌, length, Some, Result, Ok, Err, BTreeMap, refl, sym, ap, ◌∙◌}
+use Rattle.std.proofs.Common.{◌≡◌, ℕ, ◌+◌, ◌<◌, ◌≤◌, inl, inr, Bool, true, false, IsTrue, IsFalse, nat_le, List, ◌++◌, length, Some, Result, Ok, Err, BTreeMap, refl, sym, ap, ◌∙◌}
+use Rattle.std.proofs.lemmas.Bool.{leb-true, leb-false}
 use Rattle.std.proofs.lemmas.Map.Steps.{set_value_same}
 use Rattle.std.specs.Map.{lookup, set_value}
 use Rattle.std.specs.Ordering.{nat_cmp}
@@ -17,7 +18,7 @@ use Rattle.kapi_core.specs.Feeds.{Feeds}
 use Rattle.kapi_core.specs.Machine.{Machine}
 use Rattle.kapi_core.specs.Stands.{TakesIn, StandsFor}
 use Rattle.kapi_core.proofs.AlikeLinks.{link_there}
-use Rattle.kapi_core.proofs.Steps.{made_for, fed, fed_full, fed_nowhere}
+use Rattle.kapi_core.proofs.Steps.{machine_of, made_for, not_early, told_late, fed, fed_full, fed_nowhere}
 
 -- with the same connections as before
 kept : (s : State) (es fs : List (ℕ × Connection)) (n : ℕ) (m : Machine) → fs ≡ es → StandsFor s es n m → StandsFor s fs n m
@@ -38,7 +39,13 @@ taken_in old links conn piece (Err Ended) f = λ m h. rw f.1
       | inr c ↦ let there = link_there (is_at (nat_cmp conn.0)) old.connections.entries ps c.0 l c.1 in
           absurd (let both : true ≡ false = sym c.2 ∙ there.2.2 in cc both)
     ]))
-taken_in old links conn piece (Err Memory) f = λ m h. rw f h
+taken_in old links conn piece (Err Memory) f = λ m h. (
+  rw f.3 h,
+  not_early old.store old.connections.entries old.next_id m (event.Feed conn piece) h
+      (λ ps l. told_late (machine_of old.store old.next_id ps) (event.Feed conn piece) told.Done
+      (fed old.store old.connections.entries (set_value (is_at (nat_cmp conn.0)) old.connections.entries (record f.0 { inbox = record { kept = f.0.inbox.kept ++ piece; ended = false } }))
+      old.next_id conn piece f.0 f.1 f.2 refl ps l).0 refl),
+)
 
 -- an inbox that did not change leaves the connections as they were
 unchanged : (es fs : List (ℕ × Connection)) (id : ℕ) (c : Connection) (u : Unserved) → lookup (is_at (nat_cmp id)) es ≡ Some c
@@ -52,9 +59,20 @@ pub fed_from : (es fs : List (ℕ × Connection)) (id : ℕ) (piece : List ℕ) 
     → ((d : Unit {0}) → r ≡ Ok d → (u ≡ record { kept = c.inbox.kept ++ piece; ended = false }) × (length c.inbox.kept + length piece ≤ 2097152))
     → ((e : FeedError) → r ≡ Err e → u ≡ c.inbox)
     → (r ≡ Err Ended → c.inbox.ended ≡ true) → (r ≡ Err Full → 2097152 < length c.inbox.kept + length piece)
+    → (r ≡ Err Memory → length c.inbox.kept + length piece ≤ 2097152)
     → Feeds es fs id piece r
-fed_from es fs id piece c u (Ok done) there is ok same ended full =
+fed_from es fs id piece c u (Ok done) there is ok same ended full memory =
     (c, there, (ok done refl).1, is ∙ ap (λ v. set_value (is_at (nat_cmp id)) es (record c { inbox = v })) (ok done refl).0)
-fed_from es fs id piece c u (Err Full) there is ok same ended full = (c, there, full refl, unchanged es fs id c u there is (same Full refl))
-fed_from es fs id piece c u (Err Ended) there is ok same ended full = (inr (c, there, ended refl), unchanged es fs id c u there is (same Ended refl))
-fed_from es fs id piece c u (Err Memory) there is ok same ended full = unchanged es fs id c u there is (same Memory refl)
+fed_from es fs id piece c u (Err Full) there is ok same ended full memory = (c, there, full refl, unchanged es fs id c u there is (same Full refl))
+fed_from es fs id piece c u (Err Ended) there is ok same ended full memory = (inr (c, there, ended refl), unchanged es fs id c u there is (same Ended refl))
+fed_from es fs id piece c u (Err Memory) there is ok same ended full memory = (c, there, memory refl, unchanged es fs id c u there is (same Memory refl))
+
+-- where want of memory is answered, the inbox goes on and the bytes fit
+pub memory_fits : (r : Result (Unit {0}) FeedError) (ended : Bool) (n : ℕ) → (IsTrue ended → r ≡ Err Ended) → (IsFalse ended × (2097152 < n) → r ≡ Err Full)
+    → r ≡ Err Memory → n ≤ 2097152
+memory_fits r true n if_ended if_full is = absurd (let both : Err Ended ≡ Err Memory = sym (if_ended refl) ∙ is in cc both)
+memory_fits r false n if_ended if_full is =
+    elim (nat_le n 2097152) as (λ b. nat_le n 2097152 ≡ b → n ≤ 2097152) [
+      | true ↦ λ fits. leb-true n 2097152 fits
+      | false ↦ λ many. absurd (let both : Err Full ≡ Err Memory = sym (if_full (refl, leb-false n 2097152 many)) ∙ is in cc both)
+    ] refl

@@ -1,5 +1,5 @@
 -- Each step of the running machine is that of the machine that is data.
-use Rattle.std.proofs.Common.{◌≡◌, ℕ, suc, ◌+◌, ◌<◌, ◌≤◌, Bool, true, false, List, [], ◌++◌, length, Some, None, Result, Ok, Err, refl, sym, ap, ◌∙◌, subst, nat_lt, nat_le, ◌&&◌, if◌then◌else◌}
+use Rattle.std.proofs.Common.{◌≡◌, ℕ, suc, ◌+◌, ◌<◌, ◌≤◌, Bool, true, false, List, [], ◌++◌, length, Option, Some, None, Result, Ok, Err, refl, sym, ap, ◌∙◌, subst, nat_lt, nat_le, ◌&&◌, if◌then◌else◌}
 use Rattle.std.proofs.lemmas.Bool.{le-leb, lt-leb}
 use Rattle.std.specs.Map.{lookup, set_value, remove_entry}
 use Rattle.std.specs.Ordering.{nat_cmp}
@@ -19,8 +19,8 @@ use Rattle.kapi_core.specs.declared.event.Event.{Event}
 use Rattle.kapi_core.specs.declared.event.Event.TheVariants as event
 use Rattle.kapi_core.specs.declared.event.Answer.{Answer}
 use Rattle.kapi_core.specs.declared.event.Answer.TheVariants as told
-use Rattle.kapi_core.specs.Machine.{Link, Machine, with_link, ended_if, step, open_step, feed_step, serve_step, serve_item, after_serve}
-use Rattle.kapi_core.specs.Stands.{IsLink, AreLinks, Serves, StandsFor}
+use Rattle.kapi_core.specs.Machine.{Link, Machine, link_at, unserved, with_link, ended_if, step, open_step, feed_step, serve_step, serve_item, after_serve}
+use Rattle.kapi_core.specs.Stands.{IsLink, AreLinks, Serves, StandsFor, is_early}
 use Rattle.kapi_core.proofs.AlikeLinks.{link_there, link_missing, links_set, links_inserted, links_removed, links_counted, removed_set}
 use Rattle.kapi_core.proofs.Served.{serves_rest, serves_more, serves_next}
 
@@ -40,6 +40,28 @@ pub made_for : (s : State) (es : List (ℕ × Connection)) (n : ℕ) (m : Machin
     → StandsFor s es n m → ((ps : List (ℕ × Link)) → AreLinks es ps → Made t fs k (machine_of s n ps) e a) → Made t fs k m e a
 made_for s es n m t fs k e a h f =
     let P : Machine → Type 0 = λ m. Made t fs k m e a in subst P (machine_is s es n m h) (f m.links h.links)
+
+-- what the machine that is stood for answers is not early
+pub not_early : (s : State) (es : List (ℕ × Connection)) (n : ℕ) (m : Machine) (e : Event) → StandsFor s es n m
+    → ((ps : List (ℕ × Link)) → AreLinks es ps → is_early (step (machine_of s n ps) e).0 ≡ false) → is_early (step m e).0 ≡ false
+not_early s es n m e h f = let P : Machine → Type 0 = λ m. is_early (step m e).0 ≡ false in subst P (machine_is s es n m h) (f m.links h.links)
+
+-- an answer that is not early
+pub told_late : (m : Machine) (e : Event) (a : Answer) → a ≡ (step m e).0 → is_early a ≡ false → is_early (step m e).0 ≡ false
+told_late m e a is late = sym (ap is_early is) ∙ late
+
+-- a request is answered late, if at all
+pub served_late : (m : Machine) (conn : ConnId) → is_early (step m (event.Serve conn)).0 ≡ false
+unfolding step serve_step serve_item after_serve
+served_late m conn = late_at conn.0 (link_at conn.0 m) m
+  where
+    late_item : (id : ℕ) (l : Link) (o : Option (Result HttpRequest HttpFault)) (m : Machine) → is_early (serve_item id l o m).0 ≡ false
+    late_item id l None m = refl
+    late_item id l (Some item) m = refl
+
+    late_at : (id : ℕ) (o : Option Link) (m : Machine) → is_early (serve_step id o m).0 ≡ false
+    late_at id None m = refl
+    late_at id (Some l) m = late_item id l (first (unserved l)) m
 
 -- a connection without bytes
 abbrev pub new_connection : Identity → Connection

@@ -13,4 +13,4 @@ Feeds old new id piece (Ok done) = (c : Connection) × (lookup (is_at (nat_cmp i
     × (new ≡ set_value (is_at (nat_cmp id)) old (record c { inbox = record { kept = c.inbox.kept ++ piece; ended = false } }))
 Feeds old new id piece (Err Full) = (c : Connection) × (lookup (is_at (nat_cmp id)) old ≡ Some c) × (2097152 < length c.inbox.kept + length piece) × (new ≡ old)
 Feeds old new id piece (Err Ended) = ((lookup (is_at (nat_cmp id)) old ≡ None) ⊎ ((c : Connection) × (lookup (is_at (nat_cmp id)) old ≡ Some c) × (c.inbox.ended ≡ true))) × (new ≡ old)
-Feeds old new id piece (Err Memory) = new ≡ old
+Feeds old new id piece (Err Memory) = (c : Connection) × (lookup (is_at (nat_cmp id)) old ≡ Some c) × (length c.inbox.kept + length piece ≤ 2097152) × (new ≡ old)

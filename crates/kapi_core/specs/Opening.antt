@@ -2,6 +2,7 @@
 use Rattle.std.specs.Prelude.{ℕ, false, List, [], codes, Result, Ok, Err}
 use Rattle.serde_json.specs.Data.{Data}
 use Rattle.kapi_object.specs.Admission.{object_of}
+use Rattle.kapi_object.specs.Kinds.{rbac_group}
 use Rattle.kapi_object.specs.declared.fault.ObjectError.{ObjectError}
 use Rattle.kapi_object.specs.declared.row.ResourceRow.{ResourceRow}
 use Rattle.kapi_object.specs.declared.row.Schema.{Schema}
@@ -35,9 +36,6 @@ unfoldable pub with_opening : List ℕ → List ℕ → List ℕ → Schema → 
 with_opening group plural kind of name body s = created_if s (cluster_key group plural name) (object_of (cluster_row group plural kind of) body)
 
 -- ---- the five objects, in their order
-
-abbrev pub rbac_group : List ℕ
-rbac_group = codes "rbac.authorization.k8s.io"
 
 abbrev pub with_cluster_role : List ℕ → List ℕ → Plain → Plain
 with_cluster_role name body s = with_opening rbac_group (codes "clusterroles") (codes "ClusterRole") schema.ClusterRole name body s

@@ -1,5 +1,5 @@
 -- When the running machine stands for one that is data.
-use Rattle.std.specs.Prelude.{◌≡◌, ℕ, zero, suc, false, List, [], ◌∷◌, ◌++◌, drop, Option, None, Some, Result, Ok, Err}
+use Rattle.std.specs.Prelude.{◌≡◌, ℕ, zero, suc, Bool, true, false, List, [], ◌∷◌, ◌++◌, drop, Option, None, Some, Result, Ok, Err}
 use Rattle.std.specs.declared.alloc.AllocError.{AllocError}
 use Rattle.kapi_http.specs.Cut.{first}
 use Rattle.kapi_http.specs.declared.message.HttpRequest.{HttpRequest}
@@ -54,18 +54,29 @@ Makes old new event answer = (m : Machine) → Stands old m → (answer ≡ (ste
 abbrev pub Keeps : Core → Core → Type 0
 Keeps old new = (m : Machine) → Stands old m → Stands new m
 
+-- the answers that are told before any memory is taken
+abbrev pub is_early : Answer → Bool
+is_early told.TooMany = true
+is_early told.Full = true
+is_early told.Ended = true
+is_early _ = false
+
+-- memory ran out: nothing was changed, and none of those answers was due
+abbrev pub RunsOut : Core → Core → Event → Type 0
+RunsOut old new event = (m : Machine) → Stands old m → Stands new m × (is_early (step m event).0 ≡ false)
+
 -- ---- what each call answers
 
 abbrev pub Opens : Core → Core → Identity → Result ConnId OpenError → Type 0
 Opens old new identity (Ok id) = Makes old new (event.Open identity) (told.Opened id)
 Opens old new identity (Err refused.TooMany) = Makes old new (event.Open identity) told.TooMany
-Opens old new identity (Err refused.Memory) = Keeps old new
+Opens old new identity (Err refused.Memory) = RunsOut old new (event.Open identity)
 
 abbrev pub TakesIn : Core → Core → ConnId → List ℕ → Result (Unit {0}) FeedError → Type 0
 TakesIn old new conn piece (Ok done) = Makes old new (event.Feed conn piece) told.Done
 TakesIn old new conn piece (Err fed.Full) = Makes old new (event.Feed conn piece) told.Full
 TakesIn old new conn piece (Err fed.Ended) = Makes old new (event.Feed conn piece) told.Ended
-TakesIn old new conn piece (Err fed.Memory) = Keeps old new
+TakesIn old new conn piece (Err fed.Memory) = RunsOut old new (event.Feed conn piece)
 
 -- what is sent, if anything is
 abbrev pub sent_if : Option Output → Answer
@@ -74,11 +85,11 @@ sent_if (Some output) = told.Sent output
 
 abbrev pub Sends : Core → Core → Event → Result (Option Output) AllocError → Type 0
 Sends old new event (Ok output) = Makes old new event (sent_if output)
-Sends old new event (Err e) = Keeps old new
+Sends old new event (Err e) = RunsOut old new event
 
 abbrev pub Steps : Core → Core → Event → Result Answer AllocError → Type 0
 Steps old new event (Ok answer) = Makes old new event answer
-Steps old new event (Err e) = Keeps old new
+Steps old new event (Err e) = RunsOut old new event
 
 -- one step more was made, and its answer put at the end
 abbrev pub Pushes : Core → Core → Event → List Answer → List Answer → Type 0

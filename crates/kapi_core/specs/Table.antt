@@ -2,6 +2,7 @@
 use Rattle.std.specs.Prelude.{ℕ, Bool, true, false, not, ◌&&◌, ◌||◌, List, [], ◌∷◌, codes}
 use Rattle.std.specs.List.{list_all, list_any}
 use Rattle.std.specs.Str.{bytes_eq}
+use Rattle.kapi_object.specs.Kinds.{rbac_group}
 use Rattle.kapi_object.specs.declared.row.ResourceRow.{ResourceRow}
 use Rattle.kapi_object.specs.declared.row.Schema.{Schema}
 use Rattle.kapi_object.specs.declared.row.Schema.TheVariants as schema
@@ -10,9 +11,6 @@ use Rattle.kapi_object.specs.declared.row.Schema.TheVariants as schema
 abbrev pub is_row : List ℕ → List ℕ → List ℕ → ResourceRow → Bool
 is_row group plural kind row =
     bytes_eq row.group group && (bytes_eq row.version (codes "v1") && (bytes_eq row.plural plural && bytes_eq row.kind kind))
-
-abbrev pub rbac_group : List ℕ
-rbac_group = codes "rbac.authorization.k8s.io"
 
 -- the schemas, one test each
 abbrev pub is_open : Schema → Bool

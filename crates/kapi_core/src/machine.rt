@@ -82,7 +82,7 @@ impl Core {
     }
 
     /// Whether one connection more may be opened.
-    fn has_room(&self) -> bool
+    pub(crate) fn has_room(&self) -> bool
         ensures room { result ≡ (nat_lt (length self.now.connections.entries) 256 && nat_le self.now.next_id 999999999999999999) }
         ensures low { IsTrue result → self.now.next_id ≤ 999999999999999999 }
     {

@@ -4,7 +4,7 @@ ghost use Rattle.kapi_store.specs.Plain.{plain_of, creation};
 ghost use Rattle.kapi_core.specs.Opening.{cluster_key, cluster_row, with_opening, written_if, opening_store};
 ghost use Rattle.kapi_core.specs.Opening.{with_default_namespace, with_cluster_admin, with_basic_user, with_cluster_admin_binding, with_basic_user_binding};
 
-use kapi_object::{Object, ObjectError, ResourceRow, Schema, read_object};
+use kapi_object::{Object, ObjectError, RBAC_GROUP, ResourceRow, Schema, read_object};
 use kapi_store::{Key, Store, StoreError};
 use kapi_text::{Memory, Sequence, Text};
 use std::alloc::{AllocError, Global};
@@ -22,8 +22,6 @@ struct OpeningObject<'a> {
     name: &'a str,
     body: &'a [u8],
 }
-
-const RBAC: &str = "rbac.authorization.k8s.io";
 
 /// A store with the opening objects at the five revisions after `first`.
 #[tactic(auto, unfolding(crate::specs::Opening::opening_store))]
@@ -61,7 +59,7 @@ fn create_cluster_admin(alloc: Global, store: &mut Store) -> Result<(), Memory>
     ensures { OnOk result (plain_of store.new ≡ with_cluster_admin (plain_of store.old)) }
 {
     let opening = OpeningObject {
-        group: RBAC,
+        group: RBAC_GROUP,
         plural: "clusterroles",
         kind: "ClusterRole",
         schema: Schema::ClusterRole,
@@ -77,7 +75,7 @@ fn create_basic_user(alloc: Global, store: &mut Store) -> Result<(), Memory>
     ensures { OnOk result (plain_of store.new ≡ with_basic_user (plain_of store.old)) }
 {
     let opening = OpeningObject {
-        group: RBAC,
+        group: RBAC_GROUP,
         plural: "clusterroles",
         kind: "ClusterRole",
         schema: Schema::ClusterRole,
@@ -92,7 +90,7 @@ fn create_cluster_admin_binding(alloc: Global, store: &mut Store) -> Result<(), 
     ensures { OnOk result (plain_of store.new ≡ with_cluster_admin_binding (plain_of store.old)) }
 {
     let opening = OpeningObject {
-        group: RBAC,
+        group: RBAC_GROUP,
         plural: "clusterrolebindings",
         kind: "ClusterRoleBinding",
         schema: Schema::ClusterRoleBinding,
@@ -107,7 +105,7 @@ fn create_basic_user_binding(alloc: Global, store: &mut Store) -> Result<(), Mem
     ensures { OnOk result (plain_of store.new ≡ with_basic_user_binding (plain_of store.old)) }
 {
     let opening = OpeningObject {
-        group: RBAC,
+        group: RBAC_GROUP,
         plural: "clusterrolebindings",
         kind: "ClusterRoleBinding",
         schema: Schema::ClusterRoleBinding,

@@ -32,6 +32,9 @@ impl Core {
     fn open_for(&mut self, identity: &Identity) -> Result<Answer, Memory>
         ensures { Steps self.old self.new (Events.Open identity.now) result }
     {
+        if !self.has_room() {
+            return Ok(Answer::TooMany);
+        }
         let identity = identity.copy(self.allocator())?;
         match self.open(identity) {
             Ok(id) => Ok(Answer::Opened(id)),

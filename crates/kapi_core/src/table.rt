@@ -1,9 +1,9 @@
 ghost use Rattle.std.specs.Prelude.{◌≡◌};
 ghost use Rattle.std.specs.List.{list_all, list_any};
-ghost use Rattle.kapi_core.specs.Table.{fits, has_rows as has_rows_of, is_known as is_known_of, is_like as is_like_of, is_row as is_row_of, rbac_group, rows_differ as rows_differ_of};
+ghost use Rattle.kapi_core.specs.Table.{fits, has_rows as has_rows_of, is_known as is_known_of, is_like as is_like_of, is_row as is_row_of, rows_differ as rows_differ_of};
 ghost use Rattle.kapi_core.specs.Table.{is_namespaces as is_namespaces_of, is_roles as is_roles_of, is_cluster_roles as is_cluster_roles_of, is_role_bindings as is_role_bindings_of, is_cluster_role_bindings as is_cluster_role_bindings_of};
 
-use kapi_object::{ResourceRow, Schema};
+use kapi_object::{RBAC_GROUP, ResourceRow, Schema};
 
 /// Whether a table of resources can be served: it has the rows of `namespaces` and of the four kinds of the policy as
 /// Kubernetes has them, every further row is open, and no two rows share group and plural, or group and kind. Takes
@@ -75,13 +75,11 @@ fn is_namespaces(row: &ResourceRow) -> bool
     is_row(row, "", "namespaces", "Namespace") && (!row.namespaced && row.has_status)
 }
 
-const RBAC: &str = "rbac.authorization.k8s.io";
-
 #[tactic(auto, unfolding(crate::specs::Table::is_roles))]
 fn is_roles(row: &ResourceRow) -> bool
     ensures { result ≡ is_roles_of row.now }
 {
-    is_row(row, RBAC, "roles", "Role")
+    is_row(row, RBAC_GROUP, "roles", "Role")
         && (row.namespaced && (!row.has_status && matches!(row.schema, Schema::Role)))
 }
 
@@ -89,7 +87,7 @@ fn is_roles(row: &ResourceRow) -> bool
 fn is_cluster_roles(row: &ResourceRow) -> bool
     ensures { result ≡ is_cluster_roles_of row.now }
 {
-    is_row(row, RBAC, "clusterroles", "ClusterRole")
+    is_row(row, RBAC_GROUP, "clusterroles", "ClusterRole")
         && (!row.namespaced && (!row.has_status && matches!(row.schema, Schema::ClusterRole)))
 }
 
@@ -97,7 +95,7 @@ fn is_cluster_roles(row: &ResourceRow) -> bool
 fn is_role_bindings(row: &ResourceRow) -> bool
     ensures { result ≡ is_role_bindings_of row.now }
 {
-    is_row(row, RBAC, "rolebindings", "RoleBinding")
+    is_row(row, RBAC_GROUP, "rolebindings", "RoleBinding")
         && (row.namespaced && (!row.has_status && matches!(row.schema, Schema::RoleBinding)))
 }
 
@@ -105,7 +103,7 @@ fn is_role_bindings(row: &ResourceRow) -> bool
 fn is_cluster_role_bindings(row: &ResourceRow) -> bool
     ensures { result ≡ is_cluster_role_bindings_of row.now }
 {
-    is_row(row, RBAC, "clusterrolebindings", "ClusterRoleBinding")
+    is_row(row, RBAC_GROUP, "clusterrolebindings", "ClusterRoleBinding")
         && (!row.namespaced
             && (!row.has_status && matches!(row.schema, Schema::ClusterRoleBinding)))
 }

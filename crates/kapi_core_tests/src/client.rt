@@ -1,4 +1,6 @@
-use kapi_core::{Answer, ConnId, Core, Event};
+ghost use Rattle.std.specs.Prelude.{◌≤◌};
+
+use kapi_core::{Answer, ConnId, Core, Event, LAST_FIRST};
 use kapi_object::{ResourceRow, Schema};
 use kapi_rbac_types::Identity;
 use kapi_text::{Memory, Sequence, Text};
@@ -6,10 +8,17 @@ use std::alloc::Global;
 
 /// A machine that serves namespaces and configmaps and begins at revision 0.
 pub fn new_core(alloc: Global) -> Result<Core, Memory> {
+    core_at(alloc, 0)
+}
+
+/// The same, which begins at a revision.
+pub fn core_at(alloc: Global, first: u64) -> Result<Core, Memory>
+    requires { first ≤ LAST_FIRST }
+{
     let mut rows = Vec::new(alloc);
     rows.push(core_row(alloc, "namespaces", "Namespace", false)?)?;
     rows.push(core_row(alloc, "configmaps", "ConfigMap", true)?)?;
-    Core::new(alloc, Sequence::new(rows), 0)
+    Core::new(alloc, Sequence::new(rows), first)
 }
 
 fn core_row(

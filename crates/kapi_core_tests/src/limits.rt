@@ -1,4 +1,4 @@
-use crate::client::{exchange, feed, new_core, open_root, open_user};
+use crate::client::{core_at, exchange, feed, new_core, open_root, open_user};
 use kapi_core::{Answer, ConnId, Event};
 use std::test::Fail;
 
@@ -44,6 +44,32 @@ fn refuses_a_head_of_16_384_bytes(rt: HostRuntime) -> Result<(), Fail> {
     let answer = core.step(&Event::Serve(ConnId(0)))?;
     assert!(rt; closes_with(&answer, b"HTTP/1.1 431 Request Header Fields Too Large\r\n"));
     assert!(rt; matches!(core.step(&feed(alloc, 0, b"")?)?, Answer::Ended));
+    Ok(())
+}
+
+#[test]
+fn answers_503_where_revisions_are_used_up(rt: HostRuntime) -> Result<(), Fail> {
+    let alloc = rt.alloc();
+    let mut core = core_at(alloc, 281_474_976_710_650)?;
+    core.step(&open_root(alloc)?)?;
+    let create =
+        b"POST /api/v1/namespaces/default/configmaps HTTP/1.1\r\nHost: a\r\nContent-Length: 25\r\n\r\n{\"metadata\":{\"name\":\"a\"}}";
+    let refused = exchange(alloc, &mut core, 0, create)?;
+    assert!(rt;
+        refused
+            .as_slice()
+            .starts_with(b"HTTP/1.1 503 Service Unavailable\r\n")
+    );
+    assert!(rt;
+        str::from_utf8(refused.as_slice())?.contains("\"message\":\"no revision is left\"")
+    );
+    let get = b"GET /api/v1/namespaces/default HTTP/1.1\r\nHost: a\r\n\r\n";
+    let found = exchange(alloc, &mut core, 0, get)?;
+    assert!(rt;
+        str::from_utf8(found.as_slice())?.contains(
+            "\"uid\":\"00000000-0000-4000-8000-fffffffffffb\""
+        )
+    );
     Ok(())
 }
 

@@ -1,7 +1,7 @@
 use Rattle.std.proofs.Common.{◌≡◌, ◌∙◌, ◌++◌, ◌+◌, ◌≤◌, false, length, sym, ap, subst, Result, OnOk, OnErr}
 use Rattle.std.specs.Option.{option_copied_mut}
 use Rattle.kapi_http.specs.declared.inbox.FeedError.{FeedError}
-use Rattle.kapi_core.proofs.Feeding.{fed_from}
+use Rattle.kapi_core.proofs.Feeding.{fed_from, memory_fits}
 use Rattle.kapi_core.proofs.links.feed_at.Goals as goal
 
 pub returns-in-Some : goal.returns-in-Some
@@ -19,3 +19,4 @@ returns-in-Some c =
     (λ error e. subst Unchanged e c.feed.ensures.err)
     (λ e. c.feed.ensures.ended.0 e)
     (λ e. (c.feed.ensures.full.0 e).1)
+    (memory_fits c.feed.result was.inbox.ended (length was.inbox.kept + length piece) c.feed.ensures.ended.1 c.feed.ensures.full.1)

@@ -3,6 +3,7 @@ use Rattle.std.specs.BTreeMap.{insert_entry}
 use Rattle.std.specs.Ordering.{nat_cmp}
 use Rattle.kapi_core.specs.declared.event.Event.TheVariants as event
 use Rattle.kapi_core.specs.declared.event.Answer.TheVariants as told
+use Rattle.kapi_core.proofs.RunsOut.{room_is_late}
 use Rattle.kapi_core.proofs.Steps.{made_for, opened, not_opened}
 use Rattle.kapi_core.proofs.machine.Core.open.Goals as goal
 
@@ -18,3 +19,8 @@ returns c = λ m h.
     made_for old.store old.connections.entries old.next_id m old.store c.insert.new.self.entries (old.next_id + 1) (event.Open c.args.identity) (told.Opened (record { 0 = old.next_id })) h
     (opened old.store old.connections.entries c.insert.new.self.entries old.next_id c.args.identity (sym c.has_room.ensures.room ∙ c.if-not-has_room.false)
     (c.in-Ok.ensures.entries ∙ ap (λ u. insert_entry nat_cmp old.connections.entries old.next_id (record { identity = c.args.identity; inbox = u })) c.new.ensures))
+
+pub returns-in-Err : goal.returns-in-Err
+returns-in-Err c = λ m h.
+    let old = c.args.self.now in
+    (rw c.in-Err.ensures.err h, room_is_late old.store old.connections.entries old.next_id m c.args.identity (sym c.has_room.ensures.room ∙ c.if-not-has_room.false) h)
