@@ -9,23 +9,22 @@ mod tests;
 use command_line::command;
 use kapi_script::script_run;
 use program::{Command, CommandFault};
-use std::env;
+use std::env::{self, Env};
 use std::io::{self, BufWriter};
 use std::process::ExitCode;
 
 fn main(rt: HostRuntime) -> io::Result<ExitCode> {
-    let mut words = Vec::new(rt.alloc());
-    for word in env::args(&rt)? {
-        words.push(word)?;
-    }
-    let mut borrowed = Vec::new(rt.alloc());
-    for word in words.as_slice() {
-        borrowed.push(word.as_str())?;
-    }
-    match command(rt.alloc(), borrowed.as_slice()) {
+    match named_command(&rt) {
         Ok(Command::Script) => run_script(&rt),
         Err(fault) => refuse(&rt, &fault),
     }
+}
+
+/// The command that the words of the command line name.
+fn named_command<R: Env + AllocGlobal>(rt: &R) -> Result<Command, CommandFault> {
+    let words: Vec<String> = env::args(rt)?.collect(rt.alloc())?;
+    let borrowed: Vec<&str> = words.iter().map(|word| word.as_str()).collect(rt.alloc())?;
+    command(rt.alloc(), borrowed.as_slice())
 }
 
 /// Plays the script on standard input: status 0, or 1 after a line on standard error.

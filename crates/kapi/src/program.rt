@@ -1,3 +1,5 @@
+use std::alloc::AllocError;
+use std::io;
 use thiserror::Error;
 
 /// What the command line asks for.
@@ -14,4 +16,20 @@ pub enum CommandFault {
     Words,
     #[error("out of memory")]
     Memory,
+}
+
+impl From<AllocError> for CommandFault {
+    fn from(_refused: AllocError) -> CommandFault {
+        CommandFault::Memory
+    }
+}
+
+/// The words could not be read: one is no UTF-8, or memory ran out.
+impl From<io::Error> for CommandFault {
+    fn from(error: io::Error) -> CommandFault {
+        match error.kind() {
+            io::ErrorKind::OutOfMemory => CommandFault::Memory,
+            _ => CommandFault::Words,
+        }
+    }
 }

@@ -1,6 +1,7 @@
 use crate::command_line::command;
 use crate::program::{Command, CommandFault};
 use std::alloc::Global;
+use std::io;
 use std::test::Fail;
 
 #[test]
@@ -16,5 +17,14 @@ fn reads_the_command_line(rt: HostRuntime) -> Result<(), Fail> {
         command(alloc, &["kapi", "script", "x"]),
         Err(CommandFault::Words)
     );
+    Ok(())
+}
+
+#[test]
+fn words_that_cannot_be_read_are_told(rt: HostRuntime) -> Result<(), Fail> {
+    let no_text = io::Error::from(io::ErrorKind::InvalidData);
+    assert_eq!(rt; CommandFault::from(no_text), CommandFault::Words);
+    let refused = io::Error::from(io::ErrorKind::OutOfMemory);
+    assert_eq!(rt; CommandFault::from(refused), CommandFault::Memory);
     Ok(())
 }

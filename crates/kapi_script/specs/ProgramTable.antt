@@ -1,5 +1,6 @@
 -- The resources that the programs serve (Kubernetes API, v1, apps/v1 and rbac.authorization.k8s.io/v1).
 use Rattle.std.specs.Prelude.{ℕ, Bool, true, false, List, [], ◌∷◌, codes}
+use Rattle.kapi_object.specs.Kinds.{rbac_group}
 use Rattle.kapi_object.specs.declared.row.ResourceRow.{ResourceRow}
 use Rattle.kapi_object.specs.declared.row.Schema.{Schema}
 use Rattle.kapi_object.specs.declared.row.Schema.TheVariants as schema
@@ -14,7 +15,7 @@ open_row group plural kind namespaced has_status = row group plural kind namespa
 
 -- a resource of the policy
 abbrev pub policy_row : List ℕ → List ℕ → Bool → Schema → ResourceRow
-policy_row plural kind namespaced of = row (codes "rbac.authorization.k8s.io") plural kind namespaced false of
+policy_row plural kind namespaced of = row rbac_group plural kind namespaced false of
 
 unfoldable pub program_rows : List ResourceRow
 program_rows =

@@ -214,7 +214,7 @@ fn end_script<W: Write>(
 /// Plays the events that a reader gives, line by line, and writes the answers as they are made.
 ///
 /// # Errors
-/// `BadLine` at the first line of no known form; `Read` where the reader fails or gives more than 2^32 pieces;
+/// `BadLine` at the first line of no known form; `Read` where the reader fails or gives 2^32 pieces or more;
 /// `Write` where the writer fails; `Memory` where memory runs out outside an event.
 pub fn script_run<R: Read, W: Write>(
     alloc: Global,

@@ -2,11 +2,9 @@ ghost use Rattle.std.specs.Prelude.{◌≡◌, IfOk, map};
 ghost use Rattle.kapi_script.specs.ProgramTable.{open_row, policy_row, program_rows};
 ghost use Rattle.kapi_script.specs.Resources.{row_of};
 
-use kapi_object::{ResourceRow, Schema};
+use kapi_object::{RBAC_GROUP, ResourceRow, Schema};
 use kapi_text::{Memory, Sequence, Text};
 use std::alloc::Global;
-
-const RBAC: &str = "rbac.authorization.k8s.io";
 
 /// A resource of version v1, as `kubectl api-resources` lists it.
 #[derive(Clone, Copy)]
@@ -99,7 +97,7 @@ fn policy(plural: &'static str, kind: &'static str, namespaced: bool, schema: Sc
     ensures { row_of result ≡ policy_row plural.now kind.now namespaced schema }
 {
     Resource {
-        group: RBAC,
+        group: RBAC_GROUP,
         plural,
         kind,
         namespaced,

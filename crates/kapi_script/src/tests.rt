@@ -1,4 +1,6 @@
 use crate::script::{ScriptFault, script_run};
+use crate::table::program_table;
+use kapi_core::table_fits;
 use std::test::Fail;
 
 const CREATE_AND_GET: &[u8] =
@@ -87,5 +89,11 @@ fn stops_at_a_bad_line(rt: HostRuntime) -> Result<(), Fail> {
         );
         assert_eq!(rt; writer.as_slice(), b"conn 0\n".as_slice());
     }
+    Ok(())
+}
+
+#[test]
+fn serves_a_table_that_fits(rt: HostRuntime) -> Result<(), Fail> {
+    assert!(rt; table_fits(program_table(rt.alloc())?.as_slice()));
     Ok(())
 }
