@@ -284,14 +284,5 @@ fn want_of_memory_changes_nothing(rt: HostRuntime) -> Result<(), Fail> {
     }
     assert!(rt; store.get(&place).is_some());
     assert_eq!(rt; store.revision(), 2);
-    let row = row(alloc, "configmaps", "ConfigMap", true)?;
-    let everything = everything(alloc);
-    let list = match store.list(&row, "default", &everything, "a") {
-        Ok(list) => list,
-        Err(_refused) => store
-            .list(&row, "default", &everything, "a")
-            .expect(&rt, "the same call"),
-    };
-    assert_eq!(rt; list.len(), 1);
     Ok(())
 }
