@@ -1,4 +1,4 @@
-ghost use Rattle.std.specs.Prelude.{◌≡◌, [], codes, true, false, Some, OnOk, IfOk, ok_or, string_bytes};
+ghost use Rattle.std.specs.Prelude.{◌≡◌, [], true, false, Some, OnOk, IfOk, ok_or, string_bytes};
 ghost use Rattle.serde_json.specs.Data.{Data, object};
 ghost use Rattle.serde_json.specs.Find.{get};
 ghost use Rattle.serde_json.specs.View.{view, members_view};

@@ -1,4 +1,4 @@
-ghost use Rattle.std.specs.Prelude.{◌≡◌, IfOk};
+ghost use Rattle.std.specs.Prelude.{◌≡◌};
 ghost use Rattle.std.specs.List.{list_all};
 ghost use Rattle.kapi_object.specs.Selector.{is_listed as is_listed_of, is_met as is_met_of, has_label as has_label_of};
 ghost use Rattle.kapi_object.specs.Selector.{labels_of};

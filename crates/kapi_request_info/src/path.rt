@@ -1,6 +1,6 @@
 //! The segments of a path (RFC 3986 sections 2.1 and 3.3).
-ghost use Rattle.std.specs.Prelude.{◌≡◌, ◌==◌, List, map, drop, IfOk, not};
-ghost use Rattle.std.specs.List.{slice_split, list_all, list_any};
+ghost use Rattle.std.specs.Prelude.{◌≡◌, ◌==◌, map, drop, IfOk};
+ghost use Rattle.std.specs.List.{slice_split, list_all};
 ghost use Rattle.std.specs.Option.{option_copied};
 ghost use Rattle.percent_encoding.specs.Percent.{percent_decode as decoded_of};
 ghost use Rattle.kapi_request_info.specs.Given.{Gives};

@@ -1,8 +1,6 @@
 //! Lists: the objects of a resource, of one namespace or name or of all.
 
-ghost use Rattle.std.specs.Prelude.{◌≡◌, IfOk, map, string_bytes};
-ghost use Rattle.std.specs.List.Sorted.{IsStrictlySortedBy};
-ghost use Rattle.std.specs.Map.{keys_of};
+ghost use Rattle.std.specs.Prelude.{◌≡◌, IfOk, map};
 ghost use Rattle.kapi_object.specs.Object.{tree_of};
 ghost use Rattle.kapi_store.specs.State.{live};
 ghost use Rattle.kapi_store.specs.Listing.{is_asked as is_asked_of, is_within as is_within_of, is_listed as is_listed_of, listed_objects, shown};
