@@ -1,0 +1,18 @@
+-- What a fallible call gives: the result of its definition, unless memory ran out.
+use Rattle.std.specs.Prelude.{◌≡◌, Option, Some, None, Result, Ok, Err}
+
+-- a call that failed with that fault, where the definition gives it; nothing is said where it failed with none, for want of memory
+abbrev pub Fails : {Y F : Type 0} → Option F → Result Y F → Type 0
+Fails None given = Unit {0}
+Fails (Some fault) given = given ≡ Err fault
+
+-- what was returned, under its view, is what the definition gives; a view of the errors tells the fault of each, and none of want of memory
+abbrev pub Gives : {X Y E F : Type 0} → (E → Option F) → (X → Y) → Result X E → Result Y F → Type 0
+Gives fault view (Ok x) given = given ≡ Ok (view x)
+Gives fault view (Err e) given = Fails (fault e) given
+
+infixl 10 ◌>>=◌
+-- a check after another: the first that fails decides
+abbrev pub ◌>>=◌ : {A B F : Type 0} → Result A F → (A → Result B F) → Result B F
+(Ok x) >>= f = f x
+(Err e) >>= f = Err e
