@@ -1,5 +1,5 @@
-mod Firsts
-mod Keys
-mod Inserts
-mod Decisions
-mod Sets
+pub mod Firsts
+pub mod Keys
+pub mod Inserts
+pub mod Decisions
+pub mod Sets

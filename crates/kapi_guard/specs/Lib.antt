@@ -1,0 +1,5 @@
+pub mod Writes
+pub mod Exempt
+pub mod Authority
+pub mod Checks
+pub mod Laws

@@ -1,0 +1,70 @@
+//! Who writes rules without holding them.
+ghost use Rattle.std.specs.Prelude.{◌≡◌, IfOk, codes};
+ghost use Rattle.kapi_guard.specs.Exempt.{binding as binding_of, escalating as escalating_of, exemption as exemption_of, is_exempt as is_exempt_by, plural as plural_of, role_point as role_point_of};
+
+use crate::write::PolicyWrite;
+use kapi_object::RBAC_GROUP;
+use kapi_policy::Policy;
+use kapi_rbac_types::{Identity, RoleKind, RoleRef};
+use kapi_rules::{Point, ResourcePoint};
+use kapi_text::{Memory, Text};
+use std::alloc::Global;
+
+/// Whether the identity may write without holding the rules: where he may escalate the roles that the request asks for, or bind
+/// the role that a binding refers to. Members of `system:masters` may do both.
+pub fn is_exempt<P: Policy>(
+    alloc: Global,
+    policy: &P,
+    identity: &Identity,
+    asked: &str,
+    write: &PolicyWrite,
+) -> Result<bool, Memory>
+    ensures { IfOk result (λ b. b ≡ is_exempt_by (P.content policy.now) identity.now asked.now write.now) }
+{
+    let point = exemption(alloc, asked, write)?;
+    Ok(policy.decide(identity, write.scope(), &point).is_allowed())
+}
+
+fn exemption(alloc: Global, asked: &str, write: &PolicyWrite) -> Result<Point, Memory>
+    ensures { IfOk result (λ p. p ≡ exemption_of asked.now write.now) }
+{
+    match write {
+        PolicyWrite::Role(_, _) => escalating(alloc, RoleKind::Role, asked),
+        PolicyWrite::ClusterRole(_, _) => escalating(alloc, RoleKind::ClusterRole, asked),
+        PolicyWrite::RoleBinding(_, versions) => binding(alloc, &versions.new.role_ref),
+        PolicyWrite::ClusterRoleBinding(_, versions) => binding(alloc, &versions.new.role_ref),
+    }
+}
+
+fn escalating(alloc: Global, kind: RoleKind, name: &str) -> Result<Point, Memory>
+    ensures { IfOk result (λ p. p ≡ escalating_of kind name.now) }
+{
+    role_point(alloc, "escalate", kind, name)
+}
+
+fn binding(alloc: Global, role: &RoleRef) -> Result<Point, Memory>
+    ensures { IfOk result (λ p. p ≡ binding_of role.now) }
+{
+    role_point(alloc, "bind", role.kind, role.name.as_str())
+}
+
+fn role_point(alloc: Global, verb: &str, kind: RoleKind, name: &str) -> Result<Point, Memory>
+    ensures { IfOk result (λ p. p ≡ role_point_of verb.now kind name.now) }
+{
+    Ok(Point::Resource(ResourcePoint {
+        verb: Text::copy_of(alloc, verb)?,
+        group: Text::copy_of(alloc, RBAC_GROUP)?,
+        resource: Text::copy_of(alloc, plural(kind))?,
+        subresource: Text::copy_of(alloc, "")?,
+        name: Text::copy_of(alloc, name)?,
+    }))
+}
+
+fn plural(kind: RoleKind) -> &'static str
+    ensures { result.now ≡ plural_of kind }
+{
+    match kind {
+        RoleKind::Role => "roles",
+        RoleKind::ClusterRole => "clusterroles",
+    }
+}

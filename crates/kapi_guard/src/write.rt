@@ -1,0 +1,78 @@
+ghost use Rattle.std.specs.Prelude.{◌≡◌, ◌||◌};
+ghost use Rattle.std.specs.Option.{is_some};
+ghost use Rattle.kapi_guard.specs.Writes.{is_aggregated as has_aggregation_rule, put_of, scope as scope_of, was_aggregated as was_aggregated_at};
+
+use kapi_policy::{NamespacedName, PolicyPut};
+use kapi_rbac_types::{ClusterRole, ClusterRoleBinding, Role, RoleBinding};
+use kapi_text::Text;
+
+/// An object as it stood, if it did, and as it is to stand.
+#[derive(Debug, Drop)]
+pub struct Versions<T> {
+    pub old: Option<T>,
+    pub new: T,
+}
+
+/// A create, update or patch of a policy object at its place.
+#[derive(Debug, Drop)]
+pub enum PolicyWrite {
+    Role(NamespacedName, Versions<Role>),
+    ClusterRole(Text, Versions<ClusterRole>),
+    RoleBinding(NamespacedName, Versions<RoleBinding>),
+    ClusterRoleBinding(Text, Versions<ClusterRoleBinding>),
+}
+
+impl PolicyWrite {
+    /// The namespace in which the write counts, empty where it counts cluster-wide.
+    pub fn scope(&self) -> &str
+        ensures { result.now ≡ scope_of self.now }
+    {
+        match self {
+            PolicyWrite::Role(place, _) => place.namespace.as_str(),
+            PolicyWrite::RoleBinding(place, _) => place.namespace.as_str(),
+            PolicyWrite::ClusterRole(_, _) => "",
+            PolicyWrite::ClusterRoleBinding(_, _) => "",
+        }
+    }
+
+    /// Whether the write is one of a cluster role that takes its rules from others, as it stood or as it is to stand.
+    pub fn is_aggregated(&self) -> bool
+        ensures { result ≡ has_aggregation_rule self.now }
+    {
+        match self {
+            PolicyWrite::ClusterRole(_, versions) => is_aggregated(versions),
+            _ => false,
+        }
+    }
+
+    /// The new object at its place. Takes no memory.
+    pub fn into_put(self) -> PolicyPut
+        ensures { result ≡ put_of self }
+    {
+        match self {
+            PolicyWrite::Role(place, versions) => PolicyPut::Role(place, versions.new),
+            PolicyWrite::ClusterRole(name, versions) => PolicyPut::ClusterRole(name, versions.new),
+            PolicyWrite::RoleBinding(place, versions) => {
+                PolicyPut::RoleBinding(place, versions.new)
+            }
+            PolicyWrite::ClusterRoleBinding(name, versions) => {
+                PolicyPut::ClusterRoleBinding(name, versions.new)
+            }
+        }
+    }
+}
+
+fn is_aggregated(versions: &Versions<ClusterRole>) -> bool
+    ensures { result ≡ (was_aggregated_at versions.now.old || is_some versions.now.new.aggregation_rule) }
+{
+    was_aggregated(versions) || versions.new.aggregation_rule.is_some()
+}
+
+fn was_aggregated(versions: &Versions<ClusterRole>) -> bool
+    ensures { result ≡ was_aggregated_at versions.now.old }
+{
+    match &versions.old {
+        Some(old) => old.aggregation_rule.is_some(),
+        None => false,
+    }
+}
