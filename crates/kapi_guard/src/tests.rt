@@ -12,7 +12,7 @@ use std::test::Fail;
 /// Who holds what: a user, the namespace of the binding, which is empty for one that counts cluster-wide, and the rules. A rule has
 /// verbs, groups, resources, names and URLs, parted by `;`, the entries of each by `,`, and `-` for none; the rules are
 /// parted by spaces, and `rbac` is the API group of roles.
-static HOLDERS: [(&str, &str, &str); 22] = [
+static HOLDERS: [(&str, &str, &str); 23] = [
     (
         "pods-and-secrets",
         "default",
@@ -57,6 +57,7 @@ static HOLDERS: [(&str, &str, &str); 22] = [
     ("pods", "", "get;;pods;-;- update;rbac;clusterroles;-;-"),
     ("secrets", "", "get;;secrets;-;-"),
     ("all-resources", "", "*;*;*;-;-"),
+    ("all-paths", "", "*;-;-;-;*"),
     ("everything", "", "*;*;*;-;- *;-;-;-;*"),
     ("everything-here", "default", "*;*;*;-;- *;-;-;-;*"),
 ];
@@ -70,7 +71,7 @@ static ROLES: [(&str, &str); 3] = [
 
 /// A user and his groups, the name that the request asks for, what is written, its old version where there is one, its new one (rules,
 /// behind `aggregated` where they are taken from others, or a role), and the answer.
-static WRITES: [(&str, &str, &str, &str, &str, &str); 58] = [
+static WRITES: [(&str, &str, &str, &str, &str, &str); 59] = [
     // Each atom is held by itself, and none by verbs and resources of different rules.
     (
         "pods-and-secrets",
@@ -511,7 +512,15 @@ static WRITES: [(&str, &str, &str, &str, &str, &str); 58] = [
         "ClusterRole r",
         "none",
         "aggregated",
-        "authority *;*",
+        "passes",
+    ),
+    (
+        "all-paths",
+        "",
+        "ClusterRole r",
+        "none",
+        "aggregated",
+        "authority *;*;*",
     ),
     (
         "everything-here",
@@ -637,12 +646,14 @@ fn place(alloc: Global, text: &str) -> Result<NamespacedName, AllocError> {
 }
 
 /// Both versions, of which `none` is no old one.
-fn versions<T: Drop>(
+fn versions<T: Drop, Read: Fn(Global, &str) -> Result<T, AllocError>>(
     alloc: Global,
-    read: impl Fn(Global, &str) -> Result<T, AllocError>,
+    read: Read,
     old: &str,
     new: &str,
-) -> Result<Versions<T>, AllocError> {
+) -> Result<Versions<T>, AllocError>
+    requires { Read.IsAlwaysCallable read }
+{
     let old = if old == "none" {
         None
     } else {
