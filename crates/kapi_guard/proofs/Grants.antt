@@ -1,5 +1,5 @@
 -- The checks in their order, and the grant.
-use Rattle.std.proofs.Common.{◌≡◌, ℕ, ◌==◌, Bool, true, false, not, ◌&&◌, ◌||◌, if◌then◌else◌, List, [], ◌∷◌, ◌++◌, length, Option, Some, None, Result, Ok, Err, refl, sym, ap, ◌∙◌}
+use Rattle.std.proofs.Common.{◌≡◌, ℕ, Bool, true, false, ◌&&◌, ◌||◌, if◌then◌else◌, List, [], ◌++◌, Option, Some, None, Result, Ok, Err, refl, sym, ap, ◌∙◌}
 use Rattle.std.specs.Option.{is_some}
 use Rattle.std.specs.Prelude.{OnOk}
 use Rattle.std.specs.Result.{is_ok}
@@ -24,7 +24,7 @@ use Rattle.kapi_policy.specs.declared.change.PolicyPut.{PolicyPut}
 use Rattle.kapi_policy.specs.declared.change.PolicyPut.TheVariants as put
 use Rattle.kapi_guard.proofs.Implied.{implied_by_more, implied_in_parts, implied_onward, none_is_missing}
 use Rattle.kapi_guard.specs.Authority.{full_authority}
-use Rattle.kapi_guard.specs.Checks.{Fault, IsWithin, Tells, all_held, authority_held, checked, fault_of, grant, holds_all, holds_authority, holds_found, implies_each, lacks, lacks_authority, none_missing, role_kept, role_not_found, role_ref_changed, rules_held}
+use Rattle.kapi_guard.specs.Checks.{Fault, IsWithin, Tells, all_held, checked, fault_of, grant, holds_all, holds_authority, holds_found, implies_each, lacks, lacks_authority, role_kept, role_not_found, role_ref_changed, rules_held}
 use Rattle.kapi_guard.specs.Exempt.{exemption, is_exempt}
 use Rattle.kapi_guard.specs.Laws.{cluster_role_write, creation, role_write, unchanged}
 use Rattle.kapi_guard.specs.Writes.{is_aggregated, is_same_kind, is_same_role, keeps_role, scope, wanted}

@@ -1,5 +1,5 @@
 -- Nothing is missing just where each atom is implied.
-use Rattle.std.proofs.Common.{◌≡◌, ℕ, ◌==◌, Bool, true, false, not, ◌&&◌, ◌||◌, ◌⊎◌, inl, inr, List, [], ◌∷◌, ◌++◌, length, refl, sym, ap, ◌∙◌}
+use Rattle.std.proofs.Common.{◌≡◌, ◌==◌, Bool, true, false, not, ◌&&◌, ◌||◌, ◌⊎◌, inl, inr, List, [], ◌∷◌, ◌++◌, length, refl, sym, ap, ◌∙◌}
 use Rattle.std.proofs.Math.Dec.{eqb-suc-zero}
 use Rattle.std.proofs.lemmas.Bool.{and_parts, or_cases}
 use Rattle.std.proofs.lemmas.Grind.{flat_map-append}
@@ -8,7 +8,7 @@ use Rattle.std.specs.List.{filter, flat_map, fold, list_all, list_any}
 use Rattle.kapi_rbac_types.specs.declared.policy_rule.PolicyRule.{PolicyRule}
 use Rattle.kapi_rules.proofs.Covers.{both, implies_onward}
 use Rattle.kapi_rules.proofs.Law.{any_weaker}
-use Rattle.kapi_rules.proofs.Parts.{any_flat_map, any_same}
+use Rattle.kapi_rules.proofs.Parts.{any_flat_map}
 use Rattle.kapi_rules.specs.Atoms.{atoms, implies}
 use Rattle.kapi_rules.specs.Missing.{each_once, is_missing, missing, rule_implies, same_atom, with_atom}
 use Rattle.kapi_rules.specs.declared.atom.Atom.{Atom}
