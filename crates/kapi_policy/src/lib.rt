@@ -12,7 +12,10 @@ mod policy;
 mod tests;
 mod walk;
 
+pub use binding::Binding;
 pub use change::{NamespacedName, PolicyChange, PolicyKey, PolicyPut};
+pub use copies::copy_map;
 pub use decision::{BindingKind, Decision, Grant};
 pub use plain::PlainPolicy;
 pub use policy::{Policy, is_allowed};
+pub use walk::{grant_in, push_rules};

@@ -131,7 +131,8 @@ fn first_allowing(rules: &[PolicyRule], point: &Point) -> Option<usize>
     rules.iter().position(|rule| allows(rule, point))
 }
 
-fn grant_in<'a>(binding: &Binding<'a>, rules: &[PolicyRule], point: &Point) -> Option<Grant<'a>>
+/// The grant of a binding by the first of some rules that allows the point, if one does.
+pub fn grant_in<'a>(binding: &Binding<'a>, rules: &[PolicyRule], point: &Point) -> Option<Grant<'a>>
     ensures { granted_if result ≡ granted_at (binding_of binding.now) (position (λ rule. rule_allows rule point.now) rules.now) }
 {
     match first_allowing(rules, point) {
@@ -236,7 +237,8 @@ pub fn decide<'a>(
 
 // ---- held rules
 
-fn push_rules(alloc: Global, list: &mut Vec<PolicyRule>, rules: &[PolicyRule]) -> Result<(), Memory>
+/// Puts copies of rules at the end of a list.
+pub fn push_rules(alloc: Global, list: &mut Vec<PolicyRule>, rules: &[PolicyRule]) -> Result<(), Memory>
     ensures { OnOk result (list.new.items ≡ list.old.items ++ rules.now) }
 {
     for rule in rules {

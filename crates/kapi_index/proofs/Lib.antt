@@ -1,0 +1,9 @@
+pub mod Bools
+pub mod Finds
+pub mod Changed
+pub mod Reindexed
+pub mod Meant
+pub mod Steps
+pub mod Spread
+pub mod Placed
+pub mod Walks

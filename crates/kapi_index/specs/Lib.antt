@@ -1,0 +1,4 @@
+pub mod Listed
+pub mod Prepared
+pub mod Scopes
+pub mod Contents

@@ -1,0 +1,145 @@
+//! What the subjects of a binding mean, prepared where it is put.
+ghost use Rattle.std.specs.Prelude.{◌≡◌, ◌∷◌, ◌++◌, [], IfOk, OnOk, codes, string_bytes};
+ghost use Rattle.std.specs.List.{flat_map};
+ghost use Rattle.kapi_rbac_types.specs.Subjects.{namespace_of as namespace_of_account};
+ghost use Rattle.kapi_index.specs.Prepared.{account_users, group_of, groups_of, user_of, users_of};
+
+use kapi_rbac_types::{ServiceAccount, Subject};
+use kapi_text::{Memory, Sequence, Text, TryCopy};
+use std::alloc::Global;
+
+/// The users and groups that the subjects of a binding mean. A service account is the user that it is.
+#[derive(Drop)]
+pub struct Keys {
+    pub users: Sequence<Text>,
+    pub groups: Sequence<Text>,
+}
+
+impl Keys {
+    ghost use Rattle.std.specs.Prelude.{◌≡◌, [], IfOk};
+    ghost use Rattle.kapi_index.specs.Prepared.{groups_of, users_of};
+
+    /// The keys of no subject. Takes no memory.
+    pub fn none(alloc: Global) -> Keys
+        ensures users { result.users ≡ [] }
+        ensures groups { result.groups ≡ [] }
+    {
+        Keys {
+            users: Sequence::new(Vec::new(alloc)),
+            groups: Sequence::new(Vec::new(alloc)),
+        }
+    }
+
+    /// The keys of the subjects of a binding in the namespace.
+    pub fn of(alloc: Global, namespace: &str, subjects: &[Subject]) -> Result<Keys, Memory>
+        ensures users { IfOk result (λ k. k.users ≡ users_of namespace.now subjects.now) }
+        ensures groups { IfOk result (λ k. k.groups ≡ groups_of subjects.now) }
+    {
+        let users = users(alloc, namespace, subjects)?;
+        let groups = groups(alloc, subjects)?;
+        Ok(Keys {
+            users: Sequence::new(users),
+            groups: Sequence::new(groups),
+        })
+    }
+}
+
+impl TryCopy for Keys {
+    fn copy(&self, alloc: Global) -> Result<Keys, Memory> {
+        Ok(Keys {
+            users: self.users.copy(alloc)?,
+            groups: self.groups.copy(alloc)?,
+        })
+    }
+}
+
+fn users(alloc: Global, namespace: &str, subjects: &[Subject]) -> Result<Vec<Text>, Memory>
+    ensures { IfOk result (λ v. v.items ≡ users_of namespace.now subjects.now) }
+{
+    let mut list = Vec::new(alloc);
+    for subject in subjects {
+        push_user(alloc, &mut list, namespace, subject)?;
+    }
+    Ok(list)
+}
+
+fn push_user(
+    alloc: Global,
+    list: &mut Vec<Text>,
+    namespace: &str,
+    subject: &Subject,
+) -> Result<(), Memory>
+    ensures { OnOk result (list.new.items ≡ list.old.items ++ user_of namespace.now subject.now) }
+{
+    match subject {
+        Subject::User(name) => {
+            list.push(name.copy(alloc)?)?;
+            Ok(())
+        }
+        Subject::Group(_) => Ok(()),
+        Subject::ServiceAccount(account) => {
+            push_account(
+                alloc,
+                list,
+                namespace_of(account, namespace),
+                account.name.as_str(),
+            )
+        }
+    }
+}
+
+/// The namespace of a service account, or where it has none the binding's.
+fn namespace_of<'a>(account: &'a ServiceAccount, binding_namespace: &'a str) -> &'a str
+    ensures { result.now ≡ namespace_of_account account.now binding_namespace.now }
+{
+    if account.namespace.as_str().is_empty() {
+        binding_namespace
+    } else {
+        account.namespace.as_str()
+    }
+}
+
+fn push_account(
+    alloc: Global,
+    list: &mut Vec<Text>,
+    namespace: &str,
+    name: &str,
+) -> Result<(), Memory>
+    ensures { OnOk result (list.new.items ≡ list.old.items ++ account_users namespace.now name.now) }
+{
+    if namespace.is_empty() {
+        return Ok(());
+    }
+    list.push(prefixed(alloc, "system:serviceaccount:", namespace, name)?)?;
+    Ok(())
+}
+
+/// The prefix, the first one, a colon, and the name.
+fn prefixed(alloc: Global, prefix: &str, first: &str, name: &str) -> Result<Text, Memory>
+    ensures { IfOk result (λ t. t ≡ prefix.now ++ (first.now ++ 58 ∷ name.now)) }
+{
+    let mut text = String::from_str(alloc, prefix)?;
+    text.push_str(first)?;
+    text.push_str(":")?;
+    text.push_str(name)?;
+    Ok(Text::new(text))
+}
+
+fn groups(alloc: Global, subjects: &[Subject]) -> Result<Vec<Text>, Memory>
+    ensures { IfOk result (λ v. v.items ≡ groups_of subjects.now) }
+{
+    let mut list = Vec::new(alloc);
+    for subject in subjects {
+        push_group(alloc, &mut list, subject)?;
+    }
+    Ok(list)
+}
+
+fn push_group(alloc: Global, list: &mut Vec<Text>, subject: &Subject) -> Result<(), Memory>
+    ensures { OnOk result (list.new.items ≡ list.old.items ++ group_of subject.now) }
+{
+    if let Subject::Group(name) = subject {
+        list.push(name.copy(alloc)?)?;
+    }
+    Ok(())
+}

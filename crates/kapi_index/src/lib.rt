@@ -1,0 +1,14 @@
+//! A policy whose decisions do not grow with the number of bindings: they are found by user, group and service account.
+#![tactic(auto)]
+
+mod indexed;
+mod keys;
+mod names;
+mod scope;
+mod sets;
+mod spaces;
+#[cfg(test)]
+mod tests;
+mod walk;
+
+pub use indexed::IndexedPolicy;

@@ -1,0 +1,262 @@
+//! The walk over the bindings that mean an identity.
+ghost use Rattle.std.specs.Prelude.{◌≡◌, ◌++◌, [], map, IfOk, OnOk, option_copied};
+ghost use Rattle.std.specs.List.{flat_map};
+ghost use Rattle.std.specs.Option.{unwrap_or};
+ghost use Rattle.kapi_policy.specs.Decided.{bindings_of, cluster_binding, decided, first_some, given, granted, granted_by, held as held_by, rules_of, rules_of_kind};
+ghost use Rattle.kapi_policy.specs.Views.{binding_of, decision_of, granted_if};
+ghost use Rattle.kapi_index.specs.Contents.{binding_at, grant_of};
+
+use crate::indexed::IndexedPolicy;
+use crate::scope::Scope;
+use kapi_policy::{Binding, BindingKind, Decision, Grant, grant_in, push_rules};
+use kapi_rbac_types::{Identity, PolicyRule, RoleBinding, RoleKind, RoleRef};
+use kapi_rules::Point;
+use kapi_text::{Memory, Text};
+use std::alloc::Global;
+use std::ops::Bound;
+
+// ---- roles
+
+// A role stands in a namespace, so that cluster-wide there is none.
+fn rules_of_role<'a>(
+    policy: &'a IndexedPolicy,
+    name: &Text,
+    namespace: &str,
+) -> Option<&'a [PolicyRule]>
+    ensures { option_copied result ≡ rules_of_kind policy.now RoleKind.Role name.now namespace.now }
+{
+    if namespace.is_empty() {
+        None
+    } else {
+        policy.rules_at(name, namespace)
+    }
+}
+
+/// The rules of the role that a binding in the namespace refers to, if it exists.
+#[tactic(auto, unfolding(kapi_policy::specs::Decided::rules_of))]
+pub fn role_rules<'a>(
+    policy: &'a IndexedPolicy,
+    role: &RoleRef,
+    namespace: &str,
+) -> Option<&'a [PolicyRule]>
+    ensures { option_copied result ≡ rules_of policy.now role.now namespace.now }
+{
+    match role.kind {
+        RoleKind::Role => rules_of_role(policy, &role.name, namespace),
+        RoleKind::ClusterRole => policy.rules_of_cluster_role(&role.name),
+    }
+}
+
+// ---- one binding
+
+fn binding_in<'a>(
+    kind: BindingKind,
+    scope: &'a Scope,
+    name: &'a Text,
+    binding: &'a RoleBinding,
+) -> Binding<'a>
+    ensures { binding_of result ≡ binding_at kind scope.now.namespace (name.now, binding.now) }
+{
+    Binding {
+        kind,
+        namespace: scope.namespace(),
+        name: name.as_str(),
+        subjects: binding.subjects.as_slice(),
+        role: &binding.role_ref,
+    }
+}
+
+// The grant of a binding by the first rule of its role that allows the point.
+fn grant_by<'a>(
+    policy: &'a IndexedPolicy,
+    binding: &Binding<'a>,
+    point: &Point,
+) -> Option<Grant<'a>>
+    ensures { granted_if result ≡ grant_of policy.now point.now (binding_of binding.now) }
+{
+    match role_rules(policy, binding.role, binding.namespace) {
+        Some(rules) => grant_in(binding, rules, point),
+        None => None,
+    }
+}
+
+fn push_of(
+    alloc: Global,
+    list: &mut Vec<PolicyRule>,
+    policy: &IndexedPolicy,
+    role: &RoleRef,
+    namespace: &str,
+) -> Result<(), Memory>
+    ensures { OnOk result (list.new.items ≡ list.old.items ++ unwrap_or (rules_of policy.now role.now namespace.now) []) }
+{
+    match role_rules(policy, role, namespace) {
+        Some(rules) => push_rules(alloc, list, rules),
+        None => Ok(()),
+    }
+}
+
+// ---- the bindings of a scope
+
+fn scope_grant<'a>(
+    policy: &'a IndexedPolicy,
+    kind: BindingKind,
+    scope: &'a Scope,
+    identity: &Identity,
+    point: &Point,
+) -> Option<Grant<'a>>
+    ensures { granted_if result ≡ first_some (granted_by policy.now identity.now point.now) (map (binding_at kind scope.now.namespace) scope.now.bindings) }
+{
+    let mut start = Bound::Unbounded;
+    while let Some((name, binding)) = scope.next(identity, start) {
+        let found = grant_by(policy, &binding_in(kind, scope, name, binding), point);
+        if found.is_some() {
+            return found;
+        }
+        start = Bound::Excluded(name);
+    }
+    None
+}
+
+fn push_scope(
+    alloc: Global,
+    list: &mut Vec<PolicyRule>,
+    policy: &IndexedPolicy,
+    kind: BindingKind,
+    scope: &Scope,
+    identity: &Identity,
+) -> Result<(), Memory>
+    ensures { OnOk result (list.new.items ≡ list.old.items ++ flat_map (λ b. unwrap_or (given policy.now identity.now b) []) (map (binding_at kind scope.now.namespace) scope.now.bindings)) }
+{
+    let mut start = Bound::Unbounded;
+    while let Some((name, binding)) = scope.next(identity, start) {
+        push_of(alloc, list, policy, &binding.role_ref, scope.namespace())?;
+        start = Bound::Excluded(name);
+    }
+    Ok(())
+}
+
+// ---- all bindings
+
+fn cluster_grant<'a>(
+    policy: &'a IndexedPolicy,
+    identity: &Identity,
+    point: &Point,
+) -> Option<Grant<'a>>
+    ensures { granted_if result ≡ first_some (granted_by policy.now identity.now point.now) (map cluster_binding policy.now.cluster_role_bindings) }
+{
+    scope_grant(
+        policy,
+        BindingKind::ClusterRoleBinding,
+        policy.cluster(),
+        identity,
+        point,
+    )
+}
+
+fn namespace_grant<'a>(
+    policy: &'a IndexedPolicy,
+    identity: &Identity,
+    namespace: &str,
+    point: &Point,
+) -> Option<Grant<'a>>
+    ensures { granted_if result ≡ first_some (granted_by policy.now identity.now point.now) (bindings_of namespace.now policy.now.role_bindings) }
+{
+    match policy.scope_in(namespace) {
+        Some(scope) => scope_grant(policy, BindingKind::RoleBinding, scope, identity, point),
+        None => None,
+    }
+}
+
+// The first rule that allows the point, among those that the identity holds in the namespace.
+#[tactic(auto, unfolding(kapi_policy::specs::Decided::granted, kapi_policy::specs::Decided::bindings_in), using(kapi_policy::proofs::Firsts::first_some_append))]
+fn grant<'a>(
+    policy: &'a IndexedPolicy,
+    identity: &Identity,
+    namespace: &str,
+    point: &Point,
+) -> Option<Grant<'a>>
+    ensures { granted_if result ≡ granted policy.now identity.now namespace.now point.now }
+{
+    let found = cluster_grant(policy, identity, point);
+    if found.is_some() || namespace.is_empty() {
+        return found;
+    }
+    namespace_grant(policy, identity, namespace, point)
+}
+
+/// Whether the identity may do this in the namespace, and the first rule by which he may. Takes no memory.
+#[tactic(auto, unfolding(kapi_policy::specs::Decided::decided))]
+pub fn decide<'a>(
+    policy: &'a IndexedPolicy,
+    identity: &Identity,
+    namespace: &str,
+    point: &Point,
+) -> Decision<'a>
+    ensures { decision_of result ≡ decided policy.now identity.now namespace.now point.now }
+{
+    if identity.is_master() {
+        return Decision::Masters;
+    }
+    match grant(policy, identity, namespace, point) {
+        Some(grant) => Decision::Allowed(grant),
+        None => Decision::Denied,
+    }
+}
+
+fn push_cluster_wide(
+    alloc: Global,
+    list: &mut Vec<PolicyRule>,
+    policy: &IndexedPolicy,
+    identity: &Identity,
+) -> Result<(), Memory>
+    ensures { OnOk result (list.new.items ≡ list.old.items ++ flat_map (λ b. unwrap_or (given policy.now identity.now b) []) (map cluster_binding policy.now.cluster_role_bindings)) }
+{
+    push_scope(
+        alloc,
+        list,
+        policy,
+        BindingKind::ClusterRoleBinding,
+        policy.cluster(),
+        identity,
+    )
+}
+
+fn push_in_namespace(
+    alloc: Global,
+    list: &mut Vec<PolicyRule>,
+    policy: &IndexedPolicy,
+    identity: &Identity,
+    namespace: &str,
+) -> Result<(), Memory>
+    ensures { OnOk result (list.new.items ≡ list.old.items ++ flat_map (λ b. unwrap_or (given policy.now identity.now b) []) (bindings_of namespace.now policy.now.role_bindings)) }
+{
+    match policy.scope_in(namespace) {
+        Some(scope) => push_scope(
+            alloc,
+            list,
+            policy,
+            BindingKind::RoleBinding,
+            scope,
+            identity,
+        ),
+        None => Ok(()),
+    }
+}
+
+/// The rules that the identity holds in the namespace, in order, each binding's once.
+#[tactic(auto, unfolding(kapi_policy::specs::Decided::held, kapi_policy::specs::Decided::bindings_in), using(kapi_policy::proofs::Firsts::flat_map_append))]
+pub fn held(
+    alloc: Global,
+    policy: &IndexedPolicy,
+    identity: &Identity,
+    namespace: &str,
+) -> Result<Vec<PolicyRule>, Memory>
+    ensures { IfOk result (λ v. v.items ≡ held_by policy.now identity.now namespace.now) }
+{
+    let mut list = Vec::new(alloc);
+    push_cluster_wide(alloc, &mut list, policy, identity)?;
+    if !namespace.is_empty() {
+        push_in_namespace(alloc, &mut list, policy, identity, namespace)?;
+    }
+    Ok(list)
+}
