@@ -238,7 +238,11 @@ pub fn decide<'a>(
 // ---- held rules
 
 /// Puts copies of rules at the end of a list.
-pub fn push_rules(alloc: Global, list: &mut Vec<PolicyRule>, rules: &[PolicyRule]) -> Result<(), Memory>
+pub fn push_rules(
+    alloc: Global,
+    list: &mut Vec<PolicyRule>,
+    rules: &[PolicyRule],
+) -> Result<(), Memory>
     ensures { OnOk result (list.new.items ≡ list.old.items ++ rules.now) }
 {
     for rule in rules {
