@@ -1,5 +1,0 @@
-pub mod Semicolons
-pub mod Ready
-pub mod Members
-pub mod Floats
-pub mod Created

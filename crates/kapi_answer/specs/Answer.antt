@@ -1,94 +1,94 @@
 -- The answer to a request: what is sent, and the changes that are made.
-use Rattle.std.specs.Prelude.{ℕ, ◌+◌, Bool, List, [], ◌∷◌, Option, Some, None, Result, Ok, Err}
-use Rattle.std.specs.Map.{lookup}
+use Rattle.std.specs.Prelude.{ℕ, Bool, List, [], Result, Ok, Err}
 use Rattle.serde_json.specs.Data.{Data}
-use Rattle.serde_json.specs.Written.{compact_text}
+use Rattle.kapi_text.specs.Gives.{◌>>=◌}
 use Rattle.kapi_http.specs.declared.message.HttpFault.{HttpFault}
 use Rattle.kapi_http.specs.declared.message.HttpRequest.{HttpRequest}
-use Rattle.kapi_http.specs.declared.message.StatusCode.TheVariants as status
+use Rattle.kapi_policy.specs.Objects.{PolicyObjects}
 use Rattle.kapi_rbac_types.specs.declared.identity.Identity.{Identity}
 use Rattle.kapi_request_info.specs.Attributes.{info}
+use Rattle.kapi_request_info.specs.Faults.{TargetFault, bad_path, bad_escape, bad_query}
 use Rattle.kapi_request_info.specs.declared.attributes.Attributes.{Attributes}
-use Rattle.kapi_request_info.specs.declared.attributes.InfoError.{InfoError}
-use Rattle.kapi_request_info.specs.declared.attributes.InfoError.TheVariants as fault
-use Rattle.kapi_store.specs.Keys.{is_key}
-use Rattle.kapi_store.specs.Plain.{Plain, PlainChange, creation_at}
-use Rattle.kapi_store.specs.Stamps.{created_tree}
+use Rattle.kapi_reply.specs.Refusals.{Asked}
+use Rattle.kapi_reply.specs.Replies.{fault_reply, object_reply, refusal_reply, target_reply}
+use Rattle.kapi_reply.specs.declared.refusal.BadWord.{BadWord}
+use Rattle.kapi_reply.specs.declared.refusal.BadWord.TheVariants as word
+use Rattle.kapi_reply.specs.declared.refusal.Refused.{Refused}
+use Rattle.kapi_reply.specs.declared.reply.WrittenReply.{WrittenReply}
+use Rattle.kapi_route.specs.Headers.{unimpersonated, media_typed}
+use Rattle.kapi_route.specs.Route.{Routed, routed}
+use Rattle.kapi_route.specs.declared.route.Action.{Action}
+use Rattle.kapi_route.specs.declared.route.Action.TheVariants as action
+use Rattle.kapi_store.specs.Plain.{Plain, PlainChange}
 use Rattle.kapi_store.specs.declared.key.Key.{Key}
-use Rattle.kapi_answer.specs.declared.respond.Output.{Output}
-use Rattle.kapi_answer.specs.declared.refusal.BadWord.{BadWord}
-use Rattle.kapi_answer.specs.declared.refusal.BadWord.TheVariants as word
-use Rattle.kapi_answer.specs.declared.refusal.Refusal.{Refusal}
-use Rattle.kapi_answer.specs.declared.refusal.Refusal.TheVariants as refusal
-use Rattle.kapi_answer.specs.declared.route.Action.{Action}
-use Rattle.kapi_answer.specs.declared.route.Action.TheVariants as action
-use Rattle.kapi_answer.specs.Authorization.{authorized}
-use Rattle.kapi_answer.specs.Create.{key_of, to_create}
-use Rattle.kapi_answer.specs.Gives.{◌>>=◌}
-use Rattle.kapi_answer.specs.Headers.{unimpersonated, media_typed}
-use Rattle.kapi_answer.specs.Replies.{json_reply, sent, refusal_output, target_output, fault_output}
-use Rattle.kapi_answer.specs.Route.{Routed, routed}
+use Rattle.kapi_answer.specs.Authorization.{authorized, unescalated}
+use Rattle.kapi_answer.specs.Create.{creates, key_of, to_create}
+use Rattle.kapi_answer.specs.Get.{found}
+use Rattle.kapi_answer.specs.Outcome.{Outcome}
 
--- what a request that passes every check gets: an object as JSON text, or a new object at its place
-pub data Outcome : Type 0 where
-  found : List ℕ → Outcome
-  create : Key → Data → Outcome
+-- what a request that passes all checks but the store's is told, or what it is to change: a new object at its place
+pub data Plan : Type 0 where
+  tell : Outcome → Plan
+  create : Key × Data → Plan
 
--- the object that was looked for
-abbrev pub found_if : Option Data → Result Outcome Refusal
-found_if (Some tree) = Ok (found (compact_text tree))
-found_if None = Err refusal.NoObject
+-- what is told without a change is a plan
+abbrev pub tells : Outcome → Result Plan Refused
+tells outcome = Ok (tell outcome)
 
--- the object at a key
-abbrev pub found_at : Plain → Key → Result Outcome Refusal
-found_at s key = found_if (lookup (is_key key) s.objects)
+-- and so is an object that the identity may create
+unfoldable pub to_be_created : Identity → Key × Data → Result Plan Refused
+to_be_created identity new = do
+  u ← unescalated identity new.0
+  Ok (create new)
 
--- the object that is to be created
-abbrev pub creates : Key × Data → Result Outcome Refusal
-creates new = Ok (create new.0 new.1)
+-- what is to be done on a route
+unfoldable pub planned_on : Action → Plain → Identity → Routed → List ℕ → List ℕ → Result Plan Refused
+planned_on action.Get s identity r namespace body = found s (key_of r.row namespace r.point.name) >>= tells
+planned_on action.Create s identity r namespace body = to_create s r.row namespace body >>= to_be_created identity
 
--- what is done on a route
-unfoldable pub acted : Action → Plain → Routed → List ℕ → List ℕ → Result Outcome Refusal
-acted action.Get s r namespace body = found_at s (key_of r.row namespace r.point.name)
-acted action.Create s r namespace body = to_create s r.row namespace body >>= creates
-
--- the checks of a request, in their order
-unfoldable pub checked : Plain → Identity → HttpRequest → Attributes → Result Outcome Refusal
-checked s identity request a = do
+-- the checks of a request by the roles and bindings that there are, in their order, but for those of the store
+unfoldable pub planned : PolicyObjects → Plain → Identity → HttpRequest → Attributes → Result Plan Refused
+planned objects s identity request a = do
   u ← unimpersonated request.headers
-  v ← authorized identity
+  v ← authorized objects identity a
   r ← routed s.table request.method a
   w ← media_typed request.method request.headers
-  acted r.action s r a.namespace request.body
+  planned_on r.action s identity r a.namespace request.body
+
+-- what becomes of it, where the store makes the write
+abbrev pub carried_out : Plain → Plan → Result Outcome Refused
+carried_out s (tell outcome) = Ok outcome
+carried_out s (create new) = creates s new
+
+-- all checks of a request
+unfoldable pub checked : PolicyObjects → Plain → Identity → HttpRequest → Attributes → Result Outcome Refused
+checked objects s identity request a = planned objects s identity request a >>= carried_out s
 
 -- what is sent, and the changes that are made
 abbrev pub Answered : Type 0
-Answered = Output × List PlainChange
-
--- the answer to a request that passed every check
-unfoldable pub served : Plain → Bool → Outcome → Answered
-served s close (found body) = (sent (json_reply status.Ok [] close body), [])
-served s close (create key tree) =
-    (sent (json_reply status.Created [] close (compact_text (created_tree (s.revision + 1) tree))), creation_at key tree (s.revision + 1) ∷ [])
+Answered = WrittenReply × List PlainChange
 
 -- the answer that a request's checks lead to
-unfoldable pub answer_by : Plain → Identity → HttpRequest → Attributes → Result Outcome Refusal → Answered
-answer_by s identity request a (Ok outcome) = served s request.close outcome
-answer_by s identity request a (Err r) = (refusal_output identity.user request.method a request.close r, [])
+unfoldable pub answer_by : Asked → Bool → Result Outcome Refused → Answered
+answer_by asked close (Ok outcome) = (object_reply outcome.code close outcome.body, outcome.changes)
+answer_by asked close (Err refused) = (refusal_reply asked close refused, [])
 
--- the word for a fault of a target; the last case is that of no definition
-abbrev pub target_word : InfoError → BadWord
-target_word fault.BadPath = word.Target
-target_word fault.BadEscape = word.Escape
-target_word fault.BadQuery = word.Query
-target_word fault.Memory = word.Target
+-- the word for a fault of a target
+abbrev pub target_word : TargetFault → BadWord
+target_word bad_path = word.Target
+target_word bad_escape = word.Escape
+target_word bad_query = word.Query
+
+-- a request that is made by the identity
+abbrev pub asked_by : Identity → HttpRequest → Attributes → Asked
+asked_by identity request a = record { user = identity.user; method = request.method; attributes = a }
 
 -- the answer to a request whose target gives those attributes, or has a fault
-unfoldable pub answer_asked : Plain → Identity → HttpRequest → Result Attributes InfoError → Answered
-answer_asked s identity request (Ok a) = answer_by s identity request a (checked s identity request a)
-answer_asked s identity request (Err e) = (target_output (target_word e) request.close, [])
+unfoldable pub answer_asked : PolicyObjects → Plain → Identity → HttpRequest → Result Attributes TargetFault → Answered
+answer_asked objects s identity request (Ok a) = answer_by (asked_by identity request a) request.close (checked objects s identity request a)
+answer_asked objects s identity request (Err fault) = (target_reply (target_word fault) request.close, [])
 
--- the answer to what was cut from a connection's bytes
-unfoldable pub answer : Plain → Identity → Result HttpRequest HttpFault → Answered
-answer s identity (Ok request) = answer_asked s identity request (info request.method request.target)
-answer s identity (Err fault) = (fault_output fault, [])
+-- the answer to what was cut from a connection's bytes, by the roles and bindings that there are
+unfoldable pub answer : PolicyObjects → Plain → Identity → Result HttpRequest HttpFault → Answered
+answer objects s identity (Ok request) = answer_asked objects s identity request (info request.method request.target)
+answer objects s identity (Err fault) = (fault_reply fault, [])

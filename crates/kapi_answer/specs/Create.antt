@@ -1,74 +1,76 @@
 -- The checks of a create, from its body on (Kubernetes, 'Kubernetes API Concepts', 'Object Names and IDs').
-use Rattle.std.specs.Prelude.{ℕ, ◌==◌, Bool, true, false, if◌then◌else◌, List, [], length, Result, Ok, Err}
+use Rattle.std.specs.Prelude.{ℕ, ◌==◌, Bool, true, false, if◌then◌else◌, List, [], ◌∷◌, length, codes, Option, Some, None, Result, Ok, Err}
 use Rattle.std.specs.Str.{bytes_eq}
 use Rattle.serde_json.specs.Data.{Data}
-use Rattle.kapi_object.specs.Admission.{object_of}
+use Rattle.serde_json.specs.Written.{compact_text}
+use Rattle.kapi_text.specs.Gives.{◌>>=◌}
+use Rattle.kapi_http.specs.declared.message.StatusCode.TheVariants as status
+use Rattle.kapi_admission.specs.Admission.{BodyFault, float, invalid, not_json, object_of, wrong_kind, wrong_version}
 use Rattle.kapi_object.specs.Given.{given_of}
-use Rattle.kapi_object.specs.Names.{is_name_on}
+use Rattle.kapi_names.specs.Names.{is_name_on}
 use Rattle.kapi_object.specs.Tree.{with_text, without_member}
-use Rattle.kapi_object.specs.declared.fault.Cause.TheVariants as cause
-use Rattle.kapi_object.specs.declared.fault.FieldFault.{FieldFault}
-use Rattle.kapi_object.specs.declared.fault.ObjectError.{ObjectError}
-use Rattle.kapi_object.specs.declared.fault.ObjectError.TheVariants as body
+use Rattle.kapi_names.specs.declared.fault.Cause.{Cause}
+use Rattle.kapi_names.specs.declared.fault.Cause.TheVariants as cause
+use Rattle.kapi_names.specs.declared.fault.FieldFault.{FieldFault}
 use Rattle.kapi_object.specs.declared.given.Given.{Given}
 use Rattle.kapi_object.specs.declared.given.GivenText.{GivenText}
-use Rattle.kapi_object.specs.declared.given.GivenText.TheVariants.{Absent, Text, Mistyped}
-use Rattle.kapi_object.specs.declared.row.ResourceRow.{ResourceRow}
-use Rattle.kapi_store.specs.Plain.{Plain, has_object, has_namespace}
+use Rattle.kapi_object.specs.declared.given.GivenText.TheVariants as given
+use Rattle.kapi_names.specs.declared.row.ResourceRow.{ResourceRow}
+use Rattle.kapi_reply.specs.Refusals.{asked_for, named}
+use Rattle.kapi_reply.specs.declared.refusal.BadWord.TheVariants as word
+use Rattle.kapi_reply.specs.declared.refusal.Refusal.{Refusal}
+use Rattle.kapi_reply.specs.declared.refusal.Refusal.TheVariants as refusal
+use Rattle.kapi_reply.specs.declared.refusal.Refused.{Refused}
+use Rattle.kapi_reply.specs.declared.refusal.Sought.TheVariants as sought
+use Rattle.kapi_store.specs.Faults.{StoreFault, Exists, Missing, Conflict, NoNamespace, NamespaceNotEmpty, RevisionsUsedUp}
+use Rattle.kapi_store.specs.Plain.{Plain, PlainChange, creation_in_place, free_place}
 use Rattle.kapi_store.specs.declared.key.Key.{Key}
-use Rattle.kapi_store.specs.declared.store.TheConstants.{LAST_REVISION}
-use Rattle.std.specs.Prelude.{codes}
-use Rattle.kapi_answer.specs.declared.refusal.Refusal.{Refusal}
-use Rattle.kapi_answer.specs.declared.refusal.Refusal.TheVariants as refusal
-use Rattle.kapi_answer.specs.declared.refusal.BadWord.TheVariants as word
-use Rattle.kapi_answer.specs.declared.refusal.CreateRefusal.{CreateRefusal}
-use Rattle.kapi_answer.specs.declared.refusal.CreateRefusal.TheVariants as why
-use Rattle.kapi_answer.specs.Gives.{◌>>=◌}
+use Rattle.kapi_answer.specs.Outcome.{Outcome}
 
 -- a body that is an object of its kind and version: what it gives as its name and the like, and its tree or its faults
 pub record Admitted : Type 0 where
   pub given : Given
   pub object : Result Data (List FieldFault)
 
--- a create is refused for the object of that name
-abbrev pub refused : List ℕ → CreateRefusal → Refusal
-refused name reason = refusal.Create (record { name = name; why = reason })
-
--- what a body was read as; the last case is that of no definition
-unfoldable pub admitted_from : Result Data ObjectError → Result Admitted Refusal
+-- what a body was read as
+unfoldable pub admitted_from : Result Data BodyFault → Result Admitted Refused
 admitted_from (Ok tree) = Ok (record { given = given_of tree; object = Ok tree })
-admitted_from (Err (body.Invalid given faults)) = Ok (record { given = given; object = Err faults })
-admitted_from (Err body.NotJson) = Err (refusal.BadRequest word.Json)
-admitted_from (Err body.Float) = Err (refusal.BadRequest word.Float)
-admitted_from (Err body.WrongKind) = Err (refusal.BadRequest word.Kind)
-admitted_from (Err body.WrongVersion) = Err (refusal.BadRequest word.Version)
-admitted_from (Err body.Memory) = Err (refusal.BadRequest word.Json)
+admitted_from (Err (invalid given faults)) = Ok (record { given = given; object = Err faults })
+admitted_from (Err not_json) = Err (asked_for (refusal.BadRequest word.Json))
+admitted_from (Err float) = Err (asked_for (refusal.BadRequest word.Float))
+admitted_from (Err wrong_kind) = Err (asked_for (refusal.BadRequest word.Kind))
+admitted_from (Err wrong_version) = Err (asked_for (refusal.BadRequest word.Version))
 
 -- the body is a JSON object of the row's kind and version
-abbrev pub admitted : ResourceRow → List ℕ → Result Admitted Refusal
+abbrev pub admitted : ResourceRow → List ℕ → Result Admitted Refused
 admitted row bytes = admitted_from (object_of row bytes)
 
+-- a body is refused for its name alone
+abbrev pub bad_name : List ℕ → Cause → Refused
+bad_name name why = named name (refusal.Invalid (record { field = codes "metadata.name"; cause = why } ∷ []))
+
 -- the text is a name that objects of the row may have
-unfoldable pub named_text : ResourceRow → List ℕ → Result (List ℕ) Refusal
-named_text row name =
-    if length name == 0 then Err (refused name (why.Name cause.Required))
-    else (if is_name_on row name then Ok name else Err (refused name (why.Name cause.BadValue)))
+unfoldable pub name_text : ResourceRow → List ℕ → Result (List ℕ) Refused
+name_text row name =
+    if length name == 0 then Err (bad_name name cause.Required)
+    else (if is_name_on row name then Ok name else Err (bad_name name cause.BadValue))
 
 -- the body gives such a name
-unfoldable pub named : ResourceRow → GivenText → Result (List ℕ) Refusal
-named row Absent = Err (refused [] (why.Name cause.Required))
-named row Mistyped = Err (refused [] (why.Name cause.WrongType))
-named row (Text name) = named_text row name
+unfoldable pub given_name : ResourceRow → GivenText → Result (List ℕ) Refused
+given_name row given.Absent = Err (bad_name [] cause.Required)
+given_name row given.Mistyped = Err (bad_name [] cause.WrongType)
+given_name row (given.Text name) = name_text row name
 
 -- a namespace that the body gives is the path's
 abbrev pub is_same_namespace : List ℕ → GivenText → Bool
-is_same_namespace namespace Absent = true
-is_same_namespace namespace Mistyped = false
-is_same_namespace namespace (Text text) = bytes_eq text namespace
+is_same_namespace namespace given.Absent = true
+is_same_namespace namespace given.Mistyped = false
+is_same_namespace namespace (given.Text text) = bytes_eq text namespace
 
-unfoldable pub in_namespace : List ℕ → List ℕ → GivenText → Result (Unit {0}) Refusal
+-- the body gives no other namespace than the path's
+unfoldable pub in_namespace : List ℕ → List ℕ → GivenText → Result (Unit {0}) Refused
 in_namespace namespace name given =
-    if is_same_namespace namespace given then Ok tt else Err (refused name why.OtherNamespace)
+    if is_same_namespace namespace given then Ok tt else Err (named name (refusal.BadRequest word.Namespace))
 
 -- the place of an object of a row: objects of cluster-scoped rows have no namespace
 abbrev pub key_of : ResourceRow → List ℕ → List ℕ → Key
@@ -79,21 +81,24 @@ key_of row namespace name = record {
   name = name;
 }
 
--- the namespace exists, and the place is free
-unfoldable pub free_place : Plain → Key → Result (Unit {0}) Refusal
-free_place s key =
-    if has_namespace key s
-    then (if has_object key s then Err (refused key.name why.AlreadyExists) else Ok tt)
-    else Err (refused key.name why.NoNamespace)
+-- what a request is told of what the store refuses, about the object of that name
+unfoldable pub refusal_of : StoreFault → Refusal
+refusal_of Exists = refusal.AlreadyExists
+refusal_of NoNamespace = refusal.NotFound sought.Namespace
+refusal_of RevisionsUsedUp = refusal.NoRevisionLeft
+refusal_of Missing = refusal.NotFound sought.Object
+refusal_of (Conflict version) = refusal.NotFound sought.Object
+refusal_of NamespaceNotEmpty = refusal.NotFound sought.Object
+
+-- what the store answers, as an answer to the request
+abbrev pub stored : {X : Type 0} → List ℕ → Result X StoreFault → Result X Refused
+stored name (Ok x) = Ok x
+stored name (Err fault) = Err (named name (refusal_of fault))
 
 -- the body has no fault
-unfoldable pub valid : List ℕ → Result Data (List FieldFault) → Result Data Refusal
+unfoldable pub valid : List ℕ → Result Data (List FieldFault) → Result Data Refused
 valid name (Ok tree) = Ok tree
-valid name (Err faults) = Err (refused name (why.Invalid faults))
-
--- a revision is left for the write
-unfoldable pub revision_left : Plain → List ℕ → Result (Unit {0}) Refusal
-revision_left s name = if s.revision == LAST_REVISION then Err (refused name why.NoRevisionLeft) else Ok tt
+valid name (Err faults) = Err (named name (refusal.Invalid faults))
 
 -- the tree without its status, where that is a subresource of its own (Kubernetes API conventions, 'Spec and Status')
 abbrev pub unreported : ResourceRow → Data → Data
@@ -104,13 +109,30 @@ abbrev pub in_place : ResourceRow → List ℕ → Data → Data
 in_place row namespace tree =
     if row.namespaced then with_text (codes "namespace") namespace (unreported row tree) else unreported row tree
 
--- the place and the tree of the object that is to be created: body, name, namespace, existence, validity, revisions
-unfoldable pub to_create : Plain → ResourceRow → List ℕ → List ℕ → Result (Key × Data) Refusal
+-- the object that a write leaves, as JSON text
+abbrev pub tree_text : Option Data → List ℕ
+tree_text (Some tree) = compact_text tree
+tree_text None = []
+
+-- the object that a write of one change leaves, as JSON text
+abbrev pub text_left : List PlainChange → List ℕ
+text_left (change ∷ []) = tree_text change.new
+text_left _ = []
+
+-- the place and the tree of the object that is to be created: body, name, namespace, place, validity
+unfoldable pub to_create : Plain → ResourceRow → List ℕ → List ℕ → Result (Key × Data) Refused
 to_create s row namespace bytes = do
   body ← admitted row bytes
-  name ← named row body.given.name
+  name ← given_name row body.given.name
   same ← in_namespace namespace name body.given.namespace
-  free ← free_place s (key_of row namespace name)
+  free ← stored name (free_place s (key_of row namespace name))
   tree ← valid name body.object
-  left ← revision_left s name
   Ok (key_of row namespace name, in_place row namespace tree)
+
+-- the reply that tells of a creation by some changes
+abbrev pub created : List PlainChange → Result Outcome Refused
+created changes = Ok (record { code = status.Created; body = text_left changes; changes = changes })
+
+-- its creation: a revision must be left
+unfoldable pub creates : Plain → Key × Data → Result Outcome Refused
+creates s new = stored new.0.name (creation_in_place s new.0 new.1) >>= created

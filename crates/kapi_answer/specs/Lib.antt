@@ -1,12 +1,6 @@
-pub mod Gives
-pub mod Headers
 pub mod Authorization
-pub mod Route
-pub mod Routes
+pub mod Outcome
+pub mod Get
 pub mod Create
-pub mod Created
-pub mod Status
-pub mod Failures
-pub mod Replies
 pub mod Answer
-pub mod Answers
+pub mod Outcomes

@@ -1,24 +1,26 @@
-ghost use Rattle.std.specs.Prelude.{◌≡◌, [], IfOk, if◌then◌else◌};
+//! The creation of an object.
+ghost use Rattle.std.specs.Prelude.{◌≡◌, [], Ok, Some, IfOk, IfSome, OnOk, if◌then◌else◌, map as map_of};
+ghost use Rattle.std.specs.Option.{option_map};
+ghost use Rattle.kapi_text.specs.Gives.{Gives};
 ghost use Rattle.kapi_object.specs.Object.{tree_of};
-ghost use Rattle.kapi_store.specs.Plain.{plain_of};
-ghost use Rattle.kapi_answer.specs.Gives.{Gives};
-ghost use Rattle.kapi_answer.specs.Create.{admitted, refused as refused_of, named, named_text, is_same_namespace as is_same_namespace_of, in_namespace as in_namespace_of, key_of as key_of_lem, free_place, valid, revision_left, in_place, unreported as unreported_of, to_create};
-ghost use Rattle.kapi_answer.specs.Created.{new_data, object_data, admitted_data};
+ghost use Rattle.kapi_reply.specs.Refusals as table;
+ghost use Rattle.kapi_reply.specs.Refusals.{asked_for, refused_by};
+ghost use Rattle.kapi_store.specs.Plain.{free_place, plain_change, plain_of};
+ghost use Rattle.kapi_store.specs.Faults.{fault_of};
+ghost use Rattle.kapi_store.specs.State.{Same, Fits};
+ghost use Rattle.kapi_answer.specs.Create as creation;
+ghost use Rattle.kapi_answer.specs.Create.{admitted, creates, given_name, in_place, name_text, refusal_of, stored, to_create, tree_text, valid};
+ghost use Rattle.kapi_answer.specs.Outcomes.{admitted_data, new_data, object_data, outcome_data};
 
-use crate::refusal::{BadWord, CheckError, CreateRefusal, Refusal, RefusedCreate};
-use kapi_object::{
-    Cause, FieldFault, Given, GivenText, Object, ObjectError, ResourceRow, check_name, read_object,
-};
-use kapi_store::{Key, LAST_REVISION, Store};
+use crate::outcome::{NewObject, Outcome};
+use kapi_admission::{ObjectError, read_object};
+use kapi_http::StatusCode;
+use kapi_names::{Cause, FieldFault, ResourceRow, check_name};
+use kapi_object::{Given, GivenText, Object};
+use kapi_reply::{BadWord, CheckError, Refusal, Refused, Sought};
+use kapi_store::{Change, Key, Shared, Store, StoreError};
 use kapi_text::{Memory, Sequence, Text, TryCopy};
 use std::alloc::Global;
-
-/// An object that passed every check, and the place where it is to be created.
-#[derive(Drop)]
-pub struct NewObject {
-    pub key: Key,
-    pub object: Object,
-}
 
 /// What a body was read as: what it gives as its name and the like, and its object or its faults.
 #[derive(Drop)]
@@ -27,7 +29,7 @@ pub struct Admitted {
     pub object: Result<Object, Sequence<FieldFault>>,
 }
 
-/// The checks of a create from its body on, in their order: body, name, namespace, existence, validity, revisions.
+/// The checks of a create from its body on, in their order: body, name, namespace, place, validity.
 #[tactic(auto, unfolding(crate::specs::Create::to_create))]
 pub fn check_create(
     alloc: Global,
@@ -36,7 +38,8 @@ pub fn check_create(
     namespace: &str,
     body: &[u8],
 ) -> Result<NewObject, CheckError>
-    ensures { Gives new_data result (to_create (plain_of store.now) row.now namespace.now body.now) }
+    ensures gives { Gives refused_by new_data result (to_create (plain_of store.now) row.now namespace.now body.now) }
+    ensures free { IfOk result (λ new. free_place (plain_of store.now) new.key ≡ Ok tt) }
 {
     let body = admit(alloc, row, body)?;
     let name = check_given_name(alloc, row, &body.given.name)?;
@@ -44,15 +47,80 @@ pub fn check_create(
     let key = key_of(alloc, row, namespace, name.as_str())?;
     check_place(alloc, store, &key)?;
     let object = check_validity(alloc, &name, body.object)?;
-    check_revision_left(alloc, store, &name)?;
     let object = placed(alloc, row, namespace, object)?;
     Ok(NewObject { key, object })
+}
+
+/// The namespace must exist, and the place be free.
+fn check_place(alloc: Global, store: &Store, key: &Key) -> Result<(), CheckError>
+    ensures gives { Gives refused_by (λ u. u) result (stored key.now.name (free_place (plain_of store.now) key.now)) }
+    ensures free { OnOk result (free_place (plain_of store.now) key.now ≡ Ok tt) }
+{
+    match store.check_place(key) {
+        Ok(()) => Ok(()),
+        Err(error) => Err(refused_by_store(key.name.copy(alloc)?, &error)),
+    }
+}
+
+/// What a request is told of what the store refuses, about the object of that name.
+#[tactic(auto, unfolding(crate::specs::Create::refusal_of))]
+fn refused_by_store(name: Text, error: &StoreError) -> CheckError
+    ensures { refused_by result ≡ option_map (λ fault. table.named name (refusal_of fault)) (fault_of error.now) }
+{
+    match error {
+        StoreError::Exists => refused(name, Refusal::AlreadyExists),
+        StoreError::NoNamespace => refused(name, Refusal::NotFound(Sought::Namespace)),
+        StoreError::RevisionsUsedUp => refused(name, Refusal::NoRevisionLeft),
+        StoreError::Missing | StoreError::Conflict(_) | StoreError::NamespaceNotEmpty => {
+            refused(name, Refusal::NotFound(Sought::Object))
+        }
+        StoreError::Memory => CheckError::Memory,
+    }
+}
+
+/// Prepares the write of a new object, and the reply with the object as it will stand.
+#[tactic(auto, unfolding(crate::specs::Create::creates))]
+pub fn create(alloc: Global, store: &mut Store, new: NewObject) -> Result<Outcome, CheckError>
+    requires { free_place (plain_of store.old) new.key ≡ Ok tt }
+    ensures same { Same store.old store.new }
+    ensures gives { Gives refused_by outcome_data result (creates (plain_of store.old) (new_data new)) }
+    ensures fits { IfOk result (λ o. IfSome o.write (Fits store.new)) }
+{
+    let name = new.key.name.copy(alloc)?;
+    match store.create_in_place(new.key, new.object) {
+        Ok(ready) => Ok(Outcome {
+            code: StatusCode::Created,
+            body: text_left(alloc, ready.changes())?,
+            write: Some(ready),
+        }),
+        Err(error) => Err(refused_by_store(name, &error)),
+    }
+}
+
+/// The object that a write leaves, as JSON text.
+#[tactic(auto, unfolding(crate::specs::Create::text_left))]
+fn text_left(alloc: Global, changes: &[Change]) -> Result<Vec<u8>, Memory>
+    ensures { IfOk result (λ b. b.items ≡ creation.text_left (map_of plain_change changes.now)) }
+{
+    match changes {
+        [change] => object_text(alloc, &change.new),
+        _ => Ok(Vec::new(alloc)),
+    }
+}
+
+fn object_text(alloc: Global, object: &Option<Shared>) -> Result<Vec<u8>, Memory>
+    ensures { IfOk result (λ b. b.items ≡ tree_text (option_map tree_of object.now)) }
+{
+    match object {
+        Some(object) => object.get().render(alloc),
+        None => Ok(Vec::new(alloc)),
+    }
 }
 
 /// Reads a body; what is no JSON object of the row's kind and version is a bad request.
 #[tactic(auto, unfolding(crate::specs::Create::admitted_from))]
 fn admit(alloc: Global, row: &ResourceRow, body: &[u8]) -> Result<Admitted, CheckError>
-    ensures { Gives admitted_data result (admitted row.now body.now) }
+    ensures { Gives refused_by admitted_data result (admitted row.now body.now) }
 {
     match read_object(alloc, row, body) {
         Ok(object) => Ok(Admitted {
@@ -72,48 +140,54 @@ fn admit(alloc: Global, row: &ResourceRow, body: &[u8]) -> Result<Admitted, Chec
 }
 
 fn bad(word: BadWord) -> CheckError
-    ensures { result ≡ CheckError.Refused (Refusal.BadRequest word) }
+    ensures { refused_by result ≡ Some (asked_for (Refusal.BadRequest word)) }
 {
-    CheckError::Refused(Refusal::BadRequest(word))
+    CheckError::Refused(Refused::asked_for(Refusal::BadRequest(word)))
 }
 
-/// The refusal of a create for the object of a name.
-fn refused(name: Text, why: CreateRefusal) -> CheckError
-    ensures { result ≡ CheckError.Refused (refused_of name why) }
+/// A refusal of the object of that name.
+fn refused(name: Text, why: Refusal) -> CheckError
+    ensures { refused_by result ≡ Some (table.named name why) }
 {
-    CheckError::Refused(Refusal::Create(RefusedCreate { name, why }))
+    CheckError::Refused(Refused::named(name, why))
 }
 
 /// The name that the body gives, where it is one that objects of the row may have.
-#[tactic(auto, unfolding(crate::specs::Create::named))]
+#[tactic(auto, unfolding(crate::specs::Create::given_name))]
 fn check_given_name(alloc: Global, row: &ResourceRow, given: &GivenText) -> Result<Text, CheckError>
-    ensures { Gives (λ t. t) result (named row.now given.now) }
+    ensures { Gives refused_by (λ t. t) result (given_name row.now given.now) }
 {
     match given {
-        GivenText::Absent => Err(refused(
-            Text::copy_of(alloc, "")?,
-            CreateRefusal::Name(Cause::Required),
-        )),
-        GivenText::Mistyped => Err(refused(
-            Text::copy_of(alloc, "")?,
-            CreateRefusal::Name(Cause::WrongType),
-        )),
-        GivenText::Text(name) => check_name_text(row, name.copy(alloc)?),
+        GivenText::Absent => Err(bad_name(alloc, Text::copy_of(alloc, "")?, Cause::Required)?),
+        GivenText::Mistyped => Err(bad_name(alloc, Text::copy_of(alloc, "")?, Cause::WrongType)?),
+        GivenText::Text(name) => check_name_text(alloc, row, name.copy(alloc)?),
     }
 }
 
-#[tactic(auto, unfolding(crate::specs::Create::named_text))]
-fn check_name_text(row: &ResourceRow, name: Text) -> Result<Text, CheckError>
-    ensures { Gives (λ t. t) result (named_text row.now name) }
+#[tactic(auto, unfolding(crate::specs::Create::name_text))]
+fn check_name_text(alloc: Global, row: &ResourceRow, name: Text) -> Result<Text, CheckError>
+    ensures { Gives refused_by (λ t. t) result (name_text row.now name) }
 {
     if name.as_str().is_empty() {
-        return Err(refused(name, CreateRefusal::Name(Cause::Required)));
+        return Err(bad_name(alloc, name, Cause::Required)?);
     }
     if check_name(row, name.as_str()) {
         Ok(name)
     } else {
-        Err(refused(name, CreateRefusal::Name(Cause::BadValue)))
+        Err(bad_name(alloc, name, Cause::BadValue)?)
     }
+}
+
+/// A refusal of a body whose name is the one fault that is told.
+fn bad_name(alloc: Global, name: Text, cause: Cause) -> Result<CheckError, Memory>
+    ensures { IfOk result (λ e. refused_by e ≡ Some (creation.bad_name name cause)) }
+{
+    let mut faults = Vec::with_capacity(alloc, 1)?;
+    faults.push(FieldFault {
+        field: Text::copy_of(alloc, "metadata.name")?,
+        cause,
+    })?;
+    Ok(refused(name, Refusal::Invalid(Sequence::new(faults))))
 }
 
 /// A namespace that the body gives must be the path's.
@@ -124,17 +198,17 @@ fn check_namespace(
     name: &Text,
     given: &GivenText,
 ) -> Result<(), CheckError>
-    ensures { Gives (λ u. u) result (in_namespace_of namespace.now name.now given.now) }
+    ensures { Gives refused_by (λ u. u) result (creation.in_namespace namespace.now name.now given.now) }
 {
     if is_same_namespace(namespace, given) {
-        Ok(())
-    } else {
-        Err(refused(name.copy(alloc)?, CreateRefusal::OtherNamespace))
+        return Ok(());
     }
+    let name = name.copy(alloc)?;
+    Err(refused(name, Refusal::BadRequest(BadWord::Namespace)))
 }
 
 fn is_same_namespace(namespace: &str, given: &GivenText) -> bool
-    ensures { result ≡ is_same_namespace_of namespace.now given.now }
+    ensures { result ≡ creation.is_same_namespace namespace.now given.now }
 {
     match given {
         GivenText::Absent => true,
@@ -145,7 +219,7 @@ fn is_same_namespace(namespace: &str, given: &GivenText) -> bool
 
 /// The place of an object of a row: objects of cluster-scoped rows have no namespace.
 pub fn key_of(alloc: Global, row: &ResourceRow, namespace: &str, name: &str) -> Result<Key, Memory>
-    ensures { IfOk result (λ k. k ≡ key_of_lem row.now namespace.now name.now) }
+    ensures { IfOk result (λ k. k ≡ creation.key_of row.now namespace.now name.now) }
 {
     Ok(Key {
         group: row.group.copy(alloc)?,
@@ -161,20 +235,6 @@ fn namespace_on<'a>(row: &ResourceRow, namespace: &'a str) -> &'a str
     if row.namespaced { namespace } else { "" }
 }
 
-/// The namespace must exist, and the place be free.
-#[tactic(auto, unfolding(crate::specs::Create::free_place))]
-fn check_place(alloc: Global, store: &Store, key: &Key) -> Result<(), CheckError>
-    ensures { Gives (λ u. u) result (free_place (plain_of store.now) key.now) }
-{
-    if !store.has_namespace(key)? {
-        return Err(refused(key.name.copy(alloc)?, CreateRefusal::NoNamespace));
-    }
-    if store.has_object(key) {
-        return Err(refused(key.name.copy(alloc)?, CreateRefusal::AlreadyExists));
-    }
-    Ok(())
-}
-
 /// The object, where the body has no fault.
 #[tactic(auto, unfolding(crate::specs::Create::valid))]
 fn check_validity(
@@ -182,22 +242,12 @@ fn check_validity(
     name: &Text,
     object: Result<Object, Sequence<FieldFault>>,
 ) -> Result<Object, CheckError>
-    ensures { Gives tree_of result (valid name.now (object_data object)) }
+    ensures { Gives refused_by tree_of result (valid name.now (object_data object)) }
 {
     match object {
         Ok(object) => Ok(object),
-        Err(faults) => Err(refused(name.copy(alloc)?, CreateRefusal::Invalid(faults))),
+        Err(faults) => Err(refused(name.copy(alloc)?, Refusal::Invalid(faults))),
     }
-}
-
-#[tactic(auto, unfolding(crate::specs::Create::revision_left))]
-fn check_revision_left(alloc: Global, store: &Store, name: &Text) -> Result<(), CheckError>
-    ensures { Gives (λ u. u) result (revision_left (plain_of store.now) name.now) }
-{
-    if store.revision() == LAST_REVISION {
-        return Err(refused(name.copy(alloc)?, CreateRefusal::NoRevisionLeft));
-    }
-    Ok(())
 }
 
 /// The object with the namespace of its path.
@@ -219,7 +269,7 @@ fn placed(
 
 /// The object without its status, where that is a subresource of its own (Kubernetes API conventions, 'Spec and Status').
 fn unreported(row: &ResourceRow, object: Object) -> Object
-    ensures { tree_of result ≡ unreported_of row.now (tree_of object) }
+    ensures { tree_of result ≡ creation.unreported row.now (tree_of object) }
 {
     if row.has_status {
         object.without_status()

@@ -1,13 +1,11 @@
-//! What a request is answered: the checks in their order, the table of refusals, the replies.
+//! What a request is answered: its checks in their order, with a file for each kind of action, and the write that the reply tells of.
 #![tactic(auto)]
 
 mod authorization;
 mod create;
-mod headers;
-pub mod refusal;
-mod reply;
+mod get;
+pub mod outcome;
 pub mod respond;
-pub mod route;
-mod status;
 
-pub use respond::{Output, Prepared, answer};
+pub use kapi_reply::WrittenReply;
+pub use respond::{Prepared, answer};

@@ -1,5 +1,5 @@
 -- Bytes that come in are taken in as the machine that is data takes them.
-use Rattle.std.proofs.Common.{◌≡◌, ℕ, ◌+◌, ◌<◌, ◌≤◌, inl, inr, Bool, true, false, IsTrue, IsFalse, nat_le, List, ◌++◌, length, Some, Result, Ok, Err, BTreeMap, refl, sym, ap, ◌∙◌}
+use Rattle.std.proofs.Common.{◌≡◌, ℕ, ◌+◌, ◌<◌, ◌≤◌, inl, inr, Bool, true, false, IsTrue, IsFalse, nat_le, List, ◌++◌, length, Some, Result, Ok, Err, refl, sym, ap, ◌∙◌}
 use Rattle.std.proofs.lemmas.Bool.{leb-true, leb-false}
 use Rattle.std.proofs.lemmas.Map.Steps.{set_value_same}
 use Rattle.std.specs.Map.{lookup, set_value}
@@ -13,38 +13,36 @@ use Rattle.kapi_core.specs.declared.connection.Connection.{Connection}
 use Rattle.kapi_core.specs.declared.event.ConnId.{ConnId}
 use Rattle.kapi_core.specs.declared.event.Event.TheVariants as event
 use Rattle.kapi_core.specs.declared.event.Answer.TheVariants as told
-use Rattle.kapi_core.specs.declared.machine.Core.{Core}
 use Rattle.kapi_core.specs.Feeds.{Feeds}
 use Rattle.kapi_core.specs.Machine.{Machine}
-use Rattle.kapi_core.specs.Stands.{TakesIn, StandsFor}
+use Rattle.kapi_core.specs.Running.{Running}
+use Rattle.kapi_core.specs.Stands.{TakesIn}
 use Rattle.kapi_core.proofs.AlikeLinks.{link_there}
 use Rattle.kapi_core.proofs.Steps.{machine_of, made_for, not_early, told_late, fed, fed_full, fed_nowhere}
+use Rattle.kapi_http.specs.declared.inbox.TheConstants.{KEPT_LIMIT}
 
 -- with the same connections as before
-kept : (s : State) (es fs : List (ℕ × Connection)) (n : ℕ) (m : Machine) → fs ≡ es → StandsFor s es n m → StandsFor s fs n m
-kept s es fs n m is h = rw is h
-
-pub taken_in : (old : Core) (links : BTreeMap ℕ Connection) (conn : ConnId) (piece : List ℕ) (r : Result (Unit {0}) FeedError)
-    → Feeds old.connections.entries links.entries conn.0 piece r → TakesIn old (record old { connections = links }) conn piece r
+pub taken_in : (old : Running) (links : List (ℕ × Connection)) (conn : ConnId) (piece : List ℕ) (r : Result (Unit {0}) FeedError)
+    → Feeds old.connections links conn.0 piece r → TakesIn old (record old { connections = links }) conn piece r
 taken_in old links conn piece (Ok done) f = λ m h.
-    made_for old.store old.connections.entries old.next_id m old.store links.entries old.next_id (event.Feed conn piece) told.Done h
-    (fed old.store old.connections.entries links.entries old.next_id conn piece f.0 f.1 f.2 f.3)
+    made_for old.store old.policy old.connections old.next_id m old.store old.policy links old.next_id (event.Feed conn piece) told.Done h
+    (fed old.store old.policy old.connections links old.next_id conn piece f.0 f.1 f.2 f.3)
 taken_in old links conn piece (Err Full) f = λ m h. rw f.3
-    (made_for old.store old.connections.entries old.next_id m old.store old.connections.entries old.next_id (event.Feed conn piece) told.Full h
-    (fed_full old.store old.connections.entries old.next_id conn piece f.0 f.1 f.2))
+    (made_for old.store old.policy old.connections old.next_id m old.store old.policy old.connections old.next_id (event.Feed conn piece) told.Full h
+    (fed_full old.store old.policy old.connections old.next_id conn piece f.0 f.1 f.2))
 taken_in old links conn piece (Err Ended) f = λ m h. rw f.1
-    (made_for old.store old.connections.entries old.next_id m old.store old.connections.entries old.next_id (event.Feed conn piece) told.Ended h
-    (λ ps l. elim f.0 [
-      | inl none ↦ fed_nowhere old.store old.connections.entries old.next_id conn piece none ps l
-      | inr c ↦ let there = link_there (is_at (nat_cmp conn.0)) old.connections.entries ps c.0 l c.1 in
+    (made_for old.store old.policy old.connections old.next_id m old.store old.policy old.connections old.next_id (event.Feed conn piece) told.Ended h
+    (λ cs k p ps l. elim f.0 [
+      | inl none ↦ fed_nowhere old.store old.policy old.connections old.next_id conn piece none cs k p ps l
+      | inr c ↦ let there = link_there (is_at (nat_cmp conn.0)) old.connections ps c.0 l c.1 in
           absurd (let both : true ≡ false = sym c.2 ∙ there.2.2 in cc both)
     ]))
 taken_in old links conn piece (Err Memory) f = λ m h. (
   rw f.3 h,
-  not_early old.store old.connections.entries old.next_id m (event.Feed conn piece) h
-      (λ ps l. told_late (machine_of old.store old.next_id ps) (event.Feed conn piece) told.Done
-      (fed old.store old.connections.entries (set_value (is_at (nat_cmp conn.0)) old.connections.entries (record f.0 { inbox = record { kept = f.0.inbox.kept ++ piece; ended = false } }))
-      old.next_id conn piece f.0 f.1 f.2 refl ps l).0 refl),
+  not_early old.store old.policy old.connections old.next_id m (event.Feed conn piece) h
+      (λ cs k p ps l. told_late (machine_of old.store cs old.next_id ps) (event.Feed conn piece) told.Done
+      (fed old.store old.policy old.connections (set_value (is_at (nat_cmp conn.0)) old.connections (record f.0 { inbox = record { kept = f.0.inbox.kept ++ piece; ended = false } }))
+      old.next_id conn piece f.0 f.1 f.2 refl cs k p ps l).0 refl),
 )
 
 -- an inbox that did not change leaves the connections as they were
@@ -56,10 +54,10 @@ unchanged es fs id c u there is same =
 -- what an inbox answers, its connection does
 pub fed_from : (es fs : List (ℕ × Connection)) (id : ℕ) (piece : List ℕ) (c : Connection) (u : Unserved) (r : Result (Unit {0}) FeedError)
     → lookup (is_at (nat_cmp id)) es ≡ Some c → fs ≡ set_value (is_at (nat_cmp id)) es (record c { inbox = u })
-    → ((d : Unit {0}) → r ≡ Ok d → (u ≡ record { kept = c.inbox.kept ++ piece; ended = false }) × (length c.inbox.kept + length piece ≤ 2097152))
+    → ((d : Unit {0}) → r ≡ Ok d → (u ≡ record { kept = c.inbox.kept ++ piece; ended = false }) × (length c.inbox.kept + length piece ≤ KEPT_LIMIT))
     → ((e : FeedError) → r ≡ Err e → u ≡ c.inbox)
-    → (r ≡ Err Ended → c.inbox.ended ≡ true) → (r ≡ Err Full → 2097152 < length c.inbox.kept + length piece)
-    → (r ≡ Err Memory → length c.inbox.kept + length piece ≤ 2097152)
+    → (r ≡ Err Ended → c.inbox.ended ≡ true) → (r ≡ Err Full → KEPT_LIMIT < length c.inbox.kept + length piece)
+    → (r ≡ Err Memory → length c.inbox.kept + length piece ≤ KEPT_LIMIT)
     → Feeds es fs id piece r
 fed_from es fs id piece c u (Ok done) there is ok same ended full memory =
     (c, there, (ok done refl).1, is ∙ ap (λ v. set_value (is_at (nat_cmp id)) es (record c { inbox = v })) (ok done refl).0)
@@ -68,11 +66,11 @@ fed_from es fs id piece c u (Err Ended) there is ok same ended full memory = (in
 fed_from es fs id piece c u (Err Memory) there is ok same ended full memory = (c, there, memory refl, unchanged es fs id c u there is (same Memory refl))
 
 -- where want of memory is answered, the inbox goes on and the bytes fit
-pub memory_fits : (r : Result (Unit {0}) FeedError) (ended : Bool) (n : ℕ) → (IsTrue ended → r ≡ Err Ended) → (IsFalse ended × (2097152 < n) → r ≡ Err Full)
-    → r ≡ Err Memory → n ≤ 2097152
+pub memory_fits : (r : Result (Unit {0}) FeedError) (ended : Bool) (n : ℕ) → (IsTrue ended → r ≡ Err Ended) → (IsFalse ended × (KEPT_LIMIT < n) → r ≡ Err Full)
+    → r ≡ Err Memory → n ≤ KEPT_LIMIT
 memory_fits r true n if_ended if_full is = absurd (let both : Err Ended ≡ Err Memory = sym (if_ended refl) ∙ is in cc both)
 memory_fits r false n if_ended if_full is =
-    elim (nat_le n 2097152) as (λ b. nat_le n 2097152 ≡ b → n ≤ 2097152) [
-      | true ↦ λ fits. leb-true n 2097152 fits
-      | false ↦ λ many. absurd (let both : Err Full ≡ Err Memory = sym (if_full (refl, leb-false n 2097152 many)) ∙ is in cc both)
+    elim (nat_le n KEPT_LIMIT) as (λ b. nat_le n KEPT_LIMIT ≡ b → n ≤ KEPT_LIMIT) [
+      | true ↦ λ fits. leb-true n KEPT_LIMIT fits
+      | false ↦ λ many. absurd (let both : Err Full ≡ Err Memory = sym (if_full (refl, leb-false n KEPT_LIMIT many)) ∙ is in cc both)
     ] refl

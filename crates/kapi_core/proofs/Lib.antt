@@ -5,3 +5,7 @@ pub mod Steps
 pub mod Feeding
 pub mod RunsOut
 pub mod Runs
+pub mod Tables
+pub mod Openings
+pub mod Fitting
+pub mod Opened

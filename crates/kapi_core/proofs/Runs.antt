@@ -2,7 +2,7 @@
 use Rattle.std.proofs.Common.{◌≡◌, ◌+◌, List, [], ◌∷◌, ◌++◌, length, refl, sym, ap, ◌∙◌, subst, length-append}
 use Rattle.kapi_core.specs.declared.event.Event.{Event}
 use Rattle.kapi_core.specs.declared.event.Answer.{Answer}
-use Rattle.kapi_core.specs.declared.machine.Core.{Core}
+use Rattle.kapi_core.specs.Running.{Running}
 use Rattle.kapi_core.specs.Machine.{Machine, step, answers, after}
 use Rattle.kapi_core.specs.Stands.{Stands, Pushes}
 
@@ -17,18 +17,18 @@ after_push m [] e = refl
 after_push m (x ∷ es) e = after_push (step m x).1 es e
 
 -- what was answered so far, and the machine that is stood for
-pub record Ran (initial now : Core) (told : List Answer) (events : List Event) : Type 0 where
+pub record Ran (initial now : Running) (told : List Answer) (events : List Event) : Type 0 where
   pub count : length told ≡ length events
   pub answered : (m : Machine) → Stands initial m → told ≡ answers m events
   pub stands : (m : Machine) → Stands initial m → Stands now (after m events)
 
 -- nothing was run
-pub ran_nothing : (core : Core) → Ran core core [] []
+pub ran_nothing : (core : Running) → Ran core core [] []
 unfolding answers after
 ran_nothing core = record { count = refl; answered = λ m h. refl; stands = λ m h. h }
 
 -- one step more
-pub ran_push : (initial now next : Core) (told more : List Answer) (events : List Event) (e : Event) → Ran initial now told events → Pushes now next e told more
+pub ran_push : (initial now next : Running) (told more : List Answer) (events : List Event) (e : Event) → Ran initial now told events → Pushes now next e told more
     → Ran initial next more (events ++ e ∷ [])
 ran_push initial now next told more events e ran push = record {
   count = ap length push.1 ∙ length-append told (push.0 ∷ []) ∙ ap (λ n. n + 1) ran.count ∙ sym (length-append events (e ∷ []));

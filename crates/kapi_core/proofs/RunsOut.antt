@@ -3,33 +3,35 @@ use Rattle.std.proofs.Common.{◌≡◌, ℕ, nat_lt, nat_le, ◌&&◌, true, fa
 use Rattle.std.specs.BTreeMap.{insert_entry}
 use Rattle.std.specs.Ordering.{nat_cmp}
 use Rattle.std.specs.declared.alloc.AllocError.{AllocError}
-use Rattle.kapi_answer.specs.declared.respond.Output.{Output}
 use Rattle.kapi_rbac_types.specs.declared.identity.Identity.{Identity}
+use Rattle.kapi_policy.specs.Objects.{PolicyObjects}
 use Rattle.kapi_store.specs.State.{State}
 use Rattle.kapi_core.specs.Machine.{Machine, step}
 use Rattle.kapi_core.specs.Stands.{StandsFor, is_early, RunsOut, Sends, Steps}
 use Rattle.kapi_core.specs.declared.connection.Connection.{Connection}
 use Rattle.kapi_core.specs.declared.event.Answer.{Answer}
 use Rattle.kapi_core.specs.declared.event.Answer.TheVariants as told
+use Rattle.kapi_core.specs.declared.event.Output.{Output}
 use Rattle.kapi_core.specs.declared.event.Event.{Event}
 use Rattle.kapi_core.specs.declared.event.Event.TheVariants as event
-use Rattle.kapi_core.specs.declared.machine.Core.{Core}
+use Rattle.kapi_core.specs.Running.{Running}
 use Rattle.kapi_core.proofs.Steps.{machine_of, not_early, told_late, opened, new_connection}
+use Rattle.kapi_core.specs.declared.machine.TheConstants.{LAST_CONNECTION, OPEN_CONNECTIONS}
 
 -- an error of a step
-pub steps_err : (old new : Core) (e : Event) (r : Result Answer AllocError) → IsErr r → RunsOut old new e → Steps old new e r
+pub steps_err : (old new : Running) (e : Event) (r : Result Answer AllocError) → IsErr r → RunsOut old new e → Steps old new e r
 steps_err old new e (Ok answer) h out = absurd (cc h)
 steps_err old new e (Err error) h out = out
 
 -- an error of a call that sends
-pub sends_err : (old new : Core) (e : Event) (r : Result (Option Output) AllocError) → IsErr r → RunsOut old new e → Sends old new e r
+pub sends_err : (old new : Running) (e : Event) (r : Result (Option Output) AllocError) → IsErr r → RunsOut old new e → Sends old new e r
 sends_err old new e (Ok output) h out = absurd (cc h)
 sends_err old new e (Err error) h out = out
 
 -- where there is room for a connection, it is opened
-pub room_is_late : (s : State) (es : List (ℕ × Connection)) (n : ℕ) (m : Machine) (identity : Identity) → (nat_lt (length es) 256 && nat_le n 999999999999999999) ≡ true
-    → StandsFor s es n m → is_early (step m (event.Open identity)).0 ≡ false
-room_is_late s es n m identity room h =
-    not_early s es n m (event.Open identity) h
-    (λ ps l. told_late (machine_of s n ps) (event.Open identity) (told.Opened (record { 0 = n }))
-    (opened s es (insert_entry nat_cmp es n (new_connection identity)) n identity room refl ps l).0 refl)
+pub room_is_late : (s : State) (o : PolicyObjects) (es : List (ℕ × Connection)) (n : ℕ) (m : Machine) (identity : Identity) → (nat_lt (length es) OPEN_CONNECTIONS && nat_le n LAST_CONNECTION) ≡ true
+    → StandsFor s o es n m → is_early (step m (event.Open identity)).0 ≡ false
+room_is_late s o es n m identity room h =
+    not_early s o es n m (event.Open identity) h
+    (λ cs k p ps l. told_late (machine_of s cs n ps) (event.Open identity) (told.Opened (record { 0 = n }))
+    (opened s o es (insert_entry nat_cmp es n (new_connection identity)) n identity room refl cs k p ps l).0 refl)

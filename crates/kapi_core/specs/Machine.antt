@@ -8,11 +8,16 @@ use Rattle.kapi_http.specs.Cut.{first}
 use Rattle.kapi_http.specs.declared.message.HttpFault.{HttpFault}
 use Rattle.kapi_http.specs.declared.message.HttpRequest.{HttpRequest}
 use Rattle.kapi_rbac_types.specs.declared.identity.Identity.{Identity}
-use Rattle.kapi_store.specs.Plain.{Plain, written}
+use Rattle.kapi_policy.specs.Objects.{PolicyObjects}
+use Rattle.kapi_store.specs.Plain.{Plain, PlainChange, written}
+use Rattle.kapi_stored_policy.specs.Reading.{policy_changes, policy_objects}
 use Rattle.kapi_core.specs.declared.event.Event.{Event}
 use Rattle.kapi_core.specs.declared.event.Event.TheVariants as event
 use Rattle.kapi_core.specs.declared.event.Answer.{Answer}
 use Rattle.kapi_core.specs.declared.event.Answer.TheVariants as told
+use Rattle.kapi_core.specs.declared.event.Output.{Output}
+use Rattle.kapi_core.specs.declared.machine.TheConstants.{LAST_CONNECTION, OPEN_CONNECTIONS}
+use Rattle.kapi_http.specs.declared.inbox.TheConstants.{KEPT_LIMIT}
 
 -- a connection: who makes its requests, all bytes that it ever sent, and how many of its requests were served
 pub record Link : Type 0 where
@@ -20,30 +25,40 @@ pub record Link : Type 0 where
   pub sent : List ℕ
   pub served : ℕ
 
--- the objects, the next number, and the open connections by number; one that was closed or has ended is not among them
+-- the objects, all changes that ever made them, the next number, and the open connections by number; one that was closed or has ended
+-- is not among them
 pub record Machine : Type 0 where
   pub store : Plain
+  pub changes : List PlainChange
   pub next_id : ℕ
   pub links : List (ℕ × Link)
 
+-- its policy: the roles and bindings among its objects
+abbrev pub policy_of : Machine → PolicyObjects
+policy_of m = policy_objects m.store.objects
+
 -- ---- connections
 
+-- the open connection of a number
 abbrev pub link_at : ℕ → Machine → Option Link
 link_at id m = lookup (is_at (nat_cmp id)) m.links
 
+-- the machine with that connection in place of the one of its number
 abbrev pub with_link : ℕ → Link → Machine → Machine
 with_link id l m = record m { links = set_value (is_at (nat_cmp id)) m.links l }
 
+-- the machine with one connection more
 abbrev pub with_new_link : ℕ → Link → Machine → Machine
 with_new_link id l m = record m { links = insert_entry nat_cmp m.links id l; next_id = id + 1 }
 
+-- the machine without the connection of a number
 abbrev pub without_link : ℕ → Machine → Machine
 without_link id m = record m { links = remove_entry (is_at (nat_cmp id)) m.links }
 
--- what stands behind the request that the bytes begin with
+-- what stands behind the request that the bytes begin with; where they begin with none, nothing is taken
 abbrev pub behind : Option (Result HttpRequest HttpFault) → List ℕ → List ℕ
-behind None bytes = []
-behind (Some (Err fault)) bytes = []
+behind None bytes = bytes
+behind (Some (Err fault)) bytes = bytes
 behind (Some (Ok request)) bytes = drop request.length bytes
 
 -- what stands behind so many requests
@@ -60,7 +75,7 @@ unserved l = rest_after l.served l.sent
 -- a connection is opened: at most 256 at a time, with numbers of at most 18 digits
 unfoldable pub open_step : Identity → Machine → Answer × Machine
 open_step identity m =
-    if nat_lt (length m.links) 256 && nat_le m.next_id 999999999999999999
+    if nat_lt (length m.links) OPEN_CONNECTIONS && nat_le m.next_id LAST_CONNECTION
     then (told.Opened (record { 0 = m.next_id }), with_new_link m.next_id (record { identity = identity; sent = []; served = 0 }) m)
     else (told.TooMany, m)
 
@@ -68,7 +83,7 @@ open_step identity m =
 unfoldable pub feed_step : ℕ → List ℕ → Option Link → Machine → Answer × Machine
 feed_step id piece None m = (told.Ended, m)
 feed_step id piece (Some l) m =
-    if nat_le (length (unserved l) + length piece) 2097152
+    if nat_le (length (unserved l) + length piece) KEPT_LIMIT
     then (told.Done, with_link id (record l { sent = l.sent ++ piece }) m)
     else (told.Full, m)
 
@@ -76,18 +91,25 @@ feed_step id piece (Some l) m =
 abbrev pub ended_if : Bool → ℕ → Machine → Machine
 ended_if close id m = if close then without_link id m else m
 
+-- the machine after some changes
+abbrev pub changed : List PlainChange → Machine → Machine
+changed cs m = record m { store = written cs m.store; changes = m.changes ++ cs }
+
+-- what goes out, and what the step changed in the policy
+abbrev pub output_of : Answered → Output
+output_of answered = record { bytes = answered.0.bytes; close = answered.0.close; policy_changes = policy_changes answered.1 }
+
 -- one request more was served, and its changes were made
 unfoldable pub after_serve : ℕ → Link → Answered → Machine → Answer × Machine
 after_serve id l answered m = (
-  told.Sent answered.0,
-  ended_if answered.0.close id
-      (record (with_link id (record l { served = suc l.served }) m) { store = written answered.1 m.store }),
+  told.Sent (output_of answered),
+  ended_if answered.0.close id (changed answered.1 (with_link id (record l { served = suc l.served }) m)),
 )
 
--- the answer to what was cut, if anything was
+-- the answer to what was cut, if anything was, by the roles and bindings that there are
 unfoldable pub serve_item : ℕ → Link → Option (Result HttpRequest HttpFault) → Machine → Answer × Machine
 serve_item id l None m = (told.Nothing, m)
-serve_item id l (Some item) m = after_serve id l (answer m.store l.identity item) m
+serve_item id l (Some item) m = after_serve id l (answer (policy_of m) m.store l.identity item) m
 
 -- the next whole request of a connection is answered
 unfoldable pub serve_step : ℕ → Option Link → Machine → Answer × Machine
@@ -108,6 +130,7 @@ unfoldable pub answers : Machine → List Event → List Answer
 answers m [] = []
 answers m (e ∷ es) = (step m e).0 ∷ answers (step m e).1 es
 
+-- the machine after a list of events
 unfoldable pub after : Machine → List Event → Machine
 after m [] = m
 after m (e ∷ es) = after (step m e).1 es

@@ -1,13 +1,15 @@
 -- When the running machine stands for one that is data.
-use Rattle.std.specs.Prelude.{◌≡◌, ℕ, zero, suc, Bool, true, false, List, [], ◌∷◌, ◌++◌, drop, Option, None, Some, Result, Ok, Err}
+use Rattle.std.specs.Prelude.{◌≡◌, ℕ, ◌+◌, zero, suc, Bool, true, false, List, [], ◌∷◌, ◌++◌, drop, Option, None, Some, Result, Ok, Err}
 use Rattle.std.specs.declared.alloc.AllocError.{AllocError}
 use Rattle.kapi_http.specs.Cut.{first}
 use Rattle.kapi_http.specs.declared.message.HttpRequest.{HttpRequest}
-use Rattle.kapi_answer.specs.declared.respond.Output.{Output}
 use Rattle.kapi_http.specs.declared.inbox.FeedError.{FeedError}
 use Rattle.kapi_http.specs.declared.inbox.FeedError.TheVariants as fed
 use Rattle.kapi_rbac_types.specs.declared.identity.Identity.{Identity}
-use Rattle.kapi_store.specs.Plain.{plain_of}
+use Rattle.kapi_store.specs.Plain.{StandsFor as StoreStands, plain_of}
+use Rattle.std.specs.Map.{keys_of}
+use Rattle.kapi_core.specs.Opening.{opening_keys}
+use Rattle.kapi_policy.specs.Objects.{PolicyObjects}
 use Rattle.kapi_store.specs.State.{State}
 use Rattle.kapi_core.specs.declared.connection.Connection.{Connection}
 use Rattle.kapi_core.specs.declared.event.ConnId.{ConnId}
@@ -17,8 +19,9 @@ use Rattle.kapi_core.specs.declared.event.OpenError.{OpenError}
 use Rattle.kapi_core.specs.declared.event.OpenError.TheVariants as refused
 use Rattle.kapi_core.specs.declared.event.Answer.{Answer}
 use Rattle.kapi_core.specs.declared.event.Answer.TheVariants as told
-use Rattle.kapi_core.specs.declared.machine.Core.{Core}
-use Rattle.kapi_core.specs.Machine.{Link, Machine, step}
+use Rattle.kapi_core.specs.declared.event.Output.{Output}
+use Rattle.kapi_core.specs.Machine.{Link, Machine, policy_of, step}
+use Rattle.kapi_core.specs.Running.{Running}
 
 -- so many whole requests stand in front of the rest
 unfoldable pub Serves : ℕ → List ℕ → List ℕ → Type 0
@@ -36,22 +39,23 @@ AreLinks [] (p ∷ ps) = ⊥
 AreLinks (e ∷ es) [] = ⊥
 AreLinks (e ∷ es) (p ∷ ps) = (e.0 ≡ p.0) × IsLink e.1 p.1 × AreLinks es ps
 
--- the store, the connections and the next number of a machine that is data
-pub record StandsFor (kept : State) (es : List (ℕ × Connection)) (next : ℕ) (m : Machine) : Type 0 where
-  pub store : plain_of kept ≡ m.store
+-- the store with its window, the policy, the connections and the next number of a machine that is data
+pub record StandsFor (kept : State) (policy : PolicyObjects) (es : List (ℕ × Connection)) (next : ℕ) (m : Machine) : Type 0 where
+  pub store : StoreStands kept m.changes m.store
+  pub policy_is : policy ≡ policy_of m
   pub next_id : next ≡ m.next_id
   pub links : AreLinks es m.links
 
 -- the running machine stands for the one that is data
-abbrev pub Stands : Core → Machine → Type 0
-Stands core m = StandsFor core.store core.connections.entries core.next_id m
+abbrev pub Stands : Running → Machine → Type 0
+Stands core m = StandsFor core.store core.policy core.connections core.next_id m
 
 -- a step as the machine makes it, for every machine that was stood for
-abbrev pub Makes : Core → Core → Event → Answer → Type 0
+abbrev pub Makes : Running → Running → Event → Answer → Type 0
 Makes old new event answer = (m : Machine) → Stands old m → (answer ≡ (step m event).0) × Stands new (step m event).1
 
 -- nothing was changed
-abbrev pub Keeps : Core → Core → Type 0
+abbrev pub Keeps : Running → Running → Type 0
 Keeps old new = (m : Machine) → Stands old m → Stands new m
 
 -- the answers that are told before any memory is taken
@@ -62,17 +66,19 @@ is_early told.Ended = true
 is_early _ = false
 
 -- memory ran out: nothing was changed, and none of those answers was due
-abbrev pub RunsOut : Core → Core → Event → Type 0
+abbrev pub RunsOut : Running → Running → Event → Type 0
 RunsOut old new event = (m : Machine) → Stands old m → Stands new m × (is_early (step m event).0 ≡ false)
 
 -- ---- what each call answers
 
-abbrev pub Opens : Core → Core → Identity → Result ConnId OpenError → Type 0
+-- an open answers the number, or that there are too many
+abbrev pub Opens : Running → Running → Identity → Result ConnId OpenError → Type 0
 Opens old new identity (Ok id) = Makes old new (event.Open identity) (told.Opened id)
 Opens old new identity (Err refused.TooMany) = Makes old new (event.Open identity) told.TooMany
 Opens old new identity (Err refused.Memory) = RunsOut old new (event.Open identity)
 
-abbrev pub TakesIn : Core → Core → ConnId → List ℕ → Result (Unit {0}) FeedError → Type 0
+-- a feed answers that it is done, or why not
+abbrev pub TakesIn : Running → Running → ConnId → List ℕ → Result (Unit {0}) FeedError → Type 0
 TakesIn old new conn piece (Ok done) = Makes old new (event.Feed conn piece) told.Done
 TakesIn old new conn piece (Err fed.Full) = Makes old new (event.Feed conn piece) told.Full
 TakesIn old new conn piece (Err fed.Ended) = Makes old new (event.Feed conn piece) told.Ended
@@ -83,14 +89,20 @@ abbrev pub sent_if : Option Output → Answer
 sent_if None = told.Nothing
 sent_if (Some output) = told.Sent output
 
-abbrev pub Sends : Core → Core → Event → Result (Option Output) AllocError → Type 0
+-- a call that sends answers what is sent
+abbrev pub Sends : Running → Running → Event → Result (Option Output) AllocError → Type 0
 Sends old new event (Ok output) = Makes old new event (sent_if output)
 Sends old new event (Err e) = RunsOut old new event
 
-abbrev pub Steps : Core → Core → Event → Result Answer AllocError → Type 0
+-- a step answers what the machine does
+abbrev pub Steps : Running → Running → Event → Result Answer AllocError → Type 0
 Steps old new event (Ok answer) = Makes old new event answer
 Steps old new event (Err e) = RunsOut old new event
 
 -- one step more was made, and its answer put at the end
-abbrev pub Pushes : Core → Core → Event → List Answer → List Answer → Type 0
+abbrev pub Pushes : Running → Running → Event → List Answer → List Answer → Type 0
 Pushes old new event xs ys = (answer : Answer) × (ys ≡ xs ++ answer ∷ []) × Makes old new event answer
+
+-- the five opening objects stand, and took the five revisions after the first
+abbrev pub HasOpened : Running → ℕ → Type 0
+HasOpened core first = (keys_of (plain_of core.store).objects ≡ opening_keys) × (core.store.revision ≡ first + 5)

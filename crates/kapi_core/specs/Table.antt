@@ -1,69 +1,81 @@
 -- Which tables of resources can be served.
-use Rattle.std.specs.Prelude.{ℕ, Bool, true, false, not, ◌&&◌, ◌||◌, List, [], ◌∷◌, codes}
+use Rattle.std.specs.Prelude.{ℕ, ◌==◌, Bool, true, false, not, ◌&&◌, ◌||◌, List, [], ◌∷◌, codes}
+use Rattle.std.specs.Bool.{beq}
 use Rattle.std.specs.List.{list_all, list_any}
 use Rattle.std.specs.Str.{bytes_eq}
-use Rattle.kapi_object.specs.Kinds.{rbac_group}
-use Rattle.kapi_object.specs.declared.row.ResourceRow.{ResourceRow}
-use Rattle.kapi_object.specs.declared.row.Schema.{Schema}
-use Rattle.kapi_object.specs.declared.row.Schema.TheVariants as schema
+use Rattle.kapi_names.specs.Kinds.{rbac_group}
+use Rattle.kapi_names.specs.declared.row.ResourceRow.{ResourceRow}
+use Rattle.kapi_names.specs.declared.row.Schema.{Schema}
+use Rattle.kapi_names.specs.declared.row.Schema.TheVariants as schema
+use Rattle.kapi_core.specs.declared.resource.Resource.{Resource}
 
--- a row of version v1 of a group
-abbrev pub is_row : List ℕ → List ℕ → List ℕ → ResourceRow → Bool
-is_row group plural kind row =
-    bytes_eq row.group group && (bytes_eq row.version (codes "v1") && (bytes_eq row.plural plural && bytes_eq row.kind kind))
+-- a resource as the row of a table: all are of version v1
+abbrev pub row_of : Resource → ResourceRow
+row_of r = record {
+  group = r.group.now;
+  version = codes "v1";
+  plural = r.plural.now;
+  kind = r.kind.now;
+  namespaced = r.namespaced;
+  has_status = r.has_status;
+  schema = r.schema;
+}
 
--- the schemas, one test each
-abbrev pub is_open : Schema → Bool
-is_open schema.Open = true
-is_open _ = false
-
-abbrev pub is_role : Schema → Bool
-is_role schema.Role = true
-is_role _ = false
-
-abbrev pub is_cluster_role : Schema → Bool
-is_cluster_role schema.ClusterRole = true
-is_cluster_role _ = false
-
-abbrev pub is_role_binding : Schema → Bool
-is_role_binding schema.RoleBinding = true
-is_role_binding _ = false
-
-abbrev pub is_cluster_role_binding : Schema → Bool
-is_cluster_role_binding schema.ClusterRoleBinding = true
-is_cluster_role_binding _ = false
+-- the same, from its parts
+abbrev pub v1_row : List ℕ → List ℕ → List ℕ → Bool → Bool → Schema → ResourceRow
+v1_row group plural kind namespaced has_status of =
+    record { group = group; version = codes "v1"; plural = plural; kind = kind; namespaced = namespaced; has_status = has_status; schema = of }
 
 -- namespaces are in no namespace and have a status (Kubernetes API, `Namespace` of v1)
-unfoldable pub is_namespaces : ResourceRow → Bool
-is_namespaces row = is_row [] (codes "namespaces") (codes "Namespace") row && (not row.namespaced && row.has_status)
+abbrev pub namespaces_row : ResourceRow
+namespaces_row = v1_row [] (codes "namespaces") (codes "Namespace") false true schema.Open
 
 -- the four kinds of the policy (Kubernetes API, rbac.authorization.k8s.io/v1)
-unfoldable pub is_roles : ResourceRow → Bool
-is_roles row = is_row rbac_group (codes "roles") (codes "Role") row && (row.namespaced && (not row.has_status && is_role row.schema))
+abbrev pub roles_row : ResourceRow
+roles_row = v1_row rbac_group (codes "roles") (codes "Role") true false schema.Role
 
-unfoldable pub is_cluster_roles : ResourceRow → Bool
-is_cluster_roles row =
-    is_row rbac_group (codes "clusterroles") (codes "ClusterRole") row && (not row.namespaced && (not row.has_status && is_cluster_role row.schema))
+-- role bindings
+abbrev pub role_bindings_row : ResourceRow
+role_bindings_row = v1_row rbac_group (codes "rolebindings") (codes "RoleBinding") true false schema.RoleBinding
 
-unfoldable pub is_role_bindings : ResourceRow → Bool
-is_role_bindings row =
-    is_row rbac_group (codes "rolebindings") (codes "RoleBinding") row && (row.namespaced && (not row.has_status && is_role_binding row.schema))
+-- cluster roles
+abbrev pub cluster_roles_row : ResourceRow
+cluster_roles_row = v1_row rbac_group (codes "clusterroles") (codes "ClusterRole") false false schema.ClusterRole
 
-unfoldable pub is_cluster_role_bindings : ResourceRow → Bool
-is_cluster_role_bindings row =
-    is_row rbac_group (codes "clusterrolebindings") (codes "ClusterRoleBinding") row
-    && (not row.namespaced && (not row.has_status && is_cluster_role_binding row.schema))
-
--- a row of an open schema, or one of those four
-unfoldable pub is_known : ResourceRow → Bool
-is_known row = is_open row.schema || (is_roles row || (is_cluster_roles row || (is_role_bindings row || is_cluster_role_bindings row)))
+-- cluster role bindings
+abbrev pub cluster_role_bindings_row : ResourceRow
+cluster_role_bindings_row = v1_row rbac_group (codes "clusterrolebindings") (codes "ClusterRoleBinding") false false schema.ClusterRoleBinding
 
 -- the rows that each table has
-abbrev pub has_rows : List ResourceRow → Bool
-has_rows table =
-    list_any is_namespaces table
-    && (list_any is_roles table
-    && (list_any is_cluster_roles table && (list_any is_role_bindings table && list_any is_cluster_role_bindings table)))
+unfoldable pub required_rows : List ResourceRow
+required_rows = namespaces_row ∷ roles_row ∷ role_bindings_row ∷ cluster_roles_row ∷ cluster_role_bindings_row ∷ []
+
+-- the same schema
+abbrev pub is_schema : Schema → Schema → Bool
+is_schema schema.Open schema.Open = true
+is_schema schema.Role schema.Role = true
+is_schema schema.ClusterRole schema.ClusterRole = true
+is_schema schema.RoleBinding schema.RoleBinding = true
+is_schema schema.ClusterRoleBinding schema.ClusterRoleBinding = true
+is_schema _ _ = false
+
+-- alike but for their names
+abbrev pub has_form : ResourceRow → ResourceRow → Bool
+has_form a b = beq a.namespaced b.namespaced && (beq a.has_status b.has_status && is_schema a.schema b.schema)
+
+-- the same row
+unfoldable pub is_row : ResourceRow → ResourceRow → Bool
+is_row a b =
+    bytes_eq a.group b.group
+    && (bytes_eq a.version b.version && (bytes_eq a.plural b.plural && (bytes_eq a.kind b.kind && has_form a b)))
+
+-- some row of the table is that one
+abbrev pub has_row : List ResourceRow → ResourceRow → Bool
+has_row table row = list_any (is_row row) table
+
+-- a row of an open schema, or one of those that each table has
+abbrev pub is_known : ResourceRow → Bool
+is_known row = is_schema row.schema schema.Open || list_any (λ required. is_row required row) required_rows
 
 -- rows of one group that share the plural or the kind
 abbrev pub is_like : ResourceRow → ResourceRow → Bool
@@ -76,4 +88,4 @@ rows_differ (row ∷ later) = not (list_any (λ other. is_like row other) later)
 
 -- a table that can be served
 abbrev pub fits : List ResourceRow → Bool
-fits table = has_rows table && (list_all is_known table && rows_differ table)
+fits table = list_all (has_row table) required_rows && (list_all is_known table && rows_differ table)

@@ -1,4 +1,4 @@
-use kapi_answer::Output;
+use kapi_policy::PolicyChange;
 use kapi_rbac_types::Identity;
 use kapi_text::{Memory, Sequence, Text};
 use thiserror::Error;
@@ -29,6 +29,16 @@ pub enum Event {
 pub struct Turned {
     pub revision: u64,
     pub name: Text,
+}
+
+/// What goes out on a connection, and what the step changed in the policy.
+#[derive(Debug, Drop)]
+pub struct Output {
+    pub bytes: Sequence<u8>,
+    /// The connection has ended with these bytes.
+    pub close: bool,
+    /// None, one put, or deletions alone.
+    pub policy_changes: Sequence<PolicyChange>,
 }
 
 /// What the machine answers to an event.

@@ -6,11 +6,13 @@ mod event;
 mod links;
 mod machine;
 mod opening;
+mod resource;
 mod run;
 mod table;
+mod write;
 
-pub use event::{Answer, ConnId, Event, OpenError, Outputs, Turned};
-pub use kapi_answer::Output;
+pub use event::{Answer, ConnId, Event, OpenError, Output, Outputs, Turned};
 pub use machine::{Core, LAST_CONNECTION, OPEN_CONNECTIONS};
 pub use opening::LAST_FIRST;
+pub use resource::{Resource, required_resources};
 pub use table::table_fits;

@@ -1,27 +1,30 @@
-ghost use Rattle.std.specs.Prelude.{◌≡◌, ◌≤◌, ◌&&◌, nat_lt, nat_le, length, [], None, IfOk, IfSome, IsTrue, if◌then◌else◌};
+ghost use Rattle.std.specs.Prelude.{true, ◌≡◌, ◌≤◌, ◌&&◌, ◌++◌, List, nat_lt, nat_le, length, [], None, IfOk, IfSome, IsTrue, if◌then◌else◌};
 ghost use Rattle.std.specs.BTreeMap.{is_at};
 ghost use Rattle.std.specs.Map.{remove_entry};
 ghost use Rattle.std.specs.Ordering.{nat_cmp};
 ghost use Rattle.kapi_core.specs.Opening.{opening};
+ghost use Rattle.kapi_core.specs.Table.{fits};
+ghost use Rattle.kapi_core.specs.Stands.{HasOpened};
 ghost use Rattle.kapi_core.specs.Stands.{Opens, TakesIn, Sends, Makes, Keeps, Stands};
 ghost use Rattle.kapi_core.specs.declared.event.Event.TheVariants as Event;
 ghost use Rattle.kapi_core.specs.declared.event.Answer.TheVariants as Answer;
-ghost use Rattle.kapi_answer.specs.Answers.{changes_data};
-ghost use Rattle.kapi_store.specs.Plain.{plain_of, written};
-ghost use Rattle.kapi_store.specs.State.{Fits};
+ghost use Rattle.kapi_policy.specs.Objects.{no_objects};
 
 use crate::connection::Connection;
-use crate::event::{ConnId, OpenError, Turned};
+use crate::event::{ConnId, OpenError, Output, Turned};
 use crate::links::{done_at, feed_at};
-use crate::opening::{LAST_FIRST, open_store};
-use kapi_answer::{Output, Prepared, answer};
+use crate::opening::{LAST_FIRST, open_objects};
+use crate::write::make_write;
+use kapi_answer::{Prepared, answer};
 use kapi_http::{FeedError, Inbox};
-use kapi_object::ResourceRow;
+use kapi_names::ResourceRow;
+use kapi_policy::Policy;
 use kapi_rbac_types::Identity;
-use kapi_store::{Ready, Store};
+use kapi_store::Store;
 use kapi_text::{Memory, Sequence};
 use std::alloc::Global;
 use std::collections::BTreeMap;
+use std::marker::Model;
 
 /// How many connections may be open at a time.
 pub const OPEN_CONNECTIONS: usize = 256;
@@ -29,28 +32,71 @@ pub const OPEN_CONNECTIONS: usize = 256;
 /// The last number that a connection may have.
 pub const LAST_CONNECTION: u64 = 999_999_999_999_999_999;
 
-/// The machine: the objects, and the open connections.
-#[derive(Drop)]
-pub struct Core {
+/// The machine: the objects, the roles and bindings among them as a policy that decides, and the open connections.
+pub struct Core<P: Policy + Drop> {
     alloc: Global,
     store: Store,
+    policy: P,
     connections: BTreeMap<u64, Connection>,
     next_id: u64,
 }
 
-impl Core {
-    /// A machine with the opening objects at the revisions after `first`, and no connection.
-    pub fn new(alloc: Global, table: Sequence<ResourceRow>, first: u64) -> Result<Core, Memory>
-        requires { first ≤ LAST_FIRST }
-        ensures { IfOk result (λ core. Stands core (opening table first)) }
+// It is written out, so that a caller does not prove again how each part is dropped.
+impl<P: Policy + Drop> Drop for Core<P> {
+    fn drop(self) {
+        let Core {
+            alloc: _,
+            store: _,
+            policy: _,
+            connections: _,
+            next_id: _,
+        } = self;
+    }
+}
+
+impl<P: Policy + Drop> Model for Core<P> {
+    ghost use Rattle.std.specs.Coded.{codes};
+    ghost use Rattle.kapi_object.specs.contracts.object.Object as held;
+    ghost use Rattle.kapi_store.specs.contracts.change.Change as changed;
+    ghost use Rattle.kapi_core.specs.Running.{Running};
+
+    ghost Value = { Running };
+
+    ghost coded = { Prim.hlevel (codes, held.the_row.coded, changed.the_row.coded) };
+
+    ghost view = { λ c. record { store = c.store; policy = P.content c.policy; connections = c.connections.entries; next_id = c.next_id } };
+}
+
+impl<P: Policy + Drop> Core<P> {
+    /// A machine with the opening objects at the revisions after `first`, and no connection, over an empty policy.
+    pub fn new(
+        alloc: Global,
+        table: Sequence<ResourceRow>,
+        policy: P,
+        first: u64,
+    ) -> Result<Core<P>, Memory>
+        requires first { first ≤ LAST_FIRST }
+        requires table { fits table ≡ true }
+        requires empty { P.content policy ≡ no_objects }
+        ensures stands { IfOk result (λ core. Stands core (opening table first)) }
+        ensures opened { IfOk result (λ core. HasOpened core first) }
     {
-        let store = open_store(alloc, table, first)?;
+        let mut policy = policy;
+        let store = open_objects(alloc, table, &mut policy, first)?;
         Ok(Core {
             alloc,
             store,
+            policy,
             connections: BTreeMap::new(alloc),
             next_id: 0,
         })
+    }
+
+    /// The roles and bindings among the objects, as a policy that decides. Takes no memory.
+    pub fn policy(&self) -> &P
+        ensures { P.content result.now ≡ self.now.policy }
+    {
+        &self.policy
     }
 
     /// The allocator that the machine grows by.
@@ -83,8 +129,8 @@ impl Core {
 
     /// Whether one connection more may be opened.
     pub(crate) fn has_room(&self) -> bool
-        ensures room { result ≡ (nat_lt (length self.now.connections.entries) 256 && nat_le self.now.next_id 999999999999999999) }
-        ensures low { IsTrue result → self.now.next_id ≤ 999999999999999999 }
+        ensures room { result ≡ (nat_lt (length self.now.connections) OPEN_CONNECTIONS && nat_le self.now.next_id LAST_CONNECTION) }
+        ensures low { IsTrue result → self.now.next_id ≤ LAST_CONNECTION }
     {
         self.connections.len() < OPEN_CONNECTIONS && self.next_id <= LAST_CONNECTION
     }
@@ -110,16 +156,21 @@ impl Core {
         let Some(item) = connection.inbox.next()? else {
             return Ok(None);
         };
-        let Prepared { output, write } = answer(
+        let Prepared { reply, write } = answer(
             self.alloc,
+            &self.policy,
             &mut self.store,
             &connection.identity,
             &item,
         )?;
-        commit_if(&mut self.store, write);
+        let changes = make_write(self.alloc, &mut self.policy, &mut self.store, write)?;
         done_at(&mut self.connections, conn.0, &item);
-        close_if(&mut self.connections, conn.0, output.close);
-        Ok(Some(output))
+        close_if(&mut self.connections, conn.0, reply.close);
+        Ok(Some(Output {
+            bytes: reply.bytes,
+            close: reply.close,
+            policy_changes: Sequence::new(changes),
+        }))
     }
 
     /// Shows the next event of a connection's watch. No watch can be started yet, so there is none.
@@ -143,17 +194,6 @@ impl Core {
         ensures { Makes self.old self.new (Event.Close conn) Answer.Done }
     {
         drop(self.connections.remove(&conn.0));
-    }
-}
-
-/// Makes a prepared write, if there is one.
-fn commit_if(store: &mut Store, write: Option<Ready>)
-    requires { IfSome write (Fits store.old) }
-    ensures { plain_of store.new ≡ written (changes_data write) (plain_of store.old) }
-{
-    match write {
-        Some(ready) => store.commit(ready),
-        None => {}
     }
 }
 

@@ -3,15 +3,15 @@ ghost use Rattle.kapi_core.specs.Machine.{Machine, answers as answers_of, after}
 ghost use Rattle.kapi_core.specs.Stands.{Keeps, Pushes, Stands, Steps, sent_if};
 ghost use Rattle.kapi_core.specs.declared.event.Event.TheVariants as Events;
 
-use crate::event::{Answer, ConnId, Event, OpenError, Outputs};
+use crate::event::{Answer, ConnId, Event, OpenError, Output, Outputs};
 use crate::machine::Core;
-use kapi_answer::Output;
 use kapi_http::FeedError;
+use kapi_policy::Policy;
 use kapi_rbac_types::Identity;
 use kapi_text::{Memory, Sequence, TryCopy};
 use std::alloc::AllocError;
 
-impl Core {
+impl<P: Policy + Drop> Core<P> {
     /// Makes one step. Where memory runs out nothing has changed.
     pub fn step(&mut self, event: &Event) -> Result<Answer, Memory>
         ensures { Steps self.old self.new event.now result }

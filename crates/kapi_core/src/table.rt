@@ -1,9 +1,10 @@
-ghost use Rattle.std.specs.Prelude.{◌≡◌};
+ghost use Rattle.std.specs.Prelude.{◌≡◌, map as map_of};
 ghost use Rattle.std.specs.List.{list_all, list_any};
-ghost use Rattle.kapi_core.specs.Table.{fits, has_rows as has_rows_of, is_known as is_known_of, is_like as is_like_of, is_row as is_row_of, rows_differ as rows_differ_of};
-ghost use Rattle.kapi_core.specs.Table.{is_namespaces as is_namespaces_of, is_roles as is_roles_of, is_cluster_roles as is_cluster_roles_of, is_role_bindings as is_role_bindings_of, is_cluster_role_bindings as is_cluster_role_bindings_of};
+ghost use Rattle.kapi_core.specs.Table as tables;
+ghost use Rattle.kapi_core.specs.Table.{fits, required_rows, row_of};
 
-use kapi_object::{RBAC_GROUP, ResourceRow, Schema};
+use crate::resource::{Resource, required_resources};
+use kapi_names::{ResourceRow, Schema};
 
 /// Whether a table of resources can be served: it has the rows of `namespaces` and of the four kinds of the policy as
 /// Kubernetes has them, every further row is open, and no two rows share group and plural, or group and kind. Takes
@@ -11,115 +12,85 @@ use kapi_object::{RBAC_GROUP, ResourceRow, Schema};
 pub fn table_fits(table: &[ResourceRow]) -> bool
     ensures { result ≡ fits table.now }
 {
-    has_rows(table) && (are_known(table) && rows_differ(table))
+    has_required(table) && (are_known(table) && rows_differ(table))
 }
 
-fn has_rows(table: &[ResourceRow]) -> bool
-    ensures { result ≡ has_rows_of table.now }
+fn has_required(table: &[ResourceRow]) -> bool
+    ensures { result ≡ list_all (tables.has_row table.now) required_rows }
 {
-    has_namespaces(table)
-        && (has_roles(table)
-            && (has_cluster_roles(table)
-                && (has_role_bindings(table) && has_cluster_role_bindings(table))))
+    has_rows(table, &required_resources())
 }
 
-fn has_namespaces(table: &[ResourceRow]) -> bool
-    ensures { result ≡ list_any is_namespaces_of table.now }
+fn has_rows(table: &[ResourceRow], resources: &[Resource]) -> bool
+    ensures { result ≡ list_all (λ resource. tables.has_row table.now (row_of resource)) resources.now }
 {
-    table.iter().any(|row| is_namespaces(row))
+    resources.iter().all(|resource| has_row(table, resource))
 }
 
-fn has_roles(table: &[ResourceRow]) -> bool
-    ensures { result ≡ list_any is_roles_of table.now }
+fn has_row(table: &[ResourceRow], resource: &Resource) -> bool
+    ensures { result ≡ tables.has_row table.now (row_of resource.now) }
 {
-    table.iter().any(|row| is_roles(row))
-}
-
-fn has_cluster_roles(table: &[ResourceRow]) -> bool
-    ensures { result ≡ list_any is_cluster_roles_of table.now }
-{
-    table.iter().any(|row| is_cluster_roles(row))
-}
-
-fn has_role_bindings(table: &[ResourceRow]) -> bool
-    ensures { result ≡ list_any is_role_bindings_of table.now }
-{
-    table.iter().any(|row| is_role_bindings(row))
-}
-
-fn has_cluster_role_bindings(table: &[ResourceRow]) -> bool
-    ensures { result ≡ list_any is_cluster_role_bindings_of table.now }
-{
-    table.iter().any(|row| is_cluster_role_bindings(row))
+    table.iter().any(|row| is_row(row, resource))
 }
 
 fn are_known(table: &[ResourceRow]) -> bool
-    ensures { result ≡ list_all is_known_of table.now }
+    ensures { result ≡ list_all tables.is_known table.now }
 {
     table.iter().all(|row| is_known(row))
 }
 
-#[tactic(auto, unfolding(crate::specs::Table::is_known))]
 fn is_known(row: &ResourceRow) -> bool
-    ensures { result ≡ is_known_of row.now }
+    ensures { result ≡ tables.is_known row.now }
 {
-    matches!(row.schema, Schema::Open)
-        || (is_roles(row)
-            || (is_cluster_roles(row) || (is_role_bindings(row) || is_cluster_role_bindings(row))))
+    is_schema(row.schema, Schema::Open) || is_required(row)
 }
 
-#[tactic(auto, unfolding(crate::specs::Table::is_namespaces))]
-fn is_namespaces(row: &ResourceRow) -> bool
-    ensures { result ≡ is_namespaces_of row.now }
+fn is_required(row: &ResourceRow) -> bool
+    ensures { result ≡ list_any (λ required. tables.is_row required row.now) required_rows }
 {
-    is_row(row, "", "namespaces", "Namespace") && (!row.namespaced && row.has_status)
+    is_among(row, &required_resources())
 }
 
-#[tactic(auto, unfolding(crate::specs::Table::is_roles))]
-fn is_roles(row: &ResourceRow) -> bool
-    ensures { result ≡ is_roles_of row.now }
+fn is_among(row: &ResourceRow, resources: &[Resource]) -> bool
+    ensures { result ≡ list_any (λ resource. tables.is_row (row_of resource) row.now) resources.now }
 {
-    is_row(row, RBAC_GROUP, "roles", "Role")
-        && (row.namespaced && (!row.has_status && matches!(row.schema, Schema::Role)))
+    resources.iter().any(|resource| is_row(row, resource))
 }
 
-#[tactic(auto, unfolding(crate::specs::Table::is_cluster_roles))]
-fn is_cluster_roles(row: &ResourceRow) -> bool
-    ensures { result ≡ is_cluster_roles_of row.now }
+#[tactic(auto, unfolding(crate::specs::Table::is_row))]
+fn is_row(row: &ResourceRow, resource: &Resource) -> bool
+    ensures { result ≡ tables.is_row (row_of resource.now) row.now }
 {
-    is_row(row, RBAC_GROUP, "clusterroles", "ClusterRole")
-        && (!row.namespaced && (!row.has_status && matches!(row.schema, Schema::ClusterRole)))
+    resource.group == row.group.as_str()
+        && ("v1" == row.version.as_str()
+            && (resource.plural == row.plural.as_str()
+                && (resource.kind == row.kind.as_str() && has_form(row, resource))))
 }
 
-#[tactic(auto, unfolding(crate::specs::Table::is_role_bindings))]
-fn is_role_bindings(row: &ResourceRow) -> bool
-    ensures { result ≡ is_role_bindings_of row.now }
+fn has_form(row: &ResourceRow, resource: &Resource) -> bool
+    ensures { result ≡ tables.has_form (row_of resource.now) row.now }
 {
-    is_row(row, RBAC_GROUP, "rolebindings", "RoleBinding")
-        && (row.namespaced && (!row.has_status && matches!(row.schema, Schema::RoleBinding)))
+    resource.namespaced == row.namespaced
+        && (resource.has_status == row.has_status && is_schema(resource.schema, row.schema))
 }
 
-#[tactic(auto, unfolding(crate::specs::Table::is_cluster_role_bindings))]
-fn is_cluster_role_bindings(row: &ResourceRow) -> bool
-    ensures { result ≡ is_cluster_role_bindings_of row.now }
+fn is_schema(a: Schema, b: Schema) -> bool
+    ensures { result ≡ tables.is_schema a b }
 {
-    is_row(row, RBAC_GROUP, "clusterrolebindings", "ClusterRoleBinding")
-        && (!row.namespaced
-            && (!row.has_status && matches!(row.schema, Schema::ClusterRoleBinding)))
-}
-
-fn is_row(row: &ResourceRow, group: &str, plural: &str, kind: &str) -> bool
-    ensures { result ≡ is_row_of group.now plural.now kind.now row.now }
-{
-    row.group.as_str() == group
-        && (row.version.as_str() == "v1"
-            && (row.plural.as_str() == plural && row.kind.as_str() == kind))
+    matches!(
+        (a, b),
+        (Schema::Open, Schema::Open)
+            | (Schema::Role, Schema::Role)
+            | (Schema::ClusterRole, Schema::ClusterRole)
+            | (Schema::RoleBinding, Schema::RoleBinding)
+            | (Schema::ClusterRoleBinding, Schema::ClusterRoleBinding)
+    )
 }
 
 /// No row is like one that stands after it.
 #[tactic(auto, unfolding(crate::specs::Table::rows_differ))]
 fn rows_differ(table: &[ResourceRow]) -> bool
-    ensures { result ≡ rows_differ_of table.now }
+    ensures { result ≡ tables.rows_differ table.now }
 {
     let mut rest = table;
     while let [row, later @ ..] = rest {
@@ -132,13 +103,13 @@ fn rows_differ(table: &[ResourceRow]) -> bool
 }
 
 fn is_like_any(row: &ResourceRow, others: &[ResourceRow]) -> bool
-    ensures { result ≡ list_any (λ other. is_like_of row.now other) others.now }
+    ensures { result ≡ list_any (λ other. tables.is_like row.now other) others.now }
 {
     others.iter().any(|other| is_like(row, other))
 }
 
 fn is_like(row: &ResourceRow, other: &ResourceRow) -> bool
-    ensures { result ≡ is_like_of row.now other.now }
+    ensures { result ≡ tables.is_like row.now other.now }
 {
     row.group == other.group && (row.plural == other.plural || row.kind == other.kind)
 }

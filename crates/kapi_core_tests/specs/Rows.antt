@@ -1,9 +1,9 @@
 -- Worked rows: events, and the answers that the machine that is data gives.
 use Rattle.std.specs.Prelude.{ℕ, ◌+◌, zero, suc, Bool, true, false, List, [], ◌∷◌, ◌++◌, map, codes}
 use Rattle.std.specs.List.{repeat}
-use Rattle.kapi_answer.specs.declared.respond.Output.{Output}
-use Rattle.kapi_object.specs.declared.row.ResourceRow.{ResourceRow}
-use Rattle.kapi_object.specs.declared.row.Schema.TheVariants as schema
+use Rattle.kapi_core.specs.declared.event.Output.{Output}
+use Rattle.kapi_names.specs.declared.row.ResourceRow.{ResourceRow}
+use Rattle.kapi_names.specs.declared.row.Schema.TheVariants as schema
 use Rattle.kapi_rbac_types.specs.declared.identity.Identity.{Identity}
 use Rattle.kapi_core.specs.declared.event.Event.{Event}
 use Rattle.kapi_core.specs.declared.event.Event.TheVariants as event
@@ -11,14 +11,14 @@ use Rattle.kapi_core.specs.declared.event.Answer.{Answer}
 use Rattle.kapi_core.specs.declared.event.Answer.TheVariants as told
 use Rattle.kapi_core.specs.Machine.{Machine}
 use Rattle.kapi_core.specs.Opening.{opening}
+use Rattle.kapi_core.specs.Table.{required_rows, v1_row}
 
--- the machine that the rows begin with
-abbrev pub core_row : List ℕ → List ℕ → Bool → Bool → ResourceRow
-core_row plural kind namespaced has_status =
-    record { group = []; version = codes "v1"; plural = plural; kind = kind; namespaced = namespaced; has_status = has_status; schema = schema.Open }
+-- the resources of the machine that the rows begin with
+abbrev pub row_table : List ResourceRow
+row_table = required_rows ++ v1_row [] (codes "configmaps") (codes "ConfigMap") true false schema.Open ∷ []
 
 abbrev pub start : Machine
-start = opening (core_row (codes "namespaces") (codes "Namespace") false true ∷ core_row (codes "configmaps") (codes "ConfigMap") true false ∷ []) 0
+start = opening row_table 0
 
 abbrev pub root : Identity
 root = record { user = codes "root"; groups = codes "system:masters" ∷ [] }
@@ -36,10 +36,10 @@ abbrev pub opened : ℕ → Answer
 opened n = told.Opened (record { 0 = n })
 
 abbrev pub out : List ℕ → Answer
-out bytes = told.Sent (record { bytes = bytes; close = false })
+out bytes = told.Sent (record { bytes = bytes; close = false; policy_changes = [] })
 
 abbrev pub last : List ℕ → Answer
-last bytes = told.Sent (record { bytes = bytes; close = true })
+last bytes = told.Sent (record { bytes = bytes; close = true; policy_changes = [] })
 
 -- a config map is created, and read
 abbrev pub create_request : List ℕ

@@ -1,49 +1,63 @@
-ghost use Rattle.std.specs.Prelude.{◌≤◌};
+ghost use Rattle.std.specs.Prelude.{◌≡◌, ◌≤◌, [], true, false, codes, IfOk};
+ghost use Rattle.kapi_core.specs.Table.{row_of, v1_row};
+ghost use Rattle.kapi_core_tests.specs.Rows.{row_table};
 
-use kapi_core::{Answer, ConnId, Core, Event, LAST_FIRST};
-use kapi_object::{ResourceRow, Schema};
+use kapi_core::{Answer, ConnId, Core, Event, LAST_FIRST, Resource, required_resources};
+use kapi_names::{ResourceRow, Schema};
+use kapi_policy::PlainPolicy;
 use kapi_rbac_types::Identity;
 use kapi_text::{Memory, Sequence, Text};
 use std::alloc::Global;
 
-/// A machine that serves namespaces and configmaps and begins at revision 0.
-pub fn new_core(alloc: Global) -> Result<Core, Memory> {
+/// A machine that serves configmaps beside what every machine serves, and begins at revision 0.
+pub fn new_core(alloc: Global) -> Result<Core<PlainPolicy>, Memory> {
     core_at(alloc, 0)
 }
 
 /// The same, which begins at a revision.
-pub fn core_at(alloc: Global, first: u64) -> Result<Core, Memory>
+#[tactic(auto, using(crate::proofs::Tables::row_table_fits))]
+pub fn core_at(alloc: Global, first: u64) -> Result<Core<PlainPolicy>, Memory>
     requires { first ≤ LAST_FIRST }
 {
-    let mut rows = Vec::new(alloc);
-    rows.push(core_row(alloc, "namespaces", "Namespace", false)?)?;
-    rows.push(core_row(alloc, "configmaps", "ConfigMap", true)?)?;
-    Core::new(alloc, Sequence::new(rows), first)
+    Core::new(alloc, table(alloc)?, PlainPolicy::new(alloc), first)
 }
 
-fn core_row(
-    alloc: Global,
-    plural: &str,
-    kind: &str,
-    namespaced: bool,
-) -> Result<ResourceRow, Memory> {
-    Ok(ResourceRow {
-        group: Text::copy_of(alloc, "")?,
-        version: Text::copy_of(alloc, "v1")?,
-        plural: Text::copy_of(alloc, plural)?,
-        kind: Text::copy_of(alloc, kind)?,
-        namespaced,
-        has_status: !namespaced,
+fn table(alloc: Global) -> Result<Sequence<ResourceRow>, Memory>
+    ensures { IfOk result (λ t. t ≡ row_table) }
+{
+    let mut rows = Vec::new(alloc);
+    let resources = required_resources();
+    for resource in &resources {
+        rows.push(resource.row(alloc)?)?;
+    }
+    rows.push(configmaps().row(alloc)?)?;
+    Ok(Sequence::new(rows))
+}
+
+fn configmaps() -> Resource
+    ensures { row_of result ≡ v1_row [] (codes "configmaps") (codes "ConfigMap") true false Schema.Open }
+{
+    Resource {
+        group: "",
+        plural: "configmaps",
+        kind: "ConfigMap",
+        namespaced: true,
+        has_status: false,
         schema: Schema::Open,
-    })
+    }
 }
 
 /// An open of a member of `system:masters`.
 pub fn open_root(alloc: Global) -> Result<Event, Memory> {
+    open_named(alloc, "root", "system:masters")
+}
+
+/// An open of a user of a group.
+pub fn open_named(alloc: Global, user: &str, group: &str) -> Result<Event, Memory> {
     let mut groups = Vec::new(alloc);
-    groups.push(Text::copy_of(alloc, "system:masters")?)?;
+    groups.push(Text::copy_of(alloc, group)?)?;
     Ok(Event::Open(Identity {
-        user: Text::copy_of(alloc, "root")?,
+        user: Text::copy_of(alloc, user)?,
         groups: Sequence::new(groups),
     }))
 }
@@ -63,7 +77,7 @@ pub fn feed(alloc: Global, conn: u64, piece: &[u8]) -> Result<Event, Memory> {
 /// Feeds bytes and serves once; answers what went out, nothing where nothing did.
 pub fn exchange(
     alloc: Global,
-    core: &mut Core,
+    core: &mut Core<PlainPolicy>,
     conn: u64,
     bytes: &[u8],
 ) -> Result<Vec<u8>, Memory> {

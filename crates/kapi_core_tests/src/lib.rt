@@ -2,6 +2,8 @@
 #![tactic(auto)]
 
 #[cfg(test)]
+mod authorization;
+#[cfg(test)]
 mod client;
 #[cfg(test)]
 mod faults;

@@ -80,3 +80,39 @@ fn closes_with(answer: &Answer, front: &[u8]) -> bool {
         _ => false,
     }
 }
+
+#[test]
+fn creates_from_a_body_of_1_048_576_bytes(rt: HostRuntime) -> Result<(), Fail> {
+    let alloc = rt.alloc();
+    let mut core = new_core(alloc)?;
+    core.step(&open_root(alloc)?)?;
+    let mut request = Vec::from_slice(alloc, LONGEST_BODY)?;
+    let value = vec![in alloc; b'v'; 1048535]?;
+    request.extend_from_slice(value.as_slice())?;
+    request.extend_from_slice(b"\"}}")?;
+    let created = exchange(alloc, &mut core, 0, request.as_slice())?;
+    assert!(rt; created.as_slice().starts_with(b"HTTP/1.1 201 Created\r\n"));
+    assert!(rt; created.len() > 1_048_576);
+    Ok(())
+}
+
+const LONGEST_BODY: &[u8] =
+    b"POST /api/v1/namespaces/default/configmaps HTTP/1.1\r\nHost: a\r\nContent-Length: 1048576\r\n\r\n{\"metadata\":{\"name\":\"a\"},\"data\":{\"k\":\"";
+
+#[test]
+fn runs_10_000_events(rt: HostRuntime) -> Result<(), Fail> {
+    let alloc = rt.alloc();
+    let mut core = new_core(alloc)?;
+    let mut events = Vec::new(alloc);
+    for _ in 0..10_000usize {
+        events.push(Event::Turn)?;
+    }
+    let outputs = core.run(events.as_slice());
+    assert!(rt; outputs.stopped.is_none());
+    let answers = outputs.answers.into_vec();
+    assert_eq!(rt; answers.len(), 10_000);
+    for answer in answers.as_slice() {
+        assert!(rt; matches!(answer, Answer::Nothing));
+    }
+    Ok(())
+}

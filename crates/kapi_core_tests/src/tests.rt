@@ -2,6 +2,7 @@ use crate::client::{exchange, feed, new_core, open_root, open_user};
 use crate::faults::FAULTS;
 use crate::requests::{DENIED, REQUESTS};
 use kapi_core::{Answer, ConnId, Event};
+use std::alloc::Global;
 use std::test::Fail;
 
 const CREATE: &[u8] =
@@ -113,27 +114,37 @@ fn bytes_of(answer: &Answer) -> &[u8] {
     }
 }
 
+/// What bytes that come in one piece are sent, by two serves.
+fn sent_in_one_piece(alloc: Global, bytes: &[u8]) -> Result<Vec<u8>, Fail> {
+    let mut core = new_core(alloc)?;
+    core.step(&open_root(alloc)?)?;
+    let mut sent = exchange(alloc, &mut core, 0, bytes)?;
+    sent.extend_from_slice(exchange(alloc, &mut core, 0, b"")?.as_slice())?;
+    Ok(sent)
+}
+
+/// What they are sent where each comes in a piece of its own.
+fn sent_byte_by_byte(alloc: Global, bytes: &[u8]) -> Result<Vec<u8>, Fail> {
+    let mut core = new_core(alloc)?;
+    core.step(&open_root(alloc)?)?;
+    let mut sent = Vec::new(alloc);
+    for byte in bytes {
+        sent.extend_from_slice(exchange(alloc, &mut core, 0, &[*byte])?.as_slice())?;
+    }
+    Ok(sent)
+}
+
 #[test]
 fn answers_alike_however_bytes_come(rt: HostRuntime) -> Result<(), Fail> {
     let alloc = rt.alloc();
-    let mut core = new_core(alloc)?;
-    core.step(&open_root(alloc)?)?;
     let mut both = Vec::from_slice(alloc, CREATE)?;
     both.extend_from_slice(GET)?;
-    assert_eq!(rt;
-        exchange(alloc, &mut core, 0, both.as_slice())?.as_slice(),
-        CREATED
-    );
-    assert_eq!(rt; exchange(alloc, &mut core, 0, b"")?.as_slice(), FOUND);
-    let mut core = new_core(alloc)?;
-    core.step(&open_root(alloc)?)?;
-    let mut answered = Vec::new(alloc);
-    for byte in both.as_slice() {
-        answered.extend_from_slice(exchange(alloc, &mut core, 0, &[*byte])?.as_slice())?;
-    }
     let mut wanted = Vec::from_slice(alloc, CREATED)?;
     wanted.extend_from_slice(FOUND)?;
-    assert_eq!(rt; answered.as_slice(), wanted.as_slice());
+    let sent = sent_in_one_piece(alloc, both.as_slice())?;
+    assert_eq!(rt; sent.as_slice(), wanted.as_slice());
+    let sent = sent_byte_by_byte(alloc, both.as_slice())?;
+    assert_eq!(rt; sent.as_slice(), wanted.as_slice());
     Ok(())
 }
 

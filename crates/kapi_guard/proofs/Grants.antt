@@ -5,15 +5,15 @@ use Rattle.std.specs.Prelude.{OnOk}
 use Rattle.std.specs.Result.{is_ok}
 use Rattle.std.proofs.lemmas.Bool.{and_parts}
 use Rattle.kapi_text.specs.Gives.{Gives, ◌>>=◌}
-use Rattle.kapi_object.specs.declared.kinds.RoleKind.{RoleKind}
-use Rattle.kapi_object.specs.declared.kinds.RoleKind.TheVariants as role_kind
+use Rattle.kapi_names.specs.declared.kinds.RoleKind.{RoleKind}
+use Rattle.kapi_names.specs.declared.kinds.RoleKind.TheVariants as role_kind
 use Rattle.kapi_rbac_types.specs.Identities.{is_master}
 use Rattle.kapi_rbac_types.specs.declared.identity.Identity.{Identity}
-use Rattle.kapi_rbac_types.specs.declared.policy_rule.PolicyRule.{PolicyRule}
-use Rattle.kapi_rbac_types.specs.declared.role.AggregationRule.{AggregationRule}
+use Rattle.kapi_names.specs.declared.policy_rule.PolicyRule.{PolicyRule}
+use Rattle.kapi_names.specs.declared.aggregation_rule.AggregationRule.{AggregationRule}
 use Rattle.kapi_rbac_types.specs.declared.role.ClusterRole.{ClusterRole}
 use Rattle.kapi_rbac_types.specs.declared.role.Role.{Role}
-use Rattle.kapi_rbac_types.specs.declared.role_ref.RoleRef.{RoleRef}
+use Rattle.kapi_names.specs.declared.role_ref.RoleRef.{RoleRef}
 use Rattle.kapi_rules.proofs.Covers.{both, itself}
 use Rattle.kapi_rules.specs.Missing.{missing}
 use Rattle.kapi_policy.specs.Decided.{held}
@@ -26,11 +26,12 @@ use Rattle.kapi_guard.proofs.Implied.{implied_by_more, implied_in_parts, implied
 use Rattle.kapi_guard.specs.Authority.{full_authority}
 use Rattle.kapi_guard.specs.Checks.{Fault, IsWithin, Tells, all_held, checked, fault_of, grant, holds_all, holds_authority, holds_found, implies_each, lacks, lacks_authority, role_kept, role_not_found, role_ref_changed, rules_held}
 use Rattle.kapi_guard.specs.Exempt.{exemption, is_exempt}
-use Rattle.kapi_guard.specs.Laws.{cluster_role_write, creation, role_write, unchanged}
+use Rattle.kapi_guard.specs.Laws.{cluster_role_with, created, role_with, unchanged, write_of}
 use Rattle.kapi_guard.specs.Writes.{is_aggregated, is_same_kind, is_same_role, keeps_role, scope, wanted}
 use Rattle.kapi_guard.specs.declared.refused.Refused.{Refused}
 use Rattle.kapi_guard.specs.declared.refused.Refused.TheVariants as refused
 use Rattle.kapi_guard.specs.declared.write.PolicyWrite.{PolicyWrite}
+use Rattle.kapi_guard.specs.declared.write.WrittenObject.{WrittenObject}
 
 -- ---- the first fault, or none
 
@@ -50,19 +51,19 @@ without_role false e first second = refl
 without_role true false first second = refl
 without_role true true first second = refl
 
-by_role : (objects : PolicyObjects) (identity : Identity) (w : PolicyWrite) (k e : Bool) (o : Option (List PolicyRule))
-    → is_ok (step k role_ref_changed >>= λ u. (if e then Ok tt else rules_held objects identity w o))
-    ≡ (k && (e || (holds_found (held objects identity (scope w)) o && holds_authority (held objects identity (scope w)) w)))
+by_role : (objects : PolicyObjects) (identity : Identity) (o : WrittenObject) (k e : Bool) (found : Option (List PolicyRule))
+    → is_ok (step k role_ref_changed >>= λ u. (if e then Ok tt else rules_held objects identity o found))
+    ≡ (k && (e || (holds_found (held objects identity (scope o)) found && holds_authority (held objects identity (scope o)) o)))
 unfolding rules_held all_held
-by_role objects identity w k e None = without_role k e role_ref_changed role_not_found
-by_role objects identity w k e (Some rules) =
-    in_order k e (holds_all (held objects identity (scope w)) rules) (holds_authority (held objects identity (scope w)) w) role_ref_changed
-    (lacks (missing (held objects identity (scope w)) rules)) (lacks_authority (missing (held objects identity (scope w)) full_authority))
+by_role objects identity o k e None = without_role k e role_ref_changed role_not_found
+by_role objects identity o k e (Some rules) =
+    in_order k e (holds_all (held objects identity (scope o)) rules) (holds_authority (held objects identity (scope o)) o) role_ref_changed
+    (lacks (missing (held objects identity (scope o)) rules)) (lacks_authority (missing (held objects identity (scope o)) full_authority))
 
-pub passes_where_granted : (objects : PolicyObjects) (identity : Identity) (asked : List ℕ) (w : PolicyWrite)
-    → is_ok (checked objects identity asked w) ≡ (keeps_role w && grant objects identity asked w)
+pub passes_where_granted : (objects : PolicyObjects) (identity : Identity) (w : PolicyWrite)
+    → is_ok (checked objects identity w) ≡ (keeps_role w.object && grant objects identity w)
 unfolding checked grant
-passes_where_granted objects identity asked w = by_role objects identity w (keeps_role w) (is_exempt objects identity asked w) (wanted objects w)
+passes_where_granted objects identity w = by_role objects identity w.object (keeps_role w.object) (is_exempt objects identity w) (wanted objects w.object)
 
 -- ---- what an answer tells
 
@@ -74,30 +75,30 @@ told (Err (refused.NeedsFullAuthority list)) given so is gives = sym is ∙ ap i
 told (Err refused.RoleNotFound) given so is gives = sym is ∙ ap is_ok gives
 told (Err refused.RoleRefChanged) given so is gives = sym is ∙ ap is_ok gives
 
-pub stays_within : (objects : PolicyObjects) (identity : Identity) (asked : List ℕ) (w : PolicyWrite)
-    → (keeps_role w && grant objects identity asked w) ≡ true → is_exempt objects identity asked w ≡ false → IsWithin objects identity w
+pub stays_within : (objects : PolicyObjects) (identity : Identity) (w : PolicyWrite)
+    → (keeps_role w.object && grant objects identity w) ≡ true → is_exempt objects identity w ≡ false → IsWithin objects identity w.object
 unfolding grant
-stays_within objects identity asked w granted bound = by_found (wanted objects w) refl
+stays_within objects identity w granted bound = by_found (wanted objects w.object) refl
   where
     own : List PolicyRule
-    own = held objects identity (scope w)
+    own = held objects identity (scope w.object)
 
-    both_held : holds_found own (wanted objects w) ≡ true × (holds_authority own w ≡ true)
-    both_held = and_parts _ _ (rw bound at (and_parts (keeps_role w) (grant objects identity asked w) granted).1)
+    both_held : holds_found own (wanted objects w.object) ≡ true × (holds_authority own w.object ≡ true)
+    both_held = and_parts _ _ (rw bound at (and_parts (keeps_role w.object) (grant objects identity w) granted).1)
 
-    authority : is_aggregated w ≡ true → implies_each own full_authority ≡ true
+    authority : is_aggregated w.object ≡ true → implies_each own full_authority ≡ true
     authority aggregated = sym (none_is_missing own full_authority) ∙ (rw aggregated at both_held.1)
 
-    by_found : (o : Option (List PolicyRule)) → wanted objects w ≡ o → IsWithin objects identity w
+    by_found : (o : Option (List PolicyRule)) → wanted objects w.object ≡ o → IsWithin objects identity w.object
     by_found None is = absurd (let never = rw is at both_held.0 in cc)
     by_found (Some rules) is =
         record { rules = rules; found = is; implied = sym (none_is_missing own rules) ∙ (rw is at both_held.0); authority = authority }
 
-pub within_if_ok : (objects : PolicyObjects) (identity : Identity) (asked : List ℕ) (w : PolicyWrite) (result : Result (Unit {0}) Refused)
-    → Gives fault_of (λ u. u) result (checked objects identity asked w)
-    → OnOk result (is_exempt objects identity asked w ≡ false → IsWithin objects identity w)
-within_if_ok objects identity asked w (Ok u) gives = stays_within objects identity asked w (sym (passes_where_granted objects identity asked w) ∙ ap is_ok gives)
-within_if_ok objects identity asked w (Err e) gives = tt
+pub within_if_ok : (objects : PolicyObjects) (identity : Identity) (w : PolicyWrite) (result : Result (Unit {0}) Refused)
+    → Gives fault_of (λ u. u) result (checked objects identity w)
+    → OnOk result (is_exempt objects identity w ≡ false → IsWithin objects identity w.object)
+within_if_ok objects identity w (Ok u) gives = stays_within objects identity w (sym (passes_where_granted objects identity w) ∙ ap is_ok gives)
+within_if_ok objects identity w (Err e) gives = tt
 
 -- ---- laws
 
@@ -112,21 +113,21 @@ less_is_granted : (e h k a : Bool) → (h ≡ true → k ≡ true) → (e || (h 
 less_is_granted true h k a less granted = refl
 less_is_granted false h k a less granted = let parts = and_parts h a granted in both k a (less parts.0) parts.1
 
-pub less_of_roles : (objects : PolicyObjects) (identity : Identity) (asked : List ℕ) (place : NamespacedName) (old : Option Role) (rules less : List PolicyRule)
-    → implies_each rules less ≡ true → grant objects identity asked (role_write place old rules) ≡ true
-    → grant objects identity asked (role_write place old less) ≡ true
+pub less_of_roles : (objects : PolicyObjects) (identity : Identity) (request_name : List ℕ) (place : NamespacedName) (old : Option Role) (rules less : List PolicyRule)
+    → implies_each rules less ≡ true → grant objects identity (write_of request_name (role_with place old rules)) ≡ true
+    → grant objects identity (write_of request_name (role_with place old less)) ≡ true
 unfolding grant
-less_of_roles objects identity asked place old rules less down granted =
-    less_is_granted (is_exempt objects identity asked (role_write place old rules)) (holds_all (held objects identity place.namespace) rules)
+less_of_roles objects identity request_name place old rules less down granted =
+    less_is_granted (is_exempt objects identity (write_of request_name (role_with place old rules))) (holds_all (held objects identity place.namespace) rules)
     (holds_all (held objects identity place.namespace) less) true (all_implied (held objects identity place.namespace) rules less down) granted
 
-pub less_of_cluster_roles : (objects : PolicyObjects) (identity : Identity) (asked name : List ℕ) (old : Option ClusterRole) (aggregated : Option AggregationRule) (rules less : List PolicyRule)
-    → implies_each rules less ≡ true → grant objects identity asked (cluster_role_write name old aggregated rules) ≡ true
-    → grant objects identity asked (cluster_role_write name old aggregated less) ≡ true
+pub less_of_cluster_roles : (objects : PolicyObjects) (identity : Identity) (request_name name : List ℕ) (old : Option ClusterRole) (aggregated : Option AggregationRule) (rules less : List PolicyRule)
+    → implies_each rules less ≡ true → grant objects identity (write_of request_name (cluster_role_with name old aggregated rules)) ≡ true
+    → grant objects identity (write_of request_name (cluster_role_with name old aggregated less)) ≡ true
 unfolding grant
-less_of_cluster_roles objects identity asked name old aggregated rules less down granted =
-    less_is_granted (is_exempt objects identity asked (cluster_role_write name old aggregated rules)) (holds_all (held objects identity []) rules)
-    (holds_all (held objects identity []) less) (holds_authority (held objects identity []) (cluster_role_write name old aggregated rules))
+less_of_cluster_roles objects identity request_name name old aggregated rules less down granted =
+    less_is_granted (is_exempt objects identity (write_of request_name (cluster_role_with name old aggregated rules))) (holds_all (held objects identity []) rules)
+    (holds_all (held objects identity []) less) (holds_authority (held objects identity []) (cluster_role_with name old aggregated rules))
     (all_implied (held objects identity []) rules less down) granted
 
 pub held_in_namespaces : (objects : PolicyObjects) (identity : Identity) (namespace : List ℕ) (rules : List PolicyRule)
@@ -147,21 +148,21 @@ twice : (b : Bool) → (b || b) ≡ (false || b)
 twice true = refl
 twice false = refl
 
-pub checked_like_new : (objects : PolicyObjects) (identity : Identity) (asked : List ℕ) (p : PolicyPut)
-    → checked objects identity asked (unchanged p) ≡ checked objects identity asked (creation p)
+pub checked_like_new : (objects : PolicyObjects) (identity : Identity) (request_name : List ℕ) (p : PolicyPut)
+    → checked objects identity (write_of request_name (unchanged p)) ≡ checked objects identity (write_of request_name (created p))
 unfolding checked rules_held all_held
-checked_like_new objects identity asked (put.Role place role) = refl
-checked_like_new objects identity asked (put.ClusterRole name role) = rw (twice (is_some role.aggregation_rule)) refl
-checked_like_new objects identity asked (put.RoleBinding place binding) = rw (same_role binding.role_ref) refl
-checked_like_new objects identity asked (put.ClusterRoleBinding name binding) = rw (same_role binding.role_ref) refl
+checked_like_new objects identity request_name (put.Role place role) = refl
+checked_like_new objects identity request_name (put.ClusterRole name role) = rw (twice (is_some role.aggregation_rule)) refl
+checked_like_new objects identity request_name (put.RoleBinding place binding) = rw (same_role binding.role_ref) refl
+checked_like_new objects identity request_name (put.ClusterRoleBinding name binding) = rw (same_role binding.role_ref) refl
 
 kept_alone : (k : Result (Unit {0}) Fault) (e : Bool) (more : Result (Unit {0}) Fault) → e ≡ true → (k >>= λ u. (if e then Ok tt else more)) ≡ k
 kept_alone (Ok u) e more is = rw is refl
 kept_alone (Err f) e more is = refl
 
-pub masters_pass : (objects : PolicyObjects) (identity : Identity) (asked : List ℕ) (w : PolicyWrite)
-    → is_master identity ≡ true → checked objects identity asked w ≡ role_kept w
+pub masters_pass : (objects : PolicyObjects) (identity : Identity) (w : PolicyWrite)
+    → is_master identity ≡ true → checked objects identity w ≡ role_kept w.object
 unfolding checked
-masters_pass objects identity asked w master =
-    kept_alone (role_kept w) (is_exempt objects identity asked w) (rules_held objects identity w (wanted objects w))
-    (allowed_where_held objects identity (scope w) (exemption asked w) ∙ rw master refl)
+masters_pass objects identity w master =
+    kept_alone (role_kept w.object) (is_exempt objects identity w) (rules_held objects identity w.object (wanted objects w.object))
+    (allowed_where_held objects identity (scope w.object) (exemption w.request_name w.object) ∙ rw master refl)

@@ -5,7 +5,7 @@ use Rattle.std.proofs.lemmas.Bool.{and_parts, or_cases}
 use Rattle.std.proofs.lemmas.Grind.{flat_map-append}
 use Rattle.std.proofs.lemmas.List.Folds.{list_all-append, list_any-append}
 use Rattle.std.specs.List.{filter, flat_map, fold, list_all, list_any}
-use Rattle.kapi_rbac_types.specs.declared.policy_rule.PolicyRule.{PolicyRule}
+use Rattle.kapi_names.specs.declared.policy_rule.PolicyRule.{PolicyRule}
 use Rattle.kapi_rules.proofs.Covers.{both, implies_onward}
 use Rattle.kapi_rules.proofs.Law.{any_weaker}
 use Rattle.kapi_rules.proofs.Parts.{any_flat_map}

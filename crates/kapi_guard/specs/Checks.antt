@@ -1,9 +1,9 @@
 -- The check against escalation (Kubernetes, 'Using RBAC Authorization', 'Privilege escalation prevention and bootstrapping').
-use Rattle.std.specs.Prelude.{◌≡◌, ℕ, ◌==◌, Bool, true, false, not, ◌&&◌, ◌||◌, if◌then◌else◌, List, length, Option, Some, None, Result, Ok, Err}
+use Rattle.std.specs.Prelude.{◌≡◌, ◌==◌, Bool, true, false, not, ◌&&◌, ◌||◌, if◌then◌else◌, List, length, Option, Some, None, Result, Ok, Err}
 use Rattle.std.specs.List.{flat_map, list_all, list_any}
 use Rattle.kapi_text.specs.Gives.{◌>>=◌}
 use Rattle.kapi_rbac_types.specs.declared.identity.Identity.{Identity}
-use Rattle.kapi_rbac_types.specs.declared.policy_rule.PolicyRule.{PolicyRule}
+use Rattle.kapi_names.specs.declared.policy_rule.PolicyRule.{PolicyRule}
 use Rattle.kapi_rules.specs.Atoms.{atoms, implies}
 use Rattle.kapi_rules.specs.Missing.{missing}
 use Rattle.kapi_rules.specs.declared.atom.Atom.{Atom}
@@ -15,6 +15,7 @@ use Rattle.kapi_guard.specs.Writes.{is_aggregated, keeps_role, scope, wanted}
 use Rattle.kapi_guard.specs.declared.refused.Refused.{Refused}
 use Rattle.kapi_guard.specs.declared.refused.Refused.TheVariants as refused
 use Rattle.kapi_guard.specs.declared.write.PolicyWrite.{PolicyWrite}
+use Rattle.kapi_guard.specs.declared.write.WrittenObject.{WrittenObject}
 
 -- ---- who may write
 
@@ -22,34 +23,37 @@ use Rattle.kapi_guard.specs.declared.write.PolicyWrite.{PolicyWrite}
 abbrev pub holds_all : List PolicyRule → List PolicyRule → Bool
 holds_all own rules = length (missing own rules) == 0
 
+-- the rules were found and no atom of them is missing
 abbrev pub holds_found : List PolicyRule → Option (List PolicyRule) → Bool
 holds_found own None = false
 holds_found own (Some rules) = holds_all own rules
 
 -- full authority is held where a cluster role takes its rules from others
-abbrev pub holds_authority : List PolicyRule → PolicyWrite → Bool
-holds_authority own w = not (is_aggregated w) || holds_all own full_authority
+abbrev pub holds_authority : List PolicyRule → WrittenObject → Bool
+holds_authority own o = not (is_aggregated o) || holds_all own full_authority
 
 -- the identity may make the write: he is exempt, or holds its rules, which exist, and the authority that it needs, in its scope
-unfoldable pub grant : PolicyObjects → Identity → List ℕ → PolicyWrite → Bool
-grant objects identity asked w =
-    is_exempt objects identity asked w
-    || (holds_found (held objects identity (scope w)) (wanted objects w) && holds_authority (held objects identity (scope w)) w)
+unfoldable pub grant : PolicyObjects → Identity → PolicyWrite → Bool
+grant objects identity w =
+    is_exempt objects identity w
+    || (holds_found (held objects identity (scope w.object)) (wanted objects w.object)
+    && holds_authority (held objects identity (scope w.object)) w.object)
 
 -- each atom of the rules is implied by one atom that is held
 abbrev pub implies_each : List PolicyRule → List PolicyRule → Bool
 implies_each own rules = list_all (λ a. list_any (λ h. implies h a) (flat_map atoms own)) (flat_map atoms rules)
 
--- the write stays within what the identity holds in its scope: its rules exist, and each of their atoms is implied by one that
+-- the object stays within what the identity holds in its scope: its rules exist, and each of their atoms is implied by one that
 -- is held; and so is each of full authority where a cluster role takes its rules from others
-pub record IsWithin (objects : PolicyObjects) (identity : Identity) (w : PolicyWrite) : Type 0 where
+pub record IsWithin (objects : PolicyObjects) (identity : Identity) (o : WrittenObject) : Type 0 where
   pub rules : List PolicyRule
-  pub found : wanted objects w ≡ Some rules
-  pub implied : implies_each (held objects identity (scope w)) rules ≡ true
-  pub authority : is_aggregated w ≡ true → implies_each (held objects identity (scope w)) full_authority ≡ true
+  pub found : wanted objects o ≡ Some rules
+  pub implied : implies_each (held objects identity (scope o)) rules ≡ true
+  pub authority : is_aggregated o ≡ true → implies_each (held objects identity (scope o)) full_authority ≡ true
 
 -- ---- why a write is refused
 
+-- a role that changed, a role that is not there, what is missing of the rules, and what of full authority
 pub data Fault : Type 0 where
   role_ref_changed : Fault
   role_not_found : Fault
@@ -65,29 +69,31 @@ fault_of refused.RoleRefChanged = Some role_ref_changed
 fault_of refused.Memory = None
 
 -- nobody changes the role that a binding refers to
-abbrev pub role_kept : PolicyWrite → Result (Unit {0}) Fault
-role_kept w = if keeps_role w then Ok tt else Err role_ref_changed
+abbrev pub role_kept : WrittenObject → Result (Unit {0}) Fault
+role_kept o = if keeps_role o then Ok tt else Err role_ref_changed
 
 -- no atom of the rules is missing, or all that are
 abbrev pub none_missing : List PolicyRule → List PolicyRule → Result (Unit {0}) Fault
 none_missing own rules = if holds_all own rules then Ok tt else Err (lacks (missing own rules))
 
 -- where a cluster role takes its rules from others no atom of full authority is missing, or all that are
-abbrev pub authority_held : List PolicyRule → PolicyWrite → Result (Unit {0}) Fault
-authority_held own w = if holds_authority own w then Ok tt else Err (lacks_authority (missing own full_authority))
+abbrev pub authority_held : List PolicyRule → WrittenObject → Result (Unit {0}) Fault
+authority_held own o = if holds_authority own o then Ok tt else Err (lacks_authority (missing own full_authority))
 
-unfoldable pub all_held : List PolicyRule → PolicyWrite → List PolicyRule → Result (Unit {0}) Fault
-all_held own w rules = none_missing own rules >>= λ u. authority_held own w
+-- the rules are held, and so is the authority
+unfoldable pub all_held : List PolicyRule → WrittenObject → List PolicyRule → Result (Unit {0}) Fault
+all_held own o rules = none_missing own rules >>= λ u. authority_held own o
 
 -- the rules exist and are held, and so is the authority
-unfoldable pub rules_held : PolicyObjects → Identity → PolicyWrite → Option (List PolicyRule) → Result (Unit {0}) Fault
-rules_held objects identity w None = Err role_not_found
-rules_held objects identity w (Some rules) = all_held (held objects identity (scope w)) w rules
+unfoldable pub rules_held : PolicyObjects → Identity → WrittenObject → Option (List PolicyRule) → Result (Unit {0}) Fault
+rules_held objects identity o None = Err role_not_found
+rules_held objects identity o (Some rules) = all_held (held objects identity (scope o)) o rules
 
 -- the checks of a write, in their order
-unfoldable pub checked : PolicyObjects → Identity → List ℕ → PolicyWrite → Result (Unit {0}) Fault
-checked objects identity asked w =
-    role_kept w >>= λ u. (if is_exempt objects identity asked w then Ok tt else rules_held objects identity w (wanted objects w))
+unfoldable pub checked : PolicyObjects → Identity → PolicyWrite → Result (Unit {0}) Fault
+checked objects identity w =
+    role_kept w.object
+    >>= λ u. (if is_exempt objects identity w then Ok tt else rules_held objects identity w.object (wanted objects w.object))
 
 -- the answer tells whether that is so, unless memory ran out
 abbrev pub Tells : Result (Unit {0}) Refused → Bool → Type 0

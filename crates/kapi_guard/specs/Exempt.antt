@@ -1,10 +1,10 @@
 -- Who writes rules without holding them (Kubernetes, 'Using RBAC Authorization', 'Restrictions on role creation or update' and 'Restrictions on role binding creation or update').
 use Rattle.std.specs.Prelude.{ℕ, List, [], Bool, codes}
-use Rattle.kapi_object.specs.Kinds.{rbac_group}
-use Rattle.kapi_object.specs.declared.kinds.RoleKind.{RoleKind}
-use Rattle.kapi_object.specs.declared.kinds.RoleKind.TheVariants as role_kind
+use Rattle.kapi_names.specs.Kinds.{rbac_group}
+use Rattle.kapi_names.specs.declared.kinds.RoleKind.{RoleKind}
+use Rattle.kapi_names.specs.declared.kinds.RoleKind.TheVariants as role_kind
 use Rattle.kapi_rbac_types.specs.declared.identity.Identity.{Identity}
-use Rattle.kapi_rbac_types.specs.declared.role_ref.RoleRef.{RoleRef}
+use Rattle.kapi_names.specs.declared.role_ref.RoleRef.{RoleRef}
 use Rattle.kapi_rules.specs.declared.point.Point.{Point}
 use Rattle.kapi_rules.specs.declared.point.Point.TheVariants as point
 use Rattle.kapi_policy.specs.Decided.{decided}
@@ -12,7 +12,8 @@ use Rattle.kapi_policy.specs.Laws.{is_allowed}
 use Rattle.kapi_policy.specs.Objects.{PolicyObjects}
 use Rattle.kapi_guard.specs.Writes.{scope}
 use Rattle.kapi_guard.specs.declared.write.PolicyWrite.{PolicyWrite}
-use Rattle.kapi_guard.specs.declared.write.PolicyWrite.TheVariants as write
+use Rattle.kapi_guard.specs.declared.write.WrittenObject.{WrittenObject}
+use Rattle.kapi_guard.specs.declared.write.WrittenObject.TheVariants as written
 
 -- the resource of the roles of a kind
 abbrev pub plural : RoleKind → List ℕ
@@ -32,14 +33,14 @@ escalating kind name = role_point (codes "escalate") kind name
 abbrev pub binding : RoleRef → Point
 binding role = role_point (codes "bind") role.kind role.name
 
--- what he may who makes the write without holding its rules: to escalate the roles of the name that the request asks for, which
--- is empty on create, or to bind the role
-abbrev pub exemption : List ℕ → PolicyWrite → Point
-exemption asked (write.Role place versions) = escalating role_kind.Role asked
-exemption asked (write.ClusterRole name versions) = escalating role_kind.ClusterRole asked
-exemption asked (write.RoleBinding place versions) = binding versions.new.role_ref
-exemption asked (write.ClusterRoleBinding name versions) = binding versions.new.role_ref
+-- what he may who writes the object without holding its rules: to escalate the roles of the name that the request asks for, or to
+-- bind the role
+abbrev pub exemption : List ℕ → WrittenObject → Point
+exemption request_name (written.Role place versions) = escalating role_kind.Role request_name
+exemption request_name (written.ClusterRole name versions) = escalating role_kind.ClusterRole request_name
+exemption request_name (written.RoleBinding place versions) = binding versions.new.role_ref
+exemption request_name (written.ClusterRoleBinding name versions) = binding versions.new.role_ref
 
 -- the identity makes the write without holding its rules; members of `system:masters` may do everything
-abbrev pub is_exempt : PolicyObjects → Identity → List ℕ → PolicyWrite → Bool
-is_exempt objects identity asked w = is_allowed (decided objects identity (scope w) (exemption asked w))
+abbrev pub is_exempt : PolicyObjects → Identity → PolicyWrite → Bool
+is_exempt objects identity w = is_allowed (decided objects identity (scope w.object) (exemption w.request_name w.object))

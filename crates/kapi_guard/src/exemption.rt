@@ -2,8 +2,8 @@
 ghost use Rattle.std.specs.Prelude.{◌≡◌, IfOk, codes};
 ghost use Rattle.kapi_guard.specs.Exempt.{binding as binding_of, escalating as escalating_of, exemption as exemption_of, is_exempt as is_exempt_by, plural as plural_of, role_point as role_point_of};
 
-use crate::write::PolicyWrite;
-use kapi_object::RBAC_GROUP;
+use crate::write::{PolicyWrite, WrittenObject};
+use kapi_names::RBAC_GROUP;
 use kapi_policy::Policy;
 use kapi_rbac_types::{Identity, RoleKind, RoleRef};
 use kapi_rules::{Point, ResourcePoint};
@@ -16,23 +16,23 @@ pub fn is_exempt<P: Policy>(
     alloc: Global,
     policy: &P,
     identity: &Identity,
-    asked: &str,
     write: &PolicyWrite,
 ) -> Result<bool, Memory>
-    ensures { IfOk result (λ b. b ≡ is_exempt_by (P.content policy.now) identity.now asked.now write.now) }
+    ensures { IfOk result (λ b. b ≡ is_exempt_by (P.content policy.now) identity.now write.now) }
 {
-    let point = exemption(alloc, asked, write)?;
-    Ok(policy.decide(identity, write.scope(), &point).is_allowed())
+    let point = exemption(alloc, write.request_name.as_str(), &write.object)?;
+    let decision = policy.decide(identity, write.object.scope(), &point);
+    Ok(decision.is_allowed())
 }
 
-fn exemption(alloc: Global, asked: &str, write: &PolicyWrite) -> Result<Point, Memory>
-    ensures { IfOk result (λ p. p ≡ exemption_of asked.now write.now) }
+fn exemption(alloc: Global, request_name: &str, object: &WrittenObject) -> Result<Point, Memory>
+    ensures { IfOk result (λ p. p ≡ exemption_of request_name.now object.now) }
 {
-    match write {
-        PolicyWrite::Role(_, _) => escalating(alloc, RoleKind::Role, asked),
-        PolicyWrite::ClusterRole(_, _) => escalating(alloc, RoleKind::ClusterRole, asked),
-        PolicyWrite::RoleBinding(_, versions) => binding(alloc, &versions.new.role_ref),
-        PolicyWrite::ClusterRoleBinding(_, versions) => binding(alloc, &versions.new.role_ref),
+    match object {
+        WrittenObject::Role(_, _) => escalating(alloc, RoleKind::Role, request_name),
+        WrittenObject::ClusterRole(_, _) => escalating(alloc, RoleKind::ClusterRole, request_name),
+        WrittenObject::RoleBinding(_, versions) => binding(alloc, &versions.new.role_ref),
+        WrittenObject::ClusterRoleBinding(_, versions) => binding(alloc, &versions.new.role_ref),
     }
 }
 

@@ -14,4 +14,4 @@ mod write;
 
 pub use check::check_write;
 pub use refused::Refused;
-pub use write::{PolicyWrite, Versions};
+pub use write::{PolicyWrite, Versions, WrittenObject};

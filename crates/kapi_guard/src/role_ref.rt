@@ -2,18 +2,18 @@
 ghost use Rattle.std.specs.Prelude.{◌≡◌};
 ghost use Rattle.kapi_guard.specs.Writes.{is_same_kind as are_same_kinds, is_same_role as are_same_roles, keeps_role as keeps_role_of, keeps_role_cluster_wide as keeps_role_there, keeps_role_in_namespace as keeps_role_here};
 
-use crate::write::{PolicyWrite, Versions};
+use crate::write::{Versions, WrittenObject};
 use kapi_rbac_types::{ClusterRoleBinding, RoleBinding, RoleKind, RoleRef};
 
-/// Whether a write lets a binding refer to the role that it referred to.
-pub fn keeps_role(write: &PolicyWrite) -> bool
-    ensures { result ≡ keeps_role_of write.now }
+/// Whether a binding that is written refers to the role that it referred to.
+pub fn keeps_role(object: &WrittenObject) -> bool
+    ensures { result ≡ keeps_role_of object.now }
 {
-    match write {
-        PolicyWrite::RoleBinding(_, versions) => keeps_role_in_namespace(versions),
-        PolicyWrite::ClusterRoleBinding(_, versions) => keeps_role_cluster_wide(versions),
-        PolicyWrite::Role(_, _) => true,
-        PolicyWrite::ClusterRole(_, _) => true,
+    match object {
+        WrittenObject::RoleBinding(_, versions) => keeps_role_in_namespace(versions),
+        WrittenObject::ClusterRoleBinding(_, versions) => keeps_role_cluster_wide(versions),
+        WrittenObject::Role(_, _) => true,
+        WrittenObject::ClusterRole(_, _) => true,
     }
 }
 

@@ -1,4 +1,4 @@
-use crate::{PolicyWrite, Refused, Versions, check_write};
+use crate::{PolicyWrite, Refused, Versions, WrittenObject, check_write};
 use kapi_policy::{NamespacedName, PlainPolicy, Policy, PolicyChange};
 use kapi_rbac_types::{
     AggregationRule, ClusterRole, ClusterRoleBinding, Identity, PolicyRule, Role, RoleBinding,
@@ -12,7 +12,7 @@ use std::test::Fail;
 /// Who holds what: a user, the namespace of the binding, which is empty for one that counts cluster-wide, and the rules. A rule has
 /// verbs, groups, resources, names and URLs, parted by `;`, the entries of each by `,`, and `-` for none; the rules are
 /// parted by spaces, and `rbac` is the API group of roles.
-static HOLDERS: [(&str, &str, &str); 23] = [
+static HOLDERS: [(&str, &str, &str); 25] = [
     (
         "pods-and-secrets",
         "default",
@@ -24,8 +24,14 @@ static HOLDERS: [(&str, &str, &str); 23] = [
         "get;;configmaps;a;- create;rbac;roles;-;-",
     ),
     ("configmaps", "default", "get;;configmaps;-;-"),
+    ("configmap-star", "default", "get;;configmaps;*;-"),
+    ("pods-in-all-ways", "default", "*;;pods;-;-"),
     ("binder-of-none", "default", "create;rbac;rolebindings;-;-"),
-    ("binder-of-roles", "default", "bind;rbac;roles;-;-"),
+    (
+        "binder-of-roles",
+        "default",
+        "create;rbac;rolebindings;-;- bind;rbac;roles;-;-",
+    ),
     (
         "binder-of-cluster-roles",
         "default",
@@ -71,7 +77,7 @@ static ROLES: [(&str, &str); 3] = [
 
 /// A user and his groups, the name that the request asks for, what is written, its old version where there is one, its new one (rules,
 /// behind `aggregated` where they are taken from others, or a role), and the answer.
-static WRITES: [(&str, &str, &str, &str, &str, &str); 59] = [
+static WRITES: [(&str, &str, &str, &str, &str, &str); 74] = [
     // Each atom is held by itself, and none by verbs and resources of different rules.
     (
         "pods-and-secrets",
@@ -130,6 +136,31 @@ static WRITES: [(&str, &str, &str, &str, &str, &str); 59] = [
         "-;;pods;-;- get;-;pods;-;-",
         "passes",
     ),
+    // All that is missing is told in order: by groups, resources, verbs and names.
+    (
+        "pods-and-secrets",
+        "",
+        "Role default/r",
+        "none",
+        "get,delete;,apps;pods,nodes;a,b;-",
+        "missing delete;;pods;a delete;;pods;b get;;nodes;a get;;nodes;b delete;;nodes;a delete;;nodes;b get;apps;pods;a get;apps;pods;b delete;apps;pods;a delete;apps;pods;b get;apps;nodes;a get;apps;nodes;b delete;apps;nodes;a delete;apps;nodes;b",
+    ),
+    (
+        "pods-in-all-ways",
+        "",
+        "Role default/r",
+        "none",
+        "get,*;;pods;-;- delete;;pods;a;-",
+        "passes",
+    ),
+    (
+        "pods-in-all-ways",
+        "",
+        "Role default/r",
+        "none",
+        "*;;*;-;- get;apps;pods;-;-",
+        "missing *;;* get;apps;pods",
+    ),
     // A list of names covers its names alone.
     (
         "configmap-a",
@@ -162,6 +193,14 @@ static WRITES: [(&str, &str, &str, &str, &str, &str); 59] = [
         "none",
         "get;;configmaps;a,b;-",
         "passes",
+    ),
+    (
+        "configmap-star",
+        "",
+        "Role default/r",
+        "none",
+        "get;;configmaps;*,a;- get;;configmaps;-;-",
+        "missing get;;configmaps;a get;;configmaps",
     ),
     // Subresources and URLs.
     (
@@ -204,6 +243,22 @@ static WRITES: [(&str, &str, &str, &str, &str, &str); 59] = [
         "get;-;-;-;/a/b*",
         "passes",
     ),
+    (
+        "a-paths",
+        "",
+        "ClusterRole r",
+        "none",
+        "get,head;-;-;-;/a,/b get;-;-;-;/b",
+        "missing head;/a get;/b head;/b",
+    ),
+    (
+        "a-paths",
+        "",
+        "ClusterRole r",
+        "none",
+        "get;;pods;-;/b",
+        "missing get;;pods get;/b",
+    ),
     // What is held cluster-wide is held in each namespace.
     (
         "secrets",
@@ -226,8 +281,8 @@ static WRITES: [(&str, &str, &str, &str, &str, &str); 59] = [
         "pods-and-secrets",
         "r",
         "Role default/r",
-        "delete;;secrets;-;-",
-        "delete;;secrets;-;-",
+        "get;;pods;-;- delete;;secrets;-;-",
+        "get;;pods;-;- delete;;secrets;-;-",
         "missing delete;;secrets",
     ),
     (
@@ -344,6 +399,14 @@ static WRITES: [(&str, &str, &str, &str, &str, &str); 59] = [
         "missing get;;secrets",
     ),
     (
+        "escalates-r",
+        "r",
+        "ClusterRole r",
+        "",
+        "get;;secrets;-;-",
+        "missing get;;secrets",
+    ),
+    (
         "escalates-here",
         "",
         "ClusterRole r",
@@ -369,6 +432,38 @@ static WRITES: [(&str, &str, &str, &str, &str, &str); 59] = [
         "missing get;;pods get;;secrets",
     ),
     (
+        "get-and-list",
+        "",
+        "RoleBinding default/b",
+        "none",
+        "Role/reader",
+        "missing get;;secrets",
+    ),
+    (
+        "pods-and-secrets",
+        "",
+        "RoleBinding default/b",
+        "none",
+        "Role/reader",
+        "passes",
+    ),
+    (
+        "pods-and-secrets",
+        "",
+        "RoleBinding other/b",
+        "none",
+        "ClusterRole/c",
+        "missing get;;secrets",
+    ),
+    (
+        "secrets",
+        "",
+        "RoleBinding other/b",
+        "none",
+        "ClusterRole/c",
+        "passes",
+    ),
+    (
         "binder-of-none",
         "",
         "RoleBinding default/b",
@@ -383,6 +478,14 @@ static WRITES: [(&str, &str, &str, &str, &str, &str); 59] = [
         "none",
         "Role/gone",
         "passes",
+    ),
+    (
+        "binder-of-roles",
+        "",
+        "RoleBinding other/b",
+        "none",
+        "Role/gone",
+        "no role",
     ),
     (
         "binder-of-roles",
@@ -413,6 +516,14 @@ static WRITES: [(&str, &str, &str, &str, &str, &str); 59] = [
         "",
         "RoleBinding default/b",
         "none",
+        "ClusterRole/c",
+        "passes",
+    ),
+    (
+        "binder-of-c",
+        "x",
+        "RoleBinding default/x",
+        "ClusterRole/c",
         "ClusterRole/c",
         "passes",
     ),
@@ -474,6 +585,14 @@ static WRITES: [(&str, &str, &str, &str, &str, &str); 59] = [
         "role changed",
     ),
     (
+        "binder-of-none",
+        "b",
+        "RoleBinding default/b",
+        "Role/empty",
+        "Role/gone",
+        "role changed",
+    ),
+    (
         "root system:masters",
         "b",
         "RoleBinding default/b",
@@ -496,6 +615,14 @@ static WRITES: [(&str, &str, &str, &str, &str, &str); 59] = [
         "ClusterRole r",
         "aggregated get;;pods;-;-",
         "get;;pods;-;-",
+        "authority *;*;* *;*",
+    ),
+    (
+        "pods",
+        "r",
+        "ClusterRole r",
+        "aggregated get;;pods;-;-",
+        "aggregated get;;pods;-;-",
         "authority *;*;* *;*",
     ),
     (
@@ -665,19 +792,19 @@ fn versions<T: Drop, Read: Fn(Global, &str) -> Result<T, AllocError>>(
     })
 }
 
-fn write(alloc: Global, text: &str, old: &str, new: &str) -> Result<PolicyWrite, AllocError> {
+fn object(alloc: Global, text: &str, old: &str, new: &str) -> Result<WrittenObject, AllocError> {
     let (kind, name) = text.split_once(' ').unwrap_or(("", text));
     match kind {
-        "Role" => Ok(PolicyWrite::Role(place(alloc, name)?, versions(alloc, role, old, new)?)),
-        "ClusterRole" => Ok(PolicyWrite::ClusterRole(
+        "Role" => Ok(WrittenObject::Role(place(alloc, name)?, versions(alloc, role, old, new)?)),
+        "ClusterRole" => Ok(WrittenObject::ClusterRole(
             Text::copy_of(alloc, name)?,
             versions(alloc, cluster_role, old, new)?,
         )),
-        "RoleBinding" => Ok(PolicyWrite::RoleBinding(
+        "RoleBinding" => Ok(WrittenObject::RoleBinding(
             place(alloc, name)?,
             versions(alloc, binding, old, new)?,
         )),
-        _other => Ok(PolicyWrite::ClusterRoleBinding(
+        _other => Ok(WrittenObject::ClusterRoleBinding(
             Text::copy_of(alloc, name)?,
             versions(alloc, cluster_binding, old, new)?,
         )),
@@ -740,8 +867,8 @@ fn told(alloc: Global, answer: &Result<(), Refused>) -> Result<String, AllocErro
 
 // ---- tests
 
-fn put(policy: &mut PlainPolicy, write: PolicyWrite) -> Result<(), Memory> {
-    policy.apply(&PolicyChange::Put(write.into_put()))
+fn put(policy: &mut PlainPolicy, object: WrittenObject) -> Result<(), Memory> {
+    policy.apply(&PolicyChange::Put(object.into_put()))
 }
 
 /// Lets a user hold rules, by a role and a binding of his name.
@@ -760,21 +887,21 @@ fn hold(
     let role = versions(alloc, cluster_role, "none", rules)?;
     put(
         policy,
-        PolicyWrite::ClusterRole(Text::copy_of(alloc, user)?, role),
+        WrittenObject::ClusterRole(Text::copy_of(alloc, user)?, role),
     )?;
     let name = Text::copy_of(alloc, user)?;
     if namespace.is_empty() {
         let new = ClusterRoleBinding { subjects, role_ref };
         return put(
             policy,
-            PolicyWrite::ClusterRoleBinding(name, Versions { old: None, new }),
+            WrittenObject::ClusterRoleBinding(name, Versions { old: None, new }),
         );
     }
     let namespace = Text::copy_of(alloc, namespace)?;
     let new = RoleBinding { subjects, role_ref };
     put(
         policy,
-        PolicyWrite::RoleBinding(
+        WrittenObject::RoleBinding(
             NamespacedName { namespace, name },
             Versions { old: None, new },
         ),
@@ -787,7 +914,7 @@ fn policy(alloc: Global) -> Result<PlainPolicy, AllocError> {
         hold(alloc, &mut policy, user, namespace, rules)?;
     }
     for (place, rules) in &ROLES {
-        put(&mut policy, write(alloc, place, "none", rules)?)?;
+        put(&mut policy, object(alloc, place, "none", rules)?)?;
     }
     Ok(policy)
 }
@@ -796,10 +923,13 @@ fn policy(alloc: Global) -> Result<PlainPolicy, AllocError> {
 fn writes_are_checked(rt: HostRuntime) -> Result<(), Fail> {
     let alloc = rt.alloc();
     let policy = policy(alloc)?;
-    for (user, asked, place, old, new, answer) in &WRITES {
+    for (user, request_name, place, old, new, answer) in &WRITES {
         let identity = identity(alloc, user)?;
-        let write = write(alloc, place, old, new)?;
-        let checked = check_write(alloc, &policy, &identity, asked, &write);
+        let write = PolicyWrite {
+            request_name: Text::copy_of(alloc, request_name)?,
+            object: object(alloc, place, old, new)?,
+        };
+        let checked = check_write(alloc, &policy, &identity, &write);
         assert_eq!(rt;
             told(alloc, &checked)?.as_str(),
             *answer,

@@ -13,49 +13,59 @@ pub struct Versions<T> {
     pub new: T,
 }
 
-/// A create, update or patch of a policy object at its place.
+/// A create, update or patch of a policy object: the name that its request asks for, which is empty on create, and what is written.
 #[derive(Debug, Drop)]
-pub enum PolicyWrite {
+pub struct PolicyWrite {
+    pub request_name: Text,
+    pub object: WrittenObject,
+}
+
+/// A policy object at its place, in both versions.
+#[derive(Debug, Drop)]
+pub enum WrittenObject {
     Role(NamespacedName, Versions<Role>),
     ClusterRole(Text, Versions<ClusterRole>),
     RoleBinding(NamespacedName, Versions<RoleBinding>),
     ClusterRoleBinding(Text, Versions<ClusterRoleBinding>),
 }
 
-impl PolicyWrite {
-    /// The namespace in which the write counts, empty where it counts cluster-wide.
+impl WrittenObject {
+    /// The namespace in which a write of it counts, empty where it counts cluster-wide.
     pub fn scope(&self) -> &str
         ensures { result.now ≡ scope_of self.now }
     {
         match self {
-            PolicyWrite::Role(place, _) => place.namespace.as_str(),
-            PolicyWrite::RoleBinding(place, _) => place.namespace.as_str(),
-            PolicyWrite::ClusterRole(_, _) => "",
-            PolicyWrite::ClusterRoleBinding(_, _) => "",
+            WrittenObject::Role(place, _) => place.namespace.as_str(),
+            WrittenObject::RoleBinding(place, _) => place.namespace.as_str(),
+            WrittenObject::ClusterRole(_, _) => "",
+            WrittenObject::ClusterRoleBinding(_, _) => "",
         }
     }
 
-    /// Whether the write is one of a cluster role that takes its rules from others, as it stood or as it is to stand.
+    /// Whether it is a cluster role that takes its rules from others, as it stood or as it is to stand.
     pub fn is_aggregated(&self) -> bool
         ensures { result ≡ has_aggregation_rule self.now }
     {
         match self {
-            PolicyWrite::ClusterRole(_, versions) => is_aggregated(versions),
+            WrittenObject::ClusterRole(_, versions) => is_aggregated(versions),
             _ => false,
         }
     }
 
-    /// The new object at its place. Takes no memory.
+    /// The new version at its place. Takes no memory.
     pub fn into_put(self) -> PolicyPut
         ensures { result ≡ put_of self }
     {
         match self {
-            PolicyWrite::Role(place, versions) => PolicyPut::Role(place, versions.new),
-            PolicyWrite::ClusterRole(name, versions) => PolicyPut::ClusterRole(name, versions.new),
-            PolicyWrite::RoleBinding(place, versions) => {
+            WrittenObject::Role(place, versions) => PolicyPut::Role(place, versions.new),
+            WrittenObject::ClusterRole(name, versions) => PolicyPut::ClusterRole(
+                name,
+                versions.new,
+            ),
+            WrittenObject::RoleBinding(place, versions) => {
                 PolicyPut::RoleBinding(place, versions.new)
             }
-            PolicyWrite::ClusterRoleBinding(name, versions) => {
+            WrittenObject::ClusterRoleBinding(name, versions) => {
                 PolicyPut::ClusterRoleBinding(name, versions.new)
             }
         }

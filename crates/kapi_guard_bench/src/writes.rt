@@ -1,4 +1,4 @@
-use kapi_guard::{PolicyWrite, Versions, check_write};
+use kapi_guard::{PolicyWrite, Versions, WrittenObject, check_write};
 use kapi_policy::{NamespacedName, PlainPolicy, Policy, PolicyChange, PolicyPut};
 use kapi_rbac_types::{
     ClusterRole, ClusterRoleBinding, Identity, PolicyRule, Role, RoleKind, RoleRef, Subject,
@@ -69,7 +69,7 @@ fn policy(alloc: Global, count: u64) -> anyhow::Result<PlainPolicy> {
     Ok(policy)
 }
 
-/// The write of a role of ten rules.
+/// The creation of a role of ten rules.
 fn write(alloc: Global, first: u64) -> anyhow::Result<PolicyWrite> {
     let place = NamespacedName {
         namespace: Text::copy_of(alloc, "default")?,
@@ -78,7 +78,10 @@ fn write(alloc: Global, first: u64) -> anyhow::Result<PolicyWrite> {
     let new = Role {
         rules: rules(alloc, first, 10)?,
     };
-    Ok(PolicyWrite::Role(place, Versions { old: None, new }))
+    Ok(PolicyWrite {
+        request_name: Text::copy_of(alloc, "")?,
+        object: WrittenObject::Role(place, Versions { old: None, new }),
+    })
 }
 
 /// The time in nanoseconds, or the largest number where it does not fit.
@@ -103,7 +106,7 @@ pub fn time_check(
     let mut passed: u64 = 0;
     let start = Instant::now(clock)?;
     for _ in 0..ROUNDS {
-        if check_write(alloc, &policy, &identity, "", &write).is_ok() {
+        if check_write(alloc, &policy, &identity, &write).is_ok() {
             passed = passed.saturating_add(1);
         }
     }

@@ -1,6 +1,7 @@
 -- The requests of a text (RFC 9112 sections 2.2, 3, 5, 6, 7 and 9.6).
 use Rattle.std.specs.Prelude.{◌≡◌, ℕ, zero, suc, ◌+◌, nat_lt, nat_le, if◌then◌else◌, IsSome, is_some, List, [], ◌∷◌, ◌++◌, length, take, drop, map, codes, slice_range, Option, Some, None, Result, Ok, Err}
 use Rattle.std.specs.Str.{bytes_eq}
+use Rattle.kapi_http.specs.Limits.{head_limit}
 use Rattle.kapi_http.specs.Fields.{FieldBytes, asks_to_close}
 use Rattle.kapi_http.specs.Head.{Says, head_of}
 use Rattle.kapi_http.specs.Rules.{checked}
@@ -90,12 +91,12 @@ settled_within lines head =
 abbrev pub settled_at : Scan → List ℕ → Finding
 settled_at s bytes =
     if is_ended s.place then settled_within s.lines (take s.at bytes)
-    else if nat_le 16384 (length bytes) then refused 0 [] refusal.HeadTooLarge
+    else if nat_le head_limit (length bytes) then refused 0 [] refusal.HeadTooLarge
     else waits
 
 -- what the front of a text settles
 unfoldable pub settled : List ℕ → Finding
-settled bytes = settled_at (scanned begin (take 16384 bytes)) bytes
+settled bytes = settled_at (scanned begin (take head_limit bytes)) bytes
 
 -- the item that is settled: a request only once its body is whole
 abbrev pub item_of : Finding → List ℕ → Option (Result HttpRequest HttpFault)

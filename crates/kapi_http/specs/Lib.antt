@@ -1,3 +1,4 @@
+pub mod Limits
 pub mod Cut
 pub mod Fields
 pub mod Head

@@ -4,6 +4,7 @@ use Rattle.std.specs.List.{list_all}
 use Rattle.std.specs.Str.{bytes_eq}
 use Rattle.std.specs.Str.Parse.{digits_value}
 use Rattle.std.specs.Char.{is_ascii_digit}
+use Rattle.kapi_http.specs.Limits.{body_limit}
 use Rattle.kapi_http.specs.Fields.{FieldBytes, values}
 use Rattle.kapi_http.specs.Head.{Says}
 use Rattle.kapi_http.specs.declared.message.Method.{Method}
@@ -23,7 +24,7 @@ method_named name =
 
 -- a body of that size, where it is within the limit
 abbrev pub within_limit : ℕ → Result ℕ Refusal
-within_limit size = if nat_le size 1048576 then Ok size else Err refusal.BodyTooLarge
+within_limit size = if nat_le size body_limit then Ok size else Err refusal.BodyTooLarge
 
 -- the size that a Content-Length value gives: one or more digits and nothing else (RFC 9110 section 8.6)
 unfoldable pub content_length : List ℕ → Result ℕ Refusal

@@ -4,6 +4,8 @@ use Rattle.httparse.specs.Grammar.{ReadsRequest, RequestHead}
 use Rattle.httparse.specs.Spans.{span_bytes}
 use Rattle.httparse.specs.declared.spans.HeaderSpan.{HeaderSpan}
 use Rattle.httparse.specs.declared.spans.RequestSpans.{RequestSpans}
+use Rattle.kapi_http.specs.Limits.{field_limit, head_limit}
+use Rattle.kapi_http.specs.declared.inbox.TheConstants.{KEPT_LIMIT}
 use Rattle.kapi_http.specs.Cut.{settled}
 use Rattle.kapi_http.specs.Head.{Says, head_of}
 use Rattle.kapi_http.specs.Inbox.{decision_of}
@@ -18,12 +20,12 @@ use Rattle.kapi_http.specs.declared.message.Method.{Method}
 pub record IsRead (progress : Progress) (kept : List ℕ) : Type 0 where
   pub scan : progress.scan ≡ scanned begin kept
   pub at : progress.scan.at ≡ length kept
-  pub below : length kept < 16384
+  pub below : length kept < head_limit
 
 -- what is remembered is what the bytes settle
 pub record IsTied (bytes : List ℕ) (start : ℕ) (progress : Progress) : Type 0 where
   pub within : start ≤ length bytes
-  pub fits : length (drop start bytes) ≤ 2097152
+  pub fits : length (drop start bytes) ≤ KEPT_LIMIT
   pub decided : progress.decision ≡ decision_of (settled (drop start bytes))
   pub read : progress.decision ≡ decision.Waits → IsRead progress (drop start bytes)
 
@@ -31,9 +33,9 @@ pub record IsTied (bytes : List ℕ) (start : ℕ) (progress : Progress) : Type 
 abbrev pub HasLines : ℕ → List ℕ → Type 0
 HasLines lines head = (h : RequestHead) → ReadsRequest head h [] → lines ≡ length h.fields + 1
 
--- a head has at most 64 fields
+-- a head has no more fields than it may
 abbrev pub HasRoom : List ℕ → Type 0
-HasRoom head = (h : RequestHead) → ReadsRequest head h [] → length h.fields ≤ 64
+HasRoom head = (h : RequestHead) → ReadsRequest head h [] → length h.fields ≤ field_limit
 
 -- the method that a head names; empty where it could not be read
 abbrev pub method_sent : Option Says → List ℕ

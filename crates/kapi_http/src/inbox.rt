@@ -74,13 +74,13 @@ impl Inbox {
     /// Takes bytes in, or none of them. After a fault was taken out, `Ended`; above 2,097,152 unserved bytes, `Full`.
     pub fn feed(&mut self, piece: &[u8]) -> Result<(), FeedError>
         ensures ok { OnOk result (self.new ≡ record { kept = self.old.kept ++ piece.now; ended = false }) }
-        ensures fits { OnOk result (length self.old.kept + length piece.now ≤ 2097152) }
+        ensures fits { OnOk result (length self.old.kept + length piece.now ≤ KEPT_LIMIT) }
         ensures err { OnErr result (self.new ≡ self.old) }
 
         // Tested in this order, and before any growth.
         ensures ended { result ≡ Err FeedError.Ended ↔ IsTrue self.old.ended }
         ensures full { result ≡ Err FeedError.Full
-            ↔ (IsFalse self.old.ended × (2097152 < length self.old.kept + length piece.now)) }
+            ↔ (IsFalse self.old.ended × (KEPT_LIMIT < length self.old.kept + length piece.now)) }
     {
         if self.ended {
             return Err(FeedError::Ended);

@@ -9,8 +9,8 @@ use Rattle.std.specs.declared.collections.Bound.{Bound as Start}
 use Rattle.kapi_policy.specs.Objects.{name_cmp}
 use Rattle.kapi_rbac_types.specs.Subjects.{is_account, names, namespace_of}
 use Rattle.kapi_rbac_types.specs.declared.identity.Identity.{Identity}
-use Rattle.kapi_rbac_types.specs.declared.subject.Subject.{Subject}
-use Rattle.kapi_rbac_types.specs.declared.subject.Subject.TheVariants.{User, Group, ServiceAccount}
+use Rattle.kapi_names.specs.declared.subject.Subject.{Subject}
+use Rattle.kapi_names.specs.declared.subject.Subject.TheVariants.{User, Group, ServiceAccount}
 use Rattle.kapi_index.proofs.Bools.{any_same, or_across, or_false, turned}
 use Rattle.kapi_index.specs.Listed.{is_key}
 use Rattle.kapi_index.specs.Prepared.{account_users, group_of, groups_of, user_of, users_of}

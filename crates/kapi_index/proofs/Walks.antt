@@ -12,12 +12,12 @@ use Rattle.std.specs.declared.collections.Bound.TheVariants.{Excluded, Unbounded
 use Rattle.std.proofs.lemmas.Map.Text.{is_eq-slice_cmp}
 use Rattle.kapi_rbac_types.specs.declared.binding.ClusterRoleBinding.{ClusterRoleBinding}
 use Rattle.kapi_rbac_types.specs.declared.binding.RoleBinding.{RoleBinding}
-use Rattle.kapi_rbac_types.specs.declared.role_ref.RoleRef.{RoleRef}
-use Rattle.kapi_rbac_types.specs.declared.subject.Subject.{Subject}
+use Rattle.kapi_names.specs.declared.role_ref.RoleRef.{RoleRef}
+use Rattle.kapi_names.specs.declared.subject.Subject.{Subject}
 use Rattle.kapi_policy.specs.declared.decision.Grant.{Grant}
 use Rattle.kapi_policy.specs.Views.{granted_if}
 use Rattle.kapi_rbac_types.specs.declared.identity.Identity.{Identity}
-use Rattle.kapi_rbac_types.specs.declared.policy_rule.PolicyRule.{PolicyRule}
+use Rattle.kapi_names.specs.declared.policy_rule.PolicyRule.{PolicyRule}
 use Rattle.kapi_rbac_types.specs.declared.role.Role.{Role}
 use Rattle.kapi_rules.specs.declared.point.Point.{Point}
 use Rattle.kapi_policy.specs.Decided.{Binding, Granted, bindings_of, cluster_binding, first_some, given, granted_by, is_in, is_place, namespace_binding, rules_in, rules_of}

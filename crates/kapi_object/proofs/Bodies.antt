@@ -1,38 +1,12 @@
--- The JSON object that bytes are, and its members.
-use Rattle.std.proofs.Common.{◌≡◌, ℕ, List, [], ◌∷◌, length, Bool, true, false, ◌==◌, if◌then◌else◌, Some, None, is_some, refl}
+-- Objects without members.
+use Rattle.std.proofs.Common.{◌≡◌, List, [], ◌∷◌, length, ◌==◌, refl}
 use Rattle.std.proofs.Math.Dec.{eqb-suc-zero}
 use Rattle.std.specs.declared.alloc.Global.{Global}
 use Rattle.std.specs.Prelude.{String}
-use Rattle.std.specs.Str.{IsUtf8, is_utf8}
-use Rattle.std.proofs.lemmas.Str.{IsUtf8-from_is_utf8, is_utf8-from_IsUtf8}
-use Rattle.serde_json.specs.Data.{Data, null, boolean, number, string, array, object}
-use Rattle.serde_json.specs.Find.{as_object}
-use Rattle.serde_json.specs.Read.{read}
+use Rattle.serde_json.specs.Data.{object}
 use Rattle.serde_json.specs.View.{members_view}
 use Rattle.serde_json.specs.declared.value.Value.{Value}
-use Rattle.kapi_object.specs.Tree.{json_object, is_empty_object}
-use Rattle.std.specs.Option.{option_map, option_and_then}
-
-object_only : (d : Data) → is_some (as_object d) ≡ true → option_map object (as_object d) ≡ Some d
-object_only null h = cc
-object_only (boolean b) h = cc
-object_only (number n) h = cc
-object_only (string s) h = cc
-object_only (array ds) h = cc
-object_only (object ms) h = refl
-
--- what was read is the JSON object that the bytes are, if it is an object
-pub json_object_read : (text : List ℕ) (d : Data) → IsUtf8 text → read text ≡ Some d → is_some (as_object d) ≡ true → json_object text ≡ Some d
-unfolding json_object
-json_object_read text d u r o = rw (is_utf8-from_IsUtf8 text u, r) (object_only d o)
-
--- bytes that are not UTF-8, or that nothing was read of, are no JSON object
-pub json_object_none : (text : List ℕ) → (IsUtf8 text → read text ≡ None) → json_object text ≡ None
-unfolding json_object
-json_object_none text h =
-    let P : Bool → Type 0 = λ b. (b ≡ true → read text ≡ None) → (if b then option_map object (option_and_then as_object (read text)) else None) ≡ None in
-    let cases : P (is_utf8 text) = elim (is_utf8 text) as P [ true ↦ λ k. rw (k refl) refl | false ↦ λ k. refl ] in
-    cases (λ e. h (IsUtf8-from_is_utf8 text e))
+use Rattle.kapi_object.specs.Tree.{is_empty_object}
 
 pub no_entries : (es : List (String Global × Value)) → (length es == 0) ≡ is_empty_object (object (members_view es))
 no_entries [] = refl

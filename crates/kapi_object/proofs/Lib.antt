@@ -1,14 +1,9 @@
 pub mod NoFloats
 pub mod Closed
 pub mod Ordered
-pub mod Slashes
 pub mod Bodies
-pub mod KeptGiven
 pub mod Lists
 pub mod Puts
-pub mod CleanLists
-pub mod CleanRules
-pub mod CleanSelectors
-pub mod CleanBindings
-pub mod Clean
 pub mod Removal
+pub mod Written
+pub mod Fields

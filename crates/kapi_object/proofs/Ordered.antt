@@ -1,8 +1,9 @@
 -- What is ordered by its keys; so is all that is read of a text.
-use Rattle.std.proofs.Common.{◌≡◌, ℕ, List, true, ◌&&◌, Option, Some, None, option_map, refl, ap, ◌∙◌, subst}
+use Rattle.std.proofs.Common.{◌≡◌, ℕ, List, Bool, true, false, not, ◌&&◌, if◌then◌else◌, bytes_eq, Option, Some, None, option_map, refl, sym, ap, ◌∙◌, subst}
+use Rattle.std.proofs.lemmas.Map.Text.{is_eq-slice_cmp}
 use Rattle.std.specs.Cmp.{first_so, second_so}
 use Rattle.std.specs.Option.{option_and_then}
-use Rattle.std.specs.Ordering.{nat_cmp, match_ordering, ordering_reverse, is_lt}
+use Rattle.std.specs.Ordering.{nat_cmp, match_ordering, ordering_reverse, is_eq, is_lt}
 use Rattle.std.specs.declared.cmp.Ordering.{Ordering}
 use Rattle.std.specs.declared.cmp.Ordering.TheVariants.{Less, Equal, Greater}
 use Rattle.std.specs.Cmp.Lexicographic.{slice_cmp, nat_list_cmp_total}
@@ -11,7 +12,7 @@ use Rattle.json.specs.Lex.{tokens}
 use Rattle.serde_json.specs.Data.{Data, number, array, object, Items, item, Members, no_members, member, put}
 use Rattle.serde_json.specs.Read.{read, of_json, of_items, of_members, number_of, max_depth}
 use Rattle.kapi_object.specs.Order.{precedes, is_ordered, are_ordered, in_order}
-use Rattle.kapi_object.specs.Tree.{without}
+use Rattle.kapi_object.specs.Tree.{filter_members, without}
 use Rattle.kapi_object.proofs.Closed.{Closed}
 
 is_less : (o : Ordering) → is_lt o ≡ true → o ≡ Less
@@ -40,13 +41,13 @@ precedes_put j k d (member l e ms) h p =
     ]
 
 -- the parts of members in order
-key_first : (k : List ℕ) (d : Data) (ms : Members) → in_order (member k d ms) ≡ true → precedes k ms ≡ true
+pub key_first : (k : List ℕ) (d : Data) (ms : Members) → in_order (member k d ms) ≡ true → precedes k ms ≡ true
 key_first k d ms h = first_so (precedes k ms) (is_ordered d && in_order ms) h
 
 value_ordered : (k : List ℕ) (d : Data) (ms : Members) → in_order (member k d ms) ≡ true → is_ordered d ≡ true
 value_ordered k d ms h = first_so (is_ordered d) (in_order ms) (second_so (precedes k ms) (is_ordered d && in_order ms) h)
 
-others_in_order : (k : List ℕ) (d : Data) (ms : Members) → in_order (member k d ms) ≡ true → in_order ms ≡ true
+pub others_in_order : (k : List ℕ) (d : Data) (ms : Members) → in_order (member k d ms) ≡ true → in_order ms ≡ true
 others_in_order k d ms h = second_so (is_ordered d) (in_order ms) (second_so (precedes k ms) (is_ordered d && in_order ms) h)
 
 put_in_order : (k : List ℕ) (d : Data) (ms : Members) → is_ordered d ≡ true → in_order ms ≡ true → in_order (put k d ms) ≡ true
@@ -58,26 +59,31 @@ put_in_order k d (member l e ms) hd hm =
       | Greater ↦ λ is. rw (precedes_put l k d ms (turned k l is) (key_first l e ms hm), value_ordered l e ms hm) (put_in_order k d ms hd (others_in_order l e ms hm))
     ] refl
 
-precedes_without : (j k : List ℕ) (ms : Members) → precedes j ms ≡ true → precedes j (without k ms) ≡ true
-precedes_without j k no_members p = refl
-precedes_without j k (member l d ms) p =
+precedes_filter : (j : List ℕ) (passes : List ℕ → Bool) (ms : Members) → precedes j ms ≡ true → precedes j (filter_members passes ms) ≡ true
+precedes_filter j passes no_members p = refl
+precedes_filter j passes (member l d ms) p =
     let first : is_lt (slice_cmp nat_cmp j l) ≡ true = first_so (is_lt (slice_cmp nat_cmp j l)) (precedes j ms) p in
     let others : precedes j ms ≡ true = second_so (is_lt (slice_cmp nat_cmp j l)) (precedes j ms) p in
-    elim (slice_cmp nat_cmp k l) as (λ o. precedes j (match_ordering o (member l d (without k ms)) ms (member l d (without k ms))) ≡ true) [
-      | Less ↦ rw first (precedes_without j k ms others)
-      | Equal ↦ others
-      | Greater ↦ rw first (precedes_without j k ms others)
+    elim (passes l) as (λ b. precedes j (if b then member l d (filter_members passes ms) else filter_members passes ms) ≡ true) [
+      | true ↦ rw first (precedes_filter j passes ms others)
+      | false ↦ precedes_filter j passes ms others
     ]
 
-without_in_order : (k : List ℕ) (ms : Members) → in_order ms ≡ true → in_order (without k ms) ≡ true
-without_in_order k no_members h = refl
-without_in_order k (member l d ms) h =
-    let first : precedes l (without k ms) ≡ true = precedes_without l k ms (key_first l d ms h) in
-    elim (slice_cmp nat_cmp k l) as (λ o. in_order (match_ordering o (member l d (without k ms)) ms (member l d (without k ms))) ≡ true) [
-      | Less ↦ rw (first, value_ordered l d ms h) (without_in_order k ms (others_in_order l d ms h))
-      | Equal ↦ others_in_order l d ms h
-      | Greater ↦ rw (first, value_ordered l d ms h) (without_in_order k ms (others_in_order l d ms h))
+filter_in_order : (passes : List ℕ → Bool) (ms : Members) → in_order ms ≡ true → in_order (filter_members passes ms) ≡ true
+filter_in_order passes no_members h = refl
+filter_in_order passes (member l d ms) h =
+    elim (passes l) as (λ b. in_order (if b then member l d (filter_members passes ms) else filter_members passes ms) ≡ true) [
+      | true ↦ rw (precedes_filter l passes ms (key_first l d ms h), value_ordered l d ms h) (filter_in_order passes ms (others_in_order l d ms h))
+      | false ↦ filter_in_order passes ms (others_in_order l d ms h)
     ]
+
+-- a key that comes before all of the members is none of theirs
+pub none_removed : (key : List ℕ) (ms : Members) → precedes key ms ≡ true → without key ms ≡ ms
+none_removed key no_members p = refl
+none_removed key (member l d ms) p =
+    let less : slice_cmp nat_cmp key l ≡ Less = is_less (slice_cmp nat_cmp key l) (first_so (is_lt (slice_cmp nat_cmp key l)) (precedes key ms) p) in
+    let other : bytes_eq key l ≡ false = sym (is_eq-slice_cmp key l) ∙ ap is_eq less in
+    rw other (ap (member l d) (none_removed key ms (second_so (is_lt (slice_cmp nat_cmp key l)) (precedes key ms) p)))
 
 pub keys_in_order : Closed (λ d. is_ordered d ≡ true) (λ ds. are_ordered ds ≡ true) (λ ms. in_order ms ≡ true)
 keys_in_order = record {
@@ -89,7 +95,7 @@ keys_in_order = record {
   one_more = λ d ds hd h. rw hd h;
   no_member = refl;
   with_member = put_in_order;
-  without_one = without_in_order;
+  without_one = λ k ms h. filter_in_order (λ other. not (bytes_eq k other)) ms h;
   first = value_ordered;
   others = others_in_order;
 }

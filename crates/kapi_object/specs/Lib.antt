@@ -1,12 +1,5 @@
 pub mod Tree
 pub mod Order
-pub mod Names
-pub mod Cause
 pub mod Given
-pub mod Faults
-pub mod Admission
 pub mod Object
-pub mod Kinds
-pub mod Selector
-pub mod Typed
 pub mod Contents

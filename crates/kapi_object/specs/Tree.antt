@@ -1,24 +1,27 @@
 -- Trees: JSON values as the data that they are (RFC 8259).
-use Rattle.std.specs.Prelude.{ℕ, List, Bool, true, false, Option, Some, None, codes, is_some, option_and_then, option_map, unwrap_or, if◌then◌else◌}
-use Rattle.std.specs.Cmp.Lexicographic.{slice_cmp}
-use Rattle.std.specs.Ordering.{nat_cmp, match_ordering}
-use Rattle.std.specs.Str.{is_utf8}
-use Rattle.serde_json.specs.Data.{Data, string, object, Members, no_members, member, put}
-use Rattle.serde_json.specs.Find.{get, as_null, as_object}
+use Rattle.std.specs.Prelude.{ℕ, List, Bool, true, false, not, Option, Some, None, codes, is_some, option_and_then, option_map, unwrap_or, if◌then◌else◌}
+use Rattle.std.specs.Str.{bytes_eq, is_utf8}
+use Rattle.serde_json.specs.Data.{Data, null, string, object, Items, no_items, item, Members, no_members, member, put}
+use Rattle.serde_json.specs.Find.{get, as_object}
 use Rattle.serde_json.specs.Read.{read}
 
 -- the JSON object that the bytes are, if they are one (RFC 8259)
 unfoldable pub json_object : List ℕ → Option Data
 json_object text = if is_utf8 text then option_map object (option_and_then as_object (read text)) else None
 
--- null
-abbrev pub is_null : Data → Bool
-is_null d = is_some (as_null d)
+-- null is as if it were not there
+abbrev pub unless_null : Data → Option Data
+unless_null null = None
+unless_null d = Some d
 
 -- an object without members
 abbrev pub is_empty_object : Data → Bool
 is_empty_object (object no_members) = true
 is_empty_object _ = false
+
+-- the member of a key
+abbrev pub member_of : List ℕ → Data → Option Data
+member_of key d = option_and_then unless_null (get key d)
 
 -- the members of an object, and none of anything else
 abbrev pub members_or_none : Option Data → Members
@@ -31,6 +34,10 @@ metadata_of tree = members_or_none (get (codes "metadata") tree)
 -- the value at a key of an object's `metadata`; none where that is missing or no object
 abbrev pub in_metadata : List ℕ → Data → Option Data
 in_metadata key tree = option_and_then (get key) (get (codes "metadata") tree)
+
+-- the member of a key of an object's `metadata`; null is as if it were not there
+abbrev pub metadata_member : List ℕ → Data → Option Data
+metadata_member key tree = option_and_then unless_null (in_metadata key tree)
 
 -- the tree with these members as its metadata; anything but an object has no other members
 abbrev pub with_metadata : Members → Data → Data
@@ -52,12 +59,21 @@ with_content content tree =
     (put_if (codes "kind") (get (codes "kind") tree)
     (put_if (codes "apiVersion") (get (codes "apiVersion") tree) content)))
 
+-- the members whose keys pass
+abbrev pub filter_members : (List ℕ → Bool) → Members → Members
+filter_members passes no_members = no_members
+filter_members passes (member key d ms) = if passes key then member key d (filter_members passes ms) else filter_members passes ms
+
 -- the members without the one of a key
 abbrev pub without : List ℕ → Members → Members
-without key no_members = no_members
-without key (member l d ms) = match_ordering (slice_cmp nat_cmp key l) (member l d (without key ms)) ms (member l d (without key ms))
+without key ms = filter_members (λ other. not (bytes_eq key other)) ms
 
 -- an object without the member of a key; anything else has none
 abbrev pub without_member : List ℕ → Data → Data
 without_member key (object ms) = object (without key ms)
 without_member key d = d
+
+-- a list without elements
+abbrev pub is_empty : Items → Bool
+is_empty no_items = true
+is_empty (item d ds) = false

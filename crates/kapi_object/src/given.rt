@@ -1,10 +1,9 @@
 ghost use Rattle.std.specs.Prelude.{◌≡◌, IfOk};
 ghost use Rattle.serde_json.specs.View.{view};
-ghost use Rattle.kapi_object.specs.Given.{given_if, given_of};
-ghost use Rattle.kapi_object.specs.Given.{text_given as text_given_of};
-ghost use Rattle.kapi_object.specs.Tree.{in_metadata as in_metadata_of};
+ghost use Rattle.kapi_object.specs.Given.{given_of, text_given};
+ghost use Rattle.kapi_object.specs.Tree.{metadata_member};
 
-use crate::tree::in_metadata;
+use crate::tree::member_of_metadata;
 use kapi_text::{Memory, Text, TryCopy};
 use serde_json::Value;
 use std::alloc::{AllocError, Global};
@@ -48,23 +47,13 @@ impl TryCopy for Given {
     }
 }
 
-/// What a value gives where a text is wanted.
-fn text_given(alloc: Global, value: &Value) -> Result<GivenText, Memory>
-    ensures { IfOk result (λ g. g ≡ text_given_of (view value.now)) }
-{
-    match value {
-        Value::Null => Ok(GivenText::Absent),
-        Value::String(text) => Ok(GivenText::Text(Text::copy_of(alloc, text.as_str())?)),
-        _other => Ok(GivenText::Mistyped),
-    }
-}
-
 /// What the tree's metadata gives at a key.
 fn given_at(alloc: Global, tree: &Value, key: &str) -> Result<GivenText, Memory>
-    ensures { IfOk result (λ g. g ≡ given_if (in_metadata_of key.now (view tree.now))) }
+    ensures { IfOk result (λ g. g ≡ text_given (metadata_member key.now (view tree.now))) }
 {
-    match in_metadata(tree, key) {
-        Some(value) => text_given(alloc, value),
+    match member_of_metadata(tree, key) {
+        Some(Value::String(text)) => Ok(GivenText::Text(Text::copy_of(alloc, text.as_str())?)),
+        Some(_other) => Ok(GivenText::Mistyped),
         None => Ok(GivenText::Absent),
     }
 }

@@ -3,12 +3,9 @@ ghost use Rattle.serde_json.specs.View.{view};
 ghost use Rattle.serde_json.specs.Written.{has_float};
 ghost use Rattle.kapi_object.specs.Order.{is_ordered};
 
-use crate::admission::collect_faults;
-use crate::fault::FieldFault;
 use crate::given::{Given, given_in};
-use crate::labels::Labels;
-use crate::row::Schema;
 use crate::tree::{in_metadata, with_content, with_text, without_member};
+use kapi_names::Labels;
 use kapi_text::Memory;
 use serde_json::{Map, Value};
 use std::alloc::Global;
@@ -26,15 +23,14 @@ impl Object {
     ghost use Rattle.std.specs.Prelude.{◌≡◌, true, false, codes, IfOk};
     ghost use Rattle.serde_json.specs.View.{view, members_view};
     ghost use Rattle.serde_json.specs.Written.{compact_text, members_have_float};
-    ghost use Rattle.kapi_object.specs.Admission.{faults_on};
     ghost use Rattle.kapi_object.specs.Given.{given_of};
     ghost use Rattle.kapi_object.specs.Object.{tree_of, stamped_tree};
     ghost use Rattle.kapi_object.specs.Order.{is_ordered, in_order};
-    ghost use Rattle.kapi_object.specs.Selector.{labels_of};
-    ghost use Rattle.kapi_object.specs.Tree.{in_metadata as in_metadata_of, with_content as with_content_of, with_text as with_text_of, without_member as without_member_of};
+    ghost use Rattle.kapi_names.specs.Selector.{labels_of};
+    ghost use Rattle.kapi_object.specs.Tree as trees;
 
     /// The object that an ordered tree without floats is.
-    pub(crate) fn new(tree: Value) -> Object
+    pub fn new(tree: Value) -> Object
         requires whole { has_float (view tree) ≡ false }
         requires ordered { is_ordered (view tree) ≡ true }
         ensures { tree_of result ≡ view tree }
@@ -68,7 +64,7 @@ impl Object {
 
     /// The object's labels, borrowed; takes no memory.
     pub fn labels(&self) -> Labels<'_>
-        ensures { labels_of result ≡ in_metadata_of (codes "labels") (tree_of self.now) }
+        ensures { labels_of result ≡ trees.in_metadata (codes "labels") (tree_of self.now) }
     {
         Labels::new(in_metadata(&self.tree, "labels"))
     }
@@ -80,18 +76,11 @@ impl Object {
         &self.tree
     }
 
-    /// What is wrong with the object on a row of the schema, in order.
-    pub fn faults(&self, alloc: Global, schema: Schema) -> Result<Vec<FieldFault>, Memory>
-        ensures { IfOk result (λ v. v.items ≡ faults_on schema (tree_of self.now)) }
-    {
-        collect_faults(alloc, schema, &self.tree)
-    }
-
     /// The object of the same version, kind and metadata that has these members beside them, and no other.
     pub fn with_content(&self, alloc: Global, content: Map<String, Value>) -> Result<Object, Memory>
         requires whole { members_have_float (members_view content.entries) ≡ false }
         requires ordered { in_order (members_view content.entries) ≡ true }
-        ensures { IfOk result (λ o. tree_of o ≡ with_content_of (members_view content.entries) (tree_of self.now)) }
+        ensures { IfOk result (λ o. tree_of o ≡ trees.with_content (members_view content.entries) (tree_of self.now)) }
     {
         Ok(Object {
             tree: with_content(alloc, &self.tree, content)?,
@@ -100,7 +89,7 @@ impl Object {
 
     /// The object without its member `status`; takes no memory.
     pub fn without_status(self) -> Object
-        ensures { tree_of result ≡ without_member_of (codes "status") (tree_of self) }
+        ensures { tree_of result ≡ trees.without_member (codes "status") (tree_of self) }
     {
         Object {
             tree: without_member(self.tree, "status"),
@@ -109,7 +98,7 @@ impl Object {
 
     /// The object in a namespace: with that text as `metadata.namespace`.
     pub fn in_namespace(self, alloc: Global, namespace: &str) -> Result<Object, Memory>
-        ensures { IfOk result (λ o. tree_of o ≡ with_text_of (codes "namespace") namespace.now (tree_of self)) }
+        ensures { IfOk result (λ o. tree_of o ≡ trees.with_text (codes "namespace") namespace.now (tree_of self)) }
     {
         Ok(Object {
             tree: with_text(alloc, self.tree, "namespace", namespace)?,

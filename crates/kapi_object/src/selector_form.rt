@@ -1,16 +1,15 @@
-ghost use Rattle.std.specs.Prelude.{◌≡◌, IfOk, OnOk};
+ghost use Rattle.std.specs.Prelude.{◌≡◌, Some, IfOk, OnOk};
 ghost use Rattle.serde_json.specs.Data.{no_members};
 ghost use Rattle.serde_json.specs.View.{view, members_view};
-ghost use Rattle.kapi_object.specs.Contents.{labels_in, put_labels as put_labels_of, put_members as put_members_of, operator_at};
-ghost use Rattle.kapi_object.specs.Tree.{members_or_none};
-ghost use Rattle.kapi_object.specs.Typed.{member_of};
+ghost use Rattle.kapi_object.specs.Contents as form;
+ghost use Rattle.kapi_object.specs.Contents.{aggregation_in, labels_in, operator_at};
+ghost use Rattle.kapi_object.specs.Tree.{member_of, members_or_none, put_if};
 
-use crate::path::member;
-use crate::selector::{Label, Operator, Requirement, Selector};
-use crate::tree::has_no_members;
+use crate::tree::{has_no_members, member};
 use crate::tree_form::{
     FromTree, ToTree, put_items, put_texts, read_list, read_text, text_value, write_items,
 };
+use kapi_names::{AggregationRule, Label, Operator, Requirement, Selector};
 use kapi_text::{Memory, Sequence, Text};
 use serde_json::{Map, Value, put};
 use std::alloc::Global;
@@ -79,7 +78,7 @@ fn labels_of_members(alloc: Global, members: &Map<String, Value>) -> Result<Vec<
 }
 
 /// The labels that the member of a key is; none where it is absent.
-fn read_labels(alloc: Global, tree: &Value, key: &str) -> Result<Sequence<Label>, Memory>
+pub fn read_labels(alloc: Global, tree: &Value, key: &str) -> Result<Sequence<Label>, Memory>
     ensures { IfOk result (λ s. s ≡ labels_in (members_or_none (member_of key.now (view tree.now)))) }
 {
     match member(tree, key) {
@@ -89,8 +88,8 @@ fn read_labels(alloc: Global, tree: &Value, key: &str) -> Result<Sequence<Label>
 }
 
 /// The members that labels are written as.
-fn label_members(alloc: Global, labels: &[Label]) -> Result<Map<String, Value>, Memory>
-    ensures { IfOk result (λ m. members_view m.entries ≡ put_labels_of labels.now no_members) }
+pub fn label_members(alloc: Global, labels: &[Label]) -> Result<Map<String, Value>, Memory>
+    ensures { IfOk result (λ m. members_view m.entries ≡ form.put_labels labels.now no_members) }
 {
     let mut members = Map::new(alloc);
     for label in labels {
@@ -101,14 +100,14 @@ fn label_members(alloc: Global, labels: &[Label]) -> Result<Map<String, Value>, 
 }
 
 /// Puts an object at a key, unless it is empty.
-fn put_members(
+pub fn put_members(
     alloc: Global,
     members: &mut Map<String, Value>,
     key: &str,
     inner: Map<String, Value>,
 ) -> Result<(), Memory>
     ensures { OnOk result (members_view members.new.entries
-        ≡ put_members_of key.now (members_view inner.entries) (members_view members.old.entries)) }
+        ≡ put_if key.now (form.members_value (members_view inner.entries)) (members_view members.old.entries)) }
 {
     if has_no_members(&inner) {
         return Ok(());
@@ -143,4 +142,52 @@ impl ToTree for Selector {
         put_items(alloc, &mut members, "matchExpressions", expressions)?;
         Ok(Value::Object(members))
     }
+}
+
+impl FromTree for AggregationRule {
+    ghost use Rattle.kapi_object.specs.Contents.{aggregation_of};
+
+    ghost read_of = { aggregation_of };
+
+    fn read(alloc: Global, tree: &Value) -> Result<AggregationRule, Memory> {
+        Ok(AggregationRule {
+            cluster_role_selectors: read_list(alloc, tree, "clusterRoleSelectors")?,
+        })
+    }
+}
+
+impl ToTree for AggregationRule {
+    ghost use Rattle.kapi_object.specs.Contents.{aggregation_tree};
+
+    ghost tree_of = { aggregation_tree };
+
+    #[tactic(auto, unfolding(crate::specs::Contents::aggregation_tree))]
+    fn to_tree(&self, alloc: Global) -> Result<Value, Memory> {
+        let mut members = Map::new(alloc);
+        let selectors = Value::Array(write_items(alloc, self.cluster_role_selectors.as_slice())?);
+        put(&mut members, alloc, "clusterRoleSelectors", selectors)?;
+        Ok(Value::Object(members))
+    }
+}
+
+/// The aggregation rule of a cluster role, if it has one.
+pub fn read_aggregation(alloc: Global, tree: &Value) -> Result<Option<AggregationRule>, Memory>
+    ensures { IfOk result (λ o. o ≡ aggregation_in (view tree.now)) }
+{
+    match member(tree, "aggregationRule") {
+        Some(rule) => Ok(Some(AggregationRule::read(alloc, rule)?)),
+        None => Ok(None),
+    }
+}
+
+/// Puts the aggregation rule of a cluster role that has one.
+pub fn put_aggregation(
+    alloc: Global,
+    members: &mut Map<String, Value>,
+    rule: &AggregationRule,
+) -> Result<(), Memory>
+    ensures { OnOk result (members_view members.new.entries
+        ≡ form.put_aggregation (Some rule.now) (members_view members.old.entries)) }
+{
+    put(members, alloc, "aggregationRule", rule.to_tree(alloc)?)
 }

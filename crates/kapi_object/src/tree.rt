@@ -1,14 +1,25 @@
-ghost use Rattle.std.specs.Prelude.{◌≡◌, IfOk, OnOk, Some, option_map};
+ghost use Rattle.kapi_object.specs.Order.{is_ordered, in_order};
+ghost use Rattle.std.specs.Prelude.{◌≡◌, true, IfOk, OnOk, Some, option_map};
 ghost use Rattle.serde_json.specs.Find.{get};
 ghost use Rattle.serde_json.specs.Data.{object};
 ghost use Rattle.serde_json.specs.View.{view, members_view};
-ghost use Rattle.kapi_object.specs.Tree.{metadata_of, members_or_none, put_if};
-ghost use Rattle.kapi_object.specs.Tree.{in_metadata as in_metadata_of, is_empty_object as is_empty_object_of};
-ghost use Rattle.kapi_object.specs.Tree.{without, with_content as with_content_of, with_text as with_text_of, without_member as without_member_of};
+ghost use Rattle.kapi_object.specs.Tree.{metadata_of, metadata_member, member_of, members_or_none, put_if};
+ghost use Rattle.kapi_object.specs.Tree as trees;
+ghost use Rattle.kapi_object.specs.Tree.{without};
 
 use kapi_text::Memory;
 use serde_json::{Map, Value, put};
 use std::alloc::Global;
+
+/// The member of a key; null is as if it were not there.
+pub fn member<'a>(tree: &'a Value, key: &str) -> Option<&'a Value>
+    ensures { option_map (λ v. view v.now) result ≡ member_of key.now (view tree.now) }
+{
+    match tree.get(key) {
+        Some(Value::Null) => None,
+        other => other,
+    }
+}
 
 /// The members of an object; none of anything else.
 pub fn into_members(alloc: Global, value: Value) -> Map<String, Value>
@@ -23,16 +34,23 @@ pub fn into_members(alloc: Global, value: Value) -> Map<String, Value>
 /// Whether an object has no members.
 #[tactic(auto, using(crate::proofs::Bodies::no_entries))]
 pub fn has_no_members(members: &Map<String, Value>) -> bool
-    ensures { result ≡ is_empty_object_of (object (members_view members.now.entries)) }
+    ensures { result ≡ trees.is_empty_object (object (members_view members.now.entries)) }
 {
     members.len() == 0
 }
 
 /// The value at a key of the tree's `metadata`, if that is an object and has one.
 pub fn in_metadata<'a>(tree: &'a Value, key: &str) -> Option<&'a Value>
-    ensures { option_map (λ v. view v.now) result ≡ in_metadata_of key.now (view tree.now) }
+    ensures { option_map (λ v. view v.now) result ≡ trees.in_metadata key.now (view tree.now) }
 {
     tree.get("metadata")?.get(key)
+}
+
+/// The member of a key of the tree's `metadata`; null is as if it were not there.
+pub fn member_of_metadata<'a>(tree: &'a Value, key: &str) -> Option<&'a Value>
+    ensures { option_map (λ v. view v.now) result ≡ metadata_member key.now (view tree.now) }
+{
+    member(tree.get("metadata")?, key)
 }
 
 /// The members of an object's `metadata`, copied; none where it is missing or no object.
@@ -47,7 +65,7 @@ fn metadata_copy(alloc: Global, tree: &Value) -> Result<Map<String, Value>, Memo
 
 /// The tree with one text set in its metadata.
 pub fn with_text(alloc: Global, tree: Value, key: &str, text: &str) -> Result<Value, Memory>
-    ensures { IfOk result (λ v. view v ≡ with_text_of key.now text.now (view tree)) }
+    ensures { IfOk result (λ v. view v ≡ trees.with_text key.now text.now (view tree)) }
 {
     let mut metadata = metadata_copy(alloc, &tree)?;
     let text = Value::String(String::from_str(alloc, text)?);
@@ -80,7 +98,7 @@ pub fn with_content(
     tree: &Value,
     content: Map<String, Value>,
 ) -> Result<Value, Memory>
-    ensures { IfOk result (λ v. view v ≡ with_content_of (members_view content.entries) (view tree.now)) }
+    ensures { IfOk result (λ v. view v ≡ trees.with_content (members_view content.entries) (view tree.now)) }
 {
     let mut members = content;
     put_from(alloc, &mut members, tree, "apiVersion")?;
@@ -91,6 +109,7 @@ pub fn with_content(
 
 /// Takes the member of a key out.
 fn remove(members: &mut Map<String, Value>, key: &str)
+    requires { in_order (members_view members.old.entries) ≡ true }
     ensures { members_view members.new.entries ≡ without key.now (members_view members.old.entries) }
 {
     drop(members.remove(key));
@@ -98,7 +117,8 @@ fn remove(members: &mut Map<String, Value>, key: &str)
 
 /// The tree without the member of a key.
 pub fn without_member(tree: Value, key: &str) -> Value
-    ensures { view result ≡ without_member_of key.now (view tree) }
+    requires { is_ordered (view tree) ≡ true }
+    ensures { view result ≡ trees.without_member key.now (view tree) }
 {
     match tree {
         Value::Object(mut members) => {

@@ -1,10 +1,11 @@
 ghost use Rattle.std.specs.Prelude.{◌≡◌, IfOk, OnOk, List, ℕ};
 ghost use Rattle.serde_json.specs.Data.{Data, array, string};
 ghost use Rattle.serde_json.specs.View.{view, items_view, members_view};
-ghost use Rattle.kapi_object.specs.Contents.{text_at, items_at, put_text as put_text_of, put_items as put_items_of, put_texts as put_texts_of, read_items as read_items_of, write_items as write_items_of};
+ghost use Rattle.kapi_object.specs.Tree as trees;
+ghost use Rattle.kapi_object.specs.Contents as form;
+ghost use Rattle.kapi_object.specs.Contents.{text_at, items_at};
 
-use crate::path::member;
-use crate::typed_list::is_empty;
+use crate::tree::member;
 use kapi_text::{Memory, Sequence, Text};
 use serde_json::{Map, Value, put};
 use std::alloc::Global;
@@ -25,6 +26,14 @@ pub trait ToTree {
     /// The tree that the value is written as.
     fn to_tree(&self, alloc: Global) -> Result<Value, Memory>
         ensures { IfOk result (λ v. view v ≡ tree_of self.now) };
+}
+
+/// Whether a list has no elements.
+#[tactic(auto, using(crate::proofs::Lists::no_items_left))]
+pub fn is_empty(items: &Vec<Value>) -> bool
+    ensures { result ≡ trees.is_empty (items_view items.now.items) }
+{
+    items.len() == 0
 }
 
 /// A text as a tree.
@@ -69,7 +78,7 @@ pub fn read_text(alloc: Global, tree: &Value, key: &str) -> Result<Text, Memory>
 
 /// What each element is read as.
 fn read_items<T: FromTree + Drop>(alloc: Global, items: &Vec<Value>) -> Result<Vec<T>, Memory>
-    ensures { IfOk result (λ v. v.items ≡ read_items_of T.read_of (items_view items.now.items)) }
+    ensures { IfOk result (λ v. v.items ≡ form.read_items T.read_of (items_view items.now.items)) }
 {
     let mut found = Vec::new(alloc);
     for item in items {
@@ -84,7 +93,7 @@ pub fn read_list<T: FromTree + Drop>(
     tree: &Value,
     key: &str,
 ) -> Result<Sequence<T>, Memory>
-    ensures { IfOk result (λ s. s ≡ read_items_of T.read_of (items_at key.now (view tree.now))) }
+    ensures { IfOk result (λ s. s ≡ form.read_items T.read_of (items_at key.now (view tree.now))) }
 {
     match member(tree, key) {
         Some(Value::Array(items)) => Ok(Sequence::new(read_items(alloc, items)?)),
@@ -94,7 +103,7 @@ pub fn read_list<T: FromTree + Drop>(
 
 /// The trees that the values are written as.
 pub fn write_items<T: ToTree>(alloc: Global, values: &[T]) -> Result<Vec<Value>, Memory>
-    ensures { IfOk result (λ v. items_view v.items ≡ write_items_of T.tree_of values.now) }
+    ensures { IfOk result (λ v. items_view v.items ≡ form.write_items T.tree_of values.now) }
 {
     let mut items = Vec::new(alloc);
     for value in values {
@@ -111,7 +120,7 @@ pub fn put_text(
     text: &str,
 ) -> Result<(), Memory>
     ensures { OnOk result (members_view members.new.entries
-        ≡ put_text_of key.now text.now (members_view members.old.entries)) }
+        ≡ form.put_text key.now text.now (members_view members.old.entries)) }
 {
     if text.is_empty() {
         return Ok(());
@@ -127,7 +136,7 @@ pub fn put_items(
     items: Vec<Value>,
 ) -> Result<(), Memory>
     ensures { OnOk result (members_view members.new.entries
-        ≡ put_items_of key.now (items_view items.items) (members_view members.old.entries)) }
+        ≡ form.put_items key.now (items_view items.items) (members_view members.old.entries)) }
 {
     if is_empty(&items) {
         return Ok(());
@@ -143,7 +152,7 @@ pub fn put_texts(
     texts: &[Text],
 ) -> Result<(), Memory>
     ensures { OnOk result (members_view members.new.entries
-        ≡ put_texts_of key.now texts.now (members_view members.old.entries)) }
+        ≡ form.put_texts key.now texts.now (members_view members.old.entries)) }
 {
     put_items(alloc, members, key, write_items(alloc, texts)?)
 }

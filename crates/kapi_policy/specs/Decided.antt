@@ -4,16 +4,16 @@ use Rattle.std.specs.List.{filter, flat_map, list_any, position}
 use Rattle.std.specs.Map.{lookup}
 use Rattle.std.specs.Option.{option_or, unwrap_or}
 use Rattle.std.specs.Str.{bytes_eq}
-use Rattle.kapi_object.specs.declared.kinds.RoleKind.{RoleKind}
-use Rattle.kapi_object.specs.declared.kinds.RoleKind.TheVariants as role_kind
+use Rattle.kapi_names.specs.declared.kinds.RoleKind.{RoleKind}
+use Rattle.kapi_names.specs.declared.kinds.RoleKind.TheVariants as role_kind
 use Rattle.kapi_rbac_types.specs.declared.binding.ClusterRoleBinding.{ClusterRoleBinding}
 use Rattle.kapi_rbac_types.specs.declared.binding.RoleBinding.{RoleBinding}
 use Rattle.kapi_rbac_types.specs.declared.identity.Identity.{Identity}
-use Rattle.kapi_rbac_types.specs.declared.policy_rule.PolicyRule.{PolicyRule}
+use Rattle.kapi_names.specs.declared.policy_rule.PolicyRule.{PolicyRule}
 use Rattle.kapi_rbac_types.specs.declared.role.ClusterRole.{ClusterRole}
 use Rattle.kapi_rbac_types.specs.declared.role.Role.{Role}
-use Rattle.kapi_rbac_types.specs.declared.role_ref.RoleRef.{RoleRef}
-use Rattle.kapi_rbac_types.specs.declared.subject.Subject.{Subject}
+use Rattle.kapi_names.specs.declared.role_ref.RoleRef.{RoleRef}
+use Rattle.kapi_names.specs.declared.subject.Subject.{Subject}
 use Rattle.kapi_rbac_types.specs.Identities.{is_master}
 use Rattle.kapi_rbac_types.specs.Subjects.{names}
 use Rattle.kapi_rules.specs.declared.point.Point.{Point}

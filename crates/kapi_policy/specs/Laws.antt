@@ -3,7 +3,7 @@ use Rattle.std.specs.Prelude.{◌≡◌, ℕ, Bool, true, false, if◌then◌els
 use Rattle.std.specs.List.{flat_map, list_any, position}
 use Rattle.std.specs.Option.{unwrap_or}
 use Rattle.kapi_rbac_types.specs.declared.identity.Identity.{Identity}
-use Rattle.kapi_rbac_types.specs.declared.policy_rule.PolicyRule.{PolicyRule}
+use Rattle.kapi_names.specs.declared.policy_rule.PolicyRule.{PolicyRule}
 use Rattle.kapi_rules.specs.declared.point.Point.{Point}
 use Rattle.kapi_rules.specs.Rules.{allows}
 use Rattle.kapi_policy.specs.Decided.{Binding, bindings_in, Decided, allowed, masters, denied, given, Granted}

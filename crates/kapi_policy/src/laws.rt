@@ -2,7 +2,7 @@
 ghost use Rattle.std.specs.Prelude.{◌≡◌, ℕ, ◌++◌, ◌||◌, List, []};
 ghost use Rattle.std.specs.List.{list_any};
 ghost use Rattle.kapi_rbac_types.specs.declared.identity.Identity.{Identity};
-ghost use Rattle.kapi_rbac_types.specs.declared.policy_rule.PolicyRule.{PolicyRule};
+ghost use Rattle.kapi_names.specs.declared.policy_rule.PolicyRule.{PolicyRule};
 ghost use Rattle.kapi_rules.specs.Rules.{allows as rule_allows};
 ghost use Rattle.kapi_rules.specs.declared.point.Point.{Point};
 ghost use Rattle.kapi_policy.specs.Decided.{Granted, allowed, decided, held as held_by};

@@ -1,5 +1,3 @@
-pub mod Prefixes
-pub mod Contents
 pub mod RoundTrips
 pub mod Labels
 pub mod Selectors

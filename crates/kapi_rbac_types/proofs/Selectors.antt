@@ -3,17 +3,17 @@ use Rattle.std.proofs.Common.{◌≡◌, ◌∙◌, List, [], ◌∷◌, refl, a
 use Rattle.std.specs.Option.{option_and_then, unwrap_or}
 use Rattle.serde_json.specs.Data.{Members, no_members, member}
 use Rattle.serde_json.specs.Find.{get_member}
-use Rattle.kapi_object.specs.Contents.{text_if, text_at, texts_at, items_if, items_at, read_items, write_items, put_members, put_labels, labels_in, operator_at, requirement_of, requirement_tree, selector_of, selector_tree}
-use Rattle.kapi_object.specs.Kinds.{operator_of}
+use Rattle.kapi_object.specs.Contents.{text_if, text_at, texts_at, items_if, items_at, read_items, write_items, members_value, put_labels, labels_in, operator_at, requirement_of, requirement_tree, selector_of, selector_tree}
+use Rattle.kapi_names.specs.Kinds.{operator_of}
 use Rattle.kapi_object.specs.Tree.{members_or_none}
-use Rattle.kapi_object.specs.Typed.{unless_null, member_of}
-use Rattle.kapi_object.specs.declared.selector.Label.{Label}
-use Rattle.kapi_object.specs.declared.selector.Operator.TheVariants.{In}
-use Rattle.kapi_object.specs.declared.selector.Requirement.{Requirement}
-use Rattle.kapi_object.specs.declared.selector.Selector.{Selector}
+use Rattle.kapi_object.specs.Tree.{unless_null, member_of}
+use Rattle.kapi_names.specs.declared.selector.Label.{Label}
+use Rattle.kapi_names.specs.declared.selector.Operator.TheVariants.{In}
+use Rattle.kapi_names.specs.declared.selector.Requirement.{Requirement}
+use Rattle.kapi_names.specs.declared.selector.Selector.{Selector}
 use Rattle.kapi_rbac_types.proofs.Labels.{labels_round, labels_stable}
-use Rattle.kapi_object.proofs.CleanSelectors.{key_at, operator_here, operator_known, values_at, expressions_at}
-use Rattle.kapi_object.proofs.Puts.{put_items_other, items_listed, list_round, listed_round}
+use Rattle.kapi_object.proofs.Fields.{key_at, operator_here, operator_known, values_at, labels_at, expressions_at}
+use Rattle.kapi_object.proofs.Puts.{items_listed, list_round, listed_round}
 use Rattle.kapi_rbac_types.specs.Laws.{IsInOrder, AreInOrder}
 
 -- ---- requirements
@@ -34,20 +34,12 @@ requirement_round r = rw (key_round r, operator_round r, values_round r) refl
 
 -- ---- selectors
 
--- the members that a selector's labels are written as, at their key
-abbrev with_labels : List Label → Members
-with_labels ls = put_members (codes "matchLabels") (put_labels ls no_members) no_members
-
-members_same : (ms : Members) → members_or_none (option_and_then unless_null (get_member (codes "matchLabels") (put_members (codes "matchLabels") ms no_members))) ≡ ms
+members_same : (ms : Members) → members_or_none (members_value ms) ≡ ms
 members_same no_members = refl
 members_same (member k d ms) = refl
 
 labels_at_round : (s : Selector) → labels_in (members_or_none (member_of (codes "matchLabels") (selector_tree s))) ≡ labels_in (put_labels s.match_labels no_members)
-unfolding selector_tree
-labels_at_round s =
-    ap (λ o. labels_in (members_or_none (option_and_then unless_null o)))
-    (put_items_other (codes "matchLabels") (codes "matchExpressions") (write_items requirement_tree s.match_expressions) (with_labels s.match_labels) refl)
-    ∙ ap labels_in (members_same (put_labels s.match_labels no_members))
+labels_at_round s = ap (λ o. labels_in (members_or_none o)) (labels_at s) ∙ ap labels_in (members_same (put_labels s.match_labels no_members))
 
 expressions_round : (s : Selector) → read_items requirement_of (items_at (codes "matchExpressions") (selector_tree s)) ≡ s.match_expressions
 expressions_round s =

@@ -4,13 +4,13 @@ use Rattle.std.specs.Cmp.Lexicographic.{slice_cmp}
 use Rattle.std.specs.Ordering.{nat_cmp}
 use Rattle.std.specs.declared.cmp.Ordering.TheVariants.{Less}
 use Rattle.serde_json.specs.Data.{Data, Members}
-use Rattle.kapi_object.specs.declared.row.ResourceRow.{ResourceRow}
-use Rattle.kapi_object.specs.declared.row.Schema.{Schema}
-use Rattle.kapi_object.specs.declared.selector.Label.{Label}
-use Rattle.kapi_object.specs.declared.selector.Selector.{Selector}
-use Rattle.kapi_object.specs.Admission.{filled}
+use Rattle.kapi_names.specs.declared.row.ResourceRow.{ResourceRow}
+use Rattle.kapi_names.specs.declared.row.Schema.{Schema}
+use Rattle.kapi_names.specs.declared.selector.Label.{Label}
+use Rattle.kapi_names.specs.declared.selector.Selector.{Selector}
+use Rattle.kapi_admission.specs.Admission.{filled}
 use Rattle.kapi_object.specs.Tree.{with_metadata}
-use Rattle.kapi_rbac_types.specs.declared.role.AggregationRule.{AggregationRule}
+use Rattle.kapi_names.specs.declared.aggregation_rule.AggregationRule.{AggregationRule}
 
 -- the tree is what a row of the schema keeps of a body, with any metadata
 abbrev pub IsKept : Schema → Data → Type 0

@@ -2,14 +2,18 @@
 use Rattle.std.specs.Prelude.{ℕ, List, ◌∷◌, ◌++◌, length, Bool, not, ◌&&◌, ◌==◌, if◌then◌else◌, codes}
 use Rattle.std.specs.Str.{bytes_eq}
 use Rattle.kapi_rbac_types.specs.declared.identity.Identity.{Identity}
-use Rattle.kapi_rbac_types.specs.declared.subject.ServiceAccount.{ServiceAccount as Account}
-use Rattle.kapi_rbac_types.specs.declared.subject.Subject.{Subject}
-use Rattle.kapi_rbac_types.specs.declared.subject.Subject.TheVariants.{User, Group, ServiceAccount}
+use Rattle.kapi_names.specs.declared.subject.ServiceAccount.{ServiceAccount as Account}
+use Rattle.kapi_names.specs.declared.subject.Subject.{Subject}
+use Rattle.kapi_names.specs.declared.subject.Subject.TheVariants.{User, Group, ServiceAccount}
 use Rattle.kapi_rbac_types.specs.Identities.{is_in}
+
+-- the byte `:`
+abbrev pub colon : ℕ
+colon = 58
 
 -- the user `system:serviceaccount:NAMESPACE:NAME`; in no namespace there is no service account
 abbrev pub is_account : List ℕ → List ℕ → List ℕ → Bool
-is_account user namespace name = not (length namespace == 0) && bytes_eq user (codes "system:serviceaccount:" ++ (namespace ++ 58 ∷ name))
+is_account user namespace name = not (length namespace == 0) && bytes_eq user (codes "system:serviceaccount:" ++ (namespace ++ colon ∷ name))
 
 -- a service account that has no namespace is one of the binding's
 abbrev pub namespace_of : Account → List ℕ → List ℕ

@@ -1,5 +1,4 @@
-use crate::role_ref::RoleRef;
-use crate::subject::Subject;
+use kapi_names::{RoleRef, Subject};
 use kapi_text::{Sequence, TryCopy};
 use std::alloc::{AllocError, Global};
 

@@ -19,11 +19,11 @@ impl TryCopy for Identity {
 
 impl Identity {
     ghost use Rattle.std.specs.Prelude.{◌≡◌};
-    ghost use Rattle.kapi_rbac_types.specs.Identities.{is_in as is_in_group, is_master as is_one_of_masters};
+    ghost use Rattle.kapi_rbac_types.specs.Identities as membership;
 
     /// Whether the group is one of the identity's. Takes no memory.
     pub fn is_in(&self, group: &str) -> bool
-        ensures { result ≡ is_in_group group.now self.now }
+        ensures { result ≡ membership.is_in group.now self.now }
     {
         self.groups
             .as_slice()
@@ -34,7 +34,7 @@ impl Identity {
     /// Whether the identity is in `system:masters`, whose members may do everything (Kubernetes, 'Using RBAC
     /// Authorization', 'User-facing roles'). Takes no memory.
     pub fn is_master(&self) -> bool
-        ensures { result ≡ is_one_of_masters self.now }
+        ensures { result ≡ membership.is_master self.now }
     {
         self.is_in("system:masters")
     }

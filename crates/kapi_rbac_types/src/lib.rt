@@ -4,12 +4,9 @@
 mod binding;
 mod binding_form;
 mod identity;
-mod policy_rule;
 mod read_fault;
 mod role;
 mod role_form;
-mod role_ref;
-mod rules_form;
 mod subject;
 #[cfg(test)]
 mod tests;
@@ -17,10 +14,10 @@ mod tests;
 pub use binding::{ClusterRoleBinding, RoleBinding};
 pub use binding_form::{read_cluster_role_binding, read_role_binding};
 pub use identity::Identity;
-pub use kapi_object::{RoleKind, Selector};
-pub use policy_rule::PolicyRule;
+pub use kapi_names::{
+    AggregationRule, PolicyRule, RoleKind, RoleRef, Selector, ServiceAccount, Subject,
+};
 pub use read_fault::ReadFault;
-pub use role::{AggregationRule, ClusterRole, Role};
-pub use role_form::{read_cluster_role, read_role};
-pub use role_ref::RoleRef;
-pub use subject::{ServiceAccount, Subject, names};
+pub use role::{ClusterRole, Role};
+pub use role_form::{cluster_role, read_cluster_role, read_role};
+pub use subject::names;

@@ -1,8 +1,11 @@
 ghost use Rattle.std.specs.Prelude.{◌≡◌};
+ghost use Rattle.kapi_text.specs.Gives.{Gives};
 ghost use Rattle.kapi_object.specs.Object.{tree_of};
-ghost use Rattle.kapi_rbac_types.specs.Trees.{Gives, read_as};
+ghost use Rattle.kapi_rbac_types.specs.Trees.{read_as, told};
 
-use kapi_object::{FieldFault, Object, Schema};
+use kapi_admission::collect_faults;
+use kapi_names::{FieldFault, Schema};
+use kapi_object::Object;
 use kapi_text::Sequence;
 use std::alloc::{AllocError, Global};
 use thiserror::Error;
@@ -30,9 +33,9 @@ impl From<AllocError> for ReadFault {
 /// Whether an object has no fault on a row of the schema.
 #[tactic(auto, unfolding(crate::specs::Trees::read_as))]
 pub fn check(alloc: Global, object: &Object, schema: Schema) -> Result<(), ReadFault>
-    ensures { Gives result (read_as schema (λ d. tt) (tree_of object.now)) }
+    ensures { Gives told (λ u. u) result (read_as schema (λ d. tt) (tree_of object.now)) }
 {
-    let faults = object.faults(alloc, schema)?;
+    let faults = collect_faults(alloc, schema, object.as_tree())?;
     if faults.is_empty() {
         Ok(())
     } else {

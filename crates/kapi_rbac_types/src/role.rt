@@ -1,5 +1,4 @@
-use crate::policy_rule::PolicyRule;
-use kapi_object::Selector;
+use kapi_names::{AggregationRule, PolicyRule};
 use kapi_text::{Sequence, TryCopy};
 use std::alloc::{AllocError, Global};
 
@@ -7,13 +6,6 @@ use std::alloc::{AllocError, Global};
 #[derive(Debug, Drop)]
 pub struct Role {
     pub rules: Sequence<PolicyRule>,
-}
-
-/// Which cluster roles an aggregated one takes its rules from: those that one of the selectors means (Kubernetes API,
-/// `AggregationRule` of rbac.authorization.k8s.io/v1).
-#[derive(Debug, Drop)]
-pub struct AggregationRule {
-    pub cluster_role_selectors: Sequence<Selector>,
 }
 
 /// What is allowed in a namespace or cluster-wide, as it is bound (Kubernetes API, `ClusterRole` of
@@ -28,14 +20,6 @@ impl TryCopy for Role {
     fn copy(&self, alloc: Global) -> Result<Role, AllocError> {
         Ok(Role {
             rules: self.rules.copy(alloc)?,
-        })
-    }
-}
-
-impl TryCopy for AggregationRule {
-    fn copy(&self, alloc: Global) -> Result<AggregationRule, AllocError> {
-        Ok(AggregationRule {
-            cluster_role_selectors: self.cluster_role_selectors.copy(alloc)?,
         })
     }
 }

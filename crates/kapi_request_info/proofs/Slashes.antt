@@ -5,7 +5,7 @@ use Rattle.std.specs.Str.{bytes_eq, is_utf8}
 use Rattle.kapi_http.specs.declared.message.Method.{Method}
 use Rattle.kapi_request_info.specs.declared.attributes.Attributes.{Attributes}
 use Rattle.kapi_request_info.specs.declared.attributes.InfoError.{InfoError}
-use Rattle.kapi_request_info.specs.declared.attributes.InfoError.TheVariants.{BadPath, BadEscape, BadQuery, Memory}
+use Rattle.kapi_request_info.specs.Faults.{TargetFault, bad_path, bad_escape}
 use Rattle.kapi_request_info.specs.declared.query.QueryPair.{QueryPair}
 use Rattle.kapi_request_info.specs.Given.{GivesInfo}
 use Rattle.kapi_request_info.specs.Path.{has_slash, names_something, has_whole_escapes, segments, texts, without_last_empty, pieces}
@@ -39,7 +39,7 @@ part_no_slash (s ∷ names) (suc i) h = part_no_slash names i (both (names_somet
 
 -- the segments of a path each name something
 checked_names : (b c d : Bool) (names found : List (List ℕ)) → b ≡ list_all names_something names
-    → ◌≡◌ {A = Result (List (List ℕ)) InfoError} (if b then (if c then (if d then Ok names else Err BadEscape) else Err BadEscape) else Err BadPath) (Ok found)
+    → ◌≡◌ {A = Result (List (List ℕ)) TargetFault} (if b then (if c then (if d then Ok names else Err bad_escape) else Err bad_escape) else Err bad_path) (Ok found)
     → AllName found
 checked_names true true true names found e h = let same : names ≡ found = cc in rw (← same) (sym e)
 checked_names true true false names found e h = cc
@@ -75,10 +75,10 @@ parts_name (first ∷ []) h = h
 parts_name [] h = h
 
 -- that attributes were given, and then about a point without slashes
-abbrev Slashless : Result Attributes InfoError → Type 0
+abbrev Slashless : {F : Type 0} → Result Attributes F → Type 0
 Slashless r = IfOk r (λ a. HasNoSlash a.point)
 
-named_slashless : (group version : List ℕ) (p : List ℕ × List (List ℕ)) (query : List QueryPair) (v : Result (List ℕ × List ℕ) InfoError)
+named_slashless : (group version : List ℕ) (p : List ℕ × List (List ℕ)) (query : List QueryPair) (v : Result (List ℕ × List ℕ) TargetFault)
     → AllName p.1 → Slashless (named_by group version p query v)
 named_slashless group version p query (Ok v) h = (part_no_slash p.1 0 h, part_no_slash p.1 2 h)
 named_slashless group version p query (Err e) h = tt
@@ -89,7 +89,7 @@ resource_slashless method group version rest query h =
     let p = namespace_and_parts rest in
     named_slashless group version p query (verb_and_name method (part p.1 1) query) (parts_name rest h)
 
-either_slashless : (b : Bool) (r s : Result Attributes InfoError) → Slashless r → Slashless s → Slashless (if b then r else s)
+either_slashless : (b : Bool) (r s : Result Attributes TargetFault) → Slashless r → Slashless s → Slashless (if b then r else s)
 either_slashless true r s h k = h
 either_slashless false r s h k = k
 
@@ -104,7 +104,7 @@ attributes_slashless method path (first ∷ second ∷ third ∷ fourth ∷ more
     let names = first ∷ second ∷ third ∷ fourth ∷ more in
     let core = resource_attributes method [] second (third ∷ fourth ∷ more) query in
     let grouped = resource_attributes method second third (fourth ∷ more) query in
-    let other : Result Attributes InfoError = Ok (url_attributes method path names query) in
+    let other : Result Attributes TargetFault = Ok (url_attributes method path names query) in
     let is_grouped = bytes_eq first (codes "apis") in
     either_slashless (bytes_eq first (codes "api")) core (if is_grouped then grouped else other)
     (resource_slashless method [] second (third ∷ fourth ∷ more) query from_third)
@@ -117,12 +117,9 @@ attributes_slashless method path (first ∷ second ∷ []) query h = tt
 attributes_slashless method path (first ∷ []) query h = tt
 attributes_slashless method path [] query h = tt
 
-given_slashless : (r given : Result Attributes InfoError) → GivesInfo r given → Slashless given → Slashless r
+given_slashless : (r : Result Attributes InfoError) (given : Result Attributes TargetFault) → GivesInfo r given → Slashless given → Slashless r
 given_slashless (Ok a) given h k = rw h at k
-given_slashless (Err BadPath) given h k = tt
-given_slashless (Err BadEscape) given h k = tt
-given_slashless (Err BadQuery) given h k = tt
-given_slashless (Err Memory) given h k = tt
+given_slashless (Err e) given h k = tt
 
 -- what is given for a path whose segments were found
 pub found_slashless : (r : Result Attributes InfoError) (method : Method) (path : List ℕ) (names : List (List ℕ)) (query : List QueryPair)

@@ -2,20 +2,15 @@
 use Rattle.std.specs.Prelude.{ℕ, List, Result, Ok, Err}
 use Rattle.kapi_http.specs.declared.message.Method.{Method}
 use Rattle.kapi_request_info.specs.declared.attributes.Attributes.{Attributes}
-use Rattle.kapi_request_info.specs.declared.attributes.InfoError.{InfoError}
+use Rattle.kapi_text.specs.Gives.{◌>>=◌}
+use Rattle.kapi_request_info.specs.Faults.{TargetFault}
 use Rattle.kapi_request_info.specs.Target.{split_target}
 use Rattle.kapi_request_info.specs.Path.{segments}
 use Rattle.kapi_request_info.specs.Query.{query_pairs}
 use Rattle.kapi_request_info.specs.Resource.{attributes_by}
 
--- a step that is taken where there was no fault before it
-infixl 10 ◌>>=◌
-abbrev pub ◌>>=◌ : {A B : Type 0} → Result A InfoError → (A → Result B InfoError) → Result B InfoError
-Ok x >>= f = f x
-Err e >>= f = Err e
-
 -- the attributes of a request, or the first fault of its target
-unfoldable pub info : Method → List ℕ → Result Attributes InfoError
+unfoldable pub info : Method → List ℕ → Result Attributes TargetFault
 info method target = do
   parts ← split_target target
   names ← segments parts.0

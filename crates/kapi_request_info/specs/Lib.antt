@@ -1,3 +1,4 @@
+pub mod Faults
 pub mod Given
 pub mod Target
 pub mod Path

@@ -4,8 +4,7 @@ use Rattle.std.specs.Char.{is_ascii_hexdigit}
 use Rattle.std.specs.List.{list_all, list_any, slice_split}
 use Rattle.std.specs.Str.{bytes_eq, is_utf8}
 use Rattle.percent_encoding.specs.Percent.{percent_decode}
-use Rattle.kapi_request_info.specs.declared.attributes.InfoError.{InfoError}
-use Rattle.kapi_request_info.specs.declared.attributes.InfoError.TheVariants.{BadPath, BadEscape}
+use Rattle.kapi_request_info.specs.Faults.{TargetFault, bad_path, bad_escape}
 
 -- what stands between the slashes of a path, behind the first, decoded; a `%` that begins no escape stays (URL Standard section 1.3)
 abbrev pub pieces : List ℕ → List (List ℕ)
@@ -17,6 +16,7 @@ without_last_empty [] = []
 without_last_empty (s ∷ []) = if length s == 0 then [] else s ∷ []
 without_last_empty (s ∷ t ∷ more) = s ∷ without_last_empty (t ∷ more)
 
+-- a slash stands in the text
 abbrev pub has_slash : List ℕ → Bool
 has_slash s = list_any (λ b. b == 47) s
 
@@ -24,6 +24,7 @@ has_slash s = list_any (λ b. b == 47) s
 abbrev pub names_something : List ℕ → Bool
 names_something s = not (length s == 0) && (not (bytes_eq s (codes ".")) && (not (bytes_eq s (codes "..")) && not (has_slash s)))
 
+-- two hexadecimal digits stand first
 abbrev pub begins_with_digits : List ℕ → Bool
 begins_with_digits (high ∷ low ∷ rest) = is_ascii_hexdigit high && is_ascii_hexdigit low
 begins_with_digits (high ∷ []) = false
@@ -39,15 +40,16 @@ abbrev pub text_in : List ℕ → Option (List ℕ)
 text_in bytes = if is_utf8 bytes then Some bytes else None
 
 -- the segments as texts, which are UTF-8
-unfoldable pub texts : List (List ℕ) → Result (List (List ℕ)) InfoError
-texts segments = if list_all is_utf8 segments then Ok segments else Err BadEscape
+unfoldable pub texts : List (List ℕ) → Result (List (List ℕ)) TargetFault
+texts segments = if list_all is_utf8 segments then Ok segments else Err bad_escape
 
 -- the decoded segments of a path, a last empty one left out; that each names something is looked at first
-abbrev pub checked : List ℕ → List (List ℕ) → Result (List (List ℕ)) InfoError
+abbrev pub checked : List ℕ → List (List ℕ) → Result (List (List ℕ)) TargetFault
 checked path segments =
     if list_all names_something segments
-    then (if has_whole_escapes path then texts segments else Err BadEscape)
-    else Err BadPath
+    then (if has_whole_escapes path then texts segments else Err bad_escape)
+    else Err bad_path
 
-unfoldable pub segments : List ℕ → Result (List (List ℕ)) InfoError
+-- the segments of a path, or its first fault
+unfoldable pub segments : List ℕ → Result (List (List ℕ)) TargetFault
 segments path = checked path (without_last_empty (pieces path))

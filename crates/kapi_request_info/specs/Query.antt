@@ -9,6 +9,7 @@ use Rattle.kapi_request_info.specs.declared.query.QueryPair.{QueryPair}
 abbrev pub query_text : List ℕ → List ℕ
 query_text bytes = utf8_lossy (decode bytes)
 
+-- a pair of a query, its key and value
 abbrev pub query_pair : List ℕ × List ℕ → QueryPair
 query_pair p = record { key = query_text p.0; value = query_text p.1 }
 

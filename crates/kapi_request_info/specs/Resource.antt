@@ -7,8 +7,7 @@ use Rattle.kapi_http.specs.declared.message.Method.{Method}
 use Rattle.kapi_http.specs.declared.message.Method.TheVariants.{Get, Post, Put, Patch, Delete}
 use Rattle.kapi_rules.specs.declared.point.Point.TheVariants as point
 use Rattle.kapi_request_info.specs.declared.attributes.Attributes.{Attributes}
-use Rattle.kapi_request_info.specs.declared.attributes.InfoError.{InfoError}
-use Rattle.kapi_request_info.specs.declared.attributes.InfoError.TheVariants.{BadQuery}
+use Rattle.kapi_request_info.specs.Faults.{TargetFault, bad_query}
 use Rattle.kapi_request_info.specs.declared.query.QueryPair.{QueryPair}
 use Rattle.kapi_request_info.specs.Query.{query_value}
 use Rattle.kapi_request_info.specs.Selector.{selected_name}
@@ -33,18 +32,19 @@ namespace_and_parts (first ∷ []) = ([], first ∷ [])
 namespace_and_parts [] = ([], [])
 
 -- whether a Boolean of a query is true
-unfoldable pub watched_by : List ℕ → Result Bool InfoError
+unfoldable pub watched_by : List ℕ → Result Bool TargetFault
 watched_by value =
     if bytes_eq value (codes "true") || bytes_eq value (codes "1") then Ok true
     else if bytes_eq value (codes "false") || bytes_eq value (codes "0") then Ok false
-    else Err BadQuery
+    else Err bad_query
 
 -- whether a collection is to be watched (Kubernetes, 'API Concepts', efficient detection of changes)
-abbrev pub watched_where : Option (List ℕ) → Result Bool InfoError
+abbrev pub watched_where : Option (List ℕ) → Result Bool TargetFault
 watched_where (Some value) = watched_by value
 watched_where None = Ok false
 
-abbrev pub watched : List QueryPair → Result Bool InfoError
+-- whether the query asks to watch
+abbrev pub watched : List QueryPair → Result Bool TargetFault
 watched query = watched_where (query_value query (codes "watch"))
 
 -- the name that the field selector of a query asks for, empty where there is none
@@ -52,15 +52,16 @@ abbrev pub selector_name : List QueryPair → List ℕ
 selector_name query = unwrap_or (option_and_then selected_name (query_value query (codes "fieldSelector"))) []
 
 -- a collection is listed or watched, narrowed to the name that a field selector asks for
-abbrev pub read_verb_and_name : List QueryPair → Result Bool InfoError → Result (List ℕ × List ℕ) InfoError
+abbrev pub read_verb_and_name : List QueryPair → Result Bool TargetFault → Result (List ℕ × List ℕ) TargetFault
 read_verb_and_name query (Ok w) = Ok ((if w then codes "watch" else codes "list"), selector_name query)
 read_verb_and_name query (Err e) = Err e
 
-unfoldable pub collection_read : List QueryPair → Result (List ℕ × List ℕ) InfoError
+-- the verb of a read of a collection, and the name that a field selector gives
+unfoldable pub collection_read : List QueryPair → Result (List ℕ × List ℕ) TargetFault
 collection_read query = read_verb_and_name query (watched query)
 
 -- the verb of a request about a resource of this name, which is empty for a collection, and the name that it then has
-unfoldable pub verb_and_name : Method → List ℕ → List QueryPair → Result (List ℕ × List ℕ) InfoError
+unfoldable pub verb_and_name : Method → List ℕ → List QueryPair → Result (List ℕ × List ℕ) TargetFault
 verb_and_name Get name query = if length name == 0 then collection_read query else Ok (codes "get", name)
 verb_and_name Post name query = Ok (codes "create", name)
 verb_and_name Put name query = Ok (codes "update", name)
@@ -68,7 +69,7 @@ verb_and_name Patch name query = Ok (codes "patch", name)
 verb_and_name Delete name query = if length name == 0 then Ok (codes "deletecollection", name) else Ok (codes "delete", name)
 
 -- the attributes of a request about the resource that the parts name
-abbrev pub named_by : List ℕ → List ℕ → List ℕ × List (List ℕ) → List QueryPair → Result (List ℕ × List ℕ) InfoError → Result Attributes InfoError
+abbrev pub named_by : List ℕ → List ℕ → List ℕ × List (List ℕ) → List QueryPair → Result (List ℕ × List ℕ) TargetFault → Result Attributes TargetFault
 named_by group version p query (Ok v) = Ok (record {
   namespace = p.0;
   point = point.Resource (record {
@@ -85,7 +86,7 @@ named_by group version p query (Ok v) = Ok (record {
 named_by group version p query (Err e) = Err e
 
 -- the attributes of a request about a resource of a group and version
-abbrev pub resource_attributes : Method → List ℕ → List ℕ → List (List ℕ) → List QueryPair → Result Attributes InfoError
+abbrev pub resource_attributes : Method → List ℕ → List ℕ → List (List ℕ) → List QueryPair → Result Attributes TargetFault
 resource_attributes method group version rest query =
     let p = namespace_and_parts rest in
     named_by group version p query (verb_and_name method (part p.1 1) query)
@@ -98,6 +99,7 @@ url_verb Put = codes "put"
 url_verb Patch = codes "patch"
 url_verb Delete = codes "delete"
 
+-- the last byte is a slash
 abbrev pub ends_in_slash : List ℕ → Bool
 ends_in_slash path = ends_with nat_eq path (codes "/")
 
@@ -118,7 +120,7 @@ url_attributes method path segments query = record {
 }
 
 -- a path is about a resource where it is /api/VERSION/.. or /apis/GROUP/VERSION/..
-unfoldable pub attributes_by : Method → List ℕ → List (List ℕ) → List QueryPair → Result Attributes InfoError
+unfoldable pub attributes_by : Method → List ℕ → List (List ℕ) → List QueryPair → Result Attributes TargetFault
 attributes_by method path (first ∷ second ∷ third ∷ fourth ∷ more) query =
     if bytes_eq first (codes "api") then resource_attributes method [] second (third ∷ fourth ∷ more) query
     else if bytes_eq first (codes "apis") then resource_attributes method second third (fourth ∷ more) query

@@ -1,8 +1,7 @@
 -- The forms of a target and its two parts (RFC 9112 section 3.2; RFC 3986 sections 2, 3.2 and 3.5).
 use Rattle.std.specs.Prelude.{ℕ, ◌==◌, nat_eq, nat_le, Bool, not, ◌&&◌, ◌||◌, if◌then◌else◌, List, length, drop, codes, Option, Some, None, Result, Ok, Err}
 use Rattle.std.specs.List.{list_all, starts_with, position_or_len, before_first, after_first}
-use Rattle.kapi_request_info.specs.declared.attributes.InfoError.{InfoError}
-use Rattle.kapi_request_info.specs.declared.attributes.InfoError.TheVariants.{BadPath}
+use Rattle.kapi_request_info.specs.Faults.{TargetFault, bad_path}
 
 -- visible ASCII but `#`, which would begin a fragment (RFC 3986 sections 2 and 3.5)
 abbrev pub is_target_byte : ℕ → Bool
@@ -24,10 +23,10 @@ abbrev pub path_or_root : List ℕ → List ℕ
 path_or_root path = if length path == 0 then codes "/" else path
 
 -- the path, and the query behind the first `?`, which is empty where there is none (RFC 3986 section 3.4)
-abbrev pub path_and_query : Option (List ℕ) → Result (List ℕ × List ℕ) InfoError
+abbrev pub path_and_query : Option (List ℕ) → Result (List ℕ × List ℕ) TargetFault
 path_and_query (Some text) = Ok (path_or_root (before_first (λ b. b == 63) text), after_first (λ b. b == 63) text)
-path_and_query None = Err BadPath
+path_and_query None = Err bad_path
 
 -- the path of a target and its query
-unfoldable pub split_target : List ℕ → Result (List ℕ × List ℕ) InfoError
-split_target target = if list_all is_target_byte target then path_and_query (path_on target) else Err BadPath
+unfoldable pub split_target : List ℕ → Result (List ℕ × List ℕ) TargetFault
+split_target target = if list_all is_target_byte target then path_and_query (path_on target) else Err bad_path

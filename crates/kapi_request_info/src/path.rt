@@ -3,7 +3,8 @@ ghost use Rattle.std.specs.Prelude.{◌≡◌, ◌==◌, map, drop, IfOk};
 ghost use Rattle.std.specs.List.{slice_split, list_all};
 ghost use Rattle.std.specs.Option.{option_copied};
 ghost use Rattle.percent_encoding.specs.Percent.{percent_decode as decoded_of};
-ghost use Rattle.kapi_request_info.specs.Given.{Gives};
+ghost use Rattle.kapi_text.specs.Gives.{Gives};
+ghost use Rattle.kapi_request_info.specs.Faults.{fault_of};
 ghost use Rattle.kapi_request_info.specs.Path.{has_slash as has_slash_of, names_something as names_something_of, without_last_empty as without_last_empty_of};
 ghost use Rattle.kapi_request_info.specs.Path.{begins_with_digits as begins_with_digits_of, has_whole_escapes as has_whole_escapes_of, pieces as pieces_of, text_in as text_in_of, texts as texts_of, segments as segments_of};
 
@@ -16,7 +17,7 @@ use std::str;
 /// The decoded segments of a path, a last empty one left out.
 #[tactic(auto, unfolding(crate::specs::Path::segments))]
 pub fn segments(alloc: Global, path: &[u8]) -> Result<Vec<Text>, InfoError>
-    ensures { Gives (λ v. v.items) result (segments_of path.now) }
+    ensures { Gives fault_of (λ v. v.items) result (segments_of path.now) }
 {
     let pieces = pieces(alloc, path)?;
     let segments = without_last_empty(pieces.as_slice());
@@ -137,7 +138,7 @@ fn begins_with_digits(bytes: &[u8]) -> bool
 /// The segments as texts.
 #[tactic(auto, unfolding(crate::specs::Path::texts))]
 fn texts(alloc: Global, segments: &[Sequence<u8>]) -> Result<Vec<Text>, InfoError>
-    ensures { Gives (λ v. v.items) result (texts_of segments.now) }
+    ensures { Gives fault_of (λ v. v.items) result (texts_of segments.now) }
 {
     let mut texts = Vec::new(alloc);
     for segment in segments {

@@ -1,6 +1,8 @@
 //! What the segments of a path are about (Kubernetes, 'Authorization Overview', request attributes and verbs).
 ghost use Rattle.std.specs.Prelude.{◌≡◌, IfOk, string_bytes, flat_map, take, [], ◌∷◌};
-ghost use Rattle.kapi_request_info.specs.Given.{Gives, GivesInfo};
+ghost use Rattle.kapi_text.specs.Gives.{Gives};
+ghost use Rattle.kapi_request_info.specs.Faults.{fault_of};
+ghost use Rattle.kapi_request_info.specs.Given.{GivesInfo};
 ghost use Rattle.kapi_request_info.specs.Resource.{part as part_of, is_namespace_subresource as is_namespace_subresource_of, namespace_and_parts as namespace_and_parts_of};
 ghost use Rattle.kapi_request_info.specs.Resource.{watched as watched_of, watched_by as watched_by_of, collection_read as collection_read_of, selector_name as selector_name_of, verb_and_name as verb_and_name_of, url_verb as url_verb_of, ends_in_slash as ends_in_slash_of, url_path as url_path_of};
 ghost use Rattle.kapi_request_info.specs.Resource.{resource_attributes as resource_attributes_of, url_attributes as url_attributes_of, attributes_by as attributes_by_of};
@@ -100,7 +102,7 @@ fn verb_and_name<'a>(
     name: &'a str,
     query: &'a [QueryPair],
 ) -> Result<(&'static str, &'a str), InfoError>
-    ensures { Gives (λ p. (p.0.now, p.1.now)) result (verb_and_name_of method name.now query.now) }
+    ensures { Gives fault_of (λ p. (p.0.now, p.1.now)) result (verb_and_name_of method name.now query.now) }
 {
     match method {
         Method::Get => {
@@ -126,7 +128,7 @@ fn verb_and_name<'a>(
 /// A collection is listed or watched, narrowed to the name that a field selector gives.
 #[tactic(auto, unfolding(crate::specs::Resource::collection_read))]
 fn collection_read(query: &[QueryPair]) -> Result<(&'static str, &str), InfoError>
-    ensures { Gives (λ p. (p.0.now, p.1.now)) result (collection_read_of query.now) }
+    ensures { Gives fault_of (λ p. (p.0.now, p.1.now)) result (collection_read_of query.now) }
 {
     if is_watched(query)? {
         Ok(("watch", selector_name(query)))
@@ -136,7 +138,7 @@ fn collection_read(query: &[QueryPair]) -> Result<(&'static str, &str), InfoErro
 }
 
 fn is_watched(query: &[QueryPair]) -> Result<bool, InfoError>
-    ensures { Gives (λ b. b) result (watched_of query.now) }
+    ensures { Gives fault_of (λ b. b) result (watched_of query.now) }
 {
     match query_value(query, "watch") {
         Some(value) => is_watched_by(value),
@@ -147,7 +149,7 @@ fn is_watched(query: &[QueryPair]) -> Result<bool, InfoError>
 /// Whether a Boolean of a query is true.
 #[tactic(auto, unfolding(crate::specs::Resource::watched_by))]
 fn is_watched_by(value: &str) -> Result<bool, InfoError>
-    ensures { Gives (λ b. b) result (watched_by_of value.now) }
+    ensures { Gives fault_of (λ b. b) result (watched_by_of value.now) }
 {
     if value == "true" || value == "1" {
         Ok(true)

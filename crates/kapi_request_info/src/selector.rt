@@ -4,7 +4,7 @@ ghost use Rattle.std.specs.List.{list_any};
 ghost use Rattle.std.specs.Option.{option_copied};
 ghost use Rattle.kapi_request_info.specs.Selector.{is_selectable as is_selectable_of, behind as behind_of, named as named_of, named_behind as named_behind_of, selected_name as selected_name_of};
 
-use kapi_object::check_rbac_name;
+use kapi_names::check_rbac_name;
 
 /// The name that a field selector asks for: `metadata.name==NAME` or `metadata.name=NAME`, NAME a path segment without a
 /// byte that selectors part or escape by; takes no memory.

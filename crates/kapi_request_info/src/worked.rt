@@ -3,7 +3,7 @@
 ghost use Rattle.std.specs.Prelude.{◌≡◌, codes, [], ◌∷◌};
 ghost use Rattle.kapi_http.specs.declared.message.Method.TheVariants.{Get, Put, Delete};
 ghost use Rattle.kapi_rules.specs.declared.point.Point.TheVariants as point;
-ghost use Rattle.kapi_request_info.specs.declared.attributes.InfoError.TheVariants.{BadPath, BadEscape, BadQuery};
+ghost use Rattle.kapi_request_info.specs.Faults.{bad_path, bad_escape, bad_query};
 ghost use Rattle.kapi_request_info.specs.Attributes.{info};
 
 /// Some targets with their attributes or faults.
@@ -37,9 +37,9 @@ pub fn worked_rows()
       query = [];
     }) }
     ensures absolute { info Get (codes "http://h") ≡ info Get (codes "/") }
-    ensures empty { info Get (codes "/api/v1//pods") ≡ Err BadPath }
-    ensures slash { info Get (codes "/a%2Fb") ≡ Err BadPath }
-    ensures path_first { info Get (codes "/%zz%2F") ≡ Err BadPath }
-    ensures escape { info Get (codes "/a%f") ≡ Err BadEscape }
-    ensures query { info Get (codes "/api/v1/pods?watch=yes") ≡ Err BadQuery }
+    ensures empty { info Get (codes "/api/v1//pods") ≡ Err bad_path }
+    ensures slash { info Get (codes "/a%2Fb") ≡ Err bad_path }
+    ensures path_first { info Get (codes "/%zz%2F") ≡ Err bad_path }
+    ensures escape { info Get (codes "/a%f") ≡ Err bad_escape }
+    ensures query { info Get (codes "/api/v1/pods?watch=yes") ≡ Err bad_query }
 {}

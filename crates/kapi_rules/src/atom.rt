@@ -3,7 +3,7 @@ ghost use Rattle.std.specs.Prelude.{◌≡◌, ◌++◌, IfOk, OnOk, map};
 ghost use Rattle.std.specs.List.{flat_map};
 ghost use Rattle.kapi_rules.specs.Atoms.{atoms as atoms_of, group_atoms, resource_atom as named_atom, resource_atoms, url_atoms, verb_atoms};
 
-use kapi_rbac_types::PolicyRule;
+use kapi_names::PolicyRule;
 use kapi_text::{Memory, Text, TryCopy};
 use std::alloc::{AllocError, Global};
 

@@ -2,7 +2,7 @@
 ghost use Rattle.std.specs.Prelude.{◌≡◌, ◌∷◌, ◌&&◌, List, [], codes, false, true};
 ghost use Rattle.std.specs.Bool.{Decides};
 ghost use Rattle.std.specs.List.{AllPairs, flat_map, list_any};
-ghost use Rattle.kapi_rbac_types.specs.declared.policy_rule.PolicyRule.{PolicyRule};
+ghost use Rattle.kapi_names.specs.declared.policy_rule.PolicyRule.{PolicyRule};
 ghost use Rattle.kapi_rules.specs.Atoms.{atom_allows, atoms as atoms_of, implies as atom_implies, rule_of};
 ghost use Rattle.kapi_rules.specs.Missing.{is_missing, missing as missing_of, same_atom};
 ghost use Rattle.kapi_rules.specs.Points.{HasPlainResource};

@@ -7,7 +7,7 @@ ghost use Rattle.kapi_rules.specs.Missing.{CoversAll, is_missing as is_not_impli
 use crate::atom::{Atom, Names, ResourceAtom, UrlAtom, atoms};
 use crate::covering::{some_name_covers, some_resource_covers};
 use crate::entries::{some_url_matches, some_word_matches};
-use kapi_rbac_types::PolicyRule;
+use kapi_names::PolicyRule;
 use kapi_text::Memory;
 use std::alloc::Global;
 

@@ -4,7 +4,7 @@ use crate::{
     Atom, Names, Point, ResourceAtom, ResourcePoint, UrlAtom, UrlPoint, allows, atoms, implies,
     missing,
 };
-use kapi_rbac_types::PolicyRule;
+use kapi_names::PolicyRule;
 use kapi_text::{Sequence, Text, TryCopy};
 use std::alloc::{AllocError, Global};
 use std::test::Fail;

@@ -1,4 +1,4 @@
-use kapi_rbac_types::PolicyRule;
+use kapi_names::PolicyRule;
 use kapi_rules::missing;
 use kapi_text::{Memory, Sequence, Text};
 use std::alloc::Global;

@@ -4,7 +4,7 @@ use Rattle.std.specs.Io.KnownBytes.{Consumes, IsAtEnd}
 use Rattle.kapi_core.specs.Stands.{Stands}
 use Rattle.std.proofs.lemmas.List.{drop_all}
 use Rattle.std.proofs.lemmas.List.Splits.{slice_split_at, slice_split_none}
-use Rattle.kapi_core.specs.declared.machine.Core.{Core}
+use Rattle.kapi_core.specs.Running.{Running}
 use Rattle.kapi_script.specs.Scripts.{lines, said, first_bad_from, start}
 use Rattle.kapi_script.specs.Playing.{ReachedBy, Reading, ReadsOn, Goes, Ends}
 use Rattle.kapi_script.specs.declared.script.Script.{Script}
@@ -19,13 +19,13 @@ line_ends all byte unread before line s c e f h =
     (slice_split_at (λ b. b == 10) s.line.items byte unread h.0 (rw e refl) ∙ ap (λ l. l ∷ lines unread) (sym f)) h.1
 
 -- the next line begins
-pub line_begins : (all : List (List ℕ)) (unread before items : List ℕ) (n : ℕ) (core : Core) (d : Option (List ℕ)) → items ≡ []
+pub line_begins : (all : List (List ℕ)) (unread before items : List ℕ) (n : ℕ) (core : Running) (d : Option (List ℕ)) → items ≡ []
     → ReachedBy all (lines unread) n core before d → All (λ b. (b == 10) ≡ false) items × ReachedBy all (lines (items ++ unread)) n core before d
 line_begins all unread before items n core d e h =
     subst (λ xs. All (λ b. (b == 10) ≡ false) xs × ReachedBy all (lines (xs ++ unread)) n core before d) (sym e) ((λ k d below. absurd (omega (arith, below))), h)
 
 -- what ended a line ends the script
-pub line_failed : (all rest : List (List ℕ)) (unread before : List ℕ) (n : ℕ) (core : Core) (s : Script) (d : Option (List ℕ)) (result : Result (Unit {0}) ScriptFault) (e : ScriptFault)
+pub line_failed : (all rest : List (List ℕ)) (unread before : List ℕ) (n : ℕ) (core : Running) (s : Script) (d : Option (List ℕ)) (result : Result (Unit {0}) ScriptFault) (e : ScriptFault)
     → result ≡ Err e → Goes all rest n core before d result → ReadsOn all unread s before d (Err e)
 line_failed all rest unread before n core s d result (fault.BadLine number) is h = subst (λ r. Goes all rest n core before d r) is h
 line_failed all rest unread before n core s d result fault.Read is h = tt
@@ -40,7 +40,7 @@ last_line all before line s c e h =
     (ap lines (append-nil s.line.items) ∙ slice_split_none (λ b. b == 10) s.line.items h.0 ∙ ap (λ l. l ∷ []) (sym e)) h.1
 
 -- all lines were played
-pub ended : (all : List (List ℕ)) (before : List ℕ) (n : ℕ) (core : Core) (d : Option (List ℕ)) (result : Result (Unit {0}) ScriptFault)
+pub ended : (all : List (List ℕ)) (before : List ℕ) (n : ℕ) (core : Running) (d : Option (List ℕ)) (result : Result (Unit {0}) ScriptFault)
     → Goes all [] n core before d result → Ends all before d result
 unfolding said first_bad_from
 ended all before n core d (Ok done) h =
@@ -104,7 +104,7 @@ ends_failed all unread before s d fault.Write h = tt
 ends_failed all unread before s d fault.Memory h = tt
 
 -- at the start nothing was read
-pub at_start : (text before items : List ℕ) (core : Core) (c : Option (List ℕ)) → items ≡ [] → Stands core start → c ≡ Some before
+pub at_start : (text before items : List ℕ) (core : Running) (c : Option (List ℕ)) → items ≡ [] → Stands core start → c ≡ Some before
     → All (λ b. (b == 10) ≡ false) items × ReachedBy (lines text) (lines (items ++ text)) 0 core before c
 at_start text before items core c none stands e =
     line_begins (lines text) text before items 0 core c none (

@@ -1,9 +1,9 @@
 -- The lines of a script's answers.
 use Rattle.std.specs.Prelude.{ℕ, if◌then◌else◌, List, ◌++◌, codes}
 use Rattle.std.specs.Fmt.{decimal}
-use Rattle.kapi_answer.specs.declared.respond.Output.{Output}
 use Rattle.kapi_core.specs.declared.event.Answer.{Answer}
 use Rattle.kapi_core.specs.declared.event.Answer.TheVariants as told
+use Rattle.kapi_core.specs.declared.event.Output.{Output}
 use Rattle.kapi_core.specs.declared.event.Turned.{Turned}
 use Rattle.kapi_script.specs.Escapes.{escaped}
 
@@ -15,6 +15,7 @@ output_line output = ((if output.close then codes "last " else codes "out ") ++ 
 unfoldable pub turn_line : Turned → List ℕ
 turn_line turned = ((((codes "turn " ++ decimal turned.revision) ++ codes " ") ++ escaped turned.name)) ++ codes "\n"
 
+-- the line that an answer is written as
 unfoldable pub answer_line : Answer → List ℕ
 answer_line (told.Opened conn) = codes "conn " ++ decimal conn.0 ++ codes "\n"
 answer_line told.Done = codes "ok\n"

@@ -20,6 +20,7 @@ escaped_byte b =
     else (if nat_le 32 b && nat_le b 126 then b ∷ []
     else 92 ∷ 120 ∷ digit_char (b / 16) ∷ digit_char (b % 16) ∷ []))))
 
+-- a text as it is written
 abbrev pub escaped : List ℕ → List ℕ
 escaped bytes = flat_map escaped_byte bytes
 
@@ -60,5 +61,6 @@ unescaped_from HighDigit [] = None
 unescaped_from (LowDigit high) [] = None
 unescaped_from place (b ∷ bs) = behind (read place b) (λ next. unescaped_from next bs)
 
+-- the text that was written so, if it is one
 abbrev pub unescaped : List ℕ → Option (List ℕ)
 unescaped text = unescaped_from Plain text

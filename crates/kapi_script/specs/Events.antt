@@ -40,9 +40,11 @@ abbrev pub feed_at : List ℕ → Option ℕ → Option Event
 feed_at s None = None
 feed_at s (Some at) = fed (connection (take at s)) (unescaped (drop 1 (drop at s)))
 
+-- the event of a line that feeds
 unfoldable pub feed_event : List ℕ → Option Event
 feed_event s = feed_at s (position (λ b. b == 32) s)
 
+-- the text begins with that word
 abbrev pub begins : List ℕ → List ℕ → Bool
 begins s word = starts_with nat_eq s word
 

@@ -2,6 +2,5 @@ pub mod Escapes
 pub mod Events
 pub mod AnswerLines
 pub mod ProgramTable
-pub mod Resources
 pub mod Scripts
 pub mod Playing

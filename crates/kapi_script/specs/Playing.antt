@@ -3,7 +3,7 @@ use Rattle.std.specs.Prelude.{◌≡◌, ◌==◌, true, false, All, ℕ, ◌+�
 use Rattle.kapi_core.specs.Machine.{Machine}
 use Rattle.kapi_core.specs.Stands.{Stands, Makes, Keeps}
 use Rattle.kapi_core.specs.declared.event.Event.{Event}
-use Rattle.kapi_core.specs.declared.machine.Core.{Core}
+use Rattle.kapi_core.specs.Running.{Running}
 use Rattle.kapi_script.specs.AnswerLines.{answer_line, refused_line}
 use Rattle.kapi_script.specs.Scripts.{skipped, bad, told, line_of, lines, said, start, first_bad_from}
 use Rattle.kapi_script.specs.declared.script.Played.{Played}
@@ -13,12 +13,13 @@ use Rattle.kapi_script.specs.declared.script.ScriptFault.{ScriptFault}
 use Rattle.kapi_script.specs.declared.script.ScriptFault.TheVariants as fault
 
 -- what a line was, and what the machine made of it
-abbrev pub Plays : Core → Core → List ℕ → Played → Type 0
+abbrev pub Plays : Running → Running → List ℕ → Played → Type 0
 Plays old new line played.Skipped = (line_of line ≡ skipped) × Keeps old new
 Plays old new line played.Bad = line_of line ≡ bad
 Plays old new line played.Refused = (event : Event) × (line_of line ≡ told event) × Keeps old new
 Plays old new line (played.Told answer) = (event : Event) × (line_of line ≡ told event) × Makes old new event answer
 
+-- the line had no known form
 abbrev pub is_bad_play : Played → Bool
 is_bad_play played.Skipped = false
 is_bad_play played.Bad = true
@@ -33,14 +34,14 @@ played_text played.Refused = refused_line
 played_text (played.Told answer) = answer_line answer
 
 -- of all lines the rest is still to be played, on a machine that was reached; so much was written
-pub record Reached (all : List (List ℕ)) (rest : List (List ℕ)) (n : ℕ) (core : Core) (written : List ℕ) : Type 0 where
+pub record Reached (all : List (List ℕ)) (rest : List (List ℕ)) (n : ℕ) (core : Running) (written : List ℕ) : Type 0 where
   pub machine : Machine
   pub stands : Stands core machine
   pub said_so_far : (refused : List Bool) → (whole : List Bool) × (said start all whole ≡ written ++ said machine rest refused)
   pub none_bad : first_bad_from 1 all ≡ first_bad_from (n + 1) rest
 
 -- the same of a writer that held some bytes before
-abbrev pub ReachedBy : List (List ℕ) → List (List ℕ) → ℕ → Core → List ℕ → Option (List ℕ) → Type 0
+abbrev pub ReachedBy : List (List ℕ) → List (List ℕ) → ℕ → Running → List ℕ → Option (List ℕ) → Type 0
 ReachedBy all rest n core before contents = (written : List ℕ) × Reached all rest n core written × (contents ≡ Some (before ++ written))
 
 -- a bad line ended it
@@ -48,7 +49,7 @@ abbrev pub Stopped : List (List ℕ) → ℕ → List ℕ → Option (List ℕ) 
 Stopped all n before contents = (refused : List Bool) × (contents ≡ Some (before ++ said start all refused)) × (first_bad_from 1 all ≡ Some n)
 
 -- after a step: the rest is to be played, or a bad line ended it; nothing is said where reading, writing or memory failed
-abbrev pub Goes : List (List ℕ) → List (List ℕ) → ℕ → Core → List ℕ → Option (List ℕ) → Result (Unit {0}) ScriptFault → Type 0
+abbrev pub Goes : List (List ℕ) → List (List ℕ) → ℕ → Running → List ℕ → Option (List ℕ) → Result (Unit {0}) ScriptFault → Type 0
 Goes all rest n core before contents (Ok done) = ReachedBy all rest n core before contents
 Goes all rest n core before contents (Err (fault.BadLine number)) = Stopped all number before contents
 Goes all rest n core before contents (Err e) = Unit {0}
@@ -58,10 +59,6 @@ abbrev pub Ends : List (List ℕ) → List ℕ → Option (List ℕ) → Result 
 Ends all before contents (Ok done) = (refused : List Bool) × (contents ≡ Some (before ++ said start all refused)) × (first_bad_from 1 all ≡ None)
 Ends all before contents (Err (fault.BadLine number)) = Stopped all number before contents
 Ends all before contents (Err e) = Unit {0}
-
--- a whole script: what was written is what the script says, for some lines that were refused for want of memory
-abbrev pub Told : List ℕ → List ℕ → Option (List ℕ) → Result (Unit {0}) ScriptFault → Type 0
-Told text before contents result = Ends (lines text) before contents result
 
 -- in the midst of a line: what was read of it, and the bytes that were not yet read
 abbrev pub Reading : List (List ℕ) → List ℕ → Script → List ℕ → Option (List ℕ) → Type 0

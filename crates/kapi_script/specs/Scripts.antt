@@ -1,5 +1,5 @@
 -- What a script is answered: line by line, by the machine that is data.
-use Rattle.std.specs.Prelude.{ℕ, ◌+◌, ◌==◌, Bool, true, false, ◌||◌, if◌then◌else◌, List, [], ◌∷◌, ◌++◌, length, slice_index, drop, Option, Some, None}
+use Rattle.std.specs.Prelude.{◌≡◌, ℕ, ◌+◌, ◌==◌, Bool, true, false, ◌||◌, if◌then◌else◌, List, [], ◌∷◌, ◌++◌, length, slice_index, drop, Option, Some, None}
 use Rattle.std.specs.List.{slice_split}
 use Rattle.kapi_core.specs.Machine.{Machine, step}
 use Rattle.kapi_core.specs.Opening.{opening}
@@ -18,13 +18,16 @@ pub data Line : Type 0 where
   bad : Line
   told : Event → Line
 
+-- a line is the event that was read of it, if one was
 abbrev pub told_if : Option Event → Line
 told_if None = bad
 told_if (Some e) = told e
 
+-- what a line is: `#` begins a comment
 unfoldable pub line_of : List ℕ → Line
 line_of l = if length l == 0 || slice_index l 0 == 35 then skipped else told_if (line_event l)
 
+-- the line has no known form
 abbrev pub is_bad : Line → Bool
 is_bad skipped = false
 is_bad bad = true
@@ -36,6 +39,7 @@ written_for skipped refused m = []
 written_for bad refused m = []
 written_for (told e) refused m = if refused then refused_line else answer_line (step m e).0
 
+-- the machine after a line
 abbrev pub after_line : Line → Bool → Machine → Machine
 after_line skipped refused m = m
 after_line bad refused m = m
@@ -66,5 +70,12 @@ start = opening program_rows 0
 abbrev pub script : List ℕ → List Bool → List ℕ
 script text refused = said start (lines text) refused
 
+-- the number of the first bad line of a script, from 1
 abbrev pub first_bad : List ℕ → Option ℕ
 first_bad text = first_bad_from 1 (lines text)
+
+-- behind what was written before stands what the script is answered, for some lines at which memory ran out; and its first bad line
+-- is that one, or there is none
+abbrev pub IsAnswered : List ℕ → List ℕ → Option (List ℕ) → Option ℕ → Type 0
+IsAnswered text before contents number =
+    (refused : List Bool) × (contents ≡ Some (before ++ script text refused)) × (first_bad text ≡ number)

@@ -1,14 +1,15 @@
-ghost use Rattle.std.specs.Prelude.{◌≡◌, ◌+◌, ◌<◌, ◌≤◌, ◌++◌, [], ◌∷◌, List, ℕ, Some, OnOk, IfOk, IfErr, IfSome, length, take};
+ghost use Rattle.std.specs.Prelude.{◌≡◌, ◌+◌, ◌<◌, ◌≤◌, ◌++◌, [], ◌∷◌, List, ℕ, None, Some, Err, OnOk, IfOk, IfErr, IfSome, length, take};
 ghost use Rattle.kapi_script.specs.declared.script.ScriptFault.TheVariants as Fault;
 ghost use Rattle.std.specs.Io.KnownBytes.{Appends, Consumes, IsAtEnd};
 ghost use Rattle.kapi_core.specs.Stands.{Keeps, Steps};
-ghost use Rattle.kapi_script.specs.Playing.{is_bad_play, Ends, Goes, Plays, ReachedBy, Reading, ReadsOn, Told, played_text};
-ghost use Rattle.kapi_script.specs.Scripts.{lines};
+ghost use Rattle.kapi_script.specs.Playing.{is_bad_play, Ends, Goes, Plays, ReachedBy, Reading, ReadsOn, played_text};
+ghost use Rattle.kapi_script.specs.Scripts.{IsAnswered, lines};
 
 use crate::answer_text::write_answer;
 use crate::line::parse_line;
 use crate::table::program_table;
 use kapi_core::{Answer, Core};
+use kapi_policy::PlainPolicy;
 use kapi_text::Memory;
 use std::alloc::Global;
 use std::io::{self, Read, Write};
@@ -48,7 +49,7 @@ impl From<Memory> for ScriptFault {
 /// A script that is being played: the machine, the line that was read so far, and how many lines were whole.
 #[derive(Drop)]
 struct Script {
-    core: Core,
+    core: Core<PlainPolicy>,
     line: Vec<u8>,
     lines: u64,
 }
@@ -67,7 +68,7 @@ pub enum Played {
 
 /// Makes the step of a line, if it is one of a known form.
 #[tactic(auto, unfolding(crate::specs::Scripts::line_of))]
-fn play(alloc: Global, core: &mut Core, line: &[u8]) -> Played
+fn play(alloc: Global, core: &mut Core<PlainPolicy>, line: &[u8]) -> Played
     ensures { Plays core.old core.new line.now result }
 {
     if line.is_empty() || line[0] == b'#' {
@@ -114,7 +115,7 @@ fn write_text<W: Write>(writer: &mut W, played: &Played) -> io::Result<()>
 /// Plays a line behind so many others, and writes its answer.
 fn play_line<W: Write>(
     alloc: Global,
-    core: &mut Core,
+    core: &mut Core<PlainPolicy>,
     lines: u64,
     line: &[u8],
     writer: &mut W,
@@ -221,11 +222,13 @@ pub fn script_run<R: Read, W: Write>(
     reader: &mut R,
     writer: &mut W,
 ) -> Result<(), ScriptFault>
-    ensures told { (text before : List ℕ) → R.remaining reader.old ≡ Some text → W.contents writer.old ≡ Some before
-        → Told text before (W.contents writer.new) result }
+    ensures played { (text before : List ℕ) → R.remaining reader.old ≡ Some text → W.contents writer.old ≡ Some before
+        → OnOk result (IsAnswered text before (W.contents writer.new) None) }
+    ensures bad { (text before : List ℕ) (number : ℕ) → R.remaining reader.old ≡ Some text → W.contents writer.old ≡ Some before
+        → result ≡ Err (Fault.BadLine number) → IsAnswered text before (W.contents writer.new) (Some number) }
     ensures whole { OnOk result (IsAtEnd (R.remaining reader.new)) }
 {
-    let core = Core::new(alloc, program_table(alloc)?, 0)?;
+    let core = Core::new(alloc, program_table(alloc)?, PlainPolicy::new(alloc), 0)?;
     let mut script = Script {
         core,
         line: Vec::new(alloc),

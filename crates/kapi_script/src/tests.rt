@@ -1,6 +1,6 @@
 use crate::script::{ScriptFault, script_run};
-use crate::table::program_table;
-use kapi_core::table_fits;
+use std::alloc::Global;
+use std::io::{self, BufWriter, Read};
 use std::test::Fail;
 
 const CREATE_AND_GET: &[u8] =
@@ -92,8 +92,91 @@ fn stops_at_a_bad_line(rt: HostRuntime) -> Result<(), Fail> {
     Ok(())
 }
 
+/// A reader that gives one byte a read, and fails at its end or tells it.
+#[derive(Drop)]
+struct Dripping<'a> {
+    text: &'a [u8],
+    at: usize,
+    fails: bool,
+}
+
+impl Read for Dripping<'_> {
+    fn read(&mut self, buf: &mut [u8]) -> io::Result<usize> {
+        match (self.text.get(self.at), buf.first_mut()) {
+            (Some(byte), Some(place)) => {
+                *place = *byte;
+                self.at = self.at.saturating_add(1);
+                Ok(1)
+            }
+            _ if self.fails => Err(io::Error::from(io::ErrorKind::BrokenPipe)),
+            _ => Ok(0),
+        }
+    }
+}
+
+/// How often a connection is opened and closed in the long script.
+const ROUNDS: usize = 12_000;
+
+/// Some 220,000 bytes of 24,000 events, and their answers.
+fn long_script(alloc: Global) -> Result<(String, String), Fail> {
+    let mut script = String::new(alloc);
+    let mut answers = String::new(alloc);
+    for round in 0..ROUNDS {
+        let event = format!(in alloc; "open a\nclose {round}\n")?;
+        script.push_str(event.as_str())?;
+        let answer = format!(in alloc; "conn {round}\nok\n")?;
+        answers.push_str(answer.as_str())?;
+    }
+    Ok((script, answers))
+}
+
 #[test]
-fn serves_a_table_that_fits(rt: HostRuntime) -> Result<(), Fail> {
-    assert!(rt; table_fits(program_table(rt.alloc())?.as_slice()));
+fn plays_a_long_script_in_any_pieces(rt: HostRuntime) -> Result<(), Fail> {
+    let (script, answers) = long_script(rt.alloc())?;
+    assert!(rt; script.len() > 200_000);
+    let mut whole = script.as_str().as_bytes();
+    let mut writer = Vec::new(rt.alloc());
+    assert_eq!(rt; script_run(rt.alloc(), &mut whole, &mut writer), Ok(()));
+    assert!(rt; writer.as_slice() == answers.as_str().as_bytes());
+    let mut reader = Dripping {
+        text: script.as_str().as_bytes(),
+        at: 0,
+        fails: false,
+    };
+    let mut writer = Vec::new(rt.alloc());
+    assert_eq!(rt; script_run(rt.alloc(), &mut reader, &mut writer), Ok(()));
+    assert!(rt; writer.as_slice() == answers.as_str().as_bytes());
+    Ok(())
+}
+
+#[test]
+fn plays_a_line_of_two_million_bytes(rt: HostRuntime) -> Result<(), Fail> {
+    let mut script = Vec::from_slice(rt.alloc(), b"open root,system:masters\nfeed 0 ")?;
+    script.resize(2_000_000, b'G')?;
+    script.extend_from_slice(b"\nserve 0\nserve 0\n")?;
+    let mut reader = script.as_slice();
+    let mut writer = Vec::new(rt.alloc());
+    assert_eq!(rt; script_run(rt.alloc(), &mut reader, &mut writer), Ok(()));
+    assert_eq!(rt; writer.as_slice(), TOO_LONG_ANSWERS);
+    Ok(())
+}
+
+const TOO_LONG_ANSWERS: &[u8] =
+    b"conn 0\nok\nlast HTTP/1.1 431 Request Header Fields Too Large\\r\\nContent-Type: application/json\\r\\nContent-Length: 123\\r\\nConnection: close\\r\\n\\r\\n{\"apiVersion\":\"v1\",\"code\":431,\"kind\":\"Status\",\"message\":\"Request Header Fields Too Large\",\"metadata\":{},\"status\":\"Failure\"}\nnone\n";
+
+/// Each answer is handed on before the next byte is read.
+#[test]
+fn hands_each_answer_on_at_once(rt: HostRuntime) -> Result<(), Fail> {
+    let mut reader = Dripping {
+        text: b"open a\nturn\n",
+        at: 0,
+        fails: true,
+    };
+    let mut writer = BufWriter::new(rt.alloc(), Vec::new(rt.alloc()))?;
+    assert_eq!(rt;
+        script_run(rt.alloc(), &mut reader, &mut writer),
+        Err(ScriptFault::Read)
+    );
+    assert_eq!(rt; writer.get_ref().as_slice(), b"conn 0\nnone\n".as_slice());
     Ok(())
 }

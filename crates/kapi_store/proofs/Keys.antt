@@ -1,5 +1,9 @@
 -- The order of keys.
-use Rattle.std.proofs.Common.{◌≡◌, ℕ, List, refl, sym, ap, ◌∙◌}
+use Rattle.std.proofs.Common.{◌≡◌, ℕ, Bool, true, false, cond, List, [], ◌∷◌, refl, sym, ap, ◌∙◌, subst}
+use Rattle.std.specs.List.{filter, AllByRecursion, IsDistinct}
+use Rattle.std.specs.List.Sorted.{IsStrictlySortedBy}
+use Rattle.std.specs.Map.{keys_of}
+use Rattle.std.proofs.lemmas.Map.Keys.{IsDistinct-from_sorted}
 use Rattle.std.specs.Ordering.{nat_cmp, is_eq, ordering_then}
 use Rattle.std.specs.declared.cmp.Ordering.{Ordering}
 use Rattle.std.specs.declared.cmp.Ordering.TheVariants.{Less, Equal, Greater}
@@ -9,7 +13,7 @@ use Rattle.std.proofs.lemmas.Map.Text.{is_eq-slice_cmp}
 use Rattle.std.proofs.lemmas.Slice.Eq.{bytes_eq-Decides}
 use Rattle.kapi_store.specs.declared.key.Key.{Key}
 use Rattle.kapi_store.specs.contracts.key.KeyOrd.TheImpl.Laws as laws
-use Rattle.kapi_store.specs.Keys.{key_cmp}
+use Rattle.kapi_store.specs.Keys.{key_cmp, is_key}
 
 -- keys are totally ordered
 pub key_total : IsTotalOrder key_cmp
@@ -37,3 +41,36 @@ key_same a b h =
       namespace = bytes_same a.namespace b.namespace namespace.0 i;
       name = bytes_same a.name b.name namespace.1 i;
     }
+
+module _ {X : Type 0} (p : Key × X → Bool) where
+  filter_keys : (P : Key → Type 0) (es : List (Key × X)) → AllByRecursion P (keys_of es) → AllByRecursion P (keys_of (filter p es))
+  filter_keys P [] h = tt
+  filter_keys P (e ∷ es) h = elim (p e) as (λ b. AllByRecursion P (keys_of (cond b (e ∷ filter p es) (filter p es)))) [ true ↦ (h.0, filter_keys P es h.1) | false ↦ filter_keys P es h.1 ]
+
+  -- some of the entries are in order too
+  filter_sorted : (es : List (Key × X)) → IsStrictlySortedBy key_cmp (keys_of es) → IsStrictlySortedBy key_cmp (keys_of (filter p es))
+  unfolding IsStrictlySortedBy
+  filter_sorted [] h = tt
+  filter_sorted (e ∷ es) h =
+      elim (p e) as (λ b. IsStrictlySortedBy key_cmp (keys_of (cond b (e ∷ filter p es) (filter p es)))) [
+        | true ↦ (filter_keys (λ y. key_cmp e.0 y ≡ Less) es h.0, filter_sorted es h.1)
+        | false ↦ filter_sorted es h.1
+      ]
+
+  -- so no key stands twice among them
+  pub filter_distinct : (es : List (Key × X)) → IsStrictlySortedBy key_cmp (keys_of es) → IsDistinct is_key (keys_of (filter p es))
+  filter_distinct es h = IsDistinct-from_sorted key_cmp (keys_of (filter p es)) (filter_sorted es h)
+
+-- one key stands once
+pub one_distinct : (ks : List Key) (k : Key) → ks ≡ k ∷ [] → IsDistinct is_key ks
+unfolding IsStrictlySortedBy
+one_distinct ks k is =
+    let P : List Key → Type 0 = λ ks. IsDistinct is_key ks in
+    let sorted : IsStrictlySortedBy key_cmp (k ∷ []) = (tt, tt) in subst P (sym is) (IsDistinct-from_sorted key_cmp (k ∷ []) sorted)
+
+-- of two keys in order each stands once
+pub two_distinct : (ks : List Key) (k l : Key) → ks ≡ k ∷ l ∷ [] → key_cmp k l ≡ Less → IsDistinct is_key ks
+unfolding IsStrictlySortedBy
+two_distinct ks k l is less =
+    let P : List Key → Type 0 = λ ks. IsDistinct is_key ks in
+    let sorted : IsStrictlySortedBy key_cmp (k ∷ l ∷ []) = ((less, tt), (tt, tt)) in subst P (sym is) (IsDistinct-from_sorted key_cmp (k ∷ l ∷ []) sorted)

@@ -1,8 +1,11 @@
 pub mod SlotSteps
 pub mod Keys
 pub mod Trees
-pub mod Changes
+pub mod Writes
+pub mod Windows
 pub mod Stores
 pub mod Digits
 pub mod OnLiterals
 pub mod Spans
+pub mod Standing
+pub mod Equality

@@ -3,14 +3,14 @@ use Rattle.std.proofs.Common.{◌≡◌, [], Err, codes, refl}
 use Rattle.std.specs.Prelude.{⊤}
 use Rattle.std.specs.Fmt.{digits}
 use Rattle.serde_json.specs.Data.{object, no_members}
-use Rattle.kapi_store.specs.declared.error.StoreError.TheVariants.{RevisionsUsedUp}
+use Rattle.kapi_store.specs.Faults.{RevisionsUsedUp}
 use Rattle.kapi_store.specs.Keys.{namespace_key}
 use Rattle.kapi_store.specs.Stamps.{hex_digits, uid_of}
 use Rattle.kapi_store.specs.Changes.{placed, placed_all}
-use Rattle.kapi_store.specs.Plain.{opened, has_object, has_namespace, revision_for, creation}
+use Rattle.kapi_store.specs.Plain.{opened, has_object, has_namespace, free_place, revisions_left, removable, removals, changes_after, creation}
 
 unfoldable pub store_on_literals : ⊤
-unfolding digits hex_digits uid_of placed placed_all has_object has_namespace revision_for
+unfolding digits hex_digits uid_of placed placed_all has_object has_namespace free_place revisions_left removable removals changes_after
 store_on_literals = tt
 
 pub uid_of-six : uid_of 6 ≡ codes "00000000-0000-4000-8000-000000000006"

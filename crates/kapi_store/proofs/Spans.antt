@@ -1,6 +1,6 @@
 -- What may be listed lies between the first key and the end.
-use Rattle.std.proofs.Common.{◌≡◌, ℕ, Bool, true, false, ◌&&◌, cond, List, [], ◌∷◌, Option, None, Some, refl, sym, ap, codes}
-use Rattle.std.specs.List.{filter}
+use Rattle.std.proofs.Common.{◌≡◌, ℕ, Bool, true, false, ◌&&◌, ◌||◌, cond, List, [], ◌∷◌, Option, None, Some, refl, sym, ap, codes}
+use Rattle.std.specs.List.{filter, list_any}
 use Rattle.std.specs.Ordering.{nat_cmp, is_gt, is_le, ordering_then, ordering_reverse}
 use Rattle.std.specs.declared.cmp.Ordering.{Ordering}
 use Rattle.std.specs.declared.cmp.Ordering.TheVariants.{Less, Equal, Greater}
@@ -11,22 +11,17 @@ use Rattle.std.specs.Cmp.Lexicographic.{slice_cmp}
 use Rattle.std.specs.Str.{bytes_eq}
 use Rattle.std.proofs.lemmas.Slice.Eq.{bytes_eq-Decides}
 use Rattle.kapi_object.specs.Object.{tree_of}
-use Rattle.kapi_object.specs.Selector.{matches}
+use Rattle.kapi_names.specs.Selector.{matches}
 use Rattle.kapi_object.specs.Tree.{in_metadata}
 use Rattle.kapi_object.specs.declared.object.Object.{Object}
-use Rattle.kapi_object.specs.declared.row.ResourceRow.{ResourceRow}
-use Rattle.kapi_object.specs.declared.selector.Selector.{Selector}
+use Rattle.kapi_names.specs.declared.row.ResourceRow.{ResourceRow}
+use Rattle.kapi_names.specs.declared.selector.Selector.{Selector}
 use Rattle.kapi_store.specs.declared.key.Key.{Key}
 use Rattle.kapi_store.specs.Keys.{key_cmp}
 use Rattle.kapi_store.specs.State.{held, live}
+use Rattle.kapi_store.proofs.SlotSteps.{own_reverse}
 use Rattle.kapi_store.specs.Listing.{is_asked, is_within, is_listed, listed_objects}
-use Rattle.kapi_store.specs.Span.{after, first_key, end_key}
-
--- what is its own reverse is Equal
-own_reverse : (o : Ordering) → o ≡ ordering_reverse o → o ≡ Equal
-own_reverse Less h = absurd (cc h)
-own_reverse Equal h = refl
-own_reverse Greater h = absurd (cc h)
+use Rattle.kapi_store.specs.Span.{after, first_key, end_key, is_of, namespace_start, namespace_end}
 
 byte_same : (b : ℕ) → nat_cmp b b ≡ Equal
 byte_same b = own_reverse (nat_cmp b b) (nat_cmp_total.antisymm b b)
@@ -127,3 +122,48 @@ listed_between row namespace selector name es =
     (λ e. is_listed row namespace selector name e.0 (tree_of e.1))
     (λ e. λ h. within_is_between row namespace name e.0 (first_so (is_within row namespace name e.0) (matches selector (in_metadata (codes "labels") (tree_of e.1))) h))
     es
+
+-- what is of the row's resource in the namespace
+of_parts : (row : ResourceRow) (namespace : List ℕ) (k : Key) → is_of row namespace k ≡ true → (k.group ≡ row.group) × (k.resource ≡ row.plural) × (k.namespace ≡ namespace)
+of_parts row namespace k h =
+    let names : Bool = bytes_eq row.plural k.resource && bytes_eq k.namespace namespace in
+    let rest : names ≡ true = second_so (bytes_eq row.group k.group) names h in (
+      sym (alike row.group k.group (first_so (bytes_eq row.group k.group) names h)),
+      sym (alike row.plural k.resource (first_so (bytes_eq row.plural k.resource) (bytes_eq k.namespace namespace) rest)),
+      alike k.namespace namespace (second_so (bytes_eq row.plural k.resource) (bytes_eq k.namespace namespace) rest),
+    )
+
+of_is_between : (row : ResourceRow) (namespace : List ℕ) (k : Key) → is_of row namespace k ≡ true
+    → range_contains key_cmp (Included (namespace_start row namespace)) (Excluded (namespace_end row namespace)) k ≡ true
+of_is_between row namespace k h =
+    let is = of_parts row namespace k h in
+    rw (is.0, is.1, is.2, same row.group, same row.plural, same namespace, after_is_greater namespace) (and_true (is_le (slice_cmp nat_cmp [] k.name)) (empty_is_least k.name))
+
+-- the first key is before the end
+pub start_below_end : (row : ResourceRow) (namespace : List ℕ) → is_gt (key_cmp (namespace_start row namespace) (namespace_end row namespace)) ≡ false
+start_below_end row namespace = rw (same row.group, same row.plural, after_is_past namespace) refl
+
+module _ {K X : Type 0} (r : K → Bool) (p : K × X → Bool) (in_range : (e : K × X) → p e ≡ true → r e.0 ≡ true) where
+  -- to take out slots that are out of range leaves one that passes a test of those in range
+  any_between : (es : List (K × Option X)) → list_any p (live (filter (λ e. r e.0) es)) ≡ list_any p (live es)
+  unfolding live
+  any_between [] = refl
+  any_between (e ∷ es) =
+      elim (r e.0) as (λ b. r e.0 ≡ b → list_any p (live (cond b (e ∷ filter (λ e. r e.0) es) (filter (λ e. r e.0) es))) ≡ list_any p (held e.0 e.1 (live es))) [
+        | true ↦ λ is. elim e.1 as (λ o. list_any p (held e.0 o (live (filter (λ e. r e.0) es))) ≡ list_any p (held e.0 o (live es))) [
+          | None ↦ any_between es
+          | Some x ↦ ap (λ b. p (e.0, x) || b) (any_between es)
+        ]
+        | false ↦ λ is. elim e.1 as (λ o. list_any p (live (filter (λ e. r e.0) es)) ≡ list_any p (held e.0 o (live es))) [
+          | None ↦ any_between es
+          | Some x ↦ rw (fails_too (p (e.0, x)) (r e.0) (in_range (e.0, x)) is) (any_between es)
+        ]
+      ] refl
+
+-- what stands in the namespace lies in the range
+pub standing_between : (row : ResourceRow) (namespace : List ℕ) (es : List (Key × Option Object))
+    → list_any (λ e. is_of row namespace e.0) (live (entries_between key_cmp (Included (namespace_start row namespace)) (Excluded (namespace_end row namespace)) es))
+    ≡ list_any (λ e. is_of row namespace e.0) (live es)
+standing_between row namespace es =
+    any_between (range_contains key_cmp (Included (namespace_start row namespace)) (Excluded (namespace_end row namespace)))
+    (λ e. is_of row namespace e.0) (λ e. λ h. of_is_between row namespace e.0 h) es

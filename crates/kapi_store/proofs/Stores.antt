@@ -1,72 +1,112 @@
--- What holds of every store, from one change to the next.
-use Rattle.kapi_object.specs.declared.object.Object.{Object}
-use Rattle.kapi_store.specs.declared.key.Key.{Key}
-use Rattle.kapi_object.specs.declared.row.ResourceRow.{ResourceRow}
-use Rattle.std.proofs.Common.{◌≡◌, ℕ, suc, ◌+◌, ◌≤◌, List, [], ◌∷◌, ◌++◌, Option, IsSome, length, map, refl, sym, ap, ◌∙◌, subst, arith}
+-- What holds of every store, from one change to the next, and what it stands for.
+use Rattle.std.proofs.Common.{◌≡◌, ℕ, suc, ◌+◌, ◌-◌, ◌≤◌, ◌<◌, min, max, Ok, Err, List, [], ◌∷◌, ◌++◌, Option, None, IsSome, length, map, drop, refl, sym, ap, ◌∙◌, subst, arith, append_assoc}
+use Rattle.std.specs.Prelude.{nat_lt}
+use Rattle.std.specs.List.{filter}
 use Rattle.std.specs.List.Sorted.{IsStrictlySortedBy}
+use Rattle.std.proofs.lemmas.Bool.{lt-ltb, le-ltb}
 use Rattle.std.specs.Map.{keys_of, lookup}
-use Rattle.std.proofs.lemmas.List.{map-append, length-append}
+use Rattle.std.proofs.lemmas.List.{map-append, length-append, length-map, length-drop}
+use Rattle.kapi_object.specs.declared.object.Object.{Object}
+use Rattle.kapi_names.specs.declared.row.ResourceRow.{ResourceRow}
 use Rattle.kapi_store.specs.declared.change.Change.{Change}
+use Rattle.kapi_store.specs.declared.key.Key.{Key}
 use Rattle.kapi_store.specs.declared.store.TheConstants.{LAST_REVISION}
+use Rattle.kapi_store.specs.declared.window.TheConstants.{WINDOW}
 use Rattle.kapi_store.specs.Keys.{key_cmp, is_key}
-use Rattle.kapi_store.specs.Changes.{placed, placed_all, left_by, Follow, AreRemovals}
-use Rattle.kapi_store.specs.State.{State, objects, live, HasSlot, HasSlots, Same, Fits, IsStore}
-use Rattle.kapi_store.specs.Plain.{Plain, plain_of, plain_change, opened, written, trees}
+use Rattle.kapi_store.specs.Changes.{placed, placed_all, left_by, last_of, Follow, revision_of, AreRemovals}
+use Rattle.kapi_store.specs.State.{State, objects, live, IsSpare, HasSlot, Same, Fits, IsStore}
+use Rattle.kapi_store.specs.Plain.{Plain, PlainChange, StandsFor, plain_of, plain_change, changes_after, opened, written, trees, trees_left_by}
 use Rattle.kapi_store.proofs.Keys.{key_total}
-use Rattle.kapi_store.proofs.SlotSteps.{live_sorted}
-use Rattle.kapi_store.proofs.Changes.{placed_all_more, Follow_more, removals_slot}
+use Rattle.kapi_store.proofs.SlotSteps.{live_sorted, spare_bound}
+use Rattle.kapi_store.proofs.Writes.{placed_all_append, removals_slot}
 use Rattle.kapi_store.proofs.Trees.{placed_all_trees}
+use Rattle.kapi_store.proofs.Windows.{last_last, last_none, last_shorter, last_map, numbered_after, Follow_append, Follow_drop, Follow_map}
 
 -- the store without objects and changes
-pub new_store : (s : State) → s.slots ≡ [] → s.changes ≡ [] → s.revision ≡ s.first → s.first ≤ LAST_REVISION → IsStore s
-unfolding live placed_all Follow IsStrictlySortedBy
-new_store s slots changes revision last = record {
+pub new_store : (s : State) → s.slots ≡ [] → s.window ≡ [] → s.revision ≡ s.first → s.first ≤ LAST_REVISION → IsStore s
+unfolding live Follow IsStrictlySortedBy IsSpare
+new_store s slots window revision last = record {
   slots = rw slots tt;
   ordered = rw slots tt;
-  history = rw (slots, changes) refl;
-  numbered = rw changes tt;
-  counted = rw changes (omega arith);
+  spare = rw slots tt;
+  bounded = rw slots (omega arith);
+  numbered = rw window tt;
+  counted = rw window (omega arith);
+  begun = omega arith;
   limited = omega arith;
 }
 
 -- one change more
-pub next_store : (s t : State) (c : Change) → IsStore s → IsStrictlySortedBy key_cmp (keys_of t.slots) → objects t ≡ placed c.key c.new (objects s)
-    → t.changes ≡ s.changes ++ c ∷ [] → t.first ≡ s.first → t.revision ≡ c.revision → c.revision ≡ s.revision + 1 → c.revision ≤ LAST_REVISION → IsStore t
-next_store s t c h sorted objs changes first revision next last =
-    let counted : s.revision ≡ s.first + length s.changes = h.counted in
-    let len : length (s.changes ++ c ∷ []) ≡ length s.changes + 1 = length-append s.changes (c ∷ []) in
+pub next_store : (s t : State) (c : Change) → IsStore s → IsStrictlySortedBy key_cmp (keys_of t.slots) → IsSpare t.spare t.slots
+    → t.window ≡ last_of WINDOW (s.window ++ c ∷ []) → t.first ≡ s.first → t.revision ≡ c.revision → c.revision ≡ s.revision + 1 → c.revision ≤ LAST_REVISION → IsStore t
+unfolding Follow
+next_store s t c h sorted spare window first revision next last =
+    let counted : length s.window ≡ min WINDOW (s.revision - s.first) = h.counted in
+    let begun : s.first ≤ s.revision = h.begun in
+    let all : length (s.window ++ c ∷ []) ≡ length s.window + 1 = length-append s.window (c ∷ []) in
+    let over : ℕ = length (s.window ++ c ∷ []) - WINDOW in
+    let len : length (drop over (s.window ++ c ∷ [])) ≡ length (s.window ++ c ∷ []) - over = length-drop over (s.window ++ c ∷ []) in
+    let kept : length t.window ≡ length (s.window ++ c ∷ []) - over = ap length window ∙ len in
+    let before : ℕ = s.revision - length s.window in
+    let one : Follow revision_of (before + length s.window) (c ∷ []) = (omega arith, tt) in
+    let more : Follow revision_of before (s.window ++ c ∷ []) = Follow_append revision_of before s.window (c ∷ []) h.numbered one in
+    let rest : Follow revision_of (before + over) (drop over (s.window ++ c ∷ [])) = Follow_drop revision_of over before (s.window ++ c ∷ []) (omega arith) more in
+    let from : before + over ≡ t.revision - length t.window = omega arith in
+    let P : ℕ → Type 0 = λ n. Follow revision_of n (drop over (s.window ++ c ∷ [])) in
+    let Q : List Change → Type 0 = λ cs. Follow revision_of (t.revision - length t.window) cs in
     record {
       slots = sorted;
       ordered = live_sorted key_cmp key_total t.slots sorted;
-      history = objs ∙ ap (placed c.key c.new) h.history ∙ sym (ap (λ cs. placed_all (left_by cs) []) changes ∙ placed_all_more s.changes c []);
-      numbered = rw (changes, first) (Follow_more s.first s.changes c h.numbered (omega arith));
-      counted = rw (changes, len) (omega arith);
+      spare = spare;
+      bounded = spare_bound key_cmp key_total t.spare t.slots sorted spare;
+      numbered = subst Q (sym window) (subst P from rest);
+      counted = omega arith;
+      begun = omega arith;
+      limited = omega arith;
+    }
+
+-- other slots for the same objects
+pub moved_store : (s t : State) → IsStore s → IsStrictlySortedBy key_cmp (keys_of t.slots) → IsSpare t.spare t.slots
+    → t.window ≡ s.window → t.first ≡ s.first → t.revision ≡ s.revision → IsStore t
+moved_store s t h sorted spare window first revision =
+    let P : List Change → Type 0 = λ cs. Follow revision_of (s.revision - length cs) cs in
+    let counted : length s.window ≡ min WINDOW (s.revision - s.first) = h.counted in
+    let begun : s.first ≤ s.revision = h.begun in
+    let limited : s.revision ≤ LAST_REVISION = h.limited in
+    let len : length t.window ≡ length s.window = ap length window in
+    record {
+      slots = sorted;
+      ordered = live_sorted key_cmp key_total t.slots sorted;
+      spare = spare;
+      bounded = spare_bound key_cmp key_total t.spare t.slots sorted spare;
+      numbered = rw revision (subst P (sym window) h.numbered);
+      counted = omega arith;
+      begun = omega arith;
       limited = omega arith;
     }
 
 -- a prepared change
-pub fits_one : (s : State) (cs : List Change) (c : Change) → cs ≡ c ∷ [] → c.revision ≡ s.revision + 1 → c.revision ≤ LAST_REVISION → IsSome (lookup (is_key c.key) s.slots) → 1 ≤ s.room → Fits s cs
+pub fits_one : (s : State) (cs : List Change) (c : Change) → cs ≡ c ∷ [] → c.revision ≡ s.revision + 1 → c.revision ≤ LAST_REVISION
+    → (IsSome c.new → IsSome (lookup (is_key c.key) s.slots)) → Fits s cs
 unfolding Follow HasSlot
-fits_one s cs c is next last slot room = let P : List Change → Type 0 = λ cs. Fits s cs in subst P (sym is) record {
+fits_one s cs c is next last slot = let P : List Change → Type 0 = λ cs. Fits s cs in subst P (sym is) record {
   next = (next, tt);
   last = let k : s.revision + 1 ≤ LAST_REVISION = omega arith in k;
-  slot = λ _. slot;
-  room = room;
+  slot = slot;
 }
 
--- a prepared write can still be made where slots and room have only grown
-pub fits_still : (s t : State) → t.revision ≡ s.revision → HasSlots s.slots t.slots → s.room ≤ t.room → (cs : List Change) → Fits s cs → Fits t cs
-unfolding HasSlot
-fits_still s t revision slots room cs h = record {
-  next = rw revision h.next;
-  last = rw revision h.last;
-  slot = has_slot_still cs h.slot;
-  room = let k : length cs ≤ s.room = h.room in omega arith;
+-- a prepared write that changes nothing
+pub fits_none : (s : State) (cs : List Change) → IsStore s → cs ≡ [] → Fits s cs
+unfolding Follow HasSlot
+fits_none s cs h is = let P : List Change → Type 0 = λ cs. Fits s cs in subst P (sym is) record {
+  next = tt;
+  last = let k : s.revision ≤ LAST_REVISION = h.limited in omega arith;
+  slot = tt;
 }
-  where
-    has_slot_still : (cs : List Change) → HasSlot s.slots cs → HasSlot t.slots cs
-    has_slot_still [] k = tt
-    has_slot_still (c ∷ cs) k = λ some. slots c.key (k some)
+
+-- a prepared removal
+pub fits_removals : (s : State) (cs : List Change) → Follow revision_of s.revision cs → AreRemovals cs → s.revision + length cs ≤ LAST_REVISION → Fits s cs
+fits_removals s cs next removals last = record { next = next; last = last; slot = removals_slot s.slots cs removals }
 
 -- the first of several changes is the next one
 pub fits_first : (s : State) (c : Change) (cs : List Change) → Fits s (c ∷ cs) → Fits s (c ∷ [])
@@ -75,17 +115,15 @@ fits_first s c cs h = record {
   next = (h.next.0, tt);
   last = let k : s.revision + suc (length cs) ≤ LAST_REVISION = h.last in omega arith;
   slot = h.slot;
-  room = let k : suc (length cs) ≤ s.room = h.room in omega arith;
 }
 
 -- after it the others are the next ones
-pub fits_rest : (s t : State) (c : Change) (cs : List Change) → Fits s (c ∷ cs) → AreRemovals cs → t.revision ≡ s.revision + 1 → s.room ≤ t.room + 1 → Fits t cs
+pub fits_rest : (s t : State) (c : Change) (cs : List Change) → Fits s (c ∷ cs) → AreRemovals cs → t.revision ≡ s.revision + 1 → Fits t cs
 unfolding Follow
-fits_rest s t c cs h removals revision room = record {
+fits_rest s t c cs h removals revision = record {
   next = rw revision h.next.1;
   last = let k : s.revision + suc (length cs) ≤ LAST_REVISION = h.last in omega arith;
   slot = removals_slot t.slots cs removals;
-  room = let k : suc (length cs) ≤ s.room = h.room in omega arith;
 }
 
 -- a store as data, where nothing was changed
@@ -95,32 +133,90 @@ same_plain s t h = λ i. record {
   objects = ap trees h.objects i;
   first = h.first i;
   revision = h.revision i;
-  changes = ap (map plain_change) h.changes i;
 }
 
--- a store as data, at its start
-pub opened_plain : (table : List ResourceRow) (slots : List (Key × Option Object)) (first : ℕ) (changes : List Change) → slots ≡ [] → changes ≡ []
-    → ◌≡◌ {A = Plain} (record { table = table; objects = trees (live slots); first = first; revision = first; changes = map plain_change changes }) (opened table first)
-unfolding live
-opened_plain table slots first changes none nothing = λ i. record {
-  table = table;
-  objects = ap (λ es. trees (live es)) none i;
-  first = first;
-  revision = first;
-  changes = ap (map plain_change) nothing i;
+-- what it stands for, where nothing was changed
+pub same_stands : (s t : State) → Same s t → (history : List PlainChange) (p : Plain) → StandsFor s history p → StandsFor t history p
+same_stands s t h history p stands = record {
+  plain = same_plain s t h ∙ stands.plain;
+  window = ap (map plain_change) h.window ∙ stands.window;
+  made = stands.made;
+  numbered = stands.numbered;
+  counted = stands.counted;
+}
+
+-- a store at its start
+pub opened_stands : (s : State) (table : List ResourceRow) (first : ℕ) → s.table ≡ table → s.slots ≡ [] → s.first ≡ first → s.revision ≡ first → s.window ≡ [] → StandsFor s [] (opened table first)
+unfolding live placed_all Follow
+opened_stands s table first is none begun at nothing = record {
+  plain = λ i. record { table = is i; objects = ap (λ es. trees (live es)) none i; first = begun i; revision = at i };
+  window = ap (map plain_change) nothing;
+  made = refl;
+  numbered = tt;
+  counted = omega arith;
 }
 
 -- a store as data, after some changes
-pub written_plain : (s t : State) (cs : List Change) → objects t ≡ placed_all (left_by cs) (objects s) → t.revision ≡ s.revision + length cs → t.changes ≡ s.changes ++ cs
+pub written_plain : (s t : State) (cs : List Change) → objects t ≡ placed_all (left_by cs) (objects s) → t.revision ≡ s.revision + length cs
     → t.table ≡ s.table → t.first ≡ s.first → plain_of t ≡ written (map plain_change cs) (plain_of s)
-written_plain s t cs objs revision changes table first = λ i. record {
+written_plain s t cs objs revision table first = λ i. record {
   table = table i;
   objects = (ap trees objs ∙ placed_all_trees cs (objects s)) i;
   first = first i;
-  revision = (revision ∙ ap (λ n. s.revision + n) (sym (length_map cs))) i;
-  changes = (ap (map plain_change) changes ∙ map-append plain_change s.changes cs) i;
+  revision = (revision ∙ ap (λ n. s.revision + n) (sym (length-map cs plain_change))) i;
 }
-  where
-    length_map : (cs : List Change) → length (map plain_change cs) ≡ length cs
-    length_map [] = refl
-    length_map (c ∷ cs) = ap suc (length_map cs)
+
+-- what it stands for, after some changes
+pub written_stands : (s t : State) (cs : List Change) → objects t ≡ placed_all (left_by cs) (objects s) → t.revision ≡ s.revision + length cs
+    → last_of WINDOW t.window ≡ last_of WINDOW (s.window ++ cs) → (length s.window ≤ WINDOW → length t.window ≤ WINDOW) → t.table ≡ s.table → t.first ≡ s.first → Follow revision_of s.revision cs
+    → (history : List PlainChange) (p : Plain) → StandsFor s history p → StandsFor t (history ++ map plain_change cs) (written (map plain_change cs) p)
+written_stands s t cs objs revision last kept table first next history p stands =
+    let few : length (map plain_change s.window) ≡ length (last_of WINDOW history) = ap length stands.window in
+    let len : length (map plain_change s.window) ≡ length s.window = length-map s.window plain_change in
+    let most : length (last_of WINDOW history) ≡ length history - (length history - WINDOW) = length-drop (length history - WINDOW) history in
+    let within : length t.window ≤ WINDOW = kept (omega arith) in
+    let window : t.window ≡ last_of WINDOW (s.window ++ cs) = sym (last_none WINDOW t.window within) ∙ last in
+    let made : List PlainChange = map plain_change cs in
+    let at : s.revision ≡ p.first + length history = ap (λ p. p.revision) stands.plain ∙ stands.counted in
+    let P : ℕ → Type 0 = λ n. Follow (λ c. c.revision) n made in
+    let all : length (history ++ made) ≡ length history + length made = length-append history made in
+    let counted : p.revision ≡ p.first + length history = stands.counted in
+    record {
+      plain = written_plain s t cs objs revision table first ∙ ap (written made) stands.plain;
+      window = ap (map plain_change) window ∙ last_map plain_change WINDOW (s.window ++ cs) ∙ ap (last_of WINDOW) (map-append plain_change s.window cs)
+          ∙ ap (λ h. last_of WINDOW (h ++ made)) stands.window ∙ last_last WINDOW history made;
+      made = ap (placed_all (trees_left_by made)) stands.made
+          ∙ sym (ap (λ ws. placed_all ws []) (map-append (λ c. (c.key, c.new)) history made) ∙ placed_all_append (trees_left_by history) (trees_left_by made) []);
+      numbered = Follow_append (λ c. c.revision) p.first history made stands.numbered (subst P at (Follow_map plain_change (λ c. c.revision) s.revision cs next));
+      counted = omega arith;
+    }
+
+-- of the changes that are kept, those after a revision
+pub window_after : (s : State) (limit count : ℕ) → IsStore s → s.first ≤ limit → count ≡ s.revision - limit → count ≤ WINDOW
+    → last_of count s.window ≡ filter (λ c. nat_lt limit c.revision) s.window
+window_after s limit count h first is few =
+    let counted : length s.window ≡ min WINDOW (s.revision - s.first) = h.counted in
+    let begun : s.first ≤ s.revision = h.begun in
+    numbered_after revision_of limit count (s.revision - length s.window) s.window h.numbered (omega arith) (omega arith)
+
+-- of all changes ever, those after a revision
+pub history_after : (s : State) (limit count : ℕ) (history : List PlainChange) (p : Plain) → StandsFor s history p → s.first ≤ limit → count ≡ s.revision - limit → count ≤ WINDOW
+    → changes_after history p limit ≡ Ok (map plain_change (last_of count s.window))
+unfolding changes_after
+history_after s limit count history p stands first is few =
+    let from : s.first ≡ p.first = ap (λ p. p.first) stands.plain in
+    let at : s.revision ≡ p.revision = ap (λ p. p.revision) stands.plain in
+    let counted : p.revision ≡ p.first + length history = stands.counted in
+    let kept : map plain_change (last_of count s.window) ≡ last_of count history
+    = last_map plain_change count s.window ∙ ap (last_of count) stands.window ∙ last_shorter count WINDOW history few in
+    let all : last_of count history ≡ filter (λ c. nat_lt limit c.revision) history
+    = numbered_after (λ c. c.revision) limit count p.first history stands.numbered (omega arith) (omega arith) in
+    rw (le-ltb limit (max (p.revision - WINDOW) p.first) (omega arith)) (ap Ok (sym (kept ∙ all)))
+
+-- some of them may be kept no longer
+pub history_gone : (s : State) (limit : ℕ) (history : List PlainChange) (p : Plain) → StandsFor s history p → limit < max (s.revision - WINDOW) s.first → changes_after history p limit ≡ Err tt
+unfolding changes_after
+history_gone s limit history p stands below =
+    let from : s.first ≡ p.first = ap (λ p. p.first) stands.plain in
+    let at : s.revision ≡ p.revision = ap (λ p. p.revision) stands.plain in
+    rw (lt-ltb limit (max (p.revision - WINDOW) p.first) (omega arith)) refl

@@ -1,5 +1,5 @@
--- What changes make of a map of objects.
-use Rattle.std.specs.Prelude.{◌≡◌, ℕ, ◌+◌, List, [], ◌∷◌, Option, None, Some, map}
+-- What changes make of a map of objects, and how a list of changes is numbered.
+use Rattle.std.specs.Prelude.{◌≡◌, ℕ, ◌+◌, ◌-◌, List, [], ◌∷◌, Option, None, Some, map, length, drop}
 use Rattle.std.specs.Map.{remove_entry}
 use Rattle.std.specs.BTreeMap.{insert_entry}
 use Rattle.kapi_object.specs.declared.object.Object.{Object}
@@ -18,19 +18,32 @@ module _ {X : Type 0} where
   placed_all [] os = os
   placed_all (w ∷ ws) os = placed_all ws (placed w.0 w.1 os)
 
+  -- the last so many of a list
+  abbrev pub last_of : ℕ → List X → List X
+  last_of count xs = drop (length xs - count) xs
+
+  -- the numbers of the items are those after this one, without a gap
+  unfoldable pub Follow : (X → ℕ) → ℕ → List X → Type 0
+  Follow number before [] = Unit {0}
+  Follow number before (x ∷ xs) = (number x ≡ before + 1) × Follow number (before + 1) xs
+
+-- the revision of a change
+abbrev pub revision_of : Change → ℕ
+revision_of c = c.revision
+
 -- what each change leaves at its key
 abbrev pub left_by : List Change → List (Key × Option Object)
 left_by cs = map (λ c. (c.key, c.new)) cs
-
--- the revisions of the changes are those after this one, without a gap
-unfoldable pub Follow : ℕ → List Change → Type 0
-Follow revision [] = Unit {0}
-Follow revision (c ∷ cs) = (c.revision ≡ revision + 1) × Follow (revision + 1) cs
 
 -- no change leaves an object
 unfoldable pub AreRemovals : List Change → Type 0
 AreRemovals [] = Unit {0}
 AreRemovals (c ∷ cs) = (c.new ≡ None) × AreRemovals cs
+
+-- one step: a change, and after it only removals; or nothing
+abbrev pub IsStep : List Change → Type 0
+IsStep [] = Unit {0}
+IsStep (c ∷ cs) = AreRemovals cs
 
 -- a write is one change that leaves this object or none, and then removals; or nothing
 unfoldable pub IsWrite : Option Object → List Change → Type 0

@@ -1,8 +1,11 @@
 pub mod Keys
 pub mod Stamps
+pub mod Same
 pub mod Changes
 pub mod State
 pub mod View
+pub mod Lent
+pub mod Faults
 pub mod Plain
 pub mod Listing
 pub mod Span

@@ -4,11 +4,11 @@ use Rattle.std.specs.List.{filter}
 use Rattle.std.specs.Str.{bytes_eq}
 use Rattle.serde_json.specs.Data.{Data}
 use Rattle.kapi_object.specs.Object.{tree_of}
-use Rattle.kapi_object.specs.Selector.{matches}
+use Rattle.kapi_names.specs.Selector.{matches}
 use Rattle.kapi_object.specs.Tree.{in_metadata}
 use Rattle.kapi_object.specs.declared.object.Object.{Object}
-use Rattle.kapi_object.specs.declared.row.ResourceRow.{ResourceRow}
-use Rattle.kapi_object.specs.declared.selector.Selector.{Selector}
+use Rattle.kapi_names.specs.declared.row.ResourceRow.{ResourceRow}
+use Rattle.kapi_names.specs.declared.selector.Selector.{Selector}
 use Rattle.kapi_store.specs.declared.key.Key.{Key}
 use Rattle.kapi_store.specs.declared.listing.Listed.{Listed}
 

@@ -1,24 +1,25 @@
 -- What contracts see of a store.
-use Rattle.std.specs.Prelude.{◌≡◌, ℕ, ◌+◌, ◌≤◌, List, [], ◌∷◌, Option, None, Some, IsSome, length}
+use Rattle.std.specs.Prelude.{◌≡◌, ℕ, ◌+◌, ◌-◌, ◌≤◌, min, List, [], ◌∷◌, Option, None, Some, IsSome, length}
 use Rattle.std.specs.List.Sorted.{IsStrictlySortedBy}
 use Rattle.std.specs.Map.{lookup, keys_of}
 use Rattle.kapi_object.specs.declared.object.Object.{Object}
-use Rattle.kapi_object.specs.declared.row.ResourceRow.{ResourceRow}
+use Rattle.kapi_names.specs.declared.row.ResourceRow.{ResourceRow}
 use Rattle.kapi_store.specs.declared.key.Key.{Key}
 use Rattle.kapi_store.specs.declared.change.Change.{Change}
 use Rattle.kapi_store.specs.declared.store.TheConstants.{LAST_REVISION}
+use Rattle.kapi_store.specs.declared.window.TheConstants.{WINDOW}
 use Rattle.kapi_store.specs.Keys.{key_cmp, is_key}
-use Rattle.kapi_store.specs.Changes.{placed_all, left_by, Follow}
+use Rattle.kapi_store.specs.Changes.{revision_of, Follow}
 
--- the table, the slots (a key with an object, or one kept for an object to come), the first and the current revision,
--- all changes so far, and how many more changes there is room for
+-- the table, the slots (a key with an object, or one kept for an object to come), the key of the slot that may be empty,
+-- the first and the current revision, and the last changes, the oldest first
 pub record State : Type 0 where
   pub table : List ResourceRow
   pub slots : List (Key × Option Object)
+  pub spare : Option Key
   pub first : ℕ
   pub revision : ℕ
-  pub changes : List Change
-  pub room : ℕ
+  pub window : List Change
 
 module _ {K X : Type 0} where
   -- an entry in front, where its slot is not empty
@@ -31,15 +32,20 @@ module _ {K X : Type 0} where
   live [] = []
   live (e ∷ es) = held e.0 e.1 (live es)
 
+  -- no slot is empty but that of the spare key
+  unfoldable pub IsSpare : Option K → List (K × Option X) → Type 0
+  IsSpare spare [] = Unit {0}
+  IsSpare spare (e ∷ es) = (e.1 ≡ None → spare ≡ Some e.0) × IsSpare spare es
+
 -- the objects, in the order of their keys
 abbrev pub objects : State → List (Key × Object)
 objects s = live s.slots
 
--- nothing that a caller sees was changed; slots and room may have grown
+-- nothing that a caller sees was changed; the empty slot may be another
 pub record Same (s t : State) : Type 0 where
   pub objects : objects t ≡ objects s
   pub revision : t.revision ≡ s.revision
-  pub changes : t.changes ≡ s.changes
+  pub window : t.window ≡ s.window
   pub table : t.table ≡ s.table
   pub first : t.first ≡ s.first
 
@@ -48,22 +54,20 @@ unfoldable pub HasSlot : List (Key × Option Object) → List Change → Type 0
 HasSlot slots [] = Unit {0}
 HasSlot slots (c ∷ cs) = IsSome c.new → IsSome (lookup (is_key c.key) slots)
 
--- each key with a slot has one later too
-abbrev pub HasSlots : List (Key × Option Object) → List (Key × Option Object) → Type 0
-HasSlots before later = (k : Key) → IsSome (lookup (is_key k) before) → IsSome (lookup (is_key k) later)
-
 -- the store is as it was when the changes were prepared
 pub record Fits (s : State) (cs : List Change) : Type 0 where
-  pub next : Follow s.revision cs
+  pub next : Follow revision_of s.revision cs
   pub last : s.revision + length cs ≤ LAST_REVISION
   pub slot : HasSlot s.slots cs
-  pub room : length cs ≤ s.room
 
--- what holds of every store: its keys are in order, each once; the map is what all changes make of the empty one
+-- what holds of every store: its keys are in order, each once, at most one slot is empty, and the changes that are kept
+-- are the last ones, numbered without a gap up to the current revision
 pub record IsStore (s : State) : Type 0 where
   pub slots : IsStrictlySortedBy key_cmp (keys_of s.slots)
   pub ordered : IsStrictlySortedBy key_cmp (keys_of (objects s))
-  pub history : objects s ≡ placed_all (left_by s.changes) []
-  pub numbered : Follow s.first s.changes
-  pub counted : s.revision ≡ s.first + length s.changes
+  pub spare : IsSpare s.spare s.slots
+  pub bounded : length s.slots ≤ length (objects s) + 1
+  pub numbered : Follow revision_of (s.revision - length s.window) s.window
+  pub counted : length s.window ≡ min WINDOW (s.revision - s.first)
+  pub begun : s.first ≤ s.revision
   pub limited : s.revision ≤ LAST_REVISION

@@ -1,16 +1,26 @@
+use kapi_text::Text;
 use std::alloc::AllocError;
 use thiserror::Error;
 
 /// Why a write was refused. The store is as before.
-#[derive(Clone, Copy, Debug, PartialEq, Eq, Drop, Error)]
+#[derive(Debug, PartialEq, Eq, Drop, Error)]
 pub enum StoreError {
     /// An object is at the place already.
     #[error("the object exists already")]
     Exists,
+    /// No object is at the place.
+    #[error("the object does not exist")]
+    Missing,
+    /// The write is for another version than the one that stands, which is this.
+    #[error("the object is at another version")]
+    Conflict(Text),
     /// The place is in a namespace that does not exist.
     #[error("the namespace does not exist")]
     NoNamespace,
-    /// The counter stands at the largest revision.
+    /// Objects stand in the namespace that would be removed.
+    #[error("the namespace still holds objects")]
+    NamespaceNotEmpty,
+    /// The counter stands at the largest revision, or too close to it.
     #[error("no revision is left")]
     RevisionsUsedUp,
     /// A growth was refused.
@@ -28,3 +38,8 @@ impl From<AllocError> for StoreError {
         StoreError::Memory
     }
 }
+
+/// The changes after a revision are no longer all there.
+#[derive(Clone, Copy, Debug, PartialEq, Eq, Drop, Error)]
+#[error("the revision is older than the changes that are kept")]
+pub struct TooOld;

@@ -1,4 +1,5 @@
-ghost use Rattle.std.specs.Prelude.{◌≡◌, IfOk, codes};
+ghost use Rattle.std.specs.Prelude.{◌≡◌, [], ◌∷◌, ◌++◌, IfOk, codes};
+ghost use Rattle.std.specs.List.{IsDistinct};
 
 use kapi_text::{Memory, Text, TryCopy};
 use std::alloc::{AllocError, Global};
@@ -27,7 +28,7 @@ impl TryCopy for Key {
 }
 
 impl Key {
-    ghost use Rattle.kapi_store.specs.Keys.{namespace_key};
+    ghost use Rattle.kapi_store.specs.Keys.{is_key, namespace_key};
 
     /// The place of the Namespace object of this name.
     pub(crate) fn of_namespace(alloc: Global, name: &Text) -> Result<Key, Memory>
@@ -39,5 +40,15 @@ impl Key {
             namespace: Text::copy_of(alloc, "")?,
             name: name.copy(alloc)?,
         })
+    }
+
+    /// The list of this key alone, as for a removal.
+    pub fn alone(self, alloc: Global) -> Result<Vec<Key>, Memory>
+        ensures items { IfOk result (λ v. v.items ≡ self ∷ []) }
+        ensures distinct { IfOk result (λ v. IsDistinct is_key v.items) }
+    {
+        let mut keys = Vec::with_capacity(alloc, 1)?;
+        keys.push(self)?;
+        Ok(keys)
     }
 }

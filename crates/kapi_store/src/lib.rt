@@ -1,23 +1,25 @@
-//! The objects of a server as one finite map, with one revision counter and the list of all changes.
+//! The objects of a server as one finite map, with one revision counter and a window of the last changes.
 #![tactic(auto)]
 
 pub mod change;
 pub mod error;
 pub mod key;
 pub mod listing;
+mod namespaces;
 pub mod ready;
 mod rows;
+mod same;
 mod slots;
 mod stamps;
 pub mod store;
-#[cfg(test)]
-mod tests;
+pub mod window;
 mod worked;
 
 pub use change::{Change, Shared};
-pub use error::StoreError;
+pub use error::{StoreError, TooOld};
 pub use key::Key;
 pub use listing::Listed;
 pub use ready::Ready;
 pub use store::{LAST_REVISION, Store};
+pub use window::{Changes, WINDOW};
 pub use worked::worked_rows;

@@ -8,7 +8,7 @@ ghost use Rattle.kapi_store.specs.Span.{after as after_text, first_key as first_
 
 use crate::change::Shared;
 use crate::key::Key;
-use kapi_object::{ResourceRow, Selector};
+use kapi_names::{ResourceRow, Selector};
 use kapi_text::{Memory, Text};
 use std::alloc::Global;
 use std::collections::BTreeMap;
@@ -39,7 +39,7 @@ fn is_asked(asked: &str, text: &Text) -> bool
 }
 
 /// The first text after this one.
-fn after(alloc: Global, text: &str) -> Result<Text, Memory>
+pub(crate) fn after(alloc: Global, text: &str) -> Result<Text, Memory>
     ensures { IfOk result (λ t. t ≡ after_text text.now) }
 {
     let mut after = String::from_str(alloc, text)?;

@@ -1,11 +1,14 @@
 use crate::change::{Change, Shared};
+use crate::key::Key;
+use crate::slots::share_at;
 use kapi_text::Memory;
 use std::alloc::Global;
+use std::collections::BTreeMap;
 use std::marker::Model;
 
 /// A write that is prepared: the changes that `Store::commit` will make, with all their memory.
 ///
-/// One that is dropped changes nothing that is seen; the slot that it made stays for the next creation at its key.
+/// One that is dropped changes nothing that is seen; the slot that it made is taken out by the next creation.
 #[derive(Debug, Drop)]
 pub struct Ready {
     list: Vec<Change>,
@@ -30,14 +33,33 @@ impl Model for Ready {
 }
 
 impl Ready {
-    ghost use Rattle.std.specs.Prelude.{◌≡◌, IfOk, List, [], ◌∷◌};
-    ghost use Rattle.kapi_store.specs.Changes.{IsWrite};
+    ghost use Rattle.std.specs.Prelude.{◌≡◌, ◌+◌, ◌≤◌, IfOk, List, [], ◌∷◌, map, length};
+    ghost use Rattle.std.specs.List.Sorted.{IsStrictlySortedBy};
+    ghost use Rattle.std.specs.Map.{keys_of};
+    ghost use Rattle.kapi_store.specs.declared.store.TheConstants.{LAST_REVISION};
+    ghost use Rattle.kapi_store.specs.Keys.{key_cmp};
+    ghost use Rattle.kapi_store.specs.Changes.{IsStep, IsWrite, AreRemovals, Follow, revision_of};
+    ghost use Rattle.kapi_store.specs.State.{live};
+    ghost use Rattle.kapi_store.specs.Plain.{plain_change, trees, removals as removals_of};
 
-    /// The changes that `Store::commit` will make, in order.
+    /// The changes that `Store::commit` will make, in order: none, or one and then removals alone.
+    #[tactic(auto, unfolding(crate::specs::Changes::IsWrite))]
     pub fn changes(&self) -> &[Change]
-        ensures { result.now ≡ self.now }
+        ensures list { result.now ≡ self.now }
+        ensures step { IsStep self.now }
     {
         self.list.as_slice()
+    }
+
+    /// The write that changes nothing. Takes no memory.
+    #[tactic(auto, unfolding(crate::specs::Changes::IsWrite))]
+    pub(crate) fn nothing(alloc: Global) -> Ready
+        ensures { result ≡ [] }
+    {
+        Ready {
+            list: Vec::new(alloc),
+            kept: None,
+        }
     }
 
     /// The write of one change, with one more owner of its new object.
@@ -52,6 +74,35 @@ impl Ready {
         let mut list = Vec::with_capacity(alloc, 1)?;
         list.push(change)?;
         Ok(Ready { list, kept })
+    }
+
+    /// The write that removes the objects at the keys, by the revisions after this one.
+    pub(crate) fn removals(
+        alloc: Global,
+        slots: &BTreeMap<Key, Option<Shared>>,
+        before: u64,
+        keys: Vec<Key>,
+    ) -> Result<Ready, Memory>
+        requires ordered { IsStrictlySortedBy key_cmp (keys_of slots.now.entries) }
+        requires left { before + length keys.items ≤ LAST_REVISION }
+        ensures changes { IfOk result (λ r. map plain_change r ≡ removals_of (trees (live slots.now.entries)) before keys.items) }
+        ensures count { IfOk result (λ r. length r ≡ length keys.items) }
+        ensures removals { IfOk result AreRemovals }
+        ensures numbered { IfOk result (Follow revision_of before) }
+    {
+        let mut list = Vec::with_capacity(alloc, keys.len())?;
+        let mut revision = before;
+        for key in keys {
+            revision += 1;
+            let old = share_at(slots, &key)?;
+            list.push(Change {
+                revision,
+                key,
+                old,
+                new: None,
+            })?;
+        }
+        Ok(Ready { list, kept: None })
     }
 
     /// The changes, and the map's owner of the first one's new object.

@@ -4,7 +4,7 @@ ghost use Rattle.std.specs.Prelude.{◌≡◌};
 ghost use Rattle.kapi_store.specs.Plain.{is_namespaced as is_namespaced_by};
 
 use crate::key::Key;
-use kapi_object::ResourceRow;
+use kapi_names::ResourceRow;
 
 /// Whether a row of the key's group and resource is namespaced.
 pub fn is_namespaced(table: &[ResourceRow], key: &Key) -> bool

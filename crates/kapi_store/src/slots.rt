@@ -1,43 +1,41 @@
 //! The map's slots: a key with an object, or a key whose place is kept for an object to come.
 
-ghost use Rattle.std.specs.Prelude.{◌≡◌, IsSome, OnOk, option_copied};
+ghost use Rattle.std.specs.Prelude.{◌≡◌, None, IsSome, OnOk, IfOk, option_copied, OnErr, Option, Some};
 ghost use Rattle.std.specs.List.Sorted.{IsStrictlySortedBy};
 ghost use Rattle.std.specs.Map.{lookup, keys_of, remove_entry};
 ghost use Rattle.std.specs.BTreeMap.{insert_entry};
 ghost use Rattle.kapi_store.specs.Keys.{key_cmp, is_key};
 ghost use Rattle.kapi_store.specs.Changes.{placed};
-ghost use Rattle.kapi_store.specs.State.{live, HasSlots};
+ghost use Rattle.kapi_store.specs.State.{live, IsSpare};
+ghost use Rattle.kapi_store.specs.declared.key.Key.{Key};
 
 use crate::change::Shared;
 use crate::key::Key;
-use kapi_object::Object;
-use kapi_text::Memory;
+use kapi_text::{Memory, TryCopy};
+use std::alloc::Global;
 use std::collections::BTreeMap;
 
 /// The object at the key, if any.
-pub fn find<'a>(slots: &'a BTreeMap<Key, Option<Shared>>, key: &Key) -> Option<&'a Object>
+pub fn find<'a>(slots: &'a BTreeMap<Key, Option<Shared>>, key: &Key) -> Option<&'a Shared>
     requires { IsStrictlySortedBy key_cmp (keys_of slots.now.entries) }
     ensures { option_copied result ≡ lookup (is_key key.now) (live slots.now.entries) }
 {
     match slots.get(key) {
-        Some(Some(object)) => Some(object.get()),
+        Some(Some(object)) => Some(object),
         Some(None) => None,
         None => None,
     }
 }
 
-/// Makes a place for an object at the key, where none is yet. The objects stay as they are.
-pub fn make_slot(slots: &mut BTreeMap<Key, Option<Shared>>, key: Key) -> Result<(), Memory>
-    requires { IsStrictlySortedBy key_cmp (keys_of slots.old.entries) }
-    ensures objects { live slots.new.entries ≡ live slots.old.entries }
-    ensures slot { OnOk result (IsSome (lookup (is_key key) slots.new.entries)) }
-    ensures others { HasSlots slots.old.entries slots.new.entries }
-    ensures ordered { IsStrictlySortedBy key_cmp (keys_of slots.new.entries) }
+/// One more owner of the object at the key, if any.
+pub fn share_at(slots: &BTreeMap<Key, Option<Shared>>, key: &Key) -> Result<Option<Shared>, Memory>
+    requires { IsStrictlySortedBy key_cmp (keys_of slots.now.entries) }
+    ensures { IfOk result (λ o. o ≡ lookup (is_key key.now) (live slots.now.entries)) }
 {
-    if !slots.contains_key(&key) {
-        drop(slots.insert(key, None)?);
+    match find(slots, key) {
+        Some(object) => Ok(Some(object.share()?)),
+        None => Ok(None),
     }
-    Ok(())
 }
 
 /// Puts the object into its slot.
@@ -46,6 +44,7 @@ fn fill_slot(slots: &mut BTreeMap<Key, Option<Shared>>, key: &Key, object: Share
     requires slot { IsSome (lookup (is_key key.now) slots.old.entries) }
     ensures objects { live slots.new.entries ≡ insert_entry key_cmp (live slots.old.entries) key.now object }
     ensures ordered { IsStrictlySortedBy key_cmp (keys_of slots.new.entries) }
+    ensures spare { (spare : Option Key) → IsSpare spare slots.old.entries → IsSpare spare slots.new.entries }
 {
     let slot = slots.get_mut(key).unwrap();
     *slot = Some(object);
@@ -56,6 +55,8 @@ fn drop_slot(slots: &mut BTreeMap<Key, Option<Shared>>, key: &Key)
     requires { IsStrictlySortedBy key_cmp (keys_of slots.old.entries) }
     ensures objects { live slots.new.entries ≡ remove_entry (is_key key.now) (live slots.old.entries) }
     ensures ordered { IsStrictlySortedBy key_cmp (keys_of slots.new.entries) }
+    ensures spare { (spare : Option Key) → IsSpare spare slots.old.entries → IsSpare spare slots.new.entries }
+    ensures taken { IsSpare (Some key.now) slots.old.entries → IsSpare None slots.new.entries }
 {
     drop(slots.remove(key));
 }
@@ -67,9 +68,74 @@ pub fn place(slots: &mut BTreeMap<Key, Option<Shared>>, key: &Key, object: Optio
     requires slot { IsSome object → IsSome (lookup (is_key key.now) slots.old.entries) }
     ensures objects { live slots.new.entries ≡ placed key.now object (live slots.old.entries) }
     ensures ordered { IsStrictlySortedBy key_cmp (keys_of slots.new.entries) }
+    ensures spare { (spare : Option Key) → IsSpare spare slots.old.entries → IsSpare spare slots.new.entries }
 {
     match object {
         Some(object) => fill_slot(slots, key, object),
         None => drop_slot(slots, key),
     }
+}
+
+/// Takes the slot of the key out if it is empty.
+fn sweep_slot(slots: &mut BTreeMap<Key, Option<Shared>>, key: &Key)
+    requires ordered { IsStrictlySortedBy key_cmp (keys_of slots.old.entries) }
+    requires spare { IsSpare (Some key.now) slots.old.entries }
+    ensures objects { live slots.new.entries ≡ live slots.old.entries }
+    ensures ordered { IsStrictlySortedBy key_cmp (keys_of slots.new.entries) }
+    ensures spare { IsSpare None slots.new.entries }
+{
+    if find(slots, key).is_none() {
+        drop_slot(slots, key);
+    }
+}
+
+/// Takes the empty slot out, if there is one.
+fn sweep(slots: &mut BTreeMap<Key, Option<Shared>>, spare: Option<Key>)
+    requires ordered { IsStrictlySortedBy key_cmp (keys_of slots.old.entries) }
+    requires spare { IsSpare spare slots.old.entries }
+    ensures objects { live slots.new.entries ≡ live slots.old.entries }
+    ensures ordered { IsStrictlySortedBy key_cmp (keys_of slots.new.entries) }
+    ensures spare { IsSpare None slots.new.entries }
+{
+    if let Some(key) = spare {
+        sweep_slot(slots, &key);
+    }
+}
+
+/// Makes an empty slot at the key, where no other slot is empty.
+fn make_slot(slots: &mut BTreeMap<Key, Option<Shared>>, key: Key) -> Result<(), Memory>
+    requires ordered { IsStrictlySortedBy key_cmp (keys_of slots.old.entries) }
+    requires spare { IsSpare None slots.old.entries }
+    ensures objects { live slots.new.entries ≡ live slots.old.entries }
+    ensures ordered { IsStrictlySortedBy key_cmp (keys_of slots.new.entries) }
+    ensures slot { OnOk result (IsSome (lookup (is_key key) slots.new.entries)) }
+    ensures spare { OnOk result (IsSpare (Some key) slots.new.entries) }
+    ensures refused { OnErr result (IsSpare None slots.new.entries) }
+{
+    if !slots.contains_key(&key) {
+        drop(slots.insert(key, None)?);
+    }
+    Ok(())
+}
+
+/// Makes a slot for an object at the key, in the place of the one that an earlier write left empty. The objects stay
+/// as they are.
+pub fn keep_place(
+    alloc: Global,
+    slots: &mut BTreeMap<Key, Option<Shared>>,
+    spare: &mut Option<Key>,
+    key: Key,
+) -> Result<(), Memory>
+    requires ordered { IsStrictlySortedBy key_cmp (keys_of slots.old.entries) }
+    requires spare { IsSpare spare.old slots.old.entries }
+    ensures objects { live slots.new.entries ≡ live slots.old.entries }
+    ensures ordered { IsStrictlySortedBy key_cmp (keys_of slots.new.entries) }
+    ensures slot { OnOk result (IsSome (lookup (is_key key) slots.new.entries)) }
+    ensures spare { IsSpare spare.new slots.new.entries }
+{
+    let kept = key.copy(alloc)?;
+    sweep(slots, spare.take());
+    make_slot(slots, key)?;
+    *spare = Some(kept);
+    Ok(())
 }

@@ -1,13 +1,16 @@
 use crate::change::{Change, Shared};
-use crate::error::StoreError;
+use crate::error::{StoreError, TooOld};
 use crate::key::Key;
 use crate::listing::{Listed, Selection};
+use crate::namespaces::{any_stands_in, is_namespace};
 use crate::ready::Ready;
 use crate::rows::is_namespaced;
-use crate::slots::{find, make_slot, place};
-use crate::stamps::created;
-use kapi_object::{Object, ResourceRow, Selector};
-use kapi_text::{Memory, Sequence, TryCopy};
+use crate::slots::{find, keep_place, place};
+use crate::stamps::{admitted, at_revision, created, is_unchanged, with_stamps_of};
+use crate::window::{Changes, WINDOW, Window};
+use kapi_names::{ResourceRow, Selector};
+use kapi_object::{GivenText, Object};
+use kapi_text::{Memory, Sequence, Text, TryCopy};
 use std::alloc::Global;
 use std::collections::BTreeMap;
 use std::marker::Model;
@@ -15,15 +18,17 @@ use std::marker::Model;
 /// The largest revision, 2^48 - 1.
 pub const LAST_REVISION: u64 = 281_474_976_710_655;
 
-/// The objects by their keys, one revision counter over all writes, and all changes so far.
+/// The objects by their keys, one revision counter over all writes, and the last changes.
 #[derive(Debug, Drop)]
 pub struct Store {
     alloc: Global,
     table: Sequence<ResourceRow>,
     slots: BTreeMap<Key, Option<Shared>>,
+    /// The key of the only slot that may be empty.
+    spare: Option<Key>,
     first: u64,
     revision: u64,
-    changes: Vec<Change>,
+    window: Window,
 }
 
 impl Model for Store {
@@ -44,34 +49,43 @@ impl Model for Store {
 }
 
 impl Store {
-    ghost use Rattle.std.specs.Prelude.{◌≡◌, ◌+◌, ◌≤◌, List, [], ◌∷◌, ◌++◌, map, length, IfOk, option_copied, option_map};
-    ghost use Rattle.std.specs.Map.{lookup};
+    ghost use Rattle.std.specs.Prelude.{◌≡◌, ◌+◌, ◌-◌, ◌≤◌, ◌<◌, max, nat_lt, ◌↔◌, List, [], ◌∷◌, ◌++◌, map, length, Some, IfOk, OnOk, IsErr, IsSome, option_copied, option_map};
+    ghost use Rattle.std.specs.List.{filter, list_all, list_any, IsDistinct};
+    ghost use Rattle.std.specs.Map.{lookup, keys_of};
+    ghost use Rattle.serde_json.specs.Data.{Data};
+    ghost use Rattle.kapi_text.specs.Gives.{Gives};
+    ghost use Rattle.kapi_object.specs.Given.{given_of};
     ghost use Rattle.kapi_object.specs.Object.{tree_of};
     ghost use Rattle.kapi_store.specs.Keys.{is_key};
-    ghost use Rattle.kapi_store.specs.declared.change.Change.{Change};
-    ghost use Rattle.kapi_store.specs.Changes.{placed, placed_all, left_by};
+    ghost use Rattle.kapi_store.specs.Changes.{placed, placed_all, left_by, last_of};
     ghost use Rattle.kapi_store.specs.State.{objects as objects_of, Same, Fits, IsStore};
-    ghost use Rattle.kapi_store.specs.Plain.{plain_of, plain_change, has_object as has_object_at, has_namespace as has_namespace_of, revision_for, creation, opened, written, trees, Gives};
+    ghost use Rattle.kapi_store.specs.Lent.{changes_of};
+    ghost use Rattle.kapi_store.specs.Faults.{fault_of};
+    ghost use Rattle.kapi_store.specs.Stamps.{with_stamps_of as with_stamps};
+    ghost use Rattle.kapi_store.specs.Plain.{Plain, PlainChange, StandsFor, plain_of, plain_change, has_object as has_object_at, has_namespace as has_namespace_of, free_place, revisions_left, creation, creation_in_place, replacement, removal, opened, written, trees};
+    ghost use Rattle.kapi_store.specs.Plain.{changes_after as changes_after_in, replaceable as replaceable_at, holds_objects as holds_objects_in, is_full_namespace, removable, replaced};
     ghost use Rattle.kapi_store.specs.Listing.{listed_objects, listed_trees, shown};
 
-    /// A store with no object and no change, whose counter starts at `first`.
-    pub fn new(alloc: Global, table: Sequence<ResourceRow>, first: u64) -> Store
+    /// A store with no object and no change, whose counter starts at `first`; it has the memory for all changes that
+    /// it will keep.
+    pub fn new(alloc: Global, table: Sequence<ResourceRow>, first: u64) -> Result<Store, Memory>
         requires { first ≤ LAST_REVISION }
-        ensures table { result.table ≡ table }
-        ensures objects { objects_of result ≡ [] }
-        ensures first { result.first ≡ first }
-        ensures revision { result.revision ≡ first }
-        ensures changes { result.changes ≡ [] }
-        ensures plain { plain_of result ≡ opened table first }
+        ensures table { IfOk result (λ s. s.table ≡ table) }
+        ensures objects { IfOk result (λ s. objects_of s ≡ []) }
+        ensures first { IfOk result (λ s. s.first ≡ first) }
+        ensures revision { IfOk result (λ s. s.revision ≡ first) }
+        ensures window { IfOk result (λ s. s.window ≡ []) }
+        ensures stands { IfOk result (λ s. StandsFor s [] (opened table first)) }
     {
-        Store {
+        Ok(Store {
             alloc,
             table,
             slots: BTreeMap::new(alloc),
+            spare: None,
             first,
             revision: first,
-            changes: Vec::new(alloc),
-        }
+            window: Window::new(alloc)?,
+        })
     }
 
     /// The resource types that are served.
@@ -86,13 +100,17 @@ impl Store {
         ensures object { option_copied result ≡ lookup (is_key key.now) (objects_of self.now) }
         ensures tree { option_map (λ o. tree_of o.now) result ≡ lookup (is_key key.now) (plain_of self.now).objects }
     {
-        find(&self.slots, key)
+        match find(&self.slots, key) {
+            Some(object) => Some(object.get()),
+            None => None,
+        }
     }
 
     /// The objects of a resource that are in the namespace and of the name, or in all and of any where the text is
     /// empty, and whose labels the selector means (Kubernetes, 'Labels and Selectors'), in the order of their keys.
     ///
-    /// It looks at the objects between the first and the last key that may be listed, and at no others.
+    /// It looks at the objects between the first and the last key that may be listed, and at no others. For a resource
+    /// that is cluster-scoped the caller passes an empty namespace: no object of it is in one. No key stands twice.
     #[tactic(auto, using(crate::proofs::Trees::listed_objects_trees))]
     pub fn list<'a>(
         &'a self,
@@ -102,6 +120,7 @@ impl Store {
         name: &str,
     ) -> Result<Vec<Listed<'a>>, Memory>
         ensures objects { IfOk result (λ v. map shown v.items ≡ listed_objects resource.now namespace.now selector.now name.now (objects_of self.now)) }
+        ensures distinct { IfOk result (λ v. IsDistinct is_key (keys_of (map shown v.items))) }
         ensures trees { IfOk result (λ v. trees (map shown v.items) ≡ listed_trees resource.now namespace.now selector.now name.now (plain_of self.now).objects) }
     {
         let selection = Selection {
@@ -121,32 +140,22 @@ impl Store {
         self.revision
     }
 
-    /// Prepares the creation of an object: makes every growth that it needs, and changes neither objects nor
-    /// revision nor changes.
-    ///
-    /// The object gets the uid and the resourceVersion of the next revision. Refused, in this order, where its
-    /// namespace is missing (`NoNamespace`), where an object is at the key (`Exists`), and where no revision
-    /// is left (`RevisionsUsedUp`).
-    pub fn create(&mut self, key: Key, object: Object) -> Result<Ready, StoreError>
-        ensures gives { Gives (map plain_change) result (creation (plain_of self.old) key (tree_of object)) }
-        ensures same { Same self.old self.new }
-        ensures fits { IfOk result (Fits self.new) }
-
-        // Another write that is prepared can still be made.
-        ensures others { (changes : List Change) → Fits self.old changes → Fits self.new changes }
+    /// The changes after a revision, the oldest first; none where some of them may be kept no longer: where the
+    /// revision is below the first one, or below the current one less `WINDOW`. Takes no memory.
+    pub fn changes_after(&self, revision: u64) -> Result<Changes<'_>, TooOld>
+        ensures too_old { IsErr result ↔ (revision < max (self.now.revision - WINDOW) self.now.first) }
+        ensures changes { IfOk result (λ c. changes_of c ≡ filter (λ d. nat_lt revision d.revision) self.now.window) }
+        ensures all { (history : List PlainChange) (p : Plain) → StandsFor self.now history p
+            → Gives (λ _. Some tt) (λ c. map plain_change (changes_of c)) result (changes_after_in history p revision) }
     {
-        let revision = self.next_for(&key)?;
-        let new = Shared::new(self.alloc, created(self.alloc, object, revision)?)?;
-        let change = Change {
-            revision,
-            key: key.copy(self.alloc)?,
-            old: None,
-            new: Some(new),
-        };
-        let ready = Ready::of_one(self.alloc, change)?;
-        self.changes.reserve(1)?;
-        make_slot(&mut self.slots, key)?;
-        Ok(ready)
+        if revision < self.first {
+            return Err(TooOld);
+        }
+        let count = self.revision.saturating_sub(revision);
+        if count > WINDOW as u64 {
+            return Err(TooOld);
+        }
+        Ok(self.window.last(count as usize))
     }
 
     /// Whether there is an object at the key. Takes no memory.
@@ -167,12 +176,11 @@ impl Store {
         Ok(self.has_object(&Key::of_namespace(self.alloc, &key.namespace)?))
     }
 
-    /// The revision of a creation at the key, or why there can be none.
-    #[tactic(auto, unfolding(crate::specs::Plain::revision_for))]
-    fn next_for(&self, key: &Key) -> Result<u64, StoreError>
-        ensures gives { Gives (λ n. n) result (revision_for (plain_of self.now) key.now) }
-        ensures next { IfOk result (λ n. n ≡ self.now.revision + 1) }
-        ensures last { IfOk result (λ n. n ≤ LAST_REVISION) }
+    /// That an object can be created at the key; refused, in this order, where its namespace is missing
+    /// (`NoNamespace`) and where an object is at the key (`Exists`).
+    #[tactic(auto, unfolding(crate::specs::Plain::free_place))]
+    pub fn check_place(&self, key: &Key) -> Result<(), StoreError>
+        ensures { Gives fault_of (λ u. u) result (free_place (plain_of self.now) key.now) }
     {
         if !self.has_namespace(key)? {
             return Err(StoreError::NoNamespace);
@@ -180,10 +188,188 @@ impl Store {
         if self.has_object(key) {
             return Err(StoreError::Exists);
         }
-        if self.revision == LAST_REVISION {
+        Ok(())
+    }
+
+    /// That so many revisions are left (`RevisionsUsedUp`). Takes no memory.
+    #[tactic(auto, unfolding(crate::specs::Plain::revisions_left))]
+    pub fn check_revisions(&self, count: u64) -> Result<(), StoreError>
+        ensures gives { Gives fault_of (λ u. u) result (revisions_left (plain_of self.now) count) }
+        ensures left { OnOk result (self.now.revision + count ≤ LAST_REVISION) }
+    {
+        if count > LAST_REVISION - self.revision {
             return Err(StoreError::RevisionsUsedUp);
         }
-        Ok(self.revision + 1)
+        Ok(())
+    }
+
+    /// The object at the key, which a write with this given version may replace; refused, in this order, where there
+    /// is none (`Missing`) and where the version is no text, or a text that is neither empty nor the current version
+    /// (`Conflict`).
+    pub fn replaceable(&self, key: &Key, given: &GivenText) -> Result<&Shared, StoreError>
+        ensures gives { Gives fault_of (λ o. tree_of o.now) result (replaceable_at (plain_of self.now) key.now given.now) }
+        ensures found { IfOk result (λ o. lookup (is_key key.now) (plain_of self.now).objects ≡ Some (tree_of o.now)) }
+        ensures slot { OnOk result (IsSome (lookup (is_key key.now) self.now.slots)) }
+    {
+        match find(&self.slots, key) {
+            Some(object) => admitted(self.alloc, object, given),
+            None => Err(StoreError::Missing),
+        }
+    }
+
+    /// Prepares the creation of an object: makes every growth that it needs, and changes neither objects nor
+    /// revision nor changes.
+    ///
+    /// The object gets the uid and the resourceVersion of the next revision. Refused, in this order, where its
+    /// namespace is missing (`NoNamespace`), where an object is at the key (`Exists`), and where no revision
+    /// is left (`RevisionsUsedUp`).
+    pub fn create(&mut self, key: Key, object: Object) -> Result<Ready, StoreError>
+        ensures gives { Gives fault_of (map plain_change) result (creation (plain_of self.old) key (tree_of object)) }
+        ensures same { Same self.old self.new }
+        ensures fits { IfOk result (Fits self.new) }
+    {
+        self.check_place(&key)?;
+        self.create_in_place(key, object)
+    }
+
+    /// The same at a place that is free, as `check_place` tells: it is not looked up again.
+    pub fn create_in_place(&mut self, key: Key, object: Object) -> Result<Ready, StoreError>
+        requires { free_place (plain_of self.old) key ≡ Ok tt }
+        ensures gives { Gives fault_of (map plain_change) result (creation_in_place (plain_of self.old) key (tree_of object)) }
+        ensures same { Same self.old self.new }
+        ensures fits { IfOk result (Fits self.new) }
+    {
+        self.check_revisions(1)?;
+        let revision = self.revision + 1;
+        let new = Shared::new(self.alloc, created(self.alloc, object, revision)?)?;
+        let change = Change {
+            revision,
+            key: key.copy(self.alloc)?,
+            old: None,
+            new: Some(new),
+        };
+        let ready = Ready::of_one(self.alloc, change)?;
+        keep_place(self.alloc, &mut self.slots, &mut self.spare, key)?;
+        Ok(ready)
+    }
+
+    /// Prepares the replacement of the object at the key: makes every growth that it needs, and changes nothing.
+    ///
+    /// The new object gets the old one's uid and the next revision as its resourceVersion. Where it is the old object
+    /// but for uid and resourceVersion, nothing would change: the write then has no changes and takes no revision.
+    /// Refused, in this order, where no object is at the key (`Missing`), where the object's own resourceVersion does
+    /// not admit the write (`Conflict`), and where no revision is left for a change (`RevisionsUsedUp`).
+    pub fn replace(&self, key: Key, object: Object) -> Result<Ready, StoreError>
+        ensures gives { Gives fault_of (map plain_change) result (replacement (plain_of self.now) key (tree_of object)) }
+        ensures unchanged { IfOk result (λ r. (old : Data) → lookup (is_key key) (plain_of self.now).objects ≡ Some old
+            → (r ≡ []) ↔ (with_stamps old (tree_of object) ≡ old)) }
+        ensures fits { IfOk result (Fits self.now) }
+    {
+        let old = self.replaceable_by(&key, &object)?;
+        self.replace_old(key, object, old)
+    }
+
+    /// The object at the key, which this one may replace.
+    fn replaceable_by(&self, key: &Key, object: &Object) -> Result<&Shared, StoreError>
+        ensures gives { Gives fault_of (λ o. tree_of o.now) result (replaceable_at (plain_of self.now) key.now (given_of (tree_of object.now)).resource_version) }
+        ensures found { IfOk result (λ o. lookup (is_key key.now) (plain_of self.now).objects ≡ Some (tree_of o.now)) }
+        ensures slot { OnOk result (IsSome (lookup (is_key key.now) self.now.slots)) }
+    {
+        let given = object.given(self.alloc)?;
+        self.replaceable(key, &given.resource_version)
+    }
+
+    /// Prepares the replacement of an object that stands.
+    fn replace_old(&self, key: Key, object: Object, old: &Shared) -> Result<Ready, StoreError>
+        requires { IsSome (lookup (is_key key) self.now.slots) }
+        ensures gives { Gives fault_of (map plain_change) result (replaced (plain_of self.now) key (tree_of object) (tree_of old.now)) }
+        ensures unchanged { IfOk result (λ r. (r ≡ []) ↔ (with_stamps (tree_of old.now) (tree_of object) ≡ tree_of old.now)) }
+        ensures fits { IfOk result (Fits self.now) }
+    {
+        let object = with_stamps_of(self.alloc, object, old)?;
+        if is_unchanged(&object, old) {
+            return Ok(Ready::nothing(self.alloc));
+        }
+        self.check_revisions(1)?;
+        let revision = self.revision + 1;
+        let new = at_revision(self.alloc, object, old, revision)?;
+        let change = Change {
+            revision,
+            key,
+            old: Some(old.share()?),
+            new: Some(Shared::new(self.alloc, new)?),
+        };
+        Ok(Ready::of_one(self.alloc, change)?)
+    }
+
+    /// Whether an object of a namespaced resource stands in the namespace. It looks at the first object of each such
+    /// resource there, and at no others.
+    #[tactic(auto, using(crate::proofs::Standing::holds_by_rows))]
+    fn holds_objects(&self, namespace: &Text) -> Result<bool, Memory>
+        ensures { IfOk result (λ b. b ≡ holds_objects_in (plain_of self.now) namespace.now) }
+    {
+        any_stands_in(self.alloc, &self.slots, self.table.as_slice(), namespace)
+    }
+
+    /// Whether the key is of a Namespace object, and an object stands in that namespace.
+    fn is_full(&self, key: &Key) -> Result<bool, Memory>
+        ensures { IfOk result (λ b. b ≡ is_full_namespace (plain_of self.now) key.now) }
+    {
+        if is_namespace(key) {
+            self.holds_objects(&key.name)
+        } else {
+            Ok(false)
+        }
+    }
+
+    /// Whether a key is of a namespace that holds an object.
+    fn holds_full(&self, keys: &[Key]) -> Result<bool, Memory>
+        ensures { IfOk result (λ b. b ≡ list_any (is_full_namespace (plain_of self.now)) keys.now) }
+    {
+        for key in keys {
+            if self.is_full(key)? {
+                return Ok(true);
+            }
+        }
+        Ok(false)
+    }
+
+    /// Whether there is an object at each of the keys.
+    fn has_all(&self, keys: &[Key]) -> bool
+        ensures { result ≡ list_all (λ k. has_object_at k (plain_of self.now)) keys.now }
+    {
+        keys.iter().all(|key| self.has_object(key))
+    }
+
+    /// That the objects at the keys can be removed; refused, in this order, where one of them does not exist
+    /// (`Missing`) and where one is a namespace that holds an object (`NamespaceNotEmpty`).
+    #[tactic(auto, unfolding(crate::specs::Plain::removable))]
+    fn check_removal(&self, keys: &[Key]) -> Result<(), StoreError>
+        ensures { Gives fault_of (λ u. u) result (removable (plain_of self.now) keys.now) }
+    {
+        if !self.has_all(keys) {
+            return Err(StoreError::Missing);
+        }
+        if self.holds_full(keys)? {
+            return Err(StoreError::NamespaceNotEmpty);
+        }
+        Ok(())
+    }
+
+    /// Prepares the removal of the objects at the keys, one revision each: makes every growth that it needs, and
+    /// changes nothing. The empty list changes nothing.
+    ///
+    /// Refused, in this order, where one of the objects does not exist (`Missing`), where one is a namespace in which
+    /// an object stands, be it one of those to be removed (`NamespaceNotEmpty`), and where fewer revisions are left
+    /// than there are keys (`RevisionsUsedUp`).
+    pub fn remove(&self, keys: Vec<Key>) -> Result<Ready, StoreError>
+        requires { IsDistinct is_key keys.items }
+        ensures gives { Gives fault_of (map plain_change) result (removal (plain_of self.now) keys.items) }
+        ensures fits { IfOk result (Fits self.now) }
+    {
+        self.check_removal(keys.as_slice())?;
+        self.check_revisions(keys.len() as u64)?;
+        Ok(Ready::removals(self.alloc, &self.slots, self.revision, keys)?)
     }
 
     /// Makes the changes of a prepared write. Takes no memory and cannot fail.
@@ -191,10 +377,10 @@ impl Store {
         requires { Fits self.old ready }
         ensures objects { objects_of self.new ≡ placed_all (left_by ready) (objects_of self.old) }
         ensures revision { self.new.revision ≡ self.old.revision + length ready }
-        ensures changes { self.new.changes ≡ self.old.changes ++ ready }
         ensures table { self.new.table ≡ self.old.table }
         ensures first { self.new.first ≡ self.old.first }
-        ensures plain { plain_of self.new ≡ written (map plain_change ready) (plain_of self.old) }
+        ensures stands { (history : List PlainChange) (p : Plain) → StandsFor self.old history p
+            → StandsFor self.new (history ++ map plain_change ready) (written (map plain_change ready) p) }
     {
         let (list, mut kept) = ready.into_parts();
         for change in list {
@@ -208,13 +394,12 @@ impl Store {
         requires kept { kept ≡ change.new }
         ensures objects { objects_of self.new ≡ placed change.key change.new (objects_of self.old) }
         ensures revision { self.new.revision ≡ self.old.revision + 1 }
-        ensures changes { self.new.changes ≡ self.old.changes ++ change ∷ [] }
+        ensures window { self.new.window ≡ last_of WINDOW (self.old.window ++ change ∷ []) }
         ensures table { self.new.table ≡ self.old.table }
         ensures first { self.new.first ≡ self.old.first }
-        ensures room { self.old.room ≤ self.new.room + 1 }
     {
         place(&mut self.slots, &change.key, kept);
         self.revision = change.revision;
-        self.changes.push(change).unwrap();
+        self.window.note(change);
     }
 }

@@ -1,11 +1,18 @@
-use kapi_object::{Object, ResourceRow, Schema, Selector, read_object};
+use kapi_admission::read_object;
+use kapi_names::{ResourceRow, Schema, Selector};
+use kapi_object::Object;
 use kapi_store::{Key, Store};
-use kapi_text::{Memory, Sequence, Text};
+use kapi_text::{Memory, Sequence, Text, TryCopy};
 use std::alloc::Global;
 use std::time::{Clock, Duration, Instant};
 
 /// A row of the core group.
-fn row(alloc: Global, plural: &str, kind: &str, namespaced: bool) -> Result<ResourceRow, Memory> {
+pub fn row(
+    alloc: Global,
+    plural: &str,
+    kind: &str,
+    namespaced: bool,
+) -> Result<ResourceRow, Memory> {
     Ok(ResourceRow {
         group: Text::copy_of(alloc, "")?,
         version: Text::copy_of(alloc, "v1")?,
@@ -18,7 +25,7 @@ fn row(alloc: Global, plural: &str, kind: &str, namespaced: bool) -> Result<Reso
 }
 
 /// A key of the core group.
-fn key(alloc: Global, resource: &str, namespace: &str, name: &str) -> Result<Key, Memory> {
+pub fn key(alloc: Global, resource: &str, namespace: &str, name: &str) -> Result<Key, Memory> {
     Ok(Key {
         group: Text::copy_of(alloc, "")?,
         resource: Text::copy_of(alloc, resource)?,
@@ -27,25 +34,30 @@ fn key(alloc: Global, resource: &str, namespace: &str, name: &str) -> Result<Key
     })
 }
 
-fn config_map(alloc: Global) -> anyhow::Result<Object> {
+/// A config map with this value.
+pub fn config_map(alloc: Global, value: &str) -> anyhow::Result<Object> {
     let row = row(alloc, "configmaps", "ConfigMap", true)?;
-    let body =
-        br#"{"kind":"ConfigMap","apiVersion":"v1","metadata":{"name":"a"},"data":{"key":"value"}}"#;
-    Ok(read_object(alloc, &row, body)?)
+    let body = format!(in alloc;
+        r#"{{"kind":"ConfigMap","apiVersion":"v1","metadata":{{"name":"a"}},"data":{{"key":"{value}"}}}}"#
+    )?;
+    Ok(read_object(alloc, &row, body.as_bytes())?)
 }
 
-/// A store of config maps with two namespaces, in which `body` stands for any object.
+/// A store of config maps with three namespaces, in which `body` stands for any object.
 fn store_with_namespaces(alloc: Global, body: &Object) -> anyhow::Result<Store> {
     let mut rows = Vec::with_capacity(alloc, 2)?;
     rows.push(row(alloc, "configmaps", "ConfigMap", true)?)?;
     rows.push(row(alloc, "namespaces", "Namespace", false)?)?;
-    let mut store = Store::new(alloc, Sequence::new(rows), 0);
-    for name in ["default", "few"] {
+    let mut store = Store::new(alloc, Sequence::new(rows), 0)?;
+    for name in ["default", "few", "none"] {
         let ready = store.create(key(alloc, "namespaces", "", name)?, body.copy(alloc)?)?;
         store.commit(ready);
     }
     Ok(store)
 }
+
+/// How many objects a small namespace has, and how often a short call is made.
+const FEW: u64 = 100;
 
 /// The time in nanoseconds, or the largest number where it does not fit.
 fn nanoseconds(time: Duration) -> u64 {
@@ -60,7 +72,7 @@ fn create_many(
     namespace: &str,
     count: u64,
 ) -> anyhow::Result<u64> {
-    let body = config_map(alloc)?;
+    let body = config_map(alloc, "value")?;
     let mut total: u64 = 0;
     for i in 0..count {
         let name = format!(in alloc; "object-{}", i.wrapping_mul(7_919) % count)?;
@@ -89,20 +101,88 @@ fn list_few(clock: &impl Clock, alloc: Global, store: &Store) -> anyhow::Result<
     Ok(nanoseconds(start.elapsed(clock)?) / ROUNDS)
 }
 
+/// The mean time of a replacement and its commit, in nanoseconds, over so many objects at most a thousand.
+fn replace_some(
+    clock: &impl Clock,
+    alloc: Global,
+    store: &mut Store,
+    count: u64,
+) -> anyhow::Result<u64> {
+    let rounds = count.min(1_000);
+    let mut total: u64 = 0;
+    for i in 0..rounds {
+        let name = format!(in alloc; "object-{}", i.wrapping_mul(104_729) % count)?;
+        let key = key(alloc, "configmaps", "default", name.as_str())?;
+        let value = format!(in alloc; "{i}")?;
+        let object = config_map(alloc, value.as_str())?;
+        let start = Instant::now(clock)?;
+        let ready = store.replace(key, object)?;
+        store.commit(ready);
+        total = total.saturating_add(nanoseconds(start.elapsed(clock)?));
+    }
+    Ok(total.checked_div(rounds).unwrap_or(0))
+}
+
+/// The mean time of a removal and its commit, in nanoseconds: all objects of the small namespace, one by one.
+fn remove_few(clock: &impl Clock, alloc: Global, store: &mut Store) -> anyhow::Result<u64> {
+    let mut total: u64 = 0;
+    for i in 0_u64..FEW {
+        let name = format!(in alloc; "object-{i}")?;
+        let keys = key(alloc, "configmaps", "few", name.as_str())?.alone(alloc)?;
+        let start = Instant::now(clock)?;
+        let ready = store.remove(keys)?;
+        store.commit(ready);
+        total = total.saturating_add(nanoseconds(start.elapsed(clock)?));
+    }
+    Ok(total / FEW)
+}
+
+/// The mean time in which the removal of a namespace is prepared or refused, in nanoseconds.
+fn remove_namespace(
+    clock: &impl Clock,
+    alloc: Global,
+    store: &Store,
+    name: &str,
+) -> anyhow::Result<u64> {
+    let mut total: u64 = 0;
+    for _ in 0_u64..FEW {
+        let keys = key(alloc, "namespaces", "", name)?.alone(alloc)?;
+        let start = Instant::now(clock)?;
+        let ready = store.remove(keys);
+        total = total.saturating_add(nanoseconds(start.elapsed(clock)?));
+        drop(ready);
+    }
+    Ok(total / FEW)
+}
+
 /// What was measured, in nanoseconds.
 #[derive(Clone, Copy)]
 pub struct Times {
     /// The mean time of a creation and its commit.
     pub creation: u64,
+    /// The mean time of a replacement and its commit.
+    pub replacement: u64,
     /// The mean time of a list of a namespace of 100 objects, beside which so many others stand.
     pub list: u64,
+    /// The mean time of a removal of one object and its commit.
+    pub removal: u64,
+    /// The mean time in which the removal of the namespace of all these objects is refused.
+    pub refusal: u64,
+    /// The mean time in which the removal of an empty namespace beside it is prepared.
+    pub emptied: u64,
 }
 
 /// Fills a store with so many objects and measures it.
 pub fn measure(clock: &impl Clock, alloc: Global, count: u64) -> anyhow::Result<Times> {
-    let mut store = store_with_namespaces(alloc, &config_map(alloc)?)?;
+    let mut store = store_with_namespaces(alloc, &config_map(alloc, "value")?)?;
     let creation = create_many(clock, alloc, &mut store, "default", count)?;
-    create_many(clock, alloc, &mut store, "few", 100)?;
-    let list = list_few(clock, alloc, &store)?;
-    Ok(Times { creation, list })
+    create_many(clock, alloc, &mut store, "few", FEW)?;
+    Ok(Times {
+        creation,
+        replacement: replace_some(clock, alloc, &mut store, count)?,
+        list: list_few(clock, alloc, &store)?,
+        removal: remove_few(clock, alloc, &mut store)?,
+        refusal: remove_namespace(clock, alloc, &store, "default")?,
+        emptied: remove_namespace(clock, alloc, &store, "none")?,
+    })
 }

@@ -1,9 +1,11 @@
 //! Texts and lists as contracts see them, and want of memory.
 #![tactic(auto)]
 
+pub mod joined;
 pub mod sequence;
 pub mod text;
 
+pub use joined::is_joined;
 pub use sequence::{Sequence, TryCopy};
 use std::alloc::AllocError;
 pub use text::Text;

@@ -8,8 +8,7 @@ use Rattle.kapi_store.proofs.slots.find.Goals as goal
 pub returns-in-Some-Some : goal.returns-in-Some-Some
 returns-in-Some-Some c =
     let k = c.in-Some-Some in
-    ap Some c.get-in-Some-Some.ensures
-    ∙ sym (lookup_live key_cmp key_total c.args.key.now c.args.slots.now.entries c.requires
+    sym (lookup_live key_cmp key_total c.args.key.now c.args.slots.now.entries c.requires
     ∙ ap option_flatten (sym c.get.ensures.value ∙ ap option_copied k.is ∙ ap Some k.field-0-is))
 
 pub returns-in-Some-None : goal.returns-in-Some-None

@@ -4,4 +4,4 @@ use Rattle.kapi_core.proofs.machine.Core.pump.Goals as goal
 
 pub returns : goal.returns
 unfolding step
-returns c = λ m h. (refl, h)
+returns g c = λ m h. (refl, h)

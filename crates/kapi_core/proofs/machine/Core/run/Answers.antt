@@ -6,12 +6,12 @@ use Rattle.kapi_core.proofs.Runs.{Ran, ran_nothing, ran_push}
 use Rattle.kapi_core.proofs.machine.Core.run.Goals as goal
 
 pub loop-event-init : goal.loop-event-init
-loop-event-init c =
+loop-event-init g c =
     let P : List Answer → Type 0 = λ told. Ran c.args.self.now c.args.self.now told [] in
     subst P (sym c.new-answers.ensures.items) (ran_nothing c.args.self.now)
 
 pub loop-event-preserved : goal.loop-event-preserved
-loop-event-preserved c =
+loop-event-preserved g c =
     let events = c.args.events.now in
     let i = c.loop-event.event-index in
     let e = c.event-item.result in

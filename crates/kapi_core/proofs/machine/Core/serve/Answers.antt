@@ -1,10 +1,15 @@
-use Rattle.std.proofs.Common.{◌∙◌, sym, ap, if◌then◌else◌}
+use Rattle.std.proofs.Common.{◌≡◌, List, Some, None, ◌∙◌, sym, ap, subst, if◌then◌else◌}
 use Rattle.std.specs.BTreeMap.{is_at}
-use Rattle.std.specs.Map.{remove_entry}
+use Rattle.std.specs.Map.{lookup, remove_entry}
 use Rattle.std.specs.Ordering.{nat_cmp}
-use Rattle.kapi_answer.specs.Answers.{answered_data, changes_data}
-use Rattle.kapi_store.proofs.Stores.{same_plain}
-use Rattle.kapi_store.specs.Plain.{written}
+use Rattle.kapi_answer.specs.Outcomes.{answered_data}
+use Rattle.kapi_policy.specs.declared.change.PolicyChange.{PolicyChange}
+use Rattle.kapi_store.proofs.Stores.{same_stands}
+use Rattle.kapi_store.specs.Plain.{StandsFor}
+use Rattle.kapi_store.specs.State.{State}
+use Rattle.kapi_core.specs.Machine.{Machine}
+use Rattle.kapi_core.specs.Running.{Running}
+use Rattle.kapi_core.specs.Stands.{Makes, Sends}
 use Rattle.kapi_core.specs.declared.event.Event.TheVariants as event
 use Rattle.kapi_core.specs.declared.event.Answer.TheVariants as told
 use Rattle.kapi_core.proofs.RunsOut.{sends_err}
@@ -12,37 +17,65 @@ use Rattle.kapi_core.proofs.Steps.{made_for, served, served_late, served_nothing
 use Rattle.kapi_core.proofs.machine.Core.serve.Goals as goal
 
 pub returns-in_default : goal.returns-in_default
-returns-in_default c = λ m h.
+returns-in_default g c = λ m h.
     let old = c.args.self.now in
-    made_for old.store old.connections.entries old.next_id m old.store old.connections.entries old.next_id (event.Serve c.args.conn) told.Nothing h
-    (served_nowhere old.store old.connections.entries old.next_id c.args.conn (sym c.in_default.ensures.value))
+    let P : Running → Type 0 = λ r. lookup (is_at (nat_cmp c.args.conn.0)) r.connections ≡ None in
+    made_for old.store old.policy old.connections old.next_id m old.store old.policy old.connections old.next_id (event.Serve c.args.conn) told.Nothing h
+    (served_nowhere old.store old.policy old.connections old.next_id c.args.conn (subst P c.self.view_is (sym c.in_default.ensures.value)))
 
 pub returns-in_default-2 : goal.returns-in_default-2
-returns-in_default-2 c = λ m h.
+returns-in_default-2 g c = λ m h.
     let old = c.args.self.now in
-    made_for old.store old.connections.entries old.next_id m old.store old.connections.entries old.next_id (event.Serve c.args.conn) told.Nothing h
-    (served_nothing old.store old.connections.entries old.next_id c.args.conn c.in-Some.connection.now (sym c.in-Some.ensures.value)
+    let P : Running → Type 0 = λ r. lookup (is_at (nat_cmp c.args.conn.0)) r.connections ≡ Some c.in-Some.connection.now in
+    made_for old.store old.policy old.connections old.next_id m old.store old.policy old.connections old.next_id (event.Serve c.args.conn) told.Nothing h
+    (served_nothing old.store old.policy old.connections old.next_id c.args.conn c.in-Some.connection.now (subst P c.self.view_is (sym c.in-Some.ensures.value))
     (sym c.in_ok-item.ensures ∙ c.in_default-2.is))
 
 pub returns : goal.returns
-returns c = λ m h.
-    let old = c.args.self.now in
+returns g c =
+    let old : Running = record { store = c.self.inside.store; policy = g.P.Policy.content c.self.inside.policy; connections = c.self.inside.connections.entries; next_id = c.self.inside.next_id } in
+    let next : Running = record old { store = c.make_write.new.store; policy = g.P.Policy.content c.make_write.new.policy; connections = c.close_if.new.links.entries } in
     let there = sym c.in-Some.ensures.value in
-    let out = c.in_ok-output.field-0 in
-    let store = c.commit_if.ensures ∙ ap (written (changes_data out.write)) (same_plain _ _ c.in_ok-output.ensures.same) in
+    let out = c.in_ok-reply.field-0 in
     let links = c.close_if.ensures
-    ∙ ap (λ es. if out.output.close then remove_entry (is_at (nat_cmp c.args.conn.0)) es else es) (c.done_at.ensures c.in-Some.connection.now there) in
-    made_for old.store old.connections.entries old.next_id m c.commit_if.new.store c.close_if.new.links.entries old.next_id (event.Serve c.args.conn) (told.Sent out.output) h
-    (served old.store c.commit_if.new.store old.connections.entries c.close_if.new.links.entries old.next_id c.args.conn c.in-Some.connection.now c.in-Some-2.item
-    (answered_data out) there (sym c.in_ok-item.ensures ∙ c.in-Some-2.is) c.in_ok-output.ensures.gives store links)
+    ∙ ap (λ es. if out.reply.close then remove_entry (is_at (nat_cmp c.args.conn.0)) es else es) (c.done_at.ensures c.in-Some.connection.now there) in
+    let Told : Running → List PolicyChange → Type 0 = λ r changes. Makes r next (event.Serve c.args.conn) (told.Sent (record { bytes = out.reply.bytes; close = out.reply.close; policy_changes = changes })) in
+    let P : Running → Type 0 = λ r. Told r c.new.result in
+    let Q : List PolicyChange → Type 0 = Told old in
+    subst P c.self.view_is (subst Q (sym (c.new.ensures ∙ c.in_ok-changes.ensures.made))
+    (λ m h. made_for old.store old.policy old.connections old.next_id m next.store next.policy next.connections next.next_id (event.Serve c.args.conn) _ h
+    (served old.store next.store old.policy next.policy old.connections next.connections old.next_id c.args.conn c.in-Some.connection.now c.in-Some-2.item
+    (answered_data out) there (sym c.in_ok-item.ensures ∙ c.in-Some-2.is) c.in_ok-reply.ensures.gives
+    (λ cs p stands is. c.in_ok-changes.ensures.writes cs p (same_stands _ _ c.in_ok-reply.ensures.same cs p stands) is) links)))
 
 pub returns-in_err-item : goal.returns-in_err-item
-returns-in_err-item c =
+returns-in_err-item g c =
     let old = c.args.self.now in
     sends_err old old (event.Serve c.args.conn) c.from_residual.result c.from_residual.ensures.0 (λ m h. (h, served_late m c.args.conn))
 
-pub returns-in_err-output : goal.returns-in_err-output
-returns-in_err-output c =
-    let old = c.args.self.now in
-    sends_err old (record old { store = c.answer.new.store }) (event.Serve c.args.conn) c.from_residual-in_err-output.result c.from_residual-in_err-output.ensures.0
-    (λ m h. (record { store = same_plain _ _ c.in_err-output.ensures.same ∙ h.store; next_id = h.next_id; links = h.links }, served_late m c.args.conn))
+pub returns-in_err-reply : goal.returns-in_err-reply
+returns-in_err-reply g c =
+    let old : Running = record { store = c.self.inside.store; policy = g.P.Policy.content c.self.inside.policy; connections = c.self.inside.connections.entries; next_id = c.self.inside.next_id } in
+    let next : Running = record old { store = c.answer.new.store } in
+    let P : Running → Type 0 = λ r. Sends r next (event.Serve c.args.conn) c.from_residual-in_err-reply.result in
+    subst P c.self.view_is
+    (sends_err old next (event.Serve c.args.conn) c.from_residual-in_err-reply.result c.from_residual-in_err-reply.ensures.0
+    (λ m h. (record { store = same_stands _ _ c.in_err-reply.ensures.same m.changes m.store h.store; policy_is = h.policy_is; next_id = h.next_id; links = h.links }, served_late m c.args.conn)))
+
+pub returns-in_err-changes : goal.returns-in_err-changes
+returns-in_err-changes g c =
+    let old : Running = record { store = c.self.inside.store; policy = g.P.Policy.content c.self.inside.policy; connections = c.self.inside.connections.entries; next_id = c.self.inside.next_id } in
+    let next : Running = record old { store = c.make_write.new.store; policy = g.P.Policy.content c.make_write.new.policy } in
+    let P : Running → Type 0 = λ r. Sends r next (event.Serve c.args.conn) c.from_residual-in_err-changes.result in
+    let Kept : Machine → State → Type 0 = λ m s. StandsFor s m.changes m.store in
+    subst P c.self.view_is
+    (sends_err old next (event.Serve c.args.conn) c.from_residual-in_err-changes.result c.from_residual-in_err-changes.ensures.0
+    (λ m h. (
+      record {
+        store = subst (Kept m) (sym c.in_err-changes.ensures.same_store) (same_stands _ _ c.in_ok-reply.ensures.same m.changes m.store h.store);
+        policy_is = c.in_err-changes.ensures.same_policy ∙ h.policy_is;
+        next_id = h.next_id;
+        links = h.links;
+      },
+      served_late m c.args.conn,
+    )))

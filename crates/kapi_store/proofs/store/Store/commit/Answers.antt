@@ -1,11 +1,13 @@
-use Rattle.std.proofs.Common.{◌≡◌, suc, ◌++◌, ◌∷◌, [], List, ◌∙◌, ap, sym, subst, length, append_assoc, append-nil, arith}
+use Rattle.std.proofs.Common.{◌≡◌, suc, ◌+◌, ◌++◌, ◌∷◌, [], List, ◌∙◌, ap, sym, subst, length, append_assoc, append-nil, arith}
 use Rattle.std.proofs.lemmas.Grind.{common_steps}
 use Rattle.std.specs.Vec.Iter.{into_iter_items}
 use Rattle.kapi_store.specs.declared.change.Change.{Change}
-use Rattle.kapi_store.specs.Changes.{placed_all, left_by, AreRemovals, IsWrite}
+use Rattle.kapi_store.specs.declared.window.TheConstants.{WINDOW}
+use Rattle.kapi_store.specs.Changes.{placed_all, left_by, last_of, AreRemovals, IsWrite}
 use Rattle.kapi_store.specs.State.{objects, Fits}
-use Rattle.kapi_store.proofs.Changes.{removals_write}
-use Rattle.kapi_store.proofs.Stores.{fits_first, fits_rest, written_plain}
+use Rattle.kapi_store.proofs.Writes.{removals_write}
+use Rattle.kapi_store.proofs.Stores.{fits_first, fits_rest, written_stands}
+use Rattle.kapi_store.proofs.Windows.{last_last, last_within}
 use Rattle.kapi_store.proofs.store.Store.commit.Goals as goal
 
 pub make-requires-clause-fits : goal.make-requires-clause-fits
@@ -31,28 +33,31 @@ loop-change-preserved c =
     let removals : AreRemovals left = (subst Writes all k.write).1 in
     record {
       write = rw c.take.ensures.after (removals_write left removals);
-      fits = fits_rest _ _ c.in-Some.change left (subst Fitting all k.fits) removals m.revision m.room;
+      fits = fits_rest _ _ c.in-Some.change left (subst Fitting all k.fits) removals m.revision;
       objects = ap (placed_all (left_by left)) m.objects ∙ ap (λ cs. placed_all (left_by cs) (objects c.loop-change.self)) (sym all) ∙ k.objects;
       revision = let len : length (into_iter_items c.loop-change.change-iterator) ≡ suc (length left) = ap length all in omega arith;
-      changes = ap (λ cs. cs ++ left) m.changes ∙ append_assoc c.loop-change.self.changes (c.in-Some.change ∷ []) left ∙ ap (λ cs. c.loop-change.self.changes ++ cs) (sym all) ∙ k.changes;
+      window = ap (λ cs. last_of WINDOW (cs ++ left)) m.window ∙ last_last WINDOW (c.loop-change.self.window ++ c.in-Some.change ∷ []) left
+          ∙ ap (last_of WINDOW) (append_assoc c.loop-change.self.window (c.in-Some.change ∷ []) left) ∙ ap (λ cs. last_of WINDOW (c.loop-change.self.window ++ cs)) (sym all) ∙ k.window;
+      kept = λ _. last_within WINDOW (c.loop-change.self.window ++ c.in-Some.change ∷ []) c.make.new.self.window m.window;
       table = m.table ∙ k.table;
       first = m.first ∙ k.first;
     }
 
-pub returns-clause-objects : goal.returns-clause-objects
+pub returns : goal.returns
 unfolding placed_all
-returns-clause-objects c =
-    let none : into_iter_items c.loop-change.change-iterator ≡ [] = grind (arith, common_steps) in
-    ap (λ cs. placed_all (left_by cs) (objects c.loop-change.self)) (sym none) ∙ c.loop-change.invariant.objects
-
-pub returns-clause-plain : goal.returns-clause-plain
-unfolding placed_all
-returns-clause-plain c =
+returns c =
     let k = c.loop-change.invariant in
     let none : into_iter_items c.loop-change.change-iterator ≡ [] = grind (arith, common_steps) in
     let len : length (into_iter_items c.loop-change.change-iterator) ≡ 0 = ap length none in
-    written_plain c.args.self.now c.loop-change.self c.args.ready
-    (ap (λ cs. placed_all (left_by cs) (objects c.loop-change.self)) (sym none) ∙ k.objects)
-    (omega arith)
-    (sym (append-nil c.loop-change.self.changes) ∙ ap (λ cs. c.loop-change.self.changes ++ cs) (sym none) ∙ k.changes)
-    k.table k.first
+    let objs : objects c.loop-change.self ≡ placed_all (left_by c.args.ready) (objects c.args.self.now)
+    = ap (λ cs. placed_all (left_by cs) (objects c.loop-change.self)) (sym none) ∙ k.objects in
+    let revision : c.loop-change.self.revision ≡ c.args.self.now.revision + length c.args.ready = omega arith in
+    let last : last_of WINDOW c.loop-change.self.window ≡ last_of WINDOW (c.args.self.now.window ++ c.args.ready)
+    = ap (last_of WINDOW) (sym (append-nil c.loop-change.self.window)) ∙ ap (λ cs. last_of WINDOW (c.loop-change.self.window ++ cs)) (sym none) ∙ k.window in
+    record {
+      objects = objs;
+      revision = revision;
+      table = k.table;
+      first = k.first;
+      stands = written_stands c.args.self.now c.loop-change.self c.args.ready objs revision last k.kept k.table k.first c.requires.next;
+    }

@@ -3,8 +3,8 @@ use Rattle.kapi_object.specs.declared.object.Object.{Object}
 use Rattle.kapi_store.specs.declared.store.TheConstants.{LAST_REVISION}
 use Rattle.std.specs.Map.{lookup}
 use Rattle.kapi_store.specs.Keys.{is_key}
-use Rattle.kapi_store.specs.Changes.{placed, Follow}
-use Rattle.kapi_store.specs.State.{State, live, HasSlot}
+use Rattle.kapi_store.specs.Changes.{Follow}
+use Rattle.kapi_store.specs.State.{State, HasSlot}
 use Rattle.kapi_store.specs.View.{state_of}
 use Rattle.kapi_store.proofs.Stores.{next_store}
 use Rattle.kapi_store.proofs.store.Store.make.Goals as goal
@@ -24,8 +24,8 @@ invariant_of-self c =
     let next : c.args.change.revision ≡ c.args.self.now.revision + 1 = c.requires.fits.next.0 in
     let last : c.args.self.now.revision + 1 ≤ LAST_REVISION = c.requires.fits.last in
     next_store (state_of c.self.inside) _ c.args.change c.self.invariant c.place.ensures.ordered
-    (c.place.ensures.objects ∙ ap (λ o. placed c.args.change.key o (live c.self.inside.slots.entries)) c.requires.kept)
-    (rw c.unwrap.ensures at c.push.ensures.items)
+    (c.place.ensures.spare _ c.self.invariant.spare)
+    c.note.ensures
     refl refl
     (next ∙ ap (λ s. s.revision + 1) (sym now))
     (omega arith)

@@ -1,0 +1,5 @@
+pub mod Faults
+pub mod Typed
+pub mod Tables
+pub mod Shapes
+pub mod Admission

@@ -1,0 +1,136 @@
+-- What is wrong with an object by its table, in the order of the rows, and what is kept of it.
+use Rattle.std.specs.Prelude.{ℕ, zero, suc, List, [], ◌∷◌, ◌++◌, length, Bool, true, false, not, ◌||◌, ◌==◌, if◌then◌else◌, Option, Some, None, option_map, codes}
+use Rattle.std.specs.Str.{bytes_eq}
+use Rattle.serde_json.specs.Data.{Data, string, array, object, Items, Members, no_members}
+use Rattle.kapi_names.specs.declared.fault.FieldFault.{FieldFault}
+use Rattle.kapi_names.specs.declared.fault.Cause.TheVariants.{NotAllowedHere}
+use Rattle.kapi_names.specs.declared.row.Schema.{Schema}
+use Rattle.kapi_names.specs.declared.row.Schema.TheVariants as schema
+use Rattle.kapi_names.specs.Cause.{fault}
+use Rattle.kapi_names.specs.Kinds.{rbac_group}
+use Rattle.kapi_object.specs.Contents.{text_if, text_at, text_of, items_if, read_items, write_items, labels_in, put_labels, text_value, list_value, members_value}
+use Rattle.kapi_object.specs.Tree.{is_empty, is_empty_object, member_of, members_or_none, put_if}
+use Rattle.kapi_admission.specs.declared.metadata.Entries.TheVariants.{Labels}
+use Rattle.kapi_admission.specs.declared.table.Choice.{Choice}
+use Rattle.kapi_admission.specs.declared.table.Choice.TheVariants.{One, Two, Three}
+use Rattle.kapi_admission.specs.declared.table.Part.{Part}
+use Rattle.kapi_admission.specs.declared.table.Part.TheVariants as part
+use Rattle.kapi_admission.specs.declared.table.Row.{Row}
+use Rattle.kapi_admission.specs.declared.table.Table.{Table}
+use Rattle.kapi_admission.specs.declared.table.Table.TheVariants as table
+use Rattle.kapi_admission.specs.declared.table.When.{When}
+use Rattle.kapi_admission.specs.declared.table.When.TheVariants as when
+use Rattle.kapi_admission.specs.declared.table.Written.{Written}
+use Rattle.kapi_admission.specs.declared.table.Written.TheVariants as written
+use Rattle.kapi_admission.specs.declared.text_rule.TextRule.{TextRule}
+use Rattle.kapi_admission.specs.declared.text_rule.TextRule.TheVariants as rule
+use Rattle.kapi_admission.specs.declared.typed_list.Need.{Need}
+use Rattle.kapi_admission.specs.Faults.{entries_faults}
+use Rattle.kapi_admission.specs.Tables.{rows_of, word_text}
+use Rattle.kapi_admission.specs.Typed.{is_given, is_right, item_path, list_faults, member_path, need_faults, object_faults, text_faults, text_item_faults}
+
+-- whether a condition holds of an object; a text that is absent or mistyped is as the empty one
+abbrev pub passes : When → Data → Bool
+passes (when.Given key) d = is_given (member_of (word_text key) d)
+passes (when.Filled key) d = not (length (text_at (word_text key) d) == 0)
+passes (when.Says key one other) d = bytes_eq (text_at (word_text key) d) (word_text one) || bytes_eq (text_at (word_text key) d) (word_text other)
+passes (when.Keeps key rule) d = is_right rule (text_at (word_text key) d)
+
+-- the part that is chosen: that of the first condition that holds, else the last
+abbrev pub chosen : Choice → Data → Part
+chosen (One p) d = p
+chosen (Two w p q) d = if passes w d then p else q
+chosen (Three w p v q r) d = if passes w d then p else (if passes v d then q else r)
+
+-- ---- what is wrong
+
+-- what says of the objects of each table what is wrong with their members
+abbrev pub Says : Type 0
+Says = Table → List ℕ → Data → List FieldFault
+
+-- where nothing may stand
+abbrev pub forbidden_faults : List ℕ → Option Data → List FieldFault
+forbidden_faults path None = []
+forbidden_faults path (Some d) = fault path NotAllowedHere ∷ []
+
+-- where an element may stand
+abbrev pub element_faults : (List ℕ → Data → List FieldFault) → Need → List ℕ → Option Data → List FieldFault
+element_faults f n path None = need_faults n true path
+element_faults f n path (Some d) = f path d
+
+-- what is wrong with what stands at a key
+unfoldable pub part_faults : Says → Part → List ℕ → Option Data → List FieldFault
+part_faults f part.Dropped path o = []
+part_faults f part.Forbidden path o = forbidden_faults path o
+part_faults f (part.Text r) path o = text_faults r path o
+part_faults f (part.Texts n r) path o = list_faults (text_item_faults r) n path o
+part_faults f part.Labels path o = entries_faults Labels path o
+part_faults f (part.Object n t) path o = element_faults (object_faults (f t)) n path o
+part_faults f (part.Objects n w t) path o = list_faults (object_faults (f t)) n path o
+
+-- what is wrong with an object by one row
+abbrev pub row_faults : Says → Row → List ℕ → Data → List FieldFault
+row_faults f r path d = part_faults f (chosen r.1 d) (member_path path (word_text r.0)) (member_of (word_text r.0) d)
+
+-- by all rows, in order
+unfoldable pub rows_faults : Says → List Row → List ℕ → Data → List FieldFault
+rows_faults f [] path d = []
+rows_faults f (r ∷ rs) path d = row_faults f r path d ++ rows_faults f rs path d
+
+-- by a table, so many levels of objects in objects deep
+abbrev pub table_faults : ℕ → Says
+table_faults zero table path d = []
+table_faults (suc n) table path d = rows_faults (table_faults n) (rows_of table) path d
+
+-- the levels of a cluster role: it, its aggregation rule, the selectors, and their requirements
+abbrev pub levels : ℕ
+levels = 4
+
+-- what is wrong with the members of a tree beside its metadata, by the row's schema
+abbrev pub typed_faults : Schema → Data → List FieldFault
+typed_faults schema.Open tree = []
+typed_faults schema.Role tree = table_faults levels table.Role [] tree
+typed_faults schema.ClusterRole tree = table_faults levels table.ClusterRole [] tree
+typed_faults schema.RoleBinding tree = table_faults levels table.RoleBinding [] tree
+typed_faults schema.ClusterRoleBinding tree = table_faults levels table.ClusterRoleBinding [] tree
+
+-- ---- what is kept
+
+-- what is kept of the objects of each table
+abbrev pub Keeps : Type 0
+Keeps = Table → Data → Data
+
+-- a text that is kept: the API group of roles is filled in
+abbrev pub filled : TextRule → List ℕ → List ℕ
+filled rule.RbacGroup s = rbac_group
+filled rule.RbacGroupOrEmpty s = rbac_group
+filled _ s = s
+
+-- a list as it is written
+abbrev pub written_value : Written → Items → Option Data
+written_value written.Always ds = Some (array ds)
+written_value written.NotEmpty ds = list_value ds
+
+-- what is kept of what stands at a key
+abbrev pub part_value : Keeps → Part → Option Data → Option Data
+part_value g part.Dropped o = None
+part_value g part.Forbidden o = None
+part_value g (part.Text r) o = text_value (filled r (text_if o))
+part_value g (part.Texts n r) o = list_value (write_items string (read_items text_of (items_if o)))
+part_value g part.Labels o = members_value (put_labels (labels_in (members_or_none o)) no_members)
+part_value g (part.Object n t) o = option_map (g t) o
+part_value g (part.Objects n w t) o = written_value w (write_items (λ d. d) (read_items (g t) (items_if o)))
+
+-- what is kept of an object by one row
+abbrev pub row_value : Keeps → Row → Data → Option Data
+row_value g r d = part_value g (chosen r.1 d) (member_of (word_text r.0) d)
+
+-- the members, and beside them what is kept of an object by all rows
+unfoldable pub rows_kept : Keeps → List Row → Data → Members → Members
+rows_kept g [] d ms = ms
+rows_kept g (r ∷ rs) d ms = rows_kept g rs d (put_if (word_text r.0) (row_value g r d) ms)
+
+-- by a table, so many levels of objects in objects deep; nothing is kept of what lies deeper
+abbrev pub table_kept : ℕ → Keeps
+table_kept zero table d = object no_members
+table_kept (suc n) table d = object (rows_kept (table_kept n) (rows_of table) d no_members)

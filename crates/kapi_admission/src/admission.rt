@@ -1,0 +1,236 @@
+ghost use Rattle.std.specs.Prelude.{◌≡◌, [], true, false, Some, OnOk, IfOk, ok_or, string_bytes};
+ghost use Rattle.serde_json.specs.Data.{Data, object};
+ghost use Rattle.serde_json.specs.Find.{get};
+ghost use Rattle.serde_json.specs.View.{view, members_view};
+ghost use Rattle.serde_json.specs.Written as written;
+ghost use Rattle.kapi_text.specs.Gives.{Gives};
+ghost use Rattle.kapi_admission.specs.Admission.{is_other, not_json, object_of, told};
+ghost use Rattle.kapi_admission.specs.Admission as admission;
+ghost use Rattle.kapi_admission.specs.Admission.{put_entries, version_of, admitted, faults_on};
+ghost use Rattle.kapi_object.specs.Tree.{metadata_member, put_if};
+ghost use Rattle.kapi_object.specs.Given.{given_of};
+ghost use Rattle.kapi_object.specs.Given as gives;
+ghost use Rattle.kapi_object.specs.Object.{tree_of};
+ghost use Rattle.kapi_object.specs.Order.{is_ordered};
+ghost use Rattle.kapi_object.specs.Tree.{json_object};
+ghost use Rattle.kapi_object.specs.Tree as trees;
+
+use crate::float::has_float;
+use crate::metadata::collect_metadata_faults;
+use crate::object_error::ObjectError;
+use crate::table_faults::push_typed_faults;
+use kapi_names::{FieldFault, ResourceRow, Schema};
+use kapi_object::Object;
+use kapi_object::contents::content;
+use kapi_object::given::{Given, GivenText, given_in};
+use kapi_object::tree::{has_no_members, member_of_metadata};
+use kapi_text::{Memory, Sequence};
+use serde_json::{Map, Value, put};
+use std::alloc::Global;
+
+fn is_empty_object(value: &Value) -> bool
+    ensures { result ≡ trees.is_empty_object (view value.now) }
+{
+    match value {
+        Value::Object(members) => has_no_members(members),
+        _other => false,
+    }
+}
+
+/// Keeps a member of the metadata, if there is one.
+fn keep(alloc: Global, kept: &mut Map<String, Value>, tree: &Value, key: &str) -> Result<(), Memory>
+    ensures { OnOk result (members_view kept.new.entries
+        ≡ put_if key.now (metadata_member key.now (view tree.now)) (members_view kept.old.entries)) }
+{
+    match member_of_metadata(tree, key) {
+        Some(value) => put(kept, alloc, key, value.clone()?),
+        None => Ok(()),
+    }
+}
+
+/// Keeps labels or annotations, if there are any.
+fn keep_entries(
+    alloc: Global,
+    kept: &mut Map<String, Value>,
+    tree: &Value,
+    key: &str,
+) -> Result<(), Memory>
+    ensures { OnOk result (members_view kept.new.entries
+        ≡ put_entries key.now (metadata_member key.now (view tree.now)) (members_view kept.old.entries)) }
+{
+    let Some(value) = member_of_metadata(tree, key) else {
+        return Ok(());
+    };
+    if is_empty_object(value) {
+        return Ok(());
+    }
+    put(kept, alloc, key, value.clone()?)
+}
+
+/// The metadata that is kept of the tree's.
+#[tactic(auto, unfolding(crate::specs::Admission::kept_metadata))]
+fn kept_metadata(
+    alloc: Global,
+    row: &ResourceRow,
+    tree: &Value,
+) -> Result<Map<String, Value>, Memory>
+    ensures { IfOk result (λ m. members_view m.entries ≡ admission.kept_metadata row.now (view tree.now)) }
+{
+    let mut kept = Map::new(alloc);
+    keep_entries(alloc, &mut kept, tree, "labels")?;
+    keep_entries(alloc, &mut kept, tree, "annotations")?;
+    keep(alloc, &mut kept, tree, "name")?;
+    if row.namespaced {
+        keep(alloc, &mut kept, tree, "namespace")?;
+    }
+    keep(alloc, &mut kept, tree, "resourceVersion")?;
+    Ok(kept)
+}
+
+/// The tree as the row keeps it; `version` is the row's.
+#[tactic(auto, unfolding(crate::specs::Admission::kept_tree))]
+fn kept_tree(alloc: Global, row: &ResourceRow, version: &str, tree: Value) -> Result<Value, Memory>
+    requires { version.now ≡ version_of row.now }
+    ensures { IfOk result (λ v. view v ≡ admission.kept_tree row.now (view tree)) }
+{
+    let metadata = kept_metadata(alloc, row, &tree)?;
+    let kind = Value::String(String::from_str(alloc, row.kind.as_str())?);
+    let version = Value::String(String::from_str(alloc, version)?);
+    let mut members = content(alloc, row.schema, tree)?;
+    put(&mut members, alloc, "apiVersion", version)?;
+    put(&mut members, alloc, "kind", kind)?;
+    put(&mut members, alloc, "metadata", Value::Object(metadata))?;
+    Ok(Value::Object(members))
+}
+
+/// What the body's metadata gives, on the row.
+#[tactic(auto, unfolding(kapi_object::specs::Given::given_on))]
+fn given_on(alloc: Global, row: &ResourceRow, tree: &Value) -> Result<Given, Memory>
+    ensures { IfOk result (λ g. g ≡ gives.given_on row.now (view tree.now)) }
+{
+    let given = given_in(alloc, tree)?;
+    if row.namespaced {
+        Ok(given)
+    } else {
+        Ok(Given {
+            name: given.name,
+            namespace: GivenText::Absent,
+            resource_version: given.resource_version,
+        })
+    }
+}
+
+/// What objects of the row tell as their version: with the group before it, where that has a name.
+fn api_version(alloc: Global, row: &ResourceRow) -> Result<String, Memory>
+    ensures { IfOk result (λ s. string_bytes s ≡ version_of row.now) }
+{
+    if row.group.as_str().is_empty() {
+        return String::from_str(alloc, row.version.as_str());
+    }
+    let mut version = String::from_str(alloc, row.group.as_str())?;
+    version.push_str("/")?;
+    version.push_str(row.version.as_str())?;
+    Ok(version)
+}
+
+/// Whether something else than the text stands at the key.
+fn has_other(tree: &Value, key: &str, text: &str) -> bool
+    ensures { result ≡ is_other text.now (get key.now (view tree.now)) }
+{
+    match tree.get(key) {
+        Some(Value::String(found)) => found.as_str() != text,
+        Some(_other) => true,
+        None => false,
+    }
+}
+
+/// The JSON object that the bytes are.
+#[tactic(auto, unfolding(kapi_object::specs::Tree::json_object))]
+fn read_tree(alloc: Global, bytes: &[u8]) -> Result<Value, ObjectError>
+    ensures object { Gives told view result (ok_or (json_object bytes.now) not_json) }
+    ensures ordered { IfOk result (λ v. is_ordered (view v) ≡ true) }
+{
+    match Value::from_slice(alloc, bytes) {
+        Ok(tree) => {
+            if tree.is_object() {
+                Ok(tree)
+            } else {
+                Err(ObjectError::NotJson)
+            }
+        }
+        Err(error) => {
+            if error.is_memory() {
+                Err(ObjectError::Memory)
+            } else {
+                Err(ObjectError::NotJson)
+            }
+        }
+    }
+}
+
+/// What is wrong with a tree on a row of the schema, in order.
+#[tactic(auto, unfolding(crate::specs::Admission::faults_on))]
+pub fn collect_faults(
+    alloc: Global,
+    schema: Schema,
+    tree: &Value,
+) -> Result<Vec<FieldFault>, Memory>
+    ensures { IfOk result (λ v. v.items ≡ faults_on schema (view tree.now)) }
+{
+    let mut faults = collect_metadata_faults(alloc, tree)?;
+    push_typed_faults(alloc, &mut faults, schema, tree)?;
+    Ok(faults)
+}
+
+/// The tree as its row keeps it, or the list of its faults.
+#[tactic(auto, unfolding(crate::specs::Admission::admitted))]
+fn admit(
+    alloc: Global,
+    row: &ResourceRow,
+    version: &str,
+    tree: Value,
+) -> Result<Object, ObjectError>
+    requires version { version.now ≡ version_of row.now }
+    requires whole { written.has_float (view tree) ≡ false }
+    requires ordered { is_ordered (view tree) ≡ true }
+    ensures object { Gives told tree_of result (admitted row.now (view tree)) }
+    ensures given { IfOk result (λ o. given_of (tree_of o) ≡ gives.given_on row.now (view tree)) }
+    ensures clean { IfOk result (λ o. faults_on row.now.schema (tree_of o) ≡ []) }
+{
+    let faults = collect_faults(alloc, row.schema, &tree)?;
+    if !faults.is_empty() {
+        let given = given_on(alloc, row, &tree)?;
+        return Err(ObjectError::Invalid(given, Sequence::new(faults)));
+    }
+    Ok(Object::new(kept_tree(alloc, row, version, tree)?))
+}
+
+/// The object of a row that a body is, as the row keeps it.
+///
+/// An Open row keeps the members of the body as they are, but for `apiVersion` and `kind`, which are filled in where
+/// they are missing, and `metadata`, of which name, namespace, resource version, labels and annotations are kept. A
+/// row of roles or bindings keeps the members of its kind alone (Kubernetes API, rbac.authorization.k8s.io/v1).
+#[tactic(auto, unfolding(crate::specs::Admission::read_as))]
+pub fn read_object(alloc: Global, row: &ResourceRow, bytes: &[u8]) -> Result<Object, ObjectError>
+    ensures object { Gives told tree_of result (object_of row.now bytes.now) }
+
+    // what the object gives is what the body gives
+    ensures given { IfOk result (λ o. (tree : Data)
+        → json_object bytes.now ≡ Some tree → given_of (tree_of o) ≡ gives.given_on row.now tree) }
+
+    // what is kept of a body without faults has none
+    ensures clean { IfOk result (λ o. faults_on row.now.schema (tree_of o) ≡ []) }
+{
+    let tree = read_tree(alloc, bytes)?;
+    if has_float(&tree) {
+        return Err(ObjectError::Float);
+    }
+    if has_other(&tree, "kind", row.kind.as_str()) {
+        return Err(ObjectError::WrongKind);
+    }
+    let version = api_version(alloc, row)?;
+    if has_other(&tree, "apiVersion", version.as_str()) {
+        return Err(ObjectError::WrongVersion);
+    }
+    admit(alloc, row, version.as_str(), tree)
+}

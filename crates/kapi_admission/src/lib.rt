@@ -1,0 +1,21 @@
+//! Which bodies are objects of a row: what is wrong with one, and the tree that is kept.
+#![tactic(auto)]
+
+mod admission;
+mod float;
+mod metadata;
+pub mod object_error;
+mod path;
+pub mod table;
+pub mod table_faults;
+pub mod table_kept;
+#[cfg(test)]
+mod tests;
+pub mod text_rule;
+pub mod typed_list;
+#[cfg(test)]
+mod typed_tests;
+pub mod word;
+
+pub use admission::{collect_faults, read_object};
+pub use object_error::ObjectError;

@@ -1,0 +1,82 @@
+-- Rules that are the same entry by entry are equal; so are lists of rules.
+use Rattle.std.proofs.Common.{◌≡◌, ℕ, List, [], ◌∷◌, Bool, true, false, not, refl, ap, ◌∙◌, Decides}
+use Rattle.std.specs.List.{AllByRecursion}
+use Rattle.std.specs.Str.{bytes_eq}
+use Rattle.kapi_names.specs.declared.policy_rule.PolicyRule.{PolicyRule}
+use Rattle.kapi_aggregation.specs.Roles.{Labelled, is_aggregated}
+use Rattle.kapi_aggregation.specs.Unions.{IsSettled, IsUnion, same_rule, same_rules, same_texts, union_for}
+use Rattle.kapi_aggregation.specs.Turns.{differs}
+use Rattle.kapi_aggregation.specs.Marks.{Covers, IsCovered}
+use Rattle.kapi_aggregation.proofs.Lists.{and_true, both_true, itself, same_text}
+
+same_texts_are : (xs ys : List (List ℕ)) → same_texts xs ys ≡ true → xs ≡ ys
+same_texts_are [] [] h = refl
+same_texts_are [] (y ∷ ys) h = absurd (cc h)
+same_texts_are (x ∷ xs) [] h = absurd (cc h)
+same_texts_are (x ∷ xs) (y ∷ ys) h =
+    let parts = and_true (bytes_eq x y) (same_texts xs ys) h in
+    ap (λ (z : List ℕ). z ∷ xs) (same_text x y parts.0) ∙ ap (λ (zs : List (List ℕ)). y ∷ zs) (same_texts_are xs ys parts.1)
+
+same_texts_itself : (xs : List (List ℕ)) → same_texts xs xs ≡ true
+same_texts_itself [] = refl
+same_texts_itself (x ∷ xs) = both_true (bytes_eq x x) (same_texts xs xs) (itself x) (same_texts_itself xs)
+
+same_rule_is : (a b : PolicyRule) → same_rule a b ≡ true → a ≡ b
+same_rule_is a b h =
+    let verbs = and_true (same_texts a.verbs b.verbs) _ h in
+    let groups = and_true (same_texts a.api_groups b.api_groups) _ verbs.1 in
+    let resources = and_true (same_texts a.resources b.resources) _ groups.1 in
+    let names = and_true (same_texts a.resource_names b.resource_names) _ resources.1 in
+    λ i. record {
+      verbs = same_texts_are a.verbs b.verbs verbs.0 i;
+      api_groups = same_texts_are a.api_groups b.api_groups groups.0 i;
+      resources = same_texts_are a.resources b.resources resources.0 i;
+      resource_names = same_texts_are a.resource_names b.resource_names names.0 i;
+      non_resource_urls = same_texts_are a.non_resource_urls b.non_resource_urls names.1 i;
+    }
+
+same_rule_itself : (a : PolicyRule) → same_rule a a ≡ true
+same_rule_itself a =
+    both_true (same_texts a.verbs a.verbs) _ (same_texts_itself a.verbs)
+    (both_true (same_texts a.api_groups a.api_groups) _ (same_texts_itself a.api_groups)
+    (both_true (same_texts a.resources a.resources) _ (same_texts_itself a.resources)
+    (both_true (same_texts a.resource_names a.resource_names) _ (same_texts_itself a.resource_names)
+    (same_texts_itself a.non_resource_urls))))
+
+-- the test on rules decides their equality
+pub same_rule_decides : (a b : PolicyRule) → Decides (same_rule a b) (a ≡ b)
+same_rule_decides a b = (same_rule_is a b, λ e. rw e (same_rule_itself b))
+
+pub same_rules_are : (xs ys : List PolicyRule) → same_rules xs ys ≡ true → xs ≡ ys
+same_rules_are [] [] h = refl
+same_rules_are [] (y ∷ ys) h = absurd (cc h)
+same_rules_are (x ∷ xs) [] h = absurd (cc h)
+same_rules_are (x ∷ xs) (y ∷ ys) h =
+    let parts = and_true (same_rule x y) (same_rules xs ys) h in
+    ap (λ (z : PolicyRule). z ∷ xs) (same_rule_is x y parts.0) ∙ ap (λ (zs : List PolicyRule). y ∷ zs) (same_rules_are xs ys parts.1)
+
+pub same_rules_itself : (xs : List PolicyRule) → same_rules xs xs ≡ true
+same_rules_itself [] = refl
+same_rules_itself (x ∷ xs) = both_true (same_rule x x) (same_rules xs xs) (same_rule_itself x) (same_rules_itself xs)
+
+-- ---- settled roles
+
+contradicts : (b : Bool) → b ≡ true → not b ≡ true → ⊥
+contradicts true h k = absurd (cc k)
+contradicts false h k = absurd (cc h)
+
+-- a role whose rules are its union does not differ
+union_is_same : (roles : List Labelled) (r : Labelled) → IsUnion roles r → differs roles r ≡ true → ⊥
+union_is_same roles r is h =
+    let parts = and_true (is_aggregated r) (not (same_rules r.role.rules (union_for roles r))) h in
+    let equal : r.role.rules ≡ union_for roles r = is parts.0 in
+    let same : same_rules r.role.rules (union_for roles r) ≡ true = rw (← equal) (same_rules_itself r.role.rules) in
+    contradicts (same_rules r.role.rules (union_for roles r)) same parts.1
+
+settled_among : (marks : List (List ℕ)) (roles rs : List Labelled) → AllByRecursion (IsUnion roles) rs → AllByRecursion (IsCovered marks roles) rs
+settled_among marks roles [] h = tt
+settled_among marks roles (r ∷ rs) h = (λ d. absurd (union_is_same roles r h.0 d), settled_among marks roles rs h.1)
+
+-- any marks cover settled roles
+pub settled_covers : (marks : List (List ℕ)) (roles : List Labelled) → IsSettled roles → Covers marks roles
+settled_covers marks roles h = settled_among marks roles roles h

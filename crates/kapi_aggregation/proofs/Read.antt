@@ -1,0 +1,126 @@
+-- The cluster roles of a list of cluster roles are those of the store, and they are in the order of their names.
+use Rattle.std.proofs.Common.{◌≡◌, ℕ, List, [], ◌∷◌, Bool, true, false, cond, ◌&&◌, ◌==◌, length, refl, sym, ap, ◌∙◌, subst, map, codes}
+use Rattle.std.proofs.Math.Dec.{eqb-suc-zero}
+use Rattle.std.proofs.lemmas.Map.Text.{is_eq-slice_cmp}
+use Rattle.std.specs.Cmp.Lexicographic.{slice_cmp}
+use Rattle.std.specs.List.{AllByRecursion, filter, list_all}
+use Rattle.std.specs.List.Sorted.{IsStrictlySortedBy}
+use Rattle.std.specs.Map.{keys_of}
+use Rattle.std.specs.Ordering.{is_eq, nat_cmp, ordering_then}
+use Rattle.std.specs.Str.{bytes_eq}
+use Rattle.std.specs.declared.cmp.Ordering.{Ordering}
+use Rattle.std.specs.declared.cmp.Ordering.TheVariants.{Less, Equal, Greater}
+use Rattle.serde_json.specs.Data.{Data}
+use Rattle.kapi_names.specs.Kinds.{rbac_group}
+use Rattle.kapi_names.specs.Selector.{has_label, is_met, matches}
+use Rattle.kapi_names.specs.declared.row.ResourceRow.{ResourceRow}
+use Rattle.kapi_names.specs.declared.selector.Selector.{Selector}
+use Rattle.kapi_object.specs.declared.object.Object.{Object}
+use Rattle.kapi_store.specs.Keys.{key_cmp}
+use Rattle.kapi_store.specs.Listing.{is_listed, is_within, listed_trees}
+use Rattle.kapi_store.specs.Plain.{plain_of, trees}
+use Rattle.kapi_store.specs.State.{IsStore, State, objects}
+use Rattle.kapi_store.specs.declared.key.Key.{Key}
+use Rattle.kapi_aggregation.specs.Roles.{IsInNameOrder, Labelled, is_cluster_role, labelled_tree, labels_in, names_of, roles_in}
+use Rattle.kapi_aggregation.proofs.Lists.{and_fails, and_true, both_true, filter_alike, filter_twice, itself, same_text}
+
+-- ---- what is listed
+
+module _ (row : ResourceRow) (selector : Selector) (group : row.group ≡ rbac_group) (plural : row.plural ≡ codes "clusterroles")
+    (labels : selector.match_labels ≡ []) (expressions : selector.match_expressions ≡ []) where
+  within : (k : Key) → is_cluster_role k ≡ true → is_within row [] [] k ≡ true
+  unfolding is_cluster_role
+  within k is =
+      let parts = and_true (bytes_eq k.group rbac_group) _ is in
+      let others = and_true (bytes_eq k.resource (codes "clusterroles")) _ parts.1 in
+      let first : row.group ≡ k.group = group ∙ sym (same_text k.group rbac_group parts.0) in
+      let second : row.plural ≡ k.resource = plural ∙ sym (same_text k.resource (codes "clusterroles") others.0) in
+      both_true (bytes_eq row.group k.group) _ (rw first (itself k.group))
+      (both_true (bytes_eq row.plural k.resource) true (rw second (itself k.resource)) refl)
+
+  meant : (tree : Data) → matches selector (labels_in tree) ≡ true
+  meant tree = both_true (list_all (has_label (labels_in tree)) selector.match_labels) _ (ap (list_all (has_label (labels_in tree))) labels) (ap (list_all (is_met (labels_in tree))) expressions)
+
+  listed_too : (e : Key × Data) → (is_listed row [] selector [] e.0 e.1 && is_cluster_role e.0) ≡ is_cluster_role e.0
+  unfolding is_listed
+  listed_too e = by_case (is_cluster_role e.0) refl
+    where
+      by_case : (b : Bool) → is_cluster_role e.0 ≡ b → ((is_within row [] [] e.0 && matches selector (labels_in e.1)) && b) ≡ b
+      by_case true is = both_true _ true (both_true (is_within row [] [] e.0) (matches selector (labels_in e.1)) (within e.0 is) (meant e.1)) refl
+      by_case false is = and_fails _ false refl
+
+  listed_roles : (os : List (Key × Data)) → roles_in (listed_trees row [] selector [] os) ≡ roles_in os
+  listed_roles os =
+      ap (map labelled_tree) (filter_twice (λ (e : Key × Data). is_cluster_role e.0) (λ e. is_listed row [] selector [] e.0 e.1) os
+      ∙ filter_alike (λ (e : Key × Data). is_listed row [] selector [] e.0 e.1 && is_cluster_role e.0) (λ e. is_cluster_role e.0) listed_too os)
+
+-- the roles among what is listed are those of the store
+pub read_roles : (row : ResourceRow) (selector : Selector) (os listed : List (Key × Data)) (roles : List Labelled)
+    → row.group ≡ rbac_group → row.plural ≡ codes "clusterroles" → selector.match_labels ≡ [] → selector.match_expressions ≡ []
+    → roles ≡ roles_in listed → listed ≡ listed_trees row [] selector [] os → roles ≡ roles_in os
+read_roles row selector os listed roles group plural labels expressions made are =
+    made ∙ ap roles_in are ∙ listed_roles row selector group plural labels expressions os
+
+-- ---- the order of names
+
+then_after : (o p q : Ordering) → o ≡ Equal → ordering_then o p ≡ q → p ≡ q
+then_after Less p q is h = absurd (cc is)
+then_after Equal p q is h = h
+then_after Greater p q is h = absurd (cc is)
+
+is_equal : (o : Ordering) → is_eq o ≡ true → o ≡ Equal
+is_equal Less h = absurd (cc h)
+is_equal Equal h = refl
+is_equal Greater h = absurd (cc h)
+
+compares : (a b : List ℕ) → a ≡ b → slice_cmp nat_cmp a b ≡ Equal
+compares a b same = is_equal (slice_cmp nat_cmp a b) (is_eq-slice_cmp a b ∙ ap (λ (s : List ℕ). bytes_eq s b) same ∙ itself b)
+
+empty_is : (xs : List ℕ) → (length xs == 0) ≡ true → xs ≡ []
+empty_is [] h = refl
+empty_is (x ∷ xs) h =
+    let P : Bool → Type 0 = λ b. b ≡ true in
+    absurd (cc (subst P (eqb-suc-zero (length xs)) h))
+
+-- of two keys of cluster roles in order the names are in order
+name_less : (a b : Key) → is_cluster_role a ≡ true → is_cluster_role b ≡ true → key_cmp a b ≡ Less → slice_cmp nat_cmp a.name b.name ≡ Less
+unfolding is_cluster_role
+name_less a b one other less =
+    let first = and_true (bytes_eq a.group rbac_group) _ one in
+    let second = and_true (bytes_eq b.group rbac_group) _ other in
+    let third = and_true (bytes_eq a.resource (codes "clusterroles")) _ first.1 in
+    let fourth = and_true (bytes_eq b.resource (codes "clusterroles")) _ second.1 in
+    let groups = same_text a.group rbac_group first.0 ∙ sym (same_text b.group rbac_group second.0) in
+    let resources = same_text a.resource (codes "clusterroles") third.0 ∙ sym (same_text b.resource (codes "clusterroles") fourth.0) in
+    let namespaces = empty_is a.namespace third.1 ∙ sym (empty_is b.namespace fourth.1) in
+    then_after (slice_cmp nat_cmp a.namespace b.namespace) _ Less (compares a.namespace b.namespace namespaces)
+    (then_after (slice_cmp nat_cmp a.resource b.resource) _ Less (compares a.resource b.resource resources)
+    (then_after (slice_cmp nat_cmp a.group b.group) _ Less (compares a.group b.group groups) less))
+
+all_names : (k : Key) → is_cluster_role k ≡ true → (es : List (Key × Data)) → AllByRecursion (λ l. key_cmp k l ≡ Less) (keys_of es)
+    → AllByRecursion (λ n. slice_cmp nat_cmp k.name n ≡ Less) (names_of (roles_in es))
+all_names k is [] h = tt
+all_names k is (e ∷ es) h = by_case (is_cluster_role e.0) refl (all_names k is es h.1)
+  where
+    by_case : (b : Bool) → is_cluster_role e.0 ≡ b → AllByRecursion (λ n. slice_cmp nat_cmp k.name n ≡ Less) (names_of (roles_in es))
+        → AllByRecursion (λ n. slice_cmp nat_cmp k.name n ≡ Less) (names_of (map labelled_tree (cond b (e ∷ filter (λ e. is_cluster_role e.0) es) (filter (λ e. is_cluster_role e.0) es))))
+    by_case true cluster rest = (name_less k e.0 is cluster h.0, rest)
+    by_case false cluster rest = rest
+
+roles_ordered : (es : List (Key × Data)) → IsStrictlySortedBy key_cmp (keys_of es) → IsInNameOrder (roles_in es)
+unfolding IsStrictlySortedBy
+roles_ordered [] h = tt
+roles_ordered (e ∷ es) h = by_case (is_cluster_role e.0) refl (roles_ordered es h.1)
+  where
+    by_case : (b : Bool) → is_cluster_role e.0 ≡ b → IsStrictlySortedBy (slice_cmp nat_cmp) (names_of (roles_in es))
+        → IsStrictlySortedBy (slice_cmp nat_cmp) (names_of (map labelled_tree (cond b (e ∷ filter (λ e. is_cluster_role e.0) es) (filter (λ e. is_cluster_role e.0) es))))
+    by_case true is rest = (all_names e.0 is es h.0, rest)
+    by_case false is rest = rest
+
+keys_of_trees : (os : List (Key × Object)) → keys_of (trees os) ≡ keys_of os
+keys_of_trees [] = refl
+keys_of_trees (o ∷ os) = ap (λ (ks : List Key). o.0 ∷ ks) (keys_of_trees os)
+
+-- the roles of a store are in the order of their names
+pub read_order : (s : State) (roles : List Labelled) → IsStore s → roles ≡ roles_in (plain_of s).objects → IsInNameOrder roles
+read_order s roles is are = rw (are) (roles_ordered (trees (objects s)) (rw (keys_of_trees (objects s)) is.ordered))

@@ -1,0 +1,8 @@
+use Rattle.std.proofs.Common.{◌≡◌, map, take}
+use Rattle.std.specs.List.{fold}
+use Rattle.kapi_aggregation.specs.Unions.{rules_meant, with_rule}
+use Rattle.kapi_aggregation.specs.Views.{labelled}
+use Rattle.kapi_aggregation.proofs.union.add_meant.Given as goal
+
+abbrev pub invariant-loop-role : goal.invariant-loop-role
+invariant-loop-role l = l.rules.items ≡ fold with_rule l.initial.rules.items (rules_meant (map labelled (take l.role-index l.roles)) l.name l.selector)

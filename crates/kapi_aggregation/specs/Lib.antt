@@ -1,0 +1,6 @@
+pub mod Roles
+pub mod Unions
+pub mod Turns
+pub mod Marks
+pub mod Views
+pub mod Lent

@@ -1,0 +1,8 @@
+-- What contracts see of a cluster role that is read.
+use Rattle.kapi_names.specs.Selector.{labels_of}
+use Rattle.kapi_aggregation.specs.Roles.{Labelled}
+use Rattle.kapi_aggregation.specs.declared.roles.NamedRole.{NamedRole}
+
+-- a cluster role with its name and its labels
+abbrev pub labelled : NamedRole → Labelled
+labelled r = record { name = r.name.now; labels = labels_of r.labels; role = r.role }

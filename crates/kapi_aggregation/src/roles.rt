@@ -1,0 +1,149 @@
+//! The cluster roles of a store.
+ghost use Rattle.std.specs.Prelude.{◌≡◌, [], codes, map, IfOk};
+ghost use Rattle.std.proofs.Props.{props};
+ghost use Rattle.kapi_names.specs.Kinds.{rbac_group};
+ghost use Rattle.kapi_names.specs.Selector.{labels_of};
+ghost use Rattle.kapi_object.specs.Object.{tree_of};
+ghost use Rattle.kapi_store.specs.Plain.{plain_of, trees};
+ghost use Rattle.kapi_store.specs.Listing.{shown};
+ghost use Rattle.kapi_aggregation.specs.Roles.{IsInNameOrder, is_aggregated as is_aggregated_of, is_cluster_role as is_cluster_role_key, labelled_tree, roles_in, selectors_of};
+ghost use Rattle.kapi_aggregation.specs.Views.{labelled};
+
+use kapi_names::{Labels, RBAC_GROUP, ResourceRow, Schema, Selector};
+use kapi_rbac_types::{ClusterRole, cluster_role};
+use kapi_store::{Key, Listed, Store};
+use kapi_text::{Memory, Sequence, Text};
+use std::alloc::Global;
+
+/// A cluster role with its name and its labels.
+#[derive(Drop)]
+pub(crate) struct NamedRole<'a> {
+    pub name: &'a Text,
+    pub labels: Labels<'a>,
+    pub role: ClusterRole,
+}
+
+impl<'a> NamedRole<'a> {
+    /// The selectors that say which cluster roles it takes its rules from; none where it is not aggregated.
+    pub(crate) fn selectors(&self) -> &[Selector]
+        ensures { result.now ≡ selectors_of (labelled self.now) }
+    {
+        match &self.role.aggregation_rule {
+            Some(rule) => rule.cluster_role_selectors.as_slice(),
+            None => &[],
+        }
+    }
+
+    /// Whether it takes its rules from others.
+    pub(crate) fn is_aggregated(&self) -> bool
+        ensures { result ≡ is_aggregated_of (labelled self.now) }
+    {
+        self.role.aggregation_rule.is_some()
+    }
+}
+
+/// The cluster roles of a store, in the order of their names by bytes. Names and labels are borrowed from it.
+#[derive(Drop)]
+pub struct ClusterRoles<'a> {
+    list: Vec<NamedRole<'a>>,
+    ghost ordered: { IsInNameOrder (map labelled list.items) } by { Prim.hlevel props },
+}
+
+/// Whether the key is of a cluster role.
+#[tactic(auto, unfolding(crate::specs::Roles::is_cluster_role))]
+pub fn is_cluster_role(key: &Key) -> bool
+    ensures { result ≡ is_cluster_role_key key.now }
+{
+    key.group.as_str() == RBAC_GROUP
+        && (key.resource.as_str() == "clusterroles" && key.namespace.as_str().is_empty())
+}
+
+/// The row by which cluster roles are listed.
+fn cluster_roles_row(alloc: Global) -> Result<ResourceRow, Memory>
+    ensures group { IfOk result (λ r. r.group ≡ rbac_group) }
+    ensures plural { IfOk result (λ r. r.plural ≡ codes "clusterroles") }
+{
+    Ok(ResourceRow {
+        group: Text::copy_of(alloc, RBAC_GROUP)?,
+        version: Text::copy_of(alloc, "v1")?,
+        plural: Text::copy_of(alloc, "clusterroles")?,
+        kind: Text::copy_of(alloc, "ClusterRole")?,
+        namespaced: false,
+        has_status: false,
+        schema: Schema::ClusterRole,
+    })
+}
+
+/// The selector of all labels.
+fn everything(alloc: Global) -> Selector
+    ensures labels { result.match_labels ≡ [] }
+    ensures expressions { result.match_expressions ≡ [] }
+{
+    Selector {
+        match_labels: Sequence::new(Vec::new(alloc)),
+        match_expressions: Sequence::new(Vec::new(alloc)),
+    }
+}
+
+/// The cluster role that a listed object is.
+fn named_role<'a>(alloc: Global, listed: &Listed<'a>) -> Result<NamedRole<'a>, Memory>
+    ensures { IfOk result (λ r. labelled r ≡ labelled_tree (listed.now.key.now, tree_of listed.now.object.now)) }
+{
+    let object = listed.object.get();
+    Ok(NamedRole {
+        name: &listed.key.name,
+        labels: object.labels(),
+        role: cluster_role(alloc, object.as_tree())?,
+    })
+}
+
+/// The cluster roles among some objects of a list, in its order.
+fn named_roles<'a>(alloc: Global, list: &[Listed<'a>]) -> Result<Vec<NamedRole<'a>>, Memory>
+    ensures { IfOk result (λ v. map labelled v.items ≡ roles_in (trees (map shown list.now))) }
+{
+    let mut roles = Vec::with_capacity(alloc, list.len())?;
+    for listed in list {
+        if is_cluster_role(listed.key) {
+            roles.push(named_role(alloc, listed)?)?;
+        }
+    }
+    Ok(roles)
+}
+
+/// The cluster roles of the store.
+#[tactic(auto, using(crate::proofs::Read::read_roles, crate::proofs::Read::read_order))]
+fn read_roles<'a>(alloc: Global, store: &'a Store) -> Result<Vec<NamedRole<'a>>, Memory>
+    ensures roles { IfOk result (λ v. map labelled v.items ≡ roles_in (plain_of store.now).objects) }
+    ensures ordered { IfOk result (λ v. IsInNameOrder (map labelled v.items)) }
+{
+    let _revision = store.revision();
+    let row = cluster_roles_row(alloc)?;
+    let selector = everything(alloc);
+    let list = store.list(&row, "", &selector, "")?;
+    named_roles(alloc, list.as_slice())
+}
+
+impl<'a> ClusterRoles<'a> {
+    ghost use Rattle.std.specs.Prelude.{◌≡◌, map, IfOk};
+    ghost use Rattle.kapi_store.specs.Plain.{plain_of};
+    ghost use Rattle.kapi_aggregation.specs.Roles.{IsInNameOrder, roles_in};
+    ghost use Rattle.kapi_aggregation.specs.Views.{labelled};
+    ghost use Rattle.kapi_aggregation.specs.Lent.{roles_of};
+
+    /// The cluster roles of the store. Of its other objects none is looked at.
+    pub fn read(alloc: Global, store: &'a Store) -> Result<ClusterRoles<'a>, Memory>
+        ensures { IfOk result (λ r. roles_of r ≡ roles_in (plain_of store.now).objects) }
+    {
+        Ok(ClusterRoles {
+            list: read_roles(alloc, store)?,
+        })
+    }
+
+    /// The roles, borrowed.
+    pub(crate) fn as_slice(&self) -> &[NamedRole<'a>]
+        ensures roles { map labelled result.now ≡ roles_of self.now }
+        ensures ordered { IsInNameOrder (roles_of self.now) }
+    {
+        self.list.as_slice()
+    }
+}

@@ -1,0 +1,107 @@
+//! What an aggregated cluster role takes from the others.
+ghost use Rattle.std.specs.Prelude.{◌≡◌, [], map, if◌then◌else◌, IfOk, OnOk, option_copied};
+ghost use Rattle.std.specs.List.{find, flat_map, fold, list_any};
+ghost use Rattle.std.specs.Str.{bytes_eq};
+ghost use Rattle.kapi_aggregation.specs.Unions.{is_meant as is_meant_by, rules_meant, same_rule as same_rule_as, union, union_for as union_for_role, with_rule};
+ghost use Rattle.kapi_aggregation.specs.Lent.{roles_of};
+ghost use Rattle.kapi_aggregation.specs.Views.{labelled};
+
+use crate::roles::{ClusterRoles, NamedRole};
+use crate::same::same_rule;
+use kapi_names::{PolicyRule, Selector};
+use kapi_text::{Memory, TryCopy};
+use std::alloc::Global;
+
+/// The union of the cluster role of the name: the rules of the cluster roles that its selectors mean, by the selectors in their order,
+/// then by name, without its own, each rule once, where it stands first. It is empty where the role takes nothing from others, or
+/// is not there.
+#[tactic(auto, using(crate::proofs::Named::named_mapped))]
+pub fn union_of(
+    alloc: Global,
+    roles: &ClusterRoles<'_>,
+    name: &str,
+) -> Result<Vec<PolicyRule>, Memory>
+    ensures { IfOk result (λ v. v.items ≡ union (roles_of roles.now) name.now) }
+{
+    match named(roles.as_slice(), name) {
+        Some(role) => union_for(alloc, roles.as_slice(), role),
+        None => Ok(Vec::new(alloc)),
+    }
+}
+
+/// The role of the name.
+fn named<'a, 'b>(roles: &'a [NamedRole<'b>], name: &str) -> Option<&'a NamedRole<'b>>
+    ensures { option_copied result ≡ find (λ r. bytes_eq r.name.now name.now) roles.now }
+{
+    roles.iter().find(|role| role.name.as_str() == name)
+}
+
+/// The union of the role.
+#[tactic(auto, unfolding(crate::specs::Unions::union_for))]
+pub(crate) fn union_for(
+    alloc: Global,
+    roles: &[NamedRole<'_>],
+    role: &NamedRole<'_>,
+) -> Result<Vec<PolicyRule>, Memory>
+    ensures { IfOk result (λ v. v.items ≡ union_for_role (map labelled roles.now) (labelled role.now)) }
+{
+    let mut rules = Vec::new(alloc);
+    for selector in role.selectors() {
+        add_meant(alloc, &mut rules, roles, role.name.as_str(), selector)?;
+    }
+    Ok(rules)
+}
+
+/// Adds the rules of the roles that the selector means, but for the role of that name.
+fn add_meant(
+    alloc: Global,
+    rules: &mut Vec<PolicyRule>,
+    roles: &[NamedRole<'_>],
+    name: &str,
+    selector: &Selector,
+) -> Result<(), Memory>
+    ensures { OnOk result (rules.new.items ≡ fold with_rule rules.old.items (rules_meant (map labelled roles.now) name.now selector.now)) }
+{
+    for role in roles {
+        if is_meant(role, name, selector) {
+            add_rules(alloc, rules, role.role.rules.as_slice())?;
+        }
+    }
+    Ok(())
+}
+
+/// Whether the selector means a role that is not the one of that name.
+fn is_meant(role: &NamedRole<'_>, name: &str, selector: &Selector) -> bool
+    ensures { result ≡ is_meant_by name.now selector.now (labelled role.now) }
+{
+    role.name.as_str() != name && selector.matches(&role.labels)
+}
+
+fn add_rules(
+    alloc: Global,
+    rules: &mut Vec<PolicyRule>,
+    others: &[PolicyRule],
+) -> Result<(), Memory>
+    ensures { OnOk result (rules.new.items ≡ fold with_rule rules.old.items others.now) }
+{
+    for other in others {
+        add_rule(alloc, rules, other)?;
+    }
+    Ok(())
+}
+
+/// Adds the rule at the end, unless it is there already.
+fn add_rule(alloc: Global, rules: &mut Vec<PolicyRule>, rule: &PolicyRule) -> Result<(), Memory>
+    ensures { OnOk result (rules.new.items ≡ with_rule rules.old.items rule.now) }
+{
+    if !is_among(rules.as_slice(), rule) {
+        rules.push(rule.copy(alloc)?)?;
+    }
+    Ok(())
+}
+
+fn is_among(rules: &[PolicyRule], rule: &PolicyRule) -> bool
+    ensures { result ≡ list_any (λ f. same_rule_as f rule.now) rules.now }
+{
+    rules.iter().any(|found| same_rule(found, rule))
+}

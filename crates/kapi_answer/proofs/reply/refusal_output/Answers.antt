@@ -1,7 +1,0 @@
-use Rattle.std.proofs.Common.{◌∙◌, ap}
-use Rattle.serde_json.specs.Written.{members_have_float}
-use Rattle.kapi_answer.proofs.Floats.{details_whole}
-use Rattle.kapi_answer.proofs.reply.refusal_output.Goals as goal
-
-pub status_text-requires : goal.status_text-requires
-status_text-requires c = ap (λ f. members_have_float f.details) c.in_ok-failure.ensures ∙ details_whole c.args.asked.attributes.now c.args.refusal.now

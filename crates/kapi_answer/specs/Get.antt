@@ -1,0 +1,22 @@
+-- Reading an object (Kubernetes, 'Kubernetes API Concepts', API verbs).
+use Rattle.std.specs.Prelude.{Option, Some, None, Result, Ok, Err}
+use Rattle.std.specs.Map.{lookup}
+use Rattle.serde_json.specs.Data.{Data}
+use Rattle.kapi_http.specs.declared.message.StatusCode.TheVariants as status
+use Rattle.kapi_reply.specs.Refusals.{asked_for}
+use Rattle.kapi_reply.specs.declared.refusal.Refusal.TheVariants as refusal
+use Rattle.kapi_reply.specs.declared.refusal.Refused.{Refused}
+use Rattle.kapi_reply.specs.declared.refusal.Sought.TheVariants as sought
+use Rattle.kapi_store.specs.Keys.{is_key}
+use Rattle.kapi_store.specs.Plain.{Plain}
+use Rattle.kapi_store.specs.declared.key.Key.{Key}
+use Rattle.kapi_answer.specs.Outcome.{Outcome, told}
+
+-- the object that was looked for
+abbrev pub found_if : Option Data → Result Outcome Refused
+found_if (Some tree) = Ok (told status.Ok tree)
+found_if None = Err (asked_for (refusal.NotFound sought.Object))
+
+-- the object at a key
+unfoldable pub found : Plain → Key → Result Outcome Refused
+found s key = found_if (lookup (is_key key) s.objects)

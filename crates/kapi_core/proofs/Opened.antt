@@ -1,0 +1,171 @@
+-- In a table that fits, the five opening objects stand.
+use Rattle.std.proofs.Common.{◌≡◌, ℕ, ◌+◌, ◌≤◌, ◌∙◌, Bool, true, false, ◌&&◌, List, [], ◌∷◌, Some, Option, Ok, Err, Result, refl, sym, ap, arith, codes, map}
+use Rattle.std.proofs.lemmas.Bool.{le-leb}
+use Rattle.std.specs.List.{fold, list_all, list_any}
+use Rattle.std.specs.Map.{keys_of}
+use Rattle.std.specs.Str.{chars}
+use Rattle.serde_json.specs.Data.{Data, null}
+use Rattle.kapi_admission.specs.Admission.{BodyFault, object_of}
+use Rattle.kapi_admission.proofs.OnLiterals.{admission_on_literals}
+use Rattle.kapi_names.specs.declared.row.ResourceRow.{ResourceRow}
+use Rattle.kapi_store.specs.Changes.{placed, placed_all}
+use Rattle.kapi_store.specs.Plain.{PlainChange, creation_at, free_place, has_namespace, has_object, is_namespaced, revisions_left}
+use Rattle.kapi_store.specs.declared.key.Key.{Key}
+use Rattle.kapi_store.specs.declared.store.TheConstants.{LAST_REVISION}
+use Rattle.kapi_core.specs.Machine.{Machine, changed}
+use Rattle.kapi_core.specs.Opening.{OpeningObject, Standing, basic_user, basic_user_binding, cluster_admin, cluster_admin_binding, default_namespace, cluster_key, empty, opening, opening_keys, opening_objects, with_opening}
+use Rattle.kapi_core.specs.Table.{cluster_role_bindings_row, cluster_roles_row, fits, has_row, is_known, namespaces_row, required_rows, role_bindings_row, roles_row, rows_differ}
+use Rattle.kapi_core.specs.declared.opening.TheConstants.{LAST_FIRST}
+use Rattle.kapi_core.proofs.Fitting.{stands_alone}
+
+both : (a b : Bool) → (a && b) ≡ true → (a ≡ true) × (b ≡ true)
+both true b h = (refl, h)
+both false b h = absurd (cc h)
+
+-- the tree that a body was read as
+tree_in : Result Data BodyFault → Data
+tree_in (Ok tree) = tree
+tree_in (Err fault) = null
+
+-- one object more is created
+created_next : (m : Machine) (o : OpeningObject) (tree : Data) → object_of o.row o.body ≡ Ok tree
+    → free_place m.store (cluster_key o.row o.name) ≡ Ok tt → m.store.revision + 1 ≤ LAST_REVISION
+    → with_opening m o ≡ changed (creation_at (cluster_key o.row o.name) tree (m.store.revision + 1) ∷ []) m
+unfolding with_opening revisions_left
+created_next m o tree body free left = rw (body, free, le-leb (m.store.revision + 1) LAST_REVISION left) refl
+
+-- the machine with one object more
+abbrev next_of : OpeningObject → Data → Machine → Machine
+next_of o tree m = changed (creation_at (cluster_key o.row o.name) tree (m.store.revision + 1) ∷ []) m
+
+-- ---- the five bodies are objects
+
+default_tree : object_of default_namespace.row default_namespace.body ≡ Ok (tree_in (object_of default_namespace.row default_namespace.body))
+unfolding admission_on_literals chars tree_in
+default_tree = refl
+
+admin_tree : object_of cluster_admin.row cluster_admin.body ≡ Ok (tree_in (object_of cluster_admin.row cluster_admin.body))
+unfolding admission_on_literals chars tree_in
+admin_tree = refl
+
+user_tree : object_of basic_user.row basic_user.body ≡ Ok (tree_in (object_of basic_user.row basic_user.body))
+unfolding admission_on_literals chars tree_in
+user_tree = refl
+
+admins_tree : object_of cluster_admin_binding.row cluster_admin_binding.body ≡ Ok (tree_in (object_of cluster_admin_binding.row cluster_admin_binding.body))
+unfolding admission_on_literals chars tree_in
+admins_tree = refl
+
+users_tree : object_of basic_user_binding.row basic_user_binding.body ≡ Ok (tree_in (object_of basic_user_binding.row basic_user_binding.body))
+unfolding admission_on_literals chars tree_in
+users_tree = refl
+
+-- ---- their places are free
+
+-- a table that fits has no namespaced row of these three resources
+record Alone (table : List ResourceRow) : Type 0 where
+  namespaces : is_namespaced table (cluster_key namespaces_row []) ≡ false
+  cluster_roles : is_namespaced table (cluster_key cluster_roles_row []) ≡ false
+  bindings : is_namespaced table (cluster_key cluster_role_bindings_row []) ≡ false
+
+alone : (table : List ResourceRow) → fits table ≡ true → Alone table
+unfolding required_rows
+alone table h =
+    let parts = both (list_all (has_row table) required_rows) _ h in
+    let differ = (both (list_all is_known table) (rows_differ table) parts.1).1 in
+    let first = both (has_row table namespaces_row) _ parts.0 in
+    let second = both (has_row table roles_row) _ first.1 in
+    let third = both (has_row table role_bindings_row) _ second.1 in
+    let fourth = both (has_row table cluster_roles_row) _ third.1 in
+    let fifth = both (has_row table cluster_role_bindings_row) true fourth.1 in
+    record {
+      namespaces = stands_alone namespaces_row table refl first.0 differ;
+      cluster_roles = stands_alone cluster_roles_row table refl fourth.0 differ;
+      bindings = stands_alone cluster_role_bindings_row table refl fifth.0 differ;
+    }
+
+-- the five machines, with trees that may be any
+abbrev one : List ResourceRow → ℕ → Data → Machine
+one table first a = next_of default_namespace a (empty table first)
+
+abbrev two : List ResourceRow → ℕ → Data → Data → Machine
+two table first a b = next_of cluster_admin b (one table first a)
+
+abbrev three : List ResourceRow → ℕ → Data → Data → Data → Machine
+three table first a b c = next_of basic_user c (two table first a b)
+
+abbrev four : List ResourceRow → ℕ → Data → Data → Data → Data → Machine
+four table first a b c d = next_of cluster_admin_binding d (three table first a b c)
+
+abbrev five : List ResourceRow → ℕ → Data → Data → Data → Data → Data → Machine
+five table first a b c d e = next_of basic_user_binding e (four table first a b c d)
+
+free_one : (table : List ResourceRow) (first : ℕ) → Alone table → free_place (empty table first).store (cluster_key default_namespace.row default_namespace.name) ≡ Ok tt
+unfolding free_place has_namespace has_object
+free_one table first h = rw h.namespaces refl
+
+free_two : (table : List ResourceRow) (first : ℕ) (a : Data) → Alone table → free_place (one table first a).store (cluster_key cluster_admin.row cluster_admin.name) ≡ Ok tt
+unfolding free_place has_namespace has_object placed placed_all
+free_two table first a h = rw h.cluster_roles refl
+
+free_three : (table : List ResourceRow) (first : ℕ) (a b : Data) → Alone table → free_place (two table first a b).store (cluster_key basic_user.row basic_user.name) ≡ Ok tt
+unfolding free_place has_namespace has_object placed placed_all
+free_three table first a b h = rw h.cluster_roles refl
+
+free_four : (table : List ResourceRow) (first : ℕ) (a b c : Data) → Alone table
+    → free_place (three table first a b c).store (cluster_key cluster_admin_binding.row cluster_admin_binding.name) ≡ Ok tt
+unfolding free_place has_namespace has_object placed placed_all
+free_four table first a b c h = rw h.bindings refl
+
+free_five : (table : List ResourceRow) (first : ℕ) (a b c d : Data) → Alone table
+    → free_place (four table first a b c d).store (cluster_key basic_user_binding.row basic_user_binding.name) ≡ Ok tt
+unfolding free_place has_namespace has_object placed placed_all
+free_five table first a b c d h = rw h.bindings refl
+
+-- ---- all of them
+
+-- the machine as it begins, whatever the five bodies were read as
+opening_is : (table : List ResourceRow) (first : ℕ) → Alone table → first ≤ LAST_FIRST
+    → opening table first ≡ five table first
+    (tree_in (object_of default_namespace.row default_namespace.body))
+    (tree_in (object_of cluster_admin.row cluster_admin.body))
+    (tree_in (object_of basic_user.row basic_user.body))
+    (tree_in (object_of cluster_admin_binding.row cluster_admin_binding.body))
+    (tree_in (object_of basic_user_binding.row basic_user_binding.body))
+unfolding opening opening_objects
+opening_is table first h low =
+    let a = tree_in (object_of default_namespace.row default_namespace.body) in
+    let b = tree_in (object_of cluster_admin.row cluster_admin.body) in
+    let c = tree_in (object_of basic_user.row basic_user.body) in
+    let d = tree_in (object_of cluster_admin_binding.row cluster_admin_binding.body) in
+    let e = tree_in (object_of basic_user_binding.row basic_user_binding.body) in
+    let m = empty table first in
+    ap (λ n. with_opening (with_opening (with_opening (with_opening n cluster_admin) basic_user) cluster_admin_binding) basic_user_binding)
+    (created_next m default_namespace a default_tree (free_one table first h) (omega (arith, low)))
+    ∙ ap (λ n. with_opening (with_opening (with_opening n basic_user) cluster_admin_binding) basic_user_binding)
+    (created_next (one table first a) cluster_admin b admin_tree (free_two table first a h) (omega (arith, low)))
+    ∙ ap (λ n. with_opening (with_opening n cluster_admin_binding) basic_user_binding)
+    (created_next (two table first a b) basic_user c user_tree (free_three table first a b h) (omega (arith, low)))
+    ∙ ap (λ n. with_opening n basic_user_binding)
+    (created_next (three table first a b c) cluster_admin_binding d admins_tree (free_four table first a b c h) (omega (arith, low)))
+    ∙ created_next (four table first a b c d) basic_user_binding e users_tree (free_five table first a b c d h) (omega (arith, low))
+
+five_keys : (table : List ResourceRow) (first : ℕ) (a b c d e : Data) → keys_of (five table first a b c d e).store.objects ≡ opening_keys
+unfolding placed placed_all opening_keys
+five_keys table first a b c d e = refl
+
+five_revision : (table : List ResourceRow) (first : ℕ) (a b c d e : Data) → (five table first a b c d e).store.revision ≡ first + 5
+five_revision table first a b c d e = omega arith
+
+pub opening_stands : (table : List ResourceRow) (first : ℕ) → fits table ≡ true → first ≤ LAST_FIRST → Standing table first
+opening_stands table first h low =
+    let is = opening_is table first (alone table h) low in
+    let a = tree_in (object_of default_namespace.row default_namespace.body) in
+    let b = tree_in (object_of cluster_admin.row cluster_admin.body) in
+    let c = tree_in (object_of basic_user.row basic_user.body) in
+    let d = tree_in (object_of cluster_admin_binding.row cluster_admin_binding.body) in
+    let e = tree_in (object_of basic_user_binding.row basic_user_binding.body) in
+    record {
+      objects = ap (λ m. keys_of m.store.objects) is ∙ five_keys table first a b c d e;
+      revision = ap (λ m. m.store.revision) is ∙ five_revision table first a b c d e;
+    }

@@ -1,0 +1,119 @@
+ghost use Rattle.std.specs.Prelude.{◌≡◌, IfOk, map as map_of};
+ghost use Rattle.kapi_core.specs.Table.{required_rows, row_of};
+ghost use Rattle.kapi_core.specs.Table.{namespaces_row, roles_row, role_bindings_row, cluster_roles_row, cluster_role_bindings_row};
+
+use kapi_names::{RBAC_GROUP, ResourceRow, Schema};
+use kapi_text::{Memory, Text};
+use std::alloc::Global;
+
+/// A resource of version v1, as `kubectl api-resources` lists it.
+#[derive(Clone, Copy)]
+pub struct Resource {
+    pub group: &'static str,
+    pub plural: &'static str,
+    pub kind: &'static str,
+    pub namespaced: bool,
+    pub has_status: bool,
+    pub schema: Schema,
+}
+
+impl Resource {
+    /// The row of the resource in a table.
+    pub fn row(&self, alloc: Global) -> Result<ResourceRow, Memory>
+        ensures { IfOk result (λ r. r ≡ row_of self.now) }
+    {
+        Ok(ResourceRow {
+            group: Text::copy_of(alloc, self.group)?,
+            version: Text::copy_of(alloc, "v1")?,
+            plural: Text::copy_of(alloc, self.plural)?,
+            kind: Text::copy_of(alloc, self.kind)?,
+            namespaced: self.namespaced,
+            has_status: self.has_status,
+            schema: self.schema,
+        })
+    }
+}
+
+/// The resources that each table has: namespaces, and the four kinds of the policy.
+#[tactic(auto, unfolding(crate::specs::Table::required_rows))]
+pub fn required_resources() -> [Resource; 5]
+    ensures { map_of row_of result ≡ required_rows }
+{
+    [
+        namespaces(),
+        roles(),
+        role_bindings(),
+        cluster_roles(),
+        cluster_role_bindings(),
+    ]
+}
+
+/// Namespaces are in no namespace and have a status (Kubernetes API, `Namespace` of v1).
+pub fn namespaces() -> Resource
+    ensures { row_of result ≡ namespaces_row }
+{
+    Resource {
+        group: "",
+        plural: "namespaces",
+        kind: "Namespace",
+        namespaced: false,
+        has_status: true,
+        schema: Schema::Open,
+    }
+}
+
+/// Roles (Kubernetes API, rbac.authorization.k8s.io/v1), as the next three.
+pub fn roles() -> Resource
+    ensures { row_of result ≡ roles_row }
+{
+    Resource {
+        group: RBAC_GROUP,
+        plural: "roles",
+        kind: "Role",
+        namespaced: true,
+        has_status: false,
+        schema: Schema::Role,
+    }
+}
+
+/// Role bindings.
+pub fn role_bindings() -> Resource
+    ensures { row_of result ≡ role_bindings_row }
+{
+    Resource {
+        group: RBAC_GROUP,
+        plural: "rolebindings",
+        kind: "RoleBinding",
+        namespaced: true,
+        has_status: false,
+        schema: Schema::RoleBinding,
+    }
+}
+
+/// Cluster roles.
+pub fn cluster_roles() -> Resource
+    ensures { row_of result ≡ cluster_roles_row }
+{
+    Resource {
+        group: RBAC_GROUP,
+        plural: "clusterroles",
+        kind: "ClusterRole",
+        namespaced: false,
+        has_status: false,
+        schema: Schema::ClusterRole,
+    }
+}
+
+/// Cluster role bindings.
+pub fn cluster_role_bindings() -> Resource
+    ensures { row_of result ≡ cluster_role_bindings_row }
+{
+    Resource {
+        group: RBAC_GROUP,
+        plural: "clusterrolebindings",
+        kind: "ClusterRoleBinding",
+        namespaced: false,
+        has_status: false,
+        schema: Schema::ClusterRoleBinding,
+    }
+}

@@ -1,0 +1,14 @@
+-- The limits of what a connection may send.
+use Rattle.std.specs.Prelude.{ℕ}
+
+-- a head has at most so many bytes, empty lines before it and its blank line counted in
+abbrev pub head_limit : ℕ
+head_limit = 16384
+
+-- and at most so many fields
+abbrev pub field_limit : ℕ
+field_limit = 64
+
+-- a body has at most so many bytes
+abbrev pub body_limit : ℕ
+body_limit = 1048576

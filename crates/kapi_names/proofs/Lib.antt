@@ -1,0 +1,4 @@
+pub mod Slashes
+pub mod Tokens
+pub mod Pieces
+pub mod Values

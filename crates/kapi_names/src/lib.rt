@@ -1,0 +1,35 @@
+//! The words of declared objects: their names, labels, selectors, kinds and rows, what may be wrong with them, and the
+//! parts of roles and bindings.
+#![tactic(auto)]
+
+pub mod aggregation_rule;
+pub mod fault;
+pub mod kinds;
+pub mod labels;
+pub mod names;
+pub mod policy_rule;
+pub mod role_ref;
+pub mod row;
+pub mod selector;
+pub mod selector_error;
+mod selector_text;
+mod selector_token;
+mod selector_tokens;
+pub mod subject;
+#[cfg(test)]
+mod tests;
+
+pub use aggregation_rule::AggregationRule;
+pub use fault::{Cause, FieldFault};
+pub use kinds::{RBAC_GROUP, RoleKind, SubjectKind};
+pub use labels::Labels;
+pub use names::{
+    check_label_key, check_label_value, check_name, check_namespace_name, check_object_name,
+    check_rbac_name,
+};
+pub use policy_rule::PolicyRule;
+pub use role_ref::RoleRef;
+pub use row::{ResourceRow, Schema};
+pub use selector::{Label, Operator, Requirement, Selector};
+pub use selector_error::SelectorError;
+pub use subject::{ServiceAccount, Subject};

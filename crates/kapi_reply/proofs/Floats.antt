@@ -1,0 +1,100 @@
+-- A Status object has no float.
+use Rattle.std.proofs.Common.{◌≡◌, ℕ, ◌==◌, Bool, true, false, cond, List, [], ◌∷◌, length, map, Option, Some, None, refl, codes}
+use Rattle.serde_json.specs.Data.{Data, string, array, object, number, unsigned, Members, no_members, put}
+use Rattle.serde_json.specs.Events.{members_len}
+use Rattle.serde_json.specs.View.{items_of}
+use Rattle.serde_json.specs.Written.{has_float, items_have_float, members_have_float}
+use Rattle.kapi_http.specs.Message.{status_number}
+use Rattle.kapi_http.specs.declared.message.StatusCode.{StatusCode}
+use Rattle.kapi_http.specs.declared.message.StatusCode.TheVariants as status
+use Rattle.kapi_object.proofs.NoFloats.{put_has_no_float}
+use Rattle.kapi_names.specs.declared.fault.FieldFault.{FieldFault}
+use Rattle.kapi_reply.specs.declared.refusal.Refusal.{Refusal}
+use Rattle.kapi_reply.specs.declared.refusal.Refusal.TheVariants as refusal
+use Rattle.kapi_reply.specs.declared.refusal.Sought.TheVariants as sought
+use Rattle.kapi_reply.specs.Refusals.{Asked, failure_of, fault_failure, not_found}
+use Rattle.kapi_reply.specs.Status.{Subject, Failed, with_some_text, with_causes, with_subject, with_some_object, details_of, status_of, invalid_field}
+
+-- one of two lists of members without floats
+either_way : (b : Bool) (ms ns : Members) → members_have_float ms ≡ false → members_have_float ns ≡ false → members_have_float (cond b ms ns) ≡ false
+either_way true ms ns hm hn = hm
+either_way false ms ns hm hn = hn
+
+some_text : (k t : List ℕ) (ms : Members) → members_have_float ms ≡ false → members_have_float (with_some_text k t ms) ≡ false
+unfolding with_some_text
+some_text k t ms h = either_way (length t == 0) ms (put k (string t) ms) h (put_has_no_float k (string t) ms refl h)
+
+some_causes : (cs : List Data) → items_have_float (items_of cs) ≡ false → members_have_float (with_causes cs no_members) ≡ false
+unfolding with_causes
+some_causes cs h = either_way (length cs == 0) no_members (put (codes "causes") (array (items_of cs)) no_members) refl (put_has_no_float (codes "causes") (array (items_of cs)) no_members h refl)
+
+about : (s : Option Subject) (ms : Members) → members_have_float ms ≡ false → members_have_float (with_subject s ms) ≡ false
+unfolding with_subject
+about None ms h = h
+about (Some s) ms h =
+    some_text (codes "name") s.name (with_some_text (codes "kind") s.resource (with_some_text (codes "group") s.group ms))
+    (some_text (codes "kind") s.resource (with_some_text (codes "group") s.group ms) (some_text (codes "group") s.group ms h))
+
+fields : (fs : List FieldFault) → items_have_float (items_of (map invalid_field fs)) ≡ false
+fields [] = refl
+fields (f ∷ fs) = fields fs
+
+-- the causes of a refusal
+pub refusal_whole : (asked : Asked) (name : List ℕ) (r : Refusal) → items_have_float (items_of (failure_of asked name r).causes) ≡ false
+unfolding failure_of not_found
+refusal_whole asked name (refusal.BadRequest w) = refl
+refusal_whole asked name refusal.Forbidden = refl
+refusal_whole asked name refusal.Escalation = refl
+refusal_whole asked name refusal.NoSuchResource = refl
+refusal_whole asked name (refusal.NotFound sought.Object) = refl
+refusal_whole asked name (refusal.NotFound sought.Namespace) = refl
+refusal_whole asked name (refusal.MethodNotAllowed p) = refl
+refusal_whole asked name refusal.UnsupportedMediaType = refl
+refusal_whole asked name refusal.AlreadyExists = refl
+refusal_whole asked name (refusal.Invalid faults) = fields faults
+refusal_whole asked name refusal.NoRevisionLeft = refl
+
+-- the causes of bytes that are no request: there is none
+pub fault_whole : (code : StatusCode) (w : List ℕ) → items_have_float (items_of (fault_failure code w).causes) ≡ false
+unfolding fault_failure
+fault_whole status.BadRequest w = refl
+fault_whole status.MethodNotAllowed w = refl
+fault_whole status.ContentTooLarge w = refl
+fault_whole code w = refl
+
+-- the members of a Status object, one after the other
+abbrev coded : Failed → Members
+coded f = put (codes "code") (number (unsigned (status_number f.code))) (put (codes "apiVersion") (string (codes "v1")) no_members)
+
+abbrev kinded : Option Subject → Failed → Members
+kinded s f = put (codes "kind") (string (codes "Status")) (with_some_object (codes "details") (details_of s f.causes) (coded f))
+
+abbrev worded : Option Subject → Failed → Members
+worded s f = put (codes "metadata") (object no_members) (put (codes "message") (string f.message) (kinded s f))
+
+coded_whole : (f : Failed) → members_have_float (coded f) ≡ false
+coded_whole f =
+    put_has_no_float (codes "code") (number (unsigned (status_number f.code))) (put (codes "apiVersion") (string (codes "v1")) no_members) refl
+    (put_has_no_float (codes "apiVersion") (string (codes "v1")) no_members refl refl)
+
+detailed_whole : (s : Option Subject) (f : Failed) → items_have_float (items_of f.causes) ≡ false
+    → members_have_float (with_some_object (codes "details") (details_of s f.causes) (coded f)) ≡ false
+unfolding with_some_object
+detailed_whole s f h =
+    let details = details_of s f.causes in
+    let whole = about s (with_causes f.causes no_members) (some_causes f.causes h) in
+    either_way (members_len details == 0) (coded f) (put (codes "details") (object details) (coded f)) (coded_whole f)
+    (put_has_no_float (codes "details") (object details) (coded f) whole (coded_whole f))
+
+worded_whole : (s : Option Subject) (f : Failed) → items_have_float (items_of f.causes) ≡ false → members_have_float (worded s f) ≡ false
+worded_whole s f h =
+    put_has_no_float (codes "metadata") (object no_members) (put (codes "message") (string f.message) (kinded s f)) refl
+    (put_has_no_float (codes "message") (string f.message) (kinded s f) refl
+    (put_has_no_float (codes "kind") (string (codes "Status")) (with_some_object (codes "details") (details_of s f.causes) (coded f)) refl (detailed_whole s f h)))
+
+-- a Status object whose causes have none
+pub status_whole : (s : Option Subject) (f : Failed) → items_have_float (items_of f.causes) ≡ false → has_float (status_of s f) ≡ false
+unfolding status_of
+status_whole s f h =
+    put_has_no_float (codes "status") (string (codes "Failure")) (with_some_text (codes "reason") f.reason (worded s f)) refl
+    (some_text (codes "reason") f.reason (worded s f) (worded_whole s f h))

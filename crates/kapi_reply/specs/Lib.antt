@@ -1,0 +1,4 @@
+pub mod Status
+pub mod Refusals
+pub mod Replies
+pub mod Views

@@ -1,0 +1,47 @@
+-- Replies with JSON bodies, and what refused requests are sent.
+use Rattle.std.specs.Prelude.{ℕ, Bool, true, false, if◌then◌else◌, List, [], Option, Some, None}
+use Rattle.serde_json.specs.Written.{compact_text}
+use Rattle.kapi_http.specs.Reply.{text}
+use Rattle.kapi_http.specs.declared.message.HttpFault.{HttpFault}
+use Rattle.kapi_http.specs.declared.message.Method.{Method}
+use Rattle.kapi_http.specs.declared.message.Reply.{Reply}
+use Rattle.kapi_http.specs.declared.message.StatusCode.{StatusCode}
+use Rattle.kapi_reply.specs.declared.refusal.BadWord.{BadWord}
+use Rattle.kapi_reply.specs.declared.refusal.Refused.{Refused}
+use Rattle.kapi_reply.specs.declared.reply.WrittenReply.{WrittenReply}
+use Rattle.kapi_reply.specs.Refusals.{Asked, bad_request, failure_of, fault_failure, name_in, subject_of, word_text}
+use Rattle.kapi_reply.specs.Status.{Failed, Subject, status_of}
+
+-- a reply with a JSON body, or none
+abbrev pub json_reply : StatusCode → List Method → Bool → Option (List ℕ) → Reply
+json_reply code allow close body =
+    record { code = code; plain = false; allow = allow; chunked = false; close = close; body = body }
+
+-- a reply as it goes out
+abbrev pub sent : Reply → WrittenReply
+sent reply = record { bytes = text reply; close = reply.close }
+
+-- a reply that tells an object, given as JSON text
+abbrev pub object_reply : StatusCode → Bool → List ℕ → WrittenReply
+object_reply code close body = sent (json_reply code [] close (Some body))
+
+-- a reply that tells a failure and whom it is about
+abbrev pub failure_reply : Option Subject → Bool → Failed → WrittenReply
+failure_reply subject close f = sent (json_reply f.code f.allow close (Some (compact_text (status_of subject f))))
+
+-- what a request that was refused is sent
+abbrev pub refusal_reply : Asked → Bool → Refused → WrittenReply
+refusal_reply asked close r =
+    failure_reply (subject_of asked.attributes.point (name_in asked r)) close (failure_of asked (name_in asked r) r.why)
+
+-- what a request is sent whose target has a fault: nothing is known of what it is about
+abbrev pub target_reply : BadWord → Bool → WrittenReply
+target_reply w close = failure_reply None close (bad_request (word_text w))
+
+-- the body that tells a fault, which the reply to a HEAD request has not (RFC 9110 section 9.3.2)
+abbrev pub fault_body : HttpFault → Option (List ℕ)
+fault_body f = if f.no_body then None else Some (compact_text (status_of None (fault_failure f.code f.word)))
+
+-- what bytes that are no request are sent; it ends the connection
+unfoldable pub fault_reply : HttpFault → WrittenReply
+fault_reply f = sent (json_reply f.code (fault_failure f.code f.word).allow true (fault_body f))

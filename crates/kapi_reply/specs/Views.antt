@@ -1,0 +1,26 @@
+-- Failures and requests as data.
+use Rattle.std.specs.Prelude.{map, string_bytes}
+use Rattle.serde_json.specs.View.{view}
+use Rattle.kapi_reply.specs.declared.reply.Asked.{Asked as AskedOf}
+use Rattle.kapi_reply.specs.declared.status.Failure.{Failure}
+use Rattle.kapi_reply.specs.declared.status.Subject.{Subject as SubjectOf}
+use Rattle.kapi_reply.specs.Refusals.{Asked}
+use Rattle.kapi_reply.specs.Status.{Failed, Subject}
+
+-- whom a failure is about, as data
+abbrev pub subject_data : SubjectOf → Subject
+subject_data s = record { group = s.group.now; resource = s.resource.now; name = s.name.now }
+
+-- a failure as data
+abbrev pub failure_data : Failure → Failed
+failure_data f = record {
+  code = f.code;
+  reason = f.reason.now;
+  message = string_bytes f.message;
+  causes = map view f.causes.items;
+  allow = f.allow.now;
+}
+
+-- a refused request as data
+abbrev pub asked_data : AskedOf → Asked
+asked_data a = record { user = a.user.now; method = a.method; attributes = a.attributes.now }

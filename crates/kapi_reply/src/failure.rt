@@ -1,0 +1,278 @@
+//! The table of refusals: of each the whole failure that is told.
+ghost use Rattle.std.specs.Prelude.{◌≡◌, [], ◌∷◌, ◌++◌, codes, map as map_of, string_bytes, IfOk};
+ghost use Rattle.std.specs.Option.{option_map};
+ghost use Rattle.serde_json.specs.View.{view};
+ghost use Rattle.kapi_reply.specs.Refusals as table;
+ghost use Rattle.kapi_reply.specs.Refusals.{denied_text, escalation_text, fault_failure, word_text};
+ghost use Rattle.kapi_reply.specs.Status as status_object;
+ghost use Rattle.kapi_reply.specs.Status.{invalid_field};
+ghost use Rattle.kapi_reply.specs.Views.{asked_data, failure_data, subject_data};
+
+use crate::refusal::{BadWord, Place, Refusal, Sought};
+use crate::reply::Asked;
+use crate::status::{Failure, Subject, invalid_fields, missing_permission};
+use kapi_http::{Method, StatusCode};
+use kapi_names::FieldFault;
+use kapi_rules::Point;
+use kapi_text::Memory;
+use serde_json::Value;
+use std::alloc::Global;
+
+/// The methods that the server knows.
+const METHODS: [Method; 5] = [
+    Method::Get,
+    Method::Post,
+    Method::Put,
+    Method::Patch,
+    Method::Delete,
+];
+
+/// The failure that is told of a refusal about the object of that name.
+#[tactic(auto, unfolding(crate::specs::Refusals::failure_of))]
+pub fn failure_of(
+    alloc: Global,
+    asked: Asked<'_>,
+    name: &str,
+    refusal: &Refusal,
+) -> Result<Failure, Memory>
+    ensures { IfOk result (λ f. failure_data f ≡ table.failure_of (asked_data asked.entry) name.now refusal.now) }
+{
+    match refusal {
+        Refusal::BadRequest(word) => bad_request(alloc, word.as_str()),
+        Refusal::Forbidden => denied(alloc, asked),
+        Refusal::Escalation => escalation(alloc, asked),
+        Refusal::NoSuchResource => failed(
+            alloc,
+            StatusCode::NotFound,
+            "NotFound",
+            "no such resource",
+        ),
+        Refusal::NotFound(what) => not_found(alloc, asked, name, *what),
+        Refusal::MethodNotAllowed(place) => {
+            not_allowed(alloc, asked.method.as_str(), place.methods())
+        }
+        Refusal::UnsupportedMediaType => failed(
+            alloc,
+            StatusCode::UnsupportedMediaType,
+            "UnsupportedMediaType",
+            "this body is not accepted",
+        ),
+        Refusal::AlreadyExists => already_exists(alloc, asked, name),
+        Refusal::Invalid(faults) => invalid(alloc, asked, name, faults.as_slice()),
+        Refusal::NoRevisionLeft => failed(
+            alloc,
+            StatusCode::ServiceUnavailable,
+            "ServiceUnavailable",
+            "no revision is left",
+        ),
+    }
+}
+
+/// The failure that is told of bytes that are no request.
+#[tactic(auto, unfolding(crate::specs::Refusals::fault_failure))]
+pub fn failure_of_fault(alloc: Global, code: StatusCode, word: &str) -> Result<Failure, Memory>
+    ensures { IfOk result (λ f. failure_data f ≡ fault_failure code word.now) }
+{
+    match code {
+        StatusCode::BadRequest => bad_request(alloc, word),
+        StatusCode::MethodNotAllowed => not_allowed(alloc, word, &METHODS),
+        StatusCode::ContentTooLarge => failed(
+            alloc,
+            code,
+            "RequestEntityTooLarge",
+            "the body is too large",
+        ),
+        code => failed(alloc, code, "", code.phrase()),
+    }
+}
+
+/// A failure with a code, a word for programs and a message, and no more.
+fn failed(
+    alloc: Global,
+    code: StatusCode,
+    reason: &'static str,
+    message: &str,
+) -> Result<Failure, Memory>
+    ensures { IfOk result (λ f. failure_data f ≡ table.failed code reason.now message.now) }
+{
+    Ok(with_message(alloc, code, reason, String::from_str(alloc, message)?))
+}
+
+fn with_message(alloc: Global, code: StatusCode, reason: &'static str, message: String) -> Failure
+    ensures { failure_data result ≡ table.failed code reason.now (string_bytes message) }
+{
+    Failure {
+        code,
+        reason,
+        message,
+        causes: Vec::new(alloc),
+        allow: &[],
+    }
+}
+
+/// The failure of a bad request.
+pub fn bad_request(alloc: Global, word: &str) -> Result<Failure, Memory>
+    ensures { IfOk result (λ f. failure_data f ≡ table.bad_request word.now) }
+{
+    let message = format!(in alloc; "bad request: {word}")?;
+    Ok(with_message(alloc, StatusCode::BadRequest, "BadRequest", message))
+}
+
+/// The failure of a method that is not served, with those that are.
+fn not_allowed(alloc: Global, method: &str, allow: &'static [Method]) -> Result<Failure, Memory>
+    ensures { IfOk result (λ f. failure_data f ≡ table.not_allowed method.now allow.now) }
+{
+    Ok(Failure {
+        code: StatusCode::MethodNotAllowed,
+        reason: "MethodNotAllowed",
+        message: format!(in alloc; "{method} is not served here")?,
+        causes: Vec::new(alloc),
+        allow,
+    })
+}
+
+/// The failure of a denial, with the point that no rule allows as its cause.
+#[tactic(auto, unfolding(crate::specs::Refusals::failure_of))]
+fn denied(alloc: Global, asked: Asked<'_>) -> Result<Failure, Memory>
+    ensures { IfOk result (λ f. failure_data f ≡ table.failure_of (asked_data asked.entry) [] Refusal.Forbidden) }
+{
+    let mut causes = Vec::new(alloc);
+    causes.push(missing_permission(alloc, &asked.attributes.point)?)?;
+    Ok(Failure {
+        code: StatusCode::Forbidden,
+        reason: "Forbidden",
+        message: denied_message(alloc, asked.user, asked.attributes.namespace.as_str())?,
+        causes,
+        allow: &[],
+    })
+}
+
+#[tactic(auto, unfolding(crate::specs::Refusals::denied_text))]
+fn denied_message(alloc: Global, user: &str, namespace: &str) -> Result<String, Memory>
+    ensures { IfOk result (λ s. string_bytes s ≡ denied_text user.now namespace.now) }
+{
+    if namespace.is_empty() {
+        format!(in alloc; "{user} may not do this cluster-wide")
+    } else {
+        joined(alloc, user, " may not do this in namespace ", namespace)
+    }
+}
+
+/// The failure of a write that would give what whoever asks does not hold.
+#[tactic(auto, unfolding(crate::specs::Refusals::failure_of))]
+fn escalation(alloc: Global, asked: Asked<'_>) -> Result<Failure, Memory>
+    ensures { IfOk result (λ f. failure_data f ≡ table.failure_of (asked_data asked.entry) [] Refusal.Escalation) }
+{
+    let message = escalation_message(alloc, asked.user, asked.attributes.namespace.as_str())?;
+    Ok(with_message(alloc, StatusCode::Forbidden, "Forbidden", message))
+}
+
+#[tactic(auto, unfolding(crate::specs::Refusals::escalation_text))]
+fn escalation_message(alloc: Global, user: &str, namespace: &str) -> Result<String, Memory>
+    ensures { IfOk result (λ s. string_bytes s ≡ escalation_text user.now namespace.now) }
+{
+    if namespace.is_empty() {
+        format!(in alloc; "{user} does not hold these permissions cluster-wide")
+    } else {
+        joined(
+            alloc,
+            user,
+            " does not hold these permissions in namespace ",
+            namespace,
+        )
+    }
+}
+
+fn joined(alloc: Global, first: &str, second: &str, third: &str) -> Result<String, Memory>
+    ensures { IfOk result (λ s. string_bytes s ≡ first.now ++ second.now ++ third.now) }
+{
+    let mut text = String::from_str(alloc, first)?;
+    text.push_str(second)?;
+    text.push_str(third)?;
+    Ok(text)
+}
+
+/// The failure where something is not there.
+#[tactic(auto, unfolding(crate::specs::Refusals::not_found))]
+fn not_found(alloc: Global, asked: Asked<'_>, name: &str, what: Sought) -> Result<Failure, Memory>
+    ensures { IfOk result (λ f. failure_data f ≡ table.not_found (asked_data asked.entry) name.now what) }
+{
+    let message = match what {
+        Sought::Object => said_of(alloc, asked, name, " not found")?,
+        Sought::Namespace => format!(in alloc;
+            "namespaces {} not found",
+            asked.attributes.namespace.as_str()
+        )?,
+    };
+    Ok(with_message(alloc, StatusCode::NotFound, "NotFound", message))
+}
+
+#[tactic(auto, unfolding(crate::specs::Refusals::failure_of))]
+fn already_exists(alloc: Global, asked: Asked<'_>, name: &str) -> Result<Failure, Memory>
+    ensures { IfOk result (λ f. failure_data f ≡ table.failure_of (asked_data asked.entry) name.now Refusal.AlreadyExists) }
+{
+    let message = said_of(alloc, asked, name, " already exists")?;
+    Ok(with_message(alloc, StatusCode::Conflict, "AlreadyExists", message))
+}
+
+/// The failure of a body with faults, each of them a cause.
+#[tactic(auto, unfolding(crate::specs::Refusals::failure_of))]
+fn invalid(
+    alloc: Global,
+    asked: Asked<'_>,
+    name: &str,
+    faults: &[FieldFault],
+) -> Result<Failure, Memory>
+    ensures { IfOk result (λ f. failure_data f ≡ table.failure_of (asked_data asked.entry) name.now (Refusal.Invalid faults.now)) }
+{
+    Ok(Failure {
+        code: StatusCode::UnprocessableContent,
+        reason: "Invalid",
+        message: said_of(alloc, asked, name, " is invalid")?,
+        causes: invalid_fields(alloc, faults)?,
+        allow: &[],
+    })
+}
+
+/// What is said of an object: its resource, its name and the words.
+fn said_of(alloc: Global, asked: Asked<'_>, name: &str, words: &str) -> Result<String, Memory>
+    ensures { IfOk result (λ s. string_bytes s ≡ table.said_of (asked_data asked.entry) name.now words.now) }
+{
+    let mut text = joined(alloc, resource_of(&asked.attributes.point), " ", name)?;
+    text.push_str(words)?;
+    Ok(text)
+}
+
+/// Whom a failure about an object of that name is about; nobody where the request is about no resource.
+#[tactic(auto, unfolding(crate::specs::Refusals::subject_of))]
+pub fn subject_of<'a>(point: &'a Point, name: &'a str) -> Option<Subject<'a>>
+    ensures { option_map subject_data result ≡ table.subject_of point.entry.now name.entry.now }
+{
+    match point {
+        Point::Url(_) => None,
+        Point::Resource(point) => Some(Subject {
+            group: point.group.as_str(),
+            resource: point.resource.as_str(),
+            name,
+        }),
+    }
+}
+
+fn resource_of(point: &Point) -> &str
+    ensures { result.now ≡ table.resource_of point.now }
+{
+    match point {
+        Point::Resource(point) => point.resource.as_str(),
+        Point::Url(_) => "",
+    }
+}
+
+/// The name of a point.
+pub fn name_of(point: &Point) -> &str
+    ensures { result.now ≡ table.name_of point.now }
+{
+    match point {
+        Point::Resource(point) => point.name.as_str(),
+        Point::Url(_) => "",
+    }
+}

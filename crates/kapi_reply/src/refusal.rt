@@ -1,0 +1,155 @@
+use kapi_http::Method;
+use kapi_names::FieldFault;
+use kapi_text::{Memory, Sequence, Text};
+use thiserror::Error;
+
+/// What a path of a served resource stands for.
+#[derive(Clone, Copy, Debug, PartialEq, Eq)]
+pub enum Place {
+    /// The objects of one namespace, or of a cluster-scoped resource.
+    Collection,
+    /// One object.
+    Object,
+}
+
+/// What is bad in a bad request (400).
+#[derive(Clone, Copy, Debug, PartialEq, Eq)]
+pub enum BadWord {
+    Target,
+    Escape,
+    Query,
+    Impersonation,
+    Json,
+    Float,
+    Kind,
+    Version,
+    /// The body names another namespace than the path.
+    Namespace,
+}
+
+/// What is not there (404).
+#[derive(Clone, Copy, Debug, PartialEq, Eq)]
+pub enum Sought {
+    /// The object that the request is about.
+    Object,
+    /// The namespace of the path.
+    Namespace,
+}
+
+/// Why a request is refused. The first check that fails decides.
+#[derive(Debug, Drop)]
+pub enum Refusal {
+    BadRequest(BadWord),
+    /// Authorization denies the request's point.
+    Forbidden,
+    /// Whoever asks does not hold what the role or binding that he writes gives.
+    Escalation,
+    /// The path is none of a served resource.
+    NoSuchResource,
+    NotFound(Sought),
+    /// The place has other methods.
+    MethodNotAllowed(Place),
+    UnsupportedMediaType,
+    AlreadyExists,
+    /// The body has faults.
+    Invalid(Sequence<FieldFault>),
+    NoRevisionLeft,
+}
+
+/// A refused request: the name of the object that it is about, where that is not the one that its path names, and why.
+#[derive(Debug, Drop)]
+pub struct Refused {
+    pub name: Option<Text>,
+    pub why: Refusal,
+}
+
+impl Refused {
+    ghost use Rattle.std.specs.Prelude.{◌≡◌};
+    ghost use Rattle.kapi_reply.specs.Refusals as table;
+
+    /// Refused for what the path names.
+    pub fn asked_for(why: Refusal) -> Refused
+        ensures { result ≡ table.asked_for why }
+    {
+        Refused { name: None, why }
+    }
+
+    /// Refused for the object of that name.
+    pub fn named(name: Text, why: Refusal) -> Refused
+        ensures { result ≡ table.named name why }
+    {
+        Refused {
+            name: Some(name),
+            why,
+        }
+    }
+}
+
+impl Place {
+    ghost use Rattle.std.specs.Prelude.{◌≡◌};
+    ghost use Rattle.kapi_reply.specs.Refusals.{methods_at};
+
+    /// The methods that are served at the place.
+    #[tactic(auto, unfolding(crate::specs::Refusals::methods_at))]
+    pub fn methods(self) -> &'static [Method]
+        ensures { result.now ≡ methods_at self }
+    {
+        match self {
+            Place::Collection => &[Method::Post],
+            Place::Object => &[Method::Get],
+        }
+    }
+}
+
+impl BadWord {
+    ghost use Rattle.std.specs.Prelude.{◌≡◌};
+    ghost use Rattle.kapi_reply.specs.Refusals.{word_text};
+
+    /// The word as it stands in the message.
+    pub fn as_str(self) -> &'static str
+        ensures { result.now ≡ word_text self }
+    {
+        match self {
+            BadWord::Target => "target",
+            BadWord::Escape => "escape",
+            BadWord::Query => "query",
+            BadWord::Impersonation => "impersonation",
+            BadWord::Json => "json",
+            BadWord::Float => "float",
+            BadWord::Kind => "kind",
+            BadWord::Version => "version",
+            BadWord::Namespace => "namespace",
+        }
+    }
+}
+
+/// A check that failed, or want of memory in place of any answer.
+#[derive(Debug, Drop, Error)]
+pub enum CheckError {
+    #[error("the request is refused")]
+    Refused(Refused),
+    #[error("out of memory")]
+    Memory,
+}
+
+impl From<Memory> for CheckError {
+    ghost use Rattle.std.specs.Prelude.{◌≡◌};
+    ghost use Rattle.kapi_reply.specs.declared.refusal.CheckError.TheVariants.{Memory as NoMemory};
+
+    ghost from_gives = { λ _ e. e ≡ NoMemory };
+
+    fn from(_error: Memory) -> CheckError {
+        CheckError::Memory
+    }
+}
+
+impl From<Refused> for CheckError {
+    ghost use Rattle.std.specs.Prelude.{◌≡◌};
+    ghost use Rattle.kapi_reply.specs.declared.refusal.CheckError.TheVariants as error;
+
+    ghost from_gives = { λ r e. e ≡ error.Refused r };
+
+    fn from(refused: Refused) -> CheckError {
+        CheckError::Refused(refused)
+    }
+}

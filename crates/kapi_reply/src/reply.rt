@@ -1,0 +1,160 @@
+//! Replies with JSON bodies, and what refused requests are sent.
+ghost use Rattle.std.specs.Prelude.{◌≡◌, [], false, map as map_of, IfOk};
+ghost use Rattle.std.specs.Option.{option_map};
+ghost use Rattle.serde_json.specs.View.{items_of, view};
+ghost use Rattle.serde_json.specs.Written.{compact_text, items_have_float};
+ghost use Rattle.kapi_reply.specs.Refusals as table;
+ghost use Rattle.kapi_reply.specs.Replies as replies;
+ghost use Rattle.kapi_reply.specs.Replies.{json_reply, sent};
+ghost use Rattle.kapi_reply.specs.Status.{status_of};
+ghost use Rattle.kapi_reply.specs.Views.{asked_data, failure_data, subject_data};
+
+use crate::failure::{bad_request, failure_of, failure_of_fault, name_of, subject_of};
+use crate::refusal::{BadWord, Refused};
+use crate::status::{Failure, Subject, failure_status};
+use kapi_http::{HttpFault, Method, Reply, StatusCode, write_reply};
+use kapi_request_info::Attributes;
+use kapi_text::{Memory, Sequence};
+use std::alloc::Global;
+
+/// A reply as it goes out on a connection.
+#[derive(Debug, Drop)]
+pub struct WrittenReply {
+    pub bytes: Sequence<u8>,
+    /// The connection has ended with these bytes.
+    pub close: bool,
+}
+
+/// What a refused request was: whose it is, its method and its attributes.
+#[derive(Clone, Copy)]
+pub struct Asked<'a> {
+    pub user: &'a str,
+    pub method: Method,
+    pub attributes: &'a Attributes,
+}
+
+/// A reply that tells an object, given as JSON text.
+pub fn object_reply(
+    alloc: Global,
+    code: StatusCode,
+    close: bool,
+    body: Vec<u8>,
+) -> Result<WrittenReply, Memory>
+    ensures { IfOk result (λ o. o ≡ replies.object_reply code close body.items) }
+{
+    send(alloc, code, &[], close, Some(Sequence::new(body)))
+}
+
+/// A reply with a JSON body, or none, as it goes out.
+fn send(
+    alloc: Global,
+    code: StatusCode,
+    allow: &[Method],
+    close: bool,
+    body: Option<Sequence<u8>>,
+) -> Result<WrittenReply, Memory>
+    ensures { IfOk result (λ o. o ≡ sent (json_reply code allow.now close body)) }
+{
+    let reply = Reply {
+        code,
+        plain: false,
+        allow: Sequence::new(Vec::from_slice(alloc, allow)?),
+        chunked: false,
+        close,
+        body,
+    };
+    Ok(WrittenReply {
+        bytes: Sequence::new(write_reply(alloc, &reply)?),
+        close,
+    })
+}
+
+/// What a request that was refused is sent.
+pub fn refusal_reply(
+    alloc: Global,
+    asked: Asked<'_>,
+    close: bool,
+    refused: &Refused,
+) -> Result<WrittenReply, Memory>
+    ensures { IfOk result (λ o. o ≡ replies.refusal_reply (asked_data asked.entry) close refused.now) }
+{
+    let name = name_in(asked, refused);
+    let failure = failure_of(alloc, asked, name, &refused.why)?;
+    failure_reply(
+        alloc,
+        subject_of(&asked.attributes.point, name),
+        close,
+        failure,
+    )
+}
+
+/// The name of the object that a refusal is about.
+fn name_in<'a>(asked: Asked<'a>, refused: &'a Refused) -> &'a str
+    ensures { result.now ≡ table.name_in (asked_data asked.entry) refused.entry.now }
+{
+    match &refused.name {
+        Some(name) => name.as_str(),
+        None => name_of(&asked.attributes.point),
+    }
+}
+
+/// What a request is sent whose target has a fault: nothing is known of what it is about.
+pub fn target_reply(alloc: Global, word: BadWord, close: bool) -> Result<WrittenReply, Memory>
+    ensures { IfOk result (λ o. o ≡ replies.target_reply word close) }
+{
+    let failure = bad_request(alloc, word.as_str())?;
+    failure_reply(alloc, None, close, failure)
+}
+
+/// A reply that tells a failure and whom it is about.
+fn failure_reply(
+    alloc: Global,
+    subject: Option<Subject<'_>>,
+    close: bool,
+    failure: Failure,
+) -> Result<WrittenReply, Memory>
+    requires { items_have_float (items_of (map_of view failure.causes.items)) ≡ false }
+    ensures { IfOk result (λ o. o ≡ replies.failure_reply (option_map subject_data subject.entry) close (failure_data failure)) }
+{
+    let (code, allow) = (failure.code, failure.allow);
+    let body = status_text(alloc, subject, failure)?;
+    send(alloc, code, allow, close, Some(Sequence::new(body)))
+}
+
+/// The Status object of a failure as JSON text.
+fn status_text(
+    alloc: Global,
+    subject: Option<Subject<'_>>,
+    failure: Failure,
+) -> Result<Vec<u8>, Memory>
+    requires { items_have_float (items_of (map_of view failure.causes.items)) ≡ false }
+    ensures { IfOk result (λ b. b.items ≡ compact_text (status_of (option_map subject_data subject.entry) (failure_data failure))) }
+{
+    failure_status(alloc, subject, failure)?.to_vec(alloc)
+}
+
+/// What bytes that are no request are sent; it ends the connection.
+#[tactic(auto, unfolding(crate::specs::Replies::fault_reply))]
+pub fn fault_reply(alloc: Global, fault: &HttpFault) -> Result<WrittenReply, Memory>
+    ensures { IfOk result (λ o. o ≡ replies.fault_reply fault.now) }
+{
+    let failure = failure_of_fault(alloc, fault.code, fault.word.as_str())?;
+    let allow = failure.allow;
+    let body = fault_body(alloc, fault, failure)?;
+    send(alloc, fault.code, allow, true, body)
+}
+
+/// A reply to HEAD has no body (RFC 9110 section 9.3.2).
+fn fault_body(
+    alloc: Global,
+    fault: &HttpFault,
+    failure: Failure,
+) -> Result<Option<Sequence<u8>>, Memory>
+    requires { failure_data failure ≡ table.fault_failure fault.now.code fault.now.word }
+    ensures { IfOk result (λ b. b ≡ replies.fault_body fault.now) }
+{
+    if fault.no_body {
+        return Ok(None);
+    }
+    Ok(Some(Sequence::new(status_text(alloc, None, failure)?)))
+}

@@ -1,0 +1,212 @@
+ghost use Rattle.std.specs.Prelude.{◌≡◌, map as map_of, string_bytes, IfOk, OnOk};
+ghost use Rattle.std.specs.Option.{option_map};
+ghost use Rattle.serde_json.specs.View.{view, members_view};
+ghost use Rattle.serde_json.specs.Written.{compact_text};
+ghost use Rattle.kapi_reply.specs.Status as status_object;
+ghost use Rattle.kapi_reply.specs.Status.{with_text, with_some_text, with_causes, with_subject, with_some_object, details_of, status_of};
+ghost use Rattle.kapi_reply.specs.Views.{subject_data, failure_data};
+
+use kapi_http::{Method, StatusCode};
+use kapi_names::{Cause, FieldFault};
+use kapi_rules::Point;
+use kapi_text::Memory;
+use serde_json::{Map, Value, json, put};
+use std::alloc::Global;
+
+/// Whom a failure is about: a resource request's group, resource and name, each left out where it is empty.
+#[derive(Clone, Copy)]
+pub struct Subject<'a> {
+    pub group: &'a str,
+    pub resource: &'a str,
+    pub name: &'a str,
+}
+
+/// A failure that is told in a reply.
+#[derive(Drop)]
+pub struct Failure {
+    pub code: StatusCode,
+    /// One word for programs; empty for faults that Kubernetes has no word for.
+    pub reason: &'static str,
+    pub message: String,
+    /// What was missing or wrong, each cause an object; may be empty.
+    pub causes: Vec<Value>,
+    /// The methods that are served in place of the one that was not; else empty.
+    pub allow: &'static [Method],
+}
+
+/// The Status object of a failure and whom it is about (Kubernetes API conventions, 'Response Status Kind').
+#[tactic(auto, unfolding(crate::specs::Status::status_of))]
+pub fn failure_status(
+    alloc: Global,
+    subject: Option<Subject<'_>>,
+    failure: Failure,
+) -> Result<Value, Memory>
+    ensures { IfOk result (λ v. view v ≡ status_of (option_map subject_data subject.entry) (failure_data failure)) }
+{
+    let mut status = Map::new(alloc);
+    put_text(&mut status, alloc, "apiVersion", "v1")?;
+    put(
+        &mut status,
+        alloc,
+        "code",
+        Value::from(failure.code.number()),
+    )?;
+    let details = details(alloc, subject, failure.causes)?;
+    put_some_object(&mut status, alloc, "details", details)?;
+    put_text(&mut status, alloc, "kind", "Status")?;
+    put_text(&mut status, alloc, "message", failure.message.as_str())?;
+    put(
+        &mut status,
+        alloc,
+        "metadata",
+        Value::Object(Map::new(alloc)),
+    )?;
+    put_some_text(&mut status, alloc, "reason", failure.reason)?;
+    put_text(&mut status, alloc, "status", "Failure")?;
+    Ok(Value::Object(status))
+}
+
+#[tactic(auto, using(crate::proofs::Members::no_members_in), unfolding(crate::specs::Status::with_some_object))]
+fn put_some_object(
+    map: &mut Map<String, Value>,
+    alloc: Global,
+    key: &str,
+    members: Map<String, Value>,
+) -> Result<(), Memory>
+    ensures { OnOk result (members_view map.new.entries ≡ with_some_object key.now (members_view members.entries) (members_view map.old.entries)) }
+{
+    if members.is_empty() {
+        Ok(())
+    } else {
+        put(map, alloc, key, Value::Object(members))
+    }
+}
+
+/// The details of a failure: the causes, where there are some, and whom it is about.
+fn details(
+    alloc: Global,
+    subject: Option<Subject<'_>>,
+    causes: Vec<Value>,
+) -> Result<Map<String, Value>, Memory>
+    ensures { IfOk result (λ m. members_view m.entries ≡ details_of (option_map subject_data subject.entry) (map_of view causes.items)) }
+{
+    let mut details = Map::new(alloc);
+    put_causes(&mut details, alloc, causes)?;
+    put_subject(&mut details, alloc, subject)?;
+    Ok(details)
+}
+
+#[tactic(auto, unfolding(crate::specs::Status::with_causes))]
+fn put_causes(map: &mut Map<String, Value>, alloc: Global, causes: Vec<Value>) -> Result<(), Memory>
+    ensures { OnOk result (members_view map.new.entries ≡ with_causes (map_of view causes.items) (members_view map.old.entries)) }
+{
+    if causes.is_empty() {
+        Ok(())
+    } else {
+        put(map, alloc, "causes", Value::Array(causes))
+    }
+}
+
+#[tactic(auto, unfolding(crate::specs::Status::with_subject))]
+fn put_subject(
+    map: &mut Map<String, Value>,
+    alloc: Global,
+    subject: Option<Subject<'_>>,
+) -> Result<(), Memory>
+    ensures { OnOk result (members_view map.new.entries ≡ with_subject (option_map subject_data subject.entry) (members_view map.old.entries)) }
+{
+    match subject {
+        Some(subject) => {
+            put_some_text(map, alloc, "group", subject.group)?;
+            put_some_text(map, alloc, "kind", subject.resource)?;
+            put_some_text(map, alloc, "name", subject.name)
+        }
+        None => Ok(()),
+    }
+}
+
+fn put_text(
+    map: &mut Map<String, Value>,
+    alloc: Global,
+    key: &str,
+    text: &str,
+) -> Result<(), Memory>
+    ensures { OnOk result (members_view map.new.entries ≡ with_text key.now text.now (members_view map.old.entries)) }
+{
+    put(
+        map,
+        alloc,
+        key,
+        Value::String(String::from_str(alloc, text)?),
+    )
+}
+
+#[tactic(auto, unfolding(crate::specs::Status::with_some_text))]
+fn put_some_text(
+    map: &mut Map<String, Value>,
+    alloc: Global,
+    key: &str,
+    text: &str,
+) -> Result<(), Memory>
+    ensures { OnOk result (members_view map.new.entries ≡ with_some_text key.now text.now (members_view map.old.entries)) }
+{
+    if text.is_empty() {
+        Ok(())
+    } else {
+        put_text(map, alloc, key, text)
+    }
+}
+
+/// The cause of a denial: the point that no rule allows, as a JSON list in a text.
+pub fn missing_permission(alloc: Global, point: &Point) -> Result<Value, Memory>
+    ensures { IfOk result (λ v. view v ≡ status_object.missing_permission point.now) }
+{
+    let message = point_text(alloc, point)?;
+    json!(in alloc; {"message": (message.as_str()), "reason": "MissingPermission"})
+}
+
+fn point_text(alloc: Global, point: &Point) -> Result<String, Memory>
+    ensures { IfOk result (λ s. string_bytes s ≡ compact_text (status_object.point_list point.now)) }
+{
+    point_list(alloc, point)?.to_string(alloc)
+}
+
+fn point_list(alloc: Global, point: &Point) -> Result<Value, Memory>
+    ensures { IfOk result (λ v. view v ≡ status_object.point_list point.now) }
+{
+    match point {
+        Point::Resource(point) => json!(in alloc; [
+            (point.verb.as_str()),
+            (point.group.as_str()),
+            (point.resource.as_str()),
+            (point.subresource.as_str()),
+            (point.name.as_str())
+        ]),
+        Point::Url(point) => json!(in alloc; [(point.verb.as_str()), (point.path.as_str())]),
+    }
+}
+
+/// The cause of a body's refusal: a field and what is wrong with it.
+pub fn invalid_field_at(alloc: Global, field: &str, cause: Cause) -> Result<Value, Memory>
+    ensures { IfOk result (λ v. view v ≡ status_object.invalid_field (record { field = field.now; cause = cause })) }
+{
+    let message = cause.as_str();
+    json!(in alloc; {"field": field, "message": message, "reason": "FieldValueInvalid"})
+}
+
+fn invalid_field(alloc: Global, fault: &FieldFault) -> Result<Value, Memory>
+    ensures { IfOk result (λ v. view v ≡ status_object.invalid_field fault.now) }
+{
+    invalid_field_at(alloc, fault.field.as_str(), fault.cause)
+}
+
+/// The causes of a body's refusal, in the order of its faults.
+pub fn invalid_fields(alloc: Global, faults: &[FieldFault]) -> Result<Vec<Value>, Memory>
+    ensures { IfOk result (λ v. map_of view v.items ≡ map_of status_object.invalid_field faults.now) }
+{
+    let mut causes = Vec::new(alloc);
+    for fault in faults {
+        causes.push(invalid_field(alloc, fault)?)?;
+    }
+    Ok(causes)
+}

@@ -1,0 +1,54 @@
+-- What the header fields of a request must keep.
+use Rattle.std.specs.Prelude.{ℕ, ◌==◌, Bool, true, not, ◌&&◌, ◌||◌, if◌then◌else◌, List, length, take, find, nat_le, codes, Option, Some, None, Result, Ok, Err}
+use Rattle.std.specs.List.{list_any, list_all, before_first}
+use Rattle.std.specs.Str.{str_eq_ignore_ascii_case}
+use Rattle.httparse.specs.Grammar.{trim_ows}
+use Rattle.kapi_http.specs.declared.message.Header.{Header}
+use Rattle.kapi_http.specs.declared.message.Method.{Method}
+use Rattle.kapi_http.specs.declared.message.Method.TheVariants.{Get, Post, Put, Patch, Delete}
+use Rattle.kapi_reply.specs.declared.refusal.Refused.{Refused}
+use Rattle.kapi_reply.specs.declared.refusal.Refusal.TheVariants as refusal
+use Rattle.kapi_reply.specs.declared.refusal.BadWord.TheVariants as word
+use Rattle.kapi_reply.specs.Refusals.{asked_for}
+
+-- the field has that name, in any case (RFC 9110 section 5.1)
+abbrev pub is_named : List ℕ → Header → Bool
+is_named name h = str_eq_ignore_ascii_case h.name name
+
+-- the field is of the family of impersonation (Kubernetes, 'User impersonation')
+abbrev pub is_impersonation : Header → Bool
+is_impersonation h = nat_le 12 (length h.name) && str_eq_ignore_ascii_case (take 12 h.name) (codes "impersonate-")
+
+-- no field of that family is served yet
+unfoldable pub unimpersonated : List Header → Result (Unit {0}) Refused
+unimpersonated headers = if list_any is_impersonation headers then Err (asked_for (refusal.BadRequest word.Impersonation)) else Ok tt
+
+-- the field is no content coding but `identity` (RFC 9110 section 8.4)
+abbrev pub is_uncoded : Header → Bool
+is_uncoded h = not (is_named (codes "content-encoding") h) || str_eq_ignore_ascii_case h.value (codes "identity")
+
+-- a media type without its parameters (RFC 9110 section 8.3.1)
+abbrev pub media_type : List ℕ → List ℕ
+media_type value = trim_ows (before_first (λ b. b == 59) value)
+
+-- the media type is JSON's; a body without one is taken as JSON
+abbrev pub is_json_type : Option Header → Bool
+is_json_type None = true
+is_json_type (Some h) = str_eq_ignore_ascii_case (media_type h.value) (codes "application/json")
+
+-- the body's media type, as the first field says, is JSON's
+abbrev pub is_json : List Header → Bool
+is_json headers = is_json_type (find (is_named (codes "content-type")) headers)
+
+-- whether the method's body has a type that is read
+unfoldable pub is_typed : Method → List Header → Bool
+is_typed Get headers = true
+is_typed Post headers = is_json headers
+is_typed Put headers = true
+is_typed Patch headers = true
+is_typed Delete headers = true
+
+-- the body is not coded, and of a create it is JSON
+unfoldable pub media_typed : Method → List Header → Result (Unit {0}) Refused
+media_typed method headers =
+    if list_all is_uncoded headers && is_typed method headers then Ok tt else Err (asked_for refusal.UnsupportedMediaType)

@@ -1,0 +1,3 @@
+pub mod Headers
+pub mod Route
+pub mod Routes

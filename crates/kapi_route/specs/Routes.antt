@@ -1,0 +1,14 @@
+-- The route that the code finds is the definition's.
+use Rattle.std.specs.Prelude.{Result, Some}
+use Rattle.kapi_text.specs.Gives.{Gives}
+use Rattle.kapi_reply.specs.declared.refusal.Refused.{Refused}
+use Rattle.kapi_route.specs.declared.route.Route.{Route}
+use Rattle.kapi_route.specs.Route.{Routed}
+
+-- a route as data
+abbrev pub route_data : Route → Routed
+route_data r = record { row = r.row.now; point = r.point.now; action = r.action }
+
+-- what was found is what the definition gives
+abbrev pub Routes : Result Route Refused → Result Routed Refused → Type 0
+Routes result given = Gives (λ e. Some e) route_data result given

@@ -1,0 +1,124 @@
+ghost use Rattle.std.specs.Prelude.{◌≡◌, ◌==◌, ◌<◌, IfSome, codes, find, length, position};
+ghost use Rattle.std.specs.Option.{option_copied};
+ghost use Rattle.std.specs.List.{list_any, list_all, before_first};
+ghost use Rattle.kapi_route.specs.Headers as fields;
+ghost use Rattle.kapi_route.specs.Headers.{unimpersonated, media_typed};
+
+use kapi_http::{Header, Method, is_same, trimmed};
+use kapi_reply::{BadWord, Refusal, Refused};
+
+/// Impersonation is not served yet: every header of its family is refused.
+#[tactic(auto, unfolding(crate::specs::Headers::unimpersonated))]
+pub fn refuse_impersonation(headers: &[Header]) -> Result<(), Refused>
+    ensures { result ≡ unimpersonated headers.now }
+{
+    if some_impersonates(headers) {
+        Err(Refused::asked_for(Refusal::BadRequest(BadWord::Impersonation)))
+    } else {
+        Ok(())
+    }
+}
+
+fn some_impersonates(headers: &[Header]) -> bool
+    ensures { result ≡ list_any fields.is_impersonation headers.now }
+{
+    headers.iter().any(|header| is_impersonation(header))
+}
+
+/// Whether a field is of the family of impersonation (Kubernetes, 'User impersonation').
+fn is_impersonation(header: &Header) -> bool
+    ensures { result ≡ fields.is_impersonation header.now }
+{
+    let name = header.name.as_str().as_bytes();
+    if name.len() < 12 {
+        return false;
+    }
+    let (front, _) = name.split_at(12);
+    is_same(front, b"impersonate-")
+}
+
+/// The body's encoding and media type (RFC 9110 sections 8.3 and 8.4): no coding but `identity`, and for a create JSON.
+#[tactic(auto, unfolding(crate::specs::Headers::media_typed))]
+pub fn check_media_type(method: Method, headers: &[Header]) -> Result<(), Refused>
+    ensures { result ≡ media_typed method headers.now }
+{
+    if are_uncoded(headers) && is_typed(method, headers) {
+        Ok(())
+    } else {
+        Err(Refused::asked_for(Refusal::UnsupportedMediaType))
+    }
+}
+
+fn are_uncoded(headers: &[Header]) -> bool
+    ensures { result ≡ list_all fields.is_uncoded headers.now }
+{
+    headers.iter().all(|header| is_uncoded(header))
+}
+
+fn is_uncoded(header: &Header) -> bool
+    ensures { result ≡ fields.is_uncoded header.now }
+{
+    !is_named(header, b"content-encoding") || is_same(header.value.as_slice(), b"identity")
+}
+
+fn is_named(header: &Header, name: &[u8]) -> bool
+    ensures { result ≡ fields.is_named name.now header.now }
+{
+    is_same(header.name.as_str().as_bytes(), name)
+}
+
+/// Only the body of a create is read.
+#[tactic(auto, unfolding(crate::specs::Headers::is_typed))]
+fn is_typed(method: Method, headers: &[Header]) -> bool
+    ensures { result ≡ fields.is_typed method headers.now }
+{
+    match method {
+        Method::Post => is_json(headers),
+        Method::Get | Method::Put | Method::Patch | Method::Delete => true,
+    }
+}
+
+/// Whether the first Content-Type, up to its parameters, is JSON's; a body without one is taken as JSON.
+fn is_json(headers: &[Header]) -> bool
+    ensures { result ≡ fields.is_json headers.now }
+{
+    match content_type(headers) {
+        Some(header) => is_same(media_type(header.value.as_slice()), b"application/json"),
+        None => true,
+    }
+}
+
+fn content_type(headers: &[Header]) -> Option<&Header>
+    ensures { option_copied result ≡ find (fields.is_named (codes "content-type")) headers.now }
+{
+    headers
+        .iter()
+        .find(|header| is_named(header, b"content-type"))
+}
+
+/// What stands before the parameters, without the white space before the semicolon.
+fn media_type(value: &[u8]) -> &[u8]
+    ensures { result.now ≡ fields.media_type value.now }
+{
+    trimmed(before_semicolon(value))
+}
+
+fn before_semicolon(value: &[u8]) -> &[u8]
+    ensures { result.now ≡ before_first (λ b. b == 59) value.now }
+{
+    match semicolon_at(value) {
+        Some(at) => {
+            let (front, _) = value.split_at(at);
+            front
+        }
+        None => value,
+    }
+}
+
+/// Where the first semicolon stands.
+fn semicolon_at(value: &[u8]) -> Option<usize>
+    ensures found { result ≡ position (λ b. b == 59) value.now }
+    ensures within { IfSome result (λ at. at < length value.now) }
+{
+    value.iter().position(|byte| *byte == b';')
+}

@@ -1,0 +1,62 @@
+use Rattle.std.proofs.Common.{◌≡◌, ◌+◌, ◌≤◌, [], Ok, true, false, IsSome, ap, sym, subst, refl, ◌∙◌, arith, rules}
+use Rattle.std.specs.Map.{lookup}
+use Rattle.std.specs.Fmt.{decimal}
+use Rattle.kapi_object.specs.Object.{tree_of, stamped_tree}
+use Rattle.kapi_store.specs.declared.store.TheConstants.{LAST_REVISION}
+use Rattle.kapi_store.specs.Keys.{is_key}
+use Rattle.kapi_store.specs.Same.{same_tree}
+use Rattle.kapi_store.specs.Stamps.{with_stamps_of, uid_in}
+use Rattle.kapi_store.specs.Plain.{plain_of, plain_change, revisions_left}
+use Rattle.kapi_store.specs.View.{state_of}
+use Rattle.kapi_store.specs.State.{State, Fits}
+use Rattle.kapi_store.proofs.Stores.{fits_none, fits_one}
+use Rattle.kapi_store.proofs.Writes.{replaced_by}
+use Rattle.kapi_store.proofs.store.Store.replace_old.Goals as goal
+
+pub returns-then-is_unchanged-clause-gives : goal.returns-then-is_unchanged-clause-gives
+returns-then-is_unchanged-clause-gives c =
+    let old = tree_of c.args.old.now in
+    let same : same_tree (with_stamps_of old (tree_of c.args.object)) old ≡ true
+    = ap (λ t. same_tree t old) (sym c.in_ok-object.ensures) ∙ sym c.is_unchanged.ensures.test ∙ c.if-is_unchanged.true in
+    rw (same, c.nothing.ensures) refl
+
+pub returns-then-is_unchanged-clause-fits : goal.returns-then-is_unchanged-clause-fits
+returns-then-is_unchanged-clause-fits c =
+    let now : state_of c.self.inside ≡ c.args.self.now = c.self.view_is in
+    let P : State → Type 0 = λ s. Fits s c.nothing.result in
+    subst P now (fits_none (state_of c.self.inside) c.nothing.result c.self.invariant c.nothing.ensures)
+
+pub returns-in_err-check_revisions-clause-gives : goal.returns-in_err-check_revisions-clause-gives
+returns-in_err-check_revisions-clause-gives c =
+    let old = tree_of c.args.old.now in
+    let same : same_tree (with_stamps_of old (tree_of c.args.object)) old ≡ false
+    = ap (λ t. same_tree t old) (sym c.in_ok-object.ensures) ∙ sym c.is_unchanged.ensures.test ∙ c.if-is_unchanged.false in
+    rw same (search rules)
+
+pub returns-clause-gives : goal.returns-clause-gives
+returns-clause-gives c =
+    let old = tree_of c.args.old.now in
+    let same : same_tree (with_stamps_of old (tree_of c.args.object)) old ≡ false
+    = ap (λ t. same_tree t old) (sym c.in_ok-object.ensures) ∙ sym c.is_unchanged.ensures.test ∙ c.if-is_unchanged.false in
+    let left : revisions_left (plain_of c.args.self.now) 1 ≡ Ok tt = c.in_ok-check_revisions.ensures.gives in
+    replaced_by (plain_of c.args.self.now) c.args.key (tree_of c.args.object) old c.in_ok-of_one.field-0 (c.self.inside.revision + 1) c.in_ok-share.field-0 c.in_ok-new-2.field-0
+    same left c.in_ok-of_one.ensures (ap (λ s. s.revision + 1) c.self.view_is) (ap tree_of c.in_ok-share.ensures)
+    (ap tree_of c.in_ok-new-2.ensures ∙ c.in_ok-new.ensures ∙ ap (stamped_tree (uid_in old) (decimal (c.self.inside.revision + 1))) c.in_ok-object.ensures)
+
+pub returns-clause-fits : goal.returns-clause-fits
+returns-clause-fits c =
+    let at : c.args.self.now.revision ≡ c.self.inside.revision = ap (λ s. s.revision) (sym c.self.view_is) in
+    let left : c.args.self.now.revision + 1 ≤ LAST_REVISION = c.in_ok-check_revisions.ensures.left in
+    fits_one c.args.self.now _ _ c.in_ok-of_one.ensures (omega arith) (omega arith) (λ _. c.requires)
+
+-- no changes were prepared, and the trees are equal
+pub returns-then-is_unchanged-clause-unchanged : goal.returns-then-is_unchanged-clause-unchanged
+returns-then-is_unchanged-clause-unchanged c =
+    let equal = c.is_unchanged.ensures.decides.0 c.if-is_unchanged.true in
+    (λ _. sym c.in_ok-object.ensures ∙ equal, λ _. c.nothing.ensures)
+
+pub returns-clause-unchanged : goal.returns-clause-unchanged
+returns-clause-unchanged c = (
+  λ none. absurd (cc (c.in_ok-of_one.ensures, none)),
+  λ is. absurd (cc (c.is_unchanged.ensures.decides.1 (c.in_ok-object.ensures ∙ is), c.if-is_unchanged.false)),
+)

@@ -1,0 +1,52 @@
+use Rattle.std.proofs.Common.{◌≡◌, Result, Ok, Err, OnOk, Option, Some, None, IsSome, option_copied, option_map, sym, ◌∙◌, ap, subst}
+use Rattle.serde_json.specs.Data.{Data}
+use Rattle.std.specs.Map.{lookup}
+use Rattle.std.proofs.lemmas.Result.{IfOk-weaker}
+use Rattle.kapi_text.specs.Gives.{Gives}
+use Rattle.kapi_object.specs.Object.{tree_of}
+use Rattle.kapi_store.specs.Faults.{fault_of}
+use Rattle.kapi_store.specs.Keys.{key_cmp, is_key}
+use Rattle.kapi_store.specs.Plain.{admitted, trees}
+use Rattle.kapi_store.specs.State.{State, objects}
+use Rattle.kapi_store.specs.View.{state_of}
+use Rattle.kapi_store.proofs.Keys.{key_total}
+use Rattle.kapi_store.proofs.SlotSteps.{slot_there}
+use Rattle.kapi_store.proofs.Trees.{lookup_trees}
+use Rattle.kapi_store.proofs.store.Store.replaceable.Goals as goal
+
+on_ok : {X E P : Type 0} (r : Result X E) → P → OnOk r P
+on_ok (Ok x) p = p
+on_ok (Err e) p = tt
+
+pub returns-in-Some-clause-gives : goal.returns-in-Some-clause-gives
+returns-in-Some-clause-gives c =
+    let now : state_of c.self.inside ≡ c.args.self.now = c.self.view_is in
+    let there : Some (tree_of c.in-Some.object.now) ≡ lookup (is_key c.args.key.now) (trees (objects c.args.self.now))
+    = ap (option_map tree_of) (sym (ap option_copied c.in-Some.is) ∙ c.find.ensures)
+    ∙ ap (λ s. option_map tree_of (lookup (is_key c.args.key.now) (objects s))) now ∙ sym (lookup_trees c.args.key.now (objects c.args.self.now)) in
+    let P : Option Data → Type 0 = λ o. Gives fault_of (λ x. tree_of x.now) c.admitted.result (admitted o c.args.given.now) in
+    subst P there c.admitted.ensures.gives
+
+pub returns-in-Some-clause-slot : goal.returns-in-Some-clause-slot
+returns-in-Some-clause-slot c =
+    let now : state_of c.self.inside ≡ c.args.self.now = c.self.view_is in
+    let Q : State → Type 0 = λ s. IsSome (lookup (is_key c.args.key.now) s.slots) in
+    let slot : IsSome (lookup (is_key c.args.key.now) c.self.inside.slots.entries)
+    = slot_there key_cmp key_total c.args.key.now c.in-Some.object.now c.self.inside.slots.entries c.self.invariant.slots (sym c.find.ensures ∙ ap option_copied c.in-Some.is) in
+    on_ok c.admitted.result (subst Q now slot)
+
+pub returns-in-None-clause-gives : goal.returns-in-None-clause-gives
+returns-in-None-clause-gives c =
+    let now : state_of c.self.inside ≡ c.args.self.now = c.self.view_is in
+    let absent : None ≡ lookup (is_key c.args.key.now) (trees (objects c.args.self.now))
+    = ap (option_map tree_of) (sym (ap option_copied c.in-None.is) ∙ c.find.ensures)
+    ∙ ap (λ s. option_map tree_of (lookup (is_key c.args.key.now) (objects s))) now ∙ sym (lookup_trees c.args.key.now (objects c.args.self.now)) in
+    sym (ap (λ o. admitted o c.args.given.now) absent)
+
+pub returns-in-Some-clause-found : goal.returns-in-Some-clause-found
+returns-in-Some-clause-found c =
+    let now : state_of c.self.inside ≡ c.args.self.now = c.self.view_is in
+    let there : Some (tree_of c.in-Some.object.now) ≡ lookup (is_key c.args.key.now) (trees (objects c.args.self.now))
+    = ap (option_map tree_of) (sym (ap option_copied c.in-Some.is) ∙ c.find.ensures)
+    ∙ ap (λ s. option_map tree_of (lookup (is_key c.args.key.now) (objects s))) now ∙ sym (lookup_trees c.args.key.now (objects c.args.self.now)) in
+    IfOk-weaker c.admitted.result _ _ (λ o is. sym there ∙ ap (λ x. Some (tree_of x)) (sym is)) c.admitted.ensures.same

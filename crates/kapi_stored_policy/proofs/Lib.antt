@@ -1,0 +1,4 @@
+pub mod Collected
+pub mod Places
+pub mod Writes
+pub mod Steps

@@ -1,0 +1,46 @@
+-- The policy changes of one step.
+use Rattle.std.proofs.Common.{◌≡◌, List, [], ◌∷◌, ◌++◌, Option, None, Some, map, option_map, refl, sym, ap, subst}
+use Rattle.std.specs.List.{flat_map}
+use Rattle.serde_json.specs.Data.{Data}
+use Rattle.kapi_object.specs.Object.{tree_of}
+use Rattle.kapi_policy.specs.declared.change.PolicyChange.{PolicyChange}
+use Rattle.kapi_store.specs.Changes.{AreRemovals, IsStep}
+use Rattle.kapi_store.specs.Plain.{plain_change}
+use Rattle.kapi_store.specs.declared.change.Change.{Change}
+use Rattle.kapi_store.specs.declared.key.Key.{Key}
+use Rattle.kapi_stored_policy.specs.Kind.{policy_kind}
+use Rattle.kapi_stored_policy.specs.Reading.{AreDeletions, IsPolicyStep, changes_at, key_at, policy_changes}
+use Rattle.kapi_stored_policy.specs.declared.kind.PolicyKind.{PolicyKind}
+
+-- a removal is a deletion, if it is of a policy object
+deletions_after : (o : Option PolicyKind) (k : Key) (left : Option Data) → left ≡ None → (cs : List PolicyChange) → AreDeletions cs → AreDeletions (changes_at o k left ++ cs)
+unfolding AreDeletions
+deletions_after None k left none cs h = h
+deletions_after (Some of) k (Some tree) none cs h = absurd (cc none)
+deletions_after (Some of) k None none cs h = ((key_at of k, refl), h)
+
+removals_delete : (cs : List Change) → AreRemovals cs → AreDeletions (policy_changes (map plain_change cs))
+unfolding AreRemovals AreDeletions policy_changes
+removals_delete [] h = tt
+removals_delete (c ∷ cs) h =
+    deletions_after (policy_kind c.key) c.key (option_map tree_of c.new) (ap (option_map tree_of) h.0) (policy_changes (map plain_change cs)) (removals_delete cs h.1)
+
+-- deletions are a step
+deletions_step : (cs : List PolicyChange) → AreDeletions cs → IsPolicyStep cs
+unfolding AreDeletions
+deletions_step [] h = tt
+deletions_step (c ∷ cs) h = h.1
+
+-- so are a change and deletions
+one_step : (o : Option PolicyKind) (k : Key) (left : Option Data) (cs : List PolicyChange) → AreDeletions cs → IsPolicyStep (changes_at o k left ++ cs)
+one_step None k left cs h = deletions_step cs h
+one_step (Some of) k left cs h = h
+
+policy_step : (cs : List Change) → IsStep cs → IsPolicyStep (policy_changes (map plain_change cs))
+unfolding policy_changes
+policy_step [] h = tt
+policy_step (c ∷ cs) h = one_step (policy_kind c.key) c.key (option_map tree_of c.new) (policy_changes (map plain_change cs)) (removals_delete cs h)
+
+-- the policy changes of a step of the store are a step
+pub changes_step : (cs : List Change) (changes : List PolicyChange) → changes ≡ policy_changes (map plain_change cs) → IsStep cs → IsPolicyStep changes
+changes_step cs changes is h = let P : List PolicyChange → Type 0 = λ items. IsPolicyStep items in subst P (sym is) (policy_step cs h)

@@ -1,0 +1,42 @@
+ghost use Rattle.std.specs.Prelude.{◌≡◌};
+ghost use Rattle.kapi_stored_policy.specs.Kind as kind;
+
+use kapi_store::Key;
+
+/// The four kinds of policy objects (Kubernetes API, rbac.authorization.k8s.io/v1).
+#[derive(Clone, Copy, Debug, PartialEq, Eq)]
+pub enum PolicyKind {
+    Role,
+    RoleBinding,
+    ClusterRole,
+    ClusterRoleBinding,
+}
+
+/// The kind of the policy object that stands at a key, if it is the place of one.
+#[tactic(auto, unfolding(crate::specs::Kind::policy_kind))]
+pub fn policy_kind(key: &Key) -> Option<PolicyKind>
+    ensures { result ≡ kind.policy_kind key.now }
+{
+    if key.group.as_str() != "rbac.authorization.k8s.io" {
+        return None;
+    }
+    match key.resource.as_str() {
+        "roles" => Some(PolicyKind::Role),
+        "rolebindings" => Some(PolicyKind::RoleBinding),
+        _other => cluster_kind(key),
+    }
+}
+
+/// Objects of these kinds are in no namespace.
+fn cluster_kind(key: &Key) -> Option<PolicyKind>
+    ensures { result ≡ kind.cluster_kind key.now }
+{
+    if !key.namespace.as_str().is_empty() {
+        return None;
+    }
+    match key.resource.as_str() {
+        "clusterroles" => Some(PolicyKind::ClusterRole),
+        "clusterrolebindings" => Some(PolicyKind::ClusterRoleBinding),
+        _other => None,
+    }
+}
