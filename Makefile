@@ -1,9 +1,9 @@
-# make demo      plays a stored script of two connections and shows it with its answers; it proves nothing
+# make demo      plays scripts/demo.txt and shows it as a transcript, each event with its answer; it proves nothing (wants python3)
 # make test      the gate: every proof from nothing, the must-fail edits, the tests and the program's stored run
 # make kapi      proves and builds the program, and says where it lies
 # make growths   plays each script of the folder SCRIPTS once for every growth of memory, with that growth refused (wants cc and python3)
 # make statuses  the program's exit statuses, and what it writes on standard error
-# make bench     proves, builds and runs every benchmark and prints its figures; takes a while
+# make bench     proves and builds the benchmarks, runs each and prints its figures; takes a while
 
 SCRIPTS ?= scripts
 PROGRAM = crates/kapi/out/kapi
@@ -11,10 +11,7 @@ PROGRAM = crates/kapi/out/kapi
 .PHONY: demo test kapi growths statuses bench
 
 demo:
-	@echo "--- the script"
-	@cat crates/kapi/stdin
-	@echo "--- its answers"
-	@cd crates/kapi && rt try -- script < stdin
+	@answers=$$(mktemp) && (cd crates/kapi && rt try -- script < ../../scripts/demo.txt) > $$answers && python3 tools/transcript.py scripts/demo.txt $$answers; status=$$?; rm -f $$answers; exit $$status
 
 test:
 	@rt ci

@@ -1,13 +1,14 @@
 #!/bin/sh
-# Proves, builds and runs every benchmark, each with the arguments that docs/GATE.md gives, and prints its figures.
+# Proves and builds the benchmarks, and runs each with the arguments that docs/GATE.md gives; prints their figures.
 bench() {
-    crate=$1
-    shift
-    echo "--- $crate $*"
-    (cd "crates/$crate" && rt run -- "$@" | grep -v '^logic=')
+    echo "--- $*"
+    rt run -- "$@" | grep -v '^logic='
 }
-bench kapi_store_bench 10000 100000 1000000
-bench kapi_http_bench all
-bench kapi_rules_bench 1000 10000
-bench kapi_guard_bench 10 10000
-bench kapi_request_info_bench go
+cd crates/kapi_bench || exit 1
+bench store 10000 100000 1000000
+bench http
+bench info
+bench rules 1000 10000
+bench guard 10 10000
+bench index 10 1000 100000 1000000 rules=1 rules=100
+bench requests 1000 100000

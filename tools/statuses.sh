@@ -22,6 +22,10 @@ sees 'no command' 2 "$error"
 [ -n "$error" ] || { echo 'no command: nothing on standard error'; wrong=1; }
 error=$("$program" scribble 2>&1 >/dev/null </dev/null); status=$?
 sees 'another command' 2 "$error"
+for word in --help --version help; do
+    error=$("$program" $word 2>&1 >/dev/null </dev/null); status=$?
+    sees "kapi $word" 0 ''
+done
 error=$(printf 'open a\n' | "$program" script 2>&1 >/dev/full); status=$?
 sees 'answers that cannot be written' 1 'the answers cannot be written'
 exit $wrong

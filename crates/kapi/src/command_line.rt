@@ -1,8 +1,11 @@
 use crate::program::{Command, CommandFault};
+use clap::Command as Program;
 use clap::error::ErrorKind;
-use clap::{Command as Program, Error};
 use kapi_text::Memory;
 use std::alloc::Global;
+
+/// The version that `--version` tells.
+const VERSION: &str = "0.1.0";
 
 /// Reads the command line; the first word is the program's name.
 pub fn command(alloc: Global, words: &[&str]) -> Result<Command, CommandFault> {
@@ -15,19 +18,21 @@ pub fn command(alloc: Global, words: &[&str]) -> Result<Command, CommandFault> {
             Some(("script", _)) => Ok(Command::Script),
             _ => Err(CommandFault::Words),
         },
-        Err(error) => Err(fault(&error)),
+        Err(error) => match error.kind() {
+            ErrorKind::DisplayHelp | ErrorKind::DisplayVersion => Ok(Command::Show(error)),
+            ErrorKind::OutOfMemory => Err(CommandFault::Memory),
+            _ => Err(CommandFault::Words),
+        },
     }
 }
 
 fn program<'a>(alloc: Global) -> Result<Program<'a>, Memory> {
+    let script = Program::new(alloc, "script").about(
+        "Plays the events on standard input and prints their answers",
+    );
     Program::new(alloc, "kapi")
+        .about("An API server for declared objects with role-based access control")
+        .version(VERSION)
         .subcommand_required(true)
-        .subcommand(Program::new(alloc, "script"))
-}
-
-fn fault(error: &Error) -> CommandFault {
-    match error.kind() {
-        ErrorKind::OutOfMemory => CommandFault::Memory,
-        _ => CommandFault::Words,
-    }
+        .subcommand(script)
 }

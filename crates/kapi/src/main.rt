@@ -7,6 +7,7 @@ mod program;
 mod tests;
 
 use command_line::command;
+use kapi_policy::PlainPolicy;
 use kapi_script::script_run;
 use program::{Command, CommandFault};
 use std::env::{self, Env};
@@ -16,6 +17,10 @@ use std::process::ExitCode;
 fn main(rt: HostRuntime) -> io::Result<ExitCode> {
     match named_command(&rt) {
         Ok(Command::Script) => run_script(&rt),
+        Ok(Command::Show(text)) => {
+            text.print(&rt)?;
+            Ok(ExitCode::SUCCESS)
+        }
         Err(fault) => refuse(&rt, &fault),
     }
 }
@@ -31,7 +36,12 @@ fn named_command<R: Env + AllocGlobal>(rt: &R) -> Result<Command, CommandFault> 
 fn run_script<R: Input + Print + Eprint + AllocGlobal>(rt: &R) -> io::Result<ExitCode> {
     let mut reader = rt.reader();
     let mut writer = BufWriter::new(rt.alloc(), io::writer(rt))?;
-    match script_run(rt.alloc(), &mut reader, &mut writer) {
+    match script_run(
+        rt.alloc(),
+        PlainPolicy::new(rt.alloc()),
+        &mut reader,
+        &mut writer,
+    ) {
         Ok(()) => Ok(ExitCode::SUCCESS),
         Err(fault) => {
             eprintln!(rt; "{fault}")?;

@@ -1,12 +1,15 @@
+use clap::Error as Shown;
 use std::alloc::AllocError;
 use std::io;
 use thiserror::Error;
 
 /// What the command line asks for.
-#[derive(Clone, Copy, Debug, PartialEq, Eq)]
+#[derive(Drop)]
 pub enum Command {
     /// `kapi script`: events on standard input, answers on standard output.
     Script,
+    /// `--help`, `help` or `--version`: the text that is asked for.
+    Show(Shown),
 }
 
 /// Why a command line was not understood.

@@ -7,15 +7,42 @@ use std::test::Fail;
 #[test]
 fn reads_the_command_line(rt: HostRuntime) -> Result<(), Fail> {
     let alloc: Global = rt.alloc();
-    assert_eq!(rt; command(alloc, &["kapi", "script"]), Ok(Command::Script));
-    assert_eq!(rt; command(alloc, &["kapi"]), Err(CommandFault::Words));
+    assert!(rt; matches!(command(alloc, &["kapi", "script"]), Ok(Command::Script)));
+    assert!(rt; is_refused(alloc, &["kapi"]));
+    assert!(rt; is_refused(alloc, &["kapi", "scripts"]));
+    assert!(rt; is_refused(alloc, &["kapi", "script", "x"]));
+    Ok(())
+}
+
+/// Whether the words name no program.
+fn is_refused(alloc: Global, words: &[&str]) -> bool {
+    matches!(command(alloc, words), Err(CommandFault::Words))
+}
+
+/// What the program shows of itself for some words.
+fn shown(alloc: Global, words: &[&str]) -> Result<String, Fail> {
+    match command(alloc, words) {
+        Ok(Command::Show(text)) => Ok(format!(in alloc; "{text}")?),
+        _ => Ok(String::new(alloc)),
+    }
+}
+
+#[test]
+fn shows_help_and_its_version(rt: HostRuntime) -> Result<(), Fail> {
+    let alloc: Global = rt.alloc();
     assert_eq!(rt;
-        command(alloc, &["kapi", "scripts"]),
-        Err(CommandFault::Words)
+        shown(alloc, &["kapi", "--version"])?.as_str(),
+        "kapi 0.1.0\n"
     );
-    assert_eq!(rt;
-        command(alloc, &["kapi", "script", "x"]),
-        Err(CommandFault::Words)
+    assert!(rt;
+        shown(alloc, &["kapi", "--help"])?
+            .as_str()
+            .contains("Usage: kapi <COMMAND>")
+    );
+    assert!(rt;
+        shown(alloc, &["kapi", "script", "--help"])?
+            .as_str()
+            .contains("Usage: kapi script")
     );
     Ok(())
 }

@@ -4,7 +4,7 @@ ghost use Rattle.serde_json.specs.Find.{get};
 ghost use Rattle.serde_json.specs.View.{view, members_view};
 ghost use Rattle.serde_json.specs.Written as written;
 ghost use Rattle.kapi_text.specs.Gives.{Gives};
-ghost use Rattle.kapi_admission.specs.Admission.{is_other, not_json, object_of, told};
+ghost use Rattle.kapi_admission.specs.Admission.{is_other, not_json, object_of, read_as, told};
 ghost use Rattle.kapi_admission.specs.Admission as admission;
 ghost use Rattle.kapi_admission.specs.Admission.{put_entries, version_of, admitted, faults_on};
 ghost use Rattle.kapi_object.specs.Tree.{metadata_member, put_if};
@@ -144,9 +144,9 @@ fn has_other(tree: &Value, key: &str, text: &str) -> bool
     }
 }
 
-/// The JSON object that the bytes are.
+/// The JSON object that the bytes are (RFC 8259).
 #[tactic(auto, unfolding(kapi_object::specs::Tree::json_object))]
-fn read_tree(alloc: Global, bytes: &[u8]) -> Result<Value, ObjectError>
+pub fn read_tree(alloc: Global, bytes: &[u8]) -> Result<Value, ObjectError>
     ensures object { Gives told view result (ok_or (json_object bytes.now) not_json) }
     ensures ordered { IfOk result (λ v. is_ordered (view v) ≡ true) }
 {
@@ -205,23 +205,22 @@ fn admit(
     Ok(Object::new(kept_tree(alloc, row, version, tree)?))
 }
 
-/// The object of a row that a body is, as the row keeps it.
+/// The object of a row that a JSON object is, as the row keeps it.
 ///
 /// An Open row keeps the members of the body as they are, but for `apiVersion` and `kind`, which are filled in where
 /// they are missing, and `metadata`, of which name, namespace, resource version, labels and annotations are kept. A
 /// row of roles or bindings keeps the members of its kind alone (Kubernetes API, rbac.authorization.k8s.io/v1).
 #[tactic(auto, unfolding(crate::specs::Admission::read_as))]
-pub fn read_object(alloc: Global, row: &ResourceRow, bytes: &[u8]) -> Result<Object, ObjectError>
-    ensures object { Gives told tree_of result (object_of row.now bytes.now) }
+pub fn admit_tree(alloc: Global, row: &ResourceRow, tree: Value) -> Result<Object, ObjectError>
+    requires ordered { is_ordered (view tree) ≡ true }
+    ensures object { Gives told tree_of result (read_as row.now (Some (view tree))) }
 
-    // what the object gives is what the body gives
-    ensures given { IfOk result (λ o. (tree : Data)
-        → json_object bytes.now ≡ Some tree → given_of (tree_of o) ≡ gives.given_on row.now tree) }
+    // what the object gives is what the tree gives
+    ensures given { IfOk result (λ o. given_of (tree_of o) ≡ gives.given_on row.now (view tree)) }
 
-    // what is kept of a body without faults has none
+    // what is kept of a tree without faults has none
     ensures clean { IfOk result (λ o. faults_on row.now.schema (tree_of o) ≡ []) }
 {
-    let tree = read_tree(alloc, bytes)?;
     if has_float(&tree) {
         return Err(ObjectError::Float);
     }
@@ -233,4 +232,19 @@ pub fn read_object(alloc: Global, row: &ResourceRow, bytes: &[u8]) -> Result<Obj
         return Err(ObjectError::WrongVersion);
     }
     admit(alloc, row, version.as_str(), tree)
+}
+
+/// The object of a row that a body is, as the row keeps it.
+#[tactic(auto, unfolding(crate::specs::Admission::read_as))]
+pub fn read_object(alloc: Global, row: &ResourceRow, bytes: &[u8]) -> Result<Object, ObjectError>
+    ensures object { Gives told tree_of result (object_of row.now bytes.now) }
+
+    // what the object gives is what the body gives
+    ensures given { IfOk result (λ o. (tree : Data)
+        → json_object bytes.now ≡ Some tree → given_of (tree_of o) ≡ gives.given_on row.now tree) }
+
+    // what is kept of a body without faults has none
+    ensures clean { IfOk result (λ o. faults_on row.now.schema (tree_of o) ≡ []) }
+{
+    admit_tree(alloc, row, read_tree(alloc, bytes)?)
 }

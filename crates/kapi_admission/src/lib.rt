@@ -17,5 +17,5 @@ pub mod typed_list;
 mod typed_tests;
 pub mod word;
 
-pub use admission::{collect_faults, read_object};
+pub use admission::{admit_tree, collect_faults, read_object, read_tree};
 pub use object_error::ObjectError;

@@ -6,3 +6,4 @@ pub mod Placed
 pub mod Marking
 pub mod Noting
 pub mod Turning
+pub mod Unmoved

@@ -4,3 +4,4 @@ pub mod Turns
 pub mod Marks
 pub mod Views
 pub mod Lent
+pub mod Rewriting

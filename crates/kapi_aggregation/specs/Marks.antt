@@ -64,6 +64,10 @@ IsCovered marks roles r = differs roles r ≡ true → is_marked marks r.name �
 abbrev pub Covers : List (List ℕ) → List Labelled → Type 0
 Covers marks roles = AllByRecursion (IsCovered marks roles) roles
 
+-- marks that cover all that others cover
+abbrev pub CoversAsMuch : List (List ℕ) → List (List ℕ) → Type 0
+CoversAsMuch old new = (roles : List Labelled) → Covers old roles → Covers new roles
+
 -- what a marked cluster role that differs is to become
 abbrev pub turn_if_marked : List (List ℕ) → List Labelled → Labelled → Option Turn
 turn_if_marked marks roles r = if is_marked marks r.name then turn_at roles r else None

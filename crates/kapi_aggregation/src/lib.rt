@@ -4,11 +4,13 @@
 
 mod roles;
 mod same;
+#[cfg(test)]
+mod tests;
 mod tracker;
 mod turn;
 mod union;
 
 pub use roles::{ClusterRoles, is_cluster_role};
 pub use tracker::Tracker;
-pub use turn::Turn;
+pub use turn::{Turn, rewrite};
 pub use union::union_of;

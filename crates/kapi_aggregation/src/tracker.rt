@@ -1,16 +1,17 @@
 //! Which aggregated cluster roles may differ from their unions.
 ghost use Rattle.std.specs.Prelude.{◌≡◌, map, IfOk};
 ghost use Rattle.std.specs.Cmp.Lexicographic.{slice_cmp};
+ghost use Rattle.std.specs.List.{list_any};
 ghost use Rattle.std.specs.Ordering.{is_le, nat_cmp};
 ghost use Rattle.kapi_names.specs.Selector.{labels_of};
 ghost use Rattle.kapi_aggregation.specs.Marks.{marks_from};
-ghost use Rattle.kapi_aggregation.specs.Roles.{takes_from as takes_from_labels};
+ghost use Rattle.kapi_aggregation.specs.Roles.{is_cluster_role as is_cluster_role_key, takes_from as takes_from_labels};
 ghost use Rattle.kapi_aggregation.specs.Views.{labelled};
 
 use crate::roles::{ClusterRoles, NamedRole, is_cluster_role};
 use crate::turn::{Turn, turn_at};
 use kapi_names::Labels;
-use kapi_store::Change;
+use kapi_store::{Change, Store};
 use kapi_text::{Memory, Text, TryCopy};
 use std::alloc::Global;
 use std::collections::BTreeSet;
@@ -54,18 +55,25 @@ fn drop_before(names: &mut BTreeSet<Text>, first: &Text)
     names.retain(|name| is_up_to(first, name));
 }
 
+/// Whether some of the changes is of a cluster role.
+fn are_of_roles(changes: &[Change]) -> bool
+    ensures { result ≡ list_any (λ c. is_cluster_role_key c.key) changes.now }
+{
+    changes.iter().any(|change| is_cluster_role(&change.key))
+}
+
 impl Tracker {
-    ghost use Rattle.std.specs.Prelude.{◌≡◌, List, [], map, None, option_map, IfOk, OnOk, OnErr};
+    ghost use Rattle.std.specs.Prelude.{◌≡◌, ◌==◌, List, [], length, map, not, None, option_map, IfOk, OnOk, OnErr};
     ghost use Rattle.serde_json.specs.Data.{Data};
     ghost use Rattle.kapi_object.specs.Object.{tree_of};
     ghost use Rattle.kapi_names.specs.Selector.{labels_of};
     ghost use Rattle.kapi_store.specs.Changes.{placed_all};
-    ghost use Rattle.kapi_store.specs.Plain.{plain_change, trees_left_by};
+    ghost use Rattle.kapi_store.specs.Plain.{plain_change, plain_of, trees_left_by};
     ghost use Rattle.kapi_store.specs.declared.key.Key.{Key as StoreKey};
     ghost use Rattle.kapi_aggregation.specs.Roles.{Labelled, roles_in};
     ghost use Rattle.kapi_aggregation.specs.Unions.{IsSettled};
     ghost use Rattle.kapi_aggregation.specs.Turns.{first_some, next as next_of};
-    ghost use Rattle.kapi_aggregation.specs.Marks.{Covers, Keeps, mark_by_name, mark_change, mark_changed, mark_old, mark_takers, marks_after, marks_from, noted, turn_if_marked as turn_of_marked, with_mark};
+    ghost use Rattle.kapi_aggregation.specs.Marks.{Covers, CoversAsMuch, Keeps, mark_by_name, mark_change, mark_changed, mark_old, mark_takers, marks_after, marks_from, noted, turn_if_marked as turn_of_marked, with_mark};
     ghost use Rattle.kapi_aggregation.specs.Lent.{roles_of};
     ghost use Rattle.kapi_aggregation.specs.Views.{labelled};
 
@@ -91,12 +99,26 @@ impl Tracker {
         ensures kept { Keeps self.old self.new }
 
         // what was covered is covered still, and so are the roles after the changes
-        ensures covers { (others : List Labelled) → Covers self.old others → Covers self.new others }
+        ensures covers { CoversAsMuch self.old self.new }
         ensures covers_after { OnOk result ((os : List (StoreKey × Data)) → roles_of roles.now ≡ roles_in os → Covers self.old (roles_in os)
             → Covers self.new (roles_in (placed_all (trees_left_by (map plain_change changes.now)) os))) }
     {
         self.note_all(roles.as_slice(), changes)?;
         Ok(())
+    }
+
+    /// Marks what some changes of the store concern, before they are made. Where none of them is of a cluster role, nothing is read.
+    pub fn note_write(&mut self, store: &Store, changes: &[Change]) -> Result<(), Memory>
+        // what was covered is covered still, and so are the roles after the changes
+        ensures covers { CoversAsMuch self.old self.new }
+        ensures covers_after { OnOk result (Covers self.old (roles_in (plain_of store.now).objects)
+            → Covers self.new (roles_in (placed_all (trees_left_by (map plain_change changes.now)) (plain_of store.now).objects))) }
+    {
+        if !are_of_roles(changes) {
+            return Ok(());
+        }
+        let roles = ClusterRoles::read(self.alloc, store)?;
+        self.note(&roles, changes)
     }
 
     fn note_all(&mut self, roles: &[NamedRole<'_>], changes: &[Change]) -> Result<(), Memory>
@@ -207,6 +229,25 @@ impl Tracker {
         let turn = self.first_turn(roles.as_slice())?;
         self.keep_marks_after(&turn);
         Ok(turn)
+    }
+
+    /// The same for the cluster roles of the store. Where no role is marked, nothing is read.
+    pub fn next_turn(&mut self, store: &Store) -> Result<Option<Turn>, Memory>
+        ensures exact { IfOk result (λ t. Covers self.old (roles_in (plain_of store.now).objects) → t ≡ next_of (roles_in (plain_of store.now).objects)) }
+        ensures covers { Covers self.old (roles_in (plain_of store.now).objects) → Covers self.new (roles_in (plain_of store.now).objects) }
+    {
+        if !self.has_marks() {
+            return Ok(None);
+        }
+        let roles = ClusterRoles::read(self.alloc, store)?;
+        self.next(&roles)
+    }
+
+    /// Whether some cluster role is marked.
+    pub fn has_marks(&self) -> bool
+        ensures { result ≡ not (length self.now == 0) }
+    {
+        !self.marks.is_empty()
     }
 
     /// What the first marked role that differs from its union is to become.

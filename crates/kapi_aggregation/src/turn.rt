@@ -1,12 +1,21 @@
 //! The rewriting of an aggregated cluster role.
 ghost use Rattle.std.specs.Prelude.{◌≡◌, map, IfOk};
+ghost use Rattle.kapi_object.specs.Object.{tree_of};
+ghost use Rattle.kapi_store.specs.Faults.{fault_of};
+ghost use Rattle.kapi_store.specs.Plain.{plain_change, plain_of};
+ghost use Rattle.kapi_store.specs.State.{Fits};
+ghost use Rattle.kapi_text.specs.Gives.{Gives};
+ghost use Rattle.kapi_aggregation.specs.Rewriting.{rewriting, role_key as role_key_of, with_rules as with_rules_of};
 ghost use Rattle.kapi_aggregation.specs.Turns.{turn_at as turn_of};
 ghost use Rattle.kapi_aggregation.specs.Views.{labelled};
 
 use crate::roles::NamedRole;
 use crate::same::same_rules;
 use crate::union::union_for;
-use kapi_names::PolicyRule;
+use kapi_names::{PolicyRule, RBAC_GROUP};
+use kapi_object::Object;
+use kapi_rbac_types::ClusterRole;
+use kapi_store::{Key, Ready, Store, StoreError};
 use kapi_text::{Memory, Sequence, Text, TryCopy};
 use std::alloc::Global;
 
@@ -36,4 +45,47 @@ pub(crate) fn turn_at(
         name: role.name.copy(alloc)?,
         rules: Sequence::new(rules),
     }))
+}
+
+/// Prepares the write of a turn: the object that stands at the cluster role's place gets the turn's rules in place of its own.
+///
+/// # Errors
+/// `Missing` where there is no such cluster role, `RevisionsUsedUp` where no revision is left.
+#[tactic(auto, unfolding(crate::specs::Rewriting::rewriting))]
+pub fn rewrite(alloc: Global, store: &Store, turn: &Turn) -> Result<Ready, StoreError>
+    ensures gives { Gives fault_of (map plain_change) result (rewriting turn.now (plain_of store.now)) }
+    ensures fits { IfOk result (Fits store.now) }
+{
+    let key = role_key(alloc, &turn.name)?;
+    match store.get(&key) {
+        Some(old) => store.replace(key, with_rules(alloc, old, &turn.rules)?),
+        None => Err(StoreError::Missing),
+    }
+}
+
+/// The place of the cluster role of a name.
+fn role_key(alloc: Global, name: &Text) -> Result<Key, Memory>
+    ensures { IfOk result (λ k. k ≡ role_key_of name.now) }
+{
+    Ok(Key {
+        group: Text::copy_of(alloc, RBAC_GROUP)?,
+        resource: Text::copy_of(alloc, "clusterroles")?,
+        namespace: Text::copy_of(alloc, "")?,
+        name: name.copy(alloc)?,
+    })
+}
+
+/// A cluster role with other rules, and its own aggregation rule and metadata.
+fn with_rules(
+    alloc: Global,
+    old: &Object,
+    rules: &Sequence<PolicyRule>,
+) -> Result<Object, Memory>
+    ensures { IfOk result (λ o. tree_of o ≡ with_rules_of rules.now (tree_of old.now)) }
+{
+    let role = ClusterRole {
+        aggregation_rule: ClusterRole::of_admitted(alloc, old)?.aggregation_rule,
+        rules: rules.copy(alloc)?,
+    };
+    role.to_object(alloc, old)
 }

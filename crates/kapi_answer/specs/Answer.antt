@@ -1,50 +1,120 @@
 -- The answer to a request: what is sent, and the changes that are made.
 use Rattle.std.specs.Prelude.{ℕ, Bool, List, [], Result, Ok, Err}
+use Rattle.std.specs.Map.{lookup}
 use Rattle.serde_json.specs.Data.{Data}
 use Rattle.kapi_text.specs.Gives.{◌>>=◌}
+use Rattle.kapi_escalation.specs.Escalation.{escalated}
 use Rattle.kapi_http.specs.declared.message.HttpFault.{HttpFault}
 use Rattle.kapi_http.specs.declared.message.HttpRequest.{HttpRequest}
+use Rattle.kapi_names.specs.declared.row.ResourceRow.{ResourceRow}
 use Rattle.kapi_policy.specs.Objects.{PolicyObjects}
 use Rattle.kapi_rbac_types.specs.declared.identity.Identity.{Identity}
 use Rattle.kapi_request_info.specs.Attributes.{info}
 use Rattle.kapi_request_info.specs.Faults.{TargetFault, bad_path, bad_escape, bad_query}
 use Rattle.kapi_request_info.specs.declared.attributes.Attributes.{Attributes}
 use Rattle.kapi_reply.specs.Refusals.{Asked}
-use Rattle.kapi_reply.specs.Replies.{fault_reply, object_reply, refusal_reply, target_reply}
+use Rattle.kapi_reply.specs.Replies.{fault_reply, content_reply, refusal_reply, target_reply}
 use Rattle.kapi_reply.specs.declared.refusal.BadWord.{BadWord}
 use Rattle.kapi_reply.specs.declared.refusal.BadWord.TheVariants as word
 use Rattle.kapi_reply.specs.declared.refusal.Refused.{Refused}
 use Rattle.kapi_reply.specs.declared.reply.WrittenReply.{WrittenReply}
 use Rattle.kapi_route.specs.Headers.{unimpersonated, media_typed}
-use Rattle.kapi_route.specs.Route.{Routed, routed}
+use Rattle.kapi_route.specs.Query.{bad_option, queried}
+use Rattle.kapi_route.specs.Route.{ResourceRouted, Routed, health, resource, routed}
 use Rattle.kapi_route.specs.declared.route.Action.{Action}
 use Rattle.kapi_route.specs.declared.route.Action.TheVariants as action
 use Rattle.kapi_store.specs.Plain.{Plain, PlainChange}
+use Rattle.kapi_route.specs.declared.query.Filter.{Filter}
+use Rattle.kapi_store.specs.Keys.{is_key}
 use Rattle.kapi_store.specs.declared.key.Key.{Key}
-use Rattle.kapi_answer.specs.Authorization.{authorized, unescalated}
+use Rattle.kapi_answer.specs.Authorization.{authorized}
+use Rattle.kapi_answer.specs.Collection.{listed, to_delete_all}
 use Rattle.kapi_answer.specs.Create.{creates, key_of, to_create}
+use Rattle.kapi_answer.specs.Delete.{Deletion, removes, to_delete}
 use Rattle.kapi_answer.specs.Get.{found}
-use Rattle.kapi_answer.specs.Outcome.{Outcome}
+use Rattle.kapi_answer.specs.Outcome.{Outcome, well}
+use Rattle.kapi_answer.specs.Update.{replaces, to_patch, to_update}
 
--- what a request that passes all checks but the store's is told, or what it is to change: a new object at its place
+-- what a request that passes all checks but the store's is told, or what it is to change: a new object at its place, an object in
+-- place of the one that stands there, or objects that are to be deleted
 pub data Plan : Type 0 where
   tell : Outcome → Plan
   create : Key × Data → Plan
+  replace : Key × Data → Plan
+  delete : Deletion → Plan
 
 -- what is told without a change is a plan
 abbrev pub tells : Outcome → Result Plan Refused
 tells outcome = Ok (tell outcome)
 
+-- whose a request is, by which roles and bindings it is decided, and what it is about
+pub record Task : Type 0 where
+  pub objects : PolicyObjects
+  pub identity : Identity
+  pub row : ResourceRow
+  pub key : Key
+  pub filter : Filter
+  pub body : List ℕ
+
+-- the task of a request on its route, of what its query asks for
+abbrev pub task : PolicyObjects → Identity → HttpRequest → Attributes → ResourceRouted → Filter → Task
+task objects identity request a r filter = record {
+  objects = objects;
+  identity = identity;
+  row = r.row;
+  key = key_of r.row a.namespace r.point.name;
+  filter = filter;
+  body = request.body;
+}
+
+-- the identity may write the object, by what it would give him or others
+abbrev pub escalation_checked : Plain → Task → Key × Data → Result (Unit {0}) Refused
+escalation_checked s t new = escalated t.objects t.identity t.key.name new.0 (lookup (is_key new.0) s.objects) new.1
+
 -- and so is an object that the identity may create
-unfoldable pub to_be_created : Identity → Key × Data → Result Plan Refused
-to_be_created identity new = do
-  u ← unescalated identity new.0
+unfoldable pub to_be_created : Plain → Task → Key × Data → Result Plan Refused
+to_be_created s t new = do
+  u ← escalation_checked s t new
   Ok (create new)
 
--- what is to be done on a route
-unfoldable pub planned_on : Action → Plain → Identity → Routed → List ℕ → List ℕ → Result Plan Refused
-planned_on action.Get s identity r namespace body = found s (key_of r.row namespace r.point.name) >>= tells
-planned_on action.Create s identity r namespace body = to_create s r.row namespace body >>= to_be_created identity
+-- and one that it may write in place of another
+unfoldable pub to_be_replaced : Plain → Task → Key × Data → Result Plan Refused
+to_be_replaced s t new = do
+  u ← escalation_checked s t new
+  Ok (replace new)
+
+-- and so is a deletion
+abbrev pub deletes : Deletion → Result Plan Refused
+deletes deletion = Ok (delete deletion)
+
+-- what is to be done on a route of a resource; watches are not served yet
+unfoldable pub planned_on : Action → Plain → Task → Result Plan Refused
+planned_on action.Get s t = found s t.key >>= tells
+planned_on action.List s t = tells (listed s t.row t.key.namespace t.filter)
+planned_on action.Watch s t = Err bad_option
+planned_on action.Create s t = to_create s t.row t.key.namespace t.body >>= to_be_created s t
+planned_on (action.Update of) s t = to_update s t.row of t.key t.body >>= to_be_replaced s t
+planned_on (action.Patch of) s t = to_patch s t.row of t.key t.body >>= to_be_replaced s t
+planned_on action.Delete s t = to_delete s t.key t.body >>= deletes
+planned_on action.DeleteCollection s t = to_delete_all s t.row t.key.namespace t.filter t.body >>= deletes
+
+-- the checks of a request for a resource, from its query on
+unfoldable pub planned_for : PolicyObjects → Plain → Identity → HttpRequest → Attributes → ResourceRouted → Result Plan Refused
+planned_for objects s identity request a r = do
+  filter ← queried r.action s.revision a.query
+  w ← media_typed request.method request.headers
+  planned_on r.action s (task objects identity request a r filter)
+
+-- those of a request whether the server is well
+unfoldable pub told_well : HttpRequest → Result Outcome Refused
+told_well request = do
+  w ← media_typed request.method request.headers
+  Ok well
+
+-- those of a request on its route
+abbrev pub planned_at : PolicyObjects → Plain → Identity → HttpRequest → Attributes → Routed → Result Plan Refused
+planned_at objects s identity request a health = told_well request >>= tells
+planned_at objects s identity request a (resource r) = planned_for objects s identity request a r
 
 -- the checks of a request by the roles and bindings that there are, in their order, but for those of the store
 unfoldable pub planned : PolicyObjects → Plain → Identity → HttpRequest → Attributes → Result Plan Refused
@@ -52,13 +122,14 @@ planned objects s identity request a = do
   u ← unimpersonated request.headers
   v ← authorized objects identity a
   r ← routed s.table request.method a
-  w ← media_typed request.method request.headers
-  planned_on r.action s identity r a.namespace request.body
+  planned_at objects s identity request a r
 
 -- what becomes of it, where the store makes the write
 abbrev pub carried_out : Plain → Plan → Result Outcome Refused
 carried_out s (tell outcome) = Ok outcome
 carried_out s (create new) = creates s new
+carried_out s (replace new) = replaces s new
+carried_out s (delete deletion) = removes s deletion
 
 -- all checks of a request
 unfoldable pub checked : PolicyObjects → Plain → Identity → HttpRequest → Attributes → Result Outcome Refused
@@ -70,7 +141,7 @@ Answered = WrittenReply × List PlainChange
 
 -- the answer that a request's checks lead to
 unfoldable pub answer_by : Asked → Bool → Result Outcome Refused → Answered
-answer_by asked close (Ok outcome) = (object_reply outcome.code close outcome.body, outcome.changes)
+answer_by asked close (Ok outcome) = (content_reply outcome.code outcome.content close outcome.body, outcome.changes)
 answer_by asked close (Err refused) = (refusal_reply asked close refused, [])
 
 -- the word for a fault of a target

@@ -17,6 +17,7 @@ use Rattle.kapi_object.specs.declared.given.GivenText.{GivenText}
 use Rattle.kapi_object.specs.declared.given.GivenText.TheVariants as given
 use Rattle.kapi_names.specs.declared.row.ResourceRow.{ResourceRow}
 use Rattle.kapi_reply.specs.Refusals.{asked_for, named}
+use Rattle.kapi_reply.specs.declared.reply.Content.TheVariants as content
 use Rattle.kapi_reply.specs.declared.refusal.BadWord.TheVariants as word
 use Rattle.kapi_reply.specs.declared.refusal.Refusal.{Refusal}
 use Rattle.kapi_reply.specs.declared.refusal.Refusal.TheVariants as refusal
@@ -61,16 +62,16 @@ given_name row given.Absent = Err (bad_name [] cause.Required)
 given_name row given.Mistyped = Err (bad_name [] cause.WrongType)
 given_name row (given.Text name) = name_text row name
 
--- a namespace that the body gives is the path's
-abbrev pub is_same_namespace : List ℕ → GivenText → Bool
-is_same_namespace namespace given.Absent = true
-is_same_namespace namespace given.Mistyped = false
-is_same_namespace namespace (given.Text text) = bytes_eq text namespace
+-- a name or namespace that the body gives is the path's
+abbrev pub is_as_in_path : List ℕ → GivenText → Bool
+is_as_in_path text given.Absent = true
+is_as_in_path text given.Mistyped = false
+is_as_in_path text (given.Text given) = bytes_eq given text
 
 -- the body gives no other namespace than the path's
 unfoldable pub in_namespace : List ℕ → List ℕ → GivenText → Result (Unit {0}) Refused
 in_namespace namespace name given =
-    if is_same_namespace namespace given then Ok tt else Err (named name (refusal.BadRequest word.Namespace))
+    if is_as_in_path namespace given then Ok tt else Err (named name (refusal.BadRequest word.Namespace))
 
 -- the place of an object of a row: objects of cluster-scoped rows have no namespace
 abbrev pub key_of : ResourceRow → List ℕ → List ℕ → Key
@@ -87,8 +88,8 @@ refusal_of Exists = refusal.AlreadyExists
 refusal_of NoNamespace = refusal.NotFound sought.Namespace
 refusal_of RevisionsUsedUp = refusal.NoRevisionLeft
 refusal_of Missing = refusal.NotFound sought.Object
-refusal_of (Conflict version) = refusal.NotFound sought.Object
-refusal_of NamespaceNotEmpty = refusal.NotFound sought.Object
+refusal_of (Conflict version) = refusal.Conflict version
+refusal_of NamespaceNotEmpty = refusal.NamespaceNotEmpty
 
 -- what the store answers, as an answer to the request
 abbrev pub stored : {X : Type 0} → List ℕ → Result X StoreFault → Result X Refused
@@ -104,34 +105,42 @@ valid name (Err faults) = Err (named name (refusal.Invalid faults))
 abbrev pub unreported : ResourceRow → Data → Data
 unreported row tree = if row.has_status then without_member (codes "status") tree else tree
 
+-- the tree with the namespace of its path, where objects of the row live in namespaces
+abbrev pub housed : ResourceRow → List ℕ → Data → Data
+housed row namespace tree = if row.namespaced then with_text (codes "namespace") namespace tree else tree
+
 -- the tree as it is stored at first: without a status of its own, with the namespace of its path
 abbrev pub in_place : ResourceRow → List ℕ → Data → Data
-in_place row namespace tree =
-    if row.namespaced then with_text (codes "namespace") namespace (unreported row tree) else unreported row tree
+in_place row namespace tree = housed row namespace (unreported row tree)
 
 -- the object that a write leaves, as JSON text
 abbrev pub tree_text : Option Data → List ℕ
 tree_text (Some tree) = compact_text tree
 tree_text None = []
 
--- the object that a write of one change leaves, as JSON text
-abbrev pub text_left : List PlainChange → List ℕ
-text_left (change ∷ []) = tree_text change.new
-text_left _ = []
+-- the object that a write leaves where the old one stood, if one did, as JSON text
+abbrev pub text_after : Option Data → List PlainChange → List ℕ
+text_after old [] = tree_text old
+text_after old (change ∷ more) = tree_text change.new
 
--- the place and the tree of the object that is to be created: body, name, namespace, place, validity
-unfoldable pub to_create : Plain → ResourceRow → List ℕ → List ℕ → Result (Key × Data) Refused
-to_create s row namespace bytes = do
-  body ← admitted row bytes
+-- the place and the tree of the object that a body was read as: name, namespace, place, validity
+unfoldable pub to_place : Plain → ResourceRow → List ℕ → Admitted → Result (Key × Data) Refused
+to_place s row namespace body = do
   name ← given_name row body.given.name
   same ← in_namespace namespace name body.given.namespace
   free ← stored name (free_place s (key_of row namespace name))
   tree ← valid name body.object
   Ok (key_of row namespace name, in_place row namespace tree)
 
+-- the place and the tree of the object that is to be created, from its body on
+unfoldable pub to_create : Plain → ResourceRow → List ℕ → List ℕ → Result (Key × Data) Refused
+to_create s row namespace bytes = do
+  body ← admitted row bytes
+  to_place s row namespace body
+
 -- the reply that tells of a creation by some changes
 abbrev pub created : List PlainChange → Result Outcome Refused
-created changes = Ok (record { code = status.Created; body = text_left changes; changes = changes })
+created changes = Ok (record { code = status.Created; content = content.Json; body = text_after None changes; changes = changes })
 
 -- its creation: a revision must be left
 unfoldable pub creates : Plain → Key × Data → Result Outcome Refused

@@ -2,5 +2,9 @@ pub mod Authorization
 pub mod Outcome
 pub mod Get
 pub mod Create
+pub mod Delete
+pub mod Update
+pub mod Collection
 pub mod Answer
 pub mod Outcomes
+pub mod Load

@@ -1,20 +1,26 @@
 -- Outcomes and answers as data.
-use Rattle.std.specs.Prelude.{◌≡◌, List, [], map, Option, None, Some, Result, Ok, Err}
+use Rattle.std.specs.Prelude.{◌≡◌, ℕ, List, [], map, Option, None, Some, Result, Ok, Err}
+use Rattle.std.specs.List.{IsDistinct}
 use Rattle.serde_json.specs.Data.{Data}
 use Rattle.kapi_object.specs.Object.{tree_of}
 use Rattle.kapi_names.specs.declared.fault.FieldFault.{FieldFault}
 use Rattle.kapi_object.specs.declared.object.Object.{Object}
+use Rattle.kapi_policy.specs.Objects.{PolicyObjects}
+use Rattle.kapi_store.specs.Keys.{is_key}
 use Rattle.kapi_store.specs.Plain.{Plain, PlainChange, free_place, plain_change}
 use Rattle.kapi_store.specs.declared.key.Key.{Key}
 use Rattle.kapi_store.specs.declared.ready.Ready.{Ready}
 use Rattle.kapi_answer.specs.declared.create.Admitted.{Admitted as AdmittedBody}
 use Rattle.kapi_answer.specs.declared.outcome.Outcome.{Outcome as OutcomeOf}
 use Rattle.kapi_answer.specs.declared.respond.Prepared.{Prepared}
+use Rattle.kapi_answer.specs.declared.outcome.Deletion.{Deletion as DeletionOf}
 use Rattle.kapi_answer.specs.declared.outcome.NewObject.{NewObject}
 use Rattle.kapi_answer.specs.declared.outcome.Plan.{Plan as PlanOf}
 use Rattle.kapi_answer.specs.declared.outcome.Plan.TheVariants as plan
-use Rattle.kapi_answer.specs.Answer.{Answered, Plan, create, tell}
+use Rattle.kapi_answer.specs.declared.task.Task.{Task as TaskOf}
+use Rattle.kapi_answer.specs.Answer.{Answered, Plan, Task, create, delete, replace, tell}
 use Rattle.kapi_answer.specs.Create.{Admitted}
+use Rattle.kapi_answer.specs.Delete.{Deletion}
 use Rattle.kapi_answer.specs.Outcome.{Outcome}
 
 -- the changes of a write that is to be made, if any
@@ -24,7 +30,7 @@ changes_data (Some ready) = map plain_change ready
 
 -- what a request gets, as data
 abbrev pub outcome_data : OutcomeOf → Outcome
-outcome_data o = record { code = o.code; body = o.body.items; changes = changes_data o.write }
+outcome_data o = record { code = o.code; content = o.content; body = o.body.items; changes = changes_data o.write }
 
 -- an answer as data
 abbrev pub answered_data : Prepared → Answered
@@ -43,17 +49,38 @@ admitted_data a = record { given = a.given; object = object_data a.object }
 abbrev pub new_data : NewObject → Key × Data
 new_data new = (new.key, tree_of new.object)
 
+-- a deletion as data
+abbrev pub deletion_data : DeletionOf → Deletion
+deletion_data d = record { name = d.name; keys = d.keys.items; told = d.reply.items }
+
 -- a plan as data
 abbrev pub plan_data : PlanOf → Plan
 plan_data (plan.Tell outcome) = tell (outcome_data outcome)
 plan_data (plan.Create new) = create (new_data new)
+plan_data (plan.Replace new) = replace (new_data new)
+plan_data (plan.Delete deletion) = delete (deletion_data deletion)
 
--- the place of a new object is free
-abbrev pub IsFree : Plain → PlanOf → Type 0
-IsFree s (plan.Tell outcome) = Unit {0}
-IsFree s (plan.Create new) = free_place s new.key ≡ Ok tt
+-- whose a request is, and what it is about, as data
+abbrev pub task_data : PolicyObjects → TaskOf → Task
+task_data objects t = record {
+  objects = objects;
+  identity = t.identity.now;
+  row = t.row.now;
+  key = t.key.now;
+  filter = t.filter.now;
+  body = t.body.now;
+}
+
+-- the place of a new object is free, and nothing is to be deleted twice
+abbrev pub IsReady : Plain → PlanOf → Type 0
+IsReady s (plan.Tell outcome) = Unit {0}
+IsReady s (plan.Create new) = free_place s new.key ≡ Ok tt
+IsReady s (plan.Replace new) = Unit {0}
+IsReady s (plan.Delete deletion) = IsDistinct is_key deletion.keys.items
 
 -- what is only told has no write
 abbrev pub ChangesNothing : PlanOf → Type 0
 ChangesNothing (plan.Tell outcome) = outcome.write ≡ None
 ChangesNothing (plan.Create new) = Unit {0}
+ChangesNothing (plan.Replace new) = Unit {0}
+ChangesNothing (plan.Delete deletion) = Unit {0}

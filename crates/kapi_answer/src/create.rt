@@ -1,25 +1,29 @@
 //! The creation of an object.
-ghost use Rattle.std.specs.Prelude.{◌≡◌, [], Ok, Some, IfOk, IfSome, OnOk, if◌then◌else◌, map as map_of};
+ghost use Rattle.std.specs.Prelude.{◌≡◌, [], true, Ok, Some, IfOk, IfSome, OnOk, if◌then◌else◌, map as map_of};
 ghost use Rattle.std.specs.Option.{option_map};
 ghost use Rattle.kapi_text.specs.Gives.{Gives};
+ghost use Rattle.serde_json.specs.View.{view};
+ghost use Rattle.kapi_admission.specs.Admission.{read_as};
 ghost use Rattle.kapi_object.specs.Object.{tree_of};
+ghost use Rattle.kapi_object.specs.Order.{is_ordered};
 ghost use Rattle.kapi_reply.specs.Refusals as table;
 ghost use Rattle.kapi_reply.specs.Refusals.{asked_for, refused_by};
 ghost use Rattle.kapi_store.specs.Plain.{free_place, plain_change, plain_of};
 ghost use Rattle.kapi_store.specs.Faults.{fault_of};
 ghost use Rattle.kapi_store.specs.State.{Same, Fits};
 ghost use Rattle.kapi_answer.specs.Create as creation;
-ghost use Rattle.kapi_answer.specs.Create.{admitted, creates, given_name, in_place, name_text, refusal_of, stored, to_create, tree_text, valid};
+ghost use Rattle.kapi_answer.specs.Create.{admitted, admitted_from, creates, given_name, housed, in_place, name_text, refusal_of, stored, to_create, to_place, tree_text, valid};
 ghost use Rattle.kapi_answer.specs.Outcomes.{admitted_data, new_data, object_data, outcome_data};
 
 use crate::outcome::{NewObject, Outcome};
-use kapi_admission::{ObjectError, read_object};
+use kapi_admission::{ObjectError, admit_tree, read_tree};
 use kapi_http::StatusCode;
 use kapi_names::{Cause, FieldFault, ResourceRow, check_name};
 use kapi_object::{Given, GivenText, Object};
-use kapi_reply::{BadWord, CheckError, Refusal, Refused, Sought};
+use kapi_reply::{BadWord, CheckError, Content, Refusal, Refused, Sought};
 use kapi_store::{Change, Key, Shared, Store, StoreError};
 use kapi_text::{Memory, Sequence, Text, TryCopy};
+use serde_json::Value;
 use std::alloc::Global;
 
 /// What a body was read as: what it gives as its name and the like, and its object or its faults.
@@ -41,7 +45,22 @@ pub fn check_create(
     ensures gives { Gives refused_by new_data result (to_create (plain_of store.now) row.now namespace.now body.now) }
     ensures free { IfOk result (λ new. free_place (plain_of store.now) new.key ≡ Ok tt) }
 {
-    let body = admit(alloc, row, body)?;
+    let body = read_body(alloc, row, body)?;
+    check_body(alloc, store, row, namespace, body)
+}
+
+/// The checks of the object that a body was read as, in their order: name, namespace, place, validity.
+#[tactic(auto, unfolding(crate::specs::Create::to_place))]
+pub fn check_body(
+    alloc: Global,
+    store: &Store,
+    row: &ResourceRow,
+    namespace: &str,
+    body: Admitted,
+) -> Result<NewObject, CheckError>
+    ensures gives { Gives refused_by new_data result (to_place (plain_of store.now) row.now namespace.now (admitted_data body)) }
+    ensures free { IfOk result (λ new. free_place (plain_of store.now) new.key ≡ Ok tt) }
+{
     let name = check_given_name(alloc, row, &body.given.name)?;
     check_namespace(alloc, namespace, &name, &body.given.namespace)?;
     let key = key_of(alloc, row, namespace, name.as_str())?;
@@ -58,22 +77,22 @@ fn check_place(alloc: Global, store: &Store, key: &Key) -> Result<(), CheckError
 {
     match store.check_place(key) {
         Ok(()) => Ok(()),
-        Err(error) => Err(refused_by_store(key.name.copy(alloc)?, &error)),
+        Err(error) => Err(refused_by_store(key.name.copy(alloc)?, error)),
     }
 }
 
 /// What a request is told of what the store refuses, about the object of that name.
 #[tactic(auto, unfolding(crate::specs::Create::refusal_of))]
-fn refused_by_store(name: Text, error: &StoreError) -> CheckError
-    ensures { refused_by result ≡ option_map (λ fault. table.named name (refusal_of fault)) (fault_of error.now) }
+pub fn refused_by_store(name: Text, error: StoreError) -> CheckError
+    ensures { refused_by result ≡ option_map (λ fault. table.named name (refusal_of fault)) (fault_of error) }
 {
     match error {
         StoreError::Exists => refused(name, Refusal::AlreadyExists),
         StoreError::NoNamespace => refused(name, Refusal::NotFound(Sought::Namespace)),
         StoreError::RevisionsUsedUp => refused(name, Refusal::NoRevisionLeft),
-        StoreError::Missing | StoreError::Conflict(_) | StoreError::NamespaceNotEmpty => {
-            refused(name, Refusal::NotFound(Sought::Object))
-        }
+        StoreError::Missing => refused(name, Refusal::NotFound(Sought::Object)),
+        StoreError::Conflict(version) => refused(name, Refusal::Conflict(version)),
+        StoreError::NamespaceNotEmpty => refused(name, Refusal::NamespaceNotEmpty),
         StoreError::Memory => CheckError::Memory,
     }
 }
@@ -90,25 +109,29 @@ pub fn create(alloc: Global, store: &mut Store, new: NewObject) -> Result<Outcom
     match store.create_in_place(new.key, new.object) {
         Ok(ready) => Ok(Outcome {
             code: StatusCode::Created,
-            body: text_left(alloc, ready.changes())?,
+            content: Content::Json,
+            body: text_after(alloc, None, ready.changes())?,
             write: Some(ready),
         }),
-        Err(error) => Err(refused_by_store(name, &error)),
+        Err(error) => Err(refused_by_store(name, error)),
     }
 }
 
-/// The object that a write leaves, as JSON text.
-#[tactic(auto, unfolding(crate::specs::Create::text_left))]
-fn text_left(alloc: Global, changes: &[Change]) -> Result<Vec<u8>, Memory>
-    ensures { IfOk result (λ b. b.items ≡ creation.text_left (map_of plain_change changes.now)) }
+/// The object that a write leaves where the old one stood, if one did, as JSON text.
+pub fn text_after(
+    alloc: Global,
+    old: Option<&Object>,
+    changes: &[Change],
+) -> Result<Vec<u8>, Memory>
+    ensures { IfOk result (λ b. b.items ≡ creation.text_after (option_map (λ o. tree_of o.now) old.entry) (map_of plain_change changes.now)) }
 {
     match changes {
-        [change] => object_text(alloc, &change.new),
-        _ => Ok(Vec::new(alloc)),
+        [change, ..] => shared_text(alloc, &change.new),
+        [] => object_text(alloc, old),
     }
 }
 
-fn object_text(alloc: Global, object: &Option<Shared>) -> Result<Vec<u8>, Memory>
+fn shared_text(alloc: Global, object: &Option<Shared>) -> Result<Vec<u8>, Memory>
     ensures { IfOk result (λ b. b.items ≡ tree_text (option_map tree_of object.now)) }
 {
     match object {
@@ -117,12 +140,34 @@ fn object_text(alloc: Global, object: &Option<Shared>) -> Result<Vec<u8>, Memory
     }
 }
 
+fn object_text(alloc: Global, object: Option<&Object>) -> Result<Vec<u8>, Memory>
+    ensures { IfOk result (λ b. b.items ≡ tree_text (option_map (λ o. tree_of o.now) object.entry)) }
+{
+    match object {
+        Some(object) => object.render(alloc),
+        None => Ok(Vec::new(alloc)),
+    }
+}
+
 /// Reads a body; what is no JSON object of the row's kind and version is a bad request.
-#[tactic(auto, unfolding(crate::specs::Create::admitted_from))]
-fn admit(alloc: Global, row: &ResourceRow, body: &[u8]) -> Result<Admitted, CheckError>
+#[tactic(auto, unfolding(crate::specs::Create::admitted_from, kapi_admission::specs::Admission::read_as))]
+pub fn read_body(alloc: Global, row: &ResourceRow, body: &[u8]) -> Result<Admitted, CheckError>
     ensures { Gives refused_by admitted_data result (admitted row.now body.now) }
 {
-    match read_object(alloc, row, body) {
+    match read_tree(alloc, body) {
+        Ok(tree) => admit(alloc, row, tree),
+        Err(ObjectError::Memory) => Err(CheckError::Memory),
+        Err(_other) => Err(bad(BadWord::Json)),
+    }
+}
+
+/// What a JSON object was read as; what is none of the row's kind and version is a bad request.
+#[tactic(auto, unfolding(crate::specs::Create::admitted_from))]
+pub fn admit(alloc: Global, row: &ResourceRow, tree: Value) -> Result<Admitted, CheckError>
+    requires ordered { is_ordered (view tree) ≡ true }
+    ensures { Gives refused_by admitted_data result (admitted_from (read_as row.now (Some (view tree)))) }
+{
+    match admit_tree(alloc, row, tree) {
         Ok(object) => Ok(Admitted {
             given: object.given(alloc)?,
             object: Ok(object),
@@ -139,14 +184,14 @@ fn admit(alloc: Global, row: &ResourceRow, body: &[u8]) -> Result<Admitted, Chec
     }
 }
 
-fn bad(word: BadWord) -> CheckError
+pub fn bad(word: BadWord) -> CheckError
     ensures { refused_by result ≡ Some (asked_for (Refusal.BadRequest word)) }
 {
     CheckError::Refused(Refused::asked_for(Refusal::BadRequest(word)))
 }
 
 /// A refusal of the object of that name.
-fn refused(name: Text, why: Refusal) -> CheckError
+pub fn refused(name: Text, why: Refusal) -> CheckError
     ensures { refused_by result ≡ Some (table.named name why) }
 {
     CheckError::Refused(Refused::named(name, why))
@@ -192,7 +237,7 @@ fn bad_name(alloc: Global, name: Text, cause: Cause) -> Result<CheckError, Memor
 
 /// A namespace that the body gives must be the path's.
 #[tactic(auto, unfolding(crate::specs::Create::in_namespace))]
-fn check_namespace(
+pub fn check_namespace(
     alloc: Global,
     namespace: &str,
     name: &Text,
@@ -200,20 +245,21 @@ fn check_namespace(
 ) -> Result<(), CheckError>
     ensures { Gives refused_by (λ u. u) result (creation.in_namespace namespace.now name.now given.now) }
 {
-    if is_same_namespace(namespace, given) {
+    if is_as_in_path(namespace, given) {
         return Ok(());
     }
     let name = name.copy(alloc)?;
     Err(refused(name, Refusal::BadRequest(BadWord::Namespace)))
 }
 
-fn is_same_namespace(namespace: &str, given: &GivenText) -> bool
-    ensures { result ≡ creation.is_same_namespace namespace.now given.now }
+/// Whether a name or a namespace that the body gives is the path's.
+pub fn is_as_in_path(text: &str, given: &GivenText) -> bool
+    ensures { result ≡ creation.is_as_in_path text.now given.now }
 {
     match given {
         GivenText::Absent => true,
         GivenText::Mistyped => false,
-        GivenText::Text(text) => text.as_str() == namespace,
+        GivenText::Text(given) => given.as_str() == text,
     }
 }
 
@@ -237,7 +283,7 @@ fn namespace_on<'a>(row: &ResourceRow, namespace: &'a str) -> &'a str
 
 /// The object, where the body has no fault.
 #[tactic(auto, unfolding(crate::specs::Create::valid))]
-fn check_validity(
+pub fn check_validity(
     alloc: Global,
     name: &Text,
     object: Result<Object, Sequence<FieldFault>>,
@@ -250,7 +296,7 @@ fn check_validity(
     }
 }
 
-/// The object with the namespace of its path.
+/// The object as it is stored at first.
 fn placed(
     alloc: Global,
     row: &ResourceRow,
@@ -259,7 +305,18 @@ fn placed(
 ) -> Result<Object, Memory>
     ensures { IfOk result (λ o. tree_of o ≡ in_place row.now namespace.now (tree_of object)) }
 {
-    let object = unreported(row, object);
+    house(alloc, row, namespace, unreported(row, object))
+}
+
+/// The object with the namespace of its path, where objects of the row live in namespaces.
+pub fn house(
+    alloc: Global,
+    row: &ResourceRow,
+    namespace: &str,
+    object: Object,
+) -> Result<Object, Memory>
+    ensures { IfOk result (λ o. tree_of o ≡ housed row.now namespace.now (tree_of object)) }
+{
     if row.namespaced {
         object.in_namespace(alloc, namespace)
     } else {

@@ -2,10 +2,17 @@
 #![tactic(auto)]
 
 mod authorization;
+mod collection;
 mod create;
+mod delete;
 mod get;
+mod health;
+pub mod loading;
 pub mod outcome;
 pub mod respond;
+pub mod task;
+mod update;
 
 pub use kapi_reply::WrittenReply;
+pub use loading::{LoadError, load};
 pub use respond::{Prepared, answer};

@@ -3,26 +3,34 @@ ghost use Rattle.kapi_text.specs.Gives.{Gives};
 ghost use Rattle.kapi_reply.specs.Refusals.{refused_by};
 ghost use Rattle.kapi_reply.specs.Replies as replies;
 ghost use Rattle.kapi_request_info.specs.Attributes as attributes_of;
-ghost use Rattle.kapi_route.specs.Routes.{route_data};
-ghost use Rattle.kapi_store.specs.Plain.{free_place, plain_of};
+ghost use Rattle.kapi_route.specs.Routes.{resource_data};
+ghost use Rattle.kapi_store.specs.Plain.{plain_of};
 ghost use Rattle.kapi_store.specs.State.{Same, Fits};
 ghost use Rattle.kapi_answer.specs.Answer as answers;
-ghost use Rattle.kapi_answer.specs.Answer.{answer_by, asked_by, checked, planned, planned_on, to_be_created};
-ghost use Rattle.kapi_answer.specs.Outcomes.{ChangesNothing, IsFree, answered_data, new_data, outcome_data, plan_data};
+ghost use Rattle.kapi_answer.specs.Answer.{answer_by, asked_by, checked, escalation_checked, planned, planned_for, planned_on, to_be_created, to_be_replaced};
+ghost use Rattle.kapi_answer.specs.Outcomes.{ChangesNothing, IsReady, answered_data, new_data, outcome_data, plan_data, task_data};
 
-use crate::authorization::{authorize, refuse_escalation};
-use crate::create::{check_create, create};
+use crate::authorization::authorize;
+use crate::collection::{check_delete_all, list};
+use crate::create::{bad, check_create, create, key_of};
+use crate::delete::{check_delete, delete};
 use crate::get::find;
+use crate::health::tell_health;
 use crate::outcome::{NewObject, Outcome, Plan};
+use crate::task::Task;
+use crate::update::{check_patch, check_update, replace};
+use kapi_escalation::check_escalation;
 use kapi_http::{HttpFault, HttpRequest};
 use kapi_policy::Policy;
 use kapi_rbac_types::Identity;
 use kapi_reply::{
-    Asked, BadWord, CheckError, WrittenReply, fault_reply, object_reply, refusal_reply,
+    Asked, BadWord, CheckError, WrittenReply, content_reply, fault_reply, refusal_reply,
     target_reply,
 };
 use kapi_request_info::{Attributes, InfoError, info};
-use kapi_route::{Action, Route, check_media_type, find_route, refuse_impersonation};
+use kapi_route::{
+    Action, ResourceRoute, Route, check_media_type, check_query, find_route, refuse_impersonation,
+};
 use kapi_store::{Ready, Store};
 use kapi_text::Memory;
 use std::alloc::{AllocError, Global};
@@ -104,7 +112,13 @@ fn answer_asked<P: Policy>(
 {
     match check(alloc, policy, store, identity, request, attributes) {
         Ok(outcome) => Ok(Prepared {
-            reply: object_reply(alloc, outcome.code, request.close, outcome.body)?,
+            reply: content_reply(
+                alloc,
+                outcome.code,
+                outcome.content,
+                request.close,
+                outcome.body,
+            )?,
             write: outcome.write,
         }),
         Err(CheckError::Refused(refused)) => {
@@ -140,6 +154,8 @@ fn check<P: Policy>(
     match plan(alloc, policy, store, identity, request, attributes)? {
         Plan::Tell(outcome) => Ok(outcome),
         Plan::Create(new) => create(alloc, store, new),
+        Plan::Replace(new) => replace(alloc, store, new),
+        Plan::Delete(deletion) => delete(store, deletion),
     }
 }
 
@@ -154,53 +170,145 @@ fn plan<P: Policy>(
     attributes: &Attributes,
 ) -> Result<Plan, CheckError>
     ensures gives { Gives refused_by plan_data result (planned (P.content policy.now) (plain_of store.now) identity.now request.now attributes.now) }
-    ensures free { IfOk result (IsFree (plain_of store.now)) }
+    ensures ready { IfOk result (IsReady (plain_of store.now)) }
     ensures told { IfOk result ChangesNothing }
 {
     refuse_impersonation(request.headers.as_slice())?;
     authorize(policy, identity, attributes)?;
-    let route = find_route(store.table(), request.method, attributes)?;
-    check_media_type(request.method, request.headers.as_slice())?;
-    plan_on(
-        alloc,
-        store,
-        identity,
-        route,
-        attributes.namespace.as_str(),
-        request.body.as_slice(),
-    )
+    match find_route(store.table(), request.method, attributes)? {
+        Route::Health => Ok(Plan::Tell(tell_health(alloc, request)?)),
+        Route::Resource(route) => {
+            plan_for(alloc, policy, store, identity, request, attributes, route)
+        }
+    }
 }
 
-/// What is to be done on a route.
-#[tactic(auto, unfolding(crate::specs::Answer::planned_on))]
-fn plan_on(
+/// A request for a resource, from its query on.
+#[tactic(auto, unfolding(crate::specs::Answer::planned_for))]
+fn plan_for<P: Policy>(
     alloc: Global,
+    policy: &P,
     store: &Store,
     identity: &Identity,
-    route: Route<'_>,
-    namespace: &str,
-    body: &[u8],
+    request: &HttpRequest,
+    attributes: &Attributes,
+    route: ResourceRoute<'_>,
 ) -> Result<Plan, CheckError>
-    ensures gives { Gives refused_by plan_data result (planned_on route.entry.action (plain_of store.now) identity.now (route_data route.entry) namespace.now body.now) }
-    ensures free { IfOk result (IsFree (plain_of store.now)) }
+    ensures gives { Gives refused_by plan_data result (planned_for (P.content policy.now) (plain_of store.now) identity.now request.now attributes.now (resource_data route.entry)) }
+    ensures ready { IfOk result (IsReady (plain_of store.now)) }
     ensures told { IfOk result ChangesNothing }
 {
-    match route.action {
-        Action::Get => Ok(Plan::Tell(find(alloc, store, route, namespace)?)),
-        Action::Create => plan_create(
-            alloc,
-            identity,
-            check_create(alloc, store, route.row, namespace, body)?,
-        ),
+    let query = attributes.query.as_slice();
+    let filter = check_query(alloc, route.action, store.revision(), query)?;
+    check_media_type(request.method, request.headers.as_slice())?;
+    let (namespace, name) = (attributes.namespace.as_str(), route.point.name.as_str());
+    let key = key_of(alloc, route.row, namespace, name)?;
+    let task = Task {
+        identity,
+        row: route.row,
+        key: &key,
+        filter: &filter,
+        body: request.body.as_slice(),
+    };
+    plan_on(alloc, policy, store, route.action, task)
+}
+
+/// What is to be done on a route of a resource. Watches are not served yet.
+#[tactic(auto, unfolding(crate::specs::Answer::planned_on))]
+fn plan_on<P: Policy>(
+    alloc: Global,
+    policy: &P,
+    store: &Store,
+    action: Action,
+    task: Task<'_>,
+) -> Result<Plan, CheckError>
+    ensures gives { Gives refused_by plan_data result (planned_on action (plain_of store.now) (task_data (P.content policy.now) task.entry)) }
+    ensures ready { IfOk result (IsReady (plain_of store.now)) }
+    ensures told { IfOk result ChangesNothing }
+{
+    let Task {
+        row,
+        key,
+        filter,
+        body,
+        ..
+    } = task;
+    let namespace = key.namespace.as_str();
+    match action {
+        Action::Get => Ok(Plan::Tell(find(alloc, store, key)?)),
+        Action::List => Ok(Plan::Tell(list(alloc, store, row, namespace, filter)?)),
+        Action::Watch => Err(bad(BadWord::Option)),
+        Action::Create => {
+            let new = check_create(alloc, store, row, namespace, body)?;
+            plan_create(alloc, policy, store, task, new)
+        }
+        Action::Update(part) => {
+            let new = check_update(alloc, store, row, part, key, body)?;
+            plan_replace(alloc, policy, store, task, new)
+        }
+        Action::Patch(part) => {
+            let new = check_patch(alloc, store, row, part, key, body)?;
+            plan_replace(alloc, policy, store, task, new)
+        }
+        Action::Delete => Ok(Plan::Delete(check_delete(alloc, store, key, body)?)),
+        Action::DeleteCollection => {
+            let all = check_delete_all(alloc, store, row, namespace, filter, body)?;
+            Ok(Plan::Delete(all))
+        }
     }
 }
 
 /// An object is created that passes all checks, where the identity may write it.
 #[tactic(auto, unfolding(crate::specs::Answer::to_be_created))]
-fn plan_create(alloc: Global, identity: &Identity, new: NewObject) -> Result<Plan, CheckError>
-    ensures gives { Gives refused_by plan_data result (to_be_created identity.now (new_data new)) }
+fn plan_create<P: Policy>(
+    alloc: Global,
+    policy: &P,
+    store: &Store,
+    task: Task<'_>,
+    new: NewObject,
+) -> Result<Plan, CheckError>
+    ensures gives { Gives refused_by plan_data result (to_be_created (plain_of store.now) (task_data (P.content policy.now) task.entry) (new_data new)) }
     ensures same { IfOk result (λ plan. plan ≡ Plan.Create new) }
 {
-    refuse_escalation(alloc, identity, &new.key)?;
+    check_written(alloc, policy, store, task, &new)?;
     Ok(Plan::Create(new))
+}
+
+/// And one is replaced.
+#[tactic(auto, unfolding(crate::specs::Answer::to_be_replaced))]
+fn plan_replace<P: Policy>(
+    alloc: Global,
+    policy: &P,
+    store: &Store,
+    task: Task<'_>,
+    new: NewObject,
+) -> Result<Plan, CheckError>
+    ensures gives { Gives refused_by plan_data result (to_be_replaced (plain_of store.now) (task_data (P.content policy.now) task.entry) (new_data new)) }
+    ensures same { IfOk result (λ plan. plan ≡ Plan.Replace new) }
+{
+    check_written(alloc, policy, store, task, &new)?;
+    Ok(Plan::Replace(new))
+}
+
+/// The identity may write an object, by what it would give him or others.
+fn check_written<P: Policy>(
+    alloc: Global,
+    policy: &P,
+    store: &Store,
+    task: Task<'_>,
+    new: &NewObject,
+) -> Result<(), CheckError>
+    ensures { Gives refused_by (λ u. u) result (escalation_checked (plain_of store.now) (task_data (P.content policy.now) task.entry) (new_data new.now)) }
+{
+    let name = task.key.name.as_str();
+    let old = store.get(&new.key);
+    check_escalation(
+        alloc,
+        policy,
+        task.identity,
+        name,
+        &new.key,
+        old,
+        &new.object,
+    )
 }

@@ -5,7 +5,7 @@ use Rattle.std.specs.Bool.{beq}
 use Rattle.std.specs.List.{list_any}
 use Rattle.std.specs.Str.{bytes_eq}
 use Rattle.kapi_names.specs.declared.row.ResourceRow.{ResourceRow}
-use Rattle.kapi_core.specs.Table.{has_form, has_row, is_like, is_row, rows_differ}
+use Rattle.kapi_core.specs.Table.{has_row, is_like, is_row, rows_differ}
 
 -- a namespaced row of that group and plural
 abbrev tells : List ℕ → List ℕ → ResourceRow → Bool

@@ -9,3 +9,5 @@ pub mod Tables
 pub mod Openings
 pub mod Fitting
 pub mod Opened
+pub mod Loads
+pub mod Turning

@@ -1,7 +1,7 @@
 -- In a table that fits, the five opening objects stand.
-use Rattle.std.proofs.Common.{◌≡◌, ℕ, ◌+◌, ◌≤◌, ◌∙◌, Bool, true, false, ◌&&◌, List, [], ◌∷◌, Some, Option, Ok, Err, Result, refl, sym, ap, arith, codes, map}
+use Rattle.std.proofs.Common.{◌≡◌, ℕ, ◌+◌, ◌≤◌, ◌∙◌, Bool, true, false, ◌&&◌, List, [], ◌∷◌, Ok, Err, Result, refl, ap, arith}
 use Rattle.std.proofs.lemmas.Bool.{le-leb}
-use Rattle.std.specs.List.{fold, list_all, list_any}
+use Rattle.std.specs.List.{list_all}
 use Rattle.std.specs.Map.{keys_of}
 use Rattle.std.specs.Str.{chars}
 use Rattle.serde_json.specs.Data.{Data, null}
@@ -9,8 +9,7 @@ use Rattle.kapi_admission.specs.Admission.{BodyFault, object_of}
 use Rattle.kapi_admission.proofs.OnLiterals.{admission_on_literals}
 use Rattle.kapi_names.specs.declared.row.ResourceRow.{ResourceRow}
 use Rattle.kapi_store.specs.Changes.{placed, placed_all}
-use Rattle.kapi_store.specs.Plain.{PlainChange, creation_at, free_place, has_namespace, has_object, is_namespaced, revisions_left}
-use Rattle.kapi_store.specs.declared.key.Key.{Key}
+use Rattle.kapi_store.specs.Plain.{creation_at, free_place, has_namespace, has_object, is_namespaced, revisions_left}
 use Rattle.kapi_store.specs.declared.store.TheConstants.{LAST_REVISION}
 use Rattle.kapi_core.specs.Machine.{Machine, changed}
 use Rattle.kapi_core.specs.Opening.{OpeningObject, Standing, basic_user, basic_user_binding, cluster_admin, cluster_admin_binding, default_namespace, cluster_key, empty, opening, opening_keys, opening_objects, with_opening}

@@ -1,5 +1,5 @@
 -- What the opening objects leave of a machine.
-use Rattle.std.proofs.Common.{◌≡◌, ℕ, List, [], ◌∷◌, Option, Result, Ok, Err, refl, ◌∙◌}
+use Rattle.std.proofs.Common.{◌≡◌, ℕ, List, [], ◌∷◌, Result, Ok, Err, refl, ◌∙◌}
 use Rattle.std.specs.List.{fold}
 use Rattle.serde_json.specs.Data.{Data}
 use Rattle.kapi_admission.specs.Admission.{BodyFault, object_of}

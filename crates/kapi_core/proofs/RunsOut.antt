@@ -7,11 +7,12 @@ use Rattle.kapi_rbac_types.specs.declared.identity.Identity.{Identity}
 use Rattle.kapi_policy.specs.Objects.{PolicyObjects}
 use Rattle.kapi_store.specs.State.{State}
 use Rattle.kapi_core.specs.Machine.{Machine, step}
-use Rattle.kapi_core.specs.Stands.{StandsFor, is_early, RunsOut, Sends, Steps}
+use Rattle.kapi_core.specs.Stands.{StandsFor, is_early, RunsOut, Sends, Steps, Turns}
 use Rattle.kapi_core.specs.declared.connection.Connection.{Connection}
 use Rattle.kapi_core.specs.declared.event.Answer.{Answer}
 use Rattle.kapi_core.specs.declared.event.Answer.TheVariants as told
 use Rattle.kapi_core.specs.declared.event.Output.{Output}
+use Rattle.kapi_core.specs.declared.event.Turned.{Turned}
 use Rattle.kapi_core.specs.declared.event.Event.{Event}
 use Rattle.kapi_core.specs.declared.event.Event.TheVariants as event
 use Rattle.kapi_core.specs.Running.{Running}
@@ -28,10 +29,15 @@ pub sends_err : (old new : Running) (e : Event) (r : Result (Option Output) Allo
 sends_err old new e (Ok output) h out = absurd (cc h)
 sends_err old new e (Err error) h out = out
 
+-- an error of a turn
+pub turns_err : (old new : Running) (r : Result (Option Turned) AllocError) → IsErr r → RunsOut old new event.Turn → Turns old new r
+turns_err old new (Ok turned) h out = absurd (cc h)
+turns_err old new (Err error) h out = out
+
 -- where there is room for a connection, it is opened
-pub room_is_late : (s : State) (o : PolicyObjects) (es : List (ℕ × Connection)) (n : ℕ) (m : Machine) (identity : Identity) → (nat_lt (length es) OPEN_CONNECTIONS && nat_le n LAST_CONNECTION) ≡ true
-    → StandsFor s o es n m → is_early (step m (event.Open identity)).0 ≡ false
-room_is_late s o es n m identity room h =
-    not_early s o es n m (event.Open identity) h
-    (λ cs k p ps l. told_late (machine_of s cs n ps) (event.Open identity) (told.Opened (record { 0 = n }))
-    (opened s o es (insert_entry nat_cmp es n (new_connection identity)) n identity room refl cs k p ps l).0 refl)
+pub room_is_late : (s : State) (o : PolicyObjects) (ms : List (List ℕ)) (es : List (ℕ × Connection)) (n : ℕ) (m : Machine) (identity : Identity) → (nat_lt (length es) OPEN_CONNECTIONS && nat_le n LAST_CONNECTION) ≡ true
+    → StandsFor s o ms es n m → is_early (step m (event.Open identity)).0 ≡ false
+room_is_late s o ms es n m identity room h =
+    not_early s o ms es n m (event.Open identity) h
+    (λ cs k p v ps l. told_late (machine_of s cs n ps) (event.Open identity) (told.Opened (record { 0 = n }))
+    (opened s o ms es (insert_entry nat_cmp es n (new_connection identity)) n identity room refl cs k p v ps l).0 refl)

@@ -4,6 +4,8 @@ use Rattle.std.proofs.lemmas.Bool.{le-leb, lt-leb}
 use Rattle.std.specs.Map.{lookup, set_value, remove_entry}
 use Rattle.std.specs.Ordering.{nat_cmp}
 use Rattle.std.specs.BTreeMap.{insert_entry, is_at}
+use Rattle.kapi_aggregation.specs.Marks.{Covers}
+use Rattle.kapi_aggregation.specs.Roles.{roles_in}
 use Rattle.kapi_answer.specs.Answer.{answer, Answered}
 use Rattle.kapi_reply.specs.Replies.{fault_reply}
 use Rattle.kapi_http.specs.Cut.{first}
@@ -11,7 +13,7 @@ use Rattle.kapi_http.specs.Inbox.{next_of, after_next}
 use Rattle.kapi_http.specs.declared.message.HttpFault.{HttpFault}
 use Rattle.kapi_http.specs.declared.message.HttpRequest.{HttpRequest}
 use Rattle.kapi_rbac_types.specs.declared.identity.Identity.{Identity}
-use Rattle.kapi_store.specs.Plain.{Plain, PlainChange, StandsFor as StoreStands, plain_of, written}
+use Rattle.kapi_store.specs.Plain.{Plain, PlainChange, StandsFor as StoreStands, plain_of}
 use Rattle.kapi_policy.specs.Objects.{PolicyObjects}
 use Rattle.kapi_store.specs.State.{State}
 use Rattle.kapi_stored_policy.specs.Reading.{policy_objects}
@@ -37,35 +39,43 @@ machine_of s cs n ps = record { store = plain_of s; changes = cs; next_id = n; l
 abbrev pub HasHistory : State → List PlainChange → Type 0
 HasHistory s cs = StoreStands s cs (plain_of s)
 
-pub machine_is : (s : State) (o : PolicyObjects) (es : List (ℕ × Connection)) (n : ℕ) (m : Machine) → StandsFor s o es n m → machine_of s m.changes n m.links ≡ m
-machine_is s o es n m h = rw (h.store.plain, h.next_id) refl
+pub machine_is : (s : State) (o : PolicyObjects) (ms : List (List ℕ)) (es : List (ℕ × Connection)) (n : ℕ) (m : Machine) → StandsFor s o ms es n m → machine_of s m.changes n m.links ≡ m
+machine_is s o ms es n m h = rw (h.store.plain, h.next_id) refl
 
 -- the history of the machine that is stood for
-pub history_is : (s : State) (o : PolicyObjects) (es : List (ℕ × Connection)) (n : ℕ) (m : Machine) → StandsFor s o es n m → HasHistory s m.changes
-history_is s o es n m h = let P : Plain → Type 0 = λ p. StoreStands s m.changes p in subst P (sym h.store.plain) h.store
+pub history_is : (s : State) (o : PolicyObjects) (ms : List (List ℕ)) (es : List (ℕ × Connection)) (n : ℕ) (m : Machine) → StandsFor s o ms es n m → HasHistory s m.changes
+history_is s o ms es n m h = let P : Plain → Type 0 = λ p. StoreStands s m.changes p in subst P (sym h.store.plain) h.store
 
 -- a policy is the roles and bindings of a store
 abbrev pub HasPolicy : State → PolicyObjects → Type 0
 HasPolicy s o = o ≡ policy_objects (plain_of s).objects
 
 -- the policy of the machine that is stood for
-pub policy_known : (s : State) (o : PolicyObjects) (es : List (ℕ × Connection)) (n : ℕ) (m : Machine) → StandsFor s o es n m → HasPolicy s o
-policy_known s o es n m h = h.policy_is ∙ ap (λ (p : Plain). policy_objects p.objects) (sym h.store.plain)
+pub policy_known : (s : State) (o : PolicyObjects) (ms : List (List ℕ)) (es : List (ℕ × Connection)) (n : ℕ) (m : Machine) → StandsFor s o ms es n m → HasPolicy s o
+policy_known s o ms es n m h = h.policy_is ∙ ap (λ (p : Plain). policy_objects p.objects) (sym h.store.plain)
 
--- what is made of a step, by its answer, its store, policy, connections and number
-abbrev pub Made : State → PolicyObjects → List (ℕ × Connection) → ℕ → Machine → Event → Answer → Type 0
-Made s o es n m event answer = (answer ≡ (step m event).0) × StandsFor s o es n (step m event).1
+-- marks cover the cluster roles of a store
+abbrev pub HasMarks : State → List (List ℕ) → Type 0
+HasMarks s ms = Covers ms (roles_in (plain_of s).objects)
+
+-- the cluster roles of the machine that is stood for are covered
+pub covers_known : (s : State) (o : PolicyObjects) (ms : List (List ℕ)) (es : List (ℕ × Connection)) (n : ℕ) (m : Machine) → StandsFor s o ms es n m → HasMarks s ms
+covers_known s o ms es n m h = let P : Plain → Type 0 = λ p. Covers ms (roles_in p.objects) in subst P (sym h.store.plain) h.covers
+
+-- what is made of a step, by its answer, its store, policy, marks, connections and number
+abbrev pub Made : State → PolicyObjects → List (List ℕ) → List (ℕ × Connection) → ℕ → Machine → Event → Answer → Type 0
+Made s o ms es n m event answer = (answer ≡ (step m event).0) × StandsFor s o ms es n (step m event).1
 
 -- a step from the machine that is stood for
-pub made_for : (s : State) (o : PolicyObjects) (es : List (ℕ × Connection)) (n : ℕ) (m : Machine) (t : State) (u : PolicyObjects) (fs : List (ℕ × Connection)) (k : ℕ) (e : Event) (a : Answer)
-    → StandsFor s o es n m → ((cs : List PlainChange) → HasHistory s cs → HasPolicy s o → (ps : List (ℕ × Link)) → AreLinks es ps → Made t u fs k (machine_of s cs n ps) e a) → Made t u fs k m e a
-made_for s o es n m t u fs k e a h f =
-    let P : Machine → Type 0 = λ m. Made t u fs k m e a in subst P (machine_is s o es n m h) (f m.changes (history_is s o es n m h) (policy_known s o es n m h) m.links h.links)
+pub made_for : (s : State) (o : PolicyObjects) (ms : List (List ℕ)) (es : List (ℕ × Connection)) (n : ℕ) (m : Machine) (t : State) (u : PolicyObjects) (ns : List (List ℕ)) (fs : List (ℕ × Connection)) (k : ℕ) (e : Event) (a : Answer)
+    → StandsFor s o ms es n m → ((cs : List PlainChange) → HasHistory s cs → HasPolicy s o → HasMarks s ms → (ps : List (ℕ × Link)) → AreLinks es ps → Made t u ns fs k (machine_of s cs n ps) e a) → Made t u ns fs k m e a
+made_for s o ms es n m t u ns fs k e a h f =
+    let P : Machine → Type 0 = λ m. Made t u ns fs k m e a in subst P (machine_is s o ms es n m h) (f m.changes (history_is s o ms es n m h) (policy_known s o ms es n m h) (covers_known s o ms es n m h) m.links h.links)
 
 -- what the machine that is stood for answers is not early
-pub not_early : (s : State) (o : PolicyObjects) (es : List (ℕ × Connection)) (n : ℕ) (m : Machine) (e : Event) → StandsFor s o es n m
-    → ((cs : List PlainChange) → HasHistory s cs → HasPolicy s o → (ps : List (ℕ × Link)) → AreLinks es ps → is_early (step (machine_of s cs n ps) e).0 ≡ false) → is_early (step m e).0 ≡ false
-not_early s o es n m e h f = let P : Machine → Type 0 = λ m. is_early (step m e).0 ≡ false in subst P (machine_is s o es n m h) (f m.changes (history_is s o es n m h) (policy_known s o es n m h) m.links h.links)
+pub not_early : (s : State) (o : PolicyObjects) (ms : List (List ℕ)) (es : List (ℕ × Connection)) (n : ℕ) (m : Machine) (e : Event) → StandsFor s o ms es n m
+    → ((cs : List PlainChange) → HasHistory s cs → HasPolicy s o → HasMarks s ms → (ps : List (ℕ × Link)) → AreLinks es ps → is_early (step (machine_of s cs n ps) e).0 ≡ false) → is_early (step m e).0 ≡ false
+not_early s o ms es n m e h f = let P : Machine → Type 0 = λ m. is_early (step m e).0 ≡ false in subst P (machine_is s o ms es n m h) (f m.changes (history_is s o ms es n m h) (policy_known s o ms es n m h) (covers_known s o ms es n m h) m.links h.links)
 
 -- an answer that is not early
 pub told_late : (m : Machine) (e : Event) (a : Answer) → a ≡ (step m e).0 → is_early a ≡ false → is_early (step m e).0 ≡ false
@@ -94,37 +104,38 @@ unfolding Serves
 new_link identity = (refl, refl, refl)
 
 -- a connection that was opened
-pub opened : (s : State) (o : PolicyObjects) (es fs : List (ℕ × Connection)) (n : ℕ) (identity : Identity) → (nat_lt (length es) OPEN_CONNECTIONS && nat_le n LAST_CONNECTION) ≡ true
+pub opened : (s : State) (o : PolicyObjects) (ms : List (List ℕ)) (es fs : List (ℕ × Connection)) (n : ℕ) (identity : Identity) → (nat_lt (length es) OPEN_CONNECTIONS && nat_le n LAST_CONNECTION) ≡ true
     → fs ≡ insert_entry nat_cmp es n (new_connection identity)
-    → (cs : List PlainChange) → HasHistory s cs → HasPolicy s o → (ps : List (ℕ × Link)) → AreLinks es ps → Made s o fs (n + 1) (machine_of s cs n ps) (event.Open identity) (told.Opened (record { 0 = n }))
+    → (cs : List PlainChange) → HasHistory s cs → HasPolicy s o → HasMarks s ms → (ps : List (ℕ × Link)) → AreLinks es ps → Made s o ms fs (n + 1) (machine_of s cs n ps) (event.Open identity) (told.Opened (record { 0 = n }))
 unfolding step open_step
-opened s o es fs n identity room is cs k p ps h =
+opened s o ms es fs n identity room is cs k p v ps h =
     let test : (nat_lt (length ps) OPEN_CONNECTIONS && nat_le n LAST_CONNECTION) ≡ true = rw (← links_counted es ps h) room in
     rw (test, is) (
       refl,
       record {
         store = k;
         policy_is = p;
+        covers = v;
         next_id = refl;
         links = links_inserted es ps n (new_connection identity) (record { identity = identity; sent = []; served = 0 }) h (new_link identity);
       },
     )
 
 -- no connection is opened: too many are open, or the numbers are used up
-pub not_opened : (s : State) (o : PolicyObjects) (es : List (ℕ × Connection)) (n : ℕ) (identity : Identity) → (nat_lt (length es) OPEN_CONNECTIONS && nat_le n LAST_CONNECTION) ≡ false
-    → (cs : List PlainChange) → HasHistory s cs → HasPolicy s o → (ps : List (ℕ × Link)) → AreLinks es ps → Made s o es n (machine_of s cs n ps) (event.Open identity) told.TooMany
+pub not_opened : (s : State) (o : PolicyObjects) (ms : List (List ℕ)) (es : List (ℕ × Connection)) (n : ℕ) (identity : Identity) → (nat_lt (length es) OPEN_CONNECTIONS && nat_le n LAST_CONNECTION) ≡ false
+    → (cs : List PlainChange) → HasHistory s cs → HasPolicy s o → HasMarks s ms → (ps : List (ℕ × Link)) → AreLinks es ps → Made s o ms es n (machine_of s cs n ps) (event.Open identity) told.TooMany
 unfolding step open_step
-not_opened s o es n identity many cs k p ps h =
+not_opened s o ms es n identity many cs k p v ps h =
     let test : (nat_lt (length ps) OPEN_CONNECTIONS && nat_le n LAST_CONNECTION) ≡ false = rw (← links_counted es ps h) many in
-    rw test (refl, record { store = k; policy_is = p; next_id = refl; links = h })
+    rw test (refl, record { store = k; policy_is = p; covers = v; next_id = refl; links = h })
 
 -- bytes that were taken in
-pub fed : (s : State) (o : PolicyObjects) (es fs : List (ℕ × Connection)) (n : ℕ) (conn : ConnId) (piece : List ℕ) (c : Connection)
+pub fed : (s : State) (o : PolicyObjects) (ms : List (List ℕ)) (es fs : List (ℕ × Connection)) (n : ℕ) (conn : ConnId) (piece : List ℕ) (c : Connection)
     → lookup (is_at (nat_cmp conn.0)) es ≡ Some c → length c.inbox.kept + length piece ≤ KEPT_LIMIT
     → fs ≡ set_value (is_at (nat_cmp conn.0)) es (record c { inbox = record { kept = c.inbox.kept ++ piece; ended = false } })
-    → (cs : List PlainChange) → HasHistory s cs → HasPolicy s o → (ps : List (ℕ × Link)) → AreLinks es ps → Made s o fs n (machine_of s cs n ps) (event.Feed conn piece) told.Done
+    → (cs : List PlainChange) → HasHistory s cs → HasPolicy s o → HasMarks s ms → (ps : List (ℕ × Link)) → AreLinks es ps → Made s o ms fs n (machine_of s cs n ps) (event.Feed conn piece) told.Done
 unfolding step feed_step
-fed s o es fs n conn piece c there fits is cs k p ps h =
+fed s o ms es fs n conn piece c there fits is cs k p v ps h =
     let l = link_there (is_at (nat_cmp conn.0)) es ps c h there in
     let rest = serves_rest l.0.served l.0.sent c.inbox.kept l.2.1 in
     rw (l.1, rest, le-leb (length c.inbox.kept + length piece) KEPT_LIMIT fits, is) (
@@ -132,6 +143,7 @@ fed s o es fs n conn piece c there fits is cs k p ps h =
       record {
         store = k;
         policy_is = p;
+        covers = v;
         next_id = refl;
         links = links_set (is_at (nat_cmp conn.0)) es ps (record c { inbox = record { kept = c.inbox.kept ++ piece; ended = false } })
             (record l.0 { sent = l.0.sent ++ piece }) h (l.2.0, serves_more l.0.served l.0.sent c.inbox.kept piece l.2.1, refl);
@@ -139,47 +151,47 @@ fed s o es fs n conn piece c there fits is cs k p ps h =
     )
 
 -- bytes that were too many
-pub fed_full : (s : State) (o : PolicyObjects) (es : List (ℕ × Connection)) (n : ℕ) (conn : ConnId) (piece : List ℕ) (c : Connection)
+pub fed_full : (s : State) (o : PolicyObjects) (ms : List (List ℕ)) (es : List (ℕ × Connection)) (n : ℕ) (conn : ConnId) (piece : List ℕ) (c : Connection)
     → lookup (is_at (nat_cmp conn.0)) es ≡ Some c → KEPT_LIMIT < length c.inbox.kept + length piece
-    → (cs : List PlainChange) → HasHistory s cs → HasPolicy s o → (ps : List (ℕ × Link)) → AreLinks es ps → Made s o es n (machine_of s cs n ps) (event.Feed conn piece) told.Full
+    → (cs : List PlainChange) → HasHistory s cs → HasPolicy s o → HasMarks s ms → (ps : List (ℕ × Link)) → AreLinks es ps → Made s o ms es n (machine_of s cs n ps) (event.Feed conn piece) told.Full
 unfolding step feed_step
-fed_full s o es n conn piece c there many cs k p ps h =
+fed_full s o ms es n conn piece c there many cs k p v ps h =
     let l = link_there (is_at (nat_cmp conn.0)) es ps c h there in
     let rest = serves_rest l.0.served l.0.sent c.inbox.kept l.2.1 in
-    rw (l.1, rest, lt-leb (length c.inbox.kept + length piece) KEPT_LIMIT many) (refl, record { store = k; policy_is = p; next_id = refl; links = h })
+    rw (l.1, rest, lt-leb (length c.inbox.kept + length piece) KEPT_LIMIT many) (refl, record { store = k; policy_is = p; covers = v; next_id = refl; links = h })
 
 -- bytes on no connection
-pub fed_nowhere : (s : State) (o : PolicyObjects) (es : List (ℕ × Connection)) (n : ℕ) (conn : ConnId) (piece : List ℕ)
+pub fed_nowhere : (s : State) (o : PolicyObjects) (ms : List (List ℕ)) (es : List (ℕ × Connection)) (n : ℕ) (conn : ConnId) (piece : List ℕ)
     → lookup (is_at (nat_cmp conn.0)) es ≡ None
-    → (cs : List PlainChange) → HasHistory s cs → HasPolicy s o → (ps : List (ℕ × Link)) → AreLinks es ps → Made s o es n (machine_of s cs n ps) (event.Feed conn piece) told.Ended
+    → (cs : List PlainChange) → HasHistory s cs → HasPolicy s o → HasMarks s ms → (ps : List (ℕ × Link)) → AreLinks es ps → Made s o ms es n (machine_of s cs n ps) (event.Feed conn piece) told.Ended
 unfolding step feed_step
-fed_nowhere s o es n conn piece missing cs k p ps h =
-    rw (link_missing (is_at (nat_cmp conn.0)) es ps h missing) (refl, record { store = k; policy_is = p; next_id = refl; links = h })
+fed_nowhere s o ms es n conn piece missing cs k p v ps h =
+    rw (link_missing (is_at (nat_cmp conn.0)) es ps h missing) (refl, record { store = k; policy_is = p; covers = v; next_id = refl; links = h })
 
 -- a connection that was closed, or was none
-pub closed : (s : State) (o : PolicyObjects) (es fs : List (ℕ × Connection)) (n : ℕ) (conn : ConnId) → fs ≡ remove_entry (is_at (nat_cmp conn.0)) es
-    → (cs : List PlainChange) → HasHistory s cs → HasPolicy s o → (ps : List (ℕ × Link)) → AreLinks es ps → Made s o fs n (machine_of s cs n ps) (event.Close conn) told.Done
+pub closed : (s : State) (o : PolicyObjects) (ms : List (List ℕ)) (es fs : List (ℕ × Connection)) (n : ℕ) (conn : ConnId) → fs ≡ remove_entry (is_at (nat_cmp conn.0)) es
+    → (cs : List PlainChange) → HasHistory s cs → HasPolicy s o → HasMarks s ms → (ps : List (ℕ × Link)) → AreLinks es ps → Made s o ms fs n (machine_of s cs n ps) (event.Close conn) told.Done
 unfolding step
-closed s o es fs n conn is cs k p ps h = rw is (refl, record { store = k; policy_is = p; next_id = refl; links = links_removed (is_at (nat_cmp conn.0)) es ps h })
+closed s o ms es fs n conn is cs k p v ps h = rw is (refl, record { store = k; policy_is = p; covers = v; next_id = refl; links = links_removed (is_at (nat_cmp conn.0)) es ps h })
 
 -- nothing to serve, for there is no connection
-pub served_nowhere : (s : State) (o : PolicyObjects) (es : List (ℕ × Connection)) (n : ℕ) (conn : ConnId)
+pub served_nowhere : (s : State) (o : PolicyObjects) (ms : List (List ℕ)) (es : List (ℕ × Connection)) (n : ℕ) (conn : ConnId)
     → lookup (is_at (nat_cmp conn.0)) es ≡ None
-    → (cs : List PlainChange) → HasHistory s cs → HasPolicy s o → (ps : List (ℕ × Link)) → AreLinks es ps → Made s o es n (machine_of s cs n ps) (event.Serve conn) told.Nothing
+    → (cs : List PlainChange) → HasHistory s cs → HasPolicy s o → HasMarks s ms → (ps : List (ℕ × Link)) → AreLinks es ps → Made s o ms es n (machine_of s cs n ps) (event.Serve conn) told.Nothing
 unfolding step serve_step
-served_nowhere s o es n conn missing cs k p ps h =
-    rw (link_missing (is_at (nat_cmp conn.0)) es ps h missing) (refl, record { store = k; policy_is = p; next_id = refl; links = h })
+served_nowhere s o ms es n conn missing cs k p v ps h =
+    rw (link_missing (is_at (nat_cmp conn.0)) es ps h missing) (refl, record { store = k; policy_is = p; covers = v; next_id = refl; links = h })
 
 -- nothing to serve, for nothing is whole
-pub served_nothing : (s : State) (o : PolicyObjects) (es : List (ℕ × Connection)) (n : ℕ) (conn : ConnId) (c : Connection)
+pub served_nothing : (s : State) (o : PolicyObjects) (ms : List (List ℕ)) (es : List (ℕ × Connection)) (n : ℕ) (conn : ConnId) (c : Connection)
     → lookup (is_at (nat_cmp conn.0)) es ≡ Some c → next_of c.inbox ≡ None
-    → (cs : List PlainChange) → HasHistory s cs → HasPolicy s o → (ps : List (ℕ × Link)) → AreLinks es ps → Made s o es n (machine_of s cs n ps) (event.Serve conn) told.Nothing
+    → (cs : List PlainChange) → HasHistory s cs → HasPolicy s o → HasMarks s ms → (ps : List (ℕ × Link)) → AreLinks es ps → Made s o ms es n (machine_of s cs n ps) (event.Serve conn) told.Nothing
 unfolding step serve_step serve_item
-served_nothing s o es n conn c there none cs k p ps h =
+served_nothing s o ms es n conn c there none cs k p v ps h =
     let l = link_there (is_at (nat_cmp conn.0)) es ps c h there in
     let rest = serves_rest l.0.served l.0.sent c.inbox.kept l.2.1 in
     let first_none : first c.inbox.kept ≡ None = rw l.2.2 at none in
-    rw (l.1, rest, first_none) (refl, record { store = k; policy_is = p; next_id = refl; links = h })
+    rw (l.1, rest, first_none) (refl, record { store = k; policy_is = p; covers = v; next_id = refl; links = h })
 
 -- a fault ends its connection
 fault_closes : (objects : PolicyObjects) (plain : Plain) (identity : Identity) (fault : HttpFault) → (answer objects plain identity (Err fault)).0.close ≡ true
@@ -199,12 +211,13 @@ connections_after close id c item es =
     else set_value (is_at (nat_cmp id)) es (record c { inbox = after_next c.inbox item })
 
 -- the machine after a request was served
-after_served : (close : Bool) (plain : Plain) (s t : State) (o u : PolicyObjects) (cs : List PlainChange) (n id : ℕ) (c : Connection) (l : Link) (item : Result HttpRequest HttpFault) (changes : List PlainChange) (es : List (ℕ × Connection)) (ps : List (ℕ × Link))
-    → HasHistory s cs → HasPolicy s o → AreLinks es ps → IsLink c l → first c.inbox.kept ≡ Some item → (answer o plain c.identity item).0.close ≡ close → Writes s o t u changes
-    → StandsFor t u (connections_after close id c item es) n (ended_if close id (changed changes (with_link id (record l { served = suc l.served }) (machine_of s cs n ps))))
-after_served true plain s t o u cs n id c l item changes es ps known policy h k e close follows = record {
-  store = (follows cs (plain_of s) known policy).0;
-  policy_is = (follows cs (plain_of s) known policy).1;
+after_served : (close : Bool) (plain : Plain) (s t : State) (o u : PolicyObjects) (ms ns : List (List ℕ)) (cs : List PlainChange) (n id : ℕ) (c : Connection) (l : Link) (item : Result HttpRequest HttpFault) (changes : List PlainChange) (es : List (ℕ × Connection)) (ps : List (ℕ × Link))
+    → HasHistory s cs → HasPolicy s o → HasMarks s ms → AreLinks es ps → IsLink c l → first c.inbox.kept ≡ Some item → (answer o plain c.identity item).0.close ≡ close → Writes s o ms t u ns changes
+    → StandsFor t u ns (connections_after close id c item es) n (ended_if close id (changed changes (with_link id (record l { served = suc l.served }) (machine_of s cs n ps))))
+after_served true plain s t o u ms ns cs n id c l item changes es ps known policy covers h k e close follows = record {
+  store = (follows cs (plain_of s) known policy covers).0;
+  policy_is = (follows cs (plain_of s) known policy covers).1;
+  covers = (follows cs (plain_of s) known policy covers).2;
   next_id = refl;
   links = rw (
     removed_set (is_at (nat_cmp id)) es (record c { inbox = after_next c.inbox item }),
@@ -212,24 +225,25 @@ after_served true plain s t o u cs n id c l item changes es ps known policy h k 
   )
       (links_removed (is_at (nat_cmp id)) es ps h);
 }
-after_served false plain s t o u cs n id c l item changes es ps known policy h k e close follows = record {
-  store = (follows cs (plain_of s) known policy).0;
-  policy_is = (follows cs (plain_of s) known policy).1;
+after_served false plain s t o u ms ns cs n id c l item changes es ps known policy covers h k e close follows = record {
+  store = (follows cs (plain_of s) known policy covers).0;
+  policy_is = (follows cs (plain_of s) known policy covers).1;
+  covers = (follows cs (plain_of s) known policy covers).2;
   next_id = refl;
   links = links_set (is_at (nat_cmp id)) es ps (record c { inbox = after_next c.inbox item }) (record l { served = suc l.served }) h (goes_on o plain c.identity c l item k e close);
 }
 
 -- a request that was served
-pub served : (s t : State) (o u : PolicyObjects) (es fs : List (ℕ × Connection)) (n : ℕ) (conn : ConnId) (c : Connection) (item : Result HttpRequest HttpFault) (answered : Answered)
+pub served : (s t : State) (o u : PolicyObjects) (ms ns : List (List ℕ)) (es fs : List (ℕ × Connection)) (n : ℕ) (conn : ConnId) (c : Connection) (item : Result HttpRequest HttpFault) (answered : Answered)
     → lookup (is_at (nat_cmp conn.0)) es ≡ Some c → next_of c.inbox ≡ Some item → answered ≡ answer o (plain_of s) c.identity item
-    → Writes s o t u answered.1 → fs ≡ connections_after answered.0.close conn.0 c item es
-    → (cs : List PlainChange) → HasHistory s cs → HasPolicy s o → (ps : List (ℕ × Link)) → AreLinks es ps → Made t u fs n (machine_of s cs n ps) (event.Serve conn) (told.Sent (output_of answered))
+    → Writes s o ms t u ns answered.1 → fs ≡ connections_after answered.0.close conn.0 c item es
+    → (cs : List PlainChange) → HasHistory s cs → HasPolicy s o → HasMarks s ms → (ps : List (ℕ × Link)) → AreLinks es ps → Made t u ns fs n (machine_of s cs n ps) (event.Serve conn) (told.Sent (output_of answered))
 unfolding step serve_step serve_item after_serve
-served s t o u es fs n conn c item answered there some is follows links cs k p ps h =
+served s t o u ms ns es fs n conn c item answered there some is follows links cs k p v ps h =
     let l = link_there (is_at (nat_cmp conn.0)) es ps c h there in
     let rest = serves_rest l.0.served l.0.sent c.inbox.kept l.2.1 in
     let first_some : first c.inbox.kept ≡ Some item = rw l.2.2 at some in
     let made : answer (policy_objects (plain_of s).objects) (plain_of s) l.0.identity item ≡ answered =
     sym (is ∙ ap (λ identity. answer o (plain_of s) identity item) l.2.0 ∙ ap (λ objects. answer objects (plain_of s) l.0.identity item) p) in
     rw (l.1, rest, first_some, made, links)
-    (refl, after_served answered.0.close (plain_of s) s t o u cs n conn.0 c l.0 item answered.1 es ps k p h l.2 first_some (ap (λ a. a.0.close) (sym is)) follows)
+    (refl, after_served answered.0.close (plain_of s) s t o u ms ns cs n conn.0 c l.0 item answered.1 es ps k p v h l.2 first_some (ap (λ a. a.0.close) (sym is)) follows)

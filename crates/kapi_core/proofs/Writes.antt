@@ -1,7 +1,9 @@
 -- A write of no change.
-use Rattle.std.proofs.Common.{◌≡◌, List, [], ◌++◌, refl, ap, ◌∙◌, append-nil, add-zero}
+use Rattle.std.proofs.Common.{◌≡◌, List, [], ℕ, ◌++◌, refl, ap, subst, ◌∙◌, append-nil, add-zero}
+use Rattle.kapi_aggregation.specs.Marks.{Covers}
+use Rattle.kapi_aggregation.specs.Roles.{roles_in}
 use Rattle.kapi_store.specs.Changes.{placed_all}
-use Rattle.kapi_store.specs.Plain.{Plain, PlainChange, StandsFor, written}
+use Rattle.kapi_store.specs.Plain.{Plain, PlainChange, StandsFor, plain_of, trees_left_by, written}
 use Rattle.kapi_policy.specs.Objects.{PolicyObjects}
 use Rattle.kapi_store.specs.State.{State}
 use Rattle.kapi_stored_policy.proofs.Writes.{policy_written}
@@ -12,11 +14,23 @@ nothing_written : (s : Plain) → s ≡ written [] s
 unfolding placed_all
 nothing_written s = rw (add-zero) refl
 
--- a store and a policy go on to stand for what they stood for
-pub nothing_writes : (s : State) (o : PolicyObjects) → Writes s o s o []
-nothing_writes s o cs p stands is = (rw (append-nil, ← nothing_written p) stands, is ∙ ap (λ (q : Plain). policy_objects q.objects) (nothing_written p))
+-- a store, a policy and marks go on to stand for what they stood for
+pub nothing_writes : (s : State) (o : PolicyObjects) (ms : List (List ℕ)) → Writes s o ms s o ms []
+nothing_writes s o ms cs p stands is covers =
+    let P : Plain → Type 0 = λ q. Covers ms (roles_in q.objects) in (
+      rw (append-nil, ← nothing_written p) stands,
+      is ∙ ap (λ (q : Plain). policy_objects q.objects) (nothing_written p),
+      subst P (nothing_written p) covers,
+    )
 
--- a write that the policy follows
-pub writes : (s t : State) (o u : PolicyObjects) (changes : List PlainChange) → ((cs : List PlainChange) (p : Plain) → StandsFor s cs p → StandsFor t (cs ++ changes) (written changes p))
-    → u ≡ after_changes (policy_changes changes) o → Writes s o t u changes
-writes s t o u changes stands made cs p before is = (stands cs p before, policy_written s cs changes p o u before is made)
+-- the marks cover what the changes make of the store
+abbrev pub CoversWritten : State → List (List ℕ) → List (List ℕ) → List PlainChange → Type 0
+CoversWritten s ms ns changes = Covers ms (roles_in (plain_of s).objects) → Covers ns (roles_in (placed_all (trees_left_by changes) (plain_of s).objects))
+
+-- a write that the policy follows, and that was noted
+pub writes : (s t : State) (o u : PolicyObjects) (ms ns : List (List ℕ)) (changes : List PlainChange)
+    → ((cs : List PlainChange) (p : Plain) → StandsFor s cs p → StandsFor t (cs ++ changes) (written changes p))
+    → u ≡ after_changes (policy_changes changes) o → CoversWritten s ms ns changes → Writes s o ms t u ns changes
+writes s t o u ms ns changes stands made noted cs p before is covers =
+    let P : Plain → Type 0 = λ q. Covers ms (roles_in q.objects) → Covers ns (roles_in (placed_all (trees_left_by changes) q.objects)) in
+    (stands cs p before, policy_written s cs changes p o u before is made, subst P before.plain noted covers)

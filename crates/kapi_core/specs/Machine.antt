@@ -3,12 +3,17 @@ use Rattle.std.specs.Prelude.{ℕ, ◌+◌, zero, suc, nat_lt, nat_le, Bool, ◌
 use Rattle.std.specs.Ordering.{nat_cmp}
 use Rattle.std.specs.Map.{lookup, set_value, remove_entry}
 use Rattle.std.specs.BTreeMap.{insert_entry, is_at}
+use Rattle.kapi_aggregation.specs.Rewriting.{rewriting}
+use Rattle.kapi_aggregation.specs.Roles.{roles_in}
+use Rattle.kapi_aggregation.specs.Turns.{next}
+use Rattle.kapi_aggregation.specs.declared.turn.Turn.{Turn}
 use Rattle.kapi_answer.specs.Answer.{answer, Answered}
 use Rattle.kapi_http.specs.Cut.{first}
 use Rattle.kapi_http.specs.declared.message.HttpFault.{HttpFault}
 use Rattle.kapi_http.specs.declared.message.HttpRequest.{HttpRequest}
 use Rattle.kapi_rbac_types.specs.declared.identity.Identity.{Identity}
 use Rattle.kapi_policy.specs.Objects.{PolicyObjects}
+use Rattle.kapi_store.specs.Faults.{StoreFault}
 use Rattle.kapi_store.specs.Plain.{Plain, PlainChange, written}
 use Rattle.kapi_stored_policy.specs.Reading.{policy_changes, policy_objects}
 use Rattle.kapi_core.specs.declared.event.Event.{Event}
@@ -116,13 +121,28 @@ unfoldable pub serve_step : ℕ → Option Link → Machine → Answer × Machin
 serve_step id None m = (told.Nothing, m)
 serve_step id (Some l) m = serve_item id l (first (unserved l)) m
 
+-- the changes of a turn were made; or, where no revision is left, none
+abbrev pub after_turn : List ℕ → Result (List PlainChange) StoreFault → Machine → Answer × Machine
+after_turn name (Ok changes) m = (told.Turned (record { revision = m.store.revision + 1; name = name; policy_changes = policy_changes changes }), changed changes m)
+after_turn name (Err fault) m = (told.Nothing, m)
+
+-- what is due is made, if anything is
+abbrev pub turned_by : Option Turn → Machine → Answer × Machine
+turned_by None m = (told.Nothing, m)
+turned_by (Some turn) m = after_turn turn.name (rewriting turn m.store) m
+
+-- the controller's next write: the aggregated cluster role of least name that differs from its union gets that as its rules; none where
+-- there is none, and none where no revision is left
+unfoldable pub turn_step : Machine → Answer × Machine
+turn_step m = turned_by (next (roles_in m.store.objects)) m
+
 -- what an event is answered, and the machine after it
 unfoldable pub step : Machine → Event → Answer × Machine
 step m (event.Open identity) = open_step identity m
 step m (event.Feed conn piece) = feed_step conn.0 piece (link_at conn.0 m) m
 step m (event.Serve conn) = serve_step conn.0 (link_at conn.0 m) m
 step m (event.Pump conn) = (told.Nothing, m)
-step m event.Turn = (told.Nothing, m)
+step m event.Turn = turn_step m
 step m (event.Close conn) = (told.Done, without_link conn.0 m)
 
 -- the answers to a list of events, and the machine after them

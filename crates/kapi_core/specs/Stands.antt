@@ -6,7 +6,14 @@ use Rattle.kapi_http.specs.declared.message.HttpRequest.{HttpRequest}
 use Rattle.kapi_http.specs.declared.inbox.FeedError.{FeedError}
 use Rattle.kapi_http.specs.declared.inbox.FeedError.TheVariants as fed
 use Rattle.kapi_rbac_types.specs.declared.identity.Identity.{Identity}
-use Rattle.kapi_store.specs.Plain.{StandsFor as StoreStands, plain_of}
+use Rattle.kapi_text.specs.Gives.{Fails}
+use Rattle.kapi_aggregation.specs.Marks.{Covers}
+use Rattle.kapi_aggregation.specs.Roles.{roles_in}
+use Rattle.kapi_answer.specs.Load.{fault_told, loads}
+use Rattle.kapi_answer.specs.declared.loading.LoadError.{LoadError}
+use Rattle.kapi_policy.specs.declared.change.PolicyChange.{PolicyChange}
+use Rattle.kapi_store.specs.Plain.{PlainChange, StandsFor as StoreStands, plain_of}
+use Rattle.kapi_stored_policy.specs.Reading.{policy_changes}
 use Rattle.std.specs.Map.{keys_of}
 use Rattle.kapi_core.specs.Opening.{opening_keys}
 use Rattle.kapi_policy.specs.Objects.{PolicyObjects}
@@ -20,7 +27,8 @@ use Rattle.kapi_core.specs.declared.event.OpenError.TheVariants as refused
 use Rattle.kapi_core.specs.declared.event.Answer.{Answer}
 use Rattle.kapi_core.specs.declared.event.Answer.TheVariants as told
 use Rattle.kapi_core.specs.declared.event.Output.{Output}
-use Rattle.kapi_core.specs.Machine.{Link, Machine, policy_of, step}
+use Rattle.kapi_core.specs.declared.event.Turned.{Turned}
+use Rattle.kapi_core.specs.Machine.{Link, Machine, changed, policy_of, step}
 use Rattle.kapi_core.specs.Running.{Running}
 
 -- so many whole requests stand in front of the rest
@@ -39,16 +47,18 @@ AreLinks [] (p ∷ ps) = ⊥
 AreLinks (e ∷ es) [] = ⊥
 AreLinks (e ∷ es) (p ∷ ps) = (e.0 ≡ p.0) × IsLink e.1 p.1 × AreLinks es ps
 
--- the store with its window, the policy, the connections and the next number of a machine that is data
-pub record StandsFor (kept : State) (policy : PolicyObjects) (es : List (ℕ × Connection)) (next : ℕ) (m : Machine) : Type 0 where
+-- the store with its window, the policy, the connections and the next number of a machine that is data; each of its aggregated cluster
+-- roles that differs from its union is marked
+pub record StandsFor (kept : State) (policy : PolicyObjects) (marks : List (List ℕ)) (es : List (ℕ × Connection)) (next : ℕ) (m : Machine) : Type 0 where
   pub store : StoreStands kept m.changes m.store
   pub policy_is : policy ≡ policy_of m
+  pub covers : Covers marks (roles_in m.store.objects)
   pub next_id : next ≡ m.next_id
   pub links : AreLinks es m.links
 
 -- the running machine stands for the one that is data
 abbrev pub Stands : Running → Machine → Type 0
-Stands core m = StandsFor core.store core.policy core.connections core.next_id m
+Stands core m = StandsFor core.store core.policy core.marks core.connections core.next_id m
 
 -- a step as the machine makes it, for every machine that was stood for
 abbrev pub Makes : Running → Running → Event → Answer → Type 0
@@ -94,10 +104,26 @@ abbrev pub Sends : Running → Running → Event → Result (Option Output) Allo
 Sends old new event (Ok output) = Makes old new event (sent_if output)
 Sends old new event (Err e) = RunsOut old new event
 
+-- what a turn tells, if it was one
+abbrev pub turned_if : Option Turned → Answer
+turned_if None = told.Nothing
+turned_if (Some turned) = told.Turned turned
+
+-- a turn answers what it tells
+abbrev pub Turns : Running → Running → Result (Option Turned) AllocError → Type 0
+Turns old new (Ok turned) = Makes old new event.Turn (turned_if turned)
+Turns old new (Err e) = RunsOut old new event.Turn
+
 -- a step answers what the machine does
 abbrev pub Steps : Running → Running → Event → Result Answer AllocError → Type 0
 Steps old new event (Ok answer) = Makes old new event answer
 Steps old new event (Err e) = RunsOut old new event
+
+-- an object is loaded: the machine is changed by its creation, and what that changed in the policy is told; or nothing is changed
+abbrev pub Loads : Running → Running → List ℕ → Result (List PolicyChange) LoadError → Type 0
+Loads old new text (Ok made) = (m : Machine) → Stands old m
+    → (changes : List PlainChange) × (loads m.store text ≡ Ok changes) × (made ≡ policy_changes changes) × Stands new (changed changes m)
+Loads old new text (Err e) = (m : Machine) → Stands old m → Fails (fault_told e) (loads m.store text) × Stands new m
 
 -- one step more was made, and its answer put at the end
 abbrev pub Pushes : Running → Running → Event → List Answer → List Answer → Type 0

@@ -24,11 +24,13 @@ pub enum Event {
     Close(ConnId),
 }
 
-/// A write of the controller: the revision that it took and the name of what it wrote.
+/// A write of the controller: the revision that it took, the name of what it wrote, and what that changed in the policy.
 #[derive(Debug, Drop)]
 pub struct Turned {
     pub revision: u64,
     pub name: Text,
+    /// One put.
+    pub policy_changes: Sequence<PolicyChange>,
 }
 
 /// What goes out on a connection, and what the step changed in the policy.

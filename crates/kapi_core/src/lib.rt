@@ -12,6 +12,7 @@ mod table;
 mod write;
 
 pub use event::{Answer, ConnId, Event, OpenError, Output, Outputs, Turned};
+pub use kapi_answer::LoadError;
 pub use machine::{Core, LAST_CONNECTION, OPEN_CONNECTIONS};
 pub use opening::LAST_FIRST;
 pub use resource::{Resource, required_resources};

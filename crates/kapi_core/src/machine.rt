@@ -1,11 +1,11 @@
-ghost use Rattle.std.specs.Prelude.{true, ◌≡◌, ◌≤◌, ◌&&◌, ◌++◌, List, nat_lt, nat_le, length, [], None, IfOk, IfSome, IsTrue, if◌then◌else◌};
+ghost use Rattle.std.specs.Prelude.{true, ◌≡◌, ◌≤◌, ◌&&◌, ◌++◌, List, nat_lt, nat_le, length, [], IfOk, IfSome, IsTrue, if◌then◌else◌};
 ghost use Rattle.std.specs.BTreeMap.{is_at};
 ghost use Rattle.std.specs.Map.{remove_entry};
 ghost use Rattle.std.specs.Ordering.{nat_cmp};
 ghost use Rattle.kapi_core.specs.Opening.{opening};
 ghost use Rattle.kapi_core.specs.Table.{fits};
 ghost use Rattle.kapi_core.specs.Stands.{HasOpened};
-ghost use Rattle.kapi_core.specs.Stands.{Opens, TakesIn, Sends, Makes, Keeps, Stands};
+ghost use Rattle.kapi_core.specs.Stands.{Opens, TakesIn, Sends, Makes, Loads, Stands, Turns};
 ghost use Rattle.kapi_core.specs.declared.event.Event.TheVariants as Event;
 ghost use Rattle.kapi_core.specs.declared.event.Answer.TheVariants as Answer;
 ghost use Rattle.kapi_policy.specs.Objects.{no_objects};
@@ -14,11 +14,12 @@ use crate::connection::Connection;
 use crate::event::{ConnId, OpenError, Output, Turned};
 use crate::links::{done_at, feed_at};
 use crate::opening::{LAST_FIRST, open_objects};
-use crate::write::make_write;
-use kapi_answer::{Prepared, answer};
+use crate::write::{load_object, make_turn, make_write};
+use kapi_aggregation::Tracker;
+use kapi_answer::{LoadError, Prepared, answer};
 use kapi_http::{FeedError, Inbox};
 use kapi_names::ResourceRow;
-use kapi_policy::Policy;
+use kapi_policy::{Policy, PolicyChange};
 use kapi_rbac_types::Identity;
 use kapi_store::Store;
 use kapi_text::{Memory, Sequence};
@@ -32,11 +33,13 @@ pub const OPEN_CONNECTIONS: usize = 256;
 /// The last number that a connection may have.
 pub const LAST_CONNECTION: u64 = 999_999_999_999_999_999;
 
-/// The machine: the objects, the roles and bindings among them as a policy that decides, and the open connections.
+/// The machine: the objects, the roles and bindings among them as a policy that decides, the marks of the cluster roles that may
+/// differ from their unions, and the open connections.
 pub struct Core<P: Policy + Drop> {
     alloc: Global,
     store: Store,
     policy: P,
+    tracker: Tracker,
     connections: BTreeMap<u64, Connection>,
     next_id: u64,
 }
@@ -48,6 +51,7 @@ impl<P: Policy + Drop> Drop for Core<P> {
             alloc: _,
             store: _,
             policy: _,
+            tracker: _,
             connections: _,
             next_id: _,
         } = self;
@@ -64,7 +68,7 @@ impl<P: Policy + Drop> Model for Core<P> {
 
     ghost coded = { Prim.hlevel (codes, held.the_row.coded, changed.the_row.coded) };
 
-    ghost view = { λ c. record { store = c.store; policy = P.content c.policy; connections = c.connections.entries; next_id = c.next_id } };
+    ghost view = { λ c. record { store = c.store; policy = P.content c.policy; marks = c.tracker; connections = c.connections.entries; next_id = c.next_id } };
 }
 
 impl<P: Policy + Drop> Core<P> {
@@ -82,14 +86,35 @@ impl<P: Policy + Drop> Core<P> {
         ensures opened { IfOk result (λ core. HasOpened core first) }
     {
         let mut policy = policy;
-        let store = open_objects(alloc, table, &mut policy, first)?;
+        let mut tracker = Tracker::new(alloc);
+        let store = open_objects(alloc, table, &mut policy, &mut tracker, first)?;
         Ok(Core {
             alloc,
             store,
             policy,
+            tracker,
             connections: BTreeMap::new(alloc),
             next_id: 0,
         })
+    }
+
+    /// Creates an object with which the server begins, before the first connection is opened: without authorization and the check
+    /// against escalation, at the place that its apiVersion, kind and namespace name. Answers what that changed in the policy.
+    ///
+    /// # Errors
+    /// `UnknownKind` where no such apiVersion and kind are served, `Object` where it is no JSON object, has a fault, or names no
+    /// namespace though its kind has one, `Store` where its namespace does not exist, its place is taken, or no revision is left.
+    /// After an error nothing has changed.
+    pub fn load(&mut self, text: &[u8]) -> Result<Sequence<PolicyChange>, LoadError>
+        ensures { Loads self.old self.new text.now result }
+    {
+        load_object(
+            self.alloc,
+            &mut self.policy,
+            &mut self.tracker,
+            &mut self.store,
+            text,
+        )
     }
 
     /// The roles and bindings among the objects, as a policy that decides. Takes no memory.
@@ -163,7 +188,13 @@ impl<P: Policy + Drop> Core<P> {
             &connection.identity,
             &item,
         )?;
-        let changes = make_write(self.alloc, &mut self.policy, &mut self.store, write)?;
+        let changes = make_write(
+            self.alloc,
+            &mut self.policy,
+            &mut self.tracker,
+            &mut self.store,
+            write,
+        )?;
         done_at(&mut self.connections, conn.0, &item);
         close_if(&mut self.connections, conn.0, reply.close);
         Ok(Some(Output {
@@ -181,12 +212,21 @@ impl<P: Policy + Drop> Core<P> {
         Ok(None)
     }
 
-    /// Makes the controller's next write. There is no controller yet, so there is none.
+    /// Makes the controller's next write: the aggregated cluster role of least name whose rules are not its union gets that as its
+    /// rules. None where there is no such role, or no revision is left.
     pub fn turn(&mut self) -> Result<Option<Turned>, Memory>
-        ensures none { IfOk result (λ turned. turned ≡ None) }
-        ensures keeps { Keeps self.old self.new }
+        ensures { Turns self.old self.new result }
     {
-        Ok(None)
+        let Some(turn) = self.tracker.next_turn(&self.store)? else {
+            return Ok(None);
+        };
+        make_turn(
+            self.alloc,
+            &mut self.policy,
+            &mut self.tracker,
+            &mut self.store,
+            turn,
+        )
     }
 
     /// Closes a connection; without effect on one that is not open.

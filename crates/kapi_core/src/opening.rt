@@ -12,6 +12,7 @@ ghost use Rattle.kapi_core.specs.Table.{row_of};
 use crate::resource::{Resource, cluster_role_bindings, cluster_roles, namespaces};
 use crate::write::make_write;
 use kapi_admission::{ObjectError, read_object};
+use kapi_aggregation::Tracker;
 use kapi_names::ResourceRow;
 use kapi_object::Object;
 use kapi_policy::Policy;
@@ -30,20 +31,22 @@ pub struct OpeningObject {
     body: &'static [u8],
 }
 
-/// A store with the opening objects at the five revisions after `first`, and the roles and bindings among them in an empty policy.
+/// A store with the opening objects at the five revisions after `first`, and the roles and bindings among them in an empty policy;
+/// the cluster roles are noted.
 #[tactic(auto, unfolding(crate::specs::Opening::opening))]
 pub fn open_objects<P: Policy>(
     alloc: Global,
     table: Sequence<ResourceRow>,
     policy: &mut P,
+    tracker: &mut Tracker,
     first: u64,
 ) -> Result<Store, Memory>
     requires first { first ≤ LAST_FIRST }
     requires empty { P.content policy.old ≡ no_objects }
-    ensures { IfOk result (λ s. Holds s (P.content policy.new) (opening table first)) }
+    ensures { IfOk result (λ s. Holds s (P.content policy.new) tracker.new (opening table first)) }
 {
     let mut store = Store::new(alloc, table, first)?;
-    create_all(alloc, policy, &mut store, &opening_objects())?;
+    create_all(alloc, policy, tracker, &mut store, &opening_objects())?;
     Ok(store)
 }
 
@@ -86,13 +89,14 @@ fn opening_objects() -> [OpeningObject; 5]
 fn create_all<P: Policy>(
     alloc: Global,
     policy: &mut P,
+    tracker: &mut Tracker,
     store: &mut Store,
     objects: &[OpeningObject],
 ) -> Result<(), Memory>
-    ensures { OnOk result ((m : Machine) → Holds store.old (P.content policy.old) m → Holds store.new (P.content policy.new) (fold with_opening m (map_of opening_data objects.now))) }
+    ensures { OnOk result ((m : Machine) → Holds store.old (P.content policy.old) tracker.old m → Holds store.new (P.content policy.new) tracker.new (fold with_opening m (map_of opening_data objects.now))) }
 {
     for object in objects {
-        create_opening(alloc, policy, store, object)?;
+        create_opening(alloc, policy, tracker, store, object)?;
     }
     Ok(())
 }
@@ -102,15 +106,16 @@ fn create_all<P: Policy>(
 fn create_opening<P: Policy>(
     alloc: Global,
     policy: &mut P,
+    tracker: &mut Tracker,
     store: &mut Store,
     opening: &OpeningObject,
 ) -> Result<(), Memory>
-    ensures { OnOk result ((m : Machine) → Holds store.old (P.content policy.old) m → Holds store.new (P.content policy.new) (with_opening m (opening_data opening.now))) }
+    ensures { OnOk result ((m : Machine) → Holds store.old (P.content policy.old) tracker.old m → Holds store.new (P.content policy.new) tracker.new (with_opening m (opening_data opening.now))) }
 {
     let row = opening.resource.row(alloc)?;
     let key = opening_key(alloc, opening)?;
     match read_object(alloc, &row, opening.body) {
-        Ok(object) => create_if(alloc, policy, store, key, object),
+        Ok(object) => create_if(alloc, policy, tracker, store, key, object),
         Err(ObjectError::Memory) => Err(AllocError),
         Err(_other) => Ok(()),
     }
@@ -120,15 +125,16 @@ fn create_opening<P: Policy>(
 fn create_if<P: Policy>(
     alloc: Global,
     policy: &mut P,
+    tracker: &mut Tracker,
     store: &mut Store,
     key: Key,
     object: Object,
 ) -> Result<(), Memory>
-    ensures { OnOk result ((m : Machine) → Holds store.old (P.content policy.old) m → Holds store.new (P.content policy.new) (written_if m (creation m.store key (tree_of object)))) }
+    ensures { OnOk result ((m : Machine) → Holds store.old (P.content policy.old) tracker.old m → Holds store.new (P.content policy.new) tracker.new (written_if m (creation m.store key (tree_of object)))) }
 {
     match store.create(key, object) {
         Ok(ready) => {
-            drop(make_write(alloc, policy, store, Some(ready))?);
+            drop(make_write(alloc, policy, tracker, store, Some(ready))?);
             Ok(())
         }
         Err(StoreError::Memory) => Err(AllocError),

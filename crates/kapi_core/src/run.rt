@@ -1,9 +1,9 @@
 ghost use Rattle.std.specs.Prelude.{◌≡◌, length, take, OnOk, OnErr, IsNone};
 ghost use Rattle.kapi_core.specs.Machine.{Machine, answers as answers_of, after};
-ghost use Rattle.kapi_core.specs.Stands.{Keeps, Pushes, Stands, Steps, sent_if};
+ghost use Rattle.kapi_core.specs.Stands.{Keeps, Pushes, Stands, Steps, sent_if, turned_if};
 ghost use Rattle.kapi_core.specs.declared.event.Event.TheVariants as Events;
 
-use crate::event::{Answer, ConnId, Event, OpenError, Output, Outputs};
+use crate::event::{Answer, ConnId, Event, OpenError, Output, Outputs, Turned};
 use crate::machine::Core;
 use kapi_http::FeedError;
 use kapi_policy::Policy;
@@ -21,7 +21,7 @@ impl<P: Policy + Drop> Core<P> {
             Event::Feed(conn, piece) => self.take_in(*conn, piece.as_slice()),
             Event::Serve(conn) => Ok(sent(self.serve(*conn)?)),
             Event::Pump(conn) => Ok(sent(self.pump(*conn)?)),
-            Event::Turn => self.make_turn(),
+            Event::Turn => Ok(turned(self.turn()?)),
             Event::Close(conn) => {
                 self.close(*conn);
                 Ok(Answer::Done)
@@ -51,15 +51,6 @@ impl<P: Policy + Drop> Core<P> {
             Err(FeedError::Full) => Ok(Answer::Full),
             Err(FeedError::Ended) => Ok(Answer::Ended),
             Err(FeedError::Memory) => Err(AllocError),
-        }
-    }
-
-    fn make_turn(&mut self) -> Result<Answer, Memory>
-        ensures { Steps self.old self.new Events.Turn result }
-    {
-        match self.turn()? {
-            Some(turned) => Ok(Answer::Turned(turned)),
-            None => Ok(Answer::Nothing),
         }
     }
 
@@ -102,6 +93,15 @@ fn sent(output: Option<Output>) -> Answer
 {
     match output {
         Some(output) => Answer::Sent(output),
+        None => Answer::Nothing,
+    }
+}
+
+fn turned(turned: Option<Turned>) -> Answer
+    ensures { result ≡ turned_if turned }
+{
+    match turned {
+        Some(turned) => Answer::Turned(turned),
         None => Answer::Nothing,
     }
 }

@@ -87,3 +87,73 @@ pub fn exchange(
         _ => Ok(Vec::new(alloc)),
     }
 }
+
+/// A request and its reply's code: the connection, the method, the target, the body, the code.
+pub type Step = (u64, &'static str, &'static str, &'static str, &'static str);
+
+/// A request with a body; that of a patch has its media type.
+pub fn request(alloc: Global, method: &str, target: &str, body: &str) -> Result<String, Memory> {
+    let length = body.len();
+    let media = if method == "PATCH" {
+        "Content-Type: application/merge-patch+json\r\n"
+    } else {
+        ""
+    };
+    format!(in alloc;
+        "{method} {target} HTTP/1.1\r\nHost: a\r\n{media}Content-Length: {length}\r\n\r\n{body}"
+    )
+}
+
+/// Whether a reply has the code.
+fn has_code(reply: &[u8], code: &str) -> bool {
+    let (_version, rest) = reply.split_at(reply.len().min(9));
+    rest.starts_with(code.as_bytes())
+}
+
+/// Makes requests in their order; answers the method, target and body of the first whose reply has another code.
+pub fn first_wrong(
+    alloc: Global,
+    core: &mut Core<PlainPolicy>,
+    steps: &[Step],
+) -> Result<Option<(&'static str, &'static str, &'static str)>, Memory> {
+    for (conn, method, target, body, code) in steps {
+        let text = request(alloc, method, target, body)?;
+        let reply = exchange(alloc, core, *conn, text.as_bytes())?;
+        if !has_code(reply.as_slice(), code) {
+            return Ok(Some((*method, *target, *body)));
+        }
+    }
+    Ok(None)
+}
+
+/// A request, its reply's code and a text that stands in the reply.
+pub type Told = (
+    u64,
+    &'static str,
+    &'static str,
+    &'static str,
+    &'static str,
+    &'static str,
+);
+
+/// Whether a text stands among bytes.
+fn holds(bytes: &[u8], text: &str) -> bool {
+    let wanted = text.as_bytes();
+    wanted.is_empty() || bytes.windows(wanted.len()).any(|window| window == wanted)
+}
+
+/// Makes requests in their order; answers the method, target and reply of the first whose reply has another code or not the text.
+pub fn first_untold(
+    alloc: Global,
+    core: &mut Core<PlainPolicy>,
+    steps: &[Told],
+) -> Result<Option<(&'static str, &'static str, &'static str)>, Memory> {
+    for (conn, method, target, body, code, text) in steps {
+        let bytes = request(alloc, method, target, body)?;
+        let reply = exchange(alloc, core, *conn, bytes.as_bytes())?;
+        if !has_code(reply.as_slice(), code) || !holds(reply.as_slice(), text) {
+            return Ok(Some((*method, *target, *body)));
+        }
+    }
+    Ok(None)
+}

@@ -10,7 +10,15 @@ mod faults;
 #[cfg(test)]
 mod limits;
 #[cfg(test)]
+mod loading;
+#[cfg(test)]
+mod options;
+#[cfg(test)]
+mod places;
+#[cfg(test)]
 mod requests;
 pub mod rows;
 #[cfg(test)]
 mod tests;
+#[cfg(test)]
+mod writes;

@@ -63,11 +63,12 @@ fn answers_503_where_revisions_are_used_up(rt: HostRuntime) -> Result<(), Fail> 
     assert!(rt;
         str::from_utf8(refused.as_slice())?.contains("\"message\":\"no revision is left\"")
     );
-    let get = b"GET /api/v1/namespaces/default HTTP/1.1\r\nHost: a\r\n\r\n";
+    let get =
+        b"GET /apis/rbac.authorization.k8s.io/v1/clusterrolebindings/system:basic-user HTTP/1.1\r\nHost: a\r\n\r\n";
     let found = exchange(alloc, &mut core, 0, get)?;
     assert!(rt;
         str::from_utf8(found.as_slice())?.contains(
-            "\"uid\":\"00000000-0000-4000-8000-fffffffffffb\""
+            "\"resourceVersion\":\"281474976710655\",\"uid\":\"00000000-0000-4000-8000-ffffffffffff\""
         )
     );
     Ok(())

@@ -37,7 +37,7 @@ pub const REQUESTS: &[(&str, &[u8], &[u8])] = &[
     ),
     (
         "a path of no resource",
-        b"GET /healthz HTTP/1.1\r\nHost: a\r\n\r\n",
+        b"GET /metrics HTTP/1.1\r\nHost: a\r\n\r\n",
         b"HTTP/1.1 404 Not Found\r\nContent-Type: application/json\r\nContent-Length: 128\r\n\r\n{\"apiVersion\":\"v1\",\"code\":404,\"kind\":\"Status\",\"message\":\"no such resource\",\"metadata\":{},\"reason\":\"NotFound\",\"status\":\"Failure\"}",
     ),
     (
@@ -53,12 +53,12 @@ pub const REQUESTS: &[(&str, &[u8], &[u8])] = &[
     (
         "over all namespaces",
         b"GET /api/v1/configmaps HTTP/1.1\r\nHost: a\r\n\r\n",
-        b"HTTP/1.1 404 Not Found\r\nContent-Type: application/json\r\nContent-Length: 160\r\n\r\n{\"apiVersion\":\"v1\",\"code\":404,\"details\":{\"kind\":\"configmaps\"},\"kind\":\"Status\",\"message\":\"no such resource\",\"metadata\":{},\"reason\":\"NotFound\",\"status\":\"Failure\"}",
+        b"HTTP/1.1 200 OK\r\nContent-Type: application/json\r\nContent-Length: 88\r\n\r\n{\"apiVersion\":\"v1\",\"items\":[],\"kind\":\"ConfigMapList\",\"metadata\":{\"resourceVersion\":\"5\"}}",
     ),
     (
         "a status",
         b"GET /api/v1/namespaces/default/status HTTP/1.1\r\nHost: a\r\n\r\n",
-        b"HTTP/1.1 404 Not Found\r\nContent-Type: application/json\r\nContent-Length: 177\r\n\r\n{\"apiVersion\":\"v1\",\"code\":404,\"details\":{\"kind\":\"namespaces\",\"name\":\"default\"},\"kind\":\"Status\",\"message\":\"no such resource\",\"metadata\":{},\"reason\":\"NotFound\",\"status\":\"Failure\"}",
+        b"HTTP/1.1 200 OK\r\nContent-Type: application/json\r\nContent-Length: 135\r\n\r\n{\"apiVersion\":\"v1\",\"kind\":\"Namespace\",\"metadata\":{\"name\":\"default\",\"resourceVersion\":\"1\",\"uid\":\"00000000-0000-4000-8000-000000000001\"}}",
     ),
     (
         "four parts",
@@ -68,12 +68,12 @@ pub const REQUESTS: &[(&str, &[u8], &[u8])] = &[
     (
         "an object by post",
         b"POST /api/v1/namespaces/default/configmaps/a HTTP/1.1\r\nHost: a\r\nContent-Type: application/json\r\nContent-Length: 2\r\n\r\n{}",
-        b"HTTP/1.1 405 Method Not Allowed\r\nContent-Type: application/json\r\nContent-Length: 186\r\nAllow: GET\r\n\r\n{\"apiVersion\":\"v1\",\"code\":405,\"details\":{\"kind\":\"configmaps\",\"name\":\"a\"},\"kind\":\"Status\",\"message\":\"POST is not served here\",\"metadata\":{},\"reason\":\"MethodNotAllowed\",\"status\":\"Failure\"}",
+        b"HTTP/1.1 405 Method Not Allowed\r\nContent-Type: application/json\r\nContent-Length: 186\r\nAllow: GET, PUT, PATCH, DELETE\r\n\r\n{\"apiVersion\":\"v1\",\"code\":405,\"details\":{\"kind\":\"configmaps\",\"name\":\"a\"},\"kind\":\"Status\",\"message\":\"POST is not served here\",\"metadata\":{},\"reason\":\"MethodNotAllowed\",\"status\":\"Failure\"}",
     ),
     (
         "a collection by get",
         b"GET /api/v1/namespaces/default/configmaps HTTP/1.1\r\nHost: a\r\n\r\n",
-        b"HTTP/1.1 405 Method Not Allowed\r\nContent-Type: application/json\r\nContent-Length: 174\r\nAllow: POST\r\n\r\n{\"apiVersion\":\"v1\",\"code\":405,\"details\":{\"kind\":\"configmaps\"},\"kind\":\"Status\",\"message\":\"GET is not served here\",\"metadata\":{},\"reason\":\"MethodNotAllowed\",\"status\":\"Failure\"}",
+        b"HTTP/1.1 200 OK\r\nContent-Type: application/json\r\nContent-Length: 88\r\n\r\n{\"apiVersion\":\"v1\",\"items\":[],\"kind\":\"ConfigMapList\",\"metadata\":{\"resourceVersion\":\"5\"}}",
     ),
     (
         "a content encoding",
@@ -82,8 +82,8 @@ pub const REQUESTS: &[(&str, &[u8], &[u8])] = &[
     ),
     (
         "the method before the media type",
-        b"GET /api/v1/namespaces/default/configmaps HTTP/1.1\r\nHost: a\r\nContent-Encoding: gzip\r\n\r\n",
-        b"HTTP/1.1 405 Method Not Allowed\r\nContent-Type: application/json\r\nContent-Length: 174\r\nAllow: POST\r\n\r\n{\"apiVersion\":\"v1\",\"code\":405,\"details\":{\"kind\":\"configmaps\"},\"kind\":\"Status\",\"message\":\"GET is not served here\",\"metadata\":{},\"reason\":\"MethodNotAllowed\",\"status\":\"Failure\"}",
+        b"PUT /api/v1/namespaces/default/configmaps HTTP/1.1\r\nHost: a\r\nContent-Encoding: gzip\r\n\r\n",
+        b"HTTP/1.1 405 Method Not Allowed\r\nContent-Type: application/json\r\nContent-Length: 174\r\nAllow: GET, POST, DELETE\r\n\r\n{\"apiVersion\":\"v1\",\"code\":405,\"details\":{\"kind\":\"configmaps\"},\"kind\":\"Status\",\"message\":\"PUT is not served here\",\"metadata\":{},\"reason\":\"MethodNotAllowed\",\"status\":\"Failure\"}",
     ),
     (
         "another media type",

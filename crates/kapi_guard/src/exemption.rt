@@ -60,7 +60,8 @@ fn role_point(alloc: Global, verb: &str, kind: RoleKind, name: &str) -> Result<P
     }))
 }
 
-fn plural(kind: RoleKind) -> &'static str
+/// The resource of the roles of a kind.
+pub fn plural(kind: RoleKind) -> &'static str
     ensures { result.now ≡ plural_of kind }
 {
     match kind {

@@ -13,5 +13,6 @@ mod tests;
 mod write;
 
 pub use check::check_write;
+pub use exemption::plural;
 pub use refused::Refused;
 pub use write::{PolicyWrite, Versions, WrittenObject};

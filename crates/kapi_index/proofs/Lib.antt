@@ -7,3 +7,5 @@ pub mod Steps
 pub mod Spread
 pub mod Placed
 pub mod Walks
+pub mod Copied
+pub mod Alone

@@ -1,9 +1,9 @@
 -- Whom the subjects of a binding mean, by their keys.
-use Rattle.std.proofs.Common.{◌≡◌, ℕ, ◌==◌, Bool, true, false, not, ◌&&◌, ◌||◌, if◌then◌else◌, List, [], ◌∷◌, ◌++◌, length, map, refl, sym, ap, ◌∙◌}
+use Rattle.std.proofs.Common.{◌≡◌, ℕ, ◌==◌, Bool, true, false, not, ◌&&◌, ◌||◌, if◌then◌else◌, List, [], ◌∷◌, ◌++◌, length, refl, sym, ap, ◌∙◌}
 use Rattle.std.specs.Prelude.{codes}
 use Rattle.std.proofs.lemmas.List.Folds.{list_any-append}
 use Rattle.std.specs.BTreeMap.Range.{is_from_start}
-use Rattle.std.specs.List.{filter, flat_map, list_any}
+use Rattle.std.specs.List.{filter, list_any}
 use Rattle.std.specs.Str.{bytes_eq}
 use Rattle.std.specs.declared.collections.Bound.{Bound as Start}
 use Rattle.kapi_policy.specs.Objects.{name_cmp}

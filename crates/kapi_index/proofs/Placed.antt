@@ -1,8 +1,8 @@
 -- Roles and bindings after one namespace was put anew.
-use Rattle.std.proofs.Common.{◌≡◌, ℕ, List, [], Option, Some, None, Result, Ok, Err, sym, ap, subst, string_bytes, ◌∙◌}
+use Rattle.std.proofs.Common.{◌≡◌, ℕ, List, Option, Some, None, Result, Ok, Err, sym, ap, subst, string_bytes, ◌∙◌}
 use Rattle.std.specs.BTreeMap.{insert_entry, is_at}
 use Rattle.std.specs.Cmp.Lexicographic.{slice_cmp}
-use Rattle.std.specs.Map.{keys_of, lookup, remove_entry, set_value}
+use Rattle.std.specs.Map.{lookup, remove_entry, set_value}
 use Rattle.std.specs.Ordering.{nat_cmp}
 use Rattle.std.specs.Prelude.{OnErr, OnOk}
 use Rattle.kapi_rbac_types.specs.declared.binding.RoleBinding.{RoleBinding}

@@ -1,11 +1,11 @@
 -- What all namespaces hold, after one of them was put anew.
-use Rattle.std.proofs.Common.{◌≡◌, ℕ, Bool, true, false, cond, if◌then◌else◌, List, [], ◌∷◌, ◌++◌, map, Option, Some, None, refl, sym, ap, subst, append-nil, append_assoc, string_bytes, ◌∙◌}
+use Rattle.std.proofs.Common.{◌≡◌, ℕ, Bool, true, false, cond, if◌then◌else◌, List, [], ◌∷◌, ◌++◌, map, Some, None, refl, sym, ap, subst, append-nil, string_bytes, ◌∙◌}
 use Rattle.std.specs.BTreeMap.{insert_entry, is_at}
 use Rattle.std.specs.Cmp.Lexicographic.{slice_cmp}
-use Rattle.std.specs.List.{AllByRecursion, filter, flat_map}
+use Rattle.std.specs.List.{AllByRecursion, filter}
 use Rattle.std.specs.List.Sorted.{IsStrictlySortedBy}
 use Rattle.std.specs.Map.{keys_of, lookup, remove_entry, set_value}
-use Rattle.std.specs.Ordering.{is_eq, match_ordering, nat_cmp, ordering_then}
+use Rattle.std.specs.Ordering.{is_eq, match_ordering, nat_cmp}
 use Rattle.std.specs.Str.{bytes_eq}
 use Rattle.std.specs.declared.string.String.{String}
 use Rattle.std.specs.declared.alloc.Global.{Global}
@@ -18,7 +18,7 @@ use Rattle.kapi_policy.specs.Objects.{name_cmp, place_cmp}
 use Rattle.kapi_policy.specs.declared.change.NamespacedName.{NamespacedName}
 use Rattle.kapi_policy.proofs.Sets.{put_keeps}
 use Rattle.kapi_index.proofs.Bools.{turned}
-use Rattle.kapi_index.proofs.Finds.{at_itself, name_total}
+use Rattle.kapi_index.proofs.Finds.{name_total}
 use Rattle.kapi_index.specs.Contents.{AreNamed, AreSpread, by_text, in_all, in_one, placed}
 use Rattle.kapi_index.specs.declared.spaces.Namespace.{Namespace}
 

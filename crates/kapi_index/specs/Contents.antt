@@ -50,6 +50,17 @@ pub record AreSpread (spaces : List (List ℕ × Namespace)) : Type 0 where
   pub sorted : IsStrictlySortedBy name_cmp (keys_of spaces)
   pub named : AreNamed spaces
 
+-- what is seen of a namespace
+pub record Part : Type 0 where
+  pub roles : List (List ℕ × Role)
+  pub bound : Scoped
+
+abbrev pub part : Namespace → Part
+part space = record { roles = space.roles.entries; bound = space.bound }
+
+abbrev pub parts : List (List ℕ × Namespace) → List (List ℕ × Part)
+parts spaces = map (λ s. (s.0, part s.1)) spaces
+
 -- a binding as one that counts cluster-wide
 abbrev pub cluster_wide : List ℕ × RoleBinding → List ℕ × ClusterRoleBinding
 cluster_wide e = (e.0, record { subjects = e.1.subjects; role_ref = e.1.role_ref })

@@ -2,3 +2,4 @@ pub mod Listed
 pub mod Prepared
 pub mod Scopes
 pub mod Contents
+pub mod NamesOf

@@ -11,7 +11,6 @@ use Rattle.std.specs.declared.collections.Bound.{Bound as Start}
 use Rattle.kapi_rbac_types.specs.Subjects.{names}
 use Rattle.kapi_rbac_types.specs.declared.binding.RoleBinding.{RoleBinding}
 use Rattle.kapi_rbac_types.specs.declared.identity.Identity.{Identity}
-use Rattle.kapi_names.specs.declared.subject.Subject.{Subject}
 use Rattle.kapi_policy.specs.Objects.{name_cmp}
 use Rattle.kapi_index.specs.Listed.{has_name, is_key, names_at}
 use Rattle.kapi_index.specs.Prepared.{groups_of, users_of}

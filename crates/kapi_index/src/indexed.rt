@@ -5,11 +5,15 @@ ghost use Rattle.kapi_policy.specs.Decided.{bindings_of, cluster_binding, cluste
 ghost use Rattle.kapi_policy.specs.Objects.{no_objects, with_object, without_object};
 ghost use Rattle.kapi_index.specs.Contents.{binding_at};
 
+use crate::roles::{PreparedClusterRole, PreparedRole};
 use crate::scope::Scope;
-use crate::spaces::{Spaces, put_binding, put_role, rules_at, scope_in, take_binding, take_role};
+use crate::spaces::{
+    Spaces, copy_spaces, put_binding, put_role, rules_at, scope_in, take_binding, take_role,
+};
 use crate::walk;
-use kapi_policy::{BindingKind, Decision, Policy, PolicyChange, PolicyKey, PolicyPut};
-use kapi_rbac_types::{ClusterRole, Identity, PolicyRule, RoleBinding, RoleRef};
+use kapi_compiled_rules::CompiledRules;
+use kapi_policy::{BindingKind, Decision, Policy, PolicyChange, PolicyKey, PolicyPut, copy_map};
+use kapi_rbac_types::{Identity, PolicyRule, RoleBinding, RoleRef};
 use kapi_rules::Point;
 use kapi_text::{Memory, Text, TryCopy};
 use std::alloc::Global;
@@ -20,7 +24,7 @@ use std::marker::Model;
 #[derive(Drop)]
 pub struct IndexedPolicy {
     alloc: Global,
-    cluster_roles: BTreeMap<Text, ClusterRole>,
+    cluster_roles: BTreeMap<Text, PreparedClusterRole>,
     cluster: Scope,
     spaces: Spaces,
 }
@@ -50,8 +54,25 @@ impl IndexedPolicy {
         }
     }
 
+    /// A policy of its own with the same roles and bindings.
+    #[tactic(auto, using(crate::proofs::Copied::same_roles, crate::proofs::Copied::same_bindings, crate::proofs::Copied::same_spread))]
+    pub fn copy(&self) -> Result<IndexedPolicy, Memory>
+        ensures { IfOk result (λ p. p ≡ self.now) }
+    {
+        let alloc = self.alloc;
+        let cluster_roles = copy_map(alloc, &self.cluster_roles)?;
+        let cluster = self.cluster.copy()?;
+        let spaces = copy_spaces(alloc, &self.spaces)?;
+        Ok(IndexedPolicy {
+            alloc,
+            cluster_roles,
+            cluster,
+            spaces,
+        })
+    }
+
     /// The rules of the role of a name in a namespace, if it is there.
-    pub(crate) fn rules_at(&self, name: &Text, namespace: &str) -> Option<&[PolicyRule]>
+    pub(crate) fn rules_at(&self, name: &Text, namespace: &str) -> Option<&CompiledRules>
         ensures { option_copied result ≡ rules_in (lookup (is_place namespace.now name.now) self.now.roles) }
     {
         rules_at(&self.spaces, name, namespace)
@@ -59,11 +80,11 @@ impl IndexedPolicy {
 
     /// The rules of the cluster role of a name, if it is there.
     #[tactic(auto, using(kapi_policy::proofs::Keys::lookup_name))]
-    pub(crate) fn rules_of_cluster_role(&self, name: &Text) -> Option<&[PolicyRule]>
+    pub(crate) fn rules_of_cluster_role(&self, name: &Text) -> Option<&CompiledRules>
         ensures { option_copied result ≡ cluster_rules_in (lookup (bytes_eq name.now) self.now.cluster_roles) }
     {
         match self.cluster_roles.get(name) {
-            Some(role) => Some(role.rules.as_slice()),
+            Some(role) => Some(role.rules()),
             None => None,
         }
     }
@@ -91,11 +112,12 @@ impl IndexedPolicy {
         let alloc = self.alloc;
         match object {
             PolicyPut::Role(place, role) => {
-                let role = role.copy(alloc)?;
+                let role = PreparedRole::of(alloc, role)?;
                 put_role(alloc, &mut self.spaces, place, role)
             }
             PolicyPut::ClusterRole(name, role) => {
-                let (name, role) = (name.copy(alloc)?, role.copy(alloc)?);
+                let name = name.copy(alloc)?;
+                let role = PreparedClusterRole::of(alloc, role)?;
                 drop(self.cluster_roles.insert(name, role)?);
                 Ok(())
             }

@@ -53,10 +53,26 @@ impl TryCopy for Keys {
     }
 }
 
+fn is_group(subject: &Subject) -> bool {
+    match subject {
+        Subject::Group(_) => true,
+        _ => false,
+    }
+}
+
+// How many subjects are groups, so that a list of them is as long as it must be.
+fn group_count(subjects: &[Subject]) -> usize {
+    subjects.iter().filter(|subject| is_group(subject)).count()
+}
+
+fn user_count(subjects: &[Subject]) -> usize {
+    subjects.iter().filter(|subject| !is_group(subject)).count()
+}
+
 fn users(alloc: Global, namespace: &str, subjects: &[Subject]) -> Result<Vec<Text>, Memory>
     ensures { IfOk result (λ v. v.items ≡ users_of namespace.now subjects.now) }
 {
-    let mut list = Vec::new(alloc);
+    let mut list = Vec::with_capacity(alloc, user_count(subjects))?;
     for subject in subjects {
         push_user(alloc, &mut list, namespace, subject)?;
     }
@@ -128,7 +144,7 @@ fn prefixed(alloc: Global, prefix: &str, first: &str, name: &str) -> Result<Text
 fn groups(alloc: Global, subjects: &[Subject]) -> Result<Vec<Text>, Memory>
     ensures { IfOk result (λ v. v.items ≡ groups_of subjects.now) }
 {
-    let mut list = Vec::new(alloc);
+    let mut list = Vec::with_capacity(alloc, group_count(subjects))?;
     for subject in subjects {
         push_group(alloc, &mut list, subject)?;
     }

@@ -3,7 +3,9 @@
 
 mod indexed;
 mod keys;
+mod name_tree;
 mod names;
+mod roles;
 mod scope;
 mod sets;
 mod spaces;

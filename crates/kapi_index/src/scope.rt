@@ -6,7 +6,7 @@ ghost use Rattle.std.specs.Map.{keys_of, lookup, remove_entry};
 ghost use Rattle.std.specs.Range.Bound.{bound_map};
 ghost use Rattle.kapi_policy.specs.Objects.{name_cmp};
 ghost use Rattle.kapi_index.specs.Listed.{Adds, AreOrdered, AreSame, HasAt, Removes};
-ghost use Rattle.kapi_index.specs.Scopes.{IsIndex, first_name as first_name_of, group_keys, keys_in, least, left as left_of, means, named_now, user_keys, with_name};
+ghost use Rattle.kapi_index.specs.Scopes.{IsIndex, bare, first_name as first_name_of, group_keys, keys_in, least, left as left_of, means, named_now, user_keys, with_name};
 
 use crate::keys::Keys;
 use crate::sets::{NameSets, add_all, first_under, remove_all};
@@ -192,6 +192,17 @@ fn take_bound(
     unindex(users, groups, &stale, &Keys::none(alloc), name);
 }
 
+// Puts copies of bindings into a scope that has none.
+fn put_copies(alloc: Global, copied: &mut Scope, bindings: &Bindings) -> Result<(), Memory>
+    requires { copied.old.bindings ≡ [] }
+    ensures { OnOk result (copied.new ≡ record copied.old { bindings = bare bindings.now.entries }) }
+{
+    for (name, bound) in bindings {
+        copied.put(name, bound.binding.copy(alloc)?)?;
+    }
+    Ok(())
+}
+
 // ---- the walk
 
 fn lesser<'a>(one: Option<&'a Text>, other: Option<&'a Text>) -> Option<&'a Text>
@@ -233,7 +244,7 @@ fn named<'a>(bindings: &'a Bindings, name: &'a Text) -> Option<(&'a Text, &'a Ro
 }
 
 impl Scope {
-    ghost use Rattle.std.specs.Prelude.{◌≡◌, ◌∷◌, [], true, IfSome, MatchOption, OnErr, OnOk};
+    ghost use Rattle.std.specs.Prelude.{◌≡◌, ◌∷◌, [], true, IfOk, IfSome, MatchOption, OnErr, OnOk};
     ghost use Rattle.std.specs.BTreeMap.{insert_entry, is_at};
     ghost use Rattle.std.specs.Map.{remove_entry};
     ghost use Rattle.std.specs.Range.Bound.{bound_map};
@@ -291,6 +302,15 @@ impl Scope {
             &mut self.groups,
             name,
         );
+    }
+
+    /// A scope of its own with the same bindings.
+    pub fn copy(&self) -> Result<Scope, Memory>
+        ensures { IfOk result (λ s. s ≡ self.now) }
+    {
+        let mut copied = Scope::new(self.alloc, self.namespace.copy(self.alloc)?);
+        put_copies(self.alloc, &mut copied, &self.bindings)?;
+        Ok(copied)
     }
 
     /// The first binding from there on that means the identity.

@@ -33,8 +33,8 @@ fn add_key(alloc: Global, sets: &mut NameSets, key: &Text, name: Text) -> Result
     ensures ordered { AreOrdered sets.old.entries → AreOrdered sets.new.entries }
 {
     let key = key.copy(alloc)?;
-    let mut names = NameSet::new(alloc);
-    names.insert(name)?;
+    let mut names = NameSet::new();
+    names.insert(alloc, name)?;
     drop(sets.insert(key, names)?);
     Ok(())
 }
@@ -47,7 +47,7 @@ fn add(alloc: Global, sets: &mut NameSets, key: &Text, name: &Text) -> Result<()
 {
     let name = name.copy(alloc)?;
     match sets.get_mut(key) {
-        Some(names) => names.insert(name),
+        Some(names) => names.insert(alloc, name),
         None => add_key(alloc, sets, key, name),
     }
 }

@@ -4,11 +4,13 @@ ghost use Rattle.std.specs.BTreeMap.{insert_entry, is_at};
 ghost use Rattle.std.specs.Map.{lookup, remove_entry};
 ghost use Rattle.kapi_policy.specs.Decided.{bindings_of, is_place, rules_in};
 ghost use Rattle.kapi_policy.specs.Objects.{name_cmp, place_cmp};
-ghost use Rattle.kapi_index.specs.Contents.{AreSpread, binding_at, bindings_in, by_text, in_all, roles_in};
+ghost use Rattle.kapi_index.specs.Contents.{AreSpread, binding_at, bindings_in, by_text, in_all, part, parts, roles_in};
 
+use crate::roles::PreparedRole;
 use crate::scope::Scope;
-use kapi_policy::{BindingKind, NamespacedName};
-use kapi_rbac_types::{PolicyRule, Role, RoleBinding};
+use kapi_compiled_rules::CompiledRules;
+use kapi_policy::{BindingKind, NamespacedName, copy_map};
+use kapi_rbac_types::RoleBinding;
 use kapi_text::{Memory, Text, TryCopy};
 use std::alloc::Global;
 use std::collections::BTreeMap;
@@ -16,7 +18,7 @@ use std::collections::BTreeMap;
 /// The roles and bindings of one namespace.
 #[derive(Drop)]
 pub struct Namespace {
-    pub roles: BTreeMap<Text, Role>,
+    pub roles: BTreeMap<Text, PreparedRole>,
     pub bound: Scope,
 }
 
@@ -35,7 +37,7 @@ fn empty(alloc: Global, name: &Text) -> Result<Namespace, Memory>
 }
 
 // A role in its namespace.
-fn insert_role(space: &mut Namespace, name: Text, role: Role) -> Result<(), Memory>
+fn insert_role(space: &mut Namespace, name: Text, role: PreparedRole) -> Result<(), Memory>
     ensures done { OnOk result (space.new.roles.entries ≡ insert_entry name_cmp space.old.roles.entries name role) }
     ensures kept { OnErr result (space.new.roles.entries ≡ space.old.roles.entries) }
     ensures bound { space.new.bound ≡ space.old.bound }
@@ -49,7 +51,7 @@ fn put_first_role(
     alloc: Global,
     spaces: &mut Spaces,
     place: &NamespacedName,
-    role: Role,
+    role: PreparedRole,
 ) -> Result<(), Memory>
     requires spread { AreSpread (by_text spaces.old.entries) }
     requires absent { lookup (is_at (name_cmp place.now.namespace)) (by_text spaces.old.entries) ≡ None }
@@ -71,7 +73,7 @@ pub fn put_role(
     alloc: Global,
     spaces: &mut Spaces,
     place: &NamespacedName,
-    role: Role,
+    role: PreparedRole,
 ) -> Result<(), Memory>
     requires spread { AreSpread (by_text spaces.old.entries) }
     ensures done { OnOk result (in_all roles_in (by_text spaces.new.entries) ≡ insert_entry place_cmp (in_all roles_in (by_text spaces.old.entries)) place.now role) }
@@ -153,17 +155,20 @@ pub fn take_binding(spaces: &mut Spaces, place: &NamespacedName)
 }
 
 // The rules of a role, if it is there.
-fn rules_named<'a>(roles: &'a BTreeMap<Text, Role>, name: &Text) -> Option<&'a [PolicyRule]>
+fn rules_named<'a>(
+    roles: &'a BTreeMap<Text, PreparedRole>,
+    name: &Text,
+) -> Option<&'a CompiledRules>
     ensures { option_copied result ≡ rules_in (lookup (is_at (name_cmp name.now)) roles.now.entries) }
 {
     match roles.get(name) {
-        Some(role) => Some(role.rules.as_slice()),
+        Some(role) => Some(role.rules()),
         None => None,
     }
 }
 
 /// The rules of the role of a name in a namespace, if it is there.
-pub fn rules_at<'a>(spaces: &'a Spaces, name: &Text, namespace: &str) -> Option<&'a [PolicyRule]>
+pub fn rules_at<'a>(spaces: &'a Spaces, name: &Text, namespace: &str) -> Option<&'a CompiledRules>
     requires spread { AreSpread (by_text spaces.now.entries) }
     ensures { option_copied result ≡ rules_in (lookup (is_place namespace.now name.now) (in_all roles_in (by_text spaces.now.entries))) }
 {
@@ -182,4 +187,25 @@ pub fn scope_in<'a>(spaces: &'a Spaces, namespace: &str) -> Option<&'a Scope>
         Some(space) => Some(&space.bound),
         None => None,
     }
+}
+
+fn copy_space(alloc: Global, space: &Namespace) -> Result<Namespace, Memory>
+    ensures { IfOk result (λ s. part s ≡ part space.now) }
+{
+    let roles = copy_map(alloc, &space.roles)?;
+    let bound = space.bound.copy()?;
+    Ok(Namespace { roles, bound })
+}
+
+/// Namespaces of their own with the same roles and bindings.
+pub fn copy_spaces(alloc: Global, spaces: &Spaces) -> Result<Spaces, Memory>
+    requires spread { AreSpread (by_text spaces.now.entries) }
+    ensures { IfOk result (λ s. parts (by_text s.entries) ≡ parts (by_text spaces.now.entries)) }
+{
+    let mut copied = BTreeMap::new(alloc);
+    for (name, space) in spaces {
+        let key = String::from_str(alloc, name.as_str())?;
+        drop(copied.insert(key, copy_space(alloc, space)?)?);
+    }
+    Ok(copied)
 }

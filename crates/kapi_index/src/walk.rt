@@ -1,14 +1,17 @@
 //! The walk over the bindings that mean an identity.
 ghost use Rattle.std.specs.Prelude.{◌≡◌, ◌++◌, [], map, IfOk, OnOk, option_copied};
-ghost use Rattle.std.specs.List.{flat_map};
+ghost use Rattle.std.specs.List.{flat_map, position};
 ghost use Rattle.std.specs.Option.{unwrap_or};
-ghost use Rattle.kapi_policy.specs.Decided.{bindings_of, cluster_binding, decided, first_some, given, granted, granted_by, held as held_by, rules_of, rules_of_kind};
+ghost use Rattle.kapi_policy.specs.Decided.{bindings_of, cluster_binding, decided, first_some, given, granted, granted_at, granted_by, held as held_by, rules_of, rules_of_kind};
 ghost use Rattle.kapi_policy.specs.Views.{binding_of, decision_of, granted_if};
+ghost use Rattle.kapi_rules.specs.Rules.{allows as rule_allows};
+ghost use Rattle.kapi_compiled_rules.specs.Points.{point_of};
 ghost use Rattle.kapi_index.specs.Contents.{binding_at, grant_of};
 
 use crate::indexed::IndexedPolicy;
 use crate::scope::Scope;
-use kapi_policy::{Binding, BindingKind, Decision, Grant, grant_in, push_rules};
+use kapi_compiled_rules::{Asked, CompiledRules, ask};
+use kapi_policy::{Binding, BindingKind, Decision, Grant, push_rules};
 use kapi_rbac_types::{Identity, PolicyRule, RoleBinding, RoleKind, RoleRef};
 use kapi_rules::Point;
 use kapi_text::{Memory, Text};
@@ -22,7 +25,7 @@ fn rules_of_role<'a>(
     policy: &'a IndexedPolicy,
     name: &Text,
     namespace: &str,
-) -> Option<&'a [PolicyRule]>
+) -> Option<&'a CompiledRules>
     ensures { option_copied result ≡ rules_of_kind policy.now RoleKind.Role name.now namespace.now }
 {
     if namespace.is_empty() {
@@ -32,8 +35,22 @@ fn rules_of_role<'a>(
     }
 }
 
-/// The rules of the role that a binding in the namespace refers to, if it exists.
+// The rules of the role that a binding in the namespace refers to, if it exists.
 #[tactic(auto, unfolding(kapi_policy::specs::Decided::rules_of))]
+fn compiled_rules<'a>(
+    policy: &'a IndexedPolicy,
+    role: &RoleRef,
+    namespace: &str,
+) -> Option<&'a CompiledRules>
+    ensures { option_copied result ≡ rules_of policy.now role.now namespace.now }
+{
+    match role.kind {
+        RoleKind::Role => rules_of_role(policy, &role.name, namespace),
+        RoleKind::ClusterRole => policy.rules_of_cluster_role(&role.name),
+    }
+}
+
+/// The rules of the role that a binding in the namespace refers to, as they are written.
 pub fn role_rules<'a>(
     policy: &'a IndexedPolicy,
     role: &RoleRef,
@@ -41,9 +58,9 @@ pub fn role_rules<'a>(
 ) -> Option<&'a [PolicyRule]>
     ensures { option_copied result ≡ rules_of policy.now role.now namespace.now }
 {
-    match role.kind {
-        RoleKind::Role => rules_of_role(policy, &role.name, namespace),
-        RoleKind::ClusterRole => policy.rules_of_cluster_role(&role.name),
+    match compiled_rules(policy, role, namespace) {
+        Some(rules) => Some(rules.as_slice()),
+        None => None,
     }
 }
 
@@ -66,16 +83,35 @@ fn binding_in<'a>(
     }
 }
 
-// The grant of a binding by the first rule of its role that allows the point.
+// The grant of a binding by the first of some rules that allows what is asked.
+fn grant_in<'a>(
+    binding: &Binding<'a>,
+    rules: &CompiledRules,
+    asked: &Asked<'_>,
+) -> Option<Grant<'a>>
+    ensures { granted_if result ≡ granted_at (binding_of binding.now) (position (λ rule. rule_allows rule (point_of asked.now)) rules.now) }
+{
+    match rules.first_allowing(asked) {
+        Some(rule) => Some(Grant {
+            kind: binding.kind,
+            binding: binding.name,
+            role: binding.role,
+            rule,
+        }),
+        None => None,
+    }
+}
+
+// The grant of a binding by the first rule of its role that allows what is asked.
 fn grant_by<'a>(
     policy: &'a IndexedPolicy,
     binding: &Binding<'a>,
-    point: &Point,
+    asked: &Asked<'_>,
 ) -> Option<Grant<'a>>
-    ensures { granted_if result ≡ grant_of policy.now point.now (binding_of binding.now) }
+    ensures { granted_if result ≡ grant_of policy.now (point_of asked.now) (binding_of binding.now) }
 {
-    match role_rules(policy, binding.role, binding.namespace) {
-        Some(rules) => grant_in(binding, rules, point),
+    match compiled_rules(policy, binding.role, binding.namespace) {
+        Some(rules) => grant_in(binding, rules, asked),
         None => None,
     }
 }
@@ -102,13 +138,13 @@ fn scope_grant<'a>(
     kind: BindingKind,
     scope: &'a Scope,
     identity: &Identity,
-    point: &Point,
+    asked: &Asked<'_>,
 ) -> Option<Grant<'a>>
-    ensures { granted_if result ≡ first_some (granted_by policy.now identity.now point.now) (map (binding_at kind scope.now.namespace) scope.now.bindings) }
+    ensures { granted_if result ≡ first_some (granted_by policy.now identity.now (point_of asked.now)) (map (binding_at kind scope.now.namespace) scope.now.bindings) }
 {
     let mut start = Bound::Unbounded;
     while let Some((name, binding)) = scope.next(identity, start) {
-        let found = grant_by(policy, &binding_in(kind, scope, name, binding), point);
+        let found = grant_by(policy, &binding_in(kind, scope, name, binding), asked);
         if found.is_some() {
             return found;
         }
@@ -140,16 +176,16 @@ fn push_scope(
 fn cluster_grant<'a>(
     policy: &'a IndexedPolicy,
     identity: &Identity,
-    point: &Point,
+    asked: &Asked<'_>,
 ) -> Option<Grant<'a>>
-    ensures { granted_if result ≡ first_some (granted_by policy.now identity.now point.now) (map cluster_binding policy.now.cluster_role_bindings) }
+    ensures { granted_if result ≡ first_some (granted_by policy.now identity.now (point_of asked.now)) (map cluster_binding policy.now.cluster_role_bindings) }
 {
     scope_grant(
         policy,
         BindingKind::ClusterRoleBinding,
         policy.cluster(),
         identity,
-        point,
+        asked,
     )
 }
 
@@ -157,31 +193,31 @@ fn namespace_grant<'a>(
     policy: &'a IndexedPolicy,
     identity: &Identity,
     namespace: &str,
-    point: &Point,
+    asked: &Asked<'_>,
 ) -> Option<Grant<'a>>
-    ensures { granted_if result ≡ first_some (granted_by policy.now identity.now point.now) (bindings_of namespace.now policy.now.role_bindings) }
+    ensures { granted_if result ≡ first_some (granted_by policy.now identity.now (point_of asked.now)) (bindings_of namespace.now policy.now.role_bindings) }
 {
     match policy.scope_in(namespace) {
-        Some(scope) => scope_grant(policy, BindingKind::RoleBinding, scope, identity, point),
+        Some(scope) => scope_grant(policy, BindingKind::RoleBinding, scope, identity, asked),
         None => None,
     }
 }
 
-// The first rule that allows the point, among those that the identity holds in the namespace.
+// The first rule that allows what is asked, among those that the identity holds in the namespace.
 #[tactic(auto, unfolding(kapi_policy::specs::Decided::granted, kapi_policy::specs::Decided::bindings_in), using(kapi_policy::proofs::Firsts::first_some_append))]
 fn grant<'a>(
     policy: &'a IndexedPolicy,
     identity: &Identity,
     namespace: &str,
-    point: &Point,
+    asked: &Asked<'_>,
 ) -> Option<Grant<'a>>
-    ensures { granted_if result ≡ granted policy.now identity.now namespace.now point.now }
+    ensures { granted_if result ≡ granted policy.now identity.now namespace.now (point_of asked.now) }
 {
-    let found = cluster_grant(policy, identity, point);
+    let found = cluster_grant(policy, identity, asked);
     if found.is_some() || namespace.is_empty() {
         return found;
     }
-    namespace_grant(policy, identity, namespace, point)
+    namespace_grant(policy, identity, namespace, asked)
 }
 
 /// Whether the identity may do this in the namespace, and the first rule by which he may. Takes no memory.
@@ -197,7 +233,7 @@ pub fn decide<'a>(
     if identity.is_master() {
         return Decision::Masters;
     }
-    match grant(policy, identity, namespace, point) {
+    match grant(policy, identity, namespace, &ask(point)) {
         Some(grant) => Decision::Allowed(grant),
         None => Decision::Denied,
     }

@@ -12,6 +12,8 @@ pub mod role_ref;
 pub mod row;
 pub mod selector;
 pub mod selector_error;
+#[cfg(test)]
+mod selector_tests;
 mod selector_text;
 mod selector_token;
 mod selector_tokens;

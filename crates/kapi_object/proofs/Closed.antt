@@ -8,7 +8,7 @@ use Rattle.serde_json.specs.Data.{Data, null, boolean, number, string, array, ob
 use Rattle.serde_json.specs.Find.{get, get_member}
 use Rattle.kapi_object.specs.Contents.{put_text, put_items, text_value, list_value, members_value, put_texts, write_items, rule_tree, rules_of, requirement_tree, selector_tree, aggregation_tree, aggregation_in, put_named, of_rbac_group, subject_tree, subjects_of, role_ref_tree, role_ref_of, put_labels, role_content, cluster_role_content, binding_content, content_of}
 use Rattle.kapi_names.specs.Kinds.{operator_text, rbac_group, role_kind_text, subject_kind_text}
-use Rattle.kapi_object.specs.Tree.{is_empty, is_empty_object, unless_null, members_or_none, metadata_of, in_metadata, with_text, put_if, with_content, without, without_member}
+use Rattle.kapi_object.specs.Tree.{is_empty, is_empty_object, unless_null, members_or_none, metadata_of, in_metadata, with_text, put_if, with_content, with_member_of, without, without_member}
 use Rattle.kapi_names.specs.declared.aggregation_rule.AggregationRule.{AggregationRule}
 use Rattle.kapi_names.specs.declared.kinds.SubjectKind.{SubjectKind}
 use Rattle.kapi_names.specs.declared.kinds.SubjectKind.TheVariants as kind
@@ -92,6 +92,10 @@ module _ {P : Data → Type 0} {I : Items → Type 0} {M : Members → Type 0} (
   pub put_if_holds : (k : List ℕ) (o : Option Data) (ms : Members) → IfThere o → M ms → M (put_if k o ms)
   put_if_holds k None ms ho hm = hm
   put_if_holds k (Some d) ms ho hm = c.with_member k d ms ho hm
+
+  pub with_member_of_holds : (k : List ℕ) (other d : Data) → P other → P d → P (with_member_of k other d)
+  with_member_of_holds k other d ho h =
+      c.members _ (put_if_holds k (get k other) (without k (members_or_none (Some d))) (get_holds k other ho) (c.without_one k (members_or_none (Some d)) (members_hold d h)))
 
   pub with_content_holds : (content : Members) (d : Data) → M content → P d → P (with_content content d)
   unfolding with_content

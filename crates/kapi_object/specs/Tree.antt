@@ -73,6 +73,10 @@ abbrev pub without_member : List ℕ → Data → Data
 without_member key (object ms) = object (without key ms)
 without_member key d = d
 
+-- the tree with another's value at a key, and without the key where the other has none; anything but an object has no other members
+abbrev pub with_member_of : List ℕ → Data → Data → Data
+with_member_of key other tree = object (put_if key (get key other) (without key (members_or_none (Some tree))))
+
 -- a list without elements
 abbrev pub is_empty : Items → Bool
 is_empty no_items = true

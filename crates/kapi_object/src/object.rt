@@ -4,7 +4,7 @@ ghost use Rattle.serde_json.specs.Written.{has_float};
 ghost use Rattle.kapi_object.specs.Order.{is_ordered};
 
 use crate::given::{Given, given_in};
-use crate::tree::{in_metadata, with_content, with_text, without_member};
+use crate::tree::{in_metadata, with_content, with_member_of, with_text, without_member};
 use kapi_names::Labels;
 use kapi_text::Memory;
 use serde_json::{Map, Value};
@@ -94,6 +94,24 @@ impl Object {
         Object {
             tree: without_member(self.tree, "status"),
         }
+    }
+
+    /// The object with another's status, and without one where the other has none (Kubernetes API conventions, 'Spec and Status').
+    pub fn with_status_of(self, alloc: Global, other: &Object) -> Result<Object, Memory>
+        ensures { IfOk result (λ o. tree_of o ≡ trees.with_member_of (codes "status") (tree_of other.now) (tree_of self)) }
+    {
+        Ok(Object {
+            tree: with_member_of(alloc, self.tree, "status", &other.tree)?,
+        })
+    }
+
+    /// The object with a name: with that text as `metadata.name`.
+    pub fn named(self, alloc: Global, name: &str) -> Result<Object, Memory>
+        ensures { IfOk result (λ o. tree_of o ≡ trees.with_text (codes "name") name.now (tree_of self)) }
+    {
+        Ok(Object {
+            tree: with_text(alloc, self.tree, "name", name)?,
+        })
     }
 
     /// The object in a namespace: with that text as `metadata.namespace`.

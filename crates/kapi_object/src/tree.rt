@@ -128,3 +128,27 @@ pub fn without_member(tree: Value, key: &str) -> Value
         other => other,
     }
 }
+
+/// The tree with another's value at a key, and without the key where the other has none.
+pub fn with_member_of(alloc: Global, tree: Value, key: &str, other: &Value) -> Result<Value, Memory>
+    requires { is_ordered (view tree) ≡ true }
+    ensures { IfOk result (λ v. view v ≡ trees.with_member_of key.now (view other.now) (view tree)) }
+{
+    let mut members = members_without(alloc, tree, key);
+    put_from(alloc, &mut members, other, key)?;
+    Ok(Value::Object(members))
+}
+
+/// The members of an object without the one of a key; none of anything else.
+fn members_without(alloc: Global, tree: Value, key: &str) -> Map<String, Value>
+    requires { is_ordered (view tree) ≡ true }
+    ensures { members_view result.entries ≡ without key.now (members_or_none (Some (view tree))) }
+{
+    match tree {
+        Value::Object(mut members) => {
+            remove(&mut members, key);
+            members
+        }
+        _other => Map::new(alloc),
+    }
+}

@@ -9,11 +9,12 @@ use Rattle.kapi_http.specs.declared.message.StatusCode.{StatusCode}
 use Rattle.kapi_http.specs.declared.message.StatusCode.TheVariants as status
 use Rattle.kapi_object.proofs.NoFloats.{put_has_no_float}
 use Rattle.kapi_names.specs.declared.fault.FieldFault.{FieldFault}
+use Rattle.kapi_rules.specs.declared.atom.Atom.{Atom}
 use Rattle.kapi_reply.specs.declared.refusal.Refusal.{Refusal}
 use Rattle.kapi_reply.specs.declared.refusal.Refusal.TheVariants as refusal
 use Rattle.kapi_reply.specs.declared.refusal.Sought.TheVariants as sought
 use Rattle.kapi_reply.specs.Refusals.{Asked, failure_of, fault_failure, not_found}
-use Rattle.kapi_reply.specs.Status.{Subject, Failed, with_some_text, with_causes, with_subject, with_some_object, details_of, status_of, invalid_field}
+use Rattle.kapi_reply.specs.Status.{Subject, Failed, with_some_text, with_causes, with_subject, with_some_object, deleted_status, details_of, status_of, invalid_field, missing_atom}
 
 -- one of two lists of members without floats
 either_way : (b : Bool) (ms ns : Members) → members_have_float ms ≡ false → members_have_float ns ≡ false → members_have_float (cond b ms ns) ≡ false
@@ -39,20 +40,29 @@ fields : (fs : List FieldFault) → items_have_float (items_of (map invalid_fiel
 fields [] = refl
 fields (f ∷ fs) = fields fs
 
+atoms_in : (atoms : List Atom) → items_have_float (items_of (map missing_atom atoms)) ≡ false
+atoms_in [] = refl
+atoms_in (a ∷ atoms) = atoms_in atoms
+
 -- the causes of a refusal
 pub refusal_whole : (asked : Asked) (name : List ℕ) (r : Refusal) → items_have_float (items_of (failure_of asked name r).causes) ≡ false
 unfolding failure_of not_found
 refusal_whole asked name (refusal.BadRequest w) = refl
 refusal_whole asked name refusal.Forbidden = refl
-refusal_whole asked name refusal.Escalation = refl
+refusal_whole asked name (refusal.Escalation atoms) = atoms_in atoms
 refusal_whole asked name refusal.NoSuchResource = refl
 refusal_whole asked name (refusal.NotFound sought.Object) = refl
 refusal_whole asked name (refusal.NotFound sought.Namespace) = refl
+refusal_whole asked name (refusal.RoleNotFound role) = refl
 refusal_whole asked name (refusal.MethodNotAllowed p) = refl
 refusal_whole asked name refusal.UnsupportedMediaType = refl
 refusal_whole asked name refusal.AlreadyExists = refl
+refusal_whole asked name (refusal.Conflict version) = refl
 refusal_whole asked name (refusal.Invalid faults) = fields faults
+refusal_whole asked name refusal.RoleRefChanged = refl
+refusal_whole asked name refusal.NamespaceNotEmpty = refl
 refusal_whole asked name refusal.NoRevisionLeft = refl
+refusal_whole asked name (refusal.NotYetReached revisions) = refl
 
 -- the causes of bytes that are no request: there is none
 pub fault_whole : (code : StatusCode) (w : List ℕ) → items_have_float (items_of (fault_failure code w).causes) ≡ false
@@ -61,6 +71,21 @@ fault_whole status.BadRequest w = refl
 fault_whole status.MethodNotAllowed w = refl
 fault_whole status.ContentTooLarge w = refl
 fault_whole code w = refl
+
+-- the Status object of a deletion
+pub deleted_whole : (s : Subject) (uid : List ℕ) → has_float (deleted_status s uid) ≡ false
+unfolding deleted_status
+deleted_whole s uid =
+    let version = put (codes "apiVersion") (string (codes "v1")) no_members in
+    let subject = with_subject (Some s) no_members in
+    let details = put (codes "uid") (string uid) subject in
+    let detailed = put (codes "details") (object details) version in
+    let kinded = put (codes "kind") (string (codes "Status")) detailed in
+    put_has_no_float (codes "status") (string (codes "Success")) (put (codes "metadata") (object no_members) kinded) refl
+    (put_has_no_float (codes "metadata") (object no_members) kinded refl
+    (put_has_no_float (codes "kind") (string (codes "Status")) detailed refl
+    (put_has_no_float (codes "details") (object details) version (put_has_no_float (codes "uid") (string uid) subject refl (about (Some s) no_members refl))
+    (put_has_no_float (codes "apiVersion") (string (codes "v1")) no_members refl refl))))
 
 -- the members of a Status object, one after the other
 abbrev coded : Failed → Members

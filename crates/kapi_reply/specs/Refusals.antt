@@ -1,5 +1,6 @@
 -- The table of refusals: of each the whole failure that is told (Kubernetes API conventions, 'HTTP Status codes').
 use Rattle.std.specs.Prelude.{ℕ, ◌==◌, if◌then◌else◌, List, [], ◌∷◌, ◌++◌, length, map, codes, Option, Some, None}
+use Rattle.std.specs.Fmt.{decimal}
 use Rattle.std.specs.Option.{unwrap_or}
 use Rattle.serde_json.specs.Data.{Data}
 use Rattle.kapi_http.specs.Message.{method_text, status_phrase}
@@ -14,14 +15,16 @@ use Rattle.kapi_reply.specs.declared.refusal.BadWord.{BadWord}
 use Rattle.kapi_reply.specs.declared.refusal.BadWord.TheVariants as word
 use Rattle.kapi_reply.specs.declared.refusal.CheckError.{CheckError}
 use Rattle.kapi_reply.specs.declared.refusal.CheckError.TheVariants as error
+use Rattle.kapi_reply.specs.declared.refusal.NamedRole.{NamedRole}
 use Rattle.kapi_reply.specs.declared.refusal.Place.{Place}
 use Rattle.kapi_reply.specs.declared.refusal.Place.TheVariants as place
 use Rattle.kapi_reply.specs.declared.refusal.Refusal.{Refusal}
 use Rattle.kapi_reply.specs.declared.refusal.Refusal.TheVariants as refusal
 use Rattle.kapi_reply.specs.declared.refusal.Refused.{Refused}
+use Rattle.kapi_reply.specs.declared.refusal.Revisions.{Revisions}
 use Rattle.kapi_reply.specs.declared.refusal.Sought.{Sought}
 use Rattle.kapi_reply.specs.declared.refusal.Sought.TheVariants as sought
-use Rattle.kapi_reply.specs.Status.{Failed, Subject, invalid_field, missing_permission}
+use Rattle.kapi_reply.specs.Status.{Failed, Subject, changed_role_ref, invalid_field, missing_atom, missing_permission}
 
 -- refused for what the path names
 abbrev pub asked_for : Refusal → Refused
@@ -71,12 +74,18 @@ word_text word.Json = codes "json"
 word_text word.Float = codes "float"
 word_text word.Kind = codes "kind"
 word_text word.Version = codes "version"
+word_text word.Name = codes "name"
 word_text word.Namespace = codes "namespace"
+word_text word.Option = codes "option"
 
 -- the methods that are served at a place
 unfoldable pub methods_at : Place → List Method
-methods_at place.Collection = method.Post ∷ []
-methods_at place.Object = method.Get ∷ []
+methods_at place.Collection = method.Get ∷ method.Post ∷ method.Delete ∷ []
+methods_at place.Namespaces = method.Get ∷ method.Post ∷ []
+methods_at place.AllNamespaces = method.Get ∷ []
+methods_at place.Object = method.Get ∷ method.Put ∷ method.Patch ∷ method.Delete ∷ []
+methods_at place.Status = method.Get ∷ method.Put ∷ method.Patch ∷ []
+methods_at place.Health = method.Get ∷ []
 
 -- where a denial holds
 unfoldable pub denied_text : List ℕ → List ℕ → List ℕ
@@ -112,6 +121,20 @@ not_found asked name sought.Object = failed status.NotFound (codes "NotFound") (
 not_found asked name sought.Namespace =
     failed status.NotFound (codes "NotFound") (codes "namespaces " ++ asked.attributes.namespace ++ codes " not found")
 
+-- the failure where the role is not there that a binding refers to
+abbrev pub role_not_found : NamedRole → Failed
+role_not_found role = failed status.NotFound (codes "NotFound") (role.resource ++ codes " " ++ role.name ++ codes " not found")
+
+-- the failure of a body with faults, each of them a cause
+abbrev pub invalid : Asked → List ℕ → List Data → Failed
+invalid asked name causes =
+    record (failed status.UnprocessableContent (codes "Invalid") (said_of asked name (codes " is invalid"))) { causes = causes }
+
+-- the failure where a revision is asked for that is not reached yet (Kubernetes, 'Kubernetes API Concepts', 'Resource versions')
+abbrev pub not_yet_reached : Revisions → Failed
+not_yet_reached r =
+    failed status.GatewayTimeout (codes "Timeout") (codes "resourceVersion " ++ (decimal r.asked ++ (codes " is above the current " ++ decimal r.current)))
+
 -- the failure that is told of a refusal about the object of that name
 unfoldable pub failure_of : Asked → List ℕ → Refusal → Failed
 failure_of asked name (refusal.BadRequest w) = bad_request (word_text w)
@@ -119,17 +142,24 @@ failure_of asked name refusal.Forbidden =
     record (failed status.Forbidden (codes "Forbidden") (denied_text asked.user asked.attributes.namespace)) {
       causes = missing_permission asked.attributes.point ∷ [];
     }
-failure_of asked name refusal.Escalation =
-    failed status.Forbidden (codes "Forbidden") (escalation_text asked.user asked.attributes.namespace)
+failure_of asked name (refusal.Escalation atoms) =
+    record (failed status.Forbidden (codes "Forbidden") (escalation_text asked.user asked.attributes.namespace)) {
+      causes = map missing_atom atoms;
+    }
 failure_of asked name refusal.NoSuchResource = failed status.NotFound (codes "NotFound") (codes "no such resource")
 failure_of asked name (refusal.NotFound what) = not_found asked name what
+failure_of asked name (refusal.RoleNotFound role) = role_not_found role
 failure_of asked name (refusal.MethodNotAllowed p) = not_allowed (method_text asked.method) (methods_at p)
 failure_of asked name refusal.UnsupportedMediaType =
     failed status.UnsupportedMediaType (codes "UnsupportedMediaType") (codes "this body is not accepted")
 failure_of asked name refusal.AlreadyExists = failed status.Conflict (codes "AlreadyExists") (said_of asked name (codes " already exists"))
-failure_of asked name (refusal.Invalid faults) =
-    record (failed status.UnprocessableContent (codes "Invalid") (said_of asked name (codes " is invalid"))) { causes = map invalid_field faults }
+failure_of asked name (refusal.Conflict version) =
+    failed status.Conflict (codes "Conflict") (said_of asked name (codes " is at resourceVersion " ++ version))
+failure_of asked name (refusal.Invalid faults) = invalid asked name (map invalid_field faults)
+failure_of asked name refusal.RoleRefChanged = invalid asked name (changed_role_ref ∷ [])
+failure_of asked name refusal.NamespaceNotEmpty = failed status.Conflict (codes "Conflict") (said_of asked name (codes " still holds objects"))
 failure_of asked name refusal.NoRevisionLeft = failed status.ServiceUnavailable (codes "ServiceUnavailable") (codes "no revision is left")
+failure_of asked name (refusal.NotYetReached revisions) = not_yet_reached revisions
 
 -- ---- bytes that are no request
 

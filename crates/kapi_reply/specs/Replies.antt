@@ -8,6 +8,8 @@ use Rattle.kapi_http.specs.declared.message.Reply.{Reply}
 use Rattle.kapi_http.specs.declared.message.StatusCode.{StatusCode}
 use Rattle.kapi_reply.specs.declared.refusal.BadWord.{BadWord}
 use Rattle.kapi_reply.specs.declared.refusal.Refused.{Refused}
+use Rattle.kapi_reply.specs.declared.reply.Content.{Content}
+use Rattle.kapi_reply.specs.declared.reply.Content.TheVariants as content
 use Rattle.kapi_reply.specs.declared.reply.WrittenReply.{WrittenReply}
 use Rattle.kapi_reply.specs.Refusals.{Asked, bad_request, failure_of, fault_failure, name_in, subject_of, word_text}
 use Rattle.kapi_reply.specs.Status.{Failed, Subject, status_of}
@@ -21,9 +23,14 @@ json_reply code allow close body =
 abbrev pub sent : Reply → WrittenReply
 sent reply = record { bytes = text reply; close = reply.close }
 
--- a reply that tells an object, given as JSON text
-abbrev pub object_reply : StatusCode → Bool → List ℕ → WrittenReply
-object_reply code close body = sent (json_reply code [] close (Some body))
+-- whether a body is plain text, and not JSON
+abbrev pub is_plain : Content → Bool
+is_plain content.Json = false
+is_plain content.Text = true
+
+-- a reply that tells an object, given as JSON text, or a plain text
+abbrev pub content_reply : StatusCode → Content → Bool → List ℕ → WrittenReply
+content_reply code of close body = sent (record (json_reply code [] close (Some body)) { plain = is_plain of })
 
 -- a reply that tells a failure and whom it is about
 abbrev pub failure_reply : Option Subject → Bool → Failed → WrittenReply

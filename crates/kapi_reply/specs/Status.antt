@@ -1,6 +1,6 @@
 -- The Status object of a failure (Kubernetes API conventions, 'Response Status Kind').
 use Rattle.std.specs.Prelude.{ℕ, ◌==◌, if◌then◌else◌, List, length, codes, Option, Some, None}
-use Rattle.serde_json.specs.Data.{Data, number, string, array, object, unsigned, no_items, item, Members, no_members, member, put}
+use Rattle.serde_json.specs.Data.{Data, number, string, array, object, unsigned, Items, no_items, item, Members, no_members, member, put}
 use Rattle.serde_json.specs.Events.{members_len}
 use Rattle.serde_json.specs.View.{items_of}
 use Rattle.serde_json.specs.Written.{compact_text}
@@ -9,6 +9,11 @@ use Rattle.kapi_http.specs.declared.message.Method.{Method}
 use Rattle.kapi_http.specs.declared.message.StatusCode.{StatusCode}
 use Rattle.kapi_names.specs.Cause.{cause_text}
 use Rattle.kapi_names.specs.declared.fault.FieldFault.{FieldFault}
+use Rattle.kapi_rules.specs.declared.atom.Atom.{Atom}
+use Rattle.kapi_rules.specs.declared.atom.Atom.TheVariants as atom
+use Rattle.kapi_rules.specs.declared.atom.Names.{Names}
+use Rattle.kapi_rules.specs.declared.atom.Names.TheVariants as names
+use Rattle.kapi_rules.specs.declared.atom.ResourceAtom.{ResourceAtom}
 use Rattle.kapi_rules.specs.declared.point.Point.{Point}
 use Rattle.kapi_rules.specs.declared.point.Point.TheVariants as point
 
@@ -65,21 +70,64 @@ status_of subject f = object
     (put (codes "code") (number (unsigned (status_number f.code)))
     (with_text (codes "apiVersion") (codes "v1") no_members))))))))
 
+-- the details of a deletion: whom it was about, and the uid of what was deleted
+abbrev pub deleted_details : Subject → List ℕ → Members
+deleted_details s uid = with_text (codes "uid") uid (with_subject (Some s) no_members)
+
+-- the Status object of a deletion
+unfoldable pub deleted_status : Subject → List ℕ → Data
+deleted_status s uid = object
+    (with_text (codes "status") (codes "Success")
+    (put (codes "metadata") (object no_members)
+    (with_text (codes "kind") (codes "Status")
+    (put (codes "details") (object (deleted_details s uid))
+    (with_text (codes "apiVersion") (codes "v1") no_members)))))
+
+-- the name that an atom speaks of, if not of all
+abbrev pub name_item : Names → Items
+name_item names.All = no_items
+name_item (names.One name) = item (string name) no_items
+
 -- a point as a list of texts
 abbrev pub point_list : Point → Data
 point_list (point.Resource p) =
     array (item (string p.verb) (item (string p.group) (item (string p.resource) (item (string p.subresource) (item (string p.name) no_items)))))
 point_list (point.Url u) = array (item (string u.verb) (item (string u.path) no_items))
 
--- the cause of a denial: the point that no rule allows, as JSON text
-abbrev pub missing_permission : Point → Data
-missing_permission p = object
-    (member (codes "message") (string (compact_text (point_list p)))
+-- an atom on a resource as a list of texts: its name is left out where it speaks of all names
+abbrev pub resource_atom_list : ResourceAtom → Data
+resource_atom_list a = array (item (string a.verb) (item (string a.group) (item (string a.resource) (name_item a.names))))
+
+-- an atom of a rule as a list of texts
+abbrev pub atom_list : Atom → Data
+atom_list (atom.Resource a) = resource_atom_list a
+atom_list (atom.Url a) = array (item (string a.verb) (item (string a.url) no_items))
+
+-- what is missing, as the cause of a denial: its parts as JSON text
+abbrev pub missing : List ℕ → Data
+missing parts = object
+    (member (codes "message") (string parts)
     (member (codes "reason") (string (codes "MissingPermission")) no_members))
 
--- the cause of a body's refusal: a field and what is wrong with it
-abbrev pub invalid_field : FieldFault → Data
-invalid_field f = object
-    (member (codes "field") (string f.field)
-    (member (codes "message") (string (cause_text f.cause))
+-- the cause of a denial: the point that no rule allows
+abbrev pub missing_permission : Point → Data
+missing_permission p = missing (compact_text (point_list p))
+
+-- the cause of an escalation's refusal: a part of the written rules that whoever asks does not hold
+abbrev pub missing_atom : Atom → Data
+missing_atom a = missing (compact_text (atom_list a))
+
+-- the cause of a body's refusal: a field and the words for what is wrong with it
+abbrev pub field_cause : List ℕ → List ℕ → Data
+field_cause field words = object
+    (member (codes "field") (string field)
+    (member (codes "message") (string words)
     (member (codes "reason") (string (codes "FieldValueInvalid")) no_members)))
+
+-- the cause of a fault
+abbrev pub invalid_field : FieldFault → Data
+invalid_field f = field_cause f.field (cause_text f.cause)
+
+-- the cause where a binding is to refer to another role
+abbrev pub changed_role_ref : Data
+changed_role_ref = field_cause (codes "roleRef") (codes "may not change")

@@ -8,12 +8,14 @@ ghost use Rattle.kapi_reply.specs.Status as status_object;
 ghost use Rattle.kapi_reply.specs.Status.{invalid_field};
 ghost use Rattle.kapi_reply.specs.Views.{asked_data, failure_data, subject_data};
 
-use crate::refusal::{BadWord, Place, Refusal, Sought};
+use crate::refusal::{NamedRole, Refusal, Revisions, Sought};
 use crate::reply::Asked;
-use crate::status::{Failure, Subject, invalid_fields, missing_permission};
+use crate::status::{
+    Failure, Subject, changed_role_ref, invalid_fields, missing_atoms, missing_permission,
+};
 use kapi_http::{Method, StatusCode};
 use kapi_names::FieldFault;
-use kapi_rules::Point;
+use kapi_rules::{Atom, Point};
 use kapi_text::Memory;
 use serde_json::Value;
 use std::alloc::Global;
@@ -40,7 +42,7 @@ pub fn failure_of(
     match refusal {
         Refusal::BadRequest(word) => bad_request(alloc, word.as_str()),
         Refusal::Forbidden => denied(alloc, asked),
-        Refusal::Escalation => escalation(alloc, asked),
+        Refusal::Escalation(atoms) => escalation(alloc, asked, atoms.as_slice()),
         Refusal::NoSuchResource => failed(
             alloc,
             StatusCode::NotFound,
@@ -48,6 +50,7 @@ pub fn failure_of(
             "no such resource",
         ),
         Refusal::NotFound(what) => not_found(alloc, asked, name, *what),
+        Refusal::RoleNotFound(role) => role_not_found(alloc, role),
         Refusal::MethodNotAllowed(place) => {
             not_allowed(alloc, asked.method.as_str(), place.methods())
         }
@@ -58,14 +61,29 @@ pub fn failure_of(
             "this body is not accepted",
         ),
         Refusal::AlreadyExists => already_exists(alloc, asked, name),
-        Refusal::Invalid(faults) => invalid(alloc, asked, name, faults.as_slice()),
+        Refusal::Conflict(version) => other_version(alloc, asked, name, version.as_str()),
+        Refusal::Invalid(faults) => faulty(alloc, asked, name, faults.as_slice()),
+        Refusal::RoleRefChanged => role_ref_changed(alloc, asked, name),
+        Refusal::NamespaceNotEmpty => still_full(alloc, asked, name),
         Refusal::NoRevisionLeft => failed(
             alloc,
             StatusCode::ServiceUnavailable,
             "ServiceUnavailable",
             "no revision is left",
         ),
+        Refusal::NotYetReached(revisions) => not_yet_reached(alloc, *revisions),
     }
+}
+
+/// The failure where a revision is asked for that is not reached yet.
+fn not_yet_reached(alloc: Global, revisions: Revisions) -> Result<Failure, Memory>
+    ensures { IfOk result (λ f. failure_data f ≡ table.not_yet_reached revisions) }
+{
+    let message = format!(in alloc;
+        "resourceVersion {} is above the current {}",
+        revisions.asked, revisions.current
+    )?;
+    Ok(with_message(alloc, StatusCode::GatewayTimeout, "Timeout", message))
 }
 
 /// The failure that is told of bytes that are no request.
@@ -158,13 +176,18 @@ fn denied_message(alloc: Global, user: &str, namespace: &str) -> Result<String, 
     }
 }
 
-/// The failure of a write that would give what whoever asks does not hold.
+/// The failure of a write that would give what whoever asks does not hold, each part of it a cause.
 #[tactic(auto, unfolding(crate::specs::Refusals::failure_of))]
-fn escalation(alloc: Global, asked: Asked<'_>) -> Result<Failure, Memory>
-    ensures { IfOk result (λ f. failure_data f ≡ table.failure_of (asked_data asked.entry) [] Refusal.Escalation) }
+fn escalation(alloc: Global, asked: Asked<'_>, atoms: &[Atom]) -> Result<Failure, Memory>
+    ensures { IfOk result (λ f. failure_data f ≡ table.failure_of (asked_data asked.entry) [] (Refusal.Escalation atoms.now)) }
 {
-    let message = escalation_message(alloc, asked.user, asked.attributes.namespace.as_str())?;
-    Ok(with_message(alloc, StatusCode::Forbidden, "Forbidden", message))
+    Ok(Failure {
+        code: StatusCode::Forbidden,
+        reason: "Forbidden",
+        message: escalation_message(alloc, asked.user, asked.attributes.namespace.as_str())?,
+        causes: missing_atoms(alloc, atoms)?,
+        allow: &[],
+    })
 }
 
 #[tactic(auto, unfolding(crate::specs::Refusals::escalation_text))]
@@ -207,6 +230,15 @@ fn not_found(alloc: Global, asked: Asked<'_>, name: &str, what: Sought) -> Resul
     Ok(with_message(alloc, StatusCode::NotFound, "NotFound", message))
 }
 
+/// The failure where the role is not there that a binding refers to.
+fn role_not_found(alloc: Global, role: &NamedRole) -> Result<Failure, Memory>
+    ensures { IfOk result (λ f. failure_data f ≡ table.role_not_found role.now) }
+{
+    let mut message = joined(alloc, role.resource.as_str(), " ", role.name.as_str())?;
+    message.push_str(" not found")?;
+    Ok(with_message(alloc, StatusCode::NotFound, "NotFound", message))
+}
+
 #[tactic(auto, unfolding(crate::specs::Refusals::failure_of))]
 fn already_exists(alloc: Global, asked: Asked<'_>, name: &str) -> Result<Failure, Memory>
     ensures { IfOk result (λ f. failure_data f ≡ table.failure_of (asked_data asked.entry) name.now Refusal.AlreadyExists) }
@@ -215,9 +247,32 @@ fn already_exists(alloc: Global, asked: Asked<'_>, name: &str) -> Result<Failure
     Ok(with_message(alloc, StatusCode::Conflict, "AlreadyExists", message))
 }
 
-/// The failure of a body with faults, each of them a cause.
+/// The failure where the object is at another version than the body gives.
 #[tactic(auto, unfolding(crate::specs::Refusals::failure_of))]
-fn invalid(
+fn other_version(
+    alloc: Global,
+    asked: Asked<'_>,
+    name: &str,
+    version: &str,
+) -> Result<Failure, Memory>
+    ensures { IfOk result (λ f. failure_data f ≡ table.failure_of (asked_data asked.entry) name.now (Refusal.Conflict version.now)) }
+{
+    let mut message = said_of(alloc, asked, name, " is at resourceVersion ")?;
+    message.push_str(version)?;
+    Ok(with_message(alloc, StatusCode::Conflict, "Conflict", message))
+}
+
+#[tactic(auto, unfolding(crate::specs::Refusals::failure_of))]
+fn still_full(alloc: Global, asked: Asked<'_>, name: &str) -> Result<Failure, Memory>
+    ensures { IfOk result (λ f. failure_data f ≡ table.failure_of (asked_data asked.entry) name.now Refusal.NamespaceNotEmpty) }
+{
+    let message = said_of(alloc, asked, name, " still holds objects")?;
+    Ok(with_message(alloc, StatusCode::Conflict, "Conflict", message))
+}
+
+/// The failure of a body with faults.
+#[tactic(auto, unfolding(crate::specs::Refusals::failure_of))]
+fn faulty(
     alloc: Global,
     asked: Asked<'_>,
     name: &str,
@@ -225,11 +280,33 @@ fn invalid(
 ) -> Result<Failure, Memory>
     ensures { IfOk result (λ f. failure_data f ≡ table.failure_of (asked_data asked.entry) name.now (Refusal.Invalid faults.now)) }
 {
+    invalid(alloc, asked, name, invalid_fields(alloc, faults)?)
+}
+
+/// The failure where a binding is to refer to another role.
+#[tactic(auto, unfolding(crate::specs::Refusals::failure_of))]
+fn role_ref_changed(alloc: Global, asked: Asked<'_>, name: &str) -> Result<Failure, Memory>
+    ensures { IfOk result (λ f. failure_data f ≡ table.failure_of (asked_data asked.entry) name.now Refusal.RoleRefChanged) }
+{
+    let mut causes = Vec::new(alloc);
+    causes.push(changed_role_ref(alloc)?)?;
+    invalid(alloc, asked, name, causes)
+}
+
+/// The failure of a body with faults, each of them a cause.
+fn invalid(
+    alloc: Global,
+    asked: Asked<'_>,
+    name: &str,
+    causes: Vec<Value>,
+) -> Result<Failure, Memory>
+    ensures { IfOk result (λ f. failure_data f ≡ table.invalid (asked_data asked.entry) name.now (map_of view causes.items)) }
+{
     Ok(Failure {
         code: StatusCode::UnprocessableContent,
         reason: "Invalid",
         message: said_of(alloc, asked, name, " is invalid")?,
-        causes: invalid_fields(alloc, faults)?,
+        causes,
         allow: &[],
     })
 }

@@ -6,5 +6,9 @@ pub mod refusal;
 pub mod reply;
 mod status;
 
-pub use refusal::{BadWord, CheckError, Place, Refusal, Refused, Sought};
-pub use reply::{Asked, WrittenReply, fault_reply, object_reply, refusal_reply, target_reply};
+pub use refusal::{BadWord, CheckError, NamedRole, Place, Refusal, Refused, Revisions, Sought};
+pub use reply::{
+    Asked, Content, WrittenReply, content_reply, deletion_text, fault_reply, refusal_reply,
+    target_reply,
+};
+pub use status::Subject;

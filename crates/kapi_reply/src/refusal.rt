@@ -1,5 +1,6 @@
 use kapi_http::Method;
 use kapi_names::FieldFault;
+use kapi_rules::Atom;
 use kapi_text::{Memory, Sequence, Text};
 use thiserror::Error;
 
@@ -8,8 +9,16 @@ use thiserror::Error;
 pub enum Place {
     /// The objects of one namespace, or of a cluster-scoped resource.
     Collection,
+    /// The namespaces, which are deleted one by one.
+    Namespaces,
+    /// The objects of a namespaced resource in all namespaces.
+    AllNamespaces,
     /// One object.
     Object,
+    /// The status of one object.
+    Status,
+    /// Whether the server is well.
+    Health,
 }
 
 /// What is bad in a bad request (400).
@@ -23,8 +32,12 @@ pub enum BadWord {
     Float,
     Kind,
     Version,
+    /// The body names another object than the path.
+    Name,
     /// The body names another namespace than the path.
     Namespace,
+    /// The query asks for what is not served.
+    Option,
 }
 
 /// What is not there (404).
@@ -42,18 +55,42 @@ pub enum Refusal {
     BadRequest(BadWord),
     /// Authorization denies the request's point.
     Forbidden,
-    /// Whoever asks does not hold what the role or binding that he writes gives.
-    Escalation,
+    /// Whoever asks does not hold these parts of what the role or binding that he writes gives.
+    Escalation(Sequence<Atom>),
     /// The path is none of a served resource.
     NoSuchResource,
     NotFound(Sought),
+    /// The role that the binding refers to does not exist.
+    RoleNotFound(NamedRole),
     /// The place has other methods.
     MethodNotAllowed(Place),
     UnsupportedMediaType,
     AlreadyExists,
+    /// The object is at this version, which is not the one that the body gives.
+    Conflict(Text),
     /// The body has faults.
     Invalid(Sequence<FieldFault>),
+    /// A binding refers to its role for good.
+    RoleRefChanged,
+    /// The namespace still holds objects.
+    NamespaceNotEmpty,
     NoRevisionLeft,
+    /// The query asks for a revision that is not reached yet.
+    NotYetReached(Revisions),
+}
+
+/// A role by its resource and its name.
+#[derive(Debug, Drop)]
+pub struct NamedRole {
+    pub resource: Text,
+    pub name: Text,
+}
+
+/// A revision that was asked for, and the current one.
+#[derive(Clone, Copy, Debug, PartialEq, Eq)]
+pub struct Revisions {
+    pub asked: u64,
+    pub current: u64,
 }
 
 /// A refused request: the name of the object that it is about, where that is not the one that its path names, and why.
@@ -95,8 +132,12 @@ impl Place {
         ensures { result.now ≡ methods_at self }
     {
         match self {
-            Place::Collection => &[Method::Post],
-            Place::Object => &[Method::Get],
+            Place::Collection => &[Method::Get, Method::Post, Method::Delete],
+            Place::Namespaces => &[Method::Get, Method::Post],
+            Place::AllNamespaces => &[Method::Get],
+            Place::Object => &[Method::Get, Method::Put, Method::Patch, Method::Delete],
+            Place::Status => &[Method::Get, Method::Put, Method::Patch],
+            Place::Health => &[Method::Get],
         }
     }
 }
@@ -118,7 +159,9 @@ impl BadWord {
             BadWord::Float => "float",
             BadWord::Kind => "kind",
             BadWord::Version => "version",
+            BadWord::Name => "name",
             BadWord::Namespace => "namespace",
+            BadWord::Option => "option",
         }
     }
 }

@@ -6,12 +6,12 @@ ghost use Rattle.serde_json.specs.Written.{compact_text, items_have_float};
 ghost use Rattle.kapi_reply.specs.Refusals as table;
 ghost use Rattle.kapi_reply.specs.Replies as replies;
 ghost use Rattle.kapi_reply.specs.Replies.{json_reply, sent};
-ghost use Rattle.kapi_reply.specs.Status.{status_of};
+ghost use Rattle.kapi_reply.specs.Status.{deleted_status, status_of};
 ghost use Rattle.kapi_reply.specs.Views.{asked_data, failure_data, subject_data};
 
 use crate::failure::{bad_request, failure_of, failure_of_fault, name_of, subject_of};
 use crate::refusal::{BadWord, Refused};
-use crate::status::{Failure, Subject, failure_status};
+use crate::status::{Failure, Subject, deletion_status, failure_status};
 use kapi_http::{HttpFault, Method, Reply, StatusCode, write_reply};
 use kapi_request_info::Attributes;
 use kapi_text::{Memory, Sequence};
@@ -25,6 +25,14 @@ pub struct WrittenReply {
     pub close: bool,
 }
 
+/// What the body of a reply is.
+#[derive(Clone, Copy, Debug, PartialEq, Eq)]
+pub enum Content {
+    /// An object as JSON text.
+    Json,
+    Text,
+}
+
 /// What a refused request was: whose it is, its method and its attributes.
 #[derive(Clone, Copy)]
 pub struct Asked<'a> {
@@ -33,16 +41,44 @@ pub struct Asked<'a> {
     pub attributes: &'a Attributes,
 }
 
-/// A reply that tells an object, given as JSON text.
-pub fn object_reply(
+/// A reply that tells an object, given as JSON text, or a plain text.
+pub fn content_reply(
     alloc: Global,
     code: StatusCode,
+    content: Content,
     close: bool,
     body: Vec<u8>,
 ) -> Result<WrittenReply, Memory>
-    ensures { IfOk result (λ o. o ≡ replies.object_reply code close body.items) }
+    ensures { IfOk result (λ o. o ≡ replies.content_reply code content close body.items) }
 {
-    send(alloc, code, &[], close, Some(Sequence::new(body)))
+    let reply = Reply {
+        code,
+        plain: is_plain(content),
+        allow: Sequence::new(Vec::new(alloc)),
+        chunked: false,
+        close,
+        body: Some(Sequence::new(body)),
+    };
+    write(alloc, &reply)
+}
+
+fn is_plain(content: Content) -> bool
+    ensures { result ≡ replies.is_plain content }
+{
+    match content {
+        Content::Json => false,
+        Content::Text => true,
+    }
+}
+
+/// A reply as it goes out.
+fn write(alloc: Global, reply: &Reply) -> Result<WrittenReply, Memory>
+    ensures { IfOk result (λ o. o ≡ sent reply.now) }
+{
+    Ok(WrittenReply {
+        bytes: Sequence::new(write_reply(alloc, reply)?),
+        close: reply.close,
+    })
 }
 
 /// A reply with a JSON body, or none, as it goes out.
@@ -63,10 +99,7 @@ fn send(
         close,
         body,
     };
-    Ok(WrittenReply {
-        bytes: Sequence::new(write_reply(alloc, &reply)?),
-        close,
-    })
+    write(alloc, &reply)
 }
 
 /// What a request that was refused is sent.
@@ -131,6 +164,14 @@ fn status_text(
     ensures { IfOk result (λ b. b.items ≡ compact_text (status_of (option_map subject_data subject.entry) (failure_data failure))) }
 {
     failure_status(alloc, subject, failure)?.to_vec(alloc)
+}
+
+/// What a deletion is told, as JSON text: whom it was about, and the uid of what was deleted (Kubernetes API conventions, 'Response
+/// Status Kind').
+pub fn deletion_text(alloc: Global, subject: Subject<'_>, uid: &str) -> Result<Vec<u8>, Memory>
+    ensures { IfOk result (λ b. b.items ≡ compact_text (deleted_status (subject_data subject.entry) uid.now)) }
+{
+    deletion_status(alloc, subject, uid)?.to_vec(alloc)
 }
 
 /// What bytes that are no request are sent; it ends the connection.

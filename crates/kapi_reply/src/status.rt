@@ -3,12 +3,12 @@ ghost use Rattle.std.specs.Option.{option_map};
 ghost use Rattle.serde_json.specs.View.{view, members_view};
 ghost use Rattle.serde_json.specs.Written.{compact_text};
 ghost use Rattle.kapi_reply.specs.Status as status_object;
-ghost use Rattle.kapi_reply.specs.Status.{with_text, with_some_text, with_causes, with_subject, with_some_object, details_of, status_of};
+ghost use Rattle.kapi_reply.specs.Status.{with_text, with_some_text, with_causes, with_subject, with_some_object, deleted_status, details_of, status_of};
 ghost use Rattle.kapi_reply.specs.Views.{subject_data, failure_data};
 
 use kapi_http::{Method, StatusCode};
-use kapi_names::{Cause, FieldFault};
-use kapi_rules::Point;
+use kapi_names::FieldFault;
+use kapi_rules::{Atom, Names, Point, ResourceAtom};
 use kapi_text::Memory;
 use serde_json::{Map, Value, json, put};
 use std::alloc::Global;
@@ -63,6 +63,28 @@ pub fn failure_status(
     )?;
     put_some_text(&mut status, alloc, "reason", failure.reason)?;
     put_text(&mut status, alloc, "status", "Failure")?;
+    Ok(Value::Object(status))
+}
+
+/// The Status object of a deletion: whom it was about, and the uid of what was deleted.
+#[tactic(auto, unfolding(crate::specs::Status::deleted_status))]
+pub fn deletion_status(alloc: Global, subject: Subject<'_>, uid: &str) -> Result<Value, Memory>
+    ensures { IfOk result (λ v. view v ≡ deleted_status (subject_data subject.entry) uid.now) }
+{
+    let mut details = Map::new(alloc);
+    put_subject(&mut details, alloc, Some(subject))?;
+    put_text(&mut details, alloc, "uid", uid)?;
+    let mut status = Map::new(alloc);
+    put_text(&mut status, alloc, "apiVersion", "v1")?;
+    put(&mut status, alloc, "details", Value::Object(details))?;
+    put_text(&mut status, alloc, "kind", "Status")?;
+    put(
+        &mut status,
+        alloc,
+        "metadata",
+        Value::Object(Map::new(alloc)),
+    )?;
+    put_text(&mut status, alloc, "status", "Success")?;
     Ok(Value::Object(status))
 }
 
@@ -157,18 +179,37 @@ fn put_some_text(
     }
 }
 
-/// The cause of a denial: the point that no rule allows, as a JSON list in a text.
+/// The cause of a denial: the point that no rule allows.
 pub fn missing_permission(alloc: Global, point: &Point) -> Result<Value, Memory>
     ensures { IfOk result (λ v. view v ≡ status_object.missing_permission point.now) }
 {
-    let message = point_text(alloc, point)?;
-    json!(in alloc; {"message": (message.as_str()), "reason": "MissingPermission"})
+    missing(alloc, point_text(alloc, point)?.as_str())
+}
+
+/// The cause of an escalation's refusal: a part of the written rules that whoever asks does not hold.
+pub fn missing_atom(alloc: Global, atom: &Atom) -> Result<Value, Memory>
+    ensures { IfOk result (λ v. view v ≡ status_object.missing_atom atom.now) }
+{
+    missing(alloc, atom_text(alloc, atom)?.as_str())
+}
+
+/// What is missing, whose parts are given as the text of a JSON list.
+fn missing(alloc: Global, parts: &str) -> Result<Value, Memory>
+    ensures { IfOk result (λ v. view v ≡ status_object.missing parts.now) }
+{
+    json!(in alloc; {"message": parts, "reason": "MissingPermission"})
 }
 
 fn point_text(alloc: Global, point: &Point) -> Result<String, Memory>
     ensures { IfOk result (λ s. string_bytes s ≡ compact_text (status_object.point_list point.now)) }
 {
     point_list(alloc, point)?.to_string(alloc)
+}
+
+fn atom_text(alloc: Global, atom: &Atom) -> Result<String, Memory>
+    ensures { IfOk result (λ s. string_bytes s ≡ compact_text (status_object.atom_list atom.now)) }
+{
+    atom_list(alloc, atom)?.to_string(alloc)
 }
 
 fn point_list(alloc: Global, point: &Point) -> Result<Value, Memory>
@@ -186,18 +227,63 @@ fn point_list(alloc: Global, point: &Point) -> Result<Value, Memory>
     }
 }
 
-/// The cause of a body's refusal: a field and what is wrong with it.
-pub fn invalid_field_at(alloc: Global, field: &str, cause: Cause) -> Result<Value, Memory>
-    ensures { IfOk result (λ v. view v ≡ status_object.invalid_field (record { field = field.now; cause = cause })) }
+fn atom_list(alloc: Global, atom: &Atom) -> Result<Value, Memory>
+    ensures { IfOk result (λ v. view v ≡ status_object.atom_list atom.now) }
 {
-    let message = cause.as_str();
-    json!(in alloc; {"field": field, "message": message, "reason": "FieldValueInvalid"})
+    match atom {
+        Atom::Resource(atom) => resource_atom_list(alloc, atom),
+        Atom::Url(atom) => json!(in alloc; [(atom.verb.as_str()), (atom.url.as_str())]),
+    }
+}
+
+/// The parts of an atom on a resource: its name is left out where it speaks of all names.
+fn resource_atom_list(alloc: Global, atom: &ResourceAtom) -> Result<Value, Memory>
+    ensures { IfOk result (λ v. view v ≡ status_object.resource_atom_list atom.now) }
+{
+    match &atom.names {
+        Names::All => json!(in alloc; [
+            (atom.verb.as_str()),
+            (atom.group.as_str()),
+            (atom.resource.as_str())
+        ]),
+        Names::One(name) => json!(in alloc; [
+            (atom.verb.as_str()),
+            (atom.group.as_str()),
+            (atom.resource.as_str()),
+            (name.as_str())
+        ]),
+    }
+}
+
+/// The causes of an escalation's refusal, in the order of what is missing.
+pub fn missing_atoms(alloc: Global, atoms: &[Atom]) -> Result<Vec<Value>, Memory>
+    ensures { IfOk result (λ v. map_of view v.items ≡ map_of status_object.missing_atom atoms.now) }
+{
+    let mut causes = Vec::new(alloc);
+    for atom in atoms {
+        causes.push(missing_atom(alloc, atom)?)?;
+    }
+    Ok(causes)
+}
+
+/// The cause of a body's refusal: a field and the words for what is wrong with it.
+fn field_cause(alloc: Global, field: &str, words: &str) -> Result<Value, Memory>
+    ensures { IfOk result (λ v. view v ≡ status_object.field_cause field.now words.now) }
+{
+    json!(in alloc; {"field": field, "message": words, "reason": "FieldValueInvalid"})
+}
+
+/// The cause where a binding is to refer to another role.
+pub fn changed_role_ref(alloc: Global) -> Result<Value, Memory>
+    ensures { IfOk result (λ v. view v ≡ status_object.changed_role_ref) }
+{
+    field_cause(alloc, "roleRef", "may not change")
 }
 
 fn invalid_field(alloc: Global, fault: &FieldFault) -> Result<Value, Memory>
     ensures { IfOk result (λ v. view v ≡ status_object.invalid_field fault.now) }
 {
-    invalid_field_at(alloc, fault.field.as_str(), fault.cause)
+    field_cause(alloc, fault.field.as_str(), fault.cause.as_str())
 }
 
 /// The causes of a body's refusal, in the order of its faults.

@@ -1,5 +1,5 @@
 -- What the header fields of a request must keep.
-use Rattle.std.specs.Prelude.{ℕ, ◌==◌, Bool, true, not, ◌&&◌, ◌||◌, if◌then◌else◌, List, length, take, find, nat_le, codes, Option, Some, None, Result, Ok, Err}
+use Rattle.std.specs.Prelude.{ℕ, ◌==◌, Bool, true, false, not, ◌&&◌, ◌||◌, if◌then◌else◌, List, length, take, find, nat_le, codes, Option, Some, None, Result, Ok, Err}
 use Rattle.std.specs.List.{list_any, list_all, before_first}
 use Rattle.std.specs.Str.{str_eq_ignore_ascii_case}
 use Rattle.httparse.specs.Grammar.{trim_ows}
@@ -31,24 +31,41 @@ is_uncoded h = not (is_named (codes "content-encoding") h) || str_eq_ignore_asci
 abbrev pub media_type : List ℕ → List ℕ
 media_type value = trim_ows (before_first (λ b. b == 59) value)
 
+-- the first field that tells the media type (RFC 9110 section 8.3)
+abbrev pub content_type : List Header → Option Header
+content_type headers = find (is_named (codes "content-type")) headers
+
+-- the field is that media type, up to its parameters and in any case
+abbrev pub is_of_type : List ℕ → Header → Bool
+is_of_type name h = str_eq_ignore_ascii_case (media_type h.value) name
+
 -- the media type is JSON's; a body without one is taken as JSON
 abbrev pub is_json_type : Option Header → Bool
 is_json_type None = true
-is_json_type (Some h) = str_eq_ignore_ascii_case (media_type h.value) (codes "application/json")
+is_json_type (Some h) = is_of_type (codes "application/json") h
 
 -- the body's media type, as the first field says, is JSON's
 abbrev pub is_json : List Header → Bool
-is_json headers = is_json_type (find (is_named (codes "content-type")) headers)
+is_json headers = is_json_type (content_type headers)
 
--- whether the method's body has a type that is read
+-- the media type is there and is that of a merge patch (RFC 7396)
+abbrev pub is_merge_patch_type : Option Header → Bool
+is_merge_patch_type None = false
+is_merge_patch_type (Some h) = is_of_type (codes "application/merge-patch+json") h
+
+-- the body's media type, as the first field says, is that of a merge patch
+abbrev pub is_merge_patch : List Header → Bool
+is_merge_patch headers = is_merge_patch_type (content_type headers)
+
+-- the body has the type that the method reads; a read and a deletion look at none
 unfoldable pub is_typed : Method → List Header → Bool
 is_typed Get headers = true
 is_typed Post headers = is_json headers
-is_typed Put headers = true
-is_typed Patch headers = true
+is_typed Put headers = is_json headers
+is_typed Patch headers = is_merge_patch headers
 is_typed Delete headers = true
 
--- the body is not coded, and of a create it is JSON
+-- the body is not coded, and has the type that the method reads
 unfoldable pub media_typed : Method → List Header → Result (Unit {0}) Refused
 media_typed method headers =
     if list_all is_uncoded headers && is_typed method headers then Ok tt else Err (asked_for refusal.UnsupportedMediaType)

@@ -1,3 +1,4 @@
 pub mod Headers
 pub mod Route
 pub mod Routes
+pub mod Query

@@ -1,5 +1,5 @@
 -- The resource, the place and the action of a request (Kubernetes, 'Kubernetes API Concepts', resource URIs).
-use Rattle.std.specs.Prelude.{ℕ, ◌==◌, Bool, not, ◌&&◌, ◌||◌, if◌then◌else◌, List, length, find, codes, Option, Some, None, Result, Ok, Err}
+use Rattle.std.specs.Prelude.{ℕ, ◌==◌, nat_le, Bool, not, ◌&&◌, ◌||◌, if◌then◌else◌, List, length, find, codes, Option, Some, None, Result, Ok, Err, ok_or}
 use Rattle.std.specs.Str.{bytes_eq}
 use Rattle.kapi_http.specs.declared.message.Method.{Method}
 use Rattle.kapi_http.specs.declared.message.Method.TheVariants.{Get, Post, Put, Patch, Delete}
@@ -14,65 +14,106 @@ use Rattle.kapi_reply.specs.declared.refusal.Place.{Place}
 use Rattle.kapi_reply.specs.declared.refusal.Place.TheVariants as place
 use Rattle.kapi_route.specs.declared.route.Action.{Action}
 use Rattle.kapi_route.specs.declared.route.Action.TheVariants as action
+use Rattle.kapi_route.specs.declared.route.Part.TheVariants as part
 use Rattle.kapi_text.specs.Gives.{◌>>=◌}
 use Rattle.kapi_reply.specs.Refusals.{asked_for}
 
 -- a resource request that is served: its row, its point, what is to be done
-pub record Routed : Type 0 where
+pub record ResourceRouted : Type 0 where
   pub row : ResourceRow
   pub point : ResourcePoint
   pub action : Action
+
+-- a request that is served: whether the server is well, or one for a resource
+pub data Routed : Type 0 where
+  health : Routed
+  resource : ResourceRouted → Routed
 
 -- the row is that of the request's group, version and resource
 abbrev pub is_row_of : List ℕ → ResourcePoint → ResourceRow → Bool
 is_row_of version p row = bytes_eq row.group p.group && (bytes_eq row.version version && bytes_eq row.plural p.resource)
 
+-- the row is that of the namespaces themselves
+abbrev pub is_of_namespaces : ResourceRow → Bool
+is_of_namespaces row = length row.group == 0 && bytes_eq row.plural (codes "namespaces")
+
 -- the path of a namespace names it twice over: as the object and as the namespace
 abbrev pub is_own_namespace : ResourceRow → Attributes → ResourcePoint → Bool
-is_own_namespace row a p =
-    length row.group == 0 && (bytes_eq row.plural (codes "namespaces") && (a.parts == 2 && bytes_eq p.name a.namespace))
+is_own_namespace row a p = is_of_namespaces row && (nat_le 2 a.parts && bytes_eq p.name a.namespace)
 
--- a namespace stands in the path exactly where the resource lives in namespaces
+-- where an object is named, a namespace stands in the path exactly where the resource lives in namespaces
 abbrev pub has_right_namespace : ResourceRow → Attributes → ResourcePoint → Bool
 has_right_namespace row a p =
     if row.namespaced then not (length a.namespace == 0)
     else length a.namespace == 0 || is_own_namespace row a p
 
--- what the path stands for: one part is a collection, two are an object
-unfoldable pub place_of : ResourceRow → Attributes → ResourcePoint → Result Place Refused
-place_of row a p =
-    if has_right_namespace row a p
-    then (if a.parts == 1 then Ok place.Collection else (if a.parts == 2 then Ok place.Object else Err (asked_for refusal.NoSuchResource)))
-    else Err (asked_for refusal.NoSuchResource)
+-- what a path that names no object stands for
+unfoldable pub collection_of : ResourceRow → Attributes → Option Place
+collection_of row a =
+    if row.namespaced then Some (if length a.namespace == 0 then place.AllNamespaces else place.Collection)
+    else (if length a.namespace == 0 then Some (if is_of_namespaces row then place.Namespaces else place.Collection) else None)
 
--- a collection takes new objects, an object is read
-unfoldable pub action_at : Place → Method → Result Action Refused
-action_at place.Collection Post = Ok action.Create
-action_at place.Collection Get = Err (asked_for (refusal.MethodNotAllowed place.Collection))
-action_at place.Collection Put = Err (asked_for (refusal.MethodNotAllowed place.Collection))
-action_at place.Collection Patch = Err (asked_for (refusal.MethodNotAllowed place.Collection))
-action_at place.Collection Delete = Err (asked_for (refusal.MethodNotAllowed place.Collection))
-action_at place.Object Get = Ok action.Get
-action_at place.Object Post = Err (asked_for (refusal.MethodNotAllowed place.Object))
-action_at place.Object Put = Err (asked_for (refusal.MethodNotAllowed place.Object))
-action_at place.Object Patch = Err (asked_for (refusal.MethodNotAllowed place.Object))
-action_at place.Object Delete = Err (asked_for (refusal.MethodNotAllowed place.Object))
+-- what the third part of a path stands for: the status is the only subresource
+abbrev pub subresource_of : ResourceRow → ResourcePoint → Option Place
+subresource_of row p = if row.has_status && bytes_eq p.subresource (codes "status") then Some place.Status else None
+
+-- what the path stands for: one part is a collection, two are an object, three are its subresource
+unfoldable pub place_of : ResourceRow → Attributes → ResourcePoint → Option Place
+place_of row a p =
+    if a.parts == 1 then collection_of row a
+    else (if not (has_right_namespace row a p) then None
+    else (if a.parts == 2 then Some place.Object
+    else (if a.parts == 3 then subresource_of row p else None)))
+
+-- a collection is read at once or watched, as its verb says
+abbrev pub read_action : List ℕ → Action
+read_action verb = if bytes_eq verb (codes "watch") then action.Watch else action.List
+
+-- what a method does at a place that serves it
+unfoldable pub action_at : Place → List ℕ → Method → Result Action Refused
+action_at place.Collection verb Get = Ok (read_action verb)
+action_at place.Collection verb Post = Ok action.Create
+action_at place.Collection verb Delete = Ok action.DeleteCollection
+action_at place.Namespaces verb Get = Ok (read_action verb)
+action_at place.Namespaces verb Post = Ok action.Create
+action_at place.AllNamespaces verb Get = Ok (read_action verb)
+action_at place.Object verb Get = Ok action.Get
+action_at place.Object verb Put = Ok (action.Update part.Object)
+action_at place.Object verb Patch = Ok (action.Patch part.Object)
+action_at place.Object verb Delete = Ok action.Delete
+action_at place.Status verb Get = Ok action.Get
+action_at place.Status verb Put = Ok (action.Update part.Status)
+action_at place.Status verb Patch = Ok (action.Patch part.Status)
+action_at place _ _ = Err (asked_for (refusal.MethodNotAllowed place))
 
 -- the route on a row
 unfoldable pub on_row : ResourceRow → Method → Attributes → ResourcePoint → Result Routed Refused
 on_row row method a p = do
-  place ← place_of row a p
-  action ← action_at place method
-  Ok (record { row = row; point = p; action = action })
+  place ← ok_or (place_of row a p) (asked_for refusal.NoSuchResource)
+  action ← action_at place p.verb method
+  Ok (resource (record { row = row; point = p; action = action }))
 
 -- the route on the row that was found, if any
 abbrev pub on_found : Option ResourceRow → Method → Attributes → ResourcePoint → Result Routed Refused
 on_found None method a p = Err (asked_for refusal.NoSuchResource)
 on_found (Some row) method a p = on_row row method a p
 
+-- the paths that tell whether the server is well (Kubernetes, 'Kubernetes API health endpoints')
+abbrev pub is_health : List ℕ → Bool
+is_health path = bytes_eq path (codes "/healthz") || (bytes_eq path (codes "/livez") || bytes_eq path (codes "/readyz"))
+
+-- they are read
+unfoldable pub read_health : Method → Result Routed Refused
+read_health Get = Ok health
+read_health _ = Err (asked_for (refusal.MethodNotAllowed place.Health))
+
+-- the route of a path of no resource
+abbrev pub at_path : Method → List ℕ → Result Routed Refused
+at_path method path = if is_health path then read_health method else Err (asked_for refusal.NoSuchResource)
+
 -- the route of a request's point
 abbrev pub at_point : List ResourceRow → Method → Attributes → Point → Result Routed Refused
-at_point table method a (point.Url u) = Err (asked_for refusal.NoSuchResource)
+at_point table method a (point.Url u) = at_path method u.path
 at_point table method a (point.Resource p) = on_found (find (is_row_of a.version p) table) method a p
 
 -- the route of a request

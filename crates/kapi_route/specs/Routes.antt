@@ -2,12 +2,19 @@
 use Rattle.std.specs.Prelude.{Result, Some}
 use Rattle.kapi_text.specs.Gives.{Gives}
 use Rattle.kapi_reply.specs.declared.refusal.Refused.{Refused}
+use Rattle.kapi_route.specs.declared.route.ResourceRoute.{ResourceRoute}
 use Rattle.kapi_route.specs.declared.route.Route.{Route}
-use Rattle.kapi_route.specs.Route.{Routed}
+use Rattle.kapi_route.specs.declared.route.Route.TheVariants as route
+use Rattle.kapi_route.specs.Route.{ResourceRouted, Routed, health, resource}
+
+-- a route of a resource as data
+abbrev pub resource_data : ResourceRoute → ResourceRouted
+resource_data r = record { row = r.row.now; point = r.point.now; action = r.action }
 
 -- a route as data
 abbrev pub route_data : Route → Routed
-route_data r = record { row = r.row.now; point = r.point.now; action = r.action }
+route_data route.Health = health
+route_data (route.Resource r) = resource (resource_data r)
 
 -- what was found is what the definition gives
 abbrev pub Routes : Result Route Refused → Result Routed Refused → Type 0

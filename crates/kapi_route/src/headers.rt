@@ -1,4 +1,4 @@
-ghost use Rattle.std.specs.Prelude.{◌≡◌, ◌==◌, ◌<◌, IfSome, codes, find, length, position};
+ghost use Rattle.std.specs.Prelude.{◌≡◌, ◌==◌, ◌<◌, IfSome, length, position};
 ghost use Rattle.std.specs.Option.{option_copied};
 ghost use Rattle.std.specs.List.{list_any, list_all, before_first};
 ghost use Rattle.kapi_route.specs.Headers as fields;
@@ -37,7 +37,7 @@ fn is_impersonation(header: &Header) -> bool
     is_same(front, b"impersonate-")
 }
 
-/// The body's encoding and media type (RFC 9110 sections 8.3 and 8.4): no coding but `identity`, and for a create JSON.
+/// The body's encoding and media type (RFC 9110 sections 8.3 and 8.4): no coding but `identity`, and the type that the method reads.
 #[tactic(auto, unfolding(crate::specs::Headers::media_typed))]
 pub fn check_media_type(method: Method, headers: &[Header]) -> Result<(), Refused>
     ensures { result ≡ media_typed method headers.now }
@@ -67,33 +67,52 @@ fn is_named(header: &Header, name: &[u8]) -> bool
     is_same(header.name.as_str().as_bytes(), name)
 }
 
-/// Only the body of a create is read.
+/// No body of a read or of a deletion has a type of its own.
 #[tactic(auto, unfolding(crate::specs::Headers::is_typed))]
 fn is_typed(method: Method, headers: &[Header]) -> bool
     ensures { result ≡ fields.is_typed method headers.now }
 {
     match method {
-        Method::Post => is_json(headers),
-        Method::Get | Method::Put | Method::Patch | Method::Delete => true,
+        Method::Get | Method::Delete => true,
+        Method::Post | Method::Put => is_json(headers),
+        Method::Patch => is_merge_patch(headers),
     }
 }
 
-/// Whether the first Content-Type, up to its parameters, is JSON's; a body without one is taken as JSON.
+/// Whether the body is JSON, as its Content-Type says; a body without one is taken as JSON.
 fn is_json(headers: &[Header]) -> bool
     ensures { result ≡ fields.is_json headers.now }
 {
     match content_type(headers) {
-        Some(header) => is_same(media_type(header.value.as_slice()), b"application/json"),
+        Some(header) => is_of_type(header, b"application/json"),
         None => true,
     }
 }
 
+/// Whether the body is a merge patch (RFC 7396); there are other patches, so its Content-Type must say so.
+fn is_merge_patch(headers: &[Header]) -> bool
+    ensures { result ≡ fields.is_merge_patch headers.now }
+{
+    match content_type(headers) {
+        Some(header) => is_of_type(header, b"application/merge-patch+json"),
+        None => false,
+    }
+}
+
+/// The first Content-Type.
 fn content_type(headers: &[Header]) -> Option<&Header>
-    ensures { option_copied result ≡ find (fields.is_named (codes "content-type")) headers.now }
+    ensures { option_copied result ≡ fields.content_type headers.now }
 {
     headers
         .iter()
         .find(|header| is_named(header, b"content-type"))
+}
+
+/// Whether the field is that media type, up to its parameters.
+fn is_of_type(header: &Header, name: &[u8]) -> bool
+    ensures { result ≡ fields.is_of_type name.now header.now }
+{
+    is_same(media_type(header.value.as_slice()), name)
 }
 
 /// What stands before the parameters, without the white space before the semicolon.

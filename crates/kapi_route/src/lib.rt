@@ -2,7 +2,11 @@
 #![tactic(auto)]
 
 pub mod headers;
+pub mod query;
 pub mod route;
+#[cfg(test)]
+mod tests;
 
 pub use headers::{check_media_type, refuse_impersonation};
-pub use route::{Action, Route, find_route};
+pub use query::{Filter, check_query};
+pub use route::{Action, Part, ResourceRoute, Route, find_route};

@@ -10,19 +10,41 @@ use kapi_reply::{Place, Refusal, Refused};
 use kapi_request_info::Attributes;
 use kapi_rules::{Point, ResourcePoint};
 
-/// What is to be done at a place.
+/// Which part of an object is read or written.
+#[derive(Clone, Copy, Debug, PartialEq, Eq)]
+pub enum Part {
+    /// All but the status, where that is a subresource.
+    Object,
+    Status,
+}
+
+/// What is to be done at a place (Kubernetes, 'Kubernetes API Concepts', API verbs).
 #[derive(Clone, Copy, Debug, PartialEq, Eq)]
 pub enum Action {
     Create,
+    Delete,
+    DeleteCollection,
     Get,
+    List,
+    Patch(Part),
+    Update(Part),
+    Watch,
 }
 
 /// A resource request that is served: its row, what it is about and what is to be done.
 #[derive(Clone, Copy)]
-pub struct Route<'a> {
+pub struct ResourceRoute<'a> {
     pub row: &'a ResourceRow,
     pub point: &'a ResourcePoint,
     pub action: Action,
+}
+
+/// A request that is served.
+#[derive(Clone, Copy)]
+pub enum Route<'a> {
+    /// Whether the server is well.
+    Health,
+    Resource(ResourceRoute<'a>),
 }
 
 /// Finds the row, the place and the action of a request.
@@ -35,11 +57,41 @@ pub fn find_route<'a>(
     ensures { Routes result (routed table.now method attributes.now) }
 {
     match &attributes.point {
-        Point::Url(_) => Err(Refused::asked_for(Refusal::NoSuchResource)),
+        Point::Url(point) => path_route(method, point.path.as_str()),
         Point::Resource(point) => match find_row(table, attributes, point) {
             Some(row) => route_on_row(row, method, attributes, point),
             None => Err(Refused::asked_for(Refusal::NoSuchResource)),
         },
+    }
+}
+
+/// The route of a path of no resource.
+fn path_route<'a>(method: Method, path: &str) -> Result<Route<'a>, Refused>
+    ensures { Routes result (routes.at_path method path.now) }
+{
+    if is_health(path) {
+        health_route(method)
+    } else {
+        Err(Refused::asked_for(Refusal::NoSuchResource))
+    }
+}
+
+/// The paths that tell whether the server is well (Kubernetes, 'Kubernetes API health endpoints').
+fn is_health(path: &str) -> bool
+    ensures { result ≡ routes.is_health path.now }
+{
+    path == "/healthz" || (path == "/livez" || path == "/readyz")
+}
+
+#[tactic(auto, unfolding(crate::specs::Route::read_health))]
+fn health_route<'a>(method: Method) -> Result<Route<'a>, Refused>
+    ensures { Routes result (routes.read_health method) }
+{
+    match method {
+        Method::Get => Ok(Route::Health),
+        Method::Post | Method::Put | Method::Patch | Method::Delete => {
+            Err(Refused::asked_for(Refusal::MethodNotAllowed(Place::Health)))
+        }
     }
 }
 
@@ -69,30 +121,57 @@ fn route_on_row<'a>(
 ) -> Result<Route<'a>, Refused>
     ensures { Routes result (routes.on_row row.now method attributes.now point.now) }
 {
-    let place = place_of(row, attributes, point)?;
-    let action = action_at(place, method)?;
-    Ok(Route { row, point, action })
+    let Some(place) = place_of(row, attributes, point) else {
+        return Err(Refused::asked_for(Refusal::NoSuchResource));
+    };
+    let action = action_at(place, point.verb.as_str(), method)?;
+    Ok(Route::Resource(ResourceRoute { row, point, action }))
 }
 
-/// What the path stands for; a namespace must stand there exactly where the resource lives in namespaces.
+/// What the path stands for: one part is a collection, two are an object, three are its subresource.
 #[tactic(auto, unfolding(crate::specs::Route::place_of))]
-fn place_of(
-    row: &ResourceRow,
-    attributes: &Attributes,
-    point: &ResourcePoint,
-) -> Result<Place, Refused>
+fn place_of(row: &ResourceRow, attributes: &Attributes, point: &ResourcePoint) -> Option<Place>
     ensures { result ≡ routes.place_of row.now attributes.now point.now }
 {
+    if attributes.parts == 1 {
+        return collection_of(row, attributes);
+    }
     if !has_right_namespace(row, attributes, point) {
-        return Err(Refused::asked_for(Refusal::NoSuchResource));
+        return None;
     }
     match attributes.parts {
-        1 => Ok(Place::Collection),
-        2 => Ok(Place::Object),
-        _ => Err(Refused::asked_for(Refusal::NoSuchResource)),
+        2 => Some(Place::Object),
+        3 => subresource_of(row, point),
+        _ => None,
     }
 }
 
+/// The collections of a namespaced resource are those of one namespace and that of them all.
+#[tactic(auto, unfolding(crate::specs::Route::collection_of))]
+fn collection_of(row: &ResourceRow, attributes: &Attributes) -> Option<Place>
+    ensures { result ≡ routes.collection_of row.now attributes.now }
+{
+    match (row.namespaced, attributes.namespace.as_str().is_empty()) {
+        (true, true) => Some(Place::AllNamespaces),
+        (true, false) => Some(Place::Collection),
+        (false, true) if is_of_namespaces(row) => Some(Place::Namespaces),
+        (false, true) => Some(Place::Collection),
+        (false, false) => None,
+    }
+}
+
+/// The status is the only subresource.
+fn subresource_of(row: &ResourceRow, point: &ResourcePoint) -> Option<Place>
+    ensures { result ≡ routes.subresource_of row.now point.now }
+{
+    if row.has_status && point.subresource.as_str() == "status" {
+        Some(Place::Status)
+    } else {
+        None
+    }
+}
+
+/// Where an object is named, a namespace must stand in the path exactly where the resource lives in namespaces.
 fn has_right_namespace(row: &ResourceRow, attributes: &Attributes, point: &ResourcePoint) -> bool
     ensures { result ≡ routes.has_right_namespace row.now attributes.now point.now }
 {
@@ -108,18 +187,43 @@ fn has_right_namespace(row: &ResourceRow, attributes: &Attributes, point: &Resou
 fn is_own_namespace(row: &ResourceRow, attributes: &Attributes, point: &ResourcePoint) -> bool
     ensures { result ≡ routes.is_own_namespace row.now attributes.now point.now }
 {
-    row.group.as_str().is_empty()
-        && (row.plural.as_str() == "namespaces"
-            && (attributes.parts == 2 && point.name == attributes.namespace))
+    is_of_namespaces(row) && (attributes.parts >= 2 && point.name == attributes.namespace)
 }
 
+fn is_of_namespaces(row: &ResourceRow) -> bool
+    ensures { result ≡ routes.is_of_namespaces row.now }
+{
+    row.group.as_str().is_empty() && row.plural.as_str() == "namespaces"
+}
+
+/// What a method does at a place that serves it.
 #[tactic(auto, unfolding(crate::specs::Route::action_at))]
-fn action_at(place: Place, method: Method) -> Result<Action, Refused>
-    ensures { result ≡ routes.action_at place method }
+fn action_at(place: Place, verb: &str, method: Method) -> Result<Action, Refused>
+    ensures { result ≡ routes.action_at place verb.now method }
 {
     match (place, method) {
-        (Place::Collection, Method::Post) => Ok(Action::Create),
-        (Place::Object, Method::Get) => Ok(Action::Get),
+        (Place::Collection | Place::Namespaces | Place::AllNamespaces, Method::Get) => {
+            Ok(read_action(verb))
+        }
+        (Place::Collection | Place::Namespaces, Method::Post) => Ok(Action::Create),
+        (Place::Collection, Method::Delete) => Ok(Action::DeleteCollection),
+        (Place::Object | Place::Status, Method::Get) => Ok(Action::Get),
+        (Place::Object, Method::Put) => Ok(Action::Update(Part::Object)),
+        (Place::Object, Method::Patch) => Ok(Action::Patch(Part::Object)),
+        (Place::Object, Method::Delete) => Ok(Action::Delete),
+        (Place::Status, Method::Put) => Ok(Action::Update(Part::Status)),
+        (Place::Status, Method::Patch) => Ok(Action::Patch(Part::Status)),
         (place, _) => Err(Refused::asked_for(Refusal::MethodNotAllowed(place))),
+    }
+}
+
+/// A collection is read at once or watched, as its verb says.
+fn read_action(verb: &str) -> Action
+    ensures { result ≡ routes.read_action verb.now }
+{
+    if verb == "watch" {
+        Action::Watch
+    } else {
+        Action::List
     }
 }

@@ -1,11 +1,11 @@
 //! When an atom implies another.
-ghost use Rattle.std.specs.Prelude.{◌≡◌};
+ghost use Rattle.std.specs.Prelude.{◌≡◌, ◌∷◌};
 ghost use Rattle.std.specs.List.{list_any};
 ghost use Rattle.std.specs.Option.{option_copied};
 ghost use Rattle.kapi_rules.specs.Atoms.{after_slash as behind_slash, implies as atom_implies, is_any_with, is_one_of, listed_cover, names_cover as names_cover_names, resource_covers as entry_covers};
 
 use crate::atom::{Atom, Names, ResourceAtom, UrlAtom};
-use crate::entries::{is_joined, is_listed, url_matches, word_matches};
+use crate::entries::{is_listed, url_matches, word_matches};
 use kapi_text::Text;
 
 /// Whether an atom implies another: both are of one sort, and each part of the first covers that of the second. The resource
@@ -42,12 +42,21 @@ pub fn resource_covers(entry: &str, covered: &str) -> bool
     word_matches(entry, covered) || is_any_with_rest(entry.as_bytes(), covered.as_bytes())
 }
 
-// The entry is `*/` and what stands behind the first slash of the other.
+// The entry is `*/` and what stands behind the first slash of the other, which is looked for only where the entry begins so.
 fn is_any_with_rest(entry: &[u8], covered: &[u8]) -> bool
     ensures { result ≡ is_any_with entry.now (behind_slash covered.now) }
 {
+    match entry {
+        [b'*', b'/', subresource @ ..] => is_rest(subresource, covered),
+        _ => false,
+    }
+}
+
+fn is_rest(subresource: &[u8], covered: &[u8]) -> bool
+    ensures { result ≡ is_any_with (42 ∷ 47 ∷ subresource.now) (behind_slash covered.now) }
+{
     match after_slash(covered) {
-        Some(subresource) => is_joined(entry, b"*", subresource),
+        Some(rest) => subresource == rest,
         None => false,
     }
 }

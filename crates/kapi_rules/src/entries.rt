@@ -41,9 +41,9 @@ fn subresource_matches(entry: &str, resource: &str, subresource: &str) -> bool
     (entry == "*" || is_joined(bytes, resource.as_bytes(), last)) || is_joined(bytes, b"*", last)
 }
 
-/// The text is `FIRST/LAST`.
+// The text is `FIRST/LAST`.
 #[tactic(auto, using(crate::proofs::Texts::bytes_eq_append))]
-pub fn is_joined(text: &[u8], first: &[u8], last: &[u8]) -> bool
+fn is_joined(text: &[u8], first: &[u8], last: &[u8]) -> bool
     ensures { result ≡ bytes_eq text.now (first.now ++ 47 ∷ last.now) }
 {
     if !text.starts_with(first) {

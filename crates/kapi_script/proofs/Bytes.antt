@@ -1,8 +1,9 @@
 -- Lines, byte by byte.
-use Rattle.std.proofs.Common.{◌≡◌, ◌==◌, ℕ, ◌+◌, All, false, List, [], ◌∷◌, ◌++◌, Option, Result, Ok, Err, refl, sym, arith, subst, ap, ◌∙◌, Some, None, OnOk, take, append-nil, ◌<◌, ◌≤◌, length, drop, get_or, drop-cons, add-one}
+use Rattle.std.proofs.Common.{◌≡◌, ◌==◌, ℕ, ◌+◌, All, false, List, [], ◌∷◌, ◌++◌, Option, Result, Ok, Err, refl, sym, arith, subst, ap, ◌∙◌, Some, None, OnOk, IfErr, take, append-nil, append_assoc, ◌<◌, ◌≤◌, length, drop, get_or, drop-cons, add-one}
 use Rattle.std.specs.Io.KnownBytes.{Consumes, IsAtEnd}
 use Rattle.kapi_core.specs.Stands.{Stands}
 use Rattle.std.proofs.lemmas.List.{drop_all}
+use Rattle.std.proofs.lemmas.List.Elements.{All-append, All-cons, All-nil}
 use Rattle.std.proofs.lemmas.List.Splits.{slice_split_at, slice_split_none}
 use Rattle.kapi_core.specs.Running.{Running}
 use Rattle.kapi_script.specs.Scripts.{lines, said, first_bad_from, start}
@@ -12,10 +13,10 @@ use Rattle.kapi_script.specs.declared.script.ScriptFault.{ScriptFault}
 use Rattle.kapi_script.specs.declared.script.ScriptFault.TheVariants as fault
 
 -- LF ends the line that was read
-pub line_ends : (all : List (List ℕ)) (byte : ℕ) (unread before line : List ℕ) (s : Script) (c : Option (List ℕ)) → byte ≡ 10 → line ≡ s.line.items
-    → Reading all (byte ∷ unread) s before c → ReachedBy all (line ∷ lines unread) s.lines s.core before c
-line_ends all byte unread before line s c e f h =
-    subst (λ ls. ReachedBy all ls s.lines s.core before c)
+pub line_ends : (all : List (List ℕ)) (byte : ℕ) (unread before line : List ℕ) (core : Running) (s : Script) (c : Option (List ℕ)) → byte ≡ 10 → line ≡ s.line.items
+    → Reading all (byte ∷ unread) core s before c → ReachedBy all (line ∷ lines unread) s.lines core before c
+line_ends all byte unread before line core s c e f h =
+    subst (λ ls. ReachedBy all ls s.lines core before c)
     (slice_split_at (λ b. b == 10) s.line.items byte unread h.0 (rw e refl) ∙ ap (λ l. l ∷ lines unread) (sym f)) h.1
 
 -- the next line begins
@@ -24,19 +25,33 @@ pub line_begins : (all : List (List ℕ)) (unread before items : List ℕ) (n : 
 line_begins all unread before items n core d e h =
     subst (λ xs. All (λ b. (b == 10) ≡ false) xs × ReachedBy all (lines (xs ++ unread)) n core before d) (sym e) ((λ k d below. absurd (omega (arith, below))), h)
 
+-- a byte more of a line
+pub byte_pushed : (all : List (List ℕ)) (byte : ℕ) (unread before : List ℕ) (core : Running) (s t : Script) (c : Option (List ℕ)) (result : Result (Unit {0}) ScriptFault)
+    → (byte == 10) ≡ false → t.lines ≡ s.lines → OnOk result (t.line.items ≡ s.line.items ++ byte ∷ []) → IfErr result (λ e. e ≡ fault.Memory)
+    → Reading all (byte ∷ unread) core s before c → ReadsOn all unread core t before c result
+byte_pushed all byte unread before core s t c (Ok done) other lines_are pushed _ h =
+    let P : List ℕ → ℕ → Type 0 = λ items n. All (λ b. (b == 10) ≡ false) items × ReachedBy all (lines (items ++ unread)) n core before c in
+    let whole = All-append (λ b. (b == 10) ≡ false) s.line.items (byte ∷ []) h.0 (All-cons (λ b. (b == 10) ≡ false) byte [] other (All-nil (λ b. (b == 10) ≡ false))) in
+    let there = subst (λ ls. ReachedBy all (lines ls) s.lines core before c) (sym (append_assoc s.line.items (byte ∷ []) unread)) h.1 in
+    subst (λ n. P t.line.items n) (sym lines_are) (subst (λ items. P items s.lines) (sym pushed) (whole, there))
+byte_pushed all byte unread before core s t c (Err (fault.BadLine number)) other lines_are pushed is h = absurd (cc is)
+byte_pushed all byte unread before core s t c (Err fault.Read) other lines_are pushed is h = tt
+byte_pushed all byte unread before core s t c (Err fault.Write) other lines_are pushed is h = tt
+byte_pushed all byte unread before core s t c (Err fault.Memory) other lines_are pushed is h = tt
+
 -- what ended a line ends the script
 pub line_failed : (all rest : List (List ℕ)) (unread before : List ℕ) (n : ℕ) (core : Running) (s : Script) (d : Option (List ℕ)) (result : Result (Unit {0}) ScriptFault) (e : ScriptFault)
-    → result ≡ Err e → Goes all rest n core before d result → ReadsOn all unread s before d (Err e)
+    → result ≡ Err e → Goes all rest n core before d result → ReadsOn all unread core s before d (Err e)
 line_failed all rest unread before n core s d result (fault.BadLine number) is h = subst (λ r. Goes all rest n core before d r) is h
 line_failed all rest unread before n core s d result fault.Read is h = tt
 line_failed all rest unread before n core s d result fault.Write is h = tt
 line_failed all rest unread before n core s d result fault.Memory is h = tt
 
 -- nothing is left to be read but the last line
-pub last_line : (all : List (List ℕ)) (before line : List ℕ) (s : Script) (c : Option (List ℕ)) → line ≡ s.line.items → Reading all [] s before c
-    → ReachedBy all (line ∷ []) s.lines s.core before c
-last_line all before line s c e h =
-    subst (λ ls. ReachedBy all ls s.lines s.core before c)
+pub last_line : (all : List (List ℕ)) (before line : List ℕ) (core : Running) (s : Script) (c : Option (List ℕ)) → line ≡ s.line.items → Reading all [] core s before c
+    → ReachedBy all (line ∷ []) s.lines core before c
+last_line all before line core s c e h =
+    subst (λ ls. ReachedBy all ls s.lines core before c)
     (ap lines (append-nil s.line.items) ∙ slice_split_none (λ b. b == 10) s.line.items h.0 ∙ ap (λ l. l ∷ []) (sym e)) h.1
 
 -- all lines were played
@@ -52,23 +67,23 @@ ended all before n core d (Err fault.Write) h = tt
 ended all before n core d (Err fault.Memory) h = tt
 
 -- the next byte that is read
-pub byte_first : (all : List (List ℕ)) (bytes unread before : List ℕ) (i : ℕ) (s : Script) (c : Option (List ℕ)) → i < length bytes
-    → Reading all (drop i bytes ++ unread) s before c → Reading all (get_or bytes i 0 ∷ (drop (i + 1) bytes ++ unread)) s before c
-byte_first all bytes unread before i s c below h =
-    subst (λ xs. Reading all (xs ++ unread) s before c) (drop-cons bytes i 0 below ∙ ap (λ k. get_or bytes i 0 ∷ drop k bytes) (sym (add-one i))) h
+pub byte_first : (all : List (List ℕ)) (bytes unread before : List ℕ) (i : ℕ) (core : Running) (s : Script) (c : Option (List ℕ)) → i < length bytes
+    → Reading all (drop i bytes ++ unread) core s before c → Reading all (get_or bytes i 0 ∷ (drop (i + 1) bytes ++ unread)) core s before c
+byte_first all bytes unread before i core s c below h =
+    subst (λ xs. Reading all (xs ++ unread) core s before c) (drop-cons bytes i 0 below ∙ ap (λ k. get_or bytes i 0 ∷ drop k bytes) (sym (add-one i))) h
 
 -- all bytes were read
-pub bytes_end : (all : List (List ℕ)) (bytes unread before : List ℕ) (i : ℕ) (s : Script) (c : Option (List ℕ)) → length bytes ≤ i
-    → Reading all (drop i bytes ++ unread) s before c → Reading all unread s before c
-bytes_end all bytes unread before i s c over h = subst (λ xs. Reading all (xs ++ unread) s before c) (drop_all i bytes over) h
+pub bytes_end : (all : List (List ℕ)) (bytes unread before : List ℕ) (i : ℕ) (core : Running) (s : Script) (c : Option (List ℕ)) → length bytes ≤ i
+    → Reading all (drop i bytes ++ unread) core s before c → Reading all unread core s before c
+bytes_end all bytes unread before i core s c over h = subst (λ xs. Reading all (xs ++ unread) core s before c) (drop_all i bytes over) h
 
 -- what ended the script does not depend on what was not read
-pub reads_failed : (all : List (List ℕ)) (unread other before : List ℕ) (s t : Script) (d : Option (List ℕ)) (e : ScriptFault)
-    → ReadsOn all unread s before d (Err e) → ReadsOn all other t before d (Err e)
-reads_failed all unread other before s t d (fault.BadLine number) h = h
-reads_failed all unread other before s t d fault.Read h = tt
-reads_failed all unread other before s t d fault.Write h = tt
-reads_failed all unread other before s t d fault.Memory h = tt
+pub reads_failed : (all : List (List ℕ)) (unread other before : List ℕ) (core later : Running) (s t : Script) (d : Option (List ℕ)) (e : ScriptFault)
+    → ReadsOn all unread core s before d (Err e) → ReadsOn all other later t before d (Err e)
+reads_failed all unread other before core later s t d (fault.BadLine number) h = h
+reads_failed all unread other before core later s t d fault.Read h = tt
+reads_failed all unread other before core later s t d fault.Write h = tt
+reads_failed all unread other before core later s t d fault.Memory h = tt
 
 some_same : (xs ys : List ℕ) → Some xs ≡ Some ys → xs ≡ ys
 some_same xs ys e = cc
@@ -96,12 +111,12 @@ on_ok (Ok done) P p = p
 on_ok (Err e) P p = tt
 
 -- what ended the reading ends the script
-pub ends_failed : (all : List (List ℕ)) (unread before : List ℕ) (s : Script) (d : Option (List ℕ)) (e : ScriptFault)
-    → ReadsOn all unread s before d (Err e) → Ends all before d (Err e)
-ends_failed all unread before s d (fault.BadLine number) h = h
-ends_failed all unread before s d fault.Read h = tt
-ends_failed all unread before s d fault.Write h = tt
-ends_failed all unread before s d fault.Memory h = tt
+pub ends_failed : (all : List (List ℕ)) (unread before : List ℕ) (core : Running) (s : Script) (d : Option (List ℕ)) (e : ScriptFault)
+    → ReadsOn all unread core s before d (Err e) → Ends all before d (Err e)
+ends_failed all unread before core s d (fault.BadLine number) h = h
+ends_failed all unread before core s d fault.Read h = tt
+ends_failed all unread before core s d fault.Write h = tt
+ends_failed all unread before core s d fault.Memory h = tt
 
 -- at the start nothing was read
 pub at_start : (text before items : List ℕ) (core : Running) (c : Option (List ℕ)) → items ≡ [] → Stands core start → c ≡ Some before

@@ -1,5 +1,4 @@
 pub mod Appending
-pub mod Numbers
 pub mod Texts
 pub mod Lines
 pub mod Lined

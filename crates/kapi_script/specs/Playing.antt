@@ -61,11 +61,11 @@ Ends all before contents (Err (fault.BadLine number)) = Stopped all number befor
 Ends all before contents (Err e) = Unit {0}
 
 -- in the midst of a line: what was read of it, and the bytes that were not yet read
-abbrev pub Reading : List (List ℕ) → List ℕ → Script → List ℕ → Option (List ℕ) → Type 0
-Reading all unread s before contents = All (λ b. (b == 10) ≡ false) s.line.items × ReachedBy all (lines (s.line.items ++ unread)) s.lines s.core before contents
+abbrev pub Reading : List (List ℕ) → List ℕ → Running → Script → List ℕ → Option (List ℕ) → Type 0
+Reading all unread core s before contents = All (λ b. (b == 10) ≡ false) s.line.items × ReachedBy all (lines (s.line.items ++ unread)) s.lines core before contents
 
 -- after some bytes more
-abbrev pub ReadsOn : List (List ℕ) → List ℕ → Script → List ℕ → Option (List ℕ) → Result (Unit {0}) ScriptFault → Type 0
-ReadsOn all unread s before contents (Ok done) = Reading all unread s before contents
-ReadsOn all unread s before contents (Err (fault.BadLine number)) = Stopped all number before contents
-ReadsOn all unread s before contents (Err e) = Unit {0}
+abbrev pub ReadsOn : List (List ℕ) → List ℕ → Running → Script → List ℕ → Option (List ℕ) → Result (Unit {0}) ScriptFault → Type 0
+ReadsOn all unread core s before contents (Ok done) = Reading all unread core s before contents
+ReadsOn all unread core s before contents (Err (fault.BadLine number)) = Stopped all number before contents
+ReadsOn all unread core s before contents (Err e) = Unit {0}

@@ -4,6 +4,8 @@
 mod answer_text;
 mod escape;
 mod line;
+#[cfg(test)]
+mod played;
 mod script;
 mod table;
 #[cfg(test)]

@@ -9,7 +9,7 @@ ghost use Rattle.kapi_script.specs.Events.{connection as connection_of, feed_at 
 use crate::escape::{is_escaped, unescape};
 use kapi_core::{ConnId, Event};
 use kapi_rbac_types::Identity;
-use kapi_text::{Memory, Sequence, Text, TryCopy};
+use kapi_text::{Memory, Sequence, Text, TryCopy, are_digits, number};
 use std::alloc::Global;
 use std::str;
 
@@ -148,23 +148,4 @@ fn connection(digits: &[u8]) -> Option<ConnId>
         return None;
     }
     Some(ConnId(number(digits)))
-}
-
-fn are_digits(digits: &[u8]) -> bool
-    ensures { result ≡ list_all is_ascii_digit digits.now }
-{
-    digits.iter().all(|digit| digit.is_ascii_digit())
-}
-
-/// The number that decimal digits write.
-fn number(digits: &[u8]) -> u64
-    requires few { length digits.now ≤ 18 }
-    requires digits { list_all is_ascii_digit digits.now ≡ true }
-    ensures { result ≡ digits_value 10 digits.now }
-{
-    let mut number = 0;
-    for digit in digits {
-        number = number * 10 + u64::from(*digit - b'0');
-    }
-    number
 }

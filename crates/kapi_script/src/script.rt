@@ -3,13 +3,14 @@ ghost use Rattle.kapi_script.specs.declared.script.ScriptFault.TheVariants as Fa
 ghost use Rattle.std.specs.Io.KnownBytes.{Appends, Consumes, IsAtEnd};
 ghost use Rattle.kapi_core.specs.Stands.{Keeps, Steps};
 ghost use Rattle.kapi_script.specs.Playing.{is_bad_play, Ends, Goes, Plays, ReachedBy, Reading, ReadsOn, played_text};
+ghost use Rattle.kapi_policy.specs.Objects.{no_objects};
 ghost use Rattle.kapi_script.specs.Scripts.{IsAnswered, lines};
 
 use crate::answer_text::write_answer;
 use crate::line::parse_line;
 use crate::table::program_table;
 use kapi_core::{Answer, Core};
-use kapi_policy::PlainPolicy;
+use kapi_policy::Policy;
 use kapi_text::Memory;
 use std::alloc::Global;
 use std::io::{self, Read, Write};
@@ -46,10 +47,9 @@ impl From<Memory> for ScriptFault {
     }
 }
 
-/// A script that is being played: the machine, the line that was read so far, and how many lines were whole.
+/// A script that is being read: the line that was read so far, and how many lines were whole.
 #[derive(Drop)]
 struct Script {
-    core: Core<PlainPolicy>,
     line: Vec<u8>,
     lines: u64,
 }
@@ -68,7 +68,7 @@ pub enum Played {
 
 /// Makes the step of a line, if it is one of a known form.
 #[tactic(auto, unfolding(crate::specs::Scripts::line_of))]
-fn play(alloc: Global, core: &mut Core<PlainPolicy>, line: &[u8]) -> Played
+fn play<P: Policy + Drop>(alloc: Global, core: &mut Core<P>, line: &[u8]) -> Played
     ensures { Plays core.old core.new line.now result }
 {
     if line.is_empty() || line[0] == b'#' {
@@ -113,9 +113,9 @@ fn write_text<W: Write>(writer: &mut W, played: &Played) -> io::Result<()>
 }
 
 /// Plays a line behind so many others, and writes its answer.
-fn play_line<W: Write>(
+fn play_line<P: Policy + Drop, W: Write>(
     alloc: Global,
-    core: &mut Core<PlainPolicy>,
+    core: &mut Core<P>,
     lines: u64,
     line: &[u8],
     writer: &mut W,
@@ -132,27 +132,22 @@ fn play_line<W: Write>(
 }
 
 /// Reads one byte more; LF ends a line.
-fn play_byte<W: Write>(
+fn play_byte<P: Policy + Drop, W: Write>(
     alloc: Global,
+    core: &mut Core<P>,
     script: &mut Script,
     byte: u8,
     writer: &mut W,
 ) -> Result<(), ScriptFault>
     requires { script.old.lines < 18446744073709551615 }
-    ensures goes { (all : List (List ℕ)) (unread before : List ℕ) → Reading all (byte ∷ unread) script.old before (W.contents writer.old)
-        → ReadsOn all unread script.new before (W.contents writer.new) result }
+    ensures goes { (all : List (List ℕ)) (unread before : List ℕ) → Reading all (byte ∷ unread) core.old script.old before (W.contents writer.old)
+        → ReadsOn all unread core.new script.new before (W.contents writer.new) result }
     ensures count { OnOk result (script.new.lines ≤ script.old.lines + 1) }
 {
     if byte != b'\n' {
         return push(&mut script.line, byte);
     }
-    match play_line(
-        alloc,
-        &mut script.core,
-        script.lines,
-        script.line.as_slice(),
-        writer,
-    ) {
+    match play_line(alloc, core, script.lines, script.line.as_slice(), writer) {
         Ok(()) => {
             script.lines += 1;
             script.line.clear();
@@ -173,19 +168,20 @@ fn push(line: &mut Vec<u8>, byte: u8) -> Result<(), ScriptFault>
 }
 
 /// Reads some bytes more.
-fn play_bytes<W: Write>(
+fn play_bytes<P: Policy + Drop, W: Write>(
     alloc: Global,
+    core: &mut Core<P>,
     script: &mut Script,
     bytes: &[u8],
     writer: &mut W,
 ) -> Result<(), ScriptFault>
     requires { script.old.lines + length bytes.now ≤ 18446744073709551615 }
-    ensures goes { (all : List (List ℕ)) (unread before : List ℕ) → Reading all (bytes.now ++ unread) script.old before (W.contents writer.old)
-        → ReadsOn all unread script.new before (W.contents writer.new) result }
+    ensures goes { (all : List (List ℕ)) (unread before : List ℕ) → Reading all (bytes.now ++ unread) core.old script.old before (W.contents writer.old)
+        → ReadsOn all unread core.new script.new before (W.contents writer.new) result }
     ensures count { OnOk result (script.new.lines ≤ script.old.lines + length bytes.now) }
 {
     for byte in bytes {
-        match play_byte(alloc, script, *byte, writer) {
+        match play_byte(alloc, core, script, *byte, writer) {
             Ok(()) => {}
             Err(fault) => return Err(fault),
         }
@@ -194,53 +190,58 @@ fn play_bytes<W: Write>(
 }
 
 /// The last line may lack its end.
-fn end_script<W: Write>(
+fn end_script<P: Policy + Drop, W: Write>(
     alloc: Global,
+    core: &mut Core<P>,
     script: &mut Script,
     writer: &mut W,
 ) -> Result<(), ScriptFault>
     requires { script.old.lines < 18446744073709551615 }
-    ensures { (all : List (List ℕ)) (before : List ℕ) → Reading all [] script.old before (W.contents writer.old)
+    ensures { (all : List (List ℕ)) (before : List ℕ) → Reading all [] core.old script.old before (W.contents writer.old)
         → Ends all before (W.contents writer.new) result }
 {
-    play_line(
-        alloc,
-        &mut script.core,
-        script.lines,
-        script.line.as_slice(),
-        writer,
-    )
+    play_line(alloc, core, script.lines, script.line.as_slice(), writer)
 }
 
-/// Plays the events that a reader gives, line by line, and writes the answers as they are made.
+/// Plays the events that a reader gives, line by line, on a machine that decides by the given policy, which is still empty, and writes
+/// the answers as they are made.
 ///
 /// # Errors
 /// `BadLine` at the first line of no known form; `Read` where the reader fails or gives 2^32 pieces or more;
 /// `Write` where the writer fails; `Memory` where memory runs out outside an event.
-pub fn script_run<R: Read, W: Write>(
+pub fn script_run<P: Policy + Drop, R: Read, W: Write>(
     alloc: Global,
+    policy: P,
     reader: &mut R,
     writer: &mut W,
 ) -> Result<(), ScriptFault>
+    requires { P.content policy ≡ no_objects }
     ensures played { (text before : List ℕ) → R.remaining reader.old ≡ Some text → W.contents writer.old ≡ Some before
         → OnOk result (IsAnswered text before (W.contents writer.new) None) }
     ensures bad { (text before : List ℕ) (number : ℕ) → R.remaining reader.old ≡ Some text → W.contents writer.old ≡ Some before
         → result ≡ Err (Fault.BadLine number) → IsAnswered text before (W.contents writer.new) (Some number) }
     ensures whole { OnOk result (IsAtEnd (R.remaining reader.new)) }
 {
-    let core = Core::new(alloc, program_table(alloc)?, PlainPolicy::new(alloc), 0)?;
+    let mut core = Core::new(alloc, program_table(alloc)?, policy, 0)?;
     let mut script = Script {
-        core,
         line: Vec::new(alloc),
         lines: 0,
     };
     let mut buffer = vec![in alloc; 0u8; READ_SIZE]?;
-    play_all(alloc, &mut script, reader, buffer.as_mut_slice(), writer)
+    play_all(
+        alloc,
+        &mut core,
+        &mut script,
+        reader,
+        buffer.as_mut_slice(),
+        writer,
+    )
 }
 
 /// Reads to the end, a buffer at a time.
-fn play_all<R: Read, W: Write>(
+fn play_all<P: Policy + Drop, R: Read, W: Write>(
     alloc: Global,
+    core: &mut Core<P>,
     script: &mut Script,
     reader: &mut R,
     buffer: &mut [u8],
@@ -250,15 +251,15 @@ fn play_all<R: Read, W: Write>(
     requires room { 0 < length buffer.old }
     requires size { length buffer.old ≤ 65536 }
     ensures ends { (all : List (List ℕ)) (unread before : List ℕ) → R.remaining reader.old ≡ Some unread
-        → Reading all unread script.old before (W.contents writer.old) → Ends all before (W.contents writer.new) result }
+        → Reading all unread core.old script.old before (W.contents writer.old) → Ends all before (W.contents writer.new) result }
     ensures whole { OnOk result (IsAtEnd (R.remaining reader.new)) }
 {
     for _ in 0..READS {
         let count = read_into(reader, buffer)?;
         if count == 0 {
-            return end_script(alloc, script, writer);
+            return end_script(alloc, core, script, writer);
         }
-        match play_bytes(alloc, script, &buffer[..count], writer) {
+        match play_bytes(alloc, core, script, &buffer[..count], writer) {
             Ok(()) => {}
             Err(fault) => return Err(fault),
         }

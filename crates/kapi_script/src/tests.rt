@@ -1,4 +1,5 @@
 use crate::script::{ScriptFault, script_run};
+use kapi_policy::PlainPolicy;
 use std::alloc::Global;
 use std::io::{self, BufWriter, Read};
 use std::test::Fail;
@@ -39,7 +40,15 @@ fn plays_scripts(rt: HostRuntime) -> Result<(), Fail> {
     ] {
         let mut reader = script;
         let mut writer = Vec::new(rt.alloc());
-        assert_eq!(rt; script_run(rt.alloc(), &mut reader, &mut writer), Ok(()));
+        assert_eq!(rt;
+            script_run(
+                rt.alloc(),
+                PlainPolicy::new(rt.alloc()),
+                &mut reader,
+                &mut writer
+            ),
+            Ok(())
+        );
         assert_eq!(rt; writer.as_slice(), answers);
     }
     Ok(())
@@ -83,7 +92,12 @@ fn stops_at_a_bad_line(rt: HostRuntime) -> Result<(), Fail> {
         let mut reader = script.as_slice();
         let mut writer = Vec::new(rt.alloc());
         assert_eq!(rt;
-            script_run(rt.alloc(), &mut reader, &mut writer),
+            script_run(
+                rt.alloc(),
+                PlainPolicy::new(rt.alloc()),
+                &mut reader,
+                &mut writer
+            ),
             Err(ScriptFault::BadLine(3)),
             "{line}"
         );
@@ -136,7 +150,15 @@ fn plays_a_long_script_in_any_pieces(rt: HostRuntime) -> Result<(), Fail> {
     assert!(rt; script.len() > 200_000);
     let mut whole = script.as_str().as_bytes();
     let mut writer = Vec::new(rt.alloc());
-    assert_eq!(rt; script_run(rt.alloc(), &mut whole, &mut writer), Ok(()));
+    assert_eq!(rt;
+        script_run(
+            rt.alloc(),
+            PlainPolicy::new(rt.alloc()),
+            &mut whole,
+            &mut writer
+        ),
+        Ok(())
+    );
     assert!(rt; writer.as_slice() == answers.as_str().as_bytes());
     let mut reader = Dripping {
         text: script.as_str().as_bytes(),
@@ -144,7 +166,15 @@ fn plays_a_long_script_in_any_pieces(rt: HostRuntime) -> Result<(), Fail> {
         fails: false,
     };
     let mut writer = Vec::new(rt.alloc());
-    assert_eq!(rt; script_run(rt.alloc(), &mut reader, &mut writer), Ok(()));
+    assert_eq!(rt;
+        script_run(
+            rt.alloc(),
+            PlainPolicy::new(rt.alloc()),
+            &mut reader,
+            &mut writer
+        ),
+        Ok(())
+    );
     assert!(rt; writer.as_slice() == answers.as_str().as_bytes());
     Ok(())
 }
@@ -156,7 +186,15 @@ fn plays_a_line_of_two_million_bytes(rt: HostRuntime) -> Result<(), Fail> {
     script.extend_from_slice(b"\nserve 0\nserve 0\n")?;
     let mut reader = script.as_slice();
     let mut writer = Vec::new(rt.alloc());
-    assert_eq!(rt; script_run(rt.alloc(), &mut reader, &mut writer), Ok(()));
+    assert_eq!(rt;
+        script_run(
+            rt.alloc(),
+            PlainPolicy::new(rt.alloc()),
+            &mut reader,
+            &mut writer
+        ),
+        Ok(())
+    );
     assert_eq!(rt; writer.as_slice(), TOO_LONG_ANSWERS);
     Ok(())
 }
@@ -174,7 +212,12 @@ fn hands_each_answer_on_at_once(rt: HostRuntime) -> Result<(), Fail> {
     };
     let mut writer = BufWriter::new(rt.alloc(), Vec::new(rt.alloc()))?;
     assert_eq!(rt;
-        script_run(rt.alloc(), &mut reader, &mut writer),
+        script_run(
+            rt.alloc(),
+            PlainPolicy::new(rt.alloc()),
+            &mut reader,
+            &mut writer
+        ),
         Err(ScriptFault::Read)
     );
     assert_eq!(rt; writer.get_ref().as_slice(), b"conn 0\nnone\n".as_slice());

@@ -19,7 +19,7 @@ use std::marker::Model;
 pub const LAST_REVISION: u64 = 281_474_976_710_655;
 
 /// The objects by their keys, one revision counter over all writes, and the last changes.
-#[derive(Debug, Drop)]
+#[derive(Debug)]
 pub struct Store {
     alloc: Global,
     table: Sequence<ResourceRow>,
@@ -29,6 +29,20 @@ pub struct Store {
     first: u64,
     revision: u64,
     window: Window,
+}
+
+impl Drop for Store {
+    fn drop(self) {
+        let Store {
+            alloc: _,
+            table: _,
+            slots: _,
+            spare: _,
+            first: _,
+            revision: _,
+            window: _,
+        } = self;
+    }
 }
 
 impl Model for Store {

@@ -12,7 +12,21 @@ use kapi_store::{Change, Key, LAST_REVISION, Listed, Ready, Store, StoreError};
 use kapi_text::{Sequence, Text, TryCopy};
 use std::alloc::Global;
 use std::cmp::Ordering;
+use std::process::Abort;
 use std::test::Fail;
+
+/// Each assertion stands in a function of its own: what an assertion expands to is proved once.
+fn is_so(rt: &impl Abort, so: bool, what: &str) {
+    assert!(rt; so, "{what}");
+}
+
+fn is_number(rt: &impl Abort, number: u64, wanted: u64) {
+    assert_eq!(rt; number, wanted);
+}
+
+fn is_text(rt: &impl Abort, text: &str, wanted: &str) {
+    assert_eq!(rt; text, wanted);
+}
 
 /// A row of the core group.
 fn row(alloc: Global, plural: &str, kind: &str, namespaced: bool) -> Result<ResourceRow, Fail> {
@@ -69,24 +83,41 @@ fn put(alloc: Global, store: &mut Store, key: Key) -> Result<Result<u64, StoreEr
     }
 }
 
+/// The place of the namespace `default`.
+fn default_place(alloc: Global) -> Result<Key, Fail> {
+    key(alloc, "namespaces", "", "default")
+}
+
+/// A word for what a prepared creation is.
+fn creation_word(changes: &[Change], place: &Key) -> &'static str {
+    match changes {
+        [change] if change.revision == 6 && change.key == *place && change.old.is_none() => {
+            "a creation by 6"
+        }
+        _other => "other",
+    }
+}
+
 #[test]
 fn a_creation_is_seen_once_committed(rt: HostRuntime) -> Result<(), Fail> {
     let alloc = rt.alloc();
     let mut store = store_at(alloc, 5)?;
-    let place = key(alloc, "namespaces", "", "default")?;
-    let ready = store.create(place.copy(alloc)?, config_map(alloc, "default")?)?;
-    assert!(rt; store.get(&place).is_none());
-    assert_eq!(rt; store.revision(), 5);
-    assert_eq!(rt; ready.changes().len(), 1);
-    assert_eq!(rt; ready.changes()[0].revision, 6);
-    assert!(rt; ready.changes()[0].key == place && ready.changes()[0].old.is_none());
+    let place = default_place(alloc)?;
+    let ready = store.create(default_place(alloc)?, config_map(alloc, "default")?)?;
+    is_so(&rt, store.get(&place).is_none(), "not seen yet");
+    is_number(&rt, store.revision(), 5);
+    is_text(
+        &rt,
+        creation_word(ready.changes(), &place),
+        "a creation by 6",
+    );
     store.commit(ready);
-    assert_eq!(rt; store.revision(), 6);
-    assert_eq!(rt; store.table().len(), 2);
-    let text = store.get(&place).ok_or("no object")?.render(alloc)?;
-    assert_eq!(rt;
-        str::from_utf8(text.as_slice())?,
-        r#"{"apiVersion":"v1","kind":"ConfigMap","metadata":{"name":"default","resourceVersion":"6","uid":"00000000-0000-4000-8000-000000000006"}}"#
+    is_number(&rt, store.revision(), 6);
+    is_number(&rt, store.table().len() as u64, 2);
+    is_text(
+        &rt,
+        text_at(alloc, &store, &place)?.as_str(),
+        r#"{"apiVersion":"v1","kind":"ConfigMap","metadata":{"name":"default","resourceVersion":"6","uid":"00000000-0000-4000-8000-000000000006"}}"#,
     );
     Ok(())
 }
@@ -108,8 +139,8 @@ fn refusals_come_in_order(rt: HostRuntime) -> Result<(), Fail> {
         let before = store.revision();
         let place = key(alloc, resource, namespace, "default")?;
         let put = put(alloc, &mut store, place)?;
-        assert_eq!(rt; put, answer);
-        assert_eq!(rt; store.revision(), put.unwrap_or(before));
+        is_so(&rt, put == answer, resource);
+        is_number(&rt, store.revision(), put.unwrap_or(before));
     }
     Ok(())
 }
@@ -122,68 +153,83 @@ fn created_after(alloc: Global, first: u64) -> Result<String, Fail>
     let place = key(alloc, "namespaces", "", "a")?;
     let ready = store.create(place.copy(alloc)?, config_map(alloc, "a")?)?;
     store.commit(ready);
-    text_of(alloc, store.get(&place).ok_or("no object")?)
+    text_at(alloc, &store, &place)
 }
 
-/// A config map as it is told with such stamps.
-fn with_stamps(alloc: Global, stamps: &str) -> Result<String, Fail> {
-    Ok(format!(in alloc;
+/// That the config map which the revision after this one created is told with such stamps.
+fn is_stamped(rt: &impl Abort, alloc: Global, first: u64, stamps: &str) -> Result<(), Fail>
+    requires { first ≤ LAST_REVISION }
+{
+    let created = created_after(alloc, first)?;
+    let wanted = format!(in alloc;
         r#"{{"apiVersion":"v1","kind":"ConfigMap","metadata":{{"name":"a","resourceVersion":{stamps}}}}}"#
-    )?)
+    )?;
+    is_text(rt, created.as_str(), wanted.as_str());
+    Ok(())
 }
 
 #[test]
 fn stamps_are_those_of_the_revision(rt: HostRuntime) -> Result<(), Fail> {
     let alloc = rt.alloc();
-    let (six, byte) = (created_after(alloc, 5)?, created_after(alloc, 254)?);
-    let stamps = with_stamps(alloc, r#""6","uid":"00000000-0000-4000-8000-000000000006""#)?;
-    assert_eq!(rt; six.as_str(), stamps.as_str());
-    let stamps = with_stamps(
-        alloc,
-        r#""255","uid":"00000000-0000-4000-8000-0000000000ff""#,
-    )?;
-    assert_eq!(rt; byte.as_str(), stamps.as_str());
-    let million = created_after(alloc, 999_999)?;
-    let stamps = with_stamps(
-        alloc,
-        r#""1000000","uid":"00000000-0000-4000-8000-0000000f4240""#,
-    )?;
-    assert_eq!(rt; million.as_str(), stamps.as_str());
-    let last = created_after(alloc, 281_474_976_710_654)?;
-    let stamps = with_stamps(
-        alloc,
-        r#""281474976710655","uid":"00000000-0000-4000-8000-ffffffffffff""#,
-    )?;
-    assert_eq!(rt; last.as_str(), stamps.as_str());
-    Ok(())
+    let six = r#""6","uid":"00000000-0000-4000-8000-000000000006""#;
+    is_stamped(&rt, alloc, 5, six)?;
+    let byte = r#""255","uid":"00000000-0000-4000-8000-0000000000ff""#;
+    is_stamped(&rt, alloc, 254, byte)?;
+    let million = r#""1000000","uid":"00000000-0000-4000-8000-0000000f4240""#;
+    is_stamped(&rt, alloc, 999_999, million)?;
+    let last = r#""281474976710655","uid":"00000000-0000-4000-8000-ffffffffffff""#;
+    is_stamped(&rt, alloc, 281_474_976_710_654, last)
+}
+
+/// How many objects `many_are_found_again` creates.
+const COUNT: u64 = 10_000;
+
+/// The place of the object of this number.
+fn numbered(alloc: Global, number: u64) -> Result<Key, Fail> {
+    let name = format!(in alloc; "{number}")?;
+    key(alloc, "unknowns", "", name.as_str())
+}
+
+/// A store of so many objects, created in scattered order.
+fn store_of_many(alloc: Global) -> Result<Store, Fail> {
+    let mut store = store_at(alloc, 0)?;
+    for i in 0..COUNT {
+        let place = numbered(alloc, i * 7_919 % COUNT)?;
+        put(alloc, &mut store, place)??;
+    }
+    Ok(store)
+}
+
+/// How many of the objects of the first numbers are there.
+fn count_found(alloc: Global, store: &Store, numbers: u64) -> Result<u64, Fail> {
+    let mut found: u64 = 0;
+    for i in 0..numbers {
+        let place = numbered(alloc, i)?;
+        if store.get(&place).is_some() {
+            found = found.saturating_add(1);
+        }
+    }
+    Ok(found)
+}
+
+/// Whether each key of a list is before the next.
+fn is_in_order(list: &[Listed<'_>]) -> bool {
+    list.windows(2).all(|pair| match pair {
+        [first, second] => first.key < second.key,
+        _other => false,
+    })
 }
 
 #[test]
 fn many_are_found_again(rt: HostRuntime) -> Result<(), Fail> {
-    const COUNT: u64 = 10_000;
     let alloc = rt.alloc();
-    let mut store = store_at(alloc, 0)?;
-    for i in 0..COUNT {
-        let name = format!(in alloc; "{}", i * 7_919 % COUNT)?;
-        let place = key(alloc, "unknowns", "", name.as_str())?;
-        assert_eq!(rt; put(alloc, &mut store, place)?, Ok(i + 1));
-    }
-    for i in 0..COUNT {
-        let name = format!(in alloc; "{i}")?;
-        assert!(rt;
-            store
-                .get(&key(alloc, "unknowns", "", name.as_str())?)
-                .is_some(),
-            "{name}"
-        );
-    }
-    assert!(rt; store.get(&key(alloc, "unknowns", "", "10000")?).is_none());
+    let store = store_of_many(alloc)?;
+    is_number(&rt, store.revision(), COUNT);
+    is_number(&rt, count_found(alloc, &store, COUNT + 10)?, COUNT);
     let unknowns = row(alloc, "unknowns", "Unknown", false)?;
     let list = store.list(&unknowns, "", &everything(alloc), "")?;
-    assert_eq!(rt; list.len(), 10_000);
-    for pair in list.windows(2) {
-        assert!(rt; pair[0].key < pair[1].key);
-    }
+    is_number(&rt, list.len() as u64, COUNT);
+    is_so(&rt, is_in_order(list.as_slice()), "in order");
     Ok(())
 }
 
@@ -208,29 +254,45 @@ fn of_tier(alloc: Global, value: &str) -> Result<Selector, Fail> {
     })
 }
 
+/// Creates a config map of this tier.
+fn create_tier(alloc: Global, store: &mut Store, place: Key, tier: &str) -> Result<(), Fail> {
+    let row = row(alloc, "configmaps", "ConfigMap", true)?;
+    let name = place.name.as_str();
+    let text = format!(in alloc;
+        r#"{{"apiVersion":"v1","kind":"ConfigMap","metadata":{{"name":"{name}","labels":{{"tier":"{tier}"}}}}}}"#
+    )?;
+    let object = read_object(alloc, &row, text.as_bytes())?;
+    let ready = store.create(place, object)?;
+    store.commit(ready);
+    Ok(())
+}
+
+/// The places of `store_of_tiers`, and the tier of the object there.
+static TIERS: [(&str, &str); 9] = [
+    ("namespaces//n", "x"),
+    ("namespaces//m", "x"),
+    ("namespaces//nn", "x"),
+    ("configmaps/nn/a", "front"),
+    ("configmaps/n/b", "back"),
+    ("configmaps/n/a", "front"),
+    ("configmaps/m/ab", "front"),
+    ("configmaps/m/a", "back"),
+    ("configmapsets/n/a", "front"),
+];
+
+/// Creates a config map at each place.
+fn create_all(alloc: Global, store: &mut Store, places: &[(&str, &str)]) -> Result<(), Fail> {
+    for (place, tier) in places {
+        let place = key_at(alloc, place)?;
+        create_tier(alloc, store, place, tier)?;
+    }
+    Ok(())
+}
+
 /// A store with namespaces, config maps of two tiers, and a resource whose name begins as theirs does.
 fn store_of_tiers(alloc: Global) -> Result<Store, Fail> {
-    let places = [
-        ("namespaces", "", "n", "x"),
-        ("namespaces", "", "m", "x"),
-        ("namespaces", "", "nn", "x"),
-        ("configmaps", "nn", "a", "front"),
-        ("configmaps", "n", "b", "back"),
-        ("configmaps", "n", "a", "front"),
-        ("configmaps", "m", "ab", "front"),
-        ("configmaps", "m", "a", "back"),
-        ("configmapsets", "n", "a", "front"),
-    ];
-    let row = row(alloc, "configmaps", "ConfigMap", true)?;
     let mut store = store_at(alloc, 0)?;
-    for (resource, namespace, name, tier) in places {
-        let text = format!(in alloc;
-            r#"{{"apiVersion":"v1","kind":"ConfigMap","metadata":{{"name":"{name}","labels":{{"tier":"{tier}"}}}}}}"#
-        )?;
-        let object = read_object(alloc, &row, text.as_bytes())?;
-        let ready = store.create(key(alloc, resource, namespace, name)?, object)?;
-        store.commit(ready);
-    }
+    create_all(alloc, &mut store, &TIERS)?;
     Ok(store)
 }
 
@@ -246,22 +308,27 @@ fn places(alloc: Global, list: &[Listed<'_>]) -> Result<String, Fail> {
     Ok(text)
 }
 
-#[test]
-fn lists_show_what_is_asked_for(rt: HostRuntime) -> Result<(), Fail> {
-    let alloc = rt.alloc();
-    let store = store_of_tiers(alloc)?;
+/// A namespace, a tier and a name, each empty for all, and the places of the list.
+static LISTS: [(&str, &str, &str, &str); 9] = [
+    ("", "", "", "m/a m/ab n/a n/b nn/a "),
+    ("n", "", "", "n/a n/b "),
+    ("", "", "a", "m/a n/a nn/a "),
+    ("m", "", "a", "m/a "),
+    ("m", "", "b", ""),
+    ("o", "", "", ""),
+    ("", "front", "", "m/ab n/a nn/a "),
+    ("n", "back", "", "n/b "),
+    ("n", "back", "a", ""),
+];
+
+/// That the lists show these places.
+fn are_listed(
+    rt: &impl Abort,
+    alloc: Global,
+    store: &Store,
+    lists: &[(&str, &str, &str, &str)],
+) -> Result<(), Fail> {
     let row = row(alloc, "configmaps", "ConfigMap", true)?;
-    let lists = [
-        ("", "", "", "m/a m/ab n/a n/b nn/a "),
-        ("n", "", "", "n/a n/b "),
-        ("", "", "a", "m/a n/a nn/a "),
-        ("m", "", "a", "m/a "),
-        ("m", "", "b", ""),
-        ("o", "", "", ""),
-        ("", "front", "", "m/ab n/a nn/a "),
-        ("n", "back", "", "n/b "),
-        ("n", "back", "a", ""),
-    ];
     for (namespace, tier, name, shown) in lists {
         let selector = if tier.is_empty() {
             everything(alloc)
@@ -269,9 +336,16 @@ fn lists_show_what_is_asked_for(rt: HostRuntime) -> Result<(), Fail> {
             of_tier(alloc, tier)?
         };
         let list = store.list(&row, namespace, &selector, name)?;
-        assert_eq!(rt; places(alloc, list.as_slice())?.as_str(), shown);
+        is_text(rt, places(alloc, list.as_slice())?.as_str(), shown);
     }
     Ok(())
+}
+
+#[test]
+fn lists_show_what_is_asked_for(rt: HostRuntime) -> Result<(), Fail> {
+    let alloc = rt.alloc();
+    let store = store_of_tiers(alloc)?;
+    are_listed(&rt, alloc, &store, &LISTS)
 }
 
 /// A config map of this name with a value and a resourceVersion, each a piece of JSON.
@@ -289,9 +363,9 @@ fn text_of(alloc: Global, object: &Object) -> Result<String, Fail> {
 }
 
 /// Replaces a config map and commits the write; answers how many changes that were.
-fn replace(alloc: Global, store: &mut Store, name: &str, body: Object) -> Result<usize, Fail> {
+fn replace(alloc: Global, store: &mut Store, name: &str, body: Object) -> Result<u64, Fail> {
     let ready = store.replace(key(alloc, "unknowns", "", name)?, body)?;
-    let count = ready.changes().len();
+    let count = ready.changes().len() as u64;
     store.commit(ready);
     Ok(count)
 }
@@ -304,42 +378,64 @@ fn create(alloc: Global, store: &mut Store, name: &str) -> Result<(), Fail> {
     Ok(())
 }
 
+/// A body's data and resourceVersion, and the revision then.
+static REPLACEMENTS: [(&str, &str, u64); 11] = [
+    // The body's data and resourceVersion, and the revision then.
+    ("1", "null", 1),
+    ("true", "null", 2),
+    ("1", "\"2\"", 3),
+    ("1", "\"\"", 3),
+    ("[1,{\"a\":-1}]", "\"3\"", 4),
+    ("[1,{\"a\":-1}]", "\"4\"", 4),
+    ("[1,{\"a\":-2}]", "\"4\"", 5),
+    ("[1]", "\"5\"", 6),
+    ("{\"b\":1}", "null", 7),
+    ("{\"b\":1,\"c\":\"\"}", "null", 8),
+    ("{\"b\":1,\"c\":\"\"}", "null", 8),
+];
+
+/// That the config map `a`, replaced in turn, is as told.
+fn are_replaced(
+    rt: &impl Abort,
+    alloc: Global,
+    store: &mut Store,
+    steps: &[(&str, &str, u64)],
+) -> Result<(), Fail> {
+    for (value, version, revision) in steps {
+        let changed = if *revision > store.revision() { 1 } else { 0 };
+        let body = config_map_with(alloc, "a", value, version)?;
+        is_number(rt, replace(alloc, store, "a", body)?, changed);
+        is_number(rt, store.revision(), *revision);
+        let wanted = replaced_text(alloc, value, *revision)?;
+        is_text(rt, stored(alloc, store, "a")?.as_str(), wanted.as_str());
+    }
+    Ok(())
+}
+
 #[test]
 fn replacements_keep_the_uid(rt: HostRuntime) -> Result<(), Fail> {
     let alloc = rt.alloc();
     let mut store = store_at(alloc, 0)?;
     create(alloc, &mut store, "a")?;
-    let steps = [
-        // The body's data and resourceVersion, and the revision then.
-        ("1", "null", 1),
-        ("true", "null", 2),
-        ("1", "\"2\"", 3),
-        ("1", "\"\"", 3),
-        ("[1,{\"a\":-1}]", "\"3\"", 4),
-        ("[1,{\"a\":-1}]", "\"4\"", 4),
-        ("[1,{\"a\":-2}]", "\"4\"", 5),
-        ("[1]", "\"5\"", 6),
-        ("{\"b\":1}", "null", 7),
-        ("{\"b\":1,\"c\":\"\"}", "null", 8),
-        ("{\"b\":1,\"c\":\"\"}", "null", 8),
-    ];
-    for (value, version, revision) in steps {
-        let changed = if revision > store.revision() { 1 } else { 0 };
-        let body = config_map_with(alloc, "a", value, version)?;
-        assert_eq!(rt; replace(alloc, &mut store, "a", body)?, changed);
-        assert_eq!(rt; store.revision(), revision);
-        let expected = format!(in alloc;
-            r#"{{"apiVersion":"v1","data":{value},"kind":"ConfigMap","metadata":{{"name":"a","resourceVersion":"{revision}","uid":"00000000-0000-4000-8000-000000000001"}}}}"#
-        )?;
-        assert_eq!(rt; stored(alloc, &store, "a")?.as_str(), expected.as_str());
-    }
+    are_replaced(&rt, alloc, &mut store, &REPLACEMENTS)?;
     Ok(())
+}
+
+/// The text of the config map `a`, which revision 1 created, as a later revision left it.
+fn replaced_text(alloc: Global, value: &str, revision: u64) -> Result<String, Fail> {
+    Ok(format!(in alloc;
+        r#"{{"apiVersion":"v1","data":{value},"kind":"ConfigMap","metadata":{{"name":"a","resourceVersion":"{revision}","uid":"00000000-0000-4000-8000-000000000001"}}}}"#
+    )?)
+}
+
+/// The text of the object at a place.
+fn text_at(alloc: Global, store: &Store, place: &Key) -> Result<String, Fail> {
+    text_of(alloc, store.get(place).ok_or("no object")?)
 }
 
 /// The stored object's text.
 fn stored(alloc: Global, store: &Store, name: &str) -> Result<String, Fail> {
-    let place = key(alloc, "unknowns", "", name)?;
-    text_of(alloc, store.get(&place).ok_or("no object")?)
+    text_at(alloc, store, &key(alloc, "unknowns", "", name)?)
 }
 
 /// A word for what a prepared write is; of a conflict the current version.
@@ -355,30 +451,43 @@ fn word(ready: &Result<Ready, StoreError>) -> &str {
     }
 }
 
+/// A name, a body's data and resourceVersion, and the answer.
+static REFUSED_REPLACEMENTS: [(&str, &str, &str, &str); 10] = [
+    ("c", "1", "\"1\"", "missing"),
+    ("c", "1", "7", "missing"),
+    ("a", "1", "\"1\"", "281474976710654"),
+    ("a", "1", "\"0281474976710654\"", "281474976710654"),
+    ("a", "1", "7", "281474976710654"),
+    ("a", "2", "{}", "281474976710654"),
+    ("a", "2", "null", "used up"),
+    ("a", "2", "\"281474976710654\"", "used up"),
+    ("a", "1", "null", "nothing"),
+    ("a", "1", "\"281474976710654\"", "nothing"),
+];
+
+/// That each replacement is answered so, and changes nothing.
+fn are_answered(
+    rt: &impl Abort,
+    alloc: Global,
+    store: &Store,
+    steps: &[(&str, &str, &str, &str)],
+) -> Result<(), Fail> {
+    for (name, value, version, answer) in steps {
+        let body = config_map_with(alloc, name, value, version)?;
+        let ready = store.replace(key(alloc, "unknowns", "", name)?, body);
+        is_text(rt, word(&ready), answer);
+        is_number(rt, store.revision(), 281_474_976_710_655);
+    }
+    Ok(())
+}
+
 #[test]
 fn refused_replacements_come_in_order(rt: HostRuntime) -> Result<(), Fail> {
     let alloc = rt.alloc();
     let mut store = store_at(alloc, 281_474_976_710_653)?;
     create(alloc, &mut store, "a")?;
     create(alloc, &mut store, "b")?;
-    let steps = [
-        ("c", "1", "\"1\"", "missing"),
-        ("c", "1", "7", "missing"),
-        ("a", "1", "\"1\"", "281474976710654"),
-        ("a", "1", "\"0281474976710654\"", "281474976710654"),
-        ("a", "1", "7", "281474976710654"),
-        ("a", "2", "{}", "281474976710654"),
-        ("a", "2", "null", "used up"),
-        ("a", "2", "\"281474976710654\"", "used up"),
-        ("a", "1", "null", "nothing"),
-        ("a", "1", "\"281474976710654\"", "nothing"),
-    ];
-    for (name, value, version, answer) in steps {
-        let body = config_map_with(alloc, name, value, version)?;
-        let ready = store.replace(key(alloc, "unknowns", "", name)?, body);
-        assert_eq!(rt; word(&ready), answer);
-        assert_eq!(rt; store.revision(), 281_474_976_710_655);
-    }
+    are_answered(&rt, alloc, &store, &REFUSED_REPLACEMENTS)?;
     Ok(())
 }
 
@@ -435,6 +544,34 @@ fn commit_if(store: &mut Store, ready: Result<Ready, StoreError>)
     }
 }
 
+/// Two places to remove, the second empty for one alone, and the answer.
+static REFUSED_REMOVALS: [(&str, &str, &str); 7] = [
+    ("namespaces//n", "namespaces//z", "missing"),
+    ("namespaces//n", "", "not empty"),
+    // A namespace holds an object also where that is to be removed with it.
+    ("configmaps/n/a", "namespaces//n", "not empty"),
+    ("configmaps/n/a", "namespaces//m", "used up"),
+    ("configmaps/n/a", "", "changed"),
+    ("configmaps/n/a", "", "missing"),
+    // Now the namespace is empty, but no revision is left.
+    ("namespaces//n", "", "used up"),
+];
+
+/// That each removal is answered so; those that are not refused are made.
+fn are_removed(
+    rt: &impl Abort,
+    alloc: Global,
+    store: &mut Store,
+    steps: &[(&str, &str, &str)],
+) -> Result<(), Fail> {
+    for (first, second, answer) in steps {
+        let ready = store.remove(keys_at(alloc, first, second)?);
+        is_text(rt, word(&ready), answer);
+        commit_if(store, ready);
+    }
+    Ok(())
+}
+
 #[test]
 fn refused_removals_come_in_order(rt: HostRuntime) -> Result<(), Fail> {
     let alloc = rt.alloc();
@@ -443,23 +580,8 @@ fn refused_removals_come_in_order(rt: HostRuntime) -> Result<(), Fail> {
         let key = key_at(alloc, place)?;
         put(alloc, &mut store, key)??;
     }
-    let steps = [
-        ("namespaces//n", "namespaces//z", "missing"),
-        ("namespaces//n", "", "not empty"),
-        // A namespace holds an object also where that is to be removed with it.
-        ("configmaps/n/a", "namespaces//n", "not empty"),
-        ("configmaps/n/a", "namespaces//m", "used up"),
-        ("configmaps/n/a", "", "changed"),
-        ("configmaps/n/a", "", "missing"),
-        // Now the namespace is empty, but no revision is left.
-        ("namespaces//n", "", "used up"),
-    ];
-    for (first, second, answer) in steps {
-        let ready = store.remove(keys_at(alloc, first, second)?);
-        assert_eq!(rt; word(&ready), answer);
-        commit_if(&mut store, ready);
-    }
-    assert_eq!(rt; store.revision(), LAST_REVISION);
+    are_removed(&rt, alloc, &mut store, &REFUSED_REMOVALS)?;
+    is_number(&rt, store.revision(), LAST_REVISION);
     Ok(())
 }
 
@@ -490,31 +612,29 @@ fn a_collection_is_removed_in_one_step(rt: HostRuntime) -> Result<(), Fail> {
     let mut store = store_of_tiers(alloc)?;
     let ready = store.remove(front_keys(alloc, &store)?)?;
     let text = changes_as_text(alloc, ready.changes())?;
-    assert_eq!(rt; text.as_str(), "m/ab 10 n/a 11 nn/a 12 ");
-    assert_eq!(rt; front_keys(alloc, &store)?.len(), 3);
+    is_text(&rt, text.as_str(), "m/ab 10 n/a 11 nn/a 12 ");
+    is_number(&rt, front_keys(alloc, &store)?.len() as u64, 3);
     store.commit(ready);
-    assert_eq!(rt; front_keys(alloc, &store)?.len(), 0);
-    assert_eq!(rt; store.revision(), 12);
+    is_number(&rt, front_keys(alloc, &store)?.len() as u64, 0);
+    is_number(&rt, store.revision(), 12);
     Ok(())
 }
+
+/// A place to remove, with nothing beside it, and the answer.
+static NAMESPACES: [(&str, &str, &str); 4] = [
+    ("configmaps/nn/a", "", "changed"),
+    // The namespaces n and m hold objects, nn none, though a namespace whose name begins so does.
+    ("namespaces//n", "", "not empty"),
+    ("namespaces//m", "", "not empty"),
+    ("namespaces//nn", "", "changed"),
+];
 
 #[test]
 fn an_empty_namespace_is_removed(rt: HostRuntime) -> Result<(), Fail> {
     let alloc = rt.alloc();
     let mut store = store_of_tiers(alloc)?;
-    let steps = [
-        ("configmaps/nn/a", "changed"),
-        // The namespaces n and m hold objects, nn none, though a namespace whose name begins so does.
-        ("namespaces//n", "not empty"),
-        ("namespaces//m", "not empty"),
-        ("namespaces//nn", "changed"),
-    ];
-    for (place, answer) in steps {
-        let ready = store.remove(keys_at(alloc, place, "")?);
-        assert_eq!(rt; word(&ready), answer);
-        commit_if(&mut store, ready);
-    }
-    assert_eq!(rt; store.revision(), 11);
+    are_removed(&rt, alloc, &mut store, &NAMESPACES)?;
+    is_number(&rt, store.revision(), 11);
     Ok(())
 }
 
@@ -551,44 +671,74 @@ fn store_after(alloc: Global, changes: u64) -> Result<Store, Fail> {
     Ok(store)
 }
 
-#[test]
-fn the_window_has_the_last_changes(rt: HostRuntime) -> Result<(), Fail> {
-    let alloc = rt.alloc();
-    let edges = [
-        // The changes made, a revision, and the first revision after it with the number of changes.
-        (0, 99, None),
-        (0, 100, Some((0, 0))),
-        (0, 1_000_000, Some((0, 0))),
-        (1, 99, None),
-        (1, 100, Some((101, 1))),
-        (1, 101, Some((0, 0))),
-        (1_024, 99, None),
-        (1_024, 100, Some((101, 1_024))),
-        (1_024, 1_123, Some((1_124, 1))),
-        (1_024, 1_124, Some((0, 0))),
-        (1_025, 100, None),
-        (1_025, 101, Some((102, 1_024))),
-        (1_025, 1_125, Some((0, 0))),
-        (1_025, u64::MAX, Some((0, 0))),
-        (3_000, 2_075, None),
-        (3_000, 2_076, Some((2_077, 1_024))),
-    ];
+/// The changes made, a revision, and the first revision after it with the number of changes.
+static EDGES: [(u64, u64, Option<(u64, u64)>); 16] = [
+    // The changes made, a revision, and the first revision after it with the number of changes.
+    (0, 99, None),
+    (0, 100, Some((0, 0))),
+    (0, 1_000_000, Some((0, 0))),
+    (1, 99, None),
+    (1, 100, Some((101, 1))),
+    (1, 101, Some((0, 0))),
+    (1_024, 99, None),
+    (1_024, 100, Some((101, 1_024))),
+    (1_024, 1_123, Some((1_124, 1))),
+    (1_024, 1_124, Some((0, 0))),
+    (1_025, 100, None),
+    (1_025, 101, Some((102, 1_024))),
+    (1_025, 1_125, Some((0, 0))),
+    (1_025, u64::MAX, Some((0, 0))),
+    (3_000, 2_075, None),
+    (3_000, 2_076, Some((2_077, 1_024))),
+];
+
+/// That the changes after these revisions are as told.
+fn are_windows(
+    rt: &impl Abort,
+    alloc: Global,
+    edges: &[(u64, u64, Option<(u64, u64)>)],
+) -> Result<(), Fail> {
     for (changes, revision, shown) in edges {
-        let store = store_after(alloc, changes)?;
-        assert_eq!(rt; revisions_after(&store, revision)?, shown);
+        let store = store_after(alloc, *changes)?;
+        is_so(rt, revisions_after(&store, *revision)? == *shown, "shown");
     }
     Ok(())
+}
+
+#[test]
+fn the_window_has_the_last_changes(rt: HostRuntime) -> Result<(), Fail> {
+    are_windows(&rt, rt.alloc(), &EDGES)
+}
+
+/// The text of the object before the first change after a revision.
+fn old_after(alloc: Global, store: &Store, revision: u64) -> Result<String, Fail> {
+    let changes = store.changes_after(revision).map_err(|_old| "too old")?;
+    let oldest = changes.get(0).ok_or("no change")?;
+    text_of(alloc, oldest.old.as_ref().ok_or("no object")?.get())
+}
+
+/// Whether there is a change of this index after a revision.
+fn is_change(store: &Store, revision: u64, index: usize) -> bool {
+    match store.changes_after(revision) {
+        Ok(changes) => changes.get(index).is_some(),
+        Err(_old) => false,
+    }
 }
 
 #[test]
 fn a_change_has_its_old_object(rt: HostRuntime) -> Result<(), Fail> {
     let alloc = rt.alloc();
     let store = store_after(alloc, 1_025)?;
-    let changes = store.changes_after(101).map_err(|_old| "too old")?;
-    let oldest = changes.get(0).ok_or("no change")?;
-    let old = text_of(alloc, oldest.old.as_ref().ok_or("no object")?.get())?;
-    assert!(rt; old.as_str().contains("\"resourceVersion\":\"101\""));
-    assert!(rt; changes.get(1_024).is_none() && changes.get(usize::MAX).is_none());
+    let old = old_after(alloc, &store, 101)?;
+    let told = old.as_str().contains("\"resourceVersion\":\"101\"");
+    is_so(&rt, told, "the old object's version");
+    is_so(&rt, is_change(&store, 101, 1_023), "the last change");
+    is_so(&rt, !is_change(&store, 101, 1_024), "past the last");
+    is_so(
+        &rt,
+        !is_change(&store, 101, usize::MAX),
+        "far past the last",
+    );
     Ok(())
 }
 
@@ -611,36 +761,56 @@ fn creations_that_are_dropped_are_not_seen(rt: HostRuntime) -> Result<(), Fail> 
     create(alloc, &mut store, "a")?;
     let unknowns = row(alloc, "unknowns", "Unknown", false)?;
     let list = store.list(&unknowns, "", &everything(alloc), "")?;
-    assert_eq!(rt; places(alloc, list.as_slice())?.as_str(), "/a /b ");
-    assert_eq!(rt; store.revision(), 2);
+    is_text(&rt, places(alloc, list.as_slice())?.as_str(), "/a /b ");
+    is_number(&rt, store.revision(), 2);
     Ok(())
+}
+
+/// The config map that the tests of memory create.
+fn prepared(alloc: Global, store: &mut Store) -> Result<Result<Ready, StoreError>, Fail>
+    ensures { IfOk result (λ r. IfOk r (Fits store.new)) }
+{
+    let place = key(alloc, "configmaps", "default", "a")?;
+    Ok(store.create(place, config_map(alloc, "a")?))
+}
+
+/// A store with the namespace `default`.
+fn store_of_default(alloc: Global) -> Result<Store, Fail> {
+    let mut store = store_at(alloc, 0)?;
+    let namespace = default_place(alloc)?;
+    put(alloc, &mut store, namespace)??;
+    Ok(store)
+}
+
+/// Whether a write was refused for want of memory.
+fn wants_memory(ready: &Result<Ready, StoreError>) -> bool {
+    matches!(ready, Err(StoreError::Memory))
 }
 
 /// Run with each allocation refused in turn: the state is as before, and the same call then succeeds.
 #[test]
 fn want_of_memory_changes_nothing(rt: HostRuntime) -> Result<(), Fail> {
     let alloc = rt.alloc();
-    let mut store = store_at(alloc, 0)?;
-    let namespace = key(alloc, "namespaces", "", "default")?;
-    put(alloc, &mut store, namespace)??;
+    let mut store = store_of_default(alloc)?;
     let place = key(alloc, "configmaps", "default", "a")?;
-    let place_again = place.copy(alloc)?;
-    let object_again = config_map(alloc, "a")?;
-    match store.create(place.copy(alloc)?, config_map(alloc, "a")?) {
-        Ok(ready) => store.commit(ready),
-        Err(error) => {
-            assert_eq!(rt; error, StoreError::Memory);
-            assert!(rt; store.get(&place).is_none());
-            assert_eq!(rt; store.revision(), 1);
-            let ready = store
-                .create(place_again, object_again)
-                .expect(&rt, "the same call");
-            store.commit(ready);
-        }
+    let mut ready = prepared(alloc, &mut store)?;
+    if wants_memory(&ready) {
+        is_so(&rt, store.get(&place).is_none(), "nothing is created");
+        is_number(&rt, store.revision(), 1);
+        ready = prepared(alloc, &mut store)?;
     }
-    assert!(rt; store.get(&place).is_some());
-    assert_eq!(rt; store.revision(), 2);
+    commit_if(&mut store, ready);
+    is_so(&rt, store.get(&place).is_some(), "created");
+    is_number(&rt, store.revision(), 2);
     Ok(())
+}
+
+/// The replacement that the tests of memory make.
+fn prepared_replacement(alloc: Global, store: &Store) -> Result<Result<Ready, StoreError>, Fail>
+    ensures { IfOk result (λ r. IfOk r (Fits store.now)) }
+{
+    let place = key(alloc, "unknowns", "", "a")?;
+    Ok(store.replace(place, config_map_with(alloc, "a", "1", "null")?))
 }
 
 /// The same for a replacement.
@@ -650,43 +820,36 @@ fn want_of_memory_replaces_nothing(rt: HostRuntime) -> Result<(), Fail> {
     let mut store = store_at(alloc, 0)?;
     let unknown = key(alloc, "unknowns", "", "a")?;
     put(alloc, &mut store, unknown)??;
-    let place = key(alloc, "unknowns", "", "a")?;
-    let body = config_map_with(alloc, "a", "1", "null")?;
-    let place_again = key(alloc, "unknowns", "", "a")?;
-    let body_again = config_map_with(alloc, "a", "1", "null")?;
-    let ready = match store.replace(place, body) {
-        Ok(ready) => ready,
-        Err(error) => {
-            assert_eq!(rt; error, StoreError::Memory);
-            store
-                .replace(place_again, body_again)
-                .expect(&rt, "the same call")
-        }
-    };
-    assert_eq!(rt; store.revision(), 1);
-    store.commit(ready);
-    assert_eq!(rt; store.revision(), 2);
+    let mut ready = prepared_replacement(alloc, &store)?;
+    is_number(&rt, store.revision(), 1);
+    if wants_memory(&ready) {
+        ready = prepared_replacement(alloc, &store)?;
+    }
+    commit_if(&mut store, ready);
+    is_number(&rt, store.revision(), 2);
     Ok(())
+}
+
+/// The removal that the tests of memory make.
+fn prepared_removal(alloc: Global, store: &Store) -> Result<Result<Ready, StoreError>, Fail>
+    ensures { IfOk result (λ r. IfOk r (Fits store.now)) }
+{
+    let keys = default_place(alloc)?.alone(alloc)?;
+    Ok(store.remove(keys))
 }
 
 /// The same for a removal.
 #[test]
 fn want_of_memory_removes_nothing(rt: HostRuntime) -> Result<(), Fail> {
     let alloc = rt.alloc();
-    let mut store = store_at(alloc, 0)?;
-    let place = key(alloc, "namespaces", "", "a")?;
-    put(alloc, &mut store, place.copy(alloc)?)??;
-    let keys = place.copy(alloc)?.alone(alloc)?;
-    let again = place.copy(alloc)?.alone(alloc)?;
-    let ready = match store.remove(keys) {
-        Ok(ready) => ready,
-        Err(error) => {
-            assert_eq!(rt; error, StoreError::Memory);
-            store.remove(again).expect(&rt, "the same call")
-        }
-    };
-    assert!(rt; store.get(&place).is_some());
-    store.commit(ready);
-    assert!(rt; store.get(&place).is_none());
+    let mut store = store_of_default(alloc)?;
+    let place = default_place(alloc)?;
+    let mut ready = prepared_removal(alloc, &store)?;
+    if wants_memory(&ready) {
+        is_so(&rt, store.get(&place).is_some(), "nothing is removed");
+        ready = prepared_removal(alloc, &store)?;
+    }
+    commit_if(&mut store, ready);
+    is_so(&rt, store.get(&place).is_none(), "removed");
     Ok(())
 }

@@ -2,3 +2,5 @@ pub mod Collected
 pub mod Places
 pub mod Writes
 pub mod Steps
+pub mod Admitted
+pub mod Sound

@@ -1,10 +1,12 @@
 //! Texts and lists as contracts see them, and want of memory.
 #![tactic(auto)]
 
+pub mod digits;
 pub mod joined;
 pub mod sequence;
 pub mod text;
 
+pub use digits::{are_digits, number};
 pub use joined::is_joined;
 pub use sequence::{Sequence, TryCopy};
 use std::alloc::AllocError;

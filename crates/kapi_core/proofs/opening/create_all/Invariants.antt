@@ -6,4 +6,4 @@ use Rattle.kapi_core.specs.Openings.{Holds, opening_data}
 use Rattle.kapi_core.proofs.opening.create_all.Given as goal
 
 abbrev pub invariant-loop-object : goal.invariant-loop-object
-invariant-loop-object g l = (m : Machine) → Holds l.initial.store (g.P.Policy.content l.initial.policy) m → Holds l.store (g.P.Policy.content l.policy) (fold with_opening m (map opening_data (take l.object-index l.objects)))
+invariant-loop-object g l = (m : Machine) → Holds l.initial.store (g.P.Policy.content l.initial.policy) l.initial.tracker m → Holds l.store (g.P.Policy.content l.policy) l.tracker (fold with_opening m (map opening_data (take l.object-index l.objects)))

@@ -1,10 +1,10 @@
-use Rattle.std.proofs.Common.{◌≡◌, Option, Some, None, map, sym, ap, ◌∙◌, subst}
+use Rattle.std.proofs.Common.{◌≡◌, Option, map, sym, ap, ◌∙◌, subst}
 use Rattle.kapi_answer.specs.Outcomes.{changes_data}
 use Rattle.kapi_store.specs.Plain.{plain_change}
 use Rattle.kapi_store.specs.declared.ready.Ready.{Ready}
 use Rattle.kapi_stored_policy.specs.Reading.{after_changes, policy_changes}
 use Rattle.kapi_core.specs.Writes.{Writes}
-use Rattle.kapi_core.proofs.Writes.{nothing_writes, writes}
+use Rattle.kapi_core.proofs.Writes.{CoversWritten, nothing_writes, writes}
 use Rattle.kapi_core.proofs.write.make_write.Goals as goal
 
 pub returns-in_default-clause-made : goal.returns-in_default-clause-made
@@ -14,16 +14,17 @@ returns-in_default-clause-made g c = c.new.ensures.items ∙ sym (ap (λ (w : Op
 pub returns-in_default-clause-writes : goal.returns-in_default-clause-writes
 returns-in_default-clause-writes g c =
     let content = g.P.Policy.content in
-    let P : Option Ready → Type 0 = λ w. Writes c.args.store.now (content c.args.policy.now) c.args.store.now (content c.args.policy.now) (changes_data w) in
-    subst P (sym c.in_default.is) (nothing_writes c.args.store.now (content c.args.policy.now))
+    let P : Option Ready → Type 0 = λ w. Writes c.args.store.now (content c.args.policy.now) c.args.tracker.now c.args.store.now (content c.args.policy.now) c.args.tracker.now (changes_data w) in
+    subst P (sym c.in_default.is) (nothing_writes c.args.store.now (content c.args.policy.now) c.args.tracker.now)
 
 pub returns-clause-writes : goal.returns-clause-writes
 returns-clause-writes g c =
     let content = g.P.Policy.content in
-    let P : Option Ready → Type 0 = λ w. Writes c.args.store.now (content c.args.policy.now) c.commit.new.self (content c.apply_step.new.policy) (changes_data w) in
+    let P : Option Ready → Type 0 = λ w. Writes c.args.store.now (content c.args.policy.now) c.args.tracker.now c.commit.new.self (content c.apply_step.new.policy) c.note_write.new.self (changes_data w) in
+    let noted = subst (λ cs. CoversWritten c.args.store.now c.args.tracker.now c.note_write.new.self (map plain_change cs)) c.changes-2.ensures.list c.in_ok-note_write.ensures.covers_after in
     let made : content c.apply_step.new.policy ≡ after_changes (policy_changes (map plain_change c.in-Some.ready)) (content c.args.policy.now) =
     c.in_ok-apply_step.ensures.done
     ∙ ap (λ cs. after_changes cs (content c.args.policy.now))
     (c.as_slice.ensures.value ∙ c.in_ok-changes.ensures.gives ∙ ap (λ cs. policy_changes (map plain_change cs)) c.changes.ensures.list) in
     subst P (sym c.in-Some.is)
-    (writes c.args.store.now c.commit.new.self (content c.args.policy.now) (content c.apply_step.new.policy) (map plain_change c.in-Some.ready) c.commit.ensures.stands made)
+    (writes c.args.store.now c.commit.new.self (content c.args.policy.now) (content c.apply_step.new.policy) c.args.tracker.now c.note_write.new.self (map plain_change c.in-Some.ready) c.commit.ensures.stands made noted)

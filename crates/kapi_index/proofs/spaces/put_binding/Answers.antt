@@ -1,8 +1,6 @@
 use Rattle.std.proofs.Common.{◌∙◌, ap, refl}
-use Rattle.kapi_policy.specs.Objects.{name_cmp}
-use Rattle.std.specs.BTreeMap.{BTreeMap, insert_entry}
 use Rattle.kapi_index.proofs.Changed.{map_err, map_ok}
-use Rattle.kapi_index.proofs.Placed.{absent_at, nothing_after, put_after, same_after, same_namespace, spread_after, stood_named, taken_after, was_set}
+use Rattle.kapi_index.proofs.Placed.{absent_at, put_after, same_after, same_namespace, spread_after, stood_named, was_set}
 use Rattle.kapi_index.specs.Contents.{bindings_in, roles_in}
 use Rattle.kapi_index.specs.Scopes.{Scoped}
 use Rattle.kapi_index.proofs.spaces.put_binding.Goals as goal

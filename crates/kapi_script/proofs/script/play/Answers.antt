@@ -3,6 +3,6 @@ use Rattle.kapi_script.proofs.Lines.{line_told}
 use Rattle.kapi_script.proofs.script.play.Goals as goal
 
 pub returns : goal.returns
-returns c =
+returns g c =
     let event = line_told c.args.line.now (sym c.is_empty.ensures ∙ c.if-is_empty.false) c.if-line-eq35.false c.in-Err.ensures.known in
     (event.0, event.1, λ m stands. stands)

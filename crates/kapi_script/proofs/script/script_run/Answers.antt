@@ -10,12 +10,12 @@ pub returns-clause-played : goal.returns-clause-played
 returns-clause-played g c = λ text before r w.
     played_to_end text before _ _
     (c.play_all.ensures.ends (lines text) text before r
-    (at_start text before c.new-3.result.items c.in_ok-core.core _ c.new-3.ensures.items
+    (at_start text before c.new-2.result.items c.in_ok-core.core _ c.new-2.ensures.items
     (subst (λ rows. Stands c.in_ok-core.core (opening rows 0)) c.in_ok-program_table.ensures.rows c.in_ok-core.ensures.stands) w))
 
 pub returns-clause-bad : goal.returns-clause-bad
 returns-clause-bad g c = λ text before number r w.
     stopped_at text before _ number _
     (c.play_all.ensures.ends (lines text) text before r
-    (at_start text before c.new-3.result.items c.in_ok-core.core _ c.new-3.ensures.items
+    (at_start text before c.new-2.result.items c.in_ok-core.core _ c.new-2.ensures.items
     (subst (λ rows. Stands c.in_ok-core.core (opening rows 0)) c.in_ok-program_table.ensures.rows c.in_ok-core.ensures.stands) w))

@@ -15,6 +15,7 @@ returns-clause-stands g c =
     record {
       store = c.in_ok-store.ensures.0;
       policy_is = c.in_ok-store.ensures.1;
+      covers = c.in_ok-store.ensures.2;
       next_id = sym same.next_id;
       links = subst (λ (ps : List (ℕ × Link)). AreLinks c.new.result.entries ps) (sym same.links) (links_none c.new.result.entries c.new.ensures.len);
     }

@@ -1,0 +1,10 @@
+use Rattle.std.proofs.Common.{◌≡◌, true, subst, sym}
+use Rattle.serde_json.specs.Data.{Data}
+use Rattle.serde_json.specs.View.{view}
+use Rattle.kapi_object.specs.Order.{is_ordered}
+use Rattle.kapi_answer.proofs.Merged.{merged_in_order}
+use Rattle.kapi_answer.proofs.update.merge.Goals as goal
+
+pub returns-clause-ordered : goal.returns-clause-ordered
+returns-clause-ordered c =
+    rw c.in_ok-merged.ensures (merged_in_order (view c.as_tree.result.now) (view c.args.patch.now) (rw c.as_tree.ensures c.args.object.now.ordered) c.requires)

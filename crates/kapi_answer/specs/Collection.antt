@@ -1,0 +1,45 @@
+-- The checks of a list and of the deletion of a collection (Kubernetes, 'Kubernetes API Concepts', API verbs).
+use Rattle.std.specs.Prelude.{ℕ, ◌+◌, List, [], map, length, Result, Ok, Err}
+use Rattle.serde_json.specs.Data.{Data}
+use Rattle.serde_json.specs.Written.{compact_text}
+use Rattle.kapi_text.specs.Gives.{◌>>=◌}
+use Rattle.kapi_collection.specs.List.{list_tree}
+use Rattle.kapi_http.specs.declared.message.StatusCode.TheVariants as status
+use Rattle.kapi_names.specs.declared.row.ResourceRow.{ResourceRow}
+use Rattle.kapi_reply.specs.declared.refusal.Refused.{Refused}
+use Rattle.kapi_route.specs.declared.query.Filter.{Filter}
+use Rattle.kapi_store.specs.Listing.{listed_trees}
+use Rattle.kapi_store.specs.Plain.{Plain, revisions_left}
+use Rattle.kapi_store.specs.declared.key.Key.{Key}
+use Rattle.kapi_answer.specs.Create.{stored}
+use Rattle.kapi_answer.specs.Delete.{Deletion, deletable}
+use Rattle.kapi_answer.specs.Outcome.{Outcome, told}
+
+-- what a collection is asked for, with its keys: the objects of the row in the namespace, or in all where that is empty
+abbrev pub chosen : Plain → ResourceRow → List ℕ → Filter → List (Key × Data)
+chosen s row namespace filter = listed_trees row namespace filter.selector filter.name s.objects
+
+-- some objects as a list at a revision
+abbrev pub list_of : ResourceRow → List (Key × Data) → ℕ → Data
+list_of row entries revision = list_tree row (map (λ e. e.1) entries) revision
+
+-- what is told of a collection
+unfoldable pub listed : Plain → ResourceRow → List ℕ → Filter → Outcome
+listed s row namespace filter = told status.Ok (list_of row (chosen s row namespace filter) s.revision)
+
+-- what is deleted of a collection is told as it stood, at the revision of its last deletion
+abbrev pub deletion_of : ResourceRow → ℕ → List (Key × Data) → Deletion
+deletion_of row revision entries =
+    record { name = []; keys = map (λ e. e.0) entries; told = compact_text (list_of row entries (revision + length entries)) }
+
+-- the deletion of some objects: a revision must be left for each
+unfoldable pub deletes_all : Plain → ResourceRow → List (Key × Data) → Result Deletion Refused
+deletes_all s row entries = do
+  left ← stored [] (revisions_left s (length entries))
+  Ok (deletion_of row s.revision entries)
+
+-- the deletion of what a collection is asked for, from its body on
+unfoldable pub to_delete_all : Plain → ResourceRow → List ℕ → Filter → List ℕ → Result Deletion Refused
+to_delete_all s row namespace filter body = do
+  options ← deletable body
+  deletes_all s row (chosen s row namespace filter)

@@ -1,0 +1,87 @@
+//! The list of a collection, and its deletion.
+ghost use Rattle.std.specs.Prelude.{◌≡◌, None, IfOk, map};
+ghost use Rattle.std.specs.List.{IsDistinct};
+ghost use Rattle.std.specs.Map.{keys_of as keys_in};
+ghost use Rattle.kapi_text.specs.Gives.{Gives};
+ghost use Rattle.kapi_reply.specs.Refusals.{refused_by};
+ghost use Rattle.kapi_store.specs.Keys.{is_key};
+ghost use Rattle.kapi_store.specs.Listing.{shown};
+ghost use Rattle.kapi_store.specs.Plain.{plain_of, trees};
+ghost use Rattle.kapi_answer.specs.Collection as collections;
+ghost use Rattle.kapi_answer.specs.Collection.{deletes_all, to_delete_all};
+ghost use Rattle.kapi_answer.specs.Outcomes.{deletion_data, outcome_data};
+
+use crate::create::refused_by_store;
+use crate::delete::check_options;
+use crate::outcome::{Deletion, Outcome};
+use kapi_collection::{keys_of, list_text};
+use kapi_http::StatusCode;
+use kapi_names::ResourceRow;
+use kapi_reply::{CheckError, Content};
+use kapi_route::Filter;
+use kapi_store::{Listed, Store};
+use kapi_text::{Memory, Text};
+use std::alloc::Global;
+
+/// What a collection is asked for, as a list at the current revision.
+#[tactic(auto, unfolding(crate::specs::Collection::listed))]
+pub fn list(
+    alloc: Global,
+    store: &Store,
+    row: &ResourceRow,
+    namespace: &str,
+    filter: &Filter,
+) -> Result<Outcome, Memory>
+    ensures gives { IfOk result (λ o. outcome_data o ≡ collections.listed (plain_of store.now) row.now namespace.now filter.now) }
+    ensures told { IfOk result (λ o. o.write ≡ None) }
+{
+    let listed = store.list(row, namespace, &filter.selector, filter.name.as_str())?;
+    Ok(Outcome {
+        code: StatusCode::Ok,
+        content: Content::Json,
+        body: list_text(alloc, row, listed.as_slice(), store.revision())?,
+        write: None,
+    })
+}
+
+/// The checks of the deletion of what a collection is asked for: the body, and that a revision is left for each object.
+#[tactic(auto, unfolding(crate::specs::Collection::to_delete_all))]
+pub fn check_delete_all(
+    alloc: Global,
+    store: &Store,
+    row: &ResourceRow,
+    namespace: &str,
+    filter: &Filter,
+    body: &[u8],
+) -> Result<Deletion, CheckError>
+    ensures gives { Gives refused_by deletion_data result (to_delete_all (plain_of store.now) row.now namespace.now filter.now body.now) }
+    ensures distinct { IfOk result (λ d. IsDistinct is_key d.keys.items) }
+{
+    check_options(alloc, body)?;
+    let listed = store.list(row, namespace, &filter.selector, filter.name.as_str())?;
+    delete_listed(alloc, store, row, listed.as_slice())
+}
+
+/// The deletion of listed objects, which is told as they stood, at the revision of the last one.
+#[tactic(auto, unfolding(crate::specs::Collection::deletes_all))]
+fn delete_listed(
+    alloc: Global,
+    store: &Store,
+    row: &ResourceRow,
+    listed: &[Listed<'_>],
+) -> Result<Deletion, CheckError>
+    requires { IsDistinct is_key (keys_in (map shown listed.now)) }
+    ensures gives { Gives refused_by deletion_data result (deletes_all (plain_of store.now) row.now (trees (map shown listed.now))) }
+    ensures distinct { IfOk result (λ d. IsDistinct is_key d.keys.items) }
+{
+    let name = Text::copy_of(alloc, "")?;
+    let count = listed.len() as u64;
+    match store.check_revisions(count) {
+        Ok(()) => Ok(Deletion {
+            name,
+            keys: keys_of(alloc, listed)?,
+            reply: list_text(alloc, row, listed, store.revision() + count)?,
+        }),
+        Err(error) => Err(refused_by_store(name, error)),
+    }
+}

@@ -1,0 +1,147 @@
+//! The deletion of an object.
+ghost use Rattle.std.specs.Prelude.{◌≡◌, ◌∷◌, [], Some, IfOk, IfSome, option_and_then, option_map, codes};
+ghost use Rattle.serde_json.specs.Find.{as_str};
+ghost use Rattle.serde_json.specs.View.{view};
+ghost use Rattle.kapi_text.specs.Gives.{Gives};
+ghost use Rattle.kapi_object.specs.Object.{tree_of};
+ghost use Rattle.kapi_object.specs.Tree.{in_metadata, member_of};
+ghost use Rattle.kapi_reply.specs.Refusals.{refused_by};
+ghost use Rattle.std.specs.List.{IsDistinct};
+ghost use Rattle.kapi_store.specs.Keys.{is_key};
+ghost use Rattle.kapi_store.specs.Plain.{plain_of};
+ghost use Rattle.kapi_store.specs.State.{Fits};
+ghost use Rattle.kapi_store.specs.Stamps.{uid_in};
+ghost use Rattle.kapi_answer.specs.Delete as deletions;
+ghost use Rattle.kapi_answer.specs.Delete.{asks_nothing, deletable, removes, to_delete};
+ghost use Rattle.kapi_answer.specs.Outcomes.{deletion_data, outcome_data};
+
+use crate::create::{bad, refused_by_store};
+use crate::outcome::{Deletion, Outcome};
+use kapi_admission::{ObjectError, read_tree};
+use kapi_http::StatusCode;
+use kapi_object::tree::has_no_members;
+use kapi_object::tree_form::is_empty;
+use kapi_object::{Object, member};
+use kapi_reply::{BadWord, CheckError, Content, Refusal, Refused, Sought, Subject, deletion_text};
+use kapi_store::{Key, Store};
+use kapi_text::{Memory, TryCopy};
+use serde_json::Value;
+use std::alloc::Global;
+
+/// The checks of a deletion from its body on, in their order: body, existence.
+#[tactic(auto, unfolding(crate::specs::Delete::to_delete))]
+pub fn check_delete(
+    alloc: Global,
+    store: &Store,
+    key: &Key,
+    body: &[u8],
+) -> Result<Deletion, CheckError>
+    ensures gives { Gives refused_by deletion_data result (to_delete (plain_of store.now) key.now body.now) }
+    ensures distinct { IfOk result (λ d. IsDistinct is_key d.keys.items) }
+{
+    check_options(alloc, body)?;
+    let object = standing(store, key)?;
+    Ok(Deletion {
+        name: key.name.copy(alloc)?,
+        keys: one(alloc, key)?,
+        reply: deletion_reply(alloc, key, object)?,
+    })
+}
+
+/// The object that stands at the place that is asked for.
+pub fn standing<'a>(store: &'a Store, key: &Key) -> Result<&'a Object, Refused>
+    ensures { Gives (λ r. Some r) (λ o. tree_of o.now) result (deletions.standing (plain_of store.now) key.now) }
+{
+    match store.get(key) {
+        Some(object) => Ok(object),
+        None => Err(Refused::asked_for(Refusal::NotFound(Sought::Object))),
+    }
+}
+
+/// What is told where the object at a place was deleted.
+fn deletion_reply(alloc: Global, key: &Key, object: &Object) -> Result<Vec<u8>, Memory>
+    ensures { IfOk result (λ b. b.items ≡ deletions.deletion_text key.now (tree_of object.now)) }
+{
+    let subject = Subject {
+        group: key.group.as_str(),
+        resource: key.resource.as_str(),
+        name: key.name.as_str(),
+    };
+    deletion_text(alloc, subject, uid(object))
+}
+
+fn uid(object: &Object) -> &str
+    ensures { result.now ≡ uid_in (tree_of object.now) }
+{
+    match uid_text(object.as_tree()) {
+        Some(text) => text,
+        None => "",
+    }
+}
+
+fn uid_text(tree: &Value) -> Option<&str>
+    ensures { option_map (λ s. s.now) result ≡ option_and_then as_str (in_metadata (codes "uid") (view tree.now)) }
+{
+    tree.get("metadata")?.get("uid")?.as_str()
+}
+
+/// A body is empty, or options that ask for nothing but to delete.
+#[tactic(auto, unfolding(crate::specs::Delete::deletable, crate::specs::Delete::options_of))]
+pub fn check_options(alloc: Global, body: &[u8]) -> Result<(), CheckError>
+    ensures { Gives refused_by (λ u. u) result (deletable body.now) }
+{
+    if body.is_empty() {
+        return Ok(());
+    }
+    match read_tree(alloc, body) {
+        Ok(options) if asks_for_nothing(&options) => Ok(()),
+        Ok(_options) => Err(bad(BadWord::Option)),
+        Err(ObjectError::Memory) => Err(CheckError::Memory),
+        Err(_other) => Err(bad(BadWord::Json)),
+    }
+}
+
+fn asks_for_nothing(options: &Value) -> bool
+    ensures { result ≡ asks_nothing (view options.now) }
+{
+    member(options, "preconditions").is_none() && is_unset(member(options, "dryRun"))
+}
+
+fn is_unset(value: Option<&Value>) -> bool
+    ensures { result ≡ deletions.is_unset (option_map (λ v. view v.now) value.entry) }
+{
+    match value {
+        None => true,
+        Some(Value::String(text)) => text.is_empty(),
+        Some(Value::Array(items)) => is_empty(items),
+        Some(Value::Object(members)) => has_no_members(members),
+        Some(_other) => false,
+    }
+}
+
+/// Prepares the removal of objects, and the reply that tells of it.
+#[tactic(auto, unfolding(crate::specs::Delete::removes))]
+pub fn delete(store: &Store, deletion: Deletion) -> Result<Outcome, CheckError>
+    requires { IsDistinct is_key deletion.keys.items }
+    ensures gives { Gives refused_by outcome_data result (removes (plain_of store.now) (deletion_data deletion)) }
+    ensures fits { IfOk result (λ o. IfSome o.write (Fits store.now)) }
+{
+    match store.remove(deletion.keys) {
+        Ok(ready) => Ok(Outcome {
+            code: StatusCode::Ok,
+            content: Content::Json,
+            body: deletion.reply,
+            write: Some(ready),
+        }),
+        Err(error) => Err(refused_by_store(deletion.name, error)),
+    }
+}
+
+/// A list of one key, copied.
+fn one(alloc: Global, key: &Key) -> Result<Vec<Key>, Memory>
+    ensures { IfOk result (λ keys. keys.items ≡ key.now ∷ []) }
+{
+    let mut keys = Vec::with_capacity(alloc, 1)?;
+    keys.push(key.copy(alloc)?)?;
+    Ok(keys)
+}

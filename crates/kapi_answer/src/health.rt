@@ -1,0 +1,27 @@
+//! Whether the server is well (Kubernetes, 'Kubernetes API health endpoints').
+ghost use Rattle.std.specs.Prelude.{◌≡◌, None, IfOk};
+ghost use Rattle.kapi_text.specs.Gives.{Gives};
+ghost use Rattle.kapi_reply.specs.Refusals.{refused_by};
+ghost use Rattle.kapi_answer.specs.Answer.{told_well};
+ghost use Rattle.kapi_answer.specs.Outcomes.{outcome_data};
+
+use crate::outcome::Outcome;
+use kapi_http::{HttpRequest, StatusCode};
+use kapi_reply::{CheckError, Content};
+use kapi_route::check_media_type;
+use std::alloc::Global;
+
+/// Who is answered at all is told that the server is well.
+#[tactic(auto, unfolding(crate::specs::Answer::told_well))]
+pub fn tell_health(alloc: Global, request: &HttpRequest) -> Result<Outcome, CheckError>
+    ensures gives { Gives refused_by outcome_data result (told_well request.now) }
+    ensures told { IfOk result (λ o. o.write ≡ None) }
+{
+    check_media_type(request.method, request.headers.as_slice())?;
+    Ok(Outcome {
+        code: StatusCode::Ok,
+        content: Content::Text,
+        body: Vec::from_slice(alloc, b"ok")?,
+        write: None,
+    })
+}

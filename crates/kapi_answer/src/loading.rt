@@ -1,0 +1,202 @@
+//! Loading the objects that a server begins with.
+ghost use Rattle.std.specs.Prelude.{◌≡◌, Ok, Some, true, IfOk, codes, map as map_of, ok_or, option_map};
+ghost use Rattle.std.specs.Option.{option_copied};
+ghost use Rattle.std.specs.List.{find};
+ghost use Rattle.std.specs.Str.{bytes_eq};
+ghost use Rattle.serde_json.specs.Find.{get};
+ghost use Rattle.serde_json.specs.View.{view};
+ghost use Rattle.kapi_text.specs.Gives.{Gives};
+ghost use Rattle.kapi_admission.specs.Admission.{version_of};
+ghost use Rattle.kapi_object.specs.Order.{is_ordered};
+ghost use Rattle.kapi_object.specs.Tree.{json_object};
+ghost use Rattle.kapi_store.specs.Plain.{free_place, plain_change, plain_of};
+ghost use Rattle.kapi_store.specs.State.{Same, Fits};
+ghost use Rattle.kapi_answer.specs.Load as loading;
+ghost use Rattle.kapi_answer.specs.Load.{bad_object, fault_for, fault_told, loads, on_load, to_create_tree, to_load};
+ghost use Rattle.kapi_answer.specs.Outcomes.{new_data};
+ghost use Rattle.kapi_reply.specs.Refusals.{refused_by};
+
+use crate::create::{admit, check_body};
+use crate::outcome::NewObject;
+use kapi_admission::{ObjectError, read_tree};
+use kapi_names::ResourceRow;
+use kapi_object::GivenText;
+use kapi_object::given::given_in;
+use kapi_reply::{CheckError, Refusal};
+use kapi_store::{Ready, Store, StoreError};
+use kapi_text::{Memory, is_joined};
+use serde_json::Value;
+use std::alloc::Global;
+use thiserror::Error;
+
+/// Why an object is not loaded.
+#[derive(Clone, Copy, Debug, PartialEq, Eq, Error)]
+pub enum LoadError {
+    /// It names no version and kind that are served.
+    #[error("no such version and kind")]
+    UnknownKind,
+    /// It is no JSON object, or one with a fault, or names no place.
+    #[error("no object that could be created")]
+    Object,
+    /// Its namespace does not exist, its place is taken, or no revision is left.
+    #[error("the object cannot be stored")]
+    Store,
+    #[error("out of memory")]
+    Memory,
+}
+
+impl From<Memory> for LoadError {
+    ghost use Rattle.std.specs.Prelude.{◌≡◌};
+    ghost use Rattle.kapi_answer.specs.declared.loading.LoadError.TheVariants.{Memory as NoMemory};
+
+    ghost from_gives = { λ _ e. e ≡ NoMemory };
+
+    fn from(_error: Memory) -> LoadError {
+        LoadError::Memory
+    }
+}
+
+/// Prepares the creation of the object that a text is, at the place that it names itself.
+#[tactic(auto, unfolding(crate::specs::Load::loads))]
+pub fn load(alloc: Global, store: &mut Store, text: &[u8]) -> Result<Ready, LoadError>
+    ensures same { Same store.old store.new }
+    ensures gives { Gives fault_told (map_of plain_change) result (loads (plain_of store.old) text.now) }
+    ensures fits { IfOk result (Fits store.new) }
+{
+    let tree = read(alloc, text)?;
+    let new = check_load(alloc, store, tree)?;
+    match store.create_in_place(new.key, new.object) {
+        Ok(ready) => Ok(ready),
+        Err(StoreError::Memory) => Err(LoadError::Memory),
+        Err(_refused) => Err(LoadError::Store),
+    }
+}
+
+/// The JSON object that a text is.
+fn read(alloc: Global, text: &[u8]) -> Result<Value, LoadError>
+    ensures object { Gives fault_told view result (ok_or (json_object text.now) bad_object) }
+    ensures ordered { IfOk result (λ v. is_ordered (view v) ≡ true) }
+{
+    match read_tree(alloc, text) {
+        Ok(tree) => Ok(tree),
+        Err(ObjectError::Memory) => Err(LoadError::Memory),
+        Err(_other) => Err(LoadError::Object),
+    }
+}
+
+/// The object that a tree is, where it could be created, and its place.
+#[tactic(auto, unfolding(crate::specs::Load::to_load))]
+fn check_load(alloc: Global, store: &Store, tree: Value) -> Result<NewObject, LoadError>
+    requires ordered { is_ordered (view tree) ≡ true }
+    ensures gives { Gives fault_told new_data result (to_load (plain_of store.now) (view tree)) }
+    ensures free { IfOk result (λ new. free_place (plain_of store.now) new.key ≡ Ok tt) }
+{
+    let Some(row) = find_row(store.table(), &tree) else {
+        return Err(LoadError::UnknownKind);
+    };
+    let given = given_in(alloc, &tree)?;
+    match namespace_in(row, &given.namespace) {
+        Some(namespace) => check_on(alloc, store, row, namespace, tree),
+        None => Err(LoadError::Object),
+    }
+}
+
+/// The checks of a creation on a row and in a namespace.
+fn check_on(
+    alloc: Global,
+    store: &Store,
+    row: &ResourceRow,
+    namespace: &str,
+    tree: Value,
+) -> Result<NewObject, LoadError>
+    requires ordered { is_ordered (view tree) ≡ true }
+    ensures gives { Gives fault_told new_data result (on_load (to_create_tree (plain_of store.now) row.now namespace.now (view tree))) }
+    ensures free { IfOk result (λ new. free_place (plain_of store.now) new.key ≡ Ok tt) }
+{
+    match check_tree(alloc, store, row, namespace, tree) {
+        Ok(new) => Ok(new),
+        Err(CheckError::Refused(refused)) => Err(error_for(&refused.why)),
+        Err(CheckError::Memory) => Err(LoadError::Memory),
+    }
+}
+
+fn check_tree(
+    alloc: Global,
+    store: &Store,
+    row: &ResourceRow,
+    namespace: &str,
+    tree: Value,
+) -> Result<NewObject, CheckError>
+    requires ordered { is_ordered (view tree) ≡ true }
+    ensures gives { Gives refused_by new_data result (to_create_tree (plain_of store.now) row.now namespace.now (view tree)) }
+    ensures free { IfOk result (λ new. free_place (plain_of store.now) new.key ≡ Ok tt) }
+{
+    let body = admit(alloc, row, tree)?;
+    check_body(alloc, store, row, namespace, body)
+}
+
+/// Why the object is not loaded whose creation is refused.
+#[tactic(auto, unfolding(crate::specs::Load::fault_for))]
+fn error_for(why: &Refusal) -> LoadError
+    ensures { fault_told result ≡ Some (fault_for why.now) }
+{
+    match why {
+        Refusal::NotFound(_) | Refusal::AlreadyExists | Refusal::NoRevisionLeft => LoadError::Store,
+        _ => LoadError::Object,
+    }
+}
+
+/// The row of the kind and version that a tree gives.
+fn find_row<'a>(table: &'a [ResourceRow], tree: &Value) -> Option<&'a ResourceRow>
+    ensures { option_copied result ≡ find (loading.is_kind_of (view tree.now)) table.now }
+{
+    table.iter().find(|row| is_kind_of(tree, row))
+}
+
+fn is_kind_of(tree: &Value, row: &ResourceRow) -> bool
+    ensures { result ≡ loading.is_kind_of (view tree.now) row.now }
+{
+    match tree.get("kind") {
+        Some(Value::String(kind)) => kind.as_str() == row.kind.as_str() && is_version_of(tree, row),
+        _ => false,
+    }
+}
+
+fn is_version_of(tree: &Value, row: &ResourceRow) -> bool
+    ensures { result ≡ loading.is_text (version_of row.now) (get (codes "apiVersion") (view tree.now)) }
+{
+    match tree.get("apiVersion") {
+        Some(Value::String(text)) => is_version(row, text.as_str()),
+        _ => false,
+    }
+}
+
+/// The group and the version, or the version alone in the core group (Kubernetes, 'API Overview').
+fn is_version(row: &ResourceRow, text: &str) -> bool
+    ensures { result ≡ bytes_eq text.now (version_of row.now) }
+{
+    let version = row.version.as_str();
+    if row.group.as_str().is_empty() {
+        return text == version;
+    }
+    is_joined(
+        text.as_bytes(),
+        row.group.as_str().as_bytes(),
+        b'/',
+        version.as_bytes(),
+    )
+}
+
+/// The namespace of the place of an object of a row, which must be named where the row has namespaces.
+#[tactic(auto, unfolding(crate::specs::Load::namespace_in))]
+fn namespace_in<'a>(row: &ResourceRow, given: &'a GivenText) -> Option<&'a str>
+    ensures { option_map (λ s. s.now) result ≡ loading.namespace_in row.now given.now }
+{
+    if !row.namespaced {
+        return Some("");
+    }
+    match given {
+        GivenText::Text(text) if !text.as_str().is_empty() => Some(text.as_str()),
+        _ => None,
+    }
+}

@@ -1,0 +1,197 @@
+//! The update of an object, whole or in its status, and its patch.
+ghost use Rattle.std.specs.Prelude.{◌≡◌, Some, true, IfOk, IfSome};
+ghost use Rattle.serde_json.specs.View.{view};
+ghost use Rattle.kapi_text.specs.Gives.{Gives};
+ghost use Rattle.kapi_object.specs.Object.{tree_of};
+ghost use Rattle.kapi_object.specs.Order.{is_ordered};
+ghost use Rattle.kapi_patch.specs.Merge.{merged};
+ghost use Rattle.kapi_reply.specs.Refusals.{refused_by};
+ghost use Rattle.kapi_store.specs.Plain.{plain_of};
+ghost use Rattle.kapi_store.specs.State.{Fits};
+ghost use Rattle.kapi_answer.specs.Create.{stored};
+ghost use Rattle.kapi_answer.specs.Outcomes.{admitted_data, new_data, outcome_data};
+ghost use Rattle.kapi_answer.specs.Update as updates;
+ghost use Rattle.kapi_answer.specs.Update.{keeping_status, patch_of, replaces, to_patch, to_replace, to_update};
+
+use crate::create::{
+    Admitted, admit, bad, check_namespace, check_validity, house, is_as_in_path, read_body,
+    refused, refused_by_store, text_after,
+};
+use crate::delete::standing;
+use crate::outcome::{NewObject, Outcome};
+use kapi_admission::{ObjectError, read_tree};
+use kapi_http::StatusCode;
+use kapi_names::ResourceRow;
+use kapi_object::{GivenText, Object};
+use kapi_patch::merge_patch;
+use kapi_reply::{BadWord, CheckError, Content, Refusal};
+use kapi_route::Part;
+use kapi_store::{Key, Shared, Store};
+use kapi_text::{Memory, Text, TryCopy};
+use serde_json::Value;
+use std::alloc::Global;
+
+/// The checks of an update from its body on, in their order: body, name, namespace, existence and version, validity.
+#[tactic(auto, unfolding(crate::specs::Update::to_update))]
+pub fn check_update(
+    alloc: Global,
+    store: &Store,
+    row: &ResourceRow,
+    part: Part,
+    key: &Key,
+    body: &[u8],
+) -> Result<NewObject, CheckError>
+    ensures { Gives refused_by new_data result (to_update (plain_of store.now) row.now part key.now body.now) }
+{
+    let body = read_body(alloc, row, body)?;
+    check_replacement(alloc, store, row, part, key, body)
+}
+
+/// The checks of a patch: it is a JSON object, and what it is merged into exists; the result is checked as the body of an update.
+#[tactic(auto, unfolding(crate::specs::Update::to_patch))]
+pub fn check_patch(
+    alloc: Global,
+    store: &Store,
+    row: &ResourceRow,
+    part: Part,
+    key: &Key,
+    body: &[u8],
+) -> Result<NewObject, CheckError>
+    ensures { Gives refused_by new_data result (to_patch (plain_of store.now) row.now part key.now body.now) }
+{
+    let patch = read_patch(alloc, body)?;
+    let old = standing(store, key)?;
+    let body = admit(alloc, row, merge(alloc, old, &patch)?)?;
+    check_replacement(alloc, store, row, part, key, body)
+}
+
+fn read_patch(alloc: Global, body: &[u8]) -> Result<Value, CheckError>
+    ensures gives { Gives refused_by view result (patch_of body.now) }
+    ensures ordered { IfOk result (λ v. is_ordered (view v) ≡ true) }
+{
+    match read_tree(alloc, body) {
+        Ok(patch) => Ok(patch),
+        Err(ObjectError::Memory) => Err(CheckError::Memory),
+        Err(_other) => Err(bad(BadWord::Json)),
+    }
+}
+
+/// The object's tree with a patch applied.
+fn merge(alloc: Global, object: &Object, patch: &Value) -> Result<Value, Memory>
+    requires { is_ordered (view patch.now) ≡ true }
+    ensures tree { IfOk result (λ v. view v ≡ merged (tree_of object.now) (view patch.now)) }
+    ensures ordered { IfOk result (λ v. is_ordered (view v) ≡ true) }
+{
+    let merged = merge_patch(alloc, object.as_tree(), patch)?;
+    Ok(merged)
+}
+
+/// The checks of the object that a body was read as, in their order: name, namespace, existence and version, validity.
+#[tactic(auto, unfolding(crate::specs::Update::to_replace))]
+fn check_replacement(
+    alloc: Global,
+    store: &Store,
+    row: &ResourceRow,
+    part: Part,
+    key: &Key,
+    body: Admitted,
+) -> Result<NewObject, CheckError>
+    ensures { Gives refused_by new_data result (to_replace (plain_of store.now) row.now part key.now (admitted_data body)) }
+{
+    check_name(alloc, &key.name, &body.given.name)?;
+    check_namespace(
+        alloc,
+        key.namespace.as_str(),
+        &key.name,
+        &body.given.namespace,
+    )?;
+    let old = replaceable(alloc, store, key, &body.given.resource_version)?;
+    let object = check_validity(alloc, &key.name, body.object)?;
+    Ok(NewObject {
+        key: key.copy(alloc)?,
+        object: replacing(alloc, part, row, key, old.get(), object)?,
+    })
+}
+
+/// A name that the body gives must be the path's.
+#[tactic(auto, unfolding(crate::specs::Update::in_name))]
+fn check_name(alloc: Global, name: &Text, given: &GivenText) -> Result<(), CheckError>
+    ensures { Gives refused_by (λ u. u) result (updates.in_name name.now given.now) }
+{
+    if is_as_in_path(name.as_str(), given) {
+        return Ok(());
+    }
+    let name = name.copy(alloc)?;
+    Err(refused(name, Refusal::BadRequest(BadWord::Name)))
+}
+
+/// The object that stands there, if the version that the body gives admits a write.
+fn replaceable<'a>(
+    alloc: Global,
+    store: &'a Store,
+    key: &Key,
+    given: &GivenText,
+) -> Result<&'a Shared, CheckError>
+    ensures { Gives refused_by (λ o. tree_of o.now) result (stored key.now.name (Rattle.kapi_store.specs.Plain.replaceable (plain_of store.now) key.now given.now)) }
+{
+    match store.replaceable(key, given) {
+        Ok(object) => Ok(object),
+        Err(error) => Err(refused_by_store(key.name.copy(alloc)?, error)),
+    }
+}
+
+/// The object that stands once a part of the old one is replaced by that of another.
+#[tactic(auto, unfolding(crate::specs::Update::replacing))]
+fn replacing(
+    alloc: Global,
+    part: Part,
+    row: &ResourceRow,
+    key: &Key,
+    old: &Object,
+    object: Object,
+) -> Result<Object, Memory>
+    ensures { IfOk result (λ o. tree_of o ≡ updates.replacing part row.now key.now (tree_of old.now) (tree_of object)) }
+{
+    match part {
+        Part::Object => {
+            let object = object.named(alloc, key.name.as_str())?;
+            let object = house(alloc, row, key.namespace.as_str(), object)?;
+            keep_status(alloc, row, old, object)
+        }
+        Part::Status => old.copy(alloc)?.with_status_of(alloc, &object),
+    }
+}
+
+/// The object with the old one's status, where that is a subresource of its own (Kubernetes API conventions, 'Spec and Status').
+fn keep_status(
+    alloc: Global,
+    row: &ResourceRow,
+    old: &Object,
+    object: Object,
+) -> Result<Object, Memory>
+    ensures { IfOk result (λ o. tree_of o ≡ keeping_status row.now (tree_of old.now) (tree_of object)) }
+{
+    if row.has_status {
+        object.with_status_of(alloc, old)
+    } else {
+        Ok(object)
+    }
+}
+
+/// Prepares the write of an object in place of the one that stands there, and the reply with the object as it will stand.
+#[tactic(auto, unfolding(crate::specs::Update::replaces))]
+pub fn replace(alloc: Global, store: &Store, new: NewObject) -> Result<Outcome, CheckError>
+    ensures gives { Gives refused_by outcome_data result (replaces (plain_of store.now) (new_data new)) }
+    ensures fits { IfOk result (λ o. IfSome o.write (Fits store.now)) }
+{
+    let key = new.key.copy(alloc)?;
+    match store.replace(new.key, new.object) {
+        Ok(ready) => Ok(Outcome {
+            code: StatusCode::Ok,
+            content: Content::Json,
+            body: text_after(alloc, store.get(&key), ready.changes())?,
+            write: Some(ready),
+        }),
+        Err(error) => Err(refused_by_store(key.name, error)),
+    }
+}

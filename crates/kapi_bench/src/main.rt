@@ -1,0 +1,48 @@
+//! Benchmarks. The first argument names one of them, the rest are its own; without arguments nothing is done and nothing is printed.
+//!
+//! - `store`: writes, lists and memory of a store
+//! - `http`: the cutting of requests from bytes
+//! - `info`: the attributes of long targets
+//! - `rules`: the missing list
+//! - `guard`: the check of a write against escalation
+//! - `index`: decisions of the indexed policy beside those of the plain one
+//! - `requests`: whole requests to the machine
+#![tactic(auto)]
+
+mod guard;
+mod http;
+mod index;
+mod info;
+mod memory;
+mod numbered_rules;
+mod numbers;
+mod requests;
+mod rules;
+mod store;
+mod timing;
+
+use std::env;
+
+/// Runs the benchmark of a name.
+fn run_named(rt: &HostRuntime, name: &str, words: &[String]) -> anyhow::Result<()> {
+    match name {
+        "store" => store::run(rt, words),
+        "http" => http::run(rt),
+        "info" => info::run(rt),
+        "rules" => rules::run(rt, words),
+        "guard" => guard::run(rt, words),
+        "index" => index::run(rt, words),
+        "requests" => requests::run(rt, words),
+        _ => anyhow::bail!(
+            "{name} is no benchmark: store, http, info, rules, guard, index and requests are"
+        ),
+    }
+}
+
+fn main(rt: HostRuntime) -> anyhow::Result<()> {
+    let words: Vec<String> = env::args(&rt)?.skip(1).collect(rt.alloc())?;
+    match words.as_slice() {
+        [] => Ok(()),
+        [name, rest @ ..] => run_named(&rt, name.as_str(), rest),
+    }
+}

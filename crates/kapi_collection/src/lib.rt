@@ -1,0 +1,11 @@
+//! What is told of a collection of stored objects: their list as JSON text, and their keys.
+#![tactic(auto)]
+
+mod keys;
+mod list;
+mod member;
+#[cfg(test)]
+mod tests;
+
+pub use keys::keys_of;
+pub use list::list_text;

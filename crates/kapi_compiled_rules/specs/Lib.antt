@@ -1,0 +1,4 @@
+pub mod Marks
+pub mod Compiled
+pub mod Asked
+pub mod Points

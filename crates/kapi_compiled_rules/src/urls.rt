@@ -1,0 +1,85 @@
+//! Entries of URLs, those with a star at their end as a case of their own.
+ghost use Rattle.std.specs.Prelude.{◌≡◌, ◌∷◌, ◌++◌, [], nat_eq, IfOk, MatchOption, map};
+ghost use Rattle.std.specs.List.{list_any};
+ghost use Rattle.kapi_rules.specs.Entries.{without_stars as without_last_stars};
+ghost use Rattle.kapi_compiled_rules.specs.Compiled.{compiled_url, url_admits};
+
+use kapi_text::{Memory, Sequence, Text, TryCopy};
+use std::alloc::Global;
+
+/// What an entry of URLs means.
+#[derive(Drop)]
+pub enum Url {
+    /// That path alone.
+    Path(Text),
+    /// Each path that begins so. Stars at the end are left out.
+    Front(Sequence<u8>),
+}
+
+// What stands before the last byte where that is a star; without it the text has no stars at its end.
+#[tactic(auto, using(kapi_rules::proofs::Texts::without_stars_kept))]
+fn before_last_star(text: &[u8]) -> Option<&[u8]>
+    ensures { MatchOption result (without_last_stars text.now ≡ text.now) (λ front. text.now ≡ front.now ++ 42 ∷ []) }
+{
+    match text.split_last() {
+        Some((last, front)) => { if *last == b'*' { Some(front) } else { None } }
+        None => None,
+    }
+}
+
+// The text without the stars at its end.
+#[tactic(auto, using(kapi_rules::proofs::Texts::without_stars_append))]
+fn without_stars(text: &[u8]) -> &[u8]
+    ensures { result.now ≡ without_last_stars text.now }
+{
+    let mut front = text;
+    while let Some(shorter) = before_last_star(front) {
+        front = shorter;
+    }
+    front
+}
+
+fn copied(alloc: Global, bytes: &[u8]) -> Result<Sequence<u8>, Memory>
+    ensures { IfOk result (λ s. s ≡ bytes.now) }
+{
+    let mut copied = Vec::new(alloc);
+    copied.extend_from_slice(bytes)?;
+    Ok(Sequence::new(copied))
+}
+
+fn compile_url(alloc: Global, entry: &Text) -> Result<Url, Memory>
+    ensures { IfOk result (λ u. u ≡ compiled_url entry.now) }
+{
+    let bytes = entry.as_str().as_bytes();
+    if bytes.ends_with(b"*") {
+        return Ok(Url::Front(copied(alloc, without_stars(bytes))?));
+    }
+    Ok(Url::Path(entry.copy(alloc)?))
+}
+
+/// What entries of URLs mean.
+pub fn compile_urls(alloc: Global, entries: &[Text]) -> Result<Sequence<Url>, Memory>
+    ensures { IfOk result (λ us. us ≡ map compiled_url entries.now) }
+{
+    let mut urls = Vec::new(alloc);
+    for entry in entries {
+        urls.push(compile_url(alloc, entry)?)?;
+    }
+    Ok(Sequence::new(urls))
+}
+
+fn admits(url: &Url, path: &str) -> bool
+    ensures { result ≡ url_admits url.now path.now }
+{
+    match url {
+        Url::Path(own) => own.as_str() == path,
+        Url::Front(front) => path.as_bytes().starts_with(front.as_slice()),
+    }
+}
+
+/// Whether some entry means the path.
+pub fn some_admits(urls: &[Url], path: &str) -> bool
+    ensures { result ≡ list_any (λ u. url_admits u path.now) urls.now }
+{
+    urls.iter().any(|url| admits(url, path))
+}

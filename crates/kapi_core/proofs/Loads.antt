@@ -1,0 +1,26 @@
+-- The loading of an object, of the store and the policy and of the whole machine.
+use Rattle.std.proofs.Common.{◌≡◌, ℕ, List, Result, Ok, Err, subst, ◌∙◌}
+use Rattle.kapi_text.specs.Gives.{Fails}
+use Rattle.kapi_answer.specs.Load.{fault_told, loads}
+use Rattle.kapi_answer.specs.declared.loading.LoadError.{LoadError}
+use Rattle.kapi_policy.specs.Objects.{PolicyObjects}
+use Rattle.kapi_policy.specs.declared.change.PolicyChange.{PolicyChange}
+use Rattle.kapi_store.proofs.Stores.{same_stands}
+use Rattle.kapi_store.specs.Plain.{Plain}
+use Rattle.kapi_store.specs.State.{State}
+use Rattle.kapi_core.specs.Running.{Running}
+use Rattle.kapi_core.specs.Stands.{Loads}
+use Rattle.kapi_core.specs.Writes.{LoadsInto}
+
+-- what was loaded into the store and the policy was loaded into the machine
+pub loaded : (old : Running) (t : State) (u : PolicyObjects) (ns : List (List ℕ)) (text : List ℕ) (result : Result (List PolicyChange) LoadError)
+    → LoadsInto old.store old.policy old.marks t u ns text result → Loads old (record old { store = t; policy = u; marks = ns }) text result
+loaded old t u ns text (Ok made) (changes, is, told, writes) = λ m h.
+    let after = writes m.changes m.store h.store h.policy_is h.covers in
+    let P : Plain → Type 0 = λ p. loads p text ≡ Ok changes in
+    (changes, subst P h.store.plain is, told, record { store = after.0; policy_is = after.1; covers = after.2; next_id = h.next_id; links = h.links })
+loaded old t u ns text (Err e) (fails, same, kept, marks) = λ m h.
+    let P : Plain → Type 0 = λ p. Fails (fault_told e) (loads p text) in (
+      subst P h.store.plain fails,
+      record { store = same_stands _ _ same m.changes m.store h.store; policy_is = kept ∙ h.policy_is; covers = marks _ h.covers; next_id = h.next_id; links = h.links },
+    )

@@ -1,0 +1,11 @@
+pub mod Elements
+pub mod Entries
+pub mod Unions
+pub mod Atoms
+pub mod Facts
+pub mod Admitted
+pub mod After
+pub mod Steps
+pub mod Law
+pub mod Turns
+pub mod Worked

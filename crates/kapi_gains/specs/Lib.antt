@@ -1,0 +1,6 @@
+pub mod Members
+pub mod States
+pub mod Access
+pub mod Steps
+pub mod Within
+pub mod Worked

@@ -1,5 +1,0 @@
-use Rattle.kapi_index.proofs.Finds.{found_in_view}
-use Rattle.kapi_index.proofs.names.NameSet.first_from.Goals as goal
-
-pub returns : goal.returns
-returns c = found_in_view _ _ _ c.next.result c.next.new.self _ c.self.view_is (c.range.ensures.between tt) c.next.ensures.steps
