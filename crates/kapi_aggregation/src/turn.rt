@@ -76,11 +76,7 @@ fn role_key(alloc: Global, name: &Text) -> Result<Key, Memory>
 }
 
 /// A cluster role with other rules, and its own aggregation rule and metadata.
-fn with_rules(
-    alloc: Global,
-    old: &Object,
-    rules: &Sequence<PolicyRule>,
-) -> Result<Object, Memory>
+fn with_rules(alloc: Global, old: &Object, rules: &Sequence<PolicyRule>) -> Result<Object, Memory>
     ensures { IfOk result (λ o. tree_of o ≡ with_rules_of rules.now (tree_of old.now)) }
 {
     let role = ClusterRole {
