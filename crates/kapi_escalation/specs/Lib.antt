@@ -1,1 +1,2 @@
 pub mod Escalation
+pub mod Granted
