@@ -43,12 +43,7 @@ pub fn failure_of(
         Refusal::BadRequest(word) => bad_request(alloc, word.as_str()),
         Refusal::Forbidden => denied(alloc, asked),
         Refusal::Escalation(atoms) => escalation(alloc, asked, atoms.as_slice()),
-        Refusal::NoSuchResource => failed(
-            alloc,
-            StatusCode::NotFound,
-            "NotFound",
-            "no such resource",
-        ),
+        Refusal::NoSuchResource => no_such_resource(alloc),
         Refusal::NotFound(what) => not_found(alloc, asked, name, *what),
         Refusal::RoleNotFound(role) => role_not_found(alloc, role),
         Refusal::MethodNotAllowed(place) => {
@@ -73,6 +68,13 @@ pub fn failure_of(
         ),
         Refusal::NotYetReached(revisions) => not_yet_reached(alloc, *revisions),
     }
+}
+
+/// The failure where nothing is served of the resource that is asked for.
+fn no_such_resource(alloc: Global) -> Result<Failure, Memory>
+    ensures { IfOk result (λ f. failure_data f ≡ table.failed StatusCode.NotFound (codes "NotFound") (codes "no such resource")) }
+{
+    failed(alloc, StatusCode::NotFound, "NotFound", "no such resource")
 }
 
 /// The failure where a revision is asked for that is not reached yet.
