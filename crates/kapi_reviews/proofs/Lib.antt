@@ -1,0 +1,5 @@
+pub mod Slashes
+pub mod Written
+pub mod Said
+pub mod Again
+pub mod Asked

@@ -1,0 +1,169 @@
+//! How the answer to a review is written.
+ghost use Rattle.std.specs.Prelude.{◌≡◌, IfOk, OnOk};
+ghost use Rattle.serde_json.specs.View.{view, members_view};
+ghost use Rattle.kapi_policy.specs.Views.{decision_of};
+ghost use Rattle.kapi_reviews.specs.Answers as written;
+
+use crate::kind::ReviewKind;
+use crate::question::Question;
+use crate::reasons::reason;
+use kapi_object::tree_form::{put_text, put_texts, text_value};
+use kapi_policy::Decision;
+use kapi_rbac_types::Identity;
+use kapi_rules::{Point, ResourcePoint, UrlPoint};
+use kapi_text::Memory;
+use serde_json::{Map, Value, put};
+use std::alloc::Global;
+
+fn attributes_key(point: &Point) -> &'static str
+    ensures { result.now ≡ written.attributes_key point.now }
+{
+    match point {
+        Point::Resource(_point) => "resourceAttributes",
+        Point::Url(_point) => "nonResourceAttributes",
+    }
+}
+
+#[tactic(auto, unfolding(crate::specs::Answers::attributes_members))]
+fn resource_members(
+    alloc: Global,
+    namespace: &str,
+    point: &ResourcePoint,
+) -> Result<Map<String, Value>, Memory>
+    ensures { IfOk result (λ m. members_view m.entries ≡ written.attributes_members namespace.now (Point.Resource point.now)) }
+{
+    let mut members = Map::new(alloc);
+    put_text(alloc, &mut members, "namespace", namespace)?;
+    put_text(alloc, &mut members, "verb", point.verb.as_str())?;
+    put_text(alloc, &mut members, "group", point.group.as_str())?;
+    put_text(alloc, &mut members, "resource", point.resource.as_str())?;
+    put_text(
+        alloc,
+        &mut members,
+        "subresource",
+        point.subresource.as_str(),
+    )?;
+    put_text(alloc, &mut members, "name", point.name.as_str())?;
+    Ok(members)
+}
+
+#[tactic(auto, unfolding(crate::specs::Answers::attributes_members))]
+fn url_members(
+    alloc: Global,
+    namespace: &str,
+    point: &UrlPoint,
+) -> Result<Map<String, Value>, Memory>
+    ensures { IfOk result (λ m. members_view m.entries ≡ written.attributes_members namespace.now (Point.Url point.now)) }
+{
+    let mut members = Map::new(alloc);
+    put_text(alloc, &mut members, "path", point.path.as_str())?;
+    put_text(alloc, &mut members, "verb", point.verb.as_str())?;
+    Ok(members)
+}
+
+/// The attributes of a point, and of a resource the namespace.
+fn attributes_members(
+    alloc: Global,
+    namespace: &str,
+    point: &Point,
+) -> Result<Map<String, Value>, Memory>
+    ensures { IfOk result (λ m. members_view m.entries ≡ written.attributes_members namespace.now point.now) }
+{
+    match point {
+        Point::Resource(point) => resource_members(alloc, namespace, point),
+        Point::Url(point) => url_members(alloc, namespace, point),
+    }
+}
+
+/// The user and the groups, in a review that tells them.
+fn subject_members(
+    alloc: Global,
+    kind: ReviewKind,
+    identity: &Identity,
+) -> Result<Map<String, Value>, Memory>
+    ensures { IfOk result (λ m. members_view m.entries ≡ written.subject_members kind identity.now) }
+{
+    let mut members = Map::new(alloc);
+    if kind.tells_subject() {
+        put_text(alloc, &mut members, "user", identity.user.as_str())?;
+        put_texts(alloc, &mut members, "groups", identity.groups.as_slice())?;
+    }
+    Ok(members)
+}
+
+/// The question as the `spec` of a review.
+#[tactic(auto, unfolding(crate::specs::Answers::question_tree))]
+pub fn question_tree(alloc: Global, kind: ReviewKind, question: &Question) -> Result<Value, Memory>
+    ensures { IfOk result (λ v. view v ≡ written.question_tree kind question.now) }
+{
+    let mut members = subject_members(alloc, kind, &question.identity)?;
+    let attributes = attributes_members(alloc, question.namespace.as_str(), &question.point)?;
+    let key = attributes_key(&question.point);
+    put(&mut members, alloc, key, Value::Object(attributes))?;
+    Ok(Value::Object(members))
+}
+
+/// A decision as the `status` of a review: whether the point is allowed, and if so by what.
+#[tactic(auto, unfolding(crate::specs::Answers::decision_tree))]
+pub fn decision_tree(alloc: Global, decision: &Decision<'_>) -> Result<Value, Memory>
+    ensures { IfOk result (λ v. view v ≡ written.decision_tree (decision_of decision.now)) }
+{
+    let mut members = Map::new(alloc);
+    put(
+        &mut members,
+        alloc,
+        "allowed",
+        Value::Bool(decision.is_allowed()),
+    )?;
+    if let Some(reason) = reason(alloc, decision)? {
+        put(
+            &mut members,
+            alloc,
+            "reason",
+            text_value(alloc, reason.as_str())?,
+        )?;
+    }
+    Ok(Value::Object(members))
+}
+
+/// The namespace of a review that stands in one.
+fn metadata_members(
+    alloc: Global,
+    kind: ReviewKind,
+    namespace: &str,
+) -> Result<Map<String, Value>, Memory>
+    ensures { IfOk result (λ m. members_view m.entries ≡ written.metadata_members kind namespace.now) }
+{
+    let mut members = Map::new(alloc);
+    if kind.is_local() {
+        put_text(alloc, &mut members, "namespace", namespace)?;
+    }
+    Ok(members)
+}
+
+/// The review with its answer.
+#[tactic(auto, unfolding(crate::specs::Answers::review_tree))]
+pub fn review_tree(
+    alloc: Global,
+    kind: ReviewKind,
+    namespace: &str,
+    spec: Value,
+    status: Value,
+) -> Result<Value, Memory>
+    ensures { IfOk result (λ v. view v ≡ written.review_tree kind namespace.now (view spec) (view status)) }
+{
+    let metadata = Value::Object(metadata_members(alloc, kind, namespace)?);
+    let version = text_value(alloc, "authorization.k8s.io/v1")?;
+    let mut members = Map::new(alloc);
+    put(&mut members, alloc, "apiVersion", version)?;
+    put(
+        &mut members,
+        alloc,
+        "kind",
+        text_value(alloc, kind.as_str())?,
+    )?;
+    put(&mut members, alloc, "metadata", metadata)?;
+    put(&mut members, alloc, "spec", spec)?;
+    put(&mut members, alloc, "status", status)?;
+    Ok(Value::Object(members))
+}

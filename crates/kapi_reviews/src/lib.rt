@@ -1,0 +1,22 @@
+//! Reviews: whether somebody may do something, and by which rule; and the rules that whoever asks holds (Kubernetes API,
+//! authorization.k8s.io/v1).
+#![tactic(auto)]
+
+mod answer;
+mod attributes;
+mod faults;
+mod kind;
+pub mod laws;
+mod question;
+mod reasons;
+mod review_error;
+mod reviewed;
+mod rules;
+#[cfg(test)]
+mod tests;
+
+pub use kind::ReviewKind;
+pub use question::{Question, read_question};
+pub use reasons::reason;
+pub use review_error::ReviewError;
+pub use reviewed::review;

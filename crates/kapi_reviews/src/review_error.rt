@@ -1,0 +1,26 @@
+ghost use Rattle.std.specs.Prelude.{◌≡◌};
+
+use kapi_names::FieldFault;
+use kapi_text::Sequence;
+use std::alloc::AllocError;
+use thiserror::Error;
+
+/// Why a review is not answered.
+#[derive(Debug, Drop, Error)]
+pub enum ReviewError {
+    /// Members of the review are at fault: each fault in order.
+    #[error("the review is invalid")]
+    Invalid(Sequence<FieldFault>),
+    #[error("want of memory")]
+    Memory,
+}
+
+impl From<AllocError> for ReviewError {
+    ghost use Rattle.kapi_reviews.specs.declared.review_error.ReviewError.TheVariants.{Memory as WantOfMemory};
+
+    ghost from_gives = { λ _ e. e ≡ WantOfMemory };
+
+    fn from(_error: AllocError) -> ReviewError {
+        ReviewError::Memory
+    }
+}

@@ -1,0 +1,119 @@
+//! Reviews and their answers.
+ghost use Rattle.std.specs.Prelude.{◌≡◌, IfOk, codes};
+ghost use Rattle.serde_json.specs.Data.{object, no_members};
+ghost use Rattle.kapi_object.specs.Contents.{put_text, text_at};
+ghost use Rattle.serde_json.specs.View.{view};
+ghost use Rattle.kapi_text.specs.Gives.{Gives};
+ghost use Rattle.kapi_object.specs.Object.{tree_of};
+ghost use Rattle.kapi_reviews.specs.Questions as asks;
+ghost use Rattle.kapi_reviews.specs.Reviews as answers;
+ghost use Rattle.kapi_reviews.specs.Reviews.{reviewed, told};
+
+use crate::answer::{decision_tree, question_tree, review_tree};
+use crate::faults::{collect_review_faults, namespace_of};
+use crate::kind::ReviewKind;
+use crate::question::read_question;
+use crate::review_error::ReviewError;
+use crate::rules::rules_tree;
+use kapi_admission::table_faults::text_in;
+use kapi_object::tree_form::put_text;
+use kapi_object::{Object, member};
+use kapi_policy::Policy;
+use kapi_rbac_types::Identity;
+use kapi_text::{Memory, Sequence};
+use serde_json::{Map, Value};
+use std::alloc::Global;
+
+/// The answer to a review of access: what it asks, and the decision.
+#[tactic(auto, unfolding(crate::specs::Reviews::access_answer))]
+fn access_answer<P: Policy>(
+    alloc: Global,
+    policy: &P,
+    caller: &Identity,
+    kind: ReviewKind,
+    namespace: &str,
+    spec: &Value,
+) -> Result<Value, Memory>
+    ensures { IfOk result (λ v. view v ≡ answers.access_answer (P.content policy.now) kind namespace.now (asks.question kind namespace.now caller.now (view spec.now))) }
+{
+    let question = read_question(alloc, kind, namespace, caller, spec)?;
+    let decision = policy.decide(
+        &question.identity,
+        question.namespace.as_str(),
+        &question.point,
+    );
+    let status = decision_tree(alloc, &decision)?;
+    let spec = question_tree(alloc, kind, &question)?;
+    review_tree(alloc, kind, namespace, spec, status)
+}
+
+/// The `spec` of a review of rules.
+fn namespace_tree(alloc: Global, namespace: &str) -> Result<Value, Memory>
+    ensures { IfOk result (λ v. view v ≡ object (put_text (codes "namespace") namespace.now no_members)) }
+{
+    let mut members = Map::new(alloc);
+    put_text(alloc, &mut members, "namespace", namespace)?;
+    Ok(Value::Object(members))
+}
+
+/// The answer to a review of rules: the namespace, and what whoever asks holds there.
+#[tactic(auto, unfolding(crate::specs::Reviews::rules_answer))]
+fn rules_answer<P: Policy>(
+    alloc: Global,
+    policy: &P,
+    caller: &Identity,
+    kind: ReviewKind,
+    namespace: &str,
+    spec: &Value,
+) -> Result<Value, Memory>
+    ensures { IfOk result (λ v. view v ≡ answers.rules_answer (P.content policy.now) caller.now kind namespace.now (text_at (codes "namespace") (view spec.now))) }
+{
+    let asked = text_in(spec, "namespace");
+    let held = policy.held(caller, asked)?;
+    let status = rules_tree(alloc, held.as_slice())?;
+    let spec = namespace_tree(alloc, asked)?;
+    review_tree(alloc, kind, namespace, spec, status)
+}
+
+/// The answer to a review without faults.
+#[tactic(auto, unfolding(crate::specs::Reviews::spec_answer))]
+fn answer<P: Policy>(
+    alloc: Global,
+    policy: &P,
+    caller: &Identity,
+    kind: ReviewKind,
+    namespace: &str,
+    spec: &Value,
+) -> Result<Value, Memory>
+    ensures { IfOk result (λ v. view v ≡ answers.spec_answer (P.content policy.now) caller.now kind namespace.now (view spec.now)) }
+{
+    if kind.asks_rules() {
+        rules_answer(alloc, policy, caller, kind, namespace, spec)
+    } else {
+        access_answer(alloc, policy, caller, kind, namespace, spec)
+    }
+}
+
+/// The answer to a review that `caller` makes, or the whole list of its faults in order. A local review stands in the namespace that
+/// its metadata tells. The answer is an object of its own: `spec` has what was understood of the review, and `status` the answer; what
+/// else the review had is left out. Nothing is changed.
+#[tactic(auto, unfolding(crate::specs::Reviews::reviewed), using(crate::proofs::Written::answer_has_no_float, crate::proofs::Written::answer_in_order))]
+pub fn review<P: Policy>(
+    alloc: Global,
+    policy: &P,
+    caller: &Identity,
+    kind: ReviewKind,
+    object: &Object,
+) -> Result<Object, ReviewError>
+    ensures { Gives told tree_of result (reviewed (P.content policy.now) caller.now kind (tree_of object.now)) }
+{
+    let tree = object.as_tree();
+    let faults = collect_review_faults(alloc, kind, tree)?;
+    if !faults.is_empty() {
+        return Err(ReviewError::Invalid(Sequence::new(faults)));
+    }
+    let nothing = Value::Null;
+    let spec = member(tree, "spec").unwrap_or(&nothing);
+    let answered = answer(alloc, policy, caller, kind, namespace_of(tree), spec)?;
+    Ok(Object::new(answered))
+}
