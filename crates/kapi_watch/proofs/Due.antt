@@ -1,0 +1,106 @@
+-- What is due to a watch, from one event to the next.
+use Rattle.std.proofs.Common.{◌≡◌, ℕ, ◌+◌, ◌≤◌, ◌<◌, true, false, List, [], ◌∷◌, Option, None, Some, option_map, is_some, length, drop, slice_get, refl, sym, ap, ◌∙◌, arith, ⊎_elim}
+use Rattle.std.specs.Prelude.{nat_lt}
+use Rattle.std.specs.List.{filter, filter_map, cons_option}
+use Rattle.std.proofs.lemmas.Bool.{lt-ltb, le-ltb, cases_lt}
+use Rattle.std.proofs.lemmas.List.{drop_more}
+use Rattle.std.proofs.lemmas.Option.{slice_get_within, get_or_from_slice_get}
+use Rattle.kapi_store.specs.Changes.{Follow}
+
+module _ {X : Type 0} where
+  -- what is left of a list begins with the item at that index
+  pub drop_front : (xs : List X) (i : ℕ) (x : X) → slice_get xs i ≡ Some x → drop i xs ≡ x ∷ drop (i + 1) xs
+  drop_front xs i x h =
+      drop_more xs i x (slice_get_within xs i x h) ∙ ap (λ y. y ∷ drop (i + 1) xs) (get_or_from_slice_get xs i x x h)
+
+module _ {X Y : Type 0} (f : X → Option Y) where
+  -- the first that items give is what the first of them gives, if anything
+  pub first_found : {Z : Type 0} (v : Z → Y) (found : Option Z) (x : X) (xs : List X) → option_map v found ≡ f x → is_some found ≡ true
+      → option_map v found ≡ slice_get (filter_map f (x ∷ xs)) 0
+  first_found v (Some z) x xs e is = rw (sym e) refl
+  first_found v None x xs e is = cc
+
+  -- else it is what the others give first
+  pub first_passed : {Z : Type 0} (v : Z → Y) (found : Option Z) (x : X) (xs : List X) → option_map v found ≡ f x → is_some found ≡ false
+      → slice_get (filter_map f xs) 0 ≡ slice_get (filter_map f (x ∷ xs)) 0
+  first_passed v None x xs e is = rw (sym e) refl
+  first_passed v (Some z) x xs e is = cc
+
+module _ {X Y : Type 0} (number : X → ℕ) (f : X → Option (ℕ × Y)) (own : (x : X) (e : ℕ × Y) → f x ≡ Some e → e.0 ≡ number x) where
+  -- the items past a limit
+  abbrev pub past : ℕ → List X → List X
+  past limit xs = filter (λ x. nat_lt limit (number x)) xs
+
+  -- all items are past a limit that is not past the start
+  pub past_all : (limit before : ℕ) (xs : List X) → limit ≤ before → Follow number before xs → past limit xs ≡ xs
+  unfolding Follow
+  past_all limit before [] le h = refl
+  past_all limit before (x ∷ xs) le h =
+      rw (lt-ltb limit (number x) (omega arith)) (ap (λ l. x ∷ l) (past_all limit (before + 1) xs (omega arith) h.1))
+
+  -- none is past the last
+  pub past_none : (limit before : ℕ) (xs : List X) → before + length xs ≤ limit → Follow number before xs → past limit xs ≡ []
+  unfolding Follow
+  past_none limit before [] le h = refl
+  past_none limit before (x ∷ xs) le h =
+      rw (le-ltb limit (number x) (omega arith)) (past_none limit (before + 1) xs (omega arith) h.1)
+
+  past_yes : (limit : ℕ) (x : X) (xs : List X) → limit < number x → past limit (x ∷ xs) ≡ x ∷ past limit xs
+  past_yes limit x xs lt = rw (lt-ltb limit (number x) lt) refl
+
+  past_no : (limit : ℕ) (x : X) (xs : List X) → number x ≤ limit → past limit (x ∷ xs) ≡ past limit xs
+  past_no limit x xs le = rw (le-ltb limit (number x) le) refl
+
+  -- what stands behind the first that the items past a limit give
+  pub record Behind (limit before : ℕ) (xs : List X) (e : ℕ × Y) (es : List (ℕ × Y)) : Type 0 where
+    pub over : before < e.0
+    pub ahead : limit < e.0
+    pub within : e.0 ≤ before + length xs
+    pub rest : filter_map f (past e.0 xs) ≡ es
+
+  -- the same behind an item more that gives nothing
+  behind_more : (limit before : ℕ) (x : X) (xs : List X) (e : ℕ × Y) (es : List (ℕ × Y)) → number x ≡ before + 1
+      → Behind limit (before + 1) xs e es → Behind limit before (x ∷ xs) e es
+  behind_more limit before x xs e es is b =
+      let over : before + 1 < e.0 = b.over in
+      let within : e.0 ≤ before + 1 + length xs = b.within in
+      record {
+        over = omega arith;
+        ahead = b.ahead;
+        within = omega arith;
+        rest = ap (filter_map f) (past_no e.0 x xs (omega arith)) ∙ b.rest;
+      }
+
+  -- behind the first item, where that gives something
+  behind_here : (limit before : ℕ) (x : X) (xs : List X) (e : ℕ × Y) (es : List (ℕ × Y)) → limit < number x → Follow number before (x ∷ xs)
+      → f x ≡ Some e → filter_map f (past limit xs) ≡ es → Behind limit before (x ∷ xs) e es
+  unfolding Follow
+  behind_here limit before x xs e es lt h is all =
+      let at : e.0 ≡ number x = own x e is in
+      let next : number x ≡ before + 1 = h.0 in
+      record {
+        over = omega arith;
+        ahead = omega arith;
+        within = omega arith;
+        rest = ap (filter_map f) (past_no e.0 x xs (omega arith) ∙ past_all e.0 (before + 1) xs (omega arith) h.1 ∙ sym (past_all limit (before + 1) xs (omega arith) h.1)) ∙ all;
+      }
+
+  behind_cons : (limit before : ℕ) (x : X) (xs : List X) (e : ℕ × Y) (es : List (ℕ × Y)) → limit < number x → Follow number before (x ∷ xs)
+      → (filter_map f (past limit xs) ≡ e ∷ es → Behind limit (before + 1) xs e es)
+      → (o : Option (ℕ × Y)) → f x ≡ o → cons_option o (filter_map f (past limit xs)) ≡ e ∷ es → Behind limit before (x ∷ xs) e es
+  unfolding Follow
+  behind_cons limit before x xs e es lt h next None is all = behind_more limit before x xs e es h.0 (next all)
+  behind_cons limit before x xs e es lt h next (Some y) is all =
+      let first : y ≡ e = cc in
+      let rest : filter_map f (past limit xs) ≡ es = cc in
+      behind_here limit before x xs e es lt h (is ∙ ap Some first) rest
+
+  -- the first that is given, and what is given past it
+  pub behind_first : (limit before : ℕ) (xs : List X) (e : ℕ × Y) (es : List (ℕ × Y)) → Follow number before xs → filter_map f (past limit xs) ≡ e ∷ es
+      → Behind limit before xs e es
+  unfolding Follow
+  behind_first limit before [] e es h all = cc
+  behind_first limit before (x ∷ xs) e es h all = ⊎_elim
+      (λ lt. behind_cons limit before x xs e es lt h (behind_first limit (before + 1) xs e es h.1) (f x) refl (ap (filter_map f) (sym (past_yes limit x xs lt)) ∙ all))
+      (λ le. behind_more limit before x xs e es h.0 (behind_first limit (before + 1) xs e es h.1 (ap (filter_map f) (sym (past_no limit x xs le)) ∙ all)))
+      (cases_lt limit (number x))

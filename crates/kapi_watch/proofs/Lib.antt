@@ -1,0 +1,4 @@
+mod Due
+mod Standing
+mod Joined
+mod Runs

@@ -1,0 +1,23 @@
+-- Events as JSON text (Kubernetes, 'Efficient detection of changes').
+use Rattle.std.specs.Prelude.{ℕ, List, Option, Some, None, codes}
+use Rattle.serde_json.specs.Data.{Data, member, no_members, object, string}
+use Rattle.serde_json.specs.Written.{compact_text}
+use Rattle.kapi_watch.specs.Shown.{Shown, Added, Modified, Deleted, Expired}
+
+-- the type that an event tells
+abbrev pub type_of : Shown → List ℕ
+type_of (Added d) = codes "ADDED"
+type_of (Modified d) = codes "MODIFIED"
+type_of (Deleted d) = codes "DELETED"
+type_of Expired = codes "ERROR"
+
+-- the text of the object that an event shows; that a watch is at its end is told by no object of the store
+abbrev pub object_text_of : Shown → Option (List ℕ)
+object_text_of (Added d) = Some (compact_text d)
+object_text_of (Modified d) = Some (compact_text d)
+object_text_of (Deleted d) = Some (compact_text d)
+object_text_of Expired = None
+
+-- an event of a type that tells an object: {"object":..,"type":..}
+abbrev pub event_tree : List ℕ → Data → Data
+event_tree kind d = object (member (codes "object") d (member (codes "type") (string kind) no_members))

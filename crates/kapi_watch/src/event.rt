@@ -1,0 +1,14 @@
+use kapi_object::Object;
+
+/// What a watch shows (Kubernetes, 'Efficient detection of changes').
+#[derive(Clone, Copy, Debug)]
+pub enum Event<'a> {
+    /// The object was created, or came to be selected.
+    Added(&'a Object),
+    /// The object was changed, and was and is selected.
+    Modified(&'a Object),
+    /// The object, as it last stood, was removed, or is no longer selected; with the revision of that change.
+    Deleted(&'a Object, u64),
+    /// Changes that were not shown may be kept no longer: the watch is at its end.
+    Expired,
+}

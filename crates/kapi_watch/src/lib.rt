@@ -1,0 +1,18 @@
+//! Watches: what the changes of a store show to who watches some of its objects.
+#![tactic(auto)]
+
+pub mod error;
+pub mod event;
+mod laws;
+pub mod scope;
+#[cfg(test)]
+mod tests;
+mod text;
+pub mod watch;
+mod written;
+
+pub use error::WatchError;
+pub use event::Event;
+pub use laws::{nothing_is_shown_twice_or_left_out, writes_leave_what_a_watch_stands_for};
+pub use text::event_text;
+pub use watch::Watch;

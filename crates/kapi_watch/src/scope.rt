@@ -1,0 +1,99 @@
+//! What a watch selects, and what it shows of a change.
+ghost use Rattle.std.specs.Prelude.{◌≡◌, map, option_map, slice_get};
+ghost use Rattle.std.specs.List.{filter_map};
+ghost use Rattle.kapi_object.specs.Object.{tree_of};
+ghost use Rattle.kapi_store.specs.Lent.{changes_of};
+ghost use Rattle.kapi_store.specs.Listing.{is_listed, is_asked as is_asked_of, is_within as is_within_of};
+ghost use Rattle.kapi_store.specs.Plain.{plain_change};
+ghost use Rattle.kapi_watch.specs.Shown.{selected as selected_of, shown_of, found_of};
+
+use crate::event::Event;
+use kapi_names::{ResourceRow, Selector};
+use kapi_object::Object;
+use kapi_store::{Change, Changes, Key, Shared};
+use kapi_text::Text;
+
+/// Which objects a watch shows.
+#[derive(Debug, Drop)]
+pub struct Scope {
+    pub row: ResourceRow,
+    /// Empty for all namespaces.
+    pub namespace: Text,
+    pub selector: Selector,
+    /// Empty for all names.
+    pub name: Text,
+}
+
+/// What a change shows, with its revision.
+#[derive(Clone, Copy, Debug)]
+pub struct Found<'a> {
+    pub revision: u64,
+    pub event: Event<'a>,
+}
+
+/// Whether a text is the one that is asked for; where that is empty, any text is.
+fn is_asked(asked: &Text, text: &Text) -> bool
+    ensures { result ≡ is_asked_of asked.now text.now }
+{
+    asked.as_str().is_empty() || asked == text
+}
+
+impl Scope {
+    /// Whether the key is one of those that are watched.
+    fn is_within(&self, key: &Key) -> bool
+        ensures { result ≡ is_within_of self.now.row self.now.namespace self.now.name key.now }
+    {
+        self.row.group == key.group
+            && (self.row.plural == key.resource
+                && (is_asked(&self.namespace, &key.namespace) && is_asked(&self.name, &key.name)))
+    }
+
+    /// Whether the object is watched.
+    #[tactic(auto, unfolding(kapi_store::specs::Listing::is_listed))]
+    fn is_selected(&self, key: &Key, object: &Shared) -> bool
+        ensures { result ≡ is_listed self.now.row self.now.namespace self.now.selector self.now.name key.now (tree_of object.now) }
+    {
+        self.is_within(key) && self.selector.matches(&object.get().labels())
+    }
+
+    /// The object, where there is one that is watched.
+    fn selected<'a>(&self, key: &Key, object: &'a Option<Shared>) -> Option<&'a Object>
+        ensures { option_map (λ o. tree_of o.now) result ≡ selected_of self.now key.now (option_map tree_of object.now) }
+    {
+        match object {
+            Some(object) if self.is_selected(key, object) => Some(object.get()),
+            _none => None,
+        }
+    }
+
+    /// What a change shows, if anything.
+    #[tactic(auto, unfolding(crate::specs::Shown::shown_of))]
+    fn find<'a>(&self, change: &'a Change) -> Option<Found<'a>>
+        ensures { option_map found_of result ≡ shown_of self.now (plain_change change.now) }
+    {
+        let old = self.selected(&change.key, &change.old);
+        let event = match (old, self.selected(&change.key, &change.new)) {
+            (None, None) => return None,
+            (None, Some(new)) => Event::Added(new),
+            (Some(_old), Some(new)) => Event::Modified(new),
+            (Some(old), None) => Event::Deleted(old, change.revision),
+        };
+        Some(Found {
+            revision: change.revision,
+            event,
+        })
+    }
+
+    /// The first that changes show, if anything; each of them is looked at once.
+    pub fn first_of<'a>(&self, changes: &Changes<'a>) -> Option<Found<'a>>
+        ensures { option_map found_of result ≡ slice_get (filter_map (shown_of self.now) (map plain_change (changes_of changes.now))) 0 }
+    {
+        for index in 0..changes.len() {
+            let found = self.find(changes.get(index)?);
+            if found.is_some() {
+                return found;
+            }
+        }
+        None
+    }
+}

@@ -1,0 +1,63 @@
+//! Events as JSON texts.
+ghost use Rattle.std.specs.Prelude.{◌≡◌, IfOk, option_map};
+ghost use Rattle.serde_json.specs.Data.{Data};
+ghost use Rattle.serde_json.specs.Written.{compact_text};
+ghost use Rattle.kapi_object.specs.Object.{tree_of};
+ghost use Rattle.kapi_watch.specs.Shown.{at_version, event_of};
+ghost use Rattle.kapi_watch.specs.Text.{type_of, object_text_of, event_tree};
+
+use crate::event::Event;
+use crate::written::{quote, versioned_text};
+use kapi_object::Object;
+use kapi_text::Memory;
+use std::alloc::Global;
+
+/// The text of an object with the revision as its version.
+fn deleted_text(alloc: Global, object: &Object, revision: u64) -> Result<Vec<u8>, Memory>
+    ensures { IfOk result (λ b. b.items ≡ compact_text (at_version revision (tree_of object.now))) }
+{
+    let version = format!(in alloc; "{revision}")?;
+    versioned_text(alloc, object.as_tree(), version.as_str())
+}
+
+impl Event<'_> {
+    /// The type that the event tells.
+    pub fn kind(&self) -> &'static str
+        ensures { result.now ≡ type_of (event_of self.now) }
+    {
+        match self {
+            Event::Added(_object) => "ADDED",
+            Event::Modified(_object) => "MODIFIED",
+            Event::Deleted(_object, _revision) => "DELETED",
+            Event::Expired => "ERROR",
+        }
+    }
+
+    /// The text of the object that the event shows, written from the stored object, of which no copy is made; none of a watch that is
+    /// at its end, which is told by a status.
+    pub fn object_text(&self, alloc: Global) -> Result<Option<Vec<u8>>, Memory>
+        ensures { IfOk result (λ t. option_map (λ b. b.items) t ≡ object_text_of (event_of self.now)) }
+    {
+        match self {
+            Event::Added(object) | Event::Modified(object) => Ok(Some(object.render(alloc)?)),
+            Event::Deleted(object, revision) => {
+                Ok(Some(deleted_text(alloc, object, *revision)?))
+            }
+            Event::Expired => Ok(None),
+        }
+    }
+}
+
+/// The text of an event of a type that tells this text of an object.
+pub fn event_text(alloc: Global, kind: &str, object: &[u8]) -> Result<Vec<u8>, Memory>
+    ensures { (d : Data) → object.now ≡ compact_text d → IfOk result (λ b. b.items ≡ compact_text (event_tree kind.now d)) }
+{
+    let kind = quote(alloc, kind)?;
+    let mut text = Vec::new(alloc);
+    text.extend_from_slice(br#"{"object":"#)?;
+    text.extend_from_slice(object)?;
+    text.extend_from_slice(br#","type":"#)?;
+    text.extend_from_slice(kind.as_slice())?;
+    text.push(b'}')?;
+    Ok(text)
+}
