@@ -7,3 +7,4 @@ pub mod Marking
 pub mod Noting
 pub mod Turning
 pub mod Unmoved
+pub mod Rewritten

@@ -2,6 +2,7 @@
 //! Authorization', 'Aggregated ClusterRoles').
 #![tactic(auto)]
 
+pub mod laws;
 mod roles;
 mod same;
 #[cfg(test)]

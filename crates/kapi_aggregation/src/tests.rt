@@ -8,7 +8,6 @@ use crate::same::same_rules;
 use kapi_admission::read_object;
 use kapi_names::{PolicyRule, RBAC_GROUP, ResourceRow, Schema};
 use kapi_object::Object;
-use kapi_rbac_types::{ClusterRole, read_cluster_role};
 use kapi_store::{Key, Ready, Store, StoreError};
 use kapi_text::{Sequence, Text};
 use std::alloc::Global;
@@ -162,30 +161,15 @@ fn next(alloc: Global, store: &Store, tracker: &mut Tracker) -> Result<Option<Tu
     Ok(tracker.next(&roles)?)
 }
 
-/// The object as a turn leaves it.
-fn turned(alloc: Global, object: &Object, rules: Sequence<PolicyRule>) -> Result<Object, Fail> {
-    let old = read_cluster_role(alloc, object).map_err(|_fault| "no cluster role")?;
-    let ClusterRole {
-        aggregation_rule,
-        rules: _rules,
-    } = old;
-    let role = ClusterRole {
-        aggregation_rule,
-        rules,
-    };
-    Ok(role.to_object(alloc, object)?)
-}
-
 /// Makes the next turn, and tells it.
 fn turn(alloc: Global, store: &mut Store, tracker: &mut Tracker) -> Result<String, Fail> {
     let turn = next(alloc, store, tracker)?;
-    let text = shown(alloc, &turn)?;
-    if let Some(turn) = turn {
-        let key = key(alloc, RBAC_GROUP, "", turn.name.as_str())?;
-        let object = turned(alloc, store.get(&key).ok_or("no object")?, turn.rules)?;
-        write(alloc, store, tracker, key, Some(object))?;
+    if let Some(turn) = &turn {
+        let ready = rewrite(alloc, store, turn)?;
+        note(alloc, store, tracker, &ready)?;
+        store.commit(ready);
     }
-    Ok(text)
+    shown(alloc, &turn)
 }
 
 /// The first aggregated role whose rules are not its union, by a walk over all, as `shown`.

@@ -1,5 +1,6 @@
 //! The rewriting of an aggregated cluster role.
 ghost use Rattle.std.specs.Prelude.{◌≡◌, map, IfOk};
+ghost use Rattle.serde_json.specs.View.{view};
 ghost use Rattle.kapi_object.specs.Object.{tree_of};
 ghost use Rattle.kapi_store.specs.Faults.{fault_of};
 ghost use Rattle.kapi_store.specs.Plain.{plain_change, plain_of};
@@ -14,9 +15,11 @@ use crate::same::same_rules;
 use crate::union::union_for;
 use kapi_names::{PolicyRule, RBAC_GROUP};
 use kapi_object::Object;
-use kapi_rbac_types::ClusterRole;
+use kapi_object::tree::into_members;
+use kapi_object::tree_form::write_items;
 use kapi_store::{Key, Ready, Store, StoreError};
 use kapi_text::{Memory, Sequence, Text, TryCopy};
+use serde_json::{Value, put};
 use std::alloc::Global;
 
 /// The aggregated cluster role of the name is to have these rules in place of its own, which differ.
@@ -75,13 +78,23 @@ fn role_key(alloc: Global, name: &Text) -> Result<Key, Memory>
     })
 }
 
-/// A cluster role with other rules, and its own aggregation rule and metadata.
+/// A cluster role with other rules; all else of it stays.
 fn with_rules(alloc: Global, old: &Object, rules: &Sequence<PolicyRule>) -> Result<Object, Memory>
     ensures { IfOk result (λ o. tree_of o ≡ with_rules_of rules.now (tree_of old.now)) }
 {
-    let role = ClusterRole {
-        aggregation_rule: ClusterRole::of_admitted(alloc, old)?.aggregation_rule,
-        rules: rules.copy(alloc)?,
-    };
-    role.to_object(alloc, old)
+    Ok(Object::new(tree_with_rules(alloc, old.as_tree(), rules)?))
+}
+
+/// The same of its tree.
+fn tree_with_rules(
+    alloc: Global,
+    old: &Value,
+    rules: &Sequence<PolicyRule>,
+) -> Result<Value, Memory>
+    ensures { IfOk result (λ v. view v ≡ with_rules_of rules.now (view old.now)) }
+{
+    let rules = Value::Array(write_items(alloc, rules.as_slice())?);
+    let mut members = into_members(alloc, old.clone()?);
+    put(&mut members, alloc, "rules", rules)?;
+    Ok(Value::Object(members))
 }

@@ -1,3 +1,4 @@
 pub mod Stored
 pub mod Merged
 pub mod Listed
+pub mod Granted

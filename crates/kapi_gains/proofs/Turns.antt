@@ -1,10 +1,8 @@
 -- The turn that comes next, and a policy in which none does.
-use Rattle.std.proofs.Common.{◌≡◌, inl, inr, ℕ, List, [], ◌∷◌, Bool, true, false, if◌then◌else◌, not, ◌&&◌, Option, Some, None, Ok, refl, sym, ap, ◌∙◌}
+use Rattle.std.proofs.Common.{◌≡◌, inl, inr, ℕ, List, [], ◌∷◌, Bool, true, false, if◌then◌else◌, not, ◌&&◌, Option, Some, None, refl, ap, ◌∙◌}
 use Rattle.std.specs.List.{AllByRecursion}
 use Rattle.std.specs.Option.{option_or}
-use Rattle.std.specs.Result.{is_ok}
 use Rattle.kapi_names.specs.declared.policy_rule.PolicyRule.{PolicyRule}
-use Rattle.kapi_rbac_types.specs.declared.identity.Identity.{Identity}
 use Rattle.kapi_rbac_types.specs.declared.role.ClusterRole.{ClusterRole}
 use Rattle.kapi_aggregation.proofs.Equal.{same_rules_are}
 use Rattle.kapi_aggregation.specs.Roles.{Labelled, is_aggregated}
@@ -15,27 +13,11 @@ use Rattle.kapi_policy.specs.Laws.{IsInOrder}
 use Rattle.kapi_policy.specs.Objects.{PolicyObjects, applied}
 use Rattle.kapi_policy.specs.declared.change.PolicyChange.TheVariants as change
 use Rattle.kapi_policy.specs.declared.change.PolicyPut.TheVariants as put
-use Rattle.kapi_guard.proofs.Grants.{passes_where_granted}
-use Rattle.kapi_guard.specs.Checks.{checked, grant}
-use Rattle.kapi_guard.specs.Writes.{keeps_role}
-use Rattle.kapi_guard.specs.declared.write.PolicyWrite.{PolicyWrite}
 use Rattle.kapi_gains.proofs.Elements.{mapped_of}
 use Rattle.kapi_gains.proofs.Entries.{in_found}
 use Rattle.kapi_gains.specs.Members.{Has}
 use Rattle.kapi_gains.specs.States.{IsSettled, Labels, PolicyState, cluster_role_at, labelled, labelled_roles}
 use Rattle.kapi_gains.specs.Steps.{IsRewritten, IsTurned}
-
--- ---- writes
-
-second : (a b : Bool) → (a && b) ≡ true → b ≡ true
-second true b h = h
-second false b h = absurd (cc h)
-
-pub granted_where_checked : (objects : PolicyObjects) (identity : Identity) (w : PolicyWrite) → checked objects identity w ≡ Ok tt → grant objects identity w ≡ true
-granted_where_checked objects identity w passes =
-    second (keeps_role w.object) (grant objects identity w) (sym (passes_where_granted objects identity w) ∙ ap is_ok passes)
-
--- ---- turns
 
 module _ {X Y : Type 0} (f : X → Option Y) where
   first_from : (xs : List X) (y : Y) → first_some f xs ≡ Some y → (x : X) × (Has xs x × (f x ≡ Some y))

@@ -65,6 +65,11 @@ pub passes_where_granted : (objects : PolicyObjects) (identity : Identity) (w : 
 unfolding checked grant
 passes_where_granted objects identity w = by_role objects identity w.object (keeps_role w.object) (is_exempt objects identity w) (wanted objects w.object)
 
+-- what the checks pass is granted
+pub granted_where_checked : (objects : PolicyObjects) (identity : Identity) (w : PolicyWrite) → checked objects identity w ≡ Ok tt → grant objects identity w ≡ true
+granted_where_checked objects identity w passes =
+    (and_parts (keeps_role w.object) (grant objects identity w) (sym (passes_where_granted objects identity w) ∙ ap is_ok passes)).1
+
 -- ---- what an answer tells
 
 pub told : (result : Result (Unit {0}) Refused) (given : Result (Unit {0}) Fault) (so : Bool) → is_ok given ≡ so → Gives fault_of (λ u. u) result given → Tells result so

@@ -1,5 +1,5 @@
 -- What a write sets in an object leaves it of its row and without faults.
-use Rattle.std.proofs.Common.{◌≡◌, ◌∙◌, ℕ, List, [], ◌∷◌, ◌++◌, Bool, true, false, not, ◌||◌, Option, Some, None, refl, sym, ap, subst, true≢false, codes, length, ◌==◌, bytes_eq, if◌then◌else◌, Result, Ok}
+use Rattle.std.proofs.Common.{◌≡◌, ◌∙◌, ℕ, List, [], ◌∷◌, ◌++◌, Bool, true, false, not, ◌||◌, Some, refl, sym, ap, true≢false, codes, length, ◌==◌, bytes_eq, if◌then◌else◌}
 use Rattle.std.proofs.lemmas.Map.Text.{is_eq-slice_cmp}
 use Rattle.std.proofs.lemmas.Slice.Eq.{bytes_eq-Decides}
 use Rattle.std.specs.Cmp.Lexicographic.{slice_cmp}
@@ -8,19 +8,18 @@ use Rattle.std.specs.Ordering.{nat_cmp, is_eq, match_ordering}
 use Rattle.std.specs.declared.cmp.Ordering.{Ordering}
 use Rattle.std.specs.declared.cmp.Ordering.TheVariants.{Less, Equal, Greater}
 use Rattle.serde_json.proofs.Views.{get_member-put}
-use Rattle.serde_json.specs.Data.{Data, null, boolean, number, string, array, object, Members, no_members, member, put}
+use Rattle.serde_json.specs.Data.{Data, string, object, Members, no_members, member, put}
 use Rattle.serde_json.specs.Find.{get, get_member}
-use Rattle.kapi_names.specs.declared.fault.FieldFault.{FieldFault}
 use Rattle.kapi_names.specs.declared.row.ResourceRow.{ResourceRow}
 use Rattle.kapi_names.specs.declared.row.Schema.{Schema}
 use Rattle.kapi_names.specs.declared.row.Schema.TheVariants as schema
 use Rattle.kapi_object.proofs.Puts.{put_other}
 use Rattle.kapi_object.specs.Contents.{content_of, text_if}
 use Rattle.kapi_object.specs.Object.{stamped_tree}
-use Rattle.kapi_object.specs.Tree.{in_metadata, member_of, members_or_none, metadata_member, metadata_of, unless_null, with_text, without, without_member}
+use Rattle.kapi_object.specs.Tree.{in_metadata, member_of, members_or_none, metadata_of, unless_null, with_text, without, without_member}
 use Rattle.kapi_admission.proofs.Clean.{kept_tree_has_no_fault}
 use Rattle.kapi_admission.proofs.CleanLists.{parts, both}
-use Rattle.kapi_admission.specs.Admission.{faults_on, filled, kept_metadata, kept_tree, version_of}
+use Rattle.kapi_admission.specs.Admission.{faults_on, kept_metadata, kept_tree, version_of}
 use Rattle.kapi_admission.specs.Faults.{entries_faults, faults_in, faults_of, field_of, key_of, metadata_faults}
 use Rattle.kapi_admission.specs.Shapes.{Says, chosen, part_faults, passes, row_faults, rows_faults, table_faults, typed_faults}
 use Rattle.kapi_admission.specs.Tables.{rows_of, word_text}
@@ -35,6 +34,7 @@ use Rattle.kapi_admission.specs.declared.table.When.{When}
 use Rattle.kapi_admission.specs.declared.table.When.TheVariants as when
 use Rattle.kapi_admission.specs.declared.word.Word.{Word}
 use Rattle.kapi_admission.specs.declared.word.Word.TheVariants as word
+use Rattle.kapi_rbac_types.proofs.Stamped.{beside_metadata, in_text}
 use Rattle.kapi_stored_policy.specs.Admitted.{IsObjectOf}
 
 -- ---- trees that have the same members of all words have the same faults
@@ -71,28 +71,9 @@ module _ (a b : Data) (same : (w : Word) → member_of (word_text w) a ≡ membe
 
 -- ---- a text in the metadata
 
-in_object : (q : List ℕ) (d : Data) → get_member q (members_or_none (Some d)) ≡ get q d
-in_object q (object ms) = refl
-in_object q _ = refl
-
-in_members : (q : List ℕ) (o : Option Data) → get_member q (members_or_none o) ≡ option_and_then (get q) o
-in_members q None = refl
-in_members q (Some d) = in_object q d
-
--- other members stay
-beside_metadata : (q k t : List ℕ) (d : Data) → bytes_eq q (codes "metadata") ≡ false → get q (with_text k t d) ≡ get q d
-beside_metadata q k t d h = put_other q (codes "metadata") (object (put k (string t) (metadata_of d))) (members_or_none (Some d)) h ∙ in_object q d
-
 no_word : (w : Word) → bytes_eq (word_text w) (codes "metadata") ≡ false
 no_word word.Rules = refl
 no_word _ = refl
-
--- so do the metadata's other members
-in_text : (q k t : List ℕ) (d : Data) → bytes_eq q k ≡ false → in_metadata q (with_text k t d) ≡ in_metadata q d
-in_text q k t d h =
-    ap (option_and_then (get q)) (get_member-put (codes "metadata") (object (put k (string t) (metadata_of d))) (members_or_none (Some d)))
-    ∙ put_other q k (string t) (metadata_of d) h
-    ∙ in_members q (get (codes "metadata") d)
 
 entries_same : (sort : Entries) (k t : List ℕ) (d : Data) → bytes_eq (key_of sort) k ≡ false → faults_in sort (with_text k t d) ≡ faults_in sort d
 entries_same sort k t d h = ap (λ o. entries_faults sort (field_of sort) (option_and_then unless_null o)) (in_text (key_of sort) k t d h)

@@ -83,6 +83,10 @@ is_place k of h = by_group (bytes_eq k.group rbac_group) refl h
     by_group true at h = by_role k of (same k.group rbac_group at) (bytes_eq k.resource (codes "roles")) refl h
     by_group false at h = absurd (cc h)
 
+-- the key of a cluster role is of the group and the resource, and in no namespace
+pub cluster_role_key : (k : Key) → policy_kind k ≡ Some kind.ClusterRole → (k.group ≡ rbac_group) × (k.resource ≡ codes "clusterroles") × (k.namespace ≡ [])
+cluster_role_key k h = is_place k kind.ClusterRole h
+
 -- ---- the order of places
 
 level : (s t w : List ℕ) → s ≡ w → t ≡ w → slice_cmp nat_cmp s t ≡ Equal

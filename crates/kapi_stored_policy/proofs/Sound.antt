@@ -59,7 +59,7 @@ one_put s c d is new h =
     let P : Option Data → Type 0 = λ o. AreSound (placed c.key o s.objects) in subst P (sym is) (put_sound c.key d s.objects new h)
 
 -- what holds behind a check that passed
-then_holds : {A B F : Type 0} (r : Result A F) (f : A → Result B F) (P : B → Type 0) → ((x : A) → IfOk (f x) P) → IfOk (r >>= f) P
+pub then_holds : {A B F : Type 0} (r : Result A F) (f : A → Result B F) (P : B → Type 0) → ((x : A) → IfOk (f x) P) → IfOk (r >>= f) P
 then_holds (Ok x) f P h = h x
 then_holds (Err e) f P h = tt
 
@@ -78,7 +78,7 @@ nothing_written : (s : Plain) → AreSound s.objects → LeavesSound s []
 unfolding placed_all
 nothing_written s h = h
 
-either_holds : {B F : Type 0} (b : Bool) (r q : Result B F) (P : B → Type 0) → IfOk r P → IfOk q P → IfOk (if b then r else q) P
+pub either_holds : {B F : Type 0} (b : Bool) (r q : Result B F) (P : B → Type 0) → IfOk r P → IfOk q P → IfOk (if b then r else q) P
 either_holds true r q P hr hq = hr
 either_holds false r q P hr hq = hq
 

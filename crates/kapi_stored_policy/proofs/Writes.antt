@@ -93,14 +93,14 @@ removed_read k os None at = λ i. record {
 }
 
 -- one change is made
-placed_read : (k : Key) (left : Option Data) (os : List (Key × Data)) → IsStrictlySortedBy key_cmp (keys_of os)
+pub placed_read : (k : Key) (left : Option Data) (os : List (Key × Data)) → IsStrictlySortedBy key_cmp (keys_of os)
     → policy_objects (placed k left os) ≡ after_changes (changes_at (policy_kind k) k left) (policy_objects os)
 unfolding placed
 placed_read k (Some tree) os h = put_read k tree os h (policy_kind k) refl
 placed_read k None os h = removed_read k os (policy_kind k) refl
 
 -- the keys are in order after it
-placed_keeps : (k : Key) (left : Option Data) (os : List (Key × Data)) → IsStrictlySortedBy key_cmp (keys_of os) → IsStrictlySortedBy key_cmp (keys_of (placed k left os))
+pub placed_keeps : (k : Key) (left : Option Data) (os : List (Key × Data)) → IsStrictlySortedBy key_cmp (keys_of os) → IsStrictlySortedBy key_cmp (keys_of (placed k left os))
 unfolding placed
 placed_keeps k (Some tree) os h = put_keeps key_cmp key_total os k tree h
 placed_keeps k None os h = delete_keeps key_cmp key_total (is_key k) os h
@@ -133,7 +133,7 @@ policy_in_order os h = record {
 }
 
 -- keys stay in order through changes
-placed_all_keeps : (ws : List (Key × Option Data)) (os : List (Key × Data)) → IsStrictlySortedBy key_cmp (keys_of os) → IsStrictlySortedBy key_cmp (keys_of (placed_all ws os))
+pub placed_all_keeps : (ws : List (Key × Option Data)) (os : List (Key × Data)) → IsStrictlySortedBy key_cmp (keys_of os) → IsStrictlySortedBy key_cmp (keys_of (placed_all ws os))
 unfolding placed_all
 placed_all_keeps [] os h = h
 placed_all_keeps (w ∷ ws) os h = placed_all_keeps ws (placed w.0 w.1 os) (placed_keeps w.0 w.1 os h)

@@ -1,4 +1,5 @@
-use Rattle.kapi_gains.proofs.Turns.{granted_where_checked, next_is_turn, none_is_settled}
+use Rattle.kapi_guard.proofs.Grants.{granted_where_checked}
+use Rattle.kapi_gains.proofs.Turns.{next_is_turn, none_is_settled}
 use Rattle.kapi_gains.proofs.laws.checks_and_turns_make_runs.Goals as goal
 
 pub returns-clause-writes : goal.returns-clause-writes

@@ -1,0 +1,13 @@
+use Rattle.kapi_object.proofs.NoFloats.{no_floats}
+use Rattle.kapi_object.proofs.Ordered.{keys_in_order}
+use Rattle.kapi_object.specs.Object.{tree_of}
+use Rattle.kapi_aggregation.proofs.Rewritten.{with_rules_holds}
+use Rattle.kapi_aggregation.proofs.turn.with_rules.Goals as goal
+
+pub new-requires-clause-whole : goal.new-requires-clause-whole
+new-requires-clause-whole c =
+    rw (c.in_ok-tree_with_rules.ensures, c.as_tree.ensures) (with_rules_holds no_floats c.args.rules.now (tree_of c.args.old.now) c.args.old.now.whole)
+
+pub new-requires-clause-ordered : goal.new-requires-clause-ordered
+new-requires-clause-ordered c =
+    rw (c.in_ok-tree_with_rules.ensures, c.as_tree.ensures) (with_rules_holds keys_in_order c.args.rules.now (tree_of c.args.old.now) c.args.old.now.ordered)

@@ -1,0 +1,201 @@
+-- What an answer changes was granted to whoever asks.
+use Rattle.std.proofs.Common.{◌≡◌, ◌+◌, ℕ, List, [], ◌∷◌, Bool, Option, None, Some, Result, Ok, Err, length, refl}
+use Rattle.std.specs.Fmt.{decimal}
+use Rattle.std.specs.List.{AllByRecursion}
+use Rattle.std.specs.Map.{lookup}
+use Rattle.std.specs.Prelude.{IfOk}
+use Rattle.serde_json.specs.Data.{Data}
+use Rattle.kapi_text.specs.Gives.{◌>>=◌}
+use Rattle.kapi_http.specs.declared.message.HttpFault.{HttpFault}
+use Rattle.kapi_http.specs.declared.message.HttpRequest.{HttpRequest}
+use Rattle.kapi_object.specs.Given.{given_of}
+use Rattle.kapi_policy.specs.Objects.{PolicyObjects}
+use Rattle.kapi_rbac_types.specs.declared.identity.Identity.{Identity}
+use Rattle.kapi_reply.specs.Refusals.{Asked}
+use Rattle.kapi_reply.specs.declared.refusal.Refused.{Refused}
+use Rattle.kapi_request_info.specs.Attributes.{info}
+use Rattle.kapi_request_info.specs.Faults.{TargetFault}
+use Rattle.kapi_request_info.specs.declared.attributes.Attributes.{Attributes}
+use Rattle.kapi_route.specs.Headers.{unimpersonated, media_typed}
+use Rattle.kapi_route.specs.Query.{queried}
+use Rattle.kapi_route.specs.Route.{ResourceRouted, Routed, health, resource, routed}
+use Rattle.kapi_route.specs.declared.route.Action.{Action}
+use Rattle.kapi_route.specs.declared.route.Action.TheVariants as action
+use Rattle.kapi_store.specs.Faults.{StoreFault}
+use Rattle.kapi_store.specs.Keys.{is_key}
+use Rattle.kapi_store.specs.Plain.{Plain, PlainChange, creation_at, creation_in_place, removable, removal, removals, replaceable, replaced, replacement, replacement_at, revisions_left}
+use Rattle.kapi_store.specs.Same.{same_tree}
+use Rattle.kapi_store.specs.Stamps.{uid_in, uid_of, version_in, with_stamps_of}
+use Rattle.kapi_store.specs.declared.key.Key.{Key}
+use Rattle.kapi_stored_policy.proofs.Sound.{either_holds, then_holds}
+use Rattle.kapi_stored_policy.specs.Kind.{policy_kind}
+use Rattle.kapi_escalation.proofs.Granted.{deletion_is_granted, passed_is_granted, stamped_is_granted}
+use Rattle.kapi_escalation.specs.Granted.{AreGranted, IsDeletion, IsGrantedAt}
+use Rattle.kapi_answer.specs.Answer.{Plan, Task, answer, answer_asked, answer_by, asked_by, carried_out, checked, create, delete, deletes, escalation_checked, planned, planned_at, planned_for, planned_on, replace, task, tell, tells, to_be_created, to_be_replaced, told_well}
+use Rattle.kapi_answer.specs.Authorization.{authorized}
+use Rattle.kapi_answer.specs.Collection.{listed, to_delete_all}
+use Rattle.kapi_answer.specs.Create.{created, creates, stored, to_create}
+use Rattle.kapi_answer.specs.Delete.{removed, removes, to_delete}
+use Rattle.kapi_answer.specs.Get.{found, found_if}
+use Rattle.kapi_answer.specs.Outcome.{Outcome}
+use Rattle.kapi_answer.specs.Update.{replaces, to_patch, to_update, told_after}
+
+-- what holds behind a check that passed, of what that check gave
+then_keeps : {A B F : Type 0} {Q : A → Type 0} (r : Result A F) (f : A → Result B F) (P : B → Type 0) → IfOk r Q → ((x : A) → Q x → IfOk (f x) P) → IfOk (r >>= f) P
+then_keeps (Ok x) f P q h = h x q
+then_keeps (Err e) f P q h = tt
+
+stored_holds : {X : Type 0} (name : List ℕ) (r : Result X StoreFault) (P : X → Type 0) → IfOk r P → IfOk (stored name r) P
+stored_holds name (Ok x) P h = h
+stored_holds name (Err fault) P h = tt
+
+module _ (objects : PolicyObjects) (identity : Identity) where
+  -- ---- what a write of the store changes
+
+  -- the changes are granted
+  abbrev Granted : List PlainChange → Type 0
+  Granted cs = AreGranted objects identity cs
+
+  -- the tree is granted at its place
+  abbrev IsGrantedNew : Key × Data → Type 0
+  IsGrantedNew new = IsGrantedAt objects identity (policy_kind new.0) new.0 (Some new.1)
+
+  creation_granted : (s : Plain) (new : Key × Data) → IsGrantedNew new → IfOk (creation_in_place s new.0 new.1) Granted
+  creation_granted s new h =
+      then_holds (revisions_left s 1) (λ _. Ok (creation_at new.0 new.1 (s.revision + 1) ∷ [])) Granted
+      (λ _. (stamped_is_granted objects identity (policy_kind new.0) new.0 (uid_of (s.revision + 1)) (decimal (s.revision + 1)) new.1 h, tt))
+
+  replacement_granted : (s : Plain) (new : Key × Data) → IsGrantedNew new → IfOk (replacement s new.0 new.1) Granted
+  replacement_granted s new h =
+      then_holds (replaceable s new.0 (given_of new.1).resource_version) (replaced s new.0 new.1) Granted
+      (λ old. either_holds (same_tree (with_stamps_of old new.1) old) (Ok []) (revisions_left s 1 >>= λ _. Ok (replacement_at new.0 old new.1 (s.revision + 1) ∷ [])) Granted tt
+      (then_holds (revisions_left s 1) (λ _. Ok (replacement_at new.0 old new.1 (s.revision + 1) ∷ [])) Granted
+      (λ _. (
+        stamped_is_granted objects identity (policy_kind new.0) new.0 (uid_in old) (decimal (s.revision + 1)) (with_stamps_of old new.1)
+            (stamped_is_granted objects identity (policy_kind new.0) new.0 (uid_in old) (version_in old) new.1 h),
+        tt,
+      ))))
+
+  removals_delete : (os : List (Key × Data)) (revision : ℕ) (ks : List Key) → AllByRecursion IsDeletion (removals os revision ks)
+  unfolding removals
+  removals_delete os revision [] = tt
+  removals_delete os revision (k ∷ ks) = (refl, removals_delete os (revision + 1) ks)
+
+  removals_granted : (os : List (Key × Data)) (revision : ℕ) (ks : List Key) → Granted (removals os revision ks)
+  unfolding removals
+  removals_granted os revision [] = tt
+  removals_granted os revision (k ∷ ks) = (deletion_is_granted objects identity (policy_kind k) k, removals_delete os (revision + 1) ks)
+
+  removal_granted : (s : Plain) (ks : List Key) → IfOk (removal s ks) Granted
+  removal_granted s ks =
+      then_holds (removable s ks) (λ _. revisions_left s (length ks) >>= λ _. Ok (removals s.objects s.revision ks)) Granted
+      (λ _. then_holds (revisions_left s (length ks)) (λ _. Ok (removals s.objects s.revision ks)) Granted
+      (λ _. removals_granted s.objects s.revision ks))
+
+  -- ---- what a plan changes
+
+  abbrev IsGrantedOutcome : Outcome → Type 0
+  IsGrantedOutcome o = Granted o.changes
+
+  -- what is only told changes nothing, and what is written is granted
+  abbrev IsGrantedPlan : Plan → Type 0
+  IsGrantedPlan (tell outcome) = outcome.changes ≡ []
+  IsGrantedPlan (create new) = IsGrantedNew new
+  IsGrantedPlan (replace new) = IsGrantedNew new
+  IsGrantedPlan (delete deletion) = Unit {0}
+
+  carried_out_granted : (s : Plain) (plan : Plan) → IsGrantedPlan plan → IfOk (carried_out s plan) IsGrantedOutcome
+  unfolding creates replaces removes
+  carried_out_granted s (tell outcome) h = rw h tt
+  carried_out_granted s (create new) h =
+      then_keeps (stored new.0.name (creation_in_place s new.0 new.1)) created IsGrantedOutcome
+      (stored_holds new.0.name (creation_in_place s new.0 new.1) Granted (creation_granted s new h)) (λ cs granted. granted)
+  carried_out_granted s (replace new) h =
+      then_keeps (stored new.0.name (replacement s new.0 new.1)) (told_after (lookup (is_key new.0) s.objects)) IsGrantedOutcome
+      (stored_holds new.0.name (replacement s new.0 new.1) Granted (replacement_granted s new h)) (λ cs granted. granted)
+  carried_out_granted s (delete deletion) h =
+      then_keeps (stored deletion.name (removal s deletion.keys)) (removed deletion.told) IsGrantedOutcome
+      (stored_holds deletion.name (removal s deletion.keys) Granted (removal_granted s deletion.keys)) (λ cs granted. granted)
+
+-- ---- what is planned
+
+-- the plan of a task is granted to whoever asks
+abbrev IsGrantedFor : Task → Plan → Type 0
+IsGrantedFor t = IsGrantedPlan t.objects t.identity
+
+created_granted : (s : Plain) (t : Task) (new : Key × Data) → IfOk (to_be_created s t new) (IsGrantedFor t)
+unfolding to_be_created
+created_granted s t new =
+    then_keeps (escalation_checked s t new) (λ u. Ok (create new)) (IsGrantedFor t)
+    (passed_is_granted t.objects t.identity t.key.name new.0 (lookup (is_key new.0) s.objects) new.1) (λ u granted. granted)
+
+replaced_granted : (s : Plain) (t : Task) (new : Key × Data) → IfOk (to_be_replaced s t new) (IsGrantedFor t)
+unfolding to_be_replaced
+replaced_granted s t new =
+    then_keeps (escalation_checked s t new) (λ u. Ok (replace new)) (IsGrantedFor t)
+    (passed_is_granted t.objects t.identity t.key.name new.0 (lookup (is_key new.0) s.objects) new.1) (λ u granted. granted)
+
+found_tells : (t : Task) (o : Option Data) → IfOk (found_if o >>= tells) (IsGrantedFor t)
+found_tells t None = tt
+found_tells t (Some tree) = refl
+
+planned_on_granted : (a : Action) (s : Plain) (t : Task) → IfOk (planned_on a s t) (IsGrantedFor t)
+unfolding planned_on found listed
+planned_on_granted action.Get s t = found_tells t (lookup (is_key t.key) s.objects)
+planned_on_granted action.List s t = refl
+planned_on_granted action.Watch s t = tt
+planned_on_granted action.Create s t = then_holds (to_create s t.row t.key.namespace t.body) (to_be_created s t) (IsGrantedFor t) (created_granted s t)
+planned_on_granted (action.Update of) s t = then_holds (to_update s t.row of t.key t.body) (to_be_replaced s t) (IsGrantedFor t) (replaced_granted s t)
+planned_on_granted (action.Patch of) s t = then_holds (to_patch s t.row of t.key t.body) (to_be_replaced s t) (IsGrantedFor t) (replaced_granted s t)
+planned_on_granted action.Delete s t = then_holds (to_delete s t.key t.body) deletes (IsGrantedFor t) (λ deletion. tt)
+planned_on_granted action.DeleteCollection s t = then_holds (to_delete_all s t.row t.key.namespace t.filter t.body) deletes (IsGrantedFor t) (λ deletion. tt)
+
+module _ (objects : PolicyObjects) (s : Plain) (identity : Identity) (request : HttpRequest) where
+  -- the plan is granted to whoever asks
+  abbrev IsGrantedHere : Plan → Type 0
+  IsGrantedHere = IsGrantedPlan objects identity
+
+  planned_for_granted : (a : Attributes) (r : ResourceRouted) → IfOk (planned_for objects s identity request a r) IsGrantedHere
+  unfolding planned_for
+  planned_for_granted a r =
+      then_holds (queried r.action s.revision a.query) _ IsGrantedHere
+      (λ filter. then_holds (media_typed request.method request.headers) _ IsGrantedHere (λ w. planned_on_granted r.action s (task objects identity request a r filter)))
+
+  well_tells : IfOk (told_well request >>= tells) IsGrantedHere
+  unfolding told_well
+  well_tells =
+      then_keeps (told_well request) tells IsGrantedHere (then_holds (media_typed request.method request.headers) _ (λ outcome. outcome.changes ≡ []) (λ w. refl)) (λ outcome nothing. nothing)
+
+  planned_at_granted : (a : Attributes) (r : Routed) → IfOk (planned_at objects s identity request a r) IsGrantedHere
+  planned_at_granted a health = well_tells
+  planned_at_granted a (resource r) = planned_for_granted a r
+
+  planned_granted : (a : Attributes) → IfOk (planned objects s identity request a) IsGrantedHere
+  unfolding planned
+  planned_granted a =
+      then_holds (unimpersonated request.headers) _ IsGrantedHere
+      (λ u. then_holds (authorized objects identity a) _ IsGrantedHere
+      (λ v. then_holds (routed s.table request.method a) _ IsGrantedHere (planned_at_granted a)))
+
+  checked_granted : (a : Attributes) → IfOk (checked objects s identity request a) (IsGrantedOutcome objects identity)
+  unfolding checked
+  checked_granted a =
+      then_keeps (planned objects s identity request a) (carried_out s) (IsGrantedOutcome objects identity) (planned_granted a) (carried_out_granted objects identity s)
+
+  -- ---- what is answered
+
+  by_outcome : (asked : Asked) (close : Bool) (r : Result Outcome Refused) → IfOk r (IsGrantedOutcome objects identity) → AreGranted objects identity (answer_by asked close r).1
+  unfolding answer_by
+  by_outcome asked close (Ok outcome) h = h
+  by_outcome asked close (Err refused) h = tt
+
+  asked_granted : (r : Result Attributes TargetFault) → AreGranted objects identity (answer_asked objects s identity request r).1
+  unfolding answer_asked
+  asked_granted (Ok a) = by_outcome (asked_by identity request a) request.close (checked objects s identity request a) (checked_granted a)
+  asked_granted (Err fault) = tt
+
+-- the changes of every answer are granted to whoever asks
+pub answers_are_granted : (objects : PolicyObjects) (s : Plain) (identity : Identity) (item : Result HttpRequest HttpFault) → AreGranted objects identity (answer objects s identity item).1
+unfolding answer
+answers_are_granted objects s identity (Ok request) = asked_granted objects s identity request (info request.method request.target)
+answers_are_granted objects s identity (Err fault) = tt
