@@ -11,3 +11,6 @@ pub mod Fitting
 pub mod Opened
 pub mod Loads
 pub mod Turning
+pub mod Gains
+pub mod OpenedPolicy
+pub mod Acting

@@ -22,9 +22,13 @@ both true b h = (refl, h)
 both false b h = absurd (cc h)
 
 -- the tree that a body was read as
-tree_in : Result Data BodyFault → Data
+unfoldable pub tree_in : Result Data BodyFault → Data
 tree_in (Ok tree) = tree
 tree_in (Err fault) = null
+
+-- the tree of an opening object
+abbrev pub opened_tree : OpeningObject → Data
+opened_tree o = tree_in (object_of o.row o.body)
 
 -- one object more is created
 created_next : (m : Machine) (o : OpeningObject) (tree : Data) → object_of o.row o.body ≡ Ok tree
@@ -34,28 +38,28 @@ unfolding with_opening revisions_left
 created_next m o tree body free left = rw (body, free, le-leb (m.store.revision + 1) LAST_REVISION left) refl
 
 -- the machine with one object more
-abbrev next_of : OpeningObject → Data → Machine → Machine
+abbrev pub next_of : OpeningObject → Data → Machine → Machine
 next_of o tree m = changed (creation_at (cluster_key o.row o.name) tree (m.store.revision + 1) ∷ []) m
 
 -- ---- the five bodies are objects
 
-default_tree : object_of default_namespace.row default_namespace.body ≡ Ok (tree_in (object_of default_namespace.row default_namespace.body))
+default_tree : object_of default_namespace.row default_namespace.body ≡ Ok (opened_tree default_namespace)
 unfolding admission_on_literals chars tree_in
 default_tree = refl
 
-admin_tree : object_of cluster_admin.row cluster_admin.body ≡ Ok (tree_in (object_of cluster_admin.row cluster_admin.body))
+admin_tree : object_of cluster_admin.row cluster_admin.body ≡ Ok (opened_tree cluster_admin)
 unfolding admission_on_literals chars tree_in
 admin_tree = refl
 
-user_tree : object_of basic_user.row basic_user.body ≡ Ok (tree_in (object_of basic_user.row basic_user.body))
+user_tree : object_of basic_user.row basic_user.body ≡ Ok (opened_tree basic_user)
 unfolding admission_on_literals chars tree_in
 user_tree = refl
 
-admins_tree : object_of cluster_admin_binding.row cluster_admin_binding.body ≡ Ok (tree_in (object_of cluster_admin_binding.row cluster_admin_binding.body))
+admins_tree : object_of cluster_admin_binding.row cluster_admin_binding.body ≡ Ok (opened_tree cluster_admin_binding)
 unfolding admission_on_literals chars tree_in
 admins_tree = refl
 
-users_tree : object_of basic_user_binding.row basic_user_binding.body ≡ Ok (tree_in (object_of basic_user_binding.row basic_user_binding.body))
+users_tree : object_of basic_user_binding.row basic_user_binding.body ≡ Ok (opened_tree basic_user_binding)
 unfolding admission_on_literals chars tree_in
 users_tree = refl
 
@@ -84,19 +88,19 @@ alone table h =
     }
 
 -- the five machines, with trees that may be any
-abbrev one : List ResourceRow → ℕ → Data → Machine
+abbrev pub one : List ResourceRow → ℕ → Data → Machine
 one table first a = next_of default_namespace a (empty table first)
 
-abbrev two : List ResourceRow → ℕ → Data → Data → Machine
+abbrev pub two : List ResourceRow → ℕ → Data → Data → Machine
 two table first a b = next_of cluster_admin b (one table first a)
 
-abbrev three : List ResourceRow → ℕ → Data → Data → Data → Machine
+abbrev pub three : List ResourceRow → ℕ → Data → Data → Data → Machine
 three table first a b c = next_of basic_user c (two table first a b)
 
-abbrev four : List ResourceRow → ℕ → Data → Data → Data → Data → Machine
+abbrev pub four : List ResourceRow → ℕ → Data → Data → Data → Data → Machine
 four table first a b c d = next_of cluster_admin_binding d (three table first a b c)
 
-abbrev five : List ResourceRow → ℕ → Data → Data → Data → Data → Data → Machine
+abbrev pub five : List ResourceRow → ℕ → Data → Data → Data → Data → Data → Machine
 five table first a b c d e = next_of basic_user_binding e (four table first a b c d)
 
 free_one : (table : List ResourceRow) (first : ℕ) → Alone table → free_place (empty table first).store (cluster_key default_namespace.row default_namespace.name) ≡ Ok tt
@@ -126,18 +130,18 @@ free_five table first a b c d h = rw h.bindings refl
 -- the machine as it begins, whatever the five bodies were read as
 opening_is : (table : List ResourceRow) (first : ℕ) → Alone table → first ≤ LAST_FIRST
     → opening table first ≡ five table first
-    (tree_in (object_of default_namespace.row default_namespace.body))
-    (tree_in (object_of cluster_admin.row cluster_admin.body))
-    (tree_in (object_of basic_user.row basic_user.body))
-    (tree_in (object_of cluster_admin_binding.row cluster_admin_binding.body))
-    (tree_in (object_of basic_user_binding.row basic_user_binding.body))
+    (opened_tree default_namespace)
+    (opened_tree cluster_admin)
+    (opened_tree basic_user)
+    (opened_tree cluster_admin_binding)
+    (opened_tree basic_user_binding)
 unfolding opening opening_objects
 opening_is table first h low =
-    let a = tree_in (object_of default_namespace.row default_namespace.body) in
-    let b = tree_in (object_of cluster_admin.row cluster_admin.body) in
-    let c = tree_in (object_of basic_user.row basic_user.body) in
-    let d = tree_in (object_of cluster_admin_binding.row cluster_admin_binding.body) in
-    let e = tree_in (object_of basic_user_binding.row basic_user_binding.body) in
+    let a = opened_tree default_namespace in
+    let b = opened_tree cluster_admin in
+    let c = opened_tree basic_user in
+    let d = opened_tree cluster_admin_binding in
+    let e = opened_tree basic_user_binding in
     let m = empty table first in
     ap (λ n. with_opening (with_opening (with_opening (with_opening n cluster_admin) basic_user) cluster_admin_binding) basic_user_binding)
     (created_next m default_namespace a default_tree (free_one table first h) (omega (arith, low)))
@@ -156,14 +160,19 @@ five_keys table first a b c d e = refl
 five_revision : (table : List ResourceRow) (first : ℕ) (a b c d e : Data) → (five table first a b c d e).store.revision ≡ first + 5
 five_revision table first a b c d e = omega arith
 
+-- the machine as it begins, in a table that fits
+pub opening_five : (table : List ResourceRow) (first : ℕ) → fits table ≡ true → first ≤ LAST_FIRST
+    → opening table first ≡ five table first (opened_tree default_namespace) (opened_tree cluster_admin) (opened_tree basic_user) (opened_tree cluster_admin_binding) (opened_tree basic_user_binding)
+opening_five table first h low = opening_is table first (alone table h) low
+
 pub opening_stands : (table : List ResourceRow) (first : ℕ) → fits table ≡ true → first ≤ LAST_FIRST → Standing table first
 opening_stands table first h low =
     let is = opening_is table first (alone table h) low in
-    let a = tree_in (object_of default_namespace.row default_namespace.body) in
-    let b = tree_in (object_of cluster_admin.row cluster_admin.body) in
-    let c = tree_in (object_of basic_user.row basic_user.body) in
-    let d = tree_in (object_of cluster_admin_binding.row cluster_admin_binding.body) in
-    let e = tree_in (object_of basic_user_binding.row basic_user_binding.body) in
+    let a = opened_tree default_namespace in
+    let b = opened_tree cluster_admin in
+    let c = opened_tree basic_user in
+    let d = opened_tree cluster_admin_binding in
+    let e = opened_tree basic_user_binding in
     record {
       objects = ap (λ m. keys_of m.store.objects) is ∙ five_keys table first a b c d e;
       revision = ap (λ m. m.store.revision) is ∙ five_revision table first a b c d e;

@@ -1,10 +1,11 @@
 -- One event more at the end of a run.
-use Rattle.std.proofs.Common.{◌≡◌, ◌+◌, List, [], ◌∷◌, ◌++◌, length, refl, sym, ap, ◌∙◌, subst, length-append}
+use Rattle.std.proofs.Common.{◌≡◌, ℕ, take, ◌+◌, List, [], ◌∷◌, ◌++◌, length, refl, sym, ap, ◌∙◌, subst, length-append}
+use Rattle.std.proofs.lemmas.List.{length-take, take_min}
 use Rattle.kapi_core.specs.declared.event.Event.{Event}
 use Rattle.kapi_core.specs.declared.event.Answer.{Answer}
 use Rattle.kapi_core.specs.Running.{Running}
 use Rattle.kapi_core.specs.Machine.{Machine, step, answers, after}
-use Rattle.kapi_core.specs.Stands.{Stands, Pushes}
+use Rattle.kapi_core.specs.Stands.{Keeps, Stands, Pushes}
 
 pub answers_push : (m : Machine) (es : List Event) (e : Event) → answers m (es ++ e ∷ []) ≡ answers m es ++ (step (after m es) e).0 ∷ []
 unfolding answers after
@@ -39,3 +40,11 @@ ran_push initial now next told more events e ran push = record {
       let made = push.2 (after m events) (ran.stands m h) in
       let P : Machine → Type 0 = λ n. Stands next n in subst P (sym (after_push m events e)) made.1;
 }
+
+-- what kept it goes on from it
+pub ran_kept : (initial now next : Running) (told : List Answer) (events : List Event) → Ran initial now told events → Keeps now next → Ran initial next told events
+ran_kept initial now next told events ran keeps = record { count = ran.count; answered = ran.answered; stands = λ m h. keeps (after m events) (ran.stands m h) }
+
+-- so many events were made as were answered
+pub events_made : (told : List Answer) (i : ℕ) (events : List Event) → length told ≡ length (take i events) → take (length told) events ≡ take i events
+events_made told i events count = ap (λ n. take n events) (count ∙ length-take i events) ∙ take_min i events

@@ -6,3 +6,5 @@ pub mod Feeds
 pub mod Opening
 pub mod Table
 pub mod Openings
+pub mod Gains
+pub mod OpeningPolicy

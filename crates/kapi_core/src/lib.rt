@@ -3,6 +3,7 @@
 
 mod connection;
 mod event;
+pub mod laws;
 mod links;
 mod machine;
 mod opening;

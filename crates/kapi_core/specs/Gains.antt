@@ -1,0 +1,47 @@
+-- Who acts in a list of events, and what nobody gains by it (Kubernetes, 'Using RBAC Authorization', 'Privilege escalation prevention and bootstrapping').
+use Rattle.std.specs.Prelude.{◌≡◌, ◌⊎◌, List, [], ◌∷◌, ◌++◌, Option, Some, None}
+use Rattle.kapi_rbac_types.specs.declared.identity.Identity.{Identity}
+use Rattle.kapi_policy.specs.Objects.{PolicyObjects}
+use Rattle.kapi_aggregation.specs.Roles.{Labelled}
+use Rattle.kapi_aggregation.specs.Unions.{IsSettled}
+use Rattle.kapi_gains.specs.Access.{GivesNothing, IsHarmless}
+use Rattle.kapi_gains.specs.Members.{Has}
+use Rattle.kapi_core.specs.declared.event.ConnId.{ConnId}
+use Rattle.kapi_core.specs.declared.event.Event.{Event}
+use Rattle.kapi_core.specs.declared.event.Event.TheVariants as event
+use Rattle.kapi_core.specs.Machine.{Link, Machine, link_at, step}
+
+-- who makes the requests of a connection, if it is open
+abbrev pub identity_on : Option Link → List Identity
+identity_on None = []
+identity_on (Some l) = l.identity ∷ []
+
+-- who acts by an event: whose connection is served, if it is open then
+abbrev pub acting_by : Machine → Event → List Identity
+acting_by m (event.Open identity) = []
+acting_by m (event.Feed conn piece) = []
+acting_by m (event.Serve conn) = identity_on (link_at conn.0 m)
+acting_by m (event.Pump conn) = []
+acting_by m event.Turn = []
+acting_by m (event.Close conn) = []
+
+-- those who act in a list of events
+unfoldable pub acting_in : Machine → List Event → List Identity
+acting_in m [] = []
+acting_in m (e ∷ es) = acting_by m e ++ acting_in (step m e).1 es
+
+-- a connection of the number was open before the events for the identity, or one of them opens a connection for it
+abbrev pub IsConnected : Machine → List Event → ConnId → Identity → Type 0
+IsConnected m es conn who = ((l : Link) × (Has m.links (conn.0, l) × (l.identity ≡ who))) ⊎ Has es (event.Open who)
+
+-- one of the events serves a connection of the identity
+pub record IsServed (m : Machine) (es : List Event) (who : Identity) : Type 0 where
+  pub conn : ConnId
+  pub named : Has es (event.Serve conn)
+  pub connected : IsConnected m es conn who
+
+-- where the aggregated cluster roles have their unions and all who act are harmless, the new policy allows nobody what the old one
+-- allowed neither him nor one of them
+abbrev pub NobodyGains : List Labelled → List Identity → PolicyObjects → PolicyObjects → Type 0
+NobodyGains roles acting old new =
+    IsSettled roles → ((who : Identity) → Has acting who → IsHarmless old who) → GivesNothing acting old new

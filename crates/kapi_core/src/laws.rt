@@ -1,0 +1,37 @@
+//! Laws of the machine that is data, each the clause of a function that does nothing.
+ghost use Rattle.std.specs.Prelude.{◌≡◌, ◌≤◌, ℕ, List, true, false};
+ghost use Rattle.kapi_names.specs.declared.row.ResourceRow.{ResourceRow};
+ghost use Rattle.kapi_rbac_types.specs.Identities.{is_master};
+ghost use Rattle.kapi_rbac_types.specs.declared.identity.Identity.{Identity};
+ghost use Rattle.kapi_aggregation.specs.Roles.{roles_in};
+ghost use Rattle.kapi_aggregation.specs.Unions.{IsSettled};
+ghost use Rattle.kapi_gains.specs.Access.{IsHarmless};
+ghost use Rattle.kapi_gains.specs.Members.{Has};
+ghost use Rattle.kapi_core.specs.Gains.{IsServed, NobodyGains, acting_in};
+ghost use Rattle.kapi_core.specs.Machine.{Machine, after, policy_of};
+ghost use Rattle.kapi_core.specs.Opening.{opening};
+ghost use Rattle.kapi_core.specs.OpeningPolicy.{opening_policy};
+ghost use Rattle.kapi_core.specs.Table.{fits};
+ghost use Rattle.kapi_core.specs.declared.opening.TheConstants.{LAST_FIRST};
+ghost use Rattle.kapi_core.specs.declared.event.Event.{Event};
+
+/// Whatever events were made since the opening, nobody gains by those that follow.
+pub fn nobody_gains_between_events()
+    ensures { (table : List ResourceRow) (first : ℕ) (before events : List Event) →
+        let m : Machine = after (opening table first) before in
+        NobodyGains (roles_in m.store.objects) (acting_in m events) (policy_of m) (policy_of (after m events)) }
+{}
+
+/// Every machine begins with the opening policy, whose cluster roles take rules from no others, and in which all but the members of
+/// `system:masters` are harmless.
+pub fn the_opening_is_settled()
+    ensures policy { (table : List ResourceRow) (first : ℕ) → fits table ≡ true → first ≤ LAST_FIRST → policy_of (opening table first) ≡ opening_policy }
+    ensures settled { (table : List ResourceRow) (first : ℕ) → fits table ≡ true → first ≤ LAST_FIRST → IsSettled (roles_in (opening table first).store.objects) }
+    ensures harmless { (who : Identity) → is_master who ≡ false → IsHarmless opening_policy who }
+{}
+
+/// Who acts in a list of events is on a connection that one of them serves: open before them, or opened by one of them.
+#[tactic(auto, using(crate::proofs::Acting::acts_served))]
+pub fn who_acts_is_served()
+    ensures { (m : Machine) (events : List Event) (who : Identity) → Has (acting_in m events) who → IsServed m events who }
+{}

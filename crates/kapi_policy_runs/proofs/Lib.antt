@@ -1,0 +1,5 @@
+pub mod Roles
+pub mod Labels
+pub mod Reached
+pub mod Writes
+pub mod Turns
