@@ -7,6 +7,7 @@
 //! - `guard`: the check of a write against escalation
 //! - `index`: decisions of the indexed policy beside those of the plain one
 //! - `requests`: whole requests to the machine
+//! - `turns`: turns of aggregated cluster roles
 #![tactic(auto)]
 
 mod guard;
@@ -20,6 +21,7 @@ mod requests;
 mod rules;
 mod store;
 mod timing;
+mod turns;
 
 use std::env;
 
@@ -33,8 +35,9 @@ fn run_named(rt: &HostRuntime, name: &str, words: &[String]) -> anyhow::Result<(
         "guard" => guard::run(rt, words),
         "index" => index::run(rt, words),
         "requests" => requests::run(rt, words),
+        "turns" => turns::run(rt, words),
         _ => anyhow::bail!(
-            "{name} is no benchmark: store, http, info, rules, guard, index and requests are"
+            "{name} is no benchmark: store, http, info, rules, guard, index, requests and turns are"
         ),
     }
 }

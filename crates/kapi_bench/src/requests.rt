@@ -4,9 +4,9 @@
 //! made of it by a user who holds his rights by three bindings. A line for each kind gives the mean microseconds of a request at each of
 //! the numbers, side by side. `requests=N` says how many requests are made of each machine, else 100,000.
 
-mod client;
-mod kinds;
-mod opening;
+pub mod client;
+pub mod kinds;
+pub mod opening;
 mod times;
 
 use crate::numbers::number;

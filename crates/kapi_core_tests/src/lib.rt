@@ -2,6 +2,8 @@
 #![tactic(auto)]
 
 #[cfg(test)]
+mod attacks;
+#[cfg(test)]
 mod authorization;
 #[cfg(test)]
 mod client;
@@ -20,5 +22,7 @@ mod requests;
 pub mod rows;
 #[cfg(test)]
 mod tests;
+#[cfg(test)]
+mod turns;
 #[cfg(test)]
 mod writes;

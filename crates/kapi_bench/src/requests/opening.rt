@@ -76,7 +76,7 @@ fn connect(
 }
 
 /// A machine with two connections: of a member of `system:masters`, and of ann.
-fn opened(alloc: Global) -> Result<Core<PlainPolicy>, Memory> {
+pub fn opened(alloc: Global) -> Result<Core<PlainPolicy>, Memory> {
     let mut core = Core::new(alloc, program_table(alloc)?, PlainPolicy::new(alloc), 0)?;
     connect(alloc, &mut core, "root", "system:masters")?;
     connect(alloc, &mut core, "ann", "system:authenticated")?;
