@@ -9,18 +9,22 @@ ghost use Rattle.kapi_store.specs.Listing.{shown};
 ghost use Rattle.kapi_aggregation.specs.Roles.{IsInNameOrder, is_aggregated as is_aggregated_of, is_cluster_role as is_cluster_role_key, labelled_tree, roles_in, selectors_of};
 ghost use Rattle.kapi_aggregation.specs.Views.{labelled};
 
-use kapi_names::{Labels, RBAC_GROUP, ResourceRow, Schema, Selector};
-use kapi_rbac_types::{ClusterRole, cluster_role};
+use kapi_names::{AggregationRule, Labels, PolicyRule, RBAC_GROUP, ResourceRow, Schema, Selector};
+use kapi_object::rules_form::read_rules;
+use kapi_object::selector_form::read_aggregation;
 use kapi_store::{Key, Listed, Store};
 use kapi_text::{Memory, Sequence, Text};
+use serde_json::Value;
 use std::alloc::Global;
 
-/// A cluster role with its name and its labels.
+/// A cluster role with its name and its labels. Its rules are read where they are asked for, since a write looks at selectors and
+/// labels alone.
 #[derive(Drop)]
 pub(crate) struct NamedRole<'a> {
     pub name: &'a Text,
     pub labels: Labels<'a>,
-    pub role: ClusterRole,
+    aggregation_rule: Option<AggregationRule>,
+    tree: &'a Value,
 }
 
 impl<'a> NamedRole<'a> {
@@ -28,17 +32,24 @@ impl<'a> NamedRole<'a> {
     pub(crate) fn selectors(&self) -> &[Selector]
         ensures { result.now ≡ selectors_of (labelled self.now) }
     {
-        match &self.role.aggregation_rule {
+        match &self.aggregation_rule {
             Some(rule) => rule.cluster_role_selectors.as_slice(),
             None => &[],
         }
+    }
+
+    /// Its rules.
+    pub(crate) fn rules(&self, alloc: Global) -> Result<Sequence<PolicyRule>, Memory>
+        ensures { IfOk result (λ rs. rs ≡ (labelled self.now).role.rules) }
+    {
+        read_rules(alloc, self.tree)
     }
 
     /// Whether it takes its rules from others.
     pub(crate) fn is_aggregated(&self) -> bool
         ensures { result ≡ is_aggregated_of (labelled self.now) }
     {
-        self.role.aggregation_rule.is_some()
+        self.aggregation_rule.is_some()
     }
 }
 
@@ -93,7 +104,8 @@ fn named_role<'a>(alloc: Global, listed: &Listed<'a>) -> Result<NamedRole<'a>, M
     Ok(NamedRole {
         name: &listed.key.name,
         labels: object.labels(),
-        role: cluster_role(alloc, object.as_tree())?,
+        aggregation_rule: read_aggregation(alloc, object.as_tree())?,
+        tree: object.as_tree(),
     })
 }
 

@@ -177,7 +177,8 @@ fn scanned(alloc: Global, store: &Store) -> Result<String, Fail> {
     let roles = ClusterRoles::read(alloc, store)?;
     for role in roles.as_slice() {
         let rules = union_of(alloc, &roles, role.name.as_str())?;
-        if role.is_aggregated() && !same_rules(role.role.rules.as_slice(), rules.as_slice()) {
+        let own = role.rules(alloc)?;
+        if role.is_aggregated() && !same_rules(own.as_slice(), rules.as_slice()) {
             let rules = resources(alloc, rules.as_slice())?;
             return Ok(format!(in alloc; "{}: {}", role.name.as_str(), rules.as_str())?);
         }

@@ -41,7 +41,7 @@ pub(crate) fn turn_at(
         return Ok(None);
     }
     let rules = union_for(alloc, roles, role)?;
-    if same_rules(role.role.rules.as_slice(), rules.as_slice()) {
+    if same_rules(role.rules(alloc)?.as_slice(), rules.as_slice()) {
         return Ok(None);
     }
     Ok(Some(Turn {

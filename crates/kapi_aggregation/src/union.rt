@@ -64,7 +64,7 @@ fn add_meant(
 {
     for role in roles {
         if is_meant(role, name, selector) {
-            add_rules(alloc, rules, role.role.rules.as_slice())?;
+            add_rules(alloc, rules, role.rules(alloc)?.as_slice())?;
         }
     }
     Ok(())
