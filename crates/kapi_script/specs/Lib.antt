@@ -4,3 +4,4 @@ pub mod AnswerLines
 pub mod ProgramTable
 pub mod Scripts
 pub mod Playing
+pub mod Gains

@@ -3,6 +3,7 @@
 
 mod answer_text;
 mod escape;
+pub mod laws;
 mod line;
 #[cfg(test)]
 mod played;
