@@ -12,3 +12,4 @@ bench rules 1000 10000
 bench guard 10 10000
 bench index 10 1000 100000 1000000 rules=1 rules=100
 bench requests 1000 100000
+bench turns 100 1000 10000
