@@ -9,12 +9,8 @@ mod path;
 pub mod table;
 pub mod table_faults;
 pub mod table_kept;
-#[cfg(test)]
-mod tests;
 pub mod text_rule;
 pub mod typed_list;
-#[cfg(test)]
-mod typed_tests;
 pub mod word;
 
 pub use admission::{admit_tree, collect_faults, read_object, read_tree};

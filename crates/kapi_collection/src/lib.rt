@@ -4,8 +4,6 @@
 mod keys;
 mod list;
 mod member;
-#[cfg(test)]
-mod tests;
 
 pub use keys::keys_of;
 pub use list::list_text;

@@ -5,8 +5,6 @@ mod asked;
 mod compiled_rule;
 mod marks;
 mod rules;
-#[cfg(test)]
-mod tests;
 mod urls;
 mod words;
 

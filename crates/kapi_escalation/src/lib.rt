@@ -3,8 +3,6 @@
 
 mod check;
 mod refusal;
-#[cfg(test)]
-mod tests;
 mod written;
 
 pub use check::check_escalation;

@@ -8,8 +8,6 @@ mod full_authority;
 pub mod laws;
 mod refused;
 mod role_ref;
-#[cfg(test)]
-mod tests;
 mod write;
 
 pub use check::check_write;

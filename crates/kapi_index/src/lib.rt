@@ -9,8 +9,6 @@ mod roles;
 mod scope;
 mod sets;
 mod spaces;
-#[cfg(test)]
-mod tests;
 mod walk;
 
 pub use indexed::IndexedPolicy;

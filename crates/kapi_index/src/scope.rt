@@ -25,7 +25,10 @@ pub struct Bound {
     pub keys: Keys,
 }
 
-type Bindings = BTreeMap<Text, Bound>;
+pub type Bindings = BTreeMap<Text, Bound>;
+
+/// So many bindings are looked at one by one sooner than a user and his groups are looked up among them.
+const FEW: usize = 16;
 
 /// The bindings of one namespace by name, or, where it is empty, the cluster-wide ones.
 #[derive(Drop)]
@@ -249,7 +252,7 @@ impl Scope {
     ghost use Rattle.std.specs.Map.{remove_entry};
     ghost use Rattle.std.specs.Range.Bound.{bound_map};
     ghost use Rattle.kapi_policy.specs.Objects.{name_cmp};
-    ghost use Rattle.kapi_index.specs.Scopes.{left as left_of, means};
+    ghost use Rattle.kapi_index.specs.Scopes.{bare, left as left_of, means};
 
     /// The scope of a namespace, without bindings.
     pub fn new(alloc: Global, namespace: Text) -> Scope
@@ -269,6 +272,18 @@ impl Scope {
         ensures { result.now ≡ self.now.namespace }
     {
         self.namespace.as_str()
+    }
+
+    /// The bindings, in the order of their names.
+    pub fn bindings(&self) -> &Bindings
+        ensures { bare result.now.entries ≡ self.now.bindings }
+    {
+        &self.bindings
+    }
+
+    /// Whether it is sooner to look at each binding than to look up those that mean an identity.
+    pub fn has_few(&self) -> bool {
+        self.bindings.len() <= FEW
     }
 
     /// Puts a binding under its name. Want of memory changes nothing.

@@ -1,9 +1,10 @@
 //! The walk over the bindings that mean an identity.
 ghost use Rattle.std.specs.Prelude.{◌≡◌, ◌++◌, [], map, IfOk, OnOk, option_copied};
-ghost use Rattle.std.specs.List.{flat_map, position};
+ghost use Rattle.std.specs.List.{flat_map, list_any, position};
 ghost use Rattle.std.specs.Option.{unwrap_or};
 ghost use Rattle.kapi_policy.specs.Decided.{bindings_of, cluster_binding, decided, first_some, given, granted, granted_at, granted_by, held as held_by, rules_of, rules_of_kind};
 ghost use Rattle.kapi_policy.specs.Views.{binding_of, decision_of, granted_if};
+ghost use Rattle.kapi_rbac_types.specs.Subjects.{names as names_of};
 ghost use Rattle.kapi_rules.specs.Rules.{allows as rule_allows};
 ghost use Rattle.kapi_compiled_rules.specs.Points.{point_of};
 ghost use Rattle.kapi_index.specs.Contents.{binding_at, grant_of};
@@ -12,7 +13,7 @@ use crate::indexed::IndexedPolicy;
 use crate::scope::Scope;
 use kapi_compiled_rules::{Asked, CompiledRules, ask};
 use kapi_policy::{Binding, BindingKind, Decision, Grant, push_rules};
-use kapi_rbac_types::{Identity, PolicyRule, RoleBinding, RoleKind, RoleRef};
+use kapi_rbac_types::{Identity, PolicyRule, RoleBinding, RoleKind, RoleRef, names};
 use kapi_rules::Point;
 use kapi_text::{Memory, Text};
 use std::alloc::Global;
@@ -83,6 +84,15 @@ fn binding_in<'a>(
     }
 }
 
+fn is_bound(binding: &Binding<'_>, identity: &Identity) -> bool
+    ensures { result ≡ list_any (λ s. names_of s (binding_of binding.now).namespace identity.now) (binding_of binding.now).subjects }
+{
+    binding
+        .subjects
+        .iter()
+        .any(|subject| names(subject, binding.namespace, identity))
+}
+
 // The grant of a binding by the first of some rules that allows what is asked.
 fn grant_in<'a>(
     binding: &Binding<'a>,
@@ -133,7 +143,45 @@ fn push_of(
 
 // ---- the bindings of a scope
 
-fn scope_grant<'a>(
+// The grant of a binding by the first rule of its role that allows what is asked, if a subject of it means the identity.
+#[tactic(auto, unfolding(kapi_policy::specs::Decided::granted_by, kapi_policy::specs::Decided::given))]
+fn grant_to<'a>(
+    policy: &'a IndexedPolicy,
+    identity: &Identity,
+    binding: &Binding<'a>,
+    asked: &Asked<'_>,
+) -> Option<Grant<'a>>
+    ensures { granted_if result ≡ granted_by policy.now identity.now (point_of asked.now) (binding_of binding.now) }
+{
+    if is_bound(binding, identity) {
+        grant_by(policy, binding, asked)
+    } else {
+        None
+    }
+}
+
+// Of few bindings each is looked at.
+fn grant_of_few<'a>(
+    policy: &'a IndexedPolicy,
+    kind: BindingKind,
+    scope: &'a Scope,
+    identity: &Identity,
+    asked: &Asked<'_>,
+) -> Option<Grant<'a>>
+    ensures { granted_if result ≡ first_some (granted_by policy.now identity.now (point_of asked.now)) (map (binding_at kind scope.now.namespace) scope.now.bindings) }
+{
+    for (name, bound) in scope.bindings() {
+        let binding = binding_in(kind, scope, name, &bound.binding);
+        let found = grant_to(policy, identity, &binding, asked);
+        if found.is_some() {
+            return found;
+        }
+    }
+    None
+}
+
+// Of many bindings those that mean the identity are looked up.
+fn grant_of_many<'a>(
     policy: &'a IndexedPolicy,
     kind: BindingKind,
     scope: &'a Scope,
@@ -151,6 +199,22 @@ fn scope_grant<'a>(
         start = Bound::Excluded(name);
     }
     None
+}
+
+fn scope_grant<'a>(
+    policy: &'a IndexedPolicy,
+    kind: BindingKind,
+    scope: &'a Scope,
+    identity: &Identity,
+    asked: &Asked<'_>,
+) -> Option<Grant<'a>>
+    ensures { granted_if result ≡ first_some (granted_by policy.now identity.now (point_of asked.now)) (map (binding_at kind scope.now.namespace) scope.now.bindings) }
+{
+    if scope.has_few() {
+        grant_of_few(policy, kind, scope, identity, asked)
+    } else {
+        grant_of_many(policy, kind, scope, identity, asked)
+    }
 }
 
 fn push_scope(

@@ -12,14 +12,10 @@ pub mod role_ref;
 pub mod row;
 pub mod selector;
 pub mod selector_error;
-#[cfg(test)]
-mod selector_tests;
 mod selector_text;
 mod selector_token;
 mod selector_tokens;
 pub mod subject;
-#[cfg(test)]
-mod tests;
 
 pub use aggregation_rule::AggregationRule;
 pub use fault::{Cause, FieldFault};

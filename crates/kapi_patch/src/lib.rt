@@ -2,7 +2,5 @@
 #![tactic(auto)]
 
 mod merge;
-#[cfg(test)]
-mod tests;
 
 pub use merge::merge_patch;

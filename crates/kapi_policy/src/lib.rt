@@ -8,8 +8,6 @@ mod decision;
 pub mod laws;
 mod plain;
 mod policy;
-#[cfg(test)]
-mod tests;
 mod walk;
 
 pub use binding::Binding;

@@ -8,8 +8,6 @@ mod read_fault;
 mod role;
 mod role_form;
 mod subject;
-#[cfg(test)]
-mod tests;
 
 pub use binding::{ClusterRoleBinding, RoleBinding};
 pub use binding_form::{read_cluster_role_binding, read_role_binding};

@@ -12,8 +12,6 @@ mod reasons;
 mod review_error;
 mod reviewed;
 mod rules;
-#[cfg(test)]
-mod tests;
 
 pub use kind::ReviewKind;
 pub use question::{Question, read_question};

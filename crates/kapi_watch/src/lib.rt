@@ -5,8 +5,6 @@ pub mod error;
 pub mod event;
 mod laws;
 pub mod scope;
-#[cfg(test)]
-mod tests;
 mod text;
 pub mod watch;
 mod written;

@@ -1,10 +1,10 @@
-use crate::{
-    Identity, ReadFault, ServiceAccount, Subject, names, read_cluster_role,
-    read_cluster_role_binding, read_role, read_role_binding,
-};
 use kapi_admission::read_object;
 use kapi_names::{ResourceRow, Schema};
 use kapi_object::Object;
+use kapi_rbac_types::{
+    Identity, ReadFault, ServiceAccount, Subject, names, read_cluster_role,
+    read_cluster_role_binding, read_role, read_role_binding,
+};
 use kapi_text::{Sequence, Text, TryCopy};
 use std::alloc::{AllocError, Global};
 use std::process::Abort;

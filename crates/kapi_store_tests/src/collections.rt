@@ -1,5 +1,5 @@
-use crate::{keys_of, list_text};
 use kapi_admission::read_object;
+use kapi_collection::{keys_of, list_text};
 use kapi_names::{ResourceRow, Schema, Selector};
 use kapi_store::{Key, Store};
 use kapi_text::{Sequence, Text};

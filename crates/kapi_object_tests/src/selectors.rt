@@ -1,4 +1,4 @@
-use crate::{Requirement, Selector, SelectorError};
+use kapi_names::{Requirement, Selector, SelectorError};
 use std::alloc::{AllocError, Global};
 use std::process::Abort;
 use std::test::Fail;

@@ -1,4 +1,4 @@
-use crate::{CompiledRules, ask};
+use kapi_compiled_rules::{CompiledRules, ask};
 use kapi_names::PolicyRule;
 use kapi_rules::{Point, ResourcePoint, UrlPoint};
 use kapi_text::{Sequence, Text, TryCopy};

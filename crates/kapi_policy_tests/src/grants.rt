@@ -1,4 +1,4 @@
-use crate::{PolicyWrite, Refused, Versions, WrittenObject, check_write};
+use kapi_guard::{PolicyWrite, Refused, Versions, WrittenObject, check_write};
 use kapi_policy::{NamespacedName, PlainPolicy, Policy, PolicyChange};
 use kapi_rbac_types::{
     AggregationRule, ClusterRole, ClusterRoleBinding, Identity, PolicyRule, Role, RoleBinding,

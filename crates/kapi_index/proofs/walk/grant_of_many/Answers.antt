@@ -2,7 +2,7 @@ use Rattle.std.proofs.Common.{ap, sym, ◌∙◌}
 use Rattle.kapi_compiled_rules.specs.Points.{point_of}
 use Rattle.kapi_index.proofs.Walks.{first_meant, first_step, none_granted, some_granted}
 use Rattle.kapi_index.specs.Contents.{grant_of}
-use Rattle.kapi_index.proofs.walk.scope_grant.Goals as goal
+use Rattle.kapi_index.proofs.walk.grant_of_many.Goals as goal
 
 pub loop-name-init : goal.loop-name-init
 loop-name-init c = first_meant c.args.policy.now c.args.identity.now (point_of c.args.asked.now) c.args.kind c.args.scope.now

@@ -4,7 +4,7 @@ use Rattle.std.specs.Range.Bound.{bound_map}
 use Rattle.kapi_policy.specs.Decided.{first_some, granted_by}
 use Rattle.kapi_index.specs.Contents.{binding_at}
 use Rattle.kapi_index.specs.Scopes.{left}
-use Rattle.kapi_index.proofs.walk.scope_grant.Given as goal
+use Rattle.kapi_index.proofs.walk.grant_of_many.Given as goal
 
 abbrev pub invariant-loop-name : goal.invariant-loop-name
 invariant-loop-name l =

@@ -1,7 +1,7 @@
 use Rattle.std.proofs.Common.{◌≡◌, take}
 use Rattle.std.specs.List.{fold}
 use Rattle.kapi_policy.specs.Objects.{applied}
-use Rattle.kapi_policy.proofs.tests.apply_all.Given as goal
+use Rattle.kapi_policy_tests.proofs.decisions.apply_all.Given as goal
 
 abbrev pub invariant-loop-change : goal.invariant-loop-change
 invariant-loop-change g l =

@@ -1,4 +1,3 @@
-use crate::{ReviewError, ReviewKind, review};
 use kapi_admission::{ObjectError, read_object};
 use kapi_names::{FieldFault, ResourceRow, Schema};
 use kapi_object::Object;
@@ -6,6 +5,7 @@ use kapi_policy::{NamespacedName, PlainPolicy, Policy, PolicyChange, PolicyPut};
 use kapi_rbac_types::{
     Identity, ReadFault, read_cluster_role, read_cluster_role_binding, read_role, read_role_binding,
 };
+use kapi_reviews::{ReviewError, ReviewKind, review};
 use kapi_text::{Sequence, Text};
 use std::alloc::{AllocError, Global};
 use std::process::Abort;

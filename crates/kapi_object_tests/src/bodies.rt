@@ -1,4 +1,4 @@
-use crate::{ObjectError, read_object};
+use kapi_admission::{ObjectError, read_object};
 use kapi_names::{ResourceRow, Schema};
 use kapi_object::{Given, GivenText, Object};
 use kapi_text::{Sequence, Text, TryCopy};

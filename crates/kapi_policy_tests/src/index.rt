@@ -1,4 +1,4 @@
-use crate::IndexedPolicy;
+use kapi_index::IndexedPolicy;
 use kapi_policy::{
     BindingKind, Decision, Grant, NamespacedName, PlainPolicy, Policy, PolicyChange, PolicyKey,
     PolicyPut,

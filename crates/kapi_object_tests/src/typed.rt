@@ -1,5 +1,5 @@
-use crate::read_object;
-use crate::tests::{assert_told, row};
+use crate::bodies::{assert_told, row};
+use kapi_admission::read_object;
 use kapi_names::{Labels, ResourceRow, Schema, Selector};
 use kapi_object::tree_form::FromTree;
 use kapi_text::TryCopy;

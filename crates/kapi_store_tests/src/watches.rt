@@ -1,9 +1,9 @@
-use crate::{Watch, WatchError, event_text};
 use kapi_admission::read_object;
 use kapi_names::{ResourceRow, Schema, Selector};
 use kapi_object::Object;
 use kapi_store::{Key, Store};
 use kapi_text::{Sequence, Text};
+use kapi_watch::{Watch, WatchError, event_text};
 use std::alloc::Global;
 use std::process::Abort;
 use std::test::Fail;

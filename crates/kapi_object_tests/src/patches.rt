@@ -1,4 +1,4 @@
-use crate::merge_patch;
+use kapi_patch::merge_patch;
 use serde_json::Value;
 use std::test::Fail;
 

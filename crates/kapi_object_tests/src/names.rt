@@ -1,4 +1,4 @@
-use crate::{
+use kapi_names::{
     ResourceRow, Schema, check_label_key, check_label_value, check_name, check_namespace_name,
     check_object_name, check_rbac_name,
 };

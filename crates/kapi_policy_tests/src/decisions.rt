@@ -2,7 +2,8 @@ ghost use Rattle.std.specs.Prelude.{◌≡◌, OnOk};
 ghost use Rattle.std.specs.List.{fold};
 ghost use Rattle.kapi_policy.specs.Objects.{applied};
 
-use crate::{
+use kapi_index::IndexedPolicy;
+use kapi_policy::{
     BindingKind, Decision, Grant, NamespacedName, PlainPolicy, Policy, PolicyChange, PolicyKey,
     PolicyPut, is_allowed,
 };
@@ -13,6 +14,7 @@ use kapi_rbac_types::{
 use kapi_rules::{Point, ResourcePoint, UrlPoint};
 use kapi_text::{Memory, Sequence, Text, TryCopy};
 use std::alloc::{AllocError, Global};
+use std::process::Abort;
 use std::test::Fail;
 
 /// A policy: what is put, the kind and the place, then a role's rules, or a binding's role and its subjects. A rule has
@@ -571,29 +573,23 @@ fn apply_all<P: Policy>(policy: &mut P, changes: &[PolicyChange]) -> Result<(), 
     Ok(())
 }
 
-fn policy(alloc: Global) -> Result<PlainPolicy, AllocError> {
+/// Puts all that stands in the policy.
+fn fill<P: Policy>(alloc: Global, policy: &mut P) -> Result<(), AllocError> {
     let mut changes: Vec<PolicyChange> = Vec::new(alloc);
     for text in &POLICY {
         changes.push(change(alloc, text)?.copy(alloc)?)?;
     }
-    let mut policy = PlainPolicy::new(alloc);
-    apply_all(&mut policy, changes.as_slice())?;
-    Ok(policy)
+    apply_all(policy, changes.as_slice())
 }
 
-#[test]
-fn questions_are_decided(rt: HostRuntime) -> Result<(), Fail> {
-    let alloc = rt.alloc();
-    let mut source = policy(alloc)?;
-    let policy = source.copy()?;
-    source.apply(&change(alloc, "delete ClusterRole view")?)?;
+fn assert_decides<P: Policy>(rt: &impl Abort, alloc: Global, policy: &P) -> Result<(), Fail> {
     for (user, groups, namespace, asked, answer) in &QUESTIONS {
         let identity = identity(alloc, user, groups)?;
         let point = point(alloc, asked)?;
         let decision = policy.decide(&identity, namespace, &point);
         assert_eq!(rt; told(alloc, &decision)?.as_str(), *answer, "{user} {asked}");
         assert_eq!(rt;
-            is_allowed(&policy, &identity, namespace, &point),
+            is_allowed(policy, &identity, namespace, &point),
             *answer != "denied",
             "{user} {asked}"
         );
@@ -601,12 +597,26 @@ fn questions_are_decided(rt: HostRuntime) -> Result<(), Fail> {
     Ok(())
 }
 
+/// A copy answers as before, whatever becomes of its source.
 #[test]
-fn changes_are_followed(rt: HostRuntime) -> Result<(), Fail> {
+fn questions_are_decided(rt: HostRuntime) -> Result<(), Fail> {
     let alloc = rt.alloc();
+    let change = change(alloc, "delete ClusterRole view")?;
+    let mut plain = PlainPolicy::new(alloc);
+    fill(alloc, &mut plain)?;
+    let copied = plain.copy()?;
+    plain.apply(&change)?;
+    assert_decides(&rt, rt.alloc(), &copied)?;
+    let mut indexed = IndexedPolicy::new(alloc);
+    fill(alloc, &mut indexed)?;
+    let copied = indexed.copy()?;
+    indexed.apply(&change)?;
+    assert_decides(&rt, rt.alloc(), &copied)
+}
+
+fn assert_follows<P: Policy>(rt: &impl Abort, alloc: Global, policy: &mut P) -> Result<(), Fail> {
     let identity = identity(alloc, "ann", "g")?;
     let point = point(alloc, "get;;pods;;")?;
-    let mut policy = PlainPolicy::new(alloc);
     for (text, answer) in &STEPS {
         policy.apply(&change(alloc, text)?)?;
         let decision = policy.decide(&identity, "default", &point);
@@ -616,9 +626,13 @@ fn changes_are_followed(rt: HostRuntime) -> Result<(), Fail> {
 }
 
 #[test]
-fn rules_are_held(rt: HostRuntime) -> Result<(), Fail> {
-    let alloc = rt.alloc();
-    let policy = policy(alloc)?;
+fn changes_are_followed(rt: HostRuntime) -> Result<(), Fail> {
+    assert_follows(&rt, rt.alloc(), &mut PlainPolicy::new(rt.alloc()))?;
+    assert_follows(&rt, rt.alloc(), &mut IndexedPolicy::new(rt.alloc()))
+}
+
+fn assert_holds<P: Policy>(rt: &impl Abort, alloc: Global, policy: &mut P) -> Result<(), Fail> {
+    fill(alloc, policy)?;
     for (user, groups, namespace, answer) in &HELD {
         let identity = identity(alloc, user, groups)?;
         let rules = policy.held(&identity, namespace)?;
@@ -636,4 +650,10 @@ fn rules_are_held(rt: HostRuntime) -> Result<(), Fail> {
         assert_eq!(rt; told.as_str(), *answer, "{role} in {namespace}");
     }
     Ok(())
+}
+
+#[test]
+fn rules_are_held(rt: HostRuntime) -> Result<(), Fail> {
+    assert_holds(&rt, rt.alloc(), &mut PlainPolicy::new(rt.alloc()))?;
+    assert_holds(&rt, rt.alloc(), &mut IndexedPolicy::new(rt.alloc()))
 }
