@@ -79,6 +79,19 @@ cut_first bytes = fuel (length bytes) (suc (length bytes)) bytes (omega arith) (
     by_first (Some (Ok r)) e =
         rw e (ap (with_request r) (fuel (length bytes) (length (drop r.length bytes)) (drop r.length bytes) (omega (arith, length-drop r.length bytes)) (omega arith)))
 
+-- what follows a request's bytes is cut by itself
+nothing_left : (bytes : List ℕ) → drop (length bytes) bytes ≡ []
+nothing_left [] = refl
+nothing_left (b ∷ bytes) = nothing_left bytes
+
+pub cut_apart : (bytes more : List ℕ) (r : HttpRequest) → first bytes ≡ Some (Ok r) → r.length ≡ length bytes
+    → cut (bytes ++ more) ≡ with_request r (cut more)
+cut_apart bytes more r e whole =
+    cut_first (bytes ++ more) ∙ ap (cut_at cut (bytes ++ more)) (first_append bytes more (Ok r) e)
+    ∙ ap (λ (t : List ℕ). with_request r (cut t))
+    (drop-append-le r.length bytes more (first_fits bytes r e)
+    ∙ ap (λ (t : List ℕ). t ++ more) (ap (λ (n : ℕ). drop n bytes) whole ∙ nothing_left bytes))
+
 -- ---- pieces
 
 after_request : (r : HttpRequest) (a b : Cut) → with_request r (and_then a b) ≡ and_then (with_request r a) b

@@ -1,15 +1,22 @@
 -- What is decided of a text stays decided, whatever follows it.
-use Rattle.std.proofs.Common.{◌≡◌, ℕ, ◌+◌, ◌-◌, ◌<◌, ◌≤◌, ◌⊎◌, inl, inr, Bool, true, false, List, [], ◌++◌, length, take, drop, refl, sym, ap, subst, ◌∙◌, arith, Option, Some, None, Result, Ok, append-nil, length-append, length-drop, zero, suc}
+use Rattle.std.proofs.Common.{◌≡◌, ℕ, ◌+◌, ◌-◌, ◌<◌, ◌≤◌, ◌⊎◌, inl, inr, Bool, true, false, List, [], ◌++◌, length, take, drop, refl, sym, ap, subst, ◌∙◌, arith, Option, Some, None, Result, Ok, append-nil, take-append-drop, length-append, length-drop, zero, suc}
 use Rattle.std.specs.Prelude.{nat_le, slice_range, IsSome}
 use Rattle.std.proofs.Math.Seq.{take-append-add}
 use Rattle.std.proofs.lemmas.Bool.{le-leb}
 use Rattle.std.proofs.lemmas.Bool.Decides.{leb_tells}
 use Rattle.std.proofs.lemmas.List.{take-append-le, drop-append-le, take_all, length-take}
-use Rattle.kapi_http.specs.Cut.{Finding, waits, refused, accepted, settled_within, settled, item_of, first, request_of}
+use Rattle.kapi_http.specs.Cut.{Finding, waits, refused, accepted, settled_within, settled, item_of, chunked_item, chunks_behind, first, request_of}
+use Rattle.kapi_http.specs.Chunks.{chunked, ending_of, joined, no_chunks}
+use Rattle.kapi_http.specs.declared.chunks.Chunks.{Chunks}
+use Rattle.kapi_http.specs.declared.chunks.Ending.{Ending}
+use Rattle.kapi_http.specs.declared.chunks.Ending.TheVariants as ending
+use Rattle.kapi_http.specs.declared.message.Refusal.{Refusal}
+use Rattle.kapi_http.specs.declared.rules.Framing.TheVariants.{Sized, Chunked}
+use Rattle.kapi_http.proofs.Chunking.{chunks_append, chunks_stay, chunks_within, data_bounded, ended_is_over}
 use Rattle.kapi_http.specs.Head.{Says, head_of}
 use Rattle.kapi_http.specs.Inbox.{decision_of}
 use Rattle.kapi_http.specs.Scan.{begin, is_ended, scanned}
-use Rattle.kapi_http.specs.Tied.{IsTied, is_waiting}
+use Rattle.kapi_http.specs.Tied.{IsKnown, IsRead, IsTied, is_waiting}
 use Rattle.kapi_http.specs.declared.item.Decision.{Decision}
 use Rattle.kapi_http.specs.declared.item.Decision.TheVariants as decision
 use Rattle.kapi_http.specs.declared.item.Progress.{Progress}
@@ -17,7 +24,7 @@ use Rattle.kapi_http.specs.declared.message.HttpFault.{HttpFault}
 use Rattle.kapi_http.specs.declared.message.HttpRequest.{HttpRequest}
 use Rattle.kapi_http.specs.declared.scan.Scan.{Scan}
 use Rattle.kapi_http.proofs.Scanning.{scanned_append, scanned_ended}
-use Rattle.kapi_http.proofs.Settling.{scan_within, settled_ended, settled_long, settled_short, Facts, facts, no_head}
+use Rattle.kapi_http.proofs.Settling.{scan_within, settled_ended, settled_long, settled_short, Facts, facts, no_head, rest_of, same_front}
 
 -- the first bytes of a text begin those of a longer one
 pub take_longer : (n : ℕ) (a b : List ℕ) → (rest : List ℕ) × (take n (a ++ b) ≡ take n a ++ rest)
@@ -66,15 +73,36 @@ slice_append bytes more i j ordered fits =
     ap (take (j - i)) (drop-append-le i bytes more (omega arith))
     ∙ take-append-le (j - i) (drop i bytes) more (omega (arith, length-drop i bytes))
 
-item_append : (f : Finding) (bytes more : List ℕ) (item : Result HttpRequest HttpFault) → item_of f bytes ≡ Some item
+item_append : (f : Finding) (bytes more : List ℕ) (item : Result HttpRequest HttpFault) → Facts bytes f → item_of f bytes ≡ Some item
     → item_of f (bytes ++ more) ≡ Some item
-item_append waits bytes more item e = absurd cc
-item_append (refused n method why) bytes more item e = e
-item_append (accepted n h method size) bytes more item e = by_room (leb_tells (n + size) (length bytes))
+item_append waits bytes more item known e = absurd cc
+item_append (refused n method why) bytes more item known e = e
+item_append (accepted n h method Chunked) bytes more item known e = by_ending (ending_of (chunks_behind n bytes).spot) refl
+  where
+    same : (o : Ending) → ending_of (chunks_behind n bytes).spot ≡ o → (o ≡ ending.Open → ⊥)
+        → item_of (accepted n h method Chunked) (bytes ++ more) ≡ chunked_item n h method o (chunks_behind n bytes).at (bytes ++ more)
+    same o is ended =
+        ap (λ (c : Chunks). chunked_item n h method (ending_of c.spot) c.at (bytes ++ more))
+        (chunks_stay n bytes more known.3 (ended_is_over (chunks_behind n bytes).spot (λ going. ended (sym is ∙ going))))
+        ∙ ap (λ (k : Ending). chunked_item n h method k (chunks_behind n bytes).at (bytes ++ more)) is
+
+    there : (o : Ending) → ending_of (chunks_behind n bytes).spot ≡ o → chunked_item n h method o (chunks_behind n bytes).at bytes ≡ Some item
+    there o is = ap (λ (k : Ending). chunked_item n h method k (chunks_behind n bytes).at bytes) (sym is) ∙ e
+
+    by_ending : (o : Ending) → ending_of (chunks_behind n bytes).spot ≡ o → item_of (accepted n h method Chunked) (bytes ++ more) ≡ Some item
+    by_ending ending.Open is = absurd (let none = there ending.Open is in cc)
+    by_ending ending.Closed is =
+        let at : ℕ = (chunks_behind n bytes).at in
+        let room : n + (chunks_behind n bytes).at ≤ length bytes = omega (arith, known.3, chunks_within (drop n bytes), length-drop n bytes) in
+        same ending.Closed is (λ no. absurd cc)
+        ∙ (λ i. Some (Ok (request_of h method (joined no_chunks (slice_append bytes more n (n + (chunks_behind n bytes).at) (omega arith) room i)) (n + (chunks_behind n bytes).at))))
+        ∙ there ending.Closed is
+    by_ending (ending.Refused why) is = same (ending.Refused why) is (λ no. absurd cc) ∙ there (ending.Refused why) is
+item_append (accepted n h method (Sized size)) bytes more item known e = by_room (leb_tells (n + size) (length bytes))
   where
     by_room : ((nat_le (n + size) (length bytes) ≡ true) × (n + size ≤ length bytes))
         ⊎ ((nat_le (n + size) (length bytes) ≡ false) × (length bytes < n + size))
-        → item_of (accepted n h method size) (bytes ++ more) ≡ Some item
+        → item_of (accepted n h method (Sized size)) (bytes ++ more) ≡ Some item
     by_room (inl (t, room)) =
         let found = rw t at e in
         let longer : nat_le (n + size) (length (bytes ++ more)) ≡ true =
@@ -87,7 +115,7 @@ pub first_append : (bytes more : List ℕ) (item : Result HttpRequest HttpFault)
 unfolding first
 first_append bytes more item e =
     let decided : settled bytes ≡ waits → ⊥ = λ w. let none = sym (ap (λ (f : Finding). item_of f bytes) w) ∙ e in cc in
-    ap (λ (f : Finding). item_of f (bytes ++ more)) (settled_append bytes more decided) ∙ item_append (settled bytes) bytes more item e
+    ap (λ (f : Finding). item_of f (bytes ++ more)) (settled_append bytes more decided) ∙ item_append (settled bytes) bytes more item (facts bytes) e
 
 -- ---- an inbox that takes bytes in
 
@@ -106,26 +134,88 @@ empty_tied bytes e =
     let none : P [] = record {
       within = omega arith;
       fits = omega arith;
-      decided = ap decision_of (sym settled_none);
-      read = λ w. record { scan = scanned_none; at = refl; below = omega arith };
+      known = record {
+        decided = ap (λ (f : Finding). decision_of f []) (sym settled_none);
+        read = λ w. record { scan = scanned_none; at = refl; below = omega arith };
+      };
     } in subst P (sym e) none
 
-not_waiting : (d : Decision) (f : Finding) → is_waiting d ≡ false → d ≡ decision_of f → f ≡ waits → ⊥
-not_waiting d f known e w =
-    let same : d ≡ decision.Waits = e ∙ ap decision_of w in
+not_waiting : (d : Decision) (f : Finding) (bytes : List ℕ) → is_waiting d ≡ false → d ≡ decision_of f bytes → f ≡ waits → ⊥
+not_waiting d f bytes known e w =
+    let same : d ≡ decision.Waits = e ∙ ap (λ (g : Finding). decision_of g bytes) w in
     let yes : is_waiting d ≡ true = ap is_waiting same in cc
 
-pub more_tied : (bytes piece : List ℕ) (start : ℕ) (p : Progress) → IsTied bytes start p → is_waiting p.decision ≡ false
-    → length (drop start bytes) + length piece ≤ 2097152 → IsTied (bytes ++ piece) start p
-more_tied bytes piece start p tied known fits =
-    let cut : drop start (bytes ++ piece) ≡ drop start bytes ++ piece = drop-append-le start bytes piece tied.within in
-    let decided = settled_append (drop start bytes) piece (not_waiting p.decision (settled (drop start bytes)) known tied.decided) in
+-- what a decision becomes by more bytes
+abbrev more_of : Decision → List ℕ → Decision
+more_of decision.Waits more = decision.Waits
+more_of (decision.Refused n why) more = decision.Refused n why
+more_of (decision.Accepted n t) more = decision.Accepted n t
+more_of (decision.Chunked n c) more = decision.Chunked n (chunked c more)
+
+decision_more : (f : Finding) (front more : List ℕ) → Facts front f → decision_of f (front ++ more) ≡ more_of (decision_of f front) more
+decision_more waits front more known = refl
+decision_more (refused n method why) front more known = refl
+decision_more (accepted n h method (Sized size)) front more known = refl
+decision_more (accepted n h method Chunked) front more known =
+    ap (λ (c : Chunks). decision.Chunked n c) (chunks_append n front more known.3)
+
+-- once the head is whole, more bytes only read the body on
+known_more : (p : Progress) (front more : List ℕ) → IsKnown p front → is_waiting p.decision ≡ false
+    → more_of p.decision more ≡ decision_of (settled (front ++ more)) (front ++ more)
+known_more p front more known going =
+    ap (λ (d : Decision). more_of d more) known.decided ∙ sym (decision_more (settled front) front more (facts front))
+    ∙ ap (λ (f : Finding). decision_of f (front ++ more))
+    (sym (settled_append front more (not_waiting p.decision (settled front) front going known.decided)))
+
+known_by : (p q : Progress) (n : ℕ) (kept : List ℕ) → IsKnown p (take n kept) → is_waiting p.decision ≡ false
+    → q.decision ≡ more_of p.decision (drop n kept) → is_waiting q.decision ≡ false → IsKnown q kept
+known_by p q n kept known going same still =
+    let P : List ℕ → Type 0 = λ b. more_of p.decision (drop n kept) ≡ decision_of (settled b) b in
     record {
-      within = omega (arith, tied.within, length-append bytes piece);
-      fits = omega (arith, ap length cut, length-append (drop start bytes) piece);
-      decided = tied.decided ∙ ap decision_of (sym (ap settled cut ∙ decided));
-      read = λ w. absurd (let yes : is_waiting p.decision ≡ true = ap is_waiting w in cc);
+      decided = same ∙ subst P (take-append-drop n kept) (known_more p (take n kept) (drop n kept) known going);
+      read = λ w. absurd (let yes : is_waiting q.decision ≡ true = ap is_waiting w in cc);
     }
+
+pub known_same : (p : Progress) (n : ℕ) (kept : List ℕ) → IsKnown p (take n kept) → is_waiting p.decision ≡ false
+    → p.decision ≡ more_of p.decision (drop n kept) → IsKnown p kept
+known_same p n kept known going same = known_by p p n kept known going same going
+
+pub refused_known : (p : Progress) (n k : ℕ) (why : Refusal) (kept : List ℕ) → IsKnown p (take n kept) → p.decision ≡ decision.Refused k why → IsKnown p kept
+refused_known p n k why kept known is =
+    known_same p n kept known (ap is_waiting is) (is ∙ sym (ap (λ (d : Decision). more_of d (drop n kept)) is))
+
+pub accepted_known : (p : Progress) (n k t : ℕ) (kept : List ℕ) → IsKnown p (take n kept) → p.decision ≡ decision.Accepted k t → IsKnown p kept
+accepted_known p n k t kept known is =
+    known_same p n kept known (ap is_waiting is) (is ∙ sym (ap (λ (d : Decision). more_of d (drop n kept)) is))
+
+pub chunks_known : (p : Progress) (n k : ℕ) (c t : Chunks) (kept : List ℕ) → IsKnown p (take n kept) → p.decision ≡ decision.Chunked k c
+    → t ≡ chunked c (take (length kept - n) (drop n kept)) → IsKnown (record { scan = p.scan; decision = decision.Chunked k t }) kept
+chunks_known p n k c t kept known is read =
+    known_by p (record { scan = p.scan; decision = decision.Chunked k t }) n kept known (ap is_waiting is)
+    (ap (λ (d : Chunks). decision.Chunked k d) (read ∙ ap (chunked c) (rest_of n kept)) ∙ sym (ap (λ (d : Decision). more_of d (drop n kept)) is)) refl
+
+-- what a body's progress keeps
+chunks_bounded_by : (f : Finding) (bytes : List ℕ) (k : ℕ) (c : Chunks) → decision.Chunked k c ≡ decision_of f bytes → (c.sum ≤ c.at) × (c.at ≤ length bytes)
+chunks_bounded_by waits bytes k c e = absurd cc
+chunks_bounded_by (refused n method why) bytes k c e = absurd cc
+chunks_bounded_by (accepted n h method (Sized size)) bytes k c e = absurd cc
+chunks_bounded_by (accepted n h method Chunked) bytes k c e =
+    let read : chunked no_chunks (drop n bytes) ≡ c = cc in
+    let P : Chunks → Type 0 = λ d. (d.sum ≤ d.at) × (d.at ≤ length bytes) in
+    subst P read (data_bounded no_chunks (drop n bytes) (omega arith), omega (arith, chunks_within (drop n bytes), length-drop n bytes))
+
+pub chunks_bounded : (p : Progress) (bytes : List ℕ) (k : ℕ) (c : Chunks) → IsKnown p bytes → p.decision ≡ decision.Chunked k c
+    → (c.sum ≤ c.at) × (c.at ≤ length bytes)
+chunks_bounded p bytes k c known is = chunks_bounded_by (settled bytes) bytes k c (sym is ∙ known.decided)
+
+-- a head that is not whole was read to the last byte
+pub waits_read : (p : Progress) (n : ℕ) (kept : List ℕ) → IsRead p (take n kept)
+    → (p.scan.at ≤ length kept) × (p.scan.at ≤ 16384) × (p.scan ≡ scanned begin (take p.scan.at kept))
+waits_read p n kept read = (
+  omega (arith, read.at, length-take n kept),
+  omega (arith, read.at, read.below),
+  read.scan ∙ ap (scanned begin) (sym (ap (λ (k : ℕ). take k kept) read.at ∙ same_front n kept)),
+)
 
 -- ---- requests and their lengths
 
@@ -137,7 +227,17 @@ head_positive bytes (suc n) h e = omega arith
 item_positive : (f : Finding) (bytes : List ℕ) (r : HttpRequest) → Facts bytes f → item_of f bytes ≡ Some (Ok r) → 0 < r.length
 item_positive waits bytes r known e = absurd cc
 item_positive (refused n method why) bytes r known e = absurd cc
-item_positive (accepted n h method size) bytes r known e = by_room (leb_tells (n + size) (length bytes))
+item_positive (accepted n h method Chunked) bytes r known e =
+    by_ending (ending_of (chunks_behind n bytes).spot) (chunks_behind n bytes).at e
+  where
+    by_ending : (o : Ending) (at : ℕ) → chunked_item n h method o at bytes ≡ Some (Ok r) → 0 < r.length
+    by_ending ending.Open at found = absurd cc
+    by_ending ending.Closed at found =
+        let same : request_of h method (joined no_chunks (slice_range bytes n (n + at))) (n + at) ≡ r = cc in
+        let longer : n + at ≡ r.length = ap (λ (q : HttpRequest). q.length) same in
+        omega (arith, longer, head_positive bytes n h known.1)
+    by_ending (ending.Refused why) at found = absurd cc
+item_positive (accepted n h method (Sized size)) bytes r known e = by_room (leb_tells (n + size) (length bytes))
   where
     by_room : ((nat_le (n + size) (length bytes) ≡ true) × (n + size ≤ length bytes))
         ⊎ ((nat_le (n + size) (length bytes) ≡ false) × (length bytes < n + size))

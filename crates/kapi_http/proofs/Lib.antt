@@ -1,3 +1,4 @@
+pub mod Chunking
 pub mod Cutting
 pub mod Decided
 pub mod Digits

@@ -1,21 +1,27 @@
 -- Heads that the grammar prints, and fronts of texts.
-use Rattle.std.proofs.Common.{◌≡◌, ℕ, ◌+◌, ◌<◌, ◌≤◌, ◌⊎◌, inl, inr, Bool, true, false, List, ◌++◌, length, take, drop, refl, sym, ap, ◌∙◌, arith, Some, None, Err, append-nil, take-append-drop}
+use Rattle.std.proofs.Common.{◌≡◌, ℕ, ◌+◌, ◌-◌, ◌<◌, ◌≤◌, ◌⊎◌, inl, inr, Bool, true, false, List, ◌++◌, length, take, drop, refl, sym, ap, ◌∙◌, arith, Some, None, Err, append-nil, take-append-drop}
 use Rattle.std.proofs.Math.Seq.{take-append_seam}
 use Rattle.std.specs.Prelude.{nat_le}
 use Rattle.std.proofs.lemmas.Bool.{lt-leb}
-use Rattle.std.proofs.lemmas.List.{take-take, take_all, length-take}
+use Rattle.std.proofs.lemmas.List.{drop-take, take-take, take_all, length-take}
 use Rattle.std.proofs.lemmas.Bool.Decides.{leb_tells}
 use Rattle.httparse.specs.Grammar.{RequestHead, IsRequestHead, print_request}
-use Rattle.kapi_http.specs.Cut.{Finding, waits, refused, accepted, first, item_of, settled, settled_of, settled_within}
+use Rattle.kapi_http.specs.Cut.{Finding, waits, refused, accepted, chunked_item, chunks_behind, first, item_of, reach, reach_of, settled, settled_of, settled_within}
+use Rattle.kapi_http.specs.Chunks.{chunked, ending_of, no_chunks}
+use Rattle.kapi_http.specs.declared.chunks.Chunks.{Chunks}
+use Rattle.kapi_http.specs.declared.chunks.Ending.{Ending}
+use Rattle.kapi_http.specs.declared.chunks.Ending.TheVariants as ending
+use Rattle.kapi_http.specs.declared.rules.Framing.TheVariants.{Sized, Chunked}
+use Rattle.kapi_http.proofs.Chunking.{chunks_front, chunks_open}
 use Rattle.kapi_http.specs.declared.message.HttpFault.{HttpFault}
 use Rattle.kapi_http.specs.Head.{says, head_of}
 use Rattle.kapi_http.specs.Scan.{begin, is_ended, scanned}
 use Rattle.kapi_http.specs.declared.scan.Scan.{Scan}
-use Rattle.kapi_http.proofs.Decided.{take_longer}
+use Rattle.kapi_http.proofs.Decided.{settled_append, take_longer}
 use Rattle.kapi_http.proofs.HeadScans.{head_scan, mk}
 use Rattle.kapi_http.proofs.Heads.{head_of_whole}
 use Rattle.kapi_http.proofs.Scanning.{scanned_all, scanned_append, scanned_ended, scanned_take}
-use Rattle.kapi_http.proofs.Settling.{scan_within, settled_ended, settled_long, settled_short}
+use Rattle.kapi_http.proofs.Settling.{Facts, facts, scan_within, settled_ended, settled_long, settled_short}
 use Rattle.kapi_http.specs.declared.scan.Place.TheVariants.{Ended}
 
 -- a head that is printed by the grammar within the limits is read, whatever follows it
@@ -67,29 +73,55 @@ settled_front bytes decided = by_end (is_ended (scanned begin (take 16384 bytes)
             settled_long s (take s.at bytes) (front_scan bytes) e enough ∙ sym (settled_long s bytes refl e long)
         by_length (inr (f, short)) = absurd (decided (settled_short (scanned begin (take 16384 bytes)) bytes refl e short))
 
-fault_anywhere : (f : Finding) (a b : List ℕ) (x : HttpFault) → item_of f a ≡ Some (Err x) → item_of f b ≡ Some (Err x)
-fault_anywhere waits a b x e = absurd cc
-fault_anywhere (refused n method why) a b x e = e
-fault_anywhere (accepted n h method size) a b x e = by_room (leb_tells (n + size) (length a))
+-- and so is every longer front
+settled_from : (bytes : List ℕ) (k : ℕ) → (settled bytes ≡ waits → ⊥) → (scanned begin (take 16384 bytes)).at ≤ k → settled (take k bytes) ≡ settled bytes
+settled_from bytes k decided far =
+    let at : ℕ = (scanned begin (take 16384 bytes)).at in
+    let same = settled_front bytes decided in
+    ap settled (sym (take-append-drop at (take k bytes)) ∙ ap (λ (t : List ℕ). t ++ drop at (take k bytes)) (take-take at k bytes far))
+    ∙ settled_append (take at bytes) (drop at (take k bytes)) (λ w. decided (sym same ∙ w)) ∙ same
+
+-- the chunks of a front
+chunks_of_front : (n j : ℕ) (bytes : List ℕ) → chunks_behind n (take (n + j) bytes) ≡ chunked no_chunks (take j (drop n bytes))
+chunks_of_front n j bytes = ap (chunked no_chunks) (drop-take n j bytes)
+
+fault_by : (f : Finding) (bytes : List ℕ) (x : HttpFault) → Facts bytes f → settled bytes ≡ f → item_of f bytes ≡ Some (Err x)
+    → item_of (settled (take (reach_of f bytes) bytes)) (take (reach_of f bytes) bytes) ≡ Some (Err x)
+fault_by waits bytes x known is e = absurd cc
+fault_by (refused n method why) bytes x known is e =
+    let decided : settled bytes ≡ waits → ⊥ = λ w. let no = sym is ∙ w in cc in
+    ap (λ (g : Finding). item_of g (take (scanned begin (take 16384 bytes)).at bytes)) (settled_front bytes decided ∙ is) ∙ e
+fault_by (accepted n h method (Sized size)) bytes x known is e = by_room (leb_tells (n + size) (length bytes))
   where
-    by_room : ((nat_le (n + size) (length a) ≡ true) × (n + size ≤ length a)) ⊎ ((nat_le (n + size) (length a) ≡ false) × (length a < n + size))
-        → item_of (accepted n h method size) b ≡ Some (Err x)
+    by_room : ((nat_le (n + size) (length bytes) ≡ true) × (n + size ≤ length bytes)) ⊎ ((nat_le (n + size) (length bytes) ≡ false) × (length bytes < n + size))
+        → item_of (settled (take (scanned begin (take 16384 bytes)).at bytes)) (take (scanned begin (take 16384 bytes)).at bytes) ≡ Some (Err x)
     by_room (inl (t, room)) = absurd (let found = rw t at e in cc)
     by_room (inr (f, short)) = absurd (let none = rw f at e in cc)
+fault_by (accepted n h method Chunked) bytes x known is e =
+    let c : Chunks = chunks_behind n bytes in
+    let front : List ℕ = take (n + (chunks_behind n bytes).at) bytes in
+    let decided : settled bytes ≡ waits → ⊥ = λ w. let no = sym is ∙ w in cc in
+    let same : chunks_behind n front ≡ chunks_behind n bytes =
+    chunks_of_front n (chunks_behind n bytes).at bytes ∙ chunks_front (drop n bytes) in
+    ap (λ (g : Finding). item_of g front) (settled_from bytes (n + (chunks_behind n bytes).at) decided (omega (arith, known.4)) ∙ is)
+    ∙ ap (λ (d : Chunks). chunked_item n h method (ending_of d.spot) d.at front) same
+    ∙ refused_alike (ending_of (chunks_behind n bytes).spot) e
+  where
+    refused_alike : (o : Ending) → chunked_item n h method o (chunks_behind n bytes).at bytes ≡ Some (Err x)
+        → chunked_item n h method o (chunks_behind n bytes).at (take (n + (chunks_behind n bytes).at) bytes) ≡ Some (Err x)
+    refused_alike ending.Open e = absurd cc
+    refused_alike ending.Closed e = absurd cc
+    refused_alike (ending.Refused why) e = e
 
--- a fault is shown by the bytes up to where the scan came
-pub fault_shown : (bytes : List ℕ) (f : HttpFault) → first bytes ≡ Some (Err f)
-    → first (take (scanned begin (take 16384 bytes)).at bytes) ≡ Some (Err f)
+-- a fault is shown by the bytes up to where the reading came
+pub fault_shown : (bytes : List ℕ) (f : HttpFault) → first bytes ≡ Some (Err f) → first (take (reach bytes) bytes) ≡ Some (Err f)
 unfolding first
-fault_shown bytes f e =
-    let decided : settled bytes ≡ waits → ⊥ = λ w. let none = sym (ap (λ (x : Finding). item_of x bytes) w) ∙ e in cc in
-    let front : List ℕ = take (scanned begin (take 16384 bytes)).at bytes in
-    ap (λ (x : Finding). item_of x front) (settled_front bytes decided) ∙ fault_anywhere (settled bytes) bytes front f e
+fault_shown bytes f e = fault_by (settled bytes) bytes f (facts bytes) refl e
 
--- and by no shorter front
-pub fault_waits : (bytes : List ℕ) (k : ℕ) → k < (scanned begin (take 16384 bytes)).at → first (take k bytes) ≡ None
+-- nothing is known before the head is whole
+head_waits : (bytes : List ℕ) (k : ℕ) → k < (scanned begin (take 16384 bytes)).at → first (take k bytes) ≡ None
 unfolding first
-fault_waits bytes k below = by_end (is_ended (scanned begin (take k bytes)).place) refl
+head_waits bytes k below = by_end (is_ended (scanned begin (take k bytes)).place) refl
   where
     by_end : (e : Bool) → is_ended (scanned begin (take k bytes)).place ≡ e → item_of (settled (take k bytes)) (take k bytes) ≡ None
     by_end true is =
@@ -108,3 +140,27 @@ fault_waits bytes k below = by_end (is_ended (scanned begin (take k bytes)).plac
         let fits : length text ≤ 16384 = omega arith in
         let looked : scanned begin text ≡ scanned begin (take 16384 text) = ap (scanned begin) (sym (take_all 16384 text fits)) in
         ap (λ (x : Finding). item_of x text) (settled_short (scanned begin text) text looked is short)
+
+waits_by : (f : Finding) (bytes : List ℕ) (k : ℕ) → Facts bytes f → settled bytes ≡ f → k < reach_of f bytes → item_of (settled (take k bytes)) (take k bytes) ≡ None
+unfolding first
+waits_by waits bytes k known is below = head_waits bytes k below
+waits_by (refused n method why) bytes k known is below = head_waits bytes k below
+waits_by (accepted n h method (Sized size)) bytes k known is below = head_waits bytes k below
+waits_by (accepted n h method Chunked) bytes k known is below = by_head (leb_tells n k)
+  where
+    by_head : ((nat_le n k ≡ true) × (n ≤ k)) ⊎ ((nat_le n k ≡ false) × (k < n)) → item_of (settled (take k bytes)) (take k bytes) ≡ None
+    by_head (inr (f, short)) = head_waits bytes k (omega (arith, known.4))
+    by_head (inl (t, far)) =
+        let decided : settled bytes ≡ waits → ⊥ = λ w. let no = sym is ∙ w in cc in
+        let sum : k ≡ n + (k - n) = omega arith in
+        let read : chunks_behind n (take k bytes) ≡ chunked no_chunks (take (k - n) (drop n bytes)) =
+        ap (λ (j : ℕ). chunks_behind n (take j bytes)) sum ∙ chunks_of_front n (k - n) bytes in
+        let still : ending_of (chunks_behind n (take k bytes)).spot ≡ ending.Open =
+        ap (λ (d : Chunks). ending_of d.spot) read ∙ chunks_open (drop n bytes) (k - n) (omega arith) in
+        ap (λ (g : Finding). item_of g (take k bytes)) (settled_from bytes k decided (omega (arith, known.4)) ∙ is)
+        ∙ ap (λ (o : Ending). chunked_item n h method o (chunks_behind n (take k bytes)).at (take k bytes)) still
+
+-- and by no shorter front
+pub fault_waits : (bytes : List ℕ) (k : ℕ) → k < reach bytes → first (take k bytes) ≡ None
+unfolding first
+fault_waits bytes k below = waits_by (settled bytes) bytes k (facts bytes) refl below

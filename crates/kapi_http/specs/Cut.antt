@@ -2,6 +2,7 @@
 use Rattle.std.specs.Prelude.{◌≡◌, ℕ, zero, suc, ◌+◌, nat_lt, nat_le, if◌then◌else◌, IsSome, is_some, List, [], ◌∷◌, ◌++◌, length, take, drop, map, codes, slice_range, Option, Some, None, Result, Ok, Err}
 use Rattle.std.specs.Str.{bytes_eq}
 use Rattle.kapi_http.specs.Limits.{head_limit}
+use Rattle.kapi_http.specs.Chunks.{chunked, ending_of, joined, no_chunks}
 use Rattle.kapi_http.specs.Fields.{FieldBytes, asks_to_close}
 use Rattle.kapi_http.specs.Head.{Says, head_of}
 use Rattle.kapi_http.specs.Rules.{checked}
@@ -14,6 +15,11 @@ use Rattle.kapi_http.specs.declared.message.Refusal.{Refusal}
 use Rattle.kapi_http.specs.declared.message.Refusal.TheVariants as refusal
 use Rattle.kapi_http.specs.declared.message.StatusCode.{StatusCode}
 use Rattle.kapi_http.specs.declared.message.StatusCode.TheVariants as status
+use Rattle.kapi_http.specs.declared.chunks.Chunks.{Chunks}
+use Rattle.kapi_http.specs.declared.chunks.Ending.{Ending}
+use Rattle.kapi_http.specs.declared.chunks.Ending.TheVariants as ending
+use Rattle.kapi_http.specs.declared.rules.Framing.{Framing}
+use Rattle.kapi_http.specs.declared.rules.Framing.TheVariants.{Sized, Chunked}
 use Rattle.kapi_http.specs.declared.scan.Scan.{Scan}
 
 -- the status code of a refusal
@@ -26,6 +32,7 @@ code_of refusal.Expectation = status.ExpectationFailed
 code_of refusal.Method = status.MethodNotAllowed
 code_of refusal.Length = status.BadRequest
 code_of refusal.TransferEncoding = status.NotImplemented
+code_of refusal.Chunk = status.BadRequest
 code_of refusal.BodyTooLarge = status.ContentTooLarge
 
 -- its word: what is wrong with a bad request, or the method that isn't allowed
@@ -38,6 +45,7 @@ word_of refusal.Expectation method = []
 word_of refusal.Method method = method
 word_of refusal.Length method = codes "length"
 word_of refusal.TransferEncoding method = []
+word_of refusal.Chunk method = codes "chunk"
 word_of refusal.BodyTooLarge method = []
 
 -- the fault of a request of that method; a reply to HEAD has no body (RFC 9110 section 9.3.2)
@@ -69,11 +77,11 @@ pub data Finding : Type 0 where
   waits : Finding
   -- the bytes of its head, the method, empty where no head was read, and why the request is refused
   refused : (n : ℕ) (method : List ℕ) (why : Refusal) → Finding
-  -- the bytes of its head, what the head says, the method, and the bytes of its body
-  accepted : (n : ℕ) (h : Says) (method : Method) (size : ℕ) → Finding
+  -- the bytes of its head, what the head says, the method, and how the body's end is found
+  accepted : (n : ℕ) (h : Says) (method : Method) (framing : Framing) → Finding
 
 -- a head that was read, by the rules
-abbrev pub settled_by : List ℕ → Says → Result (Method × ℕ) Refusal → Finding
+abbrev pub settled_by : List ℕ → Says → Result (Method × Framing) Refusal → Finding
 settled_by head h (Ok m) = accepted (length head) h m.0 m.1
 settled_by head h (Err why) = refused (length head) h.method why
 
@@ -98,18 +106,42 @@ settled_at s bytes =
 unfoldable pub settled : List ℕ → Finding
 settled bytes = settled_at (scanned begin (take head_limit bytes)) bytes
 
+-- a request whose body comes in chunks, of which so many bytes were read
+abbrev pub chunked_item : ℕ → Says → Method → Ending → ℕ → List ℕ → Option (Result HttpRequest HttpFault)
+chunked_item n h method ending.Open at bytes = None
+chunked_item n h method ending.Closed at bytes =
+    Some (Ok (request_of h method (joined no_chunks (slice_range bytes n (n + at))) (n + at)))
+chunked_item n h method (ending.Refused why) at bytes = Some (Err (fault_of h.method why))
+
+-- the chunks behind so many bytes
+abbrev pub chunks_behind : ℕ → List ℕ → Chunks
+chunks_behind n bytes = chunked no_chunks (drop n bytes)
+
 -- the item that is settled: a request only once its body is whole
 abbrev pub item_of : Finding → List ℕ → Option (Result HttpRequest HttpFault)
 item_of waits bytes = None
 item_of (refused n method why) bytes = Some (Err (fault_of method why))
-item_of (accepted n h method size) bytes =
+item_of (accepted n h method (Sized size)) bytes =
     if nat_le (n + size) (length bytes)
     then Some (Ok (request_of h method (slice_range bytes n (n + size)) (n + size)))
     else None
+item_of (accepted n h method Chunked) bytes =
+    chunked_item n h method (ending_of (chunks_behind n bytes).spot) (chunks_behind n bytes).at bytes
 
 -- what a text begins with: a whole request, a fault, or nothing yet
 unfoldable pub first : List ℕ → Option (Result HttpRequest HttpFault)
 first bytes = item_of (settled bytes) bytes
+
+-- how many bytes at the front tell what the first item is, if it is a fault: the head's, or 16,384 without its end, and those of chunks up to the body's end or its first wrong byte
+abbrev pub reach_of : Finding → List ℕ → ℕ
+reach_of waits bytes = (scanned begin (take head_limit bytes)).at
+reach_of (refused n method why) bytes = (scanned begin (take head_limit bytes)).at
+reach_of (accepted n h method (Sized size)) bytes = (scanned begin (take head_limit bytes)).at
+reach_of (accepted n h method Chunked) bytes = n + (chunks_behind n bytes).at
+
+-- the same of a text
+abbrev pub reach : List ℕ → ℕ
+reach bytes = reach_of (settled bytes) bytes
 
 -- the requests of a text and the fault behind them, if any
 pub record Cut : Type 0 where

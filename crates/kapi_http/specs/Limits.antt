@@ -12,3 +12,7 @@ field_limit = 64
 -- a body has at most so many bytes
 abbrev pub body_limit : ℕ
 body_limit = 1048576
+
+-- a body in chunks has at most so many bytes as sent, its size lines and line ends counted in
+abbrev pub sent_limit : ℕ
+sent_limit = 1572864

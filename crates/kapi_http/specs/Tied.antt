@@ -23,11 +23,15 @@ pub record IsRead (progress : Progress) (kept : List ℕ) : Type 0 where
   pub below : length kept < head_limit
 
 -- what is remembered is what the bytes settle
+pub record IsKnown (progress : Progress) (kept : List ℕ) : Type 0 where
+  pub decided : progress.decision ≡ decision_of (settled kept) kept
+  pub read : progress.decision ≡ decision.Waits → IsRead progress kept
+
+-- and the bytes that were not taken out are within the limit
 pub record IsTied (bytes : List ℕ) (start : ℕ) (progress : Progress) : Type 0 where
   pub within : start ≤ length bytes
   pub fits : length (drop start bytes) ≤ KEPT_LIMIT
-  pub decided : progress.decision ≡ decision_of (settled (drop start bytes))
-  pub read : progress.decision ≡ decision.Waits → IsRead progress (drop start bytes)
+  pub known : IsKnown progress (drop start bytes)
 
 -- a whole head, of so many lines with its request line, has a line for each of its fields
 abbrev pub HasLines : ℕ → List ℕ → Type 0
@@ -60,3 +64,4 @@ abbrev pub is_waiting : Decision → Bool
 is_waiting decision.Waits = true
 is_waiting (decision.Refused n why) = false
 is_waiting (decision.Accepted n t) = false
+is_waiting (decision.Chunked n c) = false

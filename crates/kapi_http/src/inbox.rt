@@ -2,7 +2,7 @@
 
 ghost use Rattle.std.specs.Prelude.{◌≡◌, ◌+◌, ◌<◌, ◌≤◌, ◌++◌, [], ◌↔◌, IfOk, IsFalse, IsTrue, OnOk, OnErr, Some, Ok, false, length};
 
-use crate::item::{Decision, Progress, advance, item, waits};
+use crate::item::{Decision, Progress, advance, continued, item};
 use crate::message::{HttpFault, HttpRequest};
 use crate::scan::BEGIN;
 use kapi_text::Memory;
@@ -91,9 +91,7 @@ impl Inbox {
         if self.bytes.extend_from_slice(piece).is_err() {
             return Err(FeedError::Memory);
         }
-        if waits(self.progress.decision) {
-            self.progress = advance(self.progress.scan, &self.bytes[self.start..]);
-        }
+        self.progress = continued(self.progress, &self.bytes[self.start..], piece.len());
         Ok(())
     }
 

@@ -1,17 +1,19 @@
 //! What the bytes begin with: a whole request, a fault, or nothing yet.
-ghost use Rattle.std.specs.Prelude.{◌≡◌, ◌+◌, ◌≤◌, ◌<◌, [], All, IfOk, IsUtf8, length, take, map};
+ghost use Rattle.std.specs.Prelude.{◌≡◌, ◌-◌, ◌++◌, ◌≤◌, All, IfOk, IsUtf8, length, take, map};
 ghost use Rattle.httparse.specs.Spans.{IsHeaderWithin, header_bytes, span_bytes};
 ghost use Rattle.kapi_http.specs.Cut.{code_of, fault_of, first, header_of, request_of, settled, settled_within, word_of};
 ghost use Rattle.kapi_http.specs.Fields.{fields_at};
 ghost use Rattle.kapi_http.specs.Head.{head_of};
-ghost use Rattle.kapi_http.specs.Inbox.{decision_of};
+ghost use Rattle.kapi_http.specs.Inbox.{accepted_of, decision_of};
+ghost use Rattle.kapi_http.specs.Rules.{IsFramed};
 ghost use Rattle.kapi_http.specs.Scan.{begin, scanned};
-ghost use Rattle.kapi_http.specs.Tied.{HasLines, HasRoom, IsRead, IsServed, is_waiting, method_sent};
+ghost use Rattle.kapi_http.specs.Tied.{HasLines, HasRoom, IsKnown, IsRead, IsServed, is_waiting, method_sent};
 
+use crate::chunks::{Chunks, Ending, NO_CHUNKS, join, outcome, read_on};
 use crate::fields::some_lists;
 use crate::head::read_head;
 use crate::message::{Header, HttpFault, HttpRequest, Refusal, StatusCode};
-use crate::rules::{check, method_named};
+use crate::rules::{Framing, check, method_named};
 use crate::scan::{Scan, has_ended, scan_on};
 use httparse::spans::{EMPTY_HEADER_SPAN, HeaderSpan};
 use kapi_text::{Memory, Sequence, Text};
@@ -33,6 +35,8 @@ pub enum Decision {
     Refused(usize, Refusal),
     /// The head has so many bytes, and the request so many in all.
     Accepted(usize, usize),
+    /// The head has so many bytes, and the body comes in chunks, which were read so far.
+    Chunked(usize, Chunks),
 }
 
 /// How far the bytes at hand were read.
@@ -40,6 +44,24 @@ pub enum Decision {
 pub struct Progress {
     pub scan: Scan,
     pub decision: Decision,
+}
+
+/// Reads on where the head or the body of `kept` is not whole: `progress` is of its first bytes, without the last `more`.
+pub fn continued(progress: Progress, kept: &[u8], more: usize) -> Progress
+    requires more { more ≤ length kept.now }
+    requires fits { length kept.now ≤ 2097152 }
+    requires known { IsKnown progress (take (length kept.now - more) kept.now) }
+    ensures { IsKnown result kept.now }
+{
+    match progress.decision {
+        Decision::Waits => advance(progress.scan, kept),
+        Decision::Chunked(head, chunks) => Progress {
+            scan: progress.scan,
+            decision: Decision::Chunked(head, read_on(chunks, &kept[kept.len() - more..])),
+        },
+        Decision::Refused(_, _) => progress,
+        Decision::Accepted(_, _) => progress,
+    }
 }
 
 /// The head is not whole yet.
@@ -54,14 +76,15 @@ pub fn waits(decision: Decision) -> bool
 pub fn advance(scan: Scan, kept: &[u8]) -> Progress
     requires within { scan.at ≤ length kept.now }
     requires limit { scan.at ≤ 16384 }
+    requires fits { length kept.now ≤ 2097152 }
     requires read { scan ≡ scanned begin (take scan.at kept.now) }
-    ensures decided { result.decision ≡ decision_of (settled kept.now) }
+    ensures decided { result.decision ≡ decision_of (settled kept.now) kept.now }
     ensures read { result.decision ≡ Decision.Waits → IsRead result kept.now }
 {
     let end = kept.len().min(HEAD_LIMIT);
     let scan = scan_on(scan, &kept[scan.at..end]);
     let decision = if has_ended(scan.place) {
-        decide(&kept[..scan.at], scan.lines)
+        decide(&kept[..scan.at], &kept[scan.at..], scan.lines)
     } else if kept.len() >= HEAD_LIMIT {
         Decision::Refused(0, Refusal::HeadTooLarge)
     } else {
@@ -70,11 +93,12 @@ pub fn advance(scan: Scan, kept: &[u8]) -> Progress
     Progress { scan, decision }
 }
 
-// What a whole head settles; `lines` counts the request line too.
-fn decide(head: &[u8], lines: usize) -> Decision
+// What a whole head settles, and the body behind it; `lines` counts the request line too.
+fn decide(head: &[u8], body: &[u8], lines: usize) -> Decision
     requires lines { HasLines lines head.now }
     requires small { length head.now ≤ 16384 }
-    ensures { result ≡ decision_of (settled_within lines head.now) }
+    requires fits { length body.now ≤ 2097152 }
+    ensures { result ≡ decision_of (settled_within lines head.now) (head.now ++ body.now) }
 {
     if lines > LINE_LIMIT + 1 {
         return Decision::Refused(0, Refusal::HeadTooLarge);
@@ -82,10 +106,23 @@ fn decide(head: &[u8], lines: usize) -> Decision
     let mut spans = [EMPTY_HEADER_SPAN; 64];
     match read_head(head, &mut spans) {
         Some(line) => match check(head, line, &spans[..line.headers]) {
-            Ok((_, size)) => Decision::Accepted(head.len(), head.len() + size),
+            Ok((_, framing)) => accepted(head.len(), framing, body),
             Err(why) => Decision::Refused(head.len(), why),
         },
         None => Decision::Refused(head.len(), Refusal::NoHead),
+    }
+}
+
+// What a head of so many bytes settles that keeps the rules.
+fn accepted(head: usize, framing: Framing, body: &[u8]) -> Decision
+    requires size { IsFramed framing }
+    requires small { head ≤ 16384 }
+    requires fits { length body.now ≤ 2097152 }
+    ensures { result ≡ accepted_of head framing body.now }
+{
+    match framing {
+        Framing::Sized(size) => Decision::Accepted(head, head + size),
+        Framing::Chunked => Decision::Chunked(head, read_on(NO_CHUNKS, body)),
     }
 }
 
@@ -95,7 +132,8 @@ pub fn item(
     kept: &[u8],
     decision: Decision,
 ) -> Result<Option<Result<HttpRequest, HttpFault>>, Memory>
-    requires { decision ≡ decision_of (settled kept.now) }
+    requires small { length kept.now ≤ 2097152 }
+    requires settled { decision ≡ decision_of (settled kept.now) kept.now }
     ensures { IfOk result (λ o. o ≡ first kept.now) }
 {
     match decision {
@@ -108,8 +146,36 @@ pub fn item(
             if kept.len() < total {
                 return Ok(None);
             }
-            let request = request(alloc, &kept[..head], &kept[head..total], total)?;
+            let body = Vec::from_slice(alloc, &kept[head..total])?;
+            let request = request(alloc, &kept[..head], body, total)?;
             Ok(Some(Ok(request)))
+        }
+        Decision::Chunked(head, chunks) => chunked_item(alloc, kept, head, chunks),
+    }
+}
+
+// The item of a request of `kept` whose body comes in chunks.
+fn chunked_item(
+    alloc: Global,
+    kept: &[u8],
+    head: usize,
+    chunks: Chunks,
+) -> Result<Option<Result<HttpRequest, HttpFault>>, Memory>
+    requires small { length kept.now ≤ 2097152 }
+    requires settled { Decision.Chunked head chunks ≡ decision_of (settled kept.now) kept.now }
+    ensures { IfOk result (λ o. o ≡ first kept.now) }
+{
+    match outcome(chunks.spot) {
+        Ending::Open => Ok(None),
+        Ending::Closed => {
+            let total = head + chunks.at;
+            let body = join(alloc, &kept[head..total], chunks.sum)?;
+            let request = request(alloc, &kept[..head], body, total)?;
+            Ok(Some(Ok(request)))
+        }
+        Ending::Refused(why) => {
+            let fault = fault(alloc, &kept[..head], why)?;
+            Ok(Some(Err(fault)))
         }
     }
 }
@@ -146,6 +212,7 @@ fn word(alloc: Global, method: &[u8], why: Refusal) -> Result<Text, Memory>
         Refusal::NoHead => Text::copy_of(alloc, "head"),
         Refusal::Host => Text::copy_of(alloc, "host"),
         Refusal::Length => Text::copy_of(alloc, "length"),
+        Refusal::Chunk => Text::copy_of(alloc, "chunk"),
         Refusal::Method => text(alloc, method),
         _ => Text::copy_of(alloc, ""),
     }
@@ -163,15 +230,16 @@ fn code(why: Refusal) -> StatusCode
         Refusal::Method => StatusCode::MethodNotAllowed,
         Refusal::Length => StatusCode::BadRequest,
         Refusal::TransferEncoding => StatusCode::NotImplemented,
+        Refusal::Chunk => StatusCode::BadRequest,
         Refusal::BodyTooLarge => StatusCode::ContentTooLarge,
     }
 }
 
 // The request of a head that keeps the rules, and of its body; `total` is its length as sent.
-fn request(alloc: Global, head: &[u8], body: &[u8], total: usize) -> Result<HttpRequest, Memory>
+fn request(alloc: Global, head: &[u8], body: Vec<u8>, total: usize) -> Result<HttpRequest, Memory>
     requires room { HasRoom head.now }
     requires served { IsServed head.now }
-    ensures { IfOk result (λ r. (s : IsServed head.now) → r ≡ request_of s.says s.method body.now total) }
+    ensures { IfOk result (λ r. (s : IsServed head.now) → r ≡ request_of s.says s.method body.items total) }
 {
     let mut spans = [EMPTY_HEADER_SPAN; 64];
     let Some(line) = read_head(head, &mut spans) else {
@@ -183,12 +251,11 @@ fn request(alloc: Global, head: &[u8], body: &[u8], total: usize) -> Result<Http
     let target = text(alloc, line.path.of(head))?;
     let fields = &spans[..line.headers];
     let headers = headers(alloc, head, fields)?;
-    let bytes = Vec::from_slice(alloc, body)?;
     Ok(HttpRequest {
         method,
         target,
         headers: Sequence::new(headers),
-        body: Sequence::new(bytes),
+        body: Sequence::new(body),
         close: some_lists(head, fields, b"connection", b"close"),
         length: total,
     })

@@ -2,9 +2,8 @@
 ghost use Rattle.std.specs.Prelude.{◌≡◌, ◌∷◌, ◌+◌, codes, ◌<◌, ◌≤◌, ◌++◌, List, ℕ, [], IsSome, None, Some, drop, length, take};
 ghost use Rattle.std.specs.List.{flat_map};
 ghost use Rattle.httparse.specs.Grammar.{IsRequestHead, ReadsRequest, RequestHead, print_request};
-ghost use Rattle.kapi_http.specs.Cut.{Begins, cut, fault_of, first, request_of, settled, settled_of, taken};
+ghost use Rattle.kapi_http.specs.Cut.{Begins, cut, fault_of, first, reach, request_of, settled, settled_of, taken, with_request};
 ghost use Rattle.kapi_http.specs.Head.{head_of, says};
-ghost use Rattle.kapi_http.specs.Scan.{begin, scanned};
 ghost use Rattle.kapi_http.specs.declared.message.HttpFault.{HttpFault};
 ghost use Rattle.kapi_http.specs.declared.message.Method.TheVariants.{Put};
 ghost use Rattle.kapi_http.specs.declared.message.Refusal.TheVariants.{Version};
@@ -35,16 +34,24 @@ pub fn fronts_are_cut_alike()
     ensures { (bytes more : List ℕ) → Begins (cut bytes) (cut (bytes ++ more)) }
 {}
 
+/// No request is hidden in another: what is cut from a request's bytes and others behind them is that request, and what
+/// is cut from the others.
+pub fn requests_are_cut_apart()
+    ensures { (bytes more : List ℕ) (r : HttpRequest) → first bytes ≡ Some (Ok r) → r.length ≡ length bytes
+        → cut (bytes ++ more) ≡ with_request r (cut more) }
+{}
+
 /// Feeding a text in any pieces, and taking all that is whole after each, gives what the whole text is cut to.
 pub fn pieces_are_cut_alike()
     ensures { (pieces : List (List ℕ)) → taken [] pieces ≡ cut (flat_map (λ piece. piece) pieces) }
 {}
 
-/// A fault is decided on the shortest front that shows it: on the whole head, or on 16,384 bytes without its end.
+/// A fault is decided on the shortest front that shows it: on the whole head, on 16,384 bytes without its end, or on
+/// the bytes of chunks up to the first wrong one or the first above a limit.
 pub fn faults_are_decided_early()
     ensures shown { (bytes : List ℕ) (f : HttpFault) → first bytes ≡ Some (Err f)
-        → first (take (scanned begin (take 16384 bytes)).at bytes) ≡ Some (Err f) }
-    ensures waits { (bytes : List ℕ) (k : ℕ) → k < (scanned begin (take 16384 bytes)).at → first (take k bytes) ≡ None }
+        → first (take (reach bytes) bytes) ≡ Some (Err f) }
+    ensures waits { (bytes : List ℕ) (k : ℕ) → k < reach bytes → first (take k bytes) ≡ None }
 {}
 
 /// What two texts begin with, computed: a request with a body of two bytes, and one of HTTP/1.0.

@@ -129,13 +129,13 @@ pub struct HttpRequest {
 #[derive(Debug, Drop)]
 pub struct HttpFault {
     pub code: StatusCode,
-    /// Of a 400 what is wrong (`head`, `host` or `length`), of a 405 the method, else empty.
+    /// Of a 400 what is wrong (`head`, `host`, `length` or `chunk`), of a 405 the method, else empty.
     pub word: Text,
     /// The request is a HEAD, so that its reply has no body.
     pub no_body: bool,
 }
 
-/// Why a head is refused.
+/// Why a request is refused.
 #[derive(Clone, Copy, Debug, PartialEq, Eq)]
 pub enum Refusal {
     /// The head or the number of its lines is above the limit.
@@ -152,8 +152,10 @@ pub enum Refusal {
     Method,
     /// A Content-Length field is not digits alone, is not the only one, or stands beside a Transfer-Encoding field.
     Length,
-    /// There is a Transfer-Encoding field.
+    /// There is a Transfer-Encoding field whose value is not `chunked`, or more than one.
     TransferEncoding,
+    /// The bytes behind the head are no body in chunks.
+    Chunk,
     /// The body is above the limit.
     BodyTooLarge,
 }

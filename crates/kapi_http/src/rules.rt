@@ -3,26 +3,35 @@ ghost use Rattle.std.specs.Prelude.{◌≡◌, ◌≤◌, ◌+◌, ◌*◌, All,
 ghost use Rattle.httparse.specs.Spans.{IsHeaderWithin, IsWithin};
 ghost use Rattle.kapi_http.specs.Fields.{fields_at};
 ghost use Rattle.kapi_http.specs.Head.{said};
-ghost use Rattle.kapi_http.specs.Rules.{body_size as size_of_body, checked, content_length as size_of, method_named as method_of};
+ghost use Rattle.kapi_http.specs.Rules.{IsFramed, checked, coding as coding_of, framing as framing_of, content_length as size_of, method_named as method_of};
 
-use crate::fields::{count_named, first_named};
+use crate::fields::{count_named, first_named, is_same};
 use crate::message::{Method, Refusal};
 use httparse::spans::{HeaderSpan, RequestSpans};
 
 /// The most bytes that a body may have.
 pub const BODY_LIMIT: usize = 1_048_576;
 
-/// The method, and how many bytes the body has.
+/// How the end of a body is found.
+#[derive(Clone, Copy, Debug, PartialEq, Eq)]
+pub enum Framing {
+    /// The body has so many bytes.
+    Sized(usize),
+    /// The body comes in chunks.
+    Chunked,
+}
+
+/// The method, and how the body's end is found.
 #[tactic(auto, unfolding(crate::specs::Rules::checked))]
 pub fn check(
     bytes: &[u8],
     line: RequestSpans,
     headers: &[HeaderSpan],
-) -> Result<(Method, usize), Refusal>
+) -> Result<(Method, Framing), Refusal>
     requires method { IsWithin (length bytes.now) line.method }
     requires fields { All (IsHeaderWithin (length bytes.now)) headers.now }
     ensures exact { result ≡ checked (said bytes.now line headers.now) }
-    ensures within { IfOk result (λ r. r.1 ≤ 1048576) }
+    ensures within { IfOk result (λ r. IsFramed r.1) }
 {
     if line.version == 0 {
         return Err(Refusal::Version);
@@ -36,8 +45,8 @@ pub fn check(
     let Some(method) = method_named(line.method.of(bytes)) else {
         return Err(Refusal::Method);
     };
-    let size = body_size(bytes, headers)?;
-    Ok((method, size))
+    let framing = body_framing(bytes, headers)?;
+    Ok((method, framing))
 }
 
 /// The method of that name, which is case-sensitive (RFC 9110 section 9.1).
@@ -60,35 +69,50 @@ pub fn method_named(name: &[u8]) -> Option<Method>
     }
 }
 
-// How many bytes follow the head (RFC 9112 section 6). No transfer coding is read yet.
-#[tactic(auto, unfolding(crate::specs::Rules::body_size, crate::specs::Rules::size_by))]
-fn body_size(bytes: &[u8], headers: &[HeaderSpan]) -> Result<usize, Refusal>
+// How the end of the body is found that follows the head (RFC 9112 section 6).
+#[tactic(auto, unfolding(crate::specs::Rules::framing, crate::specs::Rules::framing_by))]
+fn body_framing(bytes: &[u8], headers: &[HeaderSpan]) -> Result<Framing, Refusal>
     requires { All (IsHeaderWithin (length bytes.now)) headers.now }
-    ensures exact { result ≡ size_of_body (fields_at bytes.now headers.now) }
-    ensures within { IfOk result (λ n. n ≤ 1048576) }
+    ensures exact { result ≡ framing_of (fields_at bytes.now headers.now) }
+    ensures within { IfOk result IsFramed }
 {
     let codings = count_named(bytes, headers, b"transfer-encoding");
     let lengths = count_named(bytes, headers, b"content-length");
     if codings > 0 && lengths > 0 {
         return Err(Refusal::Length);
     }
-    if codings > 0 {
+    if codings > 1 {
         return Err(Refusal::TransferEncoding);
     }
     if lengths > 1 {
         return Err(Refusal::Length);
     }
+    if let Some(coding) = first_named(bytes, headers, b"transfer-encoding") {
+        return transfer_coding(coding);
+    }
     match first_named(bytes, headers, b"content-length") {
         Some(value) => content_length(value),
-        None => Ok(0),
+        None => Ok(Framing::Sized(0)),
+    }
+}
+
+// The only transfer coding that is read (RFC 9112 section 7.1).
+fn transfer_coding(value: &[u8]) -> Result<Framing, Refusal>
+    ensures exact { result ≡ coding_of value.now }
+    ensures within { IfOk result IsFramed }
+{
+    if is_same(value, b"chunked") {
+        Ok(Framing::Chunked)
+    } else {
+        Err(Refusal::TransferEncoding)
     }
 }
 
 // One or more digits and nothing else, and a number within the limit (RFC 9110 section 8.6).
 #[tactic(auto, unfolding(crate::specs::Rules::content_length))]
-fn content_length(value: &[u8]) -> Result<usize, Refusal>
+fn content_length(value: &[u8]) -> Result<Framing, Refusal>
     ensures exact { result ≡ size_of value.now }
-    ensures within { IfOk result (λ n. n ≤ 1048576) }
+    ensures within { IfOk result IsFramed }
 {
     if value.is_empty() {
         return Err(Refusal::Length);
@@ -103,7 +127,7 @@ fn content_length(value: &[u8]) -> Result<usize, Refusal>
     if number > BODY_LIMIT {
         return Err(Refusal::BodyTooLarge);
     }
-    Ok(number)
+    Ok(Framing::Sized(number))
 }
 
 // The number with one digit more, or the first number above the limit.

@@ -143,7 +143,7 @@ const TEXTS: [(&[u8], &str); 66] = [
     ),
     (
         b"GET / HTTP/1.1\r\nHost: a\r\nTransfer-Encoding: chunked\r\n\r\n",
-        "501 ",
+        "wait",
     ),
     (
         b"GET / HTTP/1.1\r\nHost: a\r\nTransfer-Encoding:\r\n\r\n",
@@ -250,6 +250,188 @@ fn items_of_texts(rt: HostRuntime) -> Result<(), Fail> {
     for (text, wanted) in TEXTS {
         expect(&rt, rt.alloc(), text, wanted)?;
     }
+    Ok(())
+}
+
+// Heads without their empty line, the bytes behind it, and what an inbox gives: each fed as one and byte by byte.
+const CODINGS: [(&[u8], &str); 14] = [
+    (b"Transfer-Encoding: chunked", "GET / 2 60 0;"),
+    (b"transfer-encoding:\tCHUNKED \t", "GET / 2 62 0;"),
+    (
+        b"Transfer-Encoding: chunked\r\nTransfer-Encoding: chunked",
+        "501 ;",
+    ),
+    (b"Transfer-Encoding: chunked, chunked", "501 ;"),
+    (b"Transfer-Encoding: gzip, chunked", "501 ;"),
+    (b"Transfer-Encoding: chunked, gzip", "501 ;"),
+    (b"Transfer-Encoding: identity", "501 ;"),
+    (b"Transfer-Encoding: chunked;q=1", "501 ;"),
+    (b"Transfer-Encoding: \"chunked\"", "501 ;"),
+    (b"Transfer-Encoding: xchunked", "501 ;"),
+    (b"Transfer-Encoding: chunked\x0b", "400 head;"),
+    (b"Transfer-Encoding:\r\n chunked", "400 head;"),
+    (b"Transfer-Encoding : chunked", "400 head;"),
+    (
+        b"Transfer-Encoding: chunked\r\nContent-Length: 5",
+        "400 length;",
+    ),
+];
+
+// Bodies in chunks, and what an inbox gives.
+const BODIES: [(&[u8], &str); 54] = [
+    (b"0\r\n\r\n", "PUT / 2 60 0;"),
+    (b"00000000\r\n\r\n", "PUT / 2 67 0;"),
+    (b"3\r\nabc\r\n0\r\n\r\n", "PUT / 2 68 3;"),
+    (b"00000003\r\nabc\r\n00\r\n\r\n", "PUT / 2 76 3;"),
+    (b"a\r\n0123456789\r\n0\r\n\r\n", "PUT / 2 75 10;"),
+    (b"A\r\n0123456789\r\n0\r\n\r\n", "PUT / 2 75 10;"),
+    (b"1\r\na\r\n2\r\nbc\r\n0\r\n\r\n", "PUT / 2 73 3;"),
+    (b"2\r\n\r\n\r\n0\r\n\r\n", "PUT / 2 67 2;"),
+    (b"5\r\n0\r\n\r\n\r\n0\r\n\r\n", "PUT / 2 70 5;"),
+    (
+        b"0\r\n\r\nGET /s HTTP/1.1\r\nHost: a\r\n\r\n",
+        "PUT / 2 60 0;GET /s 1 28 0;",
+    ),
+    (b"3\r\nabc\r\n0\r\n\r\nBREW", "PUT / 2 68 3;"),
+    (b"1b\r\nGET /s HTTP/1.1\r\nHost: a\r\n\r\n", "400 chunk;"),
+    (
+        b"1c\r\nGET /s HTTP/1.1\r\nHost: a\r\n\r\n\r\n0\r\n\r\n",
+        "PUT / 2 94 28;",
+    ),
+    (b"", ""),
+    (b"0", ""),
+    (b"0\r", ""),
+    (b"0\r\n", ""),
+    (b"0\r\n\r", ""),
+    (b"3\r\nabc", ""),
+    (b"3\r\nabc\r", ""),
+    (b"3\r\nabc\r\n", ""),
+    (b"\r\n", "400 chunk;"),
+    (b"\n", "400 chunk;"),
+    (b";x=1\r\n", "400 chunk;"),
+    (b"3;", "400 chunk;"),
+    (b"4f;x=1\r\n", "400 chunk;"),
+    (b"0;x\r\n\r\n", "400 chunk;"),
+    (b" 3", "400 chunk;"),
+    (b"3 \r\n", "400 chunk;"),
+    (b"3\t\r\n", "400 chunk;"),
+    (b"+3", "400 chunk;"),
+    (b"-1", "400 chunk;"),
+    (b"0x3", "400 chunk;"),
+    (b"0X3", "400 chunk;"),
+    (b"g", "400 chunk;"),
+    (b"3_", "400 chunk;"),
+    (b"3\n", "400 chunk;"),
+    (b"3\rabc", "400 chunk;"),
+    (b"3\r\r", "400 chunk;"),
+    (b"00000004f", "400 chunk;"),
+    (b"000000000", "400 chunk;"),
+    (b"1000000000000000f", "400 chunk;"),
+    (b"ffffffff", ""),
+    (b"FFFFFFFF\r\n", "413 ;"),
+    (b"100001\r", ""),
+    (b"100001\r\n", "413 ;"),
+    (b"100001\n", "400 chunk;"),
+    (b"100000\r\n", ""),
+    (b"3\r\nabcd", "400 chunk;"),
+    (b"3\r\nabc\n", "400 chunk;"),
+    (b"3\r\nabc\rx", "400 chunk;"),
+    (b"3\r\nabc0\r\n", "400 chunk;"),
+    (b"0\r\nX: y\r\n\r\n", "400 chunk;"),
+    (b"0\r\n\n", "400 chunk;"),
+];
+
+// The text as a whole and byte by byte gives this.
+fn compare_feeds(rt: &impl Abort, alloc: Global, text: &[u8], wanted: &str) -> Result<(), Fail> {
+    let whole = all(alloc, text, text.len())?;
+    let bytewise = all(alloc, text, 1)?;
+    assert_eq!(rt; whole.as_str(), wanted);
+    assert_eq!(rt; bytewise.as_str(), wanted);
+    Ok(())
+}
+
+// Each of the texts between `front` and `back`.
+fn walk(
+    rt: &impl Abort,
+    alloc: Global,
+    front: &[u8],
+    rows: &[(&[u8], &str)],
+    back: &[u8],
+) -> Result<(), Fail> {
+    for (text, wanted) in rows {
+        let whole = repeated(alloc, front, text, 1, back)?;
+        compare_feeds(rt, alloc, whole.as_slice(), wanted)?;
+    }
+    Ok(())
+}
+
+const IN_CHUNKS: &[u8] = b"PUT / HTTP/1.1\r\nHost: a\r\nTransfer-Encoding: chunked\r\n\r\n";
+
+#[test]
+fn hostile_heads(rt: HostRuntime) -> Result<(), Fail> {
+    walk(
+        &rt,
+        rt.alloc(),
+        b"GET / HTTP/1.1\r\nHost: a\r\n",
+        &CODINGS,
+        b"\r\n\r\n0\r\n\r\n",
+    )
+}
+
+#[test]
+fn hostile_bodies(rt: HostRuntime) -> Result<(), Fail> {
+    walk(&rt, rt.alloc(), IN_CHUNKS, &BODIES, b"")
+}
+
+// Bodies behind a head, as a unit so many times and what follows it, and what the text begins with.
+const LONG_BODIES: [(&[u8], usize, &[u8], &str); 9] = [
+    (
+        b"1\r\nx\r\n",
+        262_143,
+        b"0\r\n\r\n",
+        "PUT / 2 1572918 262143",
+    ),
+    (
+        b"1\r\nx\r\n",
+        262_143,
+        b"00\r\n\r\n",
+        "PUT / 2 1572919 262143",
+    ),
+    (b"1\r\nx\r\n", 262_143, b"000\r\n\r\n", "413 "),
+    (b"1\r\nx\r\n", 262_144, b"", "wait"),
+    (b"1\r\nx\r\n", 262_144, b"0", "413 "),
+    (b"1\r\nx\r\n", 262_144, b"g", "400 chunk"),
+    (b"80000\r\n", 1, b"", "wait"),
+    (b"1\r\nx\r\n", 100, b"fff9c\r\n", "wait"),
+    (b"1\r\nx\r\n", 100, b"fff9d\r\n", "413 "),
+];
+
+#[test]
+fn limits_of_chunks(rt: HostRuntime) -> Result<(), Fail> {
+    let alloc = rt.alloc();
+    for (unit, count, back, wanted) in LONG_BODIES {
+        let text = repeated(alloc, IN_CHUNKS, unit, count, back)?;
+        expect(&rt, alloc, text.as_slice(), wanted)?;
+    }
+    let front = repeated(alloc, IN_CHUNKS, b"100000\r\n", 1, b"")?;
+    let text = repeated(alloc, front.as_slice(), b"x", 1_048_576, b"\r\n0\r\n\r\n")?;
+    expect(&rt, alloc, text.as_slice(), "PUT / 2 1048646 1048576")
+}
+
+fn compare_body(rt: &impl Abort, item: &Option<Result<HttpRequest, HttpFault>>, wanted: &[u8]) {
+    match item {
+        Some(Ok(request)) => assert_eq!(rt; request.body.as_slice(), wanted),
+        _ => assert!(rt; false),
+    }
+}
+
+#[test]
+fn chunks_are_joined(rt: HostRuntime) -> Result<(), Fail> {
+    let mut inbox = Inbox::new(rt.alloc());
+    inbox.feed(IN_CHUNKS)?;
+    inbox.feed(b"1\r\na\r\n2\r\nbc\r\n0\r\n\r\nGET")?;
+    let item = inbox.next()?;
+    compare_body(&rt, &item, b"abc");
     Ok(())
 }
 

@@ -1,6 +1,7 @@
 use Rattle.std.proofs.Common.{sym, ap, ◌∙◌}
+use Rattle.kapi_http.specs.Cut.{Finding}
 use Rattle.kapi_http.specs.Inbox.{decision_of}
-use Rattle.kapi_http.proofs.Settling.{read_to, ended_has_lines, settled_ended, settled_long, settled_short, read_all}
+use Rattle.kapi_http.proofs.Settling.{read_to, ended_decision, ended_has_lines, settled_long, settled_short, read_all}
 use Rattle.kapi_http.proofs.item.advance.Goals as goal
 
 pub decide-decision-requires-clause-lines : goal.decide-decision-requires-clause-lines
@@ -11,19 +12,19 @@ decide-decision-requires-clause-lines c =
 pub returns-then-has_ended-clause-decided : goal.returns-then-has_ended-clause-decided
 returns-then-has_ended-clause-decided c =
     let read = read_to _ _ _ _ c.requires.read c.requires.within c.requires.limit c.min-end.ensures c.scan_on-scan.ensures.exact in
-    c.decide-decision.ensures ∙ ap decision_of (sym (settled_ended _ _ read (sym c.has_ended.ensures ∙ c.if-has_ended.true)))
+    c.decide-decision.ensures ∙ ended_decision _ _ read (sym c.has_ended.ensures ∙ c.if-has_ended.true)
 
 pub returns-then-kept-ge-HEAD_LIMIT-clause-decided :
     goal.returns-then-kept-ge-HEAD_LIMIT-clause-decided
 returns-then-kept-ge-HEAD_LIMIT-clause-decided c =
     let read = read_to _ _ _ _ c.requires.read c.requires.within c.requires.limit c.min-end.ensures c.scan_on-scan.ensures.exact in
-    ap decision_of (sym (settled_long _ _ read (sym c.has_ended.ensures ∙ c.if-has_ended.false) c.if-kept-ge-HEAD_LIMIT.true))
+    ap (λ (f : Finding). decision_of f c.args.kept.now) (sym (settled_long _ _ read (sym c.has_ended.ensures ∙ c.if-has_ended.false) c.if-kept-ge-HEAD_LIMIT.true))
 
 pub returns-else-kept-ge-HEAD_LIMIT-clause-decided :
     goal.returns-else-kept-ge-HEAD_LIMIT-clause-decided
 returns-else-kept-ge-HEAD_LIMIT-clause-decided c =
     let read = read_to _ _ _ _ c.requires.read c.requires.within c.requires.limit c.min-end.ensures c.scan_on-scan.ensures.exact in
-    ap decision_of (sym (settled_short _ _ read (sym c.has_ended.ensures ∙ c.if-has_ended.false) c.if-kept-ge-HEAD_LIMIT.false))
+    ap (λ (f : Finding). decision_of f c.args.kept.now) (sym (settled_short _ _ read (sym c.has_ended.ensures ∙ c.if-has_ended.false) c.if-kept-ge-HEAD_LIMIT.false))
 
 pub returns-else-kept-ge-HEAD_LIMIT-clause-read : goal.returns-else-kept-ge-HEAD_LIMIT-clause-read
 returns-else-kept-ge-HEAD_LIMIT-clause-read c e =
