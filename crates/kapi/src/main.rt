@@ -7,7 +7,7 @@ mod program;
 mod tests;
 
 use command_line::command;
-use kapi_policy::PlainPolicy;
+use kapi_index::IndexedPolicy;
 use kapi_script::script_run;
 use program::{Command, CommandFault};
 use std::env::{self, Env};
@@ -38,7 +38,7 @@ fn run_script<R: Input + Print + Eprint + AllocGlobal>(rt: &R) -> io::Result<Exi
     let mut writer = BufWriter::new(rt.alloc(), io::writer(rt))?;
     match script_run(
         rt.alloc(),
-        PlainPolicy::new(rt.alloc()),
+        IndexedPolicy::new(rt.alloc()),
         &mut reader,
         &mut writer,
     ) {

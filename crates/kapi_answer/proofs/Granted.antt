@@ -14,6 +14,9 @@ use Rattle.kapi_rbac_types.specs.declared.identity.Identity.{Identity}
 use Rattle.kapi_reply.specs.Refusals.{Asked}
 use Rattle.kapi_reply.specs.declared.refusal.Refused.{Refused}
 use Rattle.kapi_request_info.specs.Attributes.{info}
+use Rattle.kapi_reviews.specs.Reviews.{reviewed}
+use Rattle.kapi_reviews.specs.declared.kind.ReviewKind.{ReviewKind}
+use Rattle.kapi_names.specs.declared.row.ResourceRow.{ResourceRow}
 use Rattle.kapi_request_info.specs.Faults.{TargetFault}
 use Rattle.kapi_request_info.specs.declared.attributes.Attributes.{Attributes}
 use Rattle.kapi_route.specs.Headers.{unimpersonated, media_typed}
@@ -31,13 +34,14 @@ use Rattle.kapi_stored_policy.proofs.Sound.{either_holds, then_holds}
 use Rattle.kapi_stored_policy.specs.Kind.{policy_kind}
 use Rattle.kapi_escalation.proofs.Granted.{deletion_is_granted, passed_is_granted, stamped_is_granted}
 use Rattle.kapi_escalation.specs.Granted.{AreGranted, IsDeletion, IsGrantedAt}
-use Rattle.kapi_answer.specs.Answer.{Plan, Task, answer, answer_asked, answer_by, asked_by, carried_out, checked, create, delete, deletes, escalation_checked, planned, planned_at, planned_for, planned_on, replace, task, tell, tells, to_be_created, to_be_replaced, told_well}
+use Rattle.kapi_answer.specs.Answer.{Plan, Task, answer, answer_asked, answer_by, asked_by, carried_out, checked, create, delete, deletes, escalation_checked, planned, planned_at, planned_creation, planned_for, planned_on, replace, task, tell, tells, to_be_created, to_be_replaced, told_well}
 use Rattle.kapi_answer.specs.Authorization.{authorized}
 use Rattle.kapi_answer.specs.Collection.{listed, to_delete_all}
-use Rattle.kapi_answer.specs.Create.{created, creates, stored, to_create}
+use Rattle.kapi_answer.specs.Create.{Admitted, admitted, created, creates, housed, stored, to_create, valid}
 use Rattle.kapi_answer.specs.Delete.{removed, removes, to_delete}
 use Rattle.kapi_answer.specs.Get.{found, found_if}
 use Rattle.kapi_answer.specs.Outcome.{Outcome}
+use Rattle.kapi_answer.specs.Review.{in_review_namespace, review_kind, to_answer, to_review}
 use Rattle.kapi_answer.specs.Update.{replaces, to_patch, to_update, told_after}
 
 -- what holds behind a check that passed, of what that check gave
@@ -135,6 +139,28 @@ replaced_granted s t new =
     then_keeps (escalation_checked s t new) (λ u. Ok (replace new)) (IsGrantedFor t)
     (passed_is_granted t.objects t.identity t.key.name new.0 (lookup (is_key new.0) s.objects) new.1) (λ u granted. granted)
 
+-- the answer to a review changes nothing
+answer_tells : (objects : PolicyObjects) (identity : Identity) (kind : ReviewKind) (row : ResourceRow) (namespace : List ℕ) (body : Admitted)
+    → IfOk (to_answer objects identity kind row namespace body) (λ outcome. outcome.changes ≡ [])
+unfolding to_answer
+answer_tells objects identity kind row namespace body =
+    then_holds (in_review_namespace row namespace body.given.namespace) _ (λ outcome. outcome.changes ≡ [])
+    (λ same. then_holds (valid [] body.object) _ (λ outcome. outcome.changes ≡ [])
+    (λ tree. then_holds (valid [] (reviewed objects identity kind (housed row namespace tree))) _ (λ outcome. outcome.changes ≡ []) (λ answer. refl)))
+
+review_tells : (objects : PolicyObjects) (identity : Identity) (kind : ReviewKind) (row : ResourceRow) (namespace bytes : List ℕ)
+    → IfOk (to_review objects identity kind row namespace bytes) (λ outcome. outcome.changes ≡ [])
+unfolding to_review
+review_tells objects identity kind row namespace bytes =
+    then_holds (admitted row bytes) _ (λ outcome. outcome.changes ≡ []) (answer_tells objects identity kind row namespace)
+
+planned_creation_granted : (kind : Option ReviewKind) (s : Plain) (t : Task) → IfOk (planned_creation kind s t) (IsGrantedFor t)
+unfolding planned_creation
+planned_creation_granted None s t = then_holds (to_create s t.row t.key.namespace t.body) (to_be_created s t) (IsGrantedFor t) (created_granted s t)
+planned_creation_granted (Some kind) s t =
+    then_keeps (to_review t.objects t.identity kind t.row t.key.namespace t.body) tells (IsGrantedFor t)
+    (review_tells t.objects t.identity kind t.row t.key.namespace t.body) (λ outcome nothing. nothing)
+
 found_tells : (t : Task) (o : Option Data) → IfOk (found_if o >>= tells) (IsGrantedFor t)
 found_tells t None = tt
 found_tells t (Some tree) = refl
@@ -144,7 +170,7 @@ unfolding planned_on found listed
 planned_on_granted action.Get s t = found_tells t (lookup (is_key t.key) s.objects)
 planned_on_granted action.List s t = refl
 planned_on_granted action.Watch s t = tt
-planned_on_granted action.Create s t = then_holds (to_create s t.row t.key.namespace t.body) (to_be_created s t) (IsGrantedFor t) (created_granted s t)
+planned_on_granted action.Create s t = planned_creation_granted (review_kind t.row) s t
 planned_on_granted (action.Update of) s t = then_holds (to_update s t.row of t.key t.body) (to_be_replaced s t) (IsGrantedFor t) (replaced_granted s t)
 planned_on_granted (action.Patch of) s t = then_holds (to_patch s t.row of t.key t.body) (to_be_replaced s t) (IsGrantedFor t) (replaced_granted s t)
 planned_on_granted action.Delete s t = then_holds (to_delete s t.key t.body) deletes (IsGrantedFor t) (λ deletion. tt)

@@ -1,5 +1,5 @@
 -- The answer to a request: what is sent, and the changes that are made.
-use Rattle.std.specs.Prelude.{ℕ, Bool, List, [], Result, Ok, Err}
+use Rattle.std.specs.Prelude.{ℕ, Bool, List, [], Option, Some, None, Result, Ok, Err}
 use Rattle.std.specs.Map.{lookup}
 use Rattle.serde_json.specs.Data.{Data}
 use Rattle.kapi_text.specs.Gives.{◌>>=◌}
@@ -18,6 +18,7 @@ use Rattle.kapi_reply.specs.declared.refusal.BadWord.{BadWord}
 use Rattle.kapi_reply.specs.declared.refusal.BadWord.TheVariants as word
 use Rattle.kapi_reply.specs.declared.refusal.Refused.{Refused}
 use Rattle.kapi_reply.specs.declared.reply.WrittenReply.{WrittenReply}
+use Rattle.kapi_reviews.specs.declared.kind.ReviewKind.{ReviewKind}
 use Rattle.kapi_route.specs.Headers.{unimpersonated, media_typed}
 use Rattle.kapi_route.specs.Query.{bad_option, queried}
 use Rattle.kapi_route.specs.Route.{ResourceRouted, Routed, health, resource, routed}
@@ -33,6 +34,7 @@ use Rattle.kapi_answer.specs.Create.{creates, key_of, to_create}
 use Rattle.kapi_answer.specs.Delete.{Deletion, removes, to_delete}
 use Rattle.kapi_answer.specs.Get.{found}
 use Rattle.kapi_answer.specs.Outcome.{Outcome, well}
+use Rattle.kapi_answer.specs.Review.{review_kind, to_review}
 use Rattle.kapi_answer.specs.Update.{replaces, to_patch, to_update}
 
 -- what a request that passes all checks but the store's is told, or what it is to change: a new object at its place, an object in
@@ -87,12 +89,17 @@ to_be_replaced s t new = do
 abbrev pub deletes : Deletion → Result Plan Refused
 deletes deletion = Ok (delete deletion)
 
+-- a review is answered, and each other object is created
+unfoldable pub planned_creation : Option ReviewKind → Plain → Task → Result Plan Refused
+planned_creation (Some kind) s t = to_review t.objects t.identity kind t.row t.key.namespace t.body >>= tells
+planned_creation None s t = to_create s t.row t.key.namespace t.body >>= to_be_created s t
+
 -- what is to be done on a route of a resource; watches are not served yet
 unfoldable pub planned_on : Action → Plain → Task → Result Plan Refused
 planned_on action.Get s t = found s t.key >>= tells
 planned_on action.List s t = tells (listed s t.row t.key.namespace t.filter)
 planned_on action.Watch s t = Err bad_option
-planned_on action.Create s t = to_create s t.row t.key.namespace t.body >>= to_be_created s t
+planned_on action.Create s t = planned_creation (review_kind t.row) s t
 planned_on (action.Update of) s t = to_update s t.row of t.key t.body >>= to_be_replaced s t
 planned_on (action.Patch of) s t = to_patch s t.row of t.key t.body >>= to_be_replaced s t
 planned_on action.Delete s t = to_delete s t.key t.body >>= deletes

@@ -5,6 +5,7 @@ pub mod Create
 pub mod Delete
 pub mod Update
 pub mod Collection
+pub mod Review
 pub mod Answer
 pub mod Outcomes
 pub mod Load

@@ -1,5 +1,5 @@
 -- Loading of the objects that a server begins with: each is created by nobody, at the place that it names itself.
-use Rattle.std.specs.Prelude.{◌==◌, Bool, true, false, ◌&&◌, if◌then◌else◌, ℕ, List, [], length, codes, Option, Some, None, Result, Ok, Err, ok_or}
+use Rattle.std.specs.Prelude.{◌==◌, Bool, true, false, not, ◌&&◌, is_some, if◌then◌else◌, ℕ, List, [], length, codes, Option, Some, None, Result, Ok, Err, ok_or}
 use Rattle.std.specs.List.{find}
 use Rattle.std.specs.Str.{bytes_eq}
 use Rattle.serde_json.specs.Data.{Data, string}
@@ -18,6 +18,7 @@ use Rattle.kapi_store.specs.Faults.{StoreFault}
 use Rattle.kapi_store.specs.Plain.{Plain, PlainChange, creation_in_place}
 use Rattle.kapi_store.specs.declared.key.Key.{Key}
 use Rattle.kapi_answer.specs.Create.{admitted_from, to_place}
+use Rattle.kapi_answer.specs.Review.{review_kind}
 use Rattle.kapi_answer.specs.declared.loading.LoadError.{LoadError}
 use Rattle.kapi_answer.specs.declared.loading.LoadError.TheVariants as error
 
@@ -43,6 +44,10 @@ is_text text (Some _) = false
 -- the tree gives the row's kind and version
 abbrev pub is_kind_of : Data → ResourceRow → Bool
 is_kind_of tree row = is_text row.kind (get (codes "kind") tree) && is_text (version_of row) (get (codes "apiVersion") tree)
+
+-- the same, of a row whose objects are kept, as reviews are not
+abbrev pub is_kept_kind : Data → ResourceRow → Bool
+is_kept_kind tree row = not (is_some (review_kind row)) && is_kind_of tree row
 
 -- the namespace of the place: on a row with namespaces a text that is not empty
 abbrev pub named_namespace : GivenText → Option (List ℕ)
@@ -73,7 +78,7 @@ to_create_tree s row namespace tree = admitted_from (read_as row (Some tree)) >>
 -- the place and the tree of the object that a tree is
 unfoldable pub to_load : Plain → Data → Result (Key × Data) LoadFault
 to_load s tree = do
-  row ← ok_or (find (is_kind_of tree) s.table) unknown_kind
+  row ← ok_or (find (is_kept_kind tree) s.table) unknown_kind
   namespace ← ok_or (namespace_in row (given_of tree).namespace) bad_object
   on_load (to_create_tree s row namespace tree)
 

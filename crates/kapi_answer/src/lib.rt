@@ -11,6 +11,7 @@ pub mod laws;
 pub mod loading;
 pub mod outcome;
 pub mod respond;
+mod review;
 pub mod task;
 mod update;
 

@@ -18,6 +18,7 @@ ghost use Rattle.kapi_reply.specs.Refusals.{refused_by};
 
 use crate::create::{admit, check_body};
 use crate::outcome::NewObject;
+use crate::review::review_kind;
 use kapi_admission::{ObjectError, read_tree};
 use kapi_names::ResourceRow;
 use kapi_object::GivenText;
@@ -146,11 +147,18 @@ fn error_for(why: &Refusal) -> LoadError
     }
 }
 
-/// The row of the kind and version that a tree gives.
+/// The row of the kind and version that a tree gives, but for reviews.
 fn find_row<'a>(table: &'a [ResourceRow], tree: &Value) -> Option<&'a ResourceRow>
-    ensures { option_copied result ≡ find (loading.is_kind_of (view tree.now)) table.now }
+    ensures { option_copied result ≡ find (loading.is_kept_kind (view tree.now)) table.now }
 {
-    table.iter().find(|row| is_kind_of(tree, row))
+    table.iter().find(|row| is_kept_kind(tree, row))
+}
+
+/// Reviews are not kept.
+fn is_kept_kind(tree: &Value, row: &ResourceRow) -> bool
+    ensures { result ≡ loading.is_kept_kind (view tree.now) row.now }
+{
+    !review_kind(row).is_some() && is_kind_of(tree, row)
 }
 
 fn is_kind_of(tree: &Value, row: &ResourceRow) -> bool

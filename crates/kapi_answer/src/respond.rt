@@ -7,7 +7,8 @@ ghost use Rattle.kapi_route.specs.Routes.{resource_data};
 ghost use Rattle.kapi_store.specs.Plain.{plain_of};
 ghost use Rattle.kapi_store.specs.State.{Same, Fits};
 ghost use Rattle.kapi_answer.specs.Answer as answers;
-ghost use Rattle.kapi_answer.specs.Answer.{answer_by, asked_by, checked, escalation_checked, planned, planned_for, planned_on, to_be_created, to_be_replaced};
+ghost use Rattle.kapi_answer.specs.Answer.{answer_by, asked_by, checked, escalation_checked, planned, planned_creation, planned_for, planned_on, to_be_created, to_be_replaced};
+ghost use Rattle.kapi_answer.specs.Review as reviews;
 ghost use Rattle.kapi_answer.specs.Outcomes.{ChangesNothing, IsReady, answered_data, new_data, outcome_data, plan_data, task_data};
 
 use crate::authorization::authorize;
@@ -17,6 +18,7 @@ use crate::delete::{check_delete, delete};
 use crate::get::find;
 use crate::health::tell_health;
 use crate::outcome::{NewObject, Outcome, Plan};
+use crate::review::{review_kind, tell_review};
 use crate::task::Task;
 use crate::update::{check_patch, check_update, replace};
 use kapi_escalation::check_escalation;
@@ -238,10 +240,7 @@ fn plan_on<P: Policy>(
         Action::Get => Ok(Plan::Tell(find(alloc, store, key)?)),
         Action::List => Ok(Plan::Tell(list(alloc, store, row, namespace, filter)?)),
         Action::Watch => Err(bad(BadWord::Option)),
-        Action::Create => {
-            let new = check_create(alloc, store, row, namespace, body)?;
-            plan_create(alloc, policy, store, task, new)
-        }
+        Action::Create => plan_creation(alloc, policy, store, task),
         Action::Update(part) => {
             let new = check_update(alloc, store, row, part, key, body)?;
             plan_replace(alloc, policy, store, task, new)
@@ -254,6 +253,28 @@ fn plan_on<P: Policy>(
         Action::DeleteCollection => {
             let all = check_delete_all(alloc, store, row, namespace, filter, body)?;
             Ok(Plan::Delete(all))
+        }
+    }
+}
+
+/// A review is answered, and each other object is created.
+#[tactic(auto, unfolding(crate::specs::Answer::planned_creation))]
+fn plan_creation<P: Policy>(
+    alloc: Global,
+    policy: &P,
+    store: &Store,
+    task: Task<'_>,
+) -> Result<Plan, CheckError>
+    ensures gives { Gives refused_by plan_data result (planned_creation (reviews.review_kind task.entry.row.now) (plain_of store.now) (task_data (P.content policy.now) task.entry)) }
+    ensures ready { IfOk result (IsReady (plain_of store.now)) }
+    ensures told { IfOk result ChangesNothing }
+{
+    match review_kind(task.row) {
+        Some(kind) => Ok(Plan::Tell(tell_review(alloc, policy, kind, task)?)),
+        None => {
+            let namespace = task.key.namespace.as_str();
+            let new = check_create(alloc, store, task.row, namespace, task.body)?;
+            plan_create(alloc, policy, store, task, new)
         }
     }
 }

@@ -80,7 +80,7 @@ alone table h =
     let second = both (has_row table roles_row) _ first.1 in
     let third = both (has_row table role_bindings_row) _ second.1 in
     let fourth = both (has_row table cluster_roles_row) _ third.1 in
-    let fifth = both (has_row table cluster_role_bindings_row) true fourth.1 in
+    let fifth = both (has_row table cluster_role_bindings_row) _ fourth.1 in
     record {
       namespaces = stands_alone namespaces_row table refl first.0 differ;
       cluster_roles = stands_alone cluster_roles_row table refl fourth.0 differ;

@@ -7,6 +7,7 @@ use Rattle.kapi_names.specs.Kinds.{rbac_group}
 use Rattle.kapi_names.specs.declared.row.ResourceRow.{ResourceRow}
 use Rattle.kapi_names.specs.declared.row.Schema.{Schema}
 use Rattle.kapi_names.specs.declared.row.Schema.TheVariants as schema
+use Rattle.kapi_route.specs.Route.{is_of_reviews}
 use Rattle.kapi_core.specs.declared.resource.Resource.{Resource}
 
 -- a resource as the row of a table: all are of version v1
@@ -46,9 +47,39 @@ cluster_roles_row = v1_row rbac_group (codes "clusterroles") (codes "ClusterRole
 abbrev pub cluster_role_bindings_row : ResourceRow
 cluster_role_bindings_row = v1_row rbac_group (codes "clusterrolebindings") (codes "ClusterRoleBinding") false false schema.ClusterRoleBinding
 
+-- the group of reviews
+abbrev pub reviews_group : List ℕ
+reviews_group = codes "authorization.k8s.io"
+
+-- the four kinds of reviews (Kubernetes API, authorization.k8s.io/v1)
+abbrev pub own_access_reviews_row : ResourceRow
+own_access_reviews_row = v1_row reviews_group (codes "selfsubjectaccessreviews") (codes "SelfSubjectAccessReview") false false schema.Open
+
+-- reviews of the access of others
+abbrev pub access_reviews_row : ResourceRow
+access_reviews_row = v1_row reviews_group (codes "subjectaccessreviews") (codes "SubjectAccessReview") false false schema.Open
+
+-- the same in a namespace
+abbrev pub local_access_reviews_row : ResourceRow
+local_access_reviews_row = v1_row reviews_group (codes "localsubjectaccessreviews") (codes "LocalSubjectAccessReview") true false schema.Open
+
+-- reviews of rules
+abbrev pub rules_reviews_row : ResourceRow
+rules_reviews_row = v1_row reviews_group (codes "selfsubjectrulesreviews") (codes "SelfSubjectRulesReview") false false schema.Open
+
 -- the rows that each table has
 unfoldable pub required_rows : List ResourceRow
-required_rows = namespaces_row ∷ roles_row ∷ role_bindings_row ∷ cluster_roles_row ∷ cluster_role_bindings_row ∷ []
+required_rows =
+    namespaces_row
+    ∷ roles_row
+    ∷ role_bindings_row
+    ∷ cluster_roles_row
+    ∷ cluster_role_bindings_row
+    ∷ own_access_reviews_row
+    ∷ access_reviews_row
+    ∷ local_access_reviews_row
+    ∷ rules_reviews_row
+    ∷ []
 
 -- the same schema
 abbrev pub is_schema : Schema → Schema → Bool
@@ -73,9 +104,13 @@ is_row a b =
 abbrev pub has_row : List ResourceRow → ResourceRow → Bool
 has_row table row = list_any (is_row row) table
 
--- a row of an open schema, or one of those that each table has
+-- a row of an open schema in another group than reviews
+abbrev pub is_further : ResourceRow → Bool
+is_further row = is_schema row.schema schema.Open && not (is_of_reviews row)
+
+-- such a row, or one of those that each table has
 abbrev pub is_known : ResourceRow → Bool
-is_known row = is_schema row.schema schema.Open || list_any (λ required. is_row required row) required_rows
+is_known row = is_further row || list_any (λ required. is_row required row) required_rows
 
 -- rows of one group that share the plural or the kind
 abbrev pub is_like : ResourceRow → ResourceRow → Bool

@@ -1,10 +1,14 @@
 ghost use Rattle.std.specs.Prelude.{◌≡◌, IfOk, map as map_of};
 ghost use Rattle.kapi_core.specs.Table.{required_rows, row_of};
 ghost use Rattle.kapi_core.specs.Table.{namespaces_row, roles_row, role_bindings_row, cluster_roles_row, cluster_role_bindings_row};
+ghost use Rattle.kapi_core.specs.Table.{access_reviews_row, local_access_reviews_row, own_access_reviews_row, rules_reviews_row};
 
 use kapi_names::{RBAC_GROUP, ResourceRow, Schema};
 use kapi_text::{Memory, Text};
 use std::alloc::Global;
+
+/// The group of reviews.
+const REVIEWS_GROUP: &str = "authorization.k8s.io";
 
 /// A resource of version v1, as `kubectl api-resources` lists it.
 #[derive(Clone, Copy)]
@@ -34,9 +38,9 @@ impl Resource {
     }
 }
 
-/// The resources that each table has: namespaces, and the four kinds of the policy.
+/// The resources that each table has: namespaces, the four kinds of the policy, and the four kinds of reviews.
 #[tactic(auto, unfolding(crate::specs::Table::required_rows))]
-pub fn required_resources() -> [Resource; 5]
+pub fn required_resources() -> [Resource; 9]
     ensures { map_of row_of result ≡ required_rows }
 {
     [
@@ -45,6 +49,10 @@ pub fn required_resources() -> [Resource; 5]
         role_bindings(),
         cluster_roles(),
         cluster_role_bindings(),
+        own_access_reviews(),
+        access_reviews(),
+        local_access_reviews(),
+        rules_reviews(),
     ]
 }
 
@@ -115,5 +123,61 @@ pub fn cluster_role_bindings() -> Resource
         namespaced: false,
         has_status: false,
         schema: Schema::ClusterRoleBinding,
+    }
+}
+
+/// Reviews of what whoever asks may do (Kubernetes API, authorization.k8s.io/v1), as the next three.
+fn own_access_reviews() -> Resource
+    ensures { row_of result ≡ own_access_reviews_row }
+{
+    Resource {
+        group: REVIEWS_GROUP,
+        plural: "selfsubjectaccessreviews",
+        kind: "SelfSubjectAccessReview",
+        namespaced: false,
+        has_status: false,
+        schema: Schema::Open,
+    }
+}
+
+/// Reviews of what others may do.
+fn access_reviews() -> Resource
+    ensures { row_of result ≡ access_reviews_row }
+{
+    Resource {
+        group: REVIEWS_GROUP,
+        plural: "subjectaccessreviews",
+        kind: "SubjectAccessReview",
+        namespaced: false,
+        has_status: false,
+        schema: Schema::Open,
+    }
+}
+
+/// The same in a namespace.
+fn local_access_reviews() -> Resource
+    ensures { row_of result ≡ local_access_reviews_row }
+{
+    Resource {
+        group: REVIEWS_GROUP,
+        plural: "localsubjectaccessreviews",
+        kind: "LocalSubjectAccessReview",
+        namespaced: true,
+        has_status: false,
+        schema: Schema::Open,
+    }
+}
+
+/// Reviews of the rules that whoever asks holds.
+fn rules_reviews() -> Resource
+    ensures { row_of result ≡ rules_reviews_row }
+{
+    Resource {
+        group: REVIEWS_GROUP,
+        plural: "selfsubjectrulesreviews",
+        kind: "SelfSubjectRulesReview",
+        namespaced: false,
+        has_status: false,
+        schema: Schema::Open,
     }
 }

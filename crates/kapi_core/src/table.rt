@@ -5,10 +5,11 @@ ghost use Rattle.kapi_core.specs.Table.{fits, required_rows, row_of};
 
 use crate::resource::{Resource, required_resources};
 use kapi_names::{ResourceRow, Schema};
+use kapi_route::is_of_reviews;
 
-/// Whether a table of resources can be served: it has the rows of `namespaces` and of the four kinds of the policy as
-/// Kubernetes has them, every further row is open, and no two rows share group and plural, or group and kind. Takes
-/// no memory.
+/// Whether a table of resources can be served: it has the rows of `namespaces`, of the four kinds of the policy and of the four
+/// kinds of reviews as Kubernetes has them, every further row is open and in another group than reviews, and no two rows share
+/// group and plural, or group and kind. Takes no memory.
 pub fn table_fits(table: &[ResourceRow]) -> bool
     ensures { result ≡ fits table.now }
 {
@@ -42,7 +43,14 @@ fn are_known(table: &[ResourceRow]) -> bool
 fn is_known(row: &ResourceRow) -> bool
     ensures { result ≡ tables.is_known row.now }
 {
-    is_schema(row.schema, Schema::Open) || is_required(row)
+    is_further(row) || is_required(row)
+}
+
+/// A row of an open schema in another group than reviews.
+fn is_further(row: &ResourceRow) -> bool
+    ensures { result ≡ tables.is_further row.now }
+{
+    is_schema(row.schema, Schema::Open) && !is_of_reviews(row)
 }
 
 fn is_required(row: &ResourceRow) -> bool

@@ -4,10 +4,11 @@ use Rattle.kapi_admission.proofs.OnLiterals.{admission_on_literals}
 use Rattle.kapi_http.proofs.OnLiterals.{http_on_literals}
 use Rattle.kapi_store.proofs.OnLiterals.{store_on_literals}
 use Rattle.kapi_request_info.proofs.OnLiterals.{info_on_literals}
-use Rattle.kapi_answer.specs.Answer.{answer, answer_asked, answer_by, checked, planned, planned_for, planned_on, told_well, to_be_created}
+use Rattle.kapi_answer.specs.Answer.{answer, answer_asked, answer_by, checked, planned, planned_creation, planned_for, planned_on, told_well, to_be_created}
 use Rattle.kapi_answer.specs.Authorization.{authorized}
 use Rattle.kapi_answer.specs.Create.{to_create, to_place, creates, refusal_of, valid, in_namespace, given_name, name_text, admitted_from}
 use Rattle.kapi_answer.specs.Get.{found}
+use Rattle.kapi_answer.specs.Review.{review_kind}
 use Rattle.kapi_escalation.specs.Escalation.{escalated, escalated_as}
 use Rattle.kapi_reply.specs.Refusals.{denied_text, failure_of, fault_failure, methods_at, not_found, subject_of}
 use Rattle.kapi_reply.specs.Replies.{fault_reply}
@@ -15,7 +16,7 @@ use Rattle.kapi_reply.specs.Status.{status_of, with_some_text, with_causes, with
 use Rattle.kapi_route.specs.Headers.{unimpersonated, media_typed, is_typed}
 use Rattle.kapi_request_info.specs.Query.{query_value}
 use Rattle.kapi_route.specs.Query.{asked, no_dry_run, queried, version_reached}
-use Rattle.kapi_route.specs.Route.{routed, on_row, action_at, collection_of, place_of, read_health}
+use Rattle.kapi_route.specs.Route.{routed, on_row, action_at, collection_of, place_of, place_on, read_health}
 use Rattle.kapi_policy.specs.Decided.{bindings_in, decided, given, granted, granted_by, rules_of}
 use Rattle.kapi_store.specs.Plain.{free_place, revisions_left}
 use Rattle.kapi_stored_policy.specs.Kind.{policy_kind}
@@ -29,8 +30,8 @@ use Rattle.kapi_core_tests.specs.Rows.{start, create_and_get, created_and_got, d
 -- what a proof unfolds to compute the machine's answers
 unfoldable pub machine_on_literals : ⊤
 unfolding admission_on_literals http_on_literals store_on_literals info_on_literals
-    answers step open_step feed_step serve_step serve_item after_serve rest_after answer answer_asked answer_by checked planned planned_for told_well planned_on to_be_created
-    unimpersonated authorized escalated escalated_as routed on_row place_of collection_of action_at read_health queried asked query_value no_dry_run version_reached media_typed is_typed
+    answers step open_step feed_step serve_step serve_item after_serve rest_after answer answer_asked answer_by checked planned planned_for told_well planned_on planned_creation review_kind to_be_created
+    unimpersonated authorized escalated escalated_as routed on_row place_on place_of collection_of action_at read_health queried asked query_value no_dry_run version_reached media_typed is_typed
     found to_create to_place creates refusal_of admitted_from given_name name_text in_namespace free_place revisions_left valid
     denied_text failure_of fault_failure methods_at not_found subject_of fault_reply
     status_of with_some_text with_causes with_subject with_some_object

@@ -2,8 +2,6 @@
 #![tactic(auto)]
 
 #[cfg(test)]
-mod attacks;
-#[cfg(test)]
 mod authorization;
 #[cfg(test)]
 mod client;
@@ -19,6 +17,8 @@ mod options;
 mod places;
 #[cfg(test)]
 mod requests;
+#[cfg(test)]
+mod reviews;
 pub mod rows;
 #[cfg(test)]
 mod tests;

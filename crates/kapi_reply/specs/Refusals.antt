@@ -85,6 +85,7 @@ methods_at place.Namespaces = method.Get ∷ method.Post ∷ []
 methods_at place.AllNamespaces = method.Get ∷ []
 methods_at place.Object = method.Get ∷ method.Put ∷ method.Patch ∷ method.Delete ∷ []
 methods_at place.Status = method.Get ∷ method.Put ∷ method.Patch ∷ []
+methods_at place.Reviews = method.Post ∷ []
 methods_at place.Health = method.Get ∷ []
 
 -- where a denial holds

@@ -17,6 +17,8 @@ pub enum Place {
     Object,
     /// The status of one object.
     Status,
+    /// Where reviews are made, which are answered and not kept.
+    Reviews,
     /// Whether the server is well.
     Health,
 }
@@ -137,6 +139,7 @@ impl Place {
             Place::AllNamespaces => &[Method::Get],
             Place::Object => &[Method::Get, Method::Put, Method::Patch, Method::Delete],
             Place::Status => &[Method::Get, Method::Put, Method::Patch],
+            Place::Reviews => &[Method::Post],
             Place::Health => &[Method::Get],
         }
     }

@@ -1,5 +1,6 @@
 -- The resource, the place and the action of a request (Kubernetes, 'Kubernetes API Concepts', resource URIs).
 use Rattle.std.specs.Prelude.{ℕ, ◌==◌, nat_le, Bool, not, ◌&&◌, ◌||◌, if◌then◌else◌, List, length, find, codes, Option, Some, None, Result, Ok, Err, ok_or}
+use Rattle.std.specs.Bool.{beq}
 use Rattle.std.specs.Str.{bytes_eq}
 use Rattle.kapi_http.specs.declared.message.Method.{Method}
 use Rattle.kapi_http.specs.declared.message.Method.TheVariants.{Get, Post, Put, Patch, Delete}
@@ -65,6 +66,18 @@ place_of row a p =
     else (if a.parts == 2 then Some place.Object
     else (if a.parts == 3 then subresource_of row p else None)))
 
+-- the row is one of reviews (Kubernetes API, authorization.k8s.io/v1)
+abbrev pub is_of_reviews : ResourceRow → Bool
+is_of_reviews row = bytes_eq row.group (codes "authorization.k8s.io")
+
+-- where reviews are made: in a namespace exactly where the row has namespaces; none has a name
+abbrev pub reviews_place : ResourceRow → Attributes → Option Place
+reviews_place row a = if a.parts == 1 && beq row.namespaced (not (length a.namespace == 0)) then Some place.Reviews else None
+
+-- what the path stands for on a row
+unfoldable pub place_on : ResourceRow → Attributes → ResourcePoint → Option Place
+place_on row a p = if is_of_reviews row then reviews_place row a else place_of row a p
+
 -- a collection is read at once or watched, as its verb says
 abbrev pub read_action : List ℕ → Action
 read_action verb = if bytes_eq verb (codes "watch") then action.Watch else action.List
@@ -76,6 +89,7 @@ action_at place.Collection verb Post = Ok action.Create
 action_at place.Collection verb Delete = Ok action.DeleteCollection
 action_at place.Namespaces verb Get = Ok (read_action verb)
 action_at place.Namespaces verb Post = Ok action.Create
+action_at place.Reviews verb Post = Ok action.Create
 action_at place.AllNamespaces verb Get = Ok (read_action verb)
 action_at place.Object verb Get = Ok action.Get
 action_at place.Object verb Put = Ok (action.Update part.Object)
@@ -89,7 +103,7 @@ action_at place _ _ = Err (asked_for (refusal.MethodNotAllowed place))
 -- the route on a row
 unfoldable pub on_row : ResourceRow → Method → Attributes → ResourcePoint → Result Routed Refused
 on_row row method a p = do
-  place ← ok_or (place_of row a p) (asked_for refusal.NoSuchResource)
+  place ← ok_or (place_on row a p) (asked_for refusal.NoSuchResource)
   action ← action_at place p.verb method
   Ok (resource (record { row = row; point = p; action = action }))
 

@@ -9,4 +9,4 @@ mod tests;
 
 pub use headers::{check_media_type, refuse_impersonation};
 pub use query::{Filter, check_query};
-pub use route::{Action, Part, ResourceRoute, Route, find_route};
+pub use route::{Action, Part, ResourceRoute, Route, find_route, is_of_reviews};

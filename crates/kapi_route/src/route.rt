@@ -121,11 +121,42 @@ fn route_on_row<'a>(
 ) -> Result<Route<'a>, Refused>
     ensures { Routes result (routes.on_row row.now method attributes.now point.now) }
 {
-    let Some(place) = place_of(row, attributes, point) else {
+    let Some(place) = place_on(row, attributes, point) else {
         return Err(Refused::asked_for(Refusal::NoSuchResource));
     };
     let action = action_at(place, point.verb.as_str(), method)?;
     Ok(Route::Resource(ResourceRoute { row, point, action }))
+}
+
+/// What the path stands for on a row.
+#[tactic(auto, unfolding(crate::specs::Route::place_on))]
+fn place_on(row: &ResourceRow, attributes: &Attributes, point: &ResourcePoint) -> Option<Place>
+    ensures { result ≡ routes.place_on row.now attributes.now point.now }
+{
+    if is_of_reviews(row) {
+        reviews_place(row, attributes)
+    } else {
+        place_of(row, attributes, point)
+    }
+}
+
+/// Whether the row is one of reviews (Kubernetes API, authorization.k8s.io/v1).
+pub fn is_of_reviews(row: &ResourceRow) -> bool
+    ensures { result ≡ routes.is_of_reviews row.now }
+{
+    row.group.as_str() == "authorization.k8s.io"
+}
+
+/// Reviews are made in a namespace exactly where the row has namespaces, and none has a name.
+fn reviews_place(row: &ResourceRow, attributes: &Attributes) -> Option<Place>
+    ensures { result ≡ routes.reviews_place row.now attributes.now }
+{
+    let in_namespace = !attributes.namespace.as_str().is_empty();
+    if attributes.parts == 1 && row.namespaced == in_namespace {
+        Some(Place::Reviews)
+    } else {
+        None
+    }
 }
 
 /// What the path stands for: one part is a collection, two are an object, three are its subresource.
@@ -205,7 +236,9 @@ fn action_at(place: Place, verb: &str, method: Method) -> Result<Action, Refused
         (Place::Collection | Place::Namespaces | Place::AllNamespaces, Method::Get) => {
             Ok(read_action(verb))
         }
-        (Place::Collection | Place::Namespaces, Method::Post) => Ok(Action::Create),
+        (Place::Collection | Place::Namespaces | Place::Reviews, Method::Post) => {
+            Ok(Action::Create)
+        }
         (Place::Collection, Method::Delete) => Ok(Action::DeleteCollection),
         (Place::Object | Place::Status, Method::Get) => Ok(Action::Get),
         (Place::Object, Method::Put) => Ok(Action::Update(Part::Object)),

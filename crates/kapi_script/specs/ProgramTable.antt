@@ -1,4 +1,4 @@
--- The resources that the programs serve (Kubernetes API, v1, apps/v1 and rbac.authorization.k8s.io/v1).
+-- The resources that the programs serve (Kubernetes API, v1, apps/v1, rbac.authorization.k8s.io/v1 and authorization.k8s.io/v1).
 use Rattle.std.specs.Prelude.{ℕ, Bool, true, false, List, [], ◌∷◌, ◌++◌, codes}
 use Rattle.kapi_names.specs.declared.row.ResourceRow.{ResourceRow}
 use Rattle.kapi_names.specs.declared.row.Schema.TheVariants as schema

@@ -2,6 +2,8 @@
 #![tactic(auto)]
 
 mod answer_text;
+#[cfg(test)]
+mod attacks;
 mod escape;
 pub mod laws;
 mod line;

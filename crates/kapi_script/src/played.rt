@@ -5,7 +5,7 @@ use std::alloc::Global;
 use std::test::Fail;
 
 /// Whether a script is answered so.
-fn plays(alloc: Global, script: &[u8], answers: &[u8]) -> Result<bool, Fail> {
+pub fn plays(alloc: Global, script: &[u8], answers: &[u8]) -> Result<bool, Fail> {
     let mut reader = script;
     let mut writer = Vec::new(alloc);
     script_run(alloc, PlainPolicy::new(alloc), &mut reader, &mut writer)?;
@@ -872,5 +872,90 @@ out HTTP/1.1 200 OK\r\nContent-Type: application/json\r\nContent-Length: 270\r\n
 #[test]
 fn takes_what_clients_send(rt: HostRuntime) -> Result<(), Fail> {
     assert!(rt; plays(rt.alloc(), HABITS, HABITS_ANSWERS)?);
+    Ok(())
+}
+
+/// Reviews of access, of rules and of the access of another user.
+const REVIEWS: &[u8] = br#"open root,system:masters
+open bob,system:authenticated
+feed 1 POST /apis/authorization.k8s.io/v1/selfsubjectaccessreviews HTTP/1.1\r\nHost: a\r\nContent-Length: 90\r\n\r\n{"spec":{"resourceAttributes":{"namespace":"default","verb":"get","resource":"pods/log"}}}
+serve 1
+feed 1 POST /apis/authorization.k8s.io/v1/selfsubjectaccessreviews HTTP/1.1\r\nHost: a\r\nContent-Length: 87\r\n\r\n{"spec":{"resourceAttributes":{"namespace":"default","verb":"get","resource":"a/b/c"}}}
+serve 1
+feed 1 POST /apis/authorization.k8s.io/v1/selfsubjectrulesreviews HTTP/1.1\r\nHost: a\r\nContent-Length: 32\r\n\r\n{"spec":{"namespace":"default"}}
+serve 1
+feed 0 POST /apis/authorization.k8s.io/v1/subjectaccessreviews HTTP/1.1\r\nHost: a\r\nContent-Length: 165\r\n\r\n{"spec":{"groups":["system:authenticated"],"resourceAttributes":{"group":"authorization.k8s.io","resource":"selfsubjectaccessreviews","verb":"create"},"user":"bob"}}
+serve 0
+"#;
+
+const REVIEWS_ANSWERS: &[u8] = br#"conn 0
+conn 1
+ok
+out HTTP/1.1 201 Created\r\nContent-Type: application/json\r\nContent-Length: 219\r\n\r\n{"apiVersion":"authorization.k8s.io/v1","kind":"SelfSubjectAccessReview","metadata":{},"spec":{"resourceAttributes":{"namespace":"default","resource":"pods","subresource":"log","verb":"get"}},"status":{"allowed":false}}
+ok
+out HTTP/1.1 422 Unprocessable Content\r\nContent-Type: application/json\r\nContent-Length: 331\r\n\r\n{"apiVersion":"v1","code":422,"details":{"causes":[{"field":"spec.resourceAttributes.resource","message":"bad value","reason":"FieldValueInvalid"}],"group":"authorization.k8s.io","kind":"selfsubjectaccessreviews"},"kind":"Status","message":"selfsubjectaccessreviews  is invalid","metadata":{},"reason":"Invalid","status":"Failure"}
+ok
+out HTTP/1.1 201 Created\r\nContent-Type: application/json\r\nContent-Length: 312\r\n\r\n{"apiVersion":"authorization.k8s.io/v1","kind":"SelfSubjectRulesReview","metadata":{},"spec":{"namespace":"default"},"status":{"incomplete":false,"nonResourceRules":[],"resourceRules":[{"apiGroups":["authorization.k8s.io"],"resources":["selfsubjectaccessreviews","selfsubjectrulesreviews"],"verbs":["create"]}]}}
+ok
+out HTTP/1.1 201 Created\r\nContent-Type: application/json\r\nContent-Length: 360\r\n\r\n{"apiVersion":"authorization.k8s.io/v1","kind":"SubjectAccessReview","metadata":{},"spec":{"groups":["system:authenticated"],"resourceAttributes":{"group":"authorization.k8s.io","resource":"selfsubjectaccessreviews","verb":"create"},"user":"bob"},"status":{"allowed":true,"reason":"ClusterRoleBinding system:basic-user, ClusterRole system:basic-user, rule 0"}}
+"#;
+
+#[test]
+fn answers_reviews(rt: HostRuntime) -> Result<(), Fail> {
+    assert!(rt; plays(rt.alloc(), REVIEWS, REVIEWS_ANSWERS)?);
+    Ok(())
+}
+
+/// A body in chunks.
+const CHUNKS: &[u8] = br#"open root,system:masters
+feed 0 POST /api/v1/namespaces/default/configmaps HTTP/1.1\r\nHost: a\r\nContent-Type: application/json\r\nTransfer-Encoding: chunked\r\n\r\n4f\r\n{"apiVersion":"v1","kind":"ConfigMap","metadata":{"name":"a"},"data":{"k":"v"}}\r\n0\r\n\r\n
+serve 0
+"#;
+
+const CHUNKS_ANSWERS: &[u8] = br#"conn 0
+ok
+out HTTP/1.1 201 Created\r\nContent-Type: application/json\r\nContent-Length: 168\r\n\r\n{"apiVersion":"v1","data":{"k":"v"},"kind":"ConfigMap","metadata":{"name":"a","namespace":"default","resourceVersion":"6","uid":"00000000-0000-4000-8000-000000000006"}}
+"#;
+
+#[test]
+fn reads_a_body_in_chunks(rt: HostRuntime) -> Result<(), Fail> {
+    assert!(rt; plays(rt.alloc(), CHUNKS, CHUNKS_ANSWERS)?);
+    Ok(())
+}
+
+/// An extension, a ninth digit, too large a size, and an empty body.
+const CHUNK_FAULTS: &[u8] = br#"open root,system:masters
+open root,system:masters
+feed 1 POST /api/v1/namespaces/default/configmaps HTTP/1.1\r\nHost: a\r\nContent-Type: application/json\r\nTransfer-Encoding: chunked\r\n\r\n4f;x=1
+serve 1
+open root,system:masters
+feed 2 POST /api/v1/namespaces/default/configmaps HTTP/1.1\r\nHost: a\r\nContent-Type: application/json\r\nTransfer-Encoding: chunked\r\n\r\n00000004f
+serve 2
+open root,system:masters
+feed 3 POST /api/v1/namespaces/default/configmaps HTTP/1.1\r\nHost: a\r\nContent-Type: application/json\r\nTransfer-Encoding: chunked\r\n\r\n100001\r\n
+serve 3
+open root,system:masters
+feed 4 POST /api/v1/namespaces/default/configmaps HTTP/1.1\r\nHost: a\r\nContent-Type: application/json\r\nTransfer-Encoding: chunked\r\n\r\n00000000\r\n\r\n
+serve 4
+"#;
+
+const CHUNK_FAULTS_ANSWERS: &[u8] = br#"conn 0
+conn 1
+ok
+last HTTP/1.1 400 Bad Request\r\nContent-Type: application/json\r\nContent-Length: 132\r\nConnection: close\r\n\r\n{"apiVersion":"v1","code":400,"kind":"Status","message":"bad request: chunk","metadata":{},"reason":"BadRequest","status":"Failure"}
+conn 2
+ok
+last HTTP/1.1 400 Bad Request\r\nContent-Type: application/json\r\nContent-Length: 132\r\nConnection: close\r\n\r\n{"apiVersion":"v1","code":400,"kind":"Status","message":"bad request: chunk","metadata":{},"reason":"BadRequest","status":"Failure"}
+conn 3
+ok
+last HTTP/1.1 413 Content Too Large\r\nContent-Type: application/json\r\nContent-Length: 146\r\nConnection: close\r\n\r\n{"apiVersion":"v1","code":413,"kind":"Status","message":"the body is too large","metadata":{},"reason":"RequestEntityTooLarge","status":"Failure"}
+conn 4
+ok
+out HTTP/1.1 400 Bad Request\r\nContent-Type: application/json\r\nContent-Length: 163\r\n\r\n{"apiVersion":"v1","code":400,"details":{"kind":"configmaps"},"kind":"Status","message":"bad request: json","metadata":{},"reason":"BadRequest","status":"Failure"}
+"#;
+
+#[test]
+fn refuses_chunks(rt: HostRuntime) -> Result<(), Fail> {
+    assert!(rt; plays(rt.alloc(), CHUNK_FAULTS, CHUNK_FAULTS_ANSWERS)?);
     Ok(())
 }

@@ -1,9 +1,10 @@
-ghost use Rattle.std.specs.Prelude.{◌≡◌, ◌+◌, ◌<◌, ◌≤◌, ◌++◌, [], ◌∷◌, List, ℕ, None, Some, Err, OnOk, IfOk, IfErr, IfSome, length, take};
+ghost use Rattle.std.specs.Prelude.{◌≡◌, ◌+◌, ◌<◌, ◌≤◌, ◌++◌, [], ◌∷◌, Bool, List, ℕ, None, Some, Err, OnOk, IfOk, IfErr, IfSome, length, take};
 ghost use Rattle.kapi_script.specs.declared.script.ScriptFault.TheVariants as Fault;
 ghost use Rattle.std.specs.Io.KnownBytes.{Appends, Consumes, IsAtEnd};
 ghost use Rattle.kapi_core.specs.Stands.{Keeps, Steps};
 ghost use Rattle.kapi_script.specs.Playing.{is_bad_play, Ends, Goes, Plays, ReachedBy, Reading, ReadsOn, played_text};
 ghost use Rattle.kapi_policy.specs.Objects.{no_objects};
+ghost use Rattle.kapi_script.specs.Gains.{NobodyGainsFrom};
 ghost use Rattle.kapi_script.specs.Scripts.{IsAnswered, lines};
 
 use crate::answer_text::write_answer;
@@ -206,6 +207,9 @@ fn end_script<P: Policy + Drop, W: Write>(
 /// Plays the events that a reader gives, line by line, on a machine that decides by the given policy, which is still empty, and writes
 /// the answers as they are made.
 ///
+/// Whatever stands before them in the script, and wherever memory runs out in it, nobody gains by the lines of it that follow what
+/// no actor held: where the aggregated cluster roles then have their unions, and all who act in these lines are harmless then.
+///
 /// # Errors
 /// `BadLine` at the first line of no known form; `Read` where the reader fails or gives 2^32 pieces or more;
 /// `Write` where the writer fails; `Memory` where memory runs out outside an event.
@@ -221,6 +225,8 @@ pub fn script_run<P: Policy + Drop, R: Read, W: Write>(
     ensures bad { (text before : List ℕ) (number : ℕ) → R.remaining reader.old ≡ Some text → W.contents writer.old ≡ Some before
         → result ≡ Err (Fault.BadLine number) → IsAnswered text before (W.contents writer.new) (Some number) }
     ensures whole { OnOk result (IsAtEnd (R.remaining reader.new)) }
+    ensures gains { (text : List ℕ) (refused : List Bool) (count : ℕ) → R.remaining reader.old ≡ Some text
+        → NobodyGainsFrom text refused count }
 {
     let mut core = Core::new(alloc, program_table(alloc)?, policy, 0)?;
     let mut script = Script {

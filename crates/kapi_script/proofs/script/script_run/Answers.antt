@@ -1,6 +1,10 @@
 use Rattle.std.proofs.Common.{subst}
+use Rattle.std.specs.Prelude.{Bool, List, ℕ, take}
+use Rattle.kapi_core.proofs.Gains.{between_gains}
 use Rattle.kapi_core.specs.Opening.{opening}
 use Rattle.kapi_core.specs.Stands.{Stands}
+use Rattle.kapi_script.specs.Gains.{NobodyGainsFrom, made, made_from}
+use Rattle.kapi_script.specs.ProgramTable.{program_rows}
 use Rattle.kapi_script.specs.Scripts.{lines}
 use Rattle.kapi_script.proofs.Bytes.{at_start}
 use Rattle.kapi_script.proofs.Ends.{played_to_end, stopped_at}
@@ -19,3 +23,20 @@ returns-clause-bad g c = λ text before number r w.
     (c.play_all.ensures.ends (lines text) text before r
     (at_start text before c.new-2.result.items c.in_ok-core.core _ c.new-2.ensures.items
     (subst (λ rows. Stands c.in_ok-core.core (opening rows 0)) c.in_ok-program_table.ensures.rows c.in_ok-core.ensures.stands) w))
+
+-- whatever stands in the text, and wherever memory runs out
+nobody_gains : (text : List ℕ) (refused : List Bool) (count : ℕ) → NobodyGainsFrom text refused count
+nobody_gains text refused count =
+    between_gains program_rows 0 (made (take count (lines text)) refused) (made_from text refused count)
+
+pub returns-clause-gains : goal.returns-clause-gains
+returns-clause-gains g c = λ text refused count r. nobody_gains text refused count
+
+pub returns-in_err-program_table-clause-gains : goal.returns-in_err-program_table-clause-gains
+returns-in_err-program_table-clause-gains g c = λ text refused count r. nobody_gains text refused count
+
+pub returns-in_err-core-clause-gains : goal.returns-in_err-core-clause-gains
+returns-in_err-core-clause-gains g c = λ text refused count r. nobody_gains text refused count
+
+pub returns-in_err-buffer-clause-gains : goal.returns-in_err-buffer-clause-gains
+returns-in_err-buffer-clause-gains g c = λ text refused count r. nobody_gains text refused count

@@ -1,0 +1,123 @@
+//! Reviews, which are answered and not kept.
+ghost use Rattle.std.specs.Prelude.{◌≡◌, [], None, IfOk};
+ghost use Rattle.kapi_text.specs.Gives.{Gives};
+ghost use Rattle.kapi_object.specs.Object.{tree_of};
+ghost use Rattle.kapi_reply.specs.Refusals.{refused_by};
+ghost use Rattle.kapi_reviews.specs.Reviews.{reviewed};
+ghost use Rattle.kapi_answer.specs.Create.{valid};
+ghost use Rattle.kapi_answer.specs.Outcomes.{admitted_data, outcome_data};
+ghost use Rattle.kapi_answer.specs.Review as reviews;
+ghost use Rattle.kapi_answer.specs.Review.{in_review_namespace, to_answer, to_review};
+
+use crate::create::{Admitted, check_namespace, check_validity, house, read_body, refused};
+use crate::outcome::Outcome;
+use crate::task::Task;
+use kapi_http::StatusCode;
+use kapi_names::ResourceRow;
+use kapi_object::{GivenText, Object};
+use kapi_policy::Policy;
+use kapi_rbac_types::Identity;
+use kapi_reply::{CheckError, Content, Refusal};
+use kapi_reviews::{ReviewError, ReviewKind, review};
+use kapi_route::is_of_reviews;
+use kapi_text::Text;
+use std::alloc::Global;
+
+/// Which reviews are made on a row, if any.
+#[tactic(auto, unfolding(crate::specs::Review::review_kind))]
+pub fn review_kind(row: &ResourceRow) -> Option<ReviewKind>
+    ensures { result ≡ reviews.review_kind row.now }
+{
+    if is_of_reviews(row) {
+        ReviewKind::read(row.kind.as_str())
+    } else {
+        None
+    }
+}
+
+/// The answer to a review, from its body on. Nothing is changed.
+#[tactic(auto, unfolding(crate::specs::Review::to_review))]
+pub fn tell_review<P: Policy>(
+    alloc: Global,
+    policy: &P,
+    kind: ReviewKind,
+    task: Task<'_>,
+) -> Result<Outcome, CheckError>
+    ensures gives { Gives refused_by outcome_data result (to_review (P.content policy.now) task.entry.identity.now kind task.entry.row.now task.entry.key.now.namespace task.entry.body.now) }
+    ensures told { IfOk result (λ o. o.write ≡ None) }
+{
+    let body = read_body(alloc, task.row, task.body)?;
+    let namespace = task.key.namespace.as_str();
+    answer_body(
+        alloc,
+        policy,
+        task.identity,
+        kind,
+        task.row,
+        namespace,
+        body,
+    )
+}
+
+/// The answer to the review that a body was read as: its namespace, its validity, what it asks.
+#[tactic(auto, unfolding(crate::specs::Review::to_answer))]
+fn answer_body<P: Policy>(
+    alloc: Global,
+    policy: &P,
+    identity: &Identity,
+    kind: ReviewKind,
+    row: &ResourceRow,
+    namespace: &str,
+    body: Admitted,
+) -> Result<Outcome, CheckError>
+    ensures gives { Gives refused_by outcome_data result (to_answer (P.content policy.now) identity.now kind row.now namespace.now (admitted_data body)) }
+    ensures told { IfOk result (λ o. o.write ≡ None) }
+{
+    check_review_namespace(alloc, row, namespace, &body.given.namespace)?;
+    let object = check_validity(alloc, &Text::copy_of(alloc, "")?, body.object)?;
+    let object = house(alloc, row, namespace, object)?;
+    let answer = answer_valid(alloc, policy, identity, kind, &object)?;
+    Ok(Outcome {
+        code: StatusCode::Created,
+        content: Content::Json,
+        body: answer.render(alloc)?,
+        write: None,
+    })
+}
+
+/// Where reviews live in namespaces, the body gives no other than the path's.
+#[tactic(auto, unfolding(crate::specs::Review::in_review_namespace))]
+fn check_review_namespace(
+    alloc: Global,
+    row: &ResourceRow,
+    namespace: &str,
+    given: &GivenText,
+) -> Result<(), CheckError>
+    ensures { Gives refused_by (λ u. u) result (in_review_namespace row.now namespace.now given.now) }
+{
+    if row.namespaced {
+        check_namespace(alloc, namespace, &Text::copy_of(alloc, "")?, given)
+    } else {
+        Ok(())
+    }
+}
+
+/// The answer to a review of its row's kind, or its faults.
+#[tactic(auto, unfolding(crate::specs::Create::valid))]
+fn answer_valid<P: Policy>(
+    alloc: Global,
+    policy: &P,
+    identity: &Identity,
+    kind: ReviewKind,
+    object: &Object,
+) -> Result<Object, CheckError>
+    ensures { Gives refused_by tree_of result (valid [] (reviewed (P.content policy.now) identity.now kind (tree_of object.now))) }
+{
+    match review(alloc, policy, identity, kind, object) {
+        Ok(answer) => Ok(answer),
+        Err(ReviewError::Invalid(faults)) => {
+            Err(refused(Text::copy_of(alloc, "")?, Refusal::Invalid(faults)))
+        }
+        Err(ReviewError::Memory) => Err(CheckError::Memory),
+    }
+}
