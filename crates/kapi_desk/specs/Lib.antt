@@ -1,0 +1,4 @@
+pub mod Steps
+pub mod Rule
+pub mod Boards
+pub mod Laws
