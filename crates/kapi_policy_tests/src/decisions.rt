@@ -597,21 +597,28 @@ fn assert_decides<P: Policy>(rt: &impl Abort, alloc: Global, policy: &P) -> Resu
     Ok(())
 }
 
-/// A copy answers as before, whatever becomes of its source.
+/// A copy of the policy, whose source then loses a role.
+fn copied_plain(alloc: Global) -> Result<PlainPolicy, AllocError> {
+    let mut source = PlainPolicy::new(alloc);
+    fill(alloc, &mut source)?;
+    let copied = source.copy()?;
+    source.apply(&change(alloc, "delete ClusterRole view")?)?;
+    Ok(copied)
+}
+
+fn copied_indexed(alloc: Global) -> Result<IndexedPolicy, AllocError> {
+    let mut source = IndexedPolicy::new(alloc);
+    fill(alloc, &mut source)?;
+    let copied = source.copy()?;
+    source.apply(&change(alloc, "delete ClusterRole view")?)?;
+    Ok(copied)
+}
+
 #[test]
 fn questions_are_decided(rt: HostRuntime) -> Result<(), Fail> {
     let alloc = rt.alloc();
-    let change = change(alloc, "delete ClusterRole view")?;
-    let mut plain = PlainPolicy::new(alloc);
-    fill(alloc, &mut plain)?;
-    let copied = plain.copy()?;
-    plain.apply(&change)?;
-    assert_decides(&rt, rt.alloc(), &copied)?;
-    let mut indexed = IndexedPolicy::new(alloc);
-    fill(alloc, &mut indexed)?;
-    let copied = indexed.copy()?;
-    indexed.apply(&change)?;
-    assert_decides(&rt, rt.alloc(), &copied)
+    assert_decides(&rt, alloc, &copied_plain(alloc)?)?;
+    assert_decides(&rt, alloc, &copied_indexed(alloc)?)
 }
 
 fn assert_follows<P: Policy>(rt: &impl Abort, alloc: Global, policy: &mut P) -> Result<(), Fail> {
