@@ -3,12 +3,14 @@
 # make kapi      proves and builds the program, and says where it lies
 # make growths   plays each script of the folder SCRIPTS once for every growth of memory, with that growth refused (wants cc and python3)
 # make statuses  the program's exit statuses, and what it writes on standard error
+# make edits     tries the edits of crates/NAME/edits, which the gate does not, of all crates or of those that CRATES names; takes hours for all
+# make audit-demo  answers a stored file of questions by a stored policy; it proves nothing
 # make bench     proves and builds the benchmarks, runs each and prints its figures; takes a while
 
 SCRIPTS ?= scripts
 PROGRAM = crates/kapi/out/kapi
 
-.PHONY: demo test kapi growths statuses bench
+.PHONY: audit-demo demo test kapi edits growths statuses bench
 
 demo:
 	@answers=$$(mktemp) && (cd crates/kapi && rt try -- script < ../../scripts/demo.txt) > $$answers && python3 tools/transcript.py scripts/demo.txt $$answers; status=$$?; rm -f $$answers; exit $$status
@@ -20,12 +22,18 @@ kapi:
 	@cd crates/kapi && rt run -- script < stdin > /dev/null
 	@ls -l $(PROGRAM)
 
+edits:
+	@sh tools/edits.sh $(CRATES)
+
 growths: kapi
 	@cc -shared -fPIC -O2 -o crates/kapi/out/refuse.so tools/refuse.c -ldl
 	@python3 tools/growths.py $(PROGRAM) crates/kapi/out/refuse.so $(SCRIPTS)
 
 statuses: kapi
 	@sh tools/statuses.sh $(PROGRAM)
+
+audit-demo:
+	@cd crates/kapi && rt try --data policy.jsonl=../../scripts/audit/policy.jsonl --data questions.jsonl=../../scripts/audit/questions.jsonl -- audit policy.jsonl questions.jsonl
 
 bench:
 	@sh tools/bench.sh

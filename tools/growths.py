@@ -5,102 +5,104 @@ usage: growths.py PROGRAM REFUSE.SO FOLDER
 
 A refused growth may end the program with a message before its first event or between two events; else the event's answer is
 `error Memory`, the same line once more gets the undisturbed answer, and so do all lines after it. Whatever differs is printed,
-and the exit status is then 1.
+and the exit status is then 1. The runs are shared by the processors.
 """
+import functools
+import multiprocessing
 import os
 import pathlib
 import subprocess
 import sys
 import tempfile
 
+REFUSED = b"error Memory\n"
+
 
 def tells_of_memory(message):
-    return "memory" in message or "OutOfMemory" in message
+    return b"memory" in message or b"OutOfMemory" in message
 
 
 def is_event(line):
-    return line not in ("", "\n") and not line.startswith("#")
+    return line != b"\n" and not line.startswith(b"#")
 
 
-class Program:
-    def __init__(self, program, shim, refuse, count):
-        environment = {"LD_PRELOAD": shim, "REFUSE": str(refuse), "COUNT": count}
-        self.process = subprocess.Popen(
-            [program, "script"], env=environment, stdin=subprocess.PIPE, stdout=subprocess.PIPE, stderr=subprocess.PIPE
-        )
-
-    def ask(self, line):
-        """The answer to one line; empty where the program has ended."""
-        try:
-            self.process.stdin.write(line.encode("utf-8", "surrogateescape"))
-            self.process.stdin.flush()
-        except BrokenPipeError:
-            return ""
-        return self.process.stdout.readline().decode("utf-8", "surrogateescape")
-
-    def end(self):
-        """The exit status and what stood on standard error."""
-        out, error = self.process.communicate()
-        return self.process.returncode, out.decode("utf-8", "surrogateescape") + error.decode("utf-8", "surrogateescape")
+def events_of(path):
+    lines = [line if line.endswith(b"\n") else line + b"\n" for line in path.read_bytes().splitlines(keepends=True)]
+    return [line for line in lines if is_event(line)]
 
 
-def lines_of(path):
-    text = path.read_bytes().decode("utf-8", "surrogateescape")
-    return [line if line.endswith("\n") else line + "\n" for line in text.splitlines(keepends=True)]
+def run(program, shim, events, refuse, count="/dev/null"):
+    """The exit status, the answers, and what stood on standard error."""
+    environment = {"LD_PRELOAD": shim, "REFUSE": str(refuse), "COUNT": count}
+    ended = subprocess.run([program, "script"], env=environment, input=b"".join(events), capture_output=True)
+    return ended.returncode, ended.stdout.splitlines(keepends=True), ended.stderr
 
 
-def undisturbed(program, shim, lines):
+def undisturbed(program, shim, events):
+    """The answers, the number of growths, and the bytes of the largest."""
     with tempfile.NamedTemporaryFile() as count:
-        run = Program(program, shim, 0, count.name)
-        answers = [run.ask(line) if is_event(line) else None for line in lines]
-        run.end()
-        return answers, int(pathlib.Path(count.name).read_text())
+        _status, answers, _error = run(program, shim, events, 0, count.name)
+        growths, largest = pathlib.Path(count.name).read_text().split()
+        return answers, int(growths), int(largest)
 
 
-def play(program, shim, lines, answers, number):
-    """What became of a script with one growth refused, and what was wrong with it."""
-    run = Program(program, shim, number, "/dev/null")
-    refused = 0
-    for index, (line, wanted) in enumerate(zip(lines, answers)):
-        if wanted is None:
-            run.process.stdin.write(line.encode("utf-8", "surrogateescape"))
-            continue
-        answer = run.ask(line)
-        if answer == "error Memory\n":
-            refused += 1
-            answer = run.ask(line)
-        if answer == "":
-            status, message = run.end()
-            told = status != 0 and tells_of_memory(message)
-            return ("ended", None) if told and refused == 0 else ("ended", f"status {status}: {message!r}")
-        if answer != wanted:
-            run.end()
-            return "answered", f"line {index + 1}: {answer[:120]!r} in place of {wanted[:120]!r}"
-    status, message = run.end()
+def once_more(program, shim, events, answers, number, at):
+    """Whether the event at this place is refused, and the same event once more and all after it are answered as undisturbed."""
+    status, told, _error = run(program, shim, [*events[: at + 1], *events[at:]], number)
+    return status == 0 and told == [*answers[:at], REFUSED, *answers[at:]]
+
+
+def play(program, shim, events, answers, number, guess):
+    """What became of a script with one growth refused, what was wrong with it, and the event that was refused."""
+    if once_more(program, shim, events, answers, number, guess):
+        return "refused", None, guess
+    status, told, error = run(program, shim, events, number)
+    if REFUSED in told:
+        at = told.index(REFUSED)
+        if once_more(program, shim, events, answers, number, at):
+            return "refused", None, at
+        return "answered", f"event {at + 1} is refused, and once more it or what follows is answered otherwise", guess
     if status != 0:
-        told = tells_of_memory(message) and refused == 0
-        return "ended", None if told else f"status {status}: {message!r}"
-    return ("refused" if refused else "unseen"), (None if refused <= 1 else f"{refused} refusals")
+        well = tells_of_memory(error) and answers[: len(told)] == told
+        return "ended", None if well else f"status {status}: {error!r}", guess
+    return "unseen", None if told == answers else "some answer differs, and none is a refusal", guess
+
+
+def play_share(program, shim, events, answers, numbers):
+    """The same for some growths in a row: which event is refused is most often the one before."""
+    kinds, faults, guess = {"ended": 0, "refused": 0, "unseen": 0, "answered": 0}, [], 0
+    for number in numbers:
+        kind, fault, guess = play(program, shim, events, answers, number, guess)
+        kinds[kind] += 1
+        if fault:
+            faults.append(f"growth {number}: {fault}")
+    return kinds, faults
+
+
+def play_all(program, shim, path, workers):
+    """Plays a script with each of its growths refused, and says what was wrong."""
+    events = events_of(path)
+    answers, growths, largest = undisturbed(program, shim, events)
+    shares = [range(first, min(first + 200, growths + 1)) for first in range(1, growths + 1, 200)]
+    kinds, faults = {}, []
+    for told, wrong in workers.imap(functools.partial(play_share, program, shim, events, answers), shares):
+        kinds = {kind: kinds.get(kind, 0) + number for kind, number in told.items()}
+        faults += wrong
+    for fault in faults:
+        print(f"{path.name}: {fault}")
+    print(
+        f"{path.name}: {growths} growths, the largest of {largest} bytes: {kinds['ended']} ended the program with a message outside an event, "
+        f"{kinds['refused']} were answered `error Memory` and then as undisturbed, {kinds['unseen']} changed nothing",
+        flush=True,
+    )
+    return not faults
 
 
 def main():
-    program, shim, folder = sys.argv[1], sys.argv[2], pathlib.Path(sys.argv[3])
-    wrong = 0
-    for path in sorted(p for p in folder.iterdir() if p.suffix == ".txt"):
-        lines = lines_of(path)
-        answers, growths = undisturbed(program, shim, lines)
-        kinds = {"ended": 0, "refused": 0, "unseen": 0, "answered": 0}
-        for number in range(1, growths + 1):
-            kind, fault = play(program, shim, lines, answers, number)
-            kinds[kind] += 1
-            if fault:
-                wrong += 1
-                print(f"{path.name}: growth {number}: {fault}")
-        print(
-            f"{path.name}: {growths} growths: {kinds['ended']} ended the program with a message outside an event, "
-            f"{kinds['refused']} were answered `error Memory` and then as undisturbed, {kinds['unseen']} changed nothing"
-        )
-    return 1 if wrong else 0
+    program, shim, folder = os.path.abspath(sys.argv[1]), os.path.abspath(sys.argv[2]), pathlib.Path(sys.argv[3])
+    with multiprocessing.Pool() as workers:
+        well = [play_all(program, shim, path, workers) for path in sorted(folder.iterdir()) if path.suffix == ".txt"]
+    return 0 if all(well) else 1
 
 
 if __name__ == "__main__":

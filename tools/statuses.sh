@@ -1,6 +1,9 @@
 #!/bin/sh
-# The program's exit statuses, and what it writes on standard error. usage: statuses.sh PROGRAM
+# The program's exit statuses, and what it writes on standard error; what audits of the stored files print. usage: statuses.sh PROGRAM
 program=$1
+stored=$(dirname "$0")/../scripts/audit
+room=$(mktemp -d)
+trap 'rm -rf "$room"' EXIT
 wrong=0
 
 # sees NAME STATUS ERROR: the last run ended with that status and wrote just that line, or nothing, on standard error
@@ -28,4 +31,49 @@ for word in --help --version help; do
 done
 error=$(printf 'open a\n' | "$program" script 2>&1 >/dev/full); status=$?
 sees 'answers that cannot be written' 1 'the answers cannot be written'
+
+# audits POLICY QUESTIONS [--readers N]: an audit's status, its standard error, and what it prints in the file answers
+audits() {
+    error=$("$program" audit "$@" 2>&1 >"$room/answers" </dev/null); status=$?
+}
+
+# answers NAME FILE: the last audit printed just that
+answers() {
+    if cmp -s "$room/answers" "$2"; then
+        echo "$1: answered as it should be"
+    else
+        echo "$1: answered otherwise"
+        wrong=1
+    fi
+}
+
+audits "$stored/policy.jsonl" "$stored/questions.jsonl"
+sees 'an audit' 0 ''
+answers 'an audit' "$stored/answers"
+for readers in 1 2 3 16; do
+    audits "$stored/policy.jsonl" "$stored/questions.jsonl" --readers $readers
+    sees "an audit of $readers readers" 0 ''
+    answers "an audit of $readers readers" "$stored/answers"
+done
+sed 's/$/\r/' "$stored/policy.jsonl" | grep -v '^.$' > "$room/policy"
+printf '%s' "$(sed 's/$/\r/' "$stored/questions.jsonl" | grep -v '^.$')" > "$room/questions"
+audits "$room/policy" "$room/questions"
+sees 'an audit of files with CRLF, the last line without its end' 0 ''
+answers 'an audit of files with CRLF, the last line without its end' "$stored/answers"
+: > "$room/empty"
+audits "$room/empty" "$room/empty"
+sees 'an audit of empty files' 0 ''
+answers 'an audit of empty files' "$room/empty"
+printf '\n# nothing\n{"kind":"Pod"}\n' > "$room/bad"
+audits "$room/bad" "$room/bad"
+sees 'a bad line of a policy' 1 'policy line 3'
+audits "$stored/policy.jsonl" "$room/bad"
+sees 'a bad question' 1 'question line 3'
+audits "$room/none" "$room/bad"
+sees 'a policy that is not there' 1 "$error"
+[ -n "$error" ] || { echo 'a policy that is not there: nothing on standard error'; wrong=1; }
+for words in '--readers 0' '--readers 17' '--readers x' 'third'; do
+    audits "$room/empty" "$room/empty" $words
+    sees "an audit with $words" 2 "$error"
+done
 exit $wrong

@@ -1,5 +1,8 @@
-//! The programs of Kapi. `kapi script` plays events from standard input and prints the answers.
+//! The programs of Kapi. `kapi script` plays events from standard input and prints the answers; `kapi audit` answers questions by the
+//! policy of a file.
 #![tactic(auto)]
+
+ghost use Rattle.std.specs.Prelude.{◌≤◌};
 
 mod command_line;
 mod program;
@@ -7,16 +10,21 @@ mod program;
 mod tests;
 
 use command_line::command;
+use kapi_audit::{AuditFault, NoGate, audit_run};
 use kapi_index::IndexedPolicy;
 use kapi_script::script_run;
-use program::{Command, CommandFault};
+use program::{AuditFiles, Command, CommandFault};
 use std::env::{self, Env};
-use std::io::{self, BufWriter};
+use std::fs::{self, Files};
+use std::io::{self, BufWriter, Write};
 use std::process::ExitCode;
+use std::sync::Wait;
+use std::thread::Threads;
 
 fn main(rt: HostRuntime) -> io::Result<ExitCode> {
     match named_command(&rt) {
         Ok(Command::Script) => run_script(&rt),
+        Ok(Command::Audit(files)) => run_audit(&rt, &files),
         Ok(Command::Show(text)) => {
             text.print(&rt)?;
             Ok(ExitCode::SUCCESS)
@@ -48,6 +56,50 @@ fn run_script<R: Input + Print + Eprint + AllocGlobal>(rt: &R) -> io::Result<Exi
             Ok(ExitCode::from(1))
         }
     }
+}
+
+/// Prints the answers to the questions: status 0, or 1 after a line on standard error.
+fn run_audit<R: Files + Print + Eprint + AllocGlobal + Threads + Wait + Sync>(
+    rt: &R,
+    files: &AuditFiles,
+) -> io::Result<ExitCode> {
+    let policy = match fs::read(rt, files.policy.as_str()) {
+        Ok(policy) => policy,
+        Err(error) => return fail(rt, files.policy.as_str(), &error),
+    };
+    let questions = match fs::read(rt, files.questions.as_str()) {
+        Ok(questions) => questions,
+        Err(error) => return fail(rt, files.questions.as_str(), &error),
+    };
+    match audit(rt, policy.as_slice(), questions.as_slice(), files.readers) {
+        Ok(answers) => {
+            let mut writer = BufWriter::new(rt.alloc(), io::writer(rt))?;
+            writer.write_all(answers.as_slice())?;
+            writer.flush()?;
+            Ok(ExitCode::SUCCESS)
+        }
+        Err(fault) => {
+            eprintln!(rt; "{fault}")?;
+            Ok(ExitCode::from(1))
+        }
+    }
+}
+
+fn audit<R: AllocGlobal + Threads + Wait + Sync>(
+    rt: &R,
+    policy: &[u8],
+    questions: &[u8],
+    readers: usize,
+) -> Result<Vec<u8>, AuditFault>
+    requires { (1 ≤ readers) × (readers ≤ 16) }
+{
+    audit_run(rt.alloc(), rt, policy, questions, readers, &NoGate)
+}
+
+/// A file that cannot be read: status 1.
+fn fail(rt: &impl Eprint, file: &str, error: &io::Error) -> io::Result<ExitCode> {
+    eprintln!(rt; "{file}: {error}")?;
+    Ok(ExitCode::from(1))
 }
 
 /// A command line that names no program: status 2.

@@ -1,3 +1,5 @@
+ghost use Rattle.std.specs.Prelude.{◌≤◌};
+
 use clap::Error as Shown;
 use std::alloc::AllocError;
 use std::io;
@@ -8,14 +10,26 @@ use thiserror::Error;
 pub enum Command {
     /// `kapi script`: events on standard input, answers on standard output.
     Script,
+    /// `kapi audit`: the questions of a file, answered by the policy of another.
+    Audit(AuditFiles),
     /// `--help`, `help` or `--version`: the text that is asked for.
     Show(Shown),
+}
+
+/// The files of an audit, by their names, and how many threads answer.
+#[derive(Debug, Drop)]
+pub struct AuditFiles {
+    pub policy: String,
+    pub questions: String,
+    /// 1 to 16.
+    pub readers: usize,
+    ghost few: { (1 ≤ readers) × (readers ≤ 16) },
 }
 
 /// Why a command line was not understood.
 #[derive(Clone, Copy, Debug, PartialEq, Eq, Error)]
 pub enum CommandFault {
-    #[error("usage: kapi script")]
+    #[error("usage: kapi script, or kapi audit POLICY QUESTIONS [--readers N], N from 1 to 16")]
     Words,
     #[error("out of memory")]
     Memory,

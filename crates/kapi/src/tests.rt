@@ -1,5 +1,5 @@
 use crate::command_line::command;
-use crate::program::{Command, CommandFault};
+use crate::program::{AuditFiles, Command, CommandFault};
 use std::alloc::Global;
 use std::io;
 use std::test::Fail;
@@ -11,6 +11,51 @@ fn reads_the_command_line(rt: HostRuntime) -> Result<(), Fail> {
     assert!(rt; is_refused(alloc, &["kapi"]));
     assert!(rt; is_refused(alloc, &["kapi", "scripts"]));
     assert!(rt; is_refused(alloc, &["kapi", "script", "x"]));
+    Ok(())
+}
+
+/// The files and readers that the words behind `kapi audit` tell; none where they are refused.
+fn audit_files(alloc: Global, words: &[&str]) -> Result<String, Fail> {
+    match command(alloc, words) {
+        Ok(
+            Command::Audit(
+                AuditFiles {
+                    policy,
+                    questions,
+                    readers,
+                },
+            ),
+        ) => Ok(format!(in alloc; "{policy} {questions} {readers}")?),
+        Ok(_) => Ok(String::from_str(alloc, "another")?),
+        Err(_) => Ok(String::from_str(alloc, "refused")?),
+    }
+}
+
+#[test]
+fn reads_the_words_of_an_audit(rt: HostRuntime) -> Result<(), Fail> {
+    let alloc: Global = rt.alloc();
+    for (words, told) in [
+        (&["kapi", "audit", "p", "q"].as_slice(), "p q 2"),
+        (
+            &["kapi", "audit", "p", "q", "--readers", "16"].as_slice(),
+            "p q 16",
+        ),
+        (
+            &["kapi", "audit", "p", "q", "--readers", "17"].as_slice(),
+            "refused",
+        ),
+        (
+            &["kapi", "audit", "p", "q", "--readers", "0"].as_slice(),
+            "refused",
+        ),
+        (
+            &["kapi", "audit", "p", "q", "--readers", "x"].as_slice(),
+            "refused",
+        ),
+        (&["kapi", "audit", "p"].as_slice(), "refused"),
+    ] {
+        assert_eq!(rt; audit_files(alloc, words)?.as_str(), told);
+    }
     Ok(())
 }
 

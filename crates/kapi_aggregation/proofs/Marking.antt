@@ -12,7 +12,8 @@ use Rattle.serde_json.specs.Data.{Data}
 use Rattle.kapi_store.specs.Plain.{PlainChange}
 use Rattle.kapi_aggregation.specs.Roles.{Labelled, is_cluster_role, labels_in, takes_from}
 use Rattle.kapi_aggregation.specs.Marks.{Keeps, is_marked, mark_by_name, mark_change, mark_changed, mark_new, mark_old, mark_taker, mark_takers, noted, with_mark}
-use Rattle.kapi_aggregation.proofs.Lists.{Has, itself, same_text}
+use Rattle.kapi_aggregation.proofs.Lists.{itself, same_text}
+use Rattle.kapi_aggregation.specs.Members.{Has}
 
 or_first : (a b : Bool) → a ≡ true → (a || b) ≡ true
 or_first true b h = refl

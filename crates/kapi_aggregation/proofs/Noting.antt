@@ -13,7 +13,8 @@ use Rattle.kapi_aggregation.specs.Roles.{Labelled, is_aggregated, is_cluster_rol
 use Rattle.kapi_aggregation.specs.Unions.{is_meant, rules_meant, same_rules, union_for, with_rule}
 use Rattle.kapi_aggregation.specs.Turns.{differs}
 use Rattle.kapi_aggregation.specs.Marks.{Covers, IsCovered, Keeps, is_marked, noted}
-use Rattle.kapi_aggregation.proofs.Lists.{Has, all_at, all_from, and_fails, filter_mapped, filter_twice, has_kept, has_mapped, itself, kept_of, mapped_of, none_at, or_false, then_false}
+use Rattle.kapi_aggregation.proofs.Lists.{all_at, all_from, and_fails, filter_mapped, filter_twice, has_kept, has_mapped, itself, kept_of, mapped_of, none_at, or_false, then_false}
+use Rattle.kapi_aggregation.specs.Members.{Has}
 use Rattle.kapi_aggregation.proofs.Marking.{is_moved, is_own, noted_keeps, noted_moved, noted_own, takes_new, takes_old}
 use Rattle.kapi_aggregation.proofs.Placed.{placed_all_filter, placed_all_has}
 

@@ -10,7 +10,7 @@ use Rattle.kapi_store.proofs.Keys.{key_same}
 use Rattle.kapi_store.specs.Changes.{placed, placed_all}
 use Rattle.kapi_store.specs.Keys.{is_key, key_cmp}
 use Rattle.kapi_store.specs.declared.key.Key.{Key}
-use Rattle.kapi_aggregation.proofs.Lists.{Has}
+use Rattle.kapi_aggregation.specs.Members.{Has}
 
 is_equal : (o : Ordering) → is_eq o ≡ true → o ≡ Equal
 is_equal Less h = absurd (cc h)

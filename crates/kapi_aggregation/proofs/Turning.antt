@@ -12,7 +12,8 @@ use Rattle.kapi_aggregation.specs.Roles.{IsInNameOrder, Labelled, names_of}
 use Rattle.kapi_aggregation.specs.Turns.{differs, first_some, next, turn_at, turn_of}
 use Rattle.kapi_aggregation.specs.Marks.{Covers, IsCovered, is_marked, marks_after, marks_from, turn_if_marked}
 use Rattle.kapi_aggregation.specs.declared.turn.Turn.{Turn}
-use Rattle.kapi_aggregation.proofs.Lists.{Has, all_at, all_from, itself, same_text}
+use Rattle.kapi_aggregation.proofs.Lists.{all_at, all_from, itself, same_text}
+use Rattle.kapi_aggregation.specs.Members.{Has}
 
 -- ---- the first marked one is the first one
 

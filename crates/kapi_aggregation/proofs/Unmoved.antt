@@ -10,7 +10,8 @@ use Rattle.kapi_store.specs.declared.key.Key.{Key}
 use Rattle.kapi_aggregation.specs.Roles.{Labelled, is_cluster_role, labelled_tree, roles_in}
 use Rattle.kapi_aggregation.specs.Turns.{next}
 use Rattle.kapi_aggregation.specs.Marks.{Covers}
-use Rattle.kapi_aggregation.proofs.Lists.{Has, mapped_of, none_at}
+use Rattle.kapi_aggregation.proofs.Lists.{mapped_of, none_at}
+use Rattle.kapi_aggregation.specs.Members.{Has}
 use Rattle.kapi_aggregation.proofs.Placed.{placed_all_filter}
 use Rattle.kapi_aggregation.proofs.Turning.{found_where_covered, none_unmarked}
 

@@ -1,3 +1,4 @@
+pub mod Members
 pub mod Roles
 pub mod Unions
 pub mod Turns

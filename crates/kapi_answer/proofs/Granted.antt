@@ -34,14 +34,15 @@ use Rattle.kapi_stored_policy.proofs.Sound.{either_holds, then_holds}
 use Rattle.kapi_stored_policy.specs.Kind.{policy_kind}
 use Rattle.kapi_escalation.proofs.Granted.{deletion_is_granted, passed_is_granted, stamped_is_granted}
 use Rattle.kapi_escalation.specs.Granted.{AreGranted, IsDeletion, IsGrantedAt}
-use Rattle.kapi_answer.specs.Answer.{Plan, Task, answer, answer_asked, answer_by, asked_by, carried_out, checked, create, delete, deletes, escalation_checked, planned, planned_at, planned_creation, planned_for, planned_on, replace, task, tell, tells, to_be_created, to_be_replaced, told_well}
+use Rattle.kapi_answer.specs.Answer.{Passed, Plan, Task, answer, answer_asked, answer_by, answer_passed, asked_by, carried_out, checked, create, delete, deletes, escalation_checked, passes, planned, planned_at, planned_creation, planned_for, planned_on, replace, task, tell, tells, to_be_created, to_be_replaced, told, told_well, watch, watching}
 use Rattle.kapi_answer.specs.Authorization.{authorized}
 use Rattle.kapi_answer.specs.Collection.{listed, to_delete_all}
 use Rattle.kapi_answer.specs.Create.{Admitted, admitted, created, creates, housed, stored, to_create, valid}
-use Rattle.kapi_answer.specs.Delete.{removed, removes, to_delete}
+use Rattle.kapi_answer.specs.Delete.{Deletion, removed, removes, to_delete}
 use Rattle.kapi_answer.specs.Get.{found, found_if}
 use Rattle.kapi_answer.specs.Outcome.{Outcome}
 use Rattle.kapi_answer.specs.Review.{in_review_namespace, review_kind, to_answer, to_review}
+use Rattle.kapi_answer.specs.Watch.{since_served}
 use Rattle.kapi_answer.specs.Update.{replaces, to_patch, to_update, told_after}
 
 -- what holds behind a check that passed, of what that check gave
@@ -101,25 +102,46 @@ module _ (objects : PolicyObjects) (identity : Identity) where
   abbrev IsGrantedOutcome : Outcome → Type 0
   IsGrantedOutcome o = Granted o.changes
 
+  -- and so are those that are told of; a watch changes nothing
+  abbrev IsGrantedPassed : Passed → Type 0
+  IsGrantedPassed (told outcome) = IsGrantedOutcome outcome
+  IsGrantedPassed (watching w) = Unit {0}
+
   -- what is only told changes nothing, and what is written is granted
   abbrev IsGrantedPlan : Plan → Type 0
   IsGrantedPlan (tell outcome) = outcome.changes ≡ []
+  IsGrantedPlan (watch w) = Unit {0}
   IsGrantedPlan (create new) = IsGrantedNew new
   IsGrantedPlan (replace new) = IsGrantedNew new
   IsGrantedPlan (delete deletion) = Unit {0}
 
-  carried_out_granted : (s : Plain) (plan : Plan) → IsGrantedPlan plan → IfOk (carried_out s plan) IsGrantedOutcome
-  unfolding creates replaces removes
-  carried_out_granted s (tell outcome) h = rw h tt
-  carried_out_granted s (create new) h =
+  create_granted : (s : Plain) (new : Key × Data) → IsGrantedNew new → IfOk (creates s new) IsGrantedOutcome
+  unfolding creates
+  create_granted s new h =
       then_keeps (stored new.0.name (creation_in_place s new.0 new.1)) created IsGrantedOutcome
       (stored_holds new.0.name (creation_in_place s new.0 new.1) Granted (creation_granted s new h)) (λ cs granted. granted)
-  carried_out_granted s (replace new) h =
+
+  replace_granted : (s : Plain) (new : Key × Data) → IsGrantedNew new → IfOk (replaces s new) IsGrantedOutcome
+  unfolding replaces
+  replace_granted s new h =
       then_keeps (stored new.0.name (replacement s new.0 new.1)) (told_after (lookup (is_key new.0) s.objects)) IsGrantedOutcome
       (stored_holds new.0.name (replacement s new.0 new.1) Granted (replacement_granted s new h)) (λ cs granted. granted)
-  carried_out_granted s (delete deletion) h =
+
+  delete_granted : (s : Plain) (deletion : Deletion) → IfOk (removes s deletion) IsGrantedOutcome
+  unfolding removes
+  delete_granted s deletion =
       then_keeps (stored deletion.name (removal s deletion.keys)) (removed deletion.told) IsGrantedOutcome
       (stored_holds deletion.name (removal s deletion.keys) Granted (removal_granted s deletion.keys)) (λ cs granted. granted)
+
+  passes_granted : (r : Result Outcome Refused) → IfOk r IsGrantedOutcome → IfOk (r >>= passes) IsGrantedPassed
+  passes_granted r h = then_keeps r passes IsGrantedPassed h (λ outcome granted. granted)
+
+  carried_out_granted : (s : Plain) (plan : Plan) → IsGrantedPlan plan → IfOk (carried_out s plan) IsGrantedPassed
+  carried_out_granted s (tell outcome) h = rw h tt
+  carried_out_granted s (watch w) h = tt
+  carried_out_granted s (create new) h = passes_granted (creates s new) (create_granted s new h)
+  carried_out_granted s (replace new) h = passes_granted (replaces s new) (replace_granted s new h)
+  carried_out_granted s (delete deletion) h = passes_granted (removes s deletion) (delete_granted s deletion)
 
 -- ---- what is planned
 
@@ -185,7 +207,8 @@ module _ (objects : PolicyObjects) (s : Plain) (identity : Identity) (request : 
   unfolding planned_for
   planned_for_granted a r =
       then_holds (queried r.action s.revision a.query) _ IsGrantedHere
-      (λ filter. then_holds (media_typed request.method request.headers) _ IsGrantedHere (λ w. planned_on_granted r.action s (task objects identity request a r filter)))
+      (λ filter. then_holds (since_served s filter.since) _ IsGrantedHere
+      (λ k. then_holds (media_typed request.method request.headers) _ IsGrantedHere (λ w. planned_on_granted r.action s (task objects identity request a r filter))))
 
   well_tells : IfOk (told_well request >>= tells) IsGrantedHere
   unfolding told_well
@@ -203,25 +226,30 @@ module _ (objects : PolicyObjects) (s : Plain) (identity : Identity) (request : 
       (λ u. then_holds (authorized objects identity a) _ IsGrantedHere
       (λ v. then_holds (routed s.table request.method a) _ IsGrantedHere (planned_at_granted a)))
 
-  checked_granted : (a : Attributes) → IfOk (checked objects s identity request a) (IsGrantedOutcome objects identity)
+  checked_granted : (a : Attributes) → IfOk (checked objects s identity request a) (IsGrantedPassed objects identity)
   unfolding checked
   checked_granted a =
-      then_keeps (planned objects s identity request a) (carried_out s) (IsGrantedOutcome objects identity) (planned_granted a) (carried_out_granted objects identity s)
+      then_keeps (planned objects s identity request a) (carried_out s) (IsGrantedPassed objects identity) (planned_granted a) (carried_out_granted objects identity s)
 
   -- ---- what is answered
 
-  by_outcome : (asked : Asked) (close : Bool) (r : Result Outcome Refused) → IfOk r (IsGrantedOutcome objects identity) → AreGranted objects identity (answer_by asked close r).1
+  by_passed : (close : Bool) (p : Passed) → IsGrantedPassed objects identity p → AreGranted objects identity (answer_passed close p).changes
+  unfolding answer_passed
+  by_passed close (told outcome) h = h
+  by_passed close (watching w) h = tt
+
+  by_outcome : (asked : Asked) (close : Bool) (r : Result Passed Refused) → IfOk r (IsGrantedPassed objects identity) → AreGranted objects identity (answer_by asked close r).changes
   unfolding answer_by
-  by_outcome asked close (Ok outcome) h = h
+  by_outcome asked close (Ok passed) h = by_passed close passed h
   by_outcome asked close (Err refused) h = tt
 
-  asked_granted : (r : Result Attributes TargetFault) → AreGranted objects identity (answer_asked objects s identity request r).1
+  asked_granted : (r : Result Attributes TargetFault) → AreGranted objects identity (answer_asked objects s identity request r).changes
   unfolding answer_asked
   asked_granted (Ok a) = by_outcome (asked_by identity request a) request.close (checked objects s identity request a) (checked_granted a)
   asked_granted (Err fault) = tt
 
 -- the changes of every answer are granted to whoever asks
-pub answers_are_granted : (objects : PolicyObjects) (s : Plain) (identity : Identity) (item : Result HttpRequest HttpFault) → AreGranted objects identity (answer objects s identity item).1
+pub answers_are_granted : (objects : PolicyObjects) (s : Plain) (identity : Identity) (item : Result HttpRequest HttpFault) → AreGranted objects identity (answer objects s identity item).changes
 unfolding answer
 answers_are_granted objects s identity (Ok request) = asked_granted objects s identity request (info request.method request.target)
 answers_are_granted objects s identity (Err fault) = tt

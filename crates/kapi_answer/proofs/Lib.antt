@@ -2,3 +2,4 @@ pub mod Stored
 pub mod Merged
 pub mod Listed
 pub mod Granted
+pub mod Watched

@@ -1,5 +1,5 @@
 -- What is told where the store refuses.
-use Rattle.std.proofs.Common.{◌≡◌, ℕ, List, Option, Some, None, Result, refl}
+use Rattle.std.proofs.Common.{ℕ, List, Option, Some, None, Result, refl}
 use Rattle.std.specs.Option.{option_map}
 use Rattle.kapi_text.specs.Gives.{Fails, ◌>>=◌}
 use Rattle.kapi_reply.specs.Refusals.{named}

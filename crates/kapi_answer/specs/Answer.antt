@@ -13,14 +13,14 @@ use Rattle.kapi_request_info.specs.Attributes.{info}
 use Rattle.kapi_request_info.specs.Faults.{TargetFault, bad_path, bad_escape, bad_query}
 use Rattle.kapi_request_info.specs.declared.attributes.Attributes.{Attributes}
 use Rattle.kapi_reply.specs.Refusals.{Asked}
-use Rattle.kapi_reply.specs.Replies.{fault_reply, content_reply, refusal_reply, target_reply}
+use Rattle.kapi_reply.specs.Replies.{fault_reply, content_reply, refusal_reply, target_reply, watch_reply}
 use Rattle.kapi_reply.specs.declared.refusal.BadWord.{BadWord}
 use Rattle.kapi_reply.specs.declared.refusal.BadWord.TheVariants as word
 use Rattle.kapi_reply.specs.declared.refusal.Refused.{Refused}
 use Rattle.kapi_reply.specs.declared.reply.WrittenReply.{WrittenReply}
 use Rattle.kapi_reviews.specs.declared.kind.ReviewKind.{ReviewKind}
 use Rattle.kapi_route.specs.Headers.{unimpersonated, media_typed}
-use Rattle.kapi_route.specs.Query.{bad_option, queried}
+use Rattle.kapi_route.specs.Query.{queried}
 use Rattle.kapi_route.specs.Route.{ResourceRouted, Routed, health, resource, routed}
 use Rattle.kapi_route.specs.declared.route.Action.{Action}
 use Rattle.kapi_route.specs.declared.route.Action.TheVariants as action
@@ -35,12 +35,15 @@ use Rattle.kapi_answer.specs.Delete.{Deletion, removes, to_delete}
 use Rattle.kapi_answer.specs.Get.{found}
 use Rattle.kapi_answer.specs.Outcome.{Outcome, well}
 use Rattle.kapi_answer.specs.Review.{review_kind, to_review}
+use Rattle.kapi_watch.specs.Watches.{PlainWatch}
+use Rattle.kapi_answer.specs.Watch.{PlainWatching, since_served, watch_of}
 use Rattle.kapi_answer.specs.Update.{replaces, to_patch, to_update}
 
--- what a request that passes all checks but the store's is told, or what it is to change: a new object at its place, an object in
--- place of the one that stands there, or objects that are to be deleted
+-- what a request that passes all checks but the store's is told, the watch that it starts, or what it is to change: a new object at its
+-- place, an object in place of the one that stands there, or objects that are to be deleted
 pub data Plan : Type 0 where
   tell : Outcome → Plan
+  watch : PlainWatch → Plan
   create : Key × Data → Plan
   replace : Key × Data → Plan
   delete : Deletion → Plan
@@ -94,11 +97,11 @@ unfoldable pub planned_creation : Option ReviewKind → Plain → Task → Resul
 planned_creation (Some kind) s t = to_review t.objects t.identity kind t.row t.key.namespace t.body >>= tells
 planned_creation None s t = to_create s t.row t.key.namespace t.body >>= to_be_created s t
 
--- what is to be done on a route of a resource; watches are not served yet
+-- what is to be done on a route of a resource
 unfoldable pub planned_on : Action → Plain → Task → Result Plan Refused
 planned_on action.Get s t = found s t.key >>= tells
 planned_on action.List s t = tells (listed s t.row t.key.namespace t.filter)
-planned_on action.Watch s t = Err bad_option
+planned_on action.Watch s t = Ok (watch (watch_of s t.row t.key.namespace t.filter))
 planned_on action.Create s t = planned_creation (review_kind t.row) s t
 planned_on (action.Update of) s t = to_update s t.row of t.key t.body >>= to_be_replaced s t
 planned_on (action.Patch of) s t = to_patch s t.row of t.key t.body >>= to_be_replaced s t
@@ -109,6 +112,7 @@ planned_on action.DeleteCollection s t = to_delete_all s t.row t.key.namespace t
 unfoldable pub planned_for : PolicyObjects → Plain → Identity → HttpRequest → Attributes → ResourceRouted → Result Plan Refused
 planned_for objects s identity request a r = do
   filter ← queried r.action s.revision a.query
+  k ← since_served s filter.since
   w ← media_typed request.method request.headers
   planned_on r.action s (task objects identity request a r filter)
 
@@ -131,25 +135,47 @@ planned objects s identity request a = do
   r ← routed s.table request.method a
   planned_at objects s identity request a r
 
+-- what a request that passed every check gets
+pub data Passed : Type 0 where
+  told : Outcome → Passed
+  watching : PlainWatch → Passed
+
+-- an outcome is told
+abbrev pub passes : Outcome → Result Passed Refused
+passes outcome = Ok (told outcome)
+
 -- what becomes of it, where the store makes the write
-abbrev pub carried_out : Plain → Plan → Result Outcome Refused
-carried_out s (tell outcome) = Ok outcome
-carried_out s (create new) = creates s new
-carried_out s (replace new) = replaces s new
-carried_out s (delete deletion) = removes s deletion
+abbrev pub carried_out : Plain → Plan → Result Passed Refused
+carried_out s (tell outcome) = passes outcome
+carried_out s (watch w) = Ok (watching w)
+carried_out s (create new) = creates s new >>= passes
+carried_out s (replace new) = replaces s new >>= passes
+carried_out s (delete deletion) = removes s deletion >>= passes
 
 -- all checks of a request
-unfoldable pub checked : PolicyObjects → Plain → Identity → HttpRequest → Attributes → Result Outcome Refused
+unfoldable pub checked : PolicyObjects → Plain → Identity → HttpRequest → Attributes → Result Passed Refused
 checked objects s identity request a = planned objects s identity request a >>= carried_out s
 
--- what is sent, and the changes that are made
-abbrev pub Answered : Type 0
-Answered = WrittenReply × List PlainChange
+-- what is sent, the changes that are made, and the watch that starts, whose head is sent
+pub record Answered : Type 0 where
+  pub reply : WrittenReply
+  pub changes : List PlainChange
+  pub watch : Option PlainWatching
+
+-- a reply, and no more
+abbrev pub replied : WrittenReply → Answered
+replied reply = record { reply = reply; changes = []; watch = None }
+
+-- the answer to a request that passed every check
+unfoldable pub answer_passed : Bool → Passed → Answered
+answer_passed close (told outcome) =
+    record { reply = content_reply outcome.code outcome.content close outcome.body; changes = outcome.changes; watch = None }
+answer_passed close (watching w) = record { reply = watch_reply close; changes = []; watch = Some (record { watch = w; close = close }) }
 
 -- the answer that a request's checks lead to
-unfoldable pub answer_by : Asked → Bool → Result Outcome Refused → Answered
-answer_by asked close (Ok outcome) = (content_reply outcome.code outcome.content close outcome.body, outcome.changes)
-answer_by asked close (Err refused) = (refusal_reply asked close refused, [])
+unfoldable pub answer_by : Asked → Bool → Result Passed Refused → Answered
+answer_by asked close (Ok passed) = answer_passed close passed
+answer_by asked close (Err refused) = replied (refusal_reply asked close refused)
 
 -- the word for a fault of a target
 abbrev pub target_word : TargetFault → BadWord
@@ -164,9 +190,9 @@ asked_by identity request a = record { user = identity.user; method = request.me
 -- the answer to a request whose target gives those attributes, or has a fault
 unfoldable pub answer_asked : PolicyObjects → Plain → Identity → HttpRequest → Result Attributes TargetFault → Answered
 answer_asked objects s identity request (Ok a) = answer_by (asked_by identity request a) request.close (checked objects s identity request a)
-answer_asked objects s identity request (Err fault) = (target_reply (target_word fault) request.close, [])
+answer_asked objects s identity request (Err fault) = replied (target_reply (target_word fault) request.close)
 
 -- the answer to what was cut from a connection's bytes, by the roles and bindings that there are
 unfoldable pub answer : PolicyObjects → Plain → Identity → Result HttpRequest HttpFault → Answered
 answer objects s identity (Ok request) = answer_asked objects s identity request (info request.method request.target)
-answer objects s identity (Err fault) = (fault_reply fault, [])
+answer objects s identity (Err fault) = replied (fault_reply fault)

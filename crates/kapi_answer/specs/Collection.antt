@@ -1,5 +1,5 @@
 -- The checks of a list and of the deletion of a collection (Kubernetes, 'Kubernetes API Concepts', API verbs).
-use Rattle.std.specs.Prelude.{ℕ, ◌+◌, List, [], map, length, Result, Ok, Err}
+use Rattle.std.specs.Prelude.{ℕ, ◌+◌, List, [], map, length, Result, Ok}
 use Rattle.serde_json.specs.Data.{Data}
 use Rattle.serde_json.specs.Written.{compact_text}
 use Rattle.kapi_text.specs.Gives.{◌>>=◌}

@@ -6,6 +6,7 @@ pub mod Delete
 pub mod Update
 pub mod Collection
 pub mod Review
+pub mod Watch
 pub mod Answer
 pub mod Outcomes
 pub mod Load

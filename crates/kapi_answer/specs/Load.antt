@@ -1,5 +1,5 @@
 -- Loading of the objects that a server begins with: each is created by nobody, at the place that it names itself.
-use Rattle.std.specs.Prelude.{◌==◌, Bool, true, false, not, ◌&&◌, is_some, if◌then◌else◌, ℕ, List, [], length, codes, Option, Some, None, Result, Ok, Err, ok_or}
+use Rattle.std.specs.Prelude.{◌==◌, Bool, false, not, ◌&&◌, is_some, if◌then◌else◌, ℕ, List, [], length, codes, Option, Some, None, Result, Ok, Err, ok_or}
 use Rattle.std.specs.List.{find}
 use Rattle.std.specs.Str.{bytes_eq}
 use Rattle.serde_json.specs.Data.{Data, string}

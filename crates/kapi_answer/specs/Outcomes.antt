@@ -1,5 +1,5 @@
 -- Outcomes and answers as data.
-use Rattle.std.specs.Prelude.{◌≡◌, ℕ, List, [], map, Option, None, Some, Result, Ok, Err}
+use Rattle.std.specs.Prelude.{◌≡◌, List, [], map, Option, None, Some, Result, Ok, Err, option_map}
 use Rattle.std.specs.List.{IsDistinct}
 use Rattle.serde_json.specs.Data.{Data}
 use Rattle.kapi_object.specs.Object.{tree_of}
@@ -15,13 +15,18 @@ use Rattle.kapi_answer.specs.declared.outcome.Outcome.{Outcome as OutcomeOf}
 use Rattle.kapi_answer.specs.declared.respond.Prepared.{Prepared}
 use Rattle.kapi_answer.specs.declared.outcome.Deletion.{Deletion as DeletionOf}
 use Rattle.kapi_answer.specs.declared.outcome.NewObject.{NewObject}
+use Rattle.kapi_answer.specs.declared.outcome.Passed.{Passed as PassedOf}
+use Rattle.kapi_answer.specs.declared.outcome.Passed.TheVariants as passed
 use Rattle.kapi_answer.specs.declared.outcome.Plan.{Plan as PlanOf}
 use Rattle.kapi_answer.specs.declared.outcome.Plan.TheVariants as plan
 use Rattle.kapi_answer.specs.declared.task.Task.{Task as TaskOf}
-use Rattle.kapi_answer.specs.Answer.{Answered, Plan, Task, create, delete, replace, tell}
+use Rattle.kapi_watch.specs.Running.{IsFresh, watch_data}
+use Rattle.kapi_watch.specs.declared.watch.Watch.{Watch}
+use Rattle.kapi_answer.specs.Answer.{Answered, Passed, Plan, Task, create, delete, replace, tell, told, watch, watching}
 use Rattle.kapi_answer.specs.Create.{Admitted}
 use Rattle.kapi_answer.specs.Delete.{Deletion}
 use Rattle.kapi_answer.specs.Outcome.{Outcome}
+use Rattle.kapi_answer.specs.Watch.{watching_data}
 
 -- the changes of a write that is to be made, if any
 abbrev pub changes_data : Option Ready → List PlainChange
@@ -32,9 +37,24 @@ changes_data (Some ready) = map plain_change ready
 abbrev pub outcome_data : OutcomeOf → Outcome
 outcome_data o = record { code = o.code; content = o.content; body = o.body.items; changes = changes_data o.write }
 
+-- what a request that passed every check gets, as data
+abbrev pub passed_data : PassedOf → Passed
+passed_data (passed.Told outcome) = told (outcome_data outcome)
+passed_data (passed.Watching w) = watching (watch_data w)
+
+-- the write that it tells of
+abbrev pub write_of : PassedOf → Option Ready
+write_of (passed.Told outcome) = outcome.write
+write_of (passed.Watching w) = None
+
+-- the watch that starts
+abbrev pub watch_in : PassedOf → Option Watch
+watch_in (passed.Told outcome) = None
+watch_in (passed.Watching w) = Some w
+
 -- an answer as data
 abbrev pub answered_data : Prepared → Answered
-answered_data p = (p.reply, changes_data p.write)
+answered_data p = record { reply = p.reply; changes = changes_data p.write; watch = option_map watching_data p.watch }
 
 -- an object as its tree, or the faults
 abbrev pub object_data : Result Object (List FieldFault) → Result Data (List FieldFault)
@@ -56,6 +76,7 @@ deletion_data d = record { name = d.name; keys = d.keys.items; told = d.reply.it
 -- a plan as data
 abbrev pub plan_data : PlanOf → Plan
 plan_data (plan.Tell outcome) = tell (outcome_data outcome)
+plan_data (plan.Watch w) = watch (watch_data w)
 plan_data (plan.Create new) = create (new_data new)
 plan_data (plan.Replace new) = replace (new_data new)
 plan_data (plan.Delete deletion) = delete (deletion_data deletion)
@@ -71,9 +92,10 @@ task_data objects t = record {
   body = t.body.now;
 }
 
--- the place of a new object is free, and nothing is to be deleted twice
+-- a watch has shown nothing yet, the place of a new object is free, and nothing is to be deleted twice
 abbrev pub IsReady : Plain → PlanOf → Type 0
 IsReady s (plan.Tell outcome) = Unit {0}
+IsReady s (plan.Watch w) = IsFresh s w
 IsReady s (plan.Create new) = free_place s new.key ≡ Ok tt
 IsReady s (plan.Replace new) = Unit {0}
 IsReady s (plan.Delete deletion) = IsDistinct is_key deletion.keys.items
@@ -81,6 +103,7 @@ IsReady s (plan.Delete deletion) = IsDistinct is_key deletion.keys.items
 -- what is only told has no write
 abbrev pub ChangesNothing : PlanOf → Type 0
 ChangesNothing (plan.Tell outcome) = outcome.write ≡ None
+ChangesNothing (plan.Watch w) = Unit {0}
 ChangesNothing (plan.Create new) = Unit {0}
 ChangesNothing (plan.Replace new) = Unit {0}
 ChangesNothing (plan.Delete deletion) = Unit {0}

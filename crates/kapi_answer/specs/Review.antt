@@ -1,6 +1,5 @@
 -- The answer to a review, which is not kept (Kubernetes API, authorization.k8s.io/v1).
-use Rattle.std.specs.Prelude.{ℕ, if◌then◌else◌, List, [], Option, Some, None, Result, Ok, Err}
-use Rattle.serde_json.specs.Data.{Data}
+use Rattle.std.specs.Prelude.{ℕ, if◌then◌else◌, List, [], Option, None, Result, Ok}
 use Rattle.kapi_text.specs.Gives.{◌>>=◌}
 use Rattle.kapi_http.specs.declared.message.StatusCode.TheVariants as status
 use Rattle.kapi_names.specs.declared.row.ResourceRow.{ResourceRow}

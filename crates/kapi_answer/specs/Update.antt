@@ -1,6 +1,6 @@
 -- The checks of an update and of a patch (Kubernetes, 'Kubernetes API Concepts', API verbs; RFC 7396; Kubernetes API conventions,
 -- 'Concurrency Control and Consistency' and 'Spec and Status').
-use Rattle.std.specs.Prelude.{ℕ, Bool, if◌then◌else◌, List, codes, Option, Some, None, Result, Ok, Err, ok_or}
+use Rattle.std.specs.Prelude.{ℕ, if◌then◌else◌, List, codes, Option, Some, Result, Ok, Err, ok_or}
 use Rattle.std.specs.Map.{lookup}
 use Rattle.serde_json.specs.Data.{Data}
 use Rattle.kapi_text.specs.Gives.{◌>>=◌}

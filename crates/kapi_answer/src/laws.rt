@@ -12,5 +12,5 @@ ghost use Rattle.kapi_answer.specs.Answer.{answer};
 #[tactic(auto, using(crate::proofs::Granted::answers_are_granted))]
 pub fn what_an_answer_changes_was_granted()
     ensures { (objects : PolicyObjects) (s : Plain) (identity : Identity) (item : Result HttpRequest HttpFault)
-        → AreGranted objects identity (answer objects s identity item).1 }
+        → AreGranted objects identity (answer objects s identity item).changes }
 {}

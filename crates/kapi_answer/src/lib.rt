@@ -14,7 +14,9 @@ pub mod respond;
 mod review;
 pub mod task;
 mod update;
+pub mod watch;
 
 pub use kapi_reply::WrittenReply;
 pub use loading::{LoadError, load};
 pub use respond::{Prepared, answer};
+pub use watch::{After, EventReply, Watching, event_reply};

@@ -3,8 +3,17 @@ use kapi_object::Object;
 use kapi_reply::Content;
 use kapi_store::{Key, Ready};
 use kapi_text::Text;
+use kapi_watch::Watch;
 
-/// What a request that passed every check gets: a reply, and the write that it tells of, if it makes one.
+/// What a request that passed every check gets.
+#[derive(Drop)]
+pub enum Passed {
+    Told(Outcome),
+    /// A watch starts.
+    Watching(Watch),
+}
+
+/// A reply, and the write that it tells of, if the request makes one.
 #[derive(Drop)]
 pub struct Outcome {
     pub code: StatusCode,
@@ -19,6 +28,8 @@ pub struct Outcome {
 pub enum Plan {
     /// It changes nothing.
     Tell(Outcome),
+    /// It starts a watch.
+    Watch(Watch),
     Create(NewObject),
     /// The object takes the place of the one that stands there.
     Replace(NewObject),

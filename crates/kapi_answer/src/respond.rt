@@ -1,4 +1,4 @@
-ghost use Rattle.std.specs.Prelude.{◌≡◌, [], None, IfOk, IfSome};
+ghost use Rattle.std.specs.Prelude.{◌≡◌, None, Ok, IfOk, IfSome, option_map};
 ghost use Rattle.kapi_text.specs.Gives.{Gives};
 ghost use Rattle.kapi_reply.specs.Refusals.{refused_by};
 ghost use Rattle.kapi_reply.specs.Replies as replies;
@@ -6,28 +6,31 @@ ghost use Rattle.kapi_request_info.specs.Attributes as attributes_of;
 ghost use Rattle.kapi_route.specs.Routes.{resource_data};
 ghost use Rattle.kapi_store.specs.Plain.{plain_of};
 ghost use Rattle.kapi_store.specs.State.{Same, Fits};
+ghost use Rattle.kapi_watch.specs.Running.{IsFresh};
+ghost use Rattle.kapi_watch.specs.Watches.{startable};
 ghost use Rattle.kapi_answer.specs.Answer as answers;
-ghost use Rattle.kapi_answer.specs.Answer.{answer_by, asked_by, checked, escalation_checked, planned, planned_creation, planned_for, planned_on, to_be_created, to_be_replaced};
+ghost use Rattle.kapi_answer.specs.Answer.{answer_by, answer_passed, asked_by, checked, escalation_checked, planned, planned_creation, planned_for, planned_on, to_be_created, to_be_replaced};
 ghost use Rattle.kapi_answer.specs.Review as reviews;
-ghost use Rattle.kapi_answer.specs.Outcomes.{ChangesNothing, IsReady, answered_data, new_data, outcome_data, plan_data, task_data};
+ghost use Rattle.kapi_answer.specs.Outcomes.{ChangesNothing, IsReady, answered_data, new_data, passed_data, plan_data, task_data, watch_in, write_of};
 
 use crate::authorization::authorize;
 use crate::collection::{check_delete_all, list};
-use crate::create::{bad, check_create, create, key_of};
+use crate::create::{check_create, create, key_of};
 use crate::delete::{check_delete, delete};
 use crate::get::find;
 use crate::health::tell_health;
-use crate::outcome::{NewObject, Outcome, Plan};
+use crate::outcome::{NewObject, Outcome, Passed, Plan};
 use crate::review::{review_kind, tell_review};
 use crate::task::Task;
 use crate::update::{check_patch, check_update, replace};
+use crate::watch::{Watching, begin, check_since};
 use kapi_escalation::check_escalation;
 use kapi_http::{HttpFault, HttpRequest};
 use kapi_policy::Policy;
 use kapi_rbac_types::Identity;
 use kapi_reply::{
     Asked, BadWord, CheckError, WrittenReply, content_reply, fault_reply, refusal_reply,
-    target_reply,
+    target_reply, watch_reply,
 };
 use kapi_request_info::{Attributes, InfoError, info};
 use kapi_route::{
@@ -42,6 +45,21 @@ use std::alloc::{AllocError, Global};
 pub struct Prepared {
     pub reply: WrittenReply,
     pub write: Option<Ready>,
+    /// The watch whose head the reply is.
+    pub watch: Option<Watching>,
+}
+
+impl Prepared {
+    /// A reply, and no more.
+    fn told(reply: WrittenReply) -> Prepared
+        ensures { result ≡ record { reply = reply; write = None; watch = None } }
+    {
+        Prepared {
+            reply,
+            write: None,
+            watch: None,
+        }
+    }
 }
 
 /// The answer to what was cut from a connection's bytes. The write that it tells of is prepared, and the store is as before.
@@ -56,13 +74,11 @@ pub fn answer<P: Policy>(
     ensures same { Same store.old store.new }
     ensures gives { IfOk result (λ p. answered_data p ≡ answers.answer (P.content policy.now) (plain_of store.old) identity.now item.now) }
     ensures fits { IfOk result (λ p. IfSome p.write (Fits store.new)) }
+    ensures fresh { IfOk result (λ p. IfSome p.watch (λ w. IsFresh (plain_of store.old) w.watch)) }
 {
     match item {
         Ok(request) => answer_request(alloc, policy, store, identity, request),
-        Err(fault) => Ok(Prepared {
-            reply: fault_reply(alloc, fault)?,
-            write: None,
-        }),
+        Err(fault) => Ok(Prepared::told(fault_reply(alloc, fault)?)),
     }
 }
 
@@ -77,6 +93,7 @@ fn answer_request<P: Policy>(
     ensures same { Same store.old store.new }
     ensures gives { IfOk result (λ p. answered_data p ≡ answers.answer_asked (P.content policy.now) (plain_of store.old) identity.now request.now (attributes_of.info request.now.method request.now.target)) }
     ensures fits { IfOk result (λ p. IfSome p.write (Fits store.new)) }
+    ensures fresh { IfOk result (λ p. IfSome p.watch (λ w. IsFresh (plain_of store.old) w.watch)) }
 {
     match info(alloc, request.method, request.target.as_str()) {
         Ok(attributes) => answer_asked(alloc, policy, store, identity, request, &attributes),
@@ -89,13 +106,9 @@ fn answer_request<P: Policy>(
 
 /// The answer to a request whose target has a fault.
 fn refuse_target(alloc: Global, word: BadWord, close: bool) -> Result<Prepared, Memory>
-    ensures gives { IfOk result (λ p. answered_data p ≡ (replies.target_reply word close, [])) }
-    ensures none { IfOk result (λ p. p.write ≡ None) }
+    ensures { IfOk result (λ p. p ≡ record { reply = replies.target_reply word close; write = None; watch = None }) }
 {
-    Ok(Prepared {
-        reply: target_reply(alloc, word, close)?,
-        write: None,
-    })
+    Ok(Prepared::told(target_reply(alloc, word, close)?))
 }
 
 /// The answer to a request whose attributes are known.
@@ -111,30 +124,48 @@ fn answer_asked<P: Policy>(
     ensures same { Same store.old store.new }
     ensures gives { IfOk result (λ p. answered_data p ≡ answer_by (asked_by identity.now request.now attributes.now) request.now.close (checked (P.content policy.now) (plain_of store.old) identity.now request.now attributes.now)) }
     ensures fits { IfOk result (λ p. IfSome p.write (Fits store.new)) }
+    ensures fresh { IfOk result (λ p. IfSome p.watch (λ w. IsFresh (plain_of store.old) w.watch)) }
 {
     match check(alloc, policy, store, identity, request, attributes) {
-        Ok(outcome) => Ok(Prepared {
-            reply: content_reply(
-                alloc,
-                outcome.code,
-                outcome.content,
-                request.close,
-                outcome.body,
-            )?,
-            write: outcome.write,
-        }),
+        Ok(passed) => Ok(prepare(alloc, request.close, passed)?),
         Err(CheckError::Refused(refused)) => {
             let asked = Asked {
                 user: identity.user.as_str(),
                 method: request.method,
                 attributes,
             };
-            Ok(Prepared {
-                reply: refusal_reply(alloc, asked, request.close, &refused)?,
-                write: None,
-            })
+            Ok(Prepared::told(refusal_reply(alloc, asked, request.close, &refused)?))
         }
         Err(CheckError::Memory) => Err(AllocError),
+    }
+}
+
+/// The reply of a request that passed every check: what it is told, or the head of its watch.
+#[tactic(auto, unfolding(crate::specs::Answer::answer_passed))]
+fn prepare(alloc: Global, close: bool, passed: Passed) -> Result<Prepared, Memory>
+    ensures gives { IfOk result (λ p. answered_data p ≡ answer_passed close (passed_data passed)) }
+    ensures same { IfOk result (λ p. p.write ≡ write_of passed) }
+    ensures watch { IfOk result (λ p. option_map (λ w. w.watch) p.watch ≡ watch_in passed) }
+{
+    match passed {
+        Passed::Told(outcome) => {
+            let Outcome {
+                code,
+                content,
+                body,
+                write,
+            } = outcome;
+            Ok(Prepared {
+                reply: content_reply(alloc, code, content, close, body)?,
+                write,
+                watch: None,
+            })
+        }
+        Passed::Watching(watch) => Ok(Prepared {
+            reply: watch_reply(alloc, close)?,
+            write: None,
+            watch: Some(Watching { watch, close }),
+        }),
     }
 }
 
@@ -148,17 +179,20 @@ fn check<P: Policy>(
     identity: &Identity,
     request: &HttpRequest,
     attributes: &Attributes,
-) -> Result<Outcome, CheckError>
+) -> Result<Passed, CheckError>
     ensures same { Same store.old store.new }
-    ensures gives { Gives refused_by outcome_data result (checked (P.content policy.now) (plain_of store.old) identity.now request.now attributes.now) }
-    ensures fits { IfOk result (λ o. IfSome o.write (Fits store.new)) }
+    ensures gives { Gives refused_by passed_data result (checked (P.content policy.now) (plain_of store.old) identity.now request.now attributes.now) }
+    ensures fits { IfOk result (λ p. IfSome (write_of p) (Fits store.new)) }
+    ensures fresh { IfOk result (λ p. IfSome (watch_in p) (IsFresh (plain_of store.old))) }
 {
-    match plan(alloc, policy, store, identity, request, attributes)? {
-        Plan::Tell(outcome) => Ok(outcome),
-        Plan::Create(new) => create(alloc, store, new),
-        Plan::Replace(new) => replace(alloc, store, new),
-        Plan::Delete(deletion) => delete(store, deletion),
-    }
+    let outcome = match plan(alloc, policy, store, identity, request, attributes)? {
+        Plan::Tell(outcome) => outcome,
+        Plan::Watch(watch) => return Ok(Passed::Watching(watch)),
+        Plan::Create(new) => create(alloc, store, new)?,
+        Plan::Replace(new) => replace(alloc, store, new)?,
+        Plan::Delete(deletion) => delete(store, deletion)?,
+    };
+    Ok(Passed::Told(outcome))
 }
 
 /// What a request that passes all checks but the store's is to be told or is to change.
@@ -202,6 +236,7 @@ fn plan_for<P: Policy>(
 {
     let query = attributes.query.as_slice();
     let filter = check_query(alloc, route.action, store.revision(), query)?;
+    check_since(store, filter.since)?;
     check_media_type(request.method, request.headers.as_slice())?;
     let (namespace, name) = (attributes.namespace.as_str(), route.point.name.as_str());
     let key = key_of(alloc, route.row, namespace, name)?;
@@ -215,7 +250,7 @@ fn plan_for<P: Policy>(
     plan_on(alloc, policy, store, route.action, task)
 }
 
-/// What is to be done on a route of a resource. Watches are not served yet.
+/// What is to be done on a route of a resource.
 #[tactic(auto, unfolding(crate::specs::Answer::planned_on))]
 fn plan_on<P: Policy>(
     alloc: Global,
@@ -224,6 +259,7 @@ fn plan_on<P: Policy>(
     action: Action,
     task: Task<'_>,
 ) -> Result<Plan, CheckError>
+    requires { startable (plain_of store.now) task.filter.now.since ≡ Ok tt }
     ensures gives { Gives refused_by plan_data result (planned_on action (plain_of store.now) (task_data (P.content policy.now) task.entry)) }
     ensures ready { IfOk result (IsReady (plain_of store.now)) }
     ensures told { IfOk result ChangesNothing }
@@ -239,7 +275,7 @@ fn plan_on<P: Policy>(
     match action {
         Action::Get => Ok(Plan::Tell(find(alloc, store, key)?)),
         Action::List => Ok(Plan::Tell(list(alloc, store, row, namespace, filter)?)),
-        Action::Watch => Err(bad(BadWord::Option)),
+        Action::Watch => Ok(Plan::Watch(begin(alloc, store, row, namespace, filter)?)),
         Action::Create => plan_creation(alloc, policy, store, task),
         Action::Update(part) => {
             let new = check_update(alloc, store, row, part, key, body)?;

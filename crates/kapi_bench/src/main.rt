@@ -8,8 +8,11 @@
 //! - `index`: decisions of the indexed policy beside those of the plain one
 //! - `requests`: whole requests to the machine
 //! - `turns`: turns of aggregated cluster roles
+//! - `watches`: events of watches
+//! - `audit`: questions of an audit, and steps that are published
 #![tactic(auto)]
 
+mod audit;
 mod guard;
 mod http;
 mod index;
@@ -22,6 +25,7 @@ mod rules;
 mod store;
 mod timing;
 mod turns;
+mod watches;
 
 use std::env;
 
@@ -36,8 +40,9 @@ fn run_named(rt: &HostRuntime, name: &str, words: &[String]) -> anyhow::Result<(
         "index" => index::run(rt, words),
         "requests" => requests::run(rt, words),
         "turns" => turns::run(rt, words),
+        "watches" => watches::run(rt, words),
         _ => anyhow::bail!(
-            "{name} is no benchmark: store, http, info, rules, guard, index, requests and turns are"
+            "{name} is no benchmark: store, http, info, rules, guard, index, requests, turns, watches and audit are"
         ),
     }
 }
@@ -46,6 +51,7 @@ fn main(rt: HostRuntime) -> anyhow::Result<()> {
     let words: Vec<String> = env::args(&rt)?.skip(1).collect(rt.alloc())?;
     match words.as_slice() {
         [] => Ok(()),
+        [name, rest @ ..] if name.as_str() == "audit" => audit::run(&rt, rest),
         [name, rest @ ..] => run_named(&rt, name.as_str(), rest),
     }
 }

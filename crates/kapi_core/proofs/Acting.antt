@@ -1,5 +1,5 @@
 -- Who acts in a list of events is on a connection that one of them serves.
-use Rattle.std.proofs.Common.{◌≡◌, ◌⊎◌, inl, inr, ℕ, suc, ◌+◌, List, [], ◌∷◌, ◌++◌, length, nat_lt, nat_le, Bool, true, false, cond, ◌&&◌, if◌then◌else◌, Option, Some, None, Result, Ok, Err, refl, sym, ap, ◌∙◌, subst}
+use Rattle.std.proofs.Common.{◌≡◌, ◌⊎◌, inl, inr, ℕ, suc, ◌+◌, List, [], ◌∷◌, ◌++◌, length, nat_lt, nat_le, Bool, true, false, cond, ◌&&◌, if◌then◌else◌, Option, Some, None, option_map, Result, Ok, Err, refl, sym, ap, ◌∙◌, subst}
 use Rattle.std.specs.BTreeMap.{insert_entry, is_at}
 use Rattle.std.specs.Cmp.{Equal-is, ranked}
 use Rattle.std.specs.Map.{lookup, remove_entry, set_value}
@@ -17,16 +17,21 @@ use Rattle.kapi_aggregation.specs.Roles.{roles_in}
 use Rattle.kapi_aggregation.specs.Turns.{next}
 use Rattle.kapi_aggregation.specs.declared.turn.Turn.{Turn}
 use Rattle.kapi_answer.specs.Answer.{answer}
+use Rattle.kapi_answer.specs.Watch.{PlainWatching, event_reply_of}
+use Rattle.kapi_answer.specs.declared.watch.After.{After}
+use Rattle.kapi_answer.specs.declared.watch.After.TheVariants as becomes
+use Rattle.kapi_answer.specs.declared.watch.EventReply.{EventReply}
+use Rattle.kapi_watch.specs.Watches.{pumped}
 use Rattle.kapi_gains.proofs.Elements.{has_either}
 use Rattle.kapi_gains.proofs.Entries.{delete_has, found_in, put_has}
-use Rattle.kapi_gains.specs.Members.{Has}
+use Rattle.kapi_aggregation.specs.Members.{Has}
 use Rattle.kapi_core.specs.declared.event.Answer.{Answer}
 use Rattle.kapi_core.specs.declared.event.ConnId.{ConnId}
 use Rattle.kapi_core.specs.declared.event.Event.{Event}
 use Rattle.kapi_core.specs.declared.event.Event.TheVariants as event
 use Rattle.kapi_core.specs.declared.machine.TheConstants.{LAST_CONNECTION, OPEN_CONNECTIONS}
 use Rattle.kapi_core.specs.Gains.{IsConnected, IsServed, acting_by, acting_in, identity_on}
-use Rattle.kapi_core.specs.Machine.{Link, Machine, after_serve, after_turn, changed, ended_if, feed_step, link_at, open_step, policy_of, serve_item, serve_step, step, turn_step, turned_by, unserved, with_link}
+use Rattle.kapi_core.specs.Machine.{Link, Machine, after_event, after_serve, after_turn, changed, ended_if, feed_step, link_at, new_link, open_step, policy_of, pump_shown, pump_step, pump_watch, serve_beside, serve_item, serve_step, step, turn_step, turned_by, unserved, watched_on, with_link}
 
 -- a connection of the number was there for the identity
 abbrev WasThere : List (ℕ × Link) → ℕ → Identity → Type 0
@@ -86,7 +91,7 @@ unfolding open_step
 open_goes identity m = either m (event.Open identity) (nat_lt (length m.links) OPEN_CONNECTIONS && nat_le m.next_id LAST_CONNECTION) _ _ inserted (kept m (event.Open identity))
   where
     new : Link
-    new = record { identity = identity; sent = []; served = 0 }
+    new = new_link identity
 
     by_put : (id : ℕ) (l : Link) → (◌≡◌ {A = ℕ × Link} (m.next_id, new) (id, l)) ⊎ Has m.links (id, l) → WasThere m.links id l.identity ⊎ (event.Open identity ≡ event.Open l.identity)
     by_put id l (inl is) = inr (ap (λ (e : ℕ × Link). event.Open e.1.identity) is)
@@ -116,13 +121,40 @@ unfolding serve_item after_serve
 item_goes m e conn l None at = kept m e
 item_goes m e conn l (Some item) at =
     let answered = answer (policy_of m) m.store l.identity item in
-    ended_goes m e answered.0.close conn (changed answered.1 (with_link conn (record l { served = suc l.served }) m))
-    (set_goes m e conn l (record l { served = suc l.served }) at refl)
+    let new = record l { served = suc l.served; watching = answered.watch } in
+    ended_goes m e answered.reply.close conn (changed answered.changes (with_link conn new m)) (set_goes m e conn l new at refl)
+
+beside_goes : (m : Machine) (e : Event) (conn : ℕ) (l : Link) (w : Option PlainWatching) → link_at conn m ≡ Some l → Goes m e (serve_beside conn l w m).1.links
+unfolding serve_beside
+beside_goes m e conn l (Some w) at = kept m e
+beside_goes m e conn l None at = item_goes m e conn l (first (unserved l)) at
+
+-- an event of a watch
+event_passed : (m : Machine) (e : Event) (conn : ℕ) (l : Link) (w : PlainWatching) (a : After) → link_at conn m ≡ Some l → Goes m e (after_event a conn l w m).links
+unfolding after_event
+event_passed m e conn l w becomes.Watches at = set_goes m e conn l (watched_on l w m) at refl
+event_passed m e conn l w becomes.Serves at = set_goes m e conn l (record l { watching = None }) at refl
+event_passed m e conn l w becomes.Closes at = removed_goes m e (is_at (nat_cmp conn)) m.links (kept m e)
+
+shown_goes : (m : Machine) (e : Event) (conn : ℕ) (l : Link) (w : PlainWatching) (r : Option EventReply) → link_at conn m ≡ Some l → Goes m e (pump_shown conn l w r m).1.links
+unfolding pump_shown
+shown_goes m e conn l w None at = set_goes m e conn l (watched_on l w m) at refl
+shown_goes m e conn l w (Some r) at = event_passed m e conn l w r.after at
+
+watch_goes : (m : Machine) (e : Event) (conn : ℕ) (l : Link) (w : Option PlainWatching) → link_at conn m ≡ Some l → Goes m e (pump_watch conn l w m).1.links
+unfolding pump_watch
+watch_goes m e conn l None at = kept m e
+watch_goes m e conn l (Some w) at = shown_goes m e conn l w (option_map (event_reply_of m.store w) (pumped m.changes m.store w.watch)) at
+
+pump_goes : (m : Machine) (e : Event) (conn : ℕ) (o : Option Link) → link_at conn m ≡ o → Goes m e (pump_step conn o m).1.links
+unfolding pump_step
+pump_goes m e conn None at = kept m e
+pump_goes m e conn (Some l) at = watch_goes m e conn l l.watching at
 
 serve_goes : (m : Machine) (e : Event) (conn : ℕ) (o : Option Link) → link_at conn m ≡ o → Goes m e (serve_step conn o m).1.links
 unfolding serve_step
 serve_goes m e conn None at = kept m e
-serve_goes m e conn (Some l) at = item_goes m e conn l (first (unserved l)) at
+serve_goes m e conn (Some l) at = beside_goes m e conn l l.watching at
 
 turn_goes : (m : Machine) → Goes m event.Turn (turn_step m).1.links
 unfolding turn_step
@@ -141,7 +173,7 @@ unfolding step
 event_goes m (event.Open identity) = open_goes identity m
 event_goes m (event.Feed conn piece) = feed_goes m (event.Feed conn piece) conn.0 piece (link_at conn.0 m) refl
 event_goes m (event.Serve conn) = serve_goes m (event.Serve conn) conn.0 (link_at conn.0 m) refl
-event_goes m (event.Pump conn) = kept m (event.Pump conn)
+event_goes m (event.Pump conn) = pump_goes m (event.Pump conn) conn.0 (link_at conn.0 m) refl
 event_goes m event.Turn = turn_goes m
 event_goes m (event.Close conn) = removed_goes m (event.Close conn) (is_at (nat_cmp conn.0)) m.links (kept m (event.Close conn))
 

@@ -8,6 +8,7 @@ use Rattle.std.specs.BTreeMap.{is_at}
 use Rattle.kapi_http.specs.Inbox.{Unserved}
 use Rattle.kapi_http.specs.declared.inbox.FeedError.{FeedError}
 use Rattle.kapi_http.specs.declared.inbox.FeedError.TheVariants.{Full, Memory, Ended}
+use Rattle.kapi_store.specs.Plain.{plain_of}
 use Rattle.kapi_core.specs.declared.connection.Connection.{Connection}
 use Rattle.kapi_core.specs.declared.event.ConnId.{ConnId}
 use Rattle.kapi_core.specs.declared.event.Event.TheVariants as event
@@ -32,8 +33,8 @@ taken_in old links conn piece (Err Ended) f = λ m h. rw f.1
     (made_for old.store old.policy old.marks old.connections old.next_id m old.store old.policy old.marks old.connections old.next_id (event.Feed conn piece) told.Ended h
     (λ cs k p v ps l. elim f.0 [
       | inl none ↦ fed_nowhere old.store old.policy old.marks old.connections old.next_id conn piece none cs k p v ps l
-      | inr c ↦ let there = link_there (is_at (nat_cmp conn.0)) old.connections ps c.0 l c.1 in
-          absurd (let both : true ≡ false = sym c.2 ∙ there.2.2 in cc both)
+      | inr c ↦ let there = link_there cs (plain_of old.store) (is_at (nat_cmp conn.0)) old.connections ps c.0 l c.1 in
+          absurd (let both : true ≡ false = sym c.2 ∙ there.2.goes_on in cc both)
     ]))
 taken_in old links conn piece (Err Memory) f = λ m h. (
   rw f.3 h,

@@ -1,5 +1,5 @@
 -- Each event of the machine is a run of the policy, by whom it serves; and so is a list of events.
-use Rattle.std.proofs.Common.{◌≡◌, ℕ, List, [], ◌∷◌, length, nat_lt, nat_le, Bool, true, false, ◌&&◌, if◌then◌else◌, Option, Some, None, Result, Ok, Err, suc, ◌+◌, take, refl, sym, ap, ◌∙◌, subst}
+use Rattle.std.proofs.Common.{◌≡◌, ℕ, List, [], ◌∷◌, length, nat_lt, nat_le, Bool, true, false, ◌&&◌, if◌then◌else◌, Option, Some, None, option_map, Result, Ok, Err, suc, ◌+◌, take, refl, sym, ap, ◌∙◌, subst}
 use Rattle.std.specs.List.{fold}
 use Rattle.std.specs.List.Sorted.{IsStrictlySortedBy}
 use Rattle.serde_json.specs.Data.{Data}
@@ -21,6 +21,11 @@ use Rattle.kapi_aggregation.specs.Turns.{next}
 use Rattle.kapi_aggregation.specs.declared.turn.Turn.{Turn}
 use Rattle.kapi_answer.proofs.Granted.{answers_are_granted}
 use Rattle.kapi_answer.specs.Answer.{Answered, answer}
+use Rattle.kapi_answer.specs.Watch.{PlainWatching, event_reply_of}
+use Rattle.kapi_answer.specs.declared.watch.After.{After}
+use Rattle.kapi_answer.specs.declared.watch.After.TheVariants as becomes
+use Rattle.kapi_answer.specs.declared.watch.EventReply.{EventReply}
+use Rattle.kapi_watch.specs.Watches.{pumped}
 use Rattle.kapi_policy_runs.proofs.Reached.{objects_give_nothing, reaches_both, reaches_itself}
 use Rattle.kapi_policy_runs.proofs.Turns.{turn_runs}
 use Rattle.kapi_policy_runs.proofs.Writes.{granted_reach}
@@ -32,7 +37,7 @@ use Rattle.kapi_core.specs.declared.event.Event.{Event}
 use Rattle.kapi_core.specs.declared.event.Event.TheVariants as event
 use Rattle.kapi_core.specs.declared.machine.TheConstants.{LAST_CONNECTION, OPEN_CONNECTIONS}
 use Rattle.kapi_core.specs.Gains.{NobodyGains, acting_by, acting_in, identity_on}
-use Rattle.kapi_core.specs.Machine.{Link, Machine, after, after_serve, after_turn, changed, ended_if, feed_step, link_at, open_step, policy_of, serve_item, serve_step, step, turn_step, turned_by, unserved, with_link}
+use Rattle.kapi_core.specs.Machine.{Link, Machine, after, after_event, after_serve, after_turn, changed, ended_if, feed_step, link_at, open_step, policy_of, pump_shown, pump_step, pump_watch, serve_beside, serve_item, serve_step, step, turn_step, turned_by, unserved, with_link}
 use Rattle.kapi_core.specs.Opening.{OpeningObject, cluster_key, created_if, empty, opening, opening_objects, with_opening, written_if}
 use Rattle.kapi_core.specs.Running.{Running}
 use Rattle.kapi_core.specs.Stands.{Stands}
@@ -79,14 +84,19 @@ item_goes id l None m sorted = goes_nowhere (l.identity ∷ []) m.store sorted m
 item_goes id l (Some item) m sorted =
     let answered : Answered = answer (policy_of m) m.store l.identity item in
     let P : Plain → Type 0 = λ p. Goes (l.identity ∷ []) m.store p in
-    subst P (sym (ended_keeps answered.0.close id (changed answered.1 (with_link id (record l { served = suc l.served }) m))))
-    (goes_written (l.identity ∷ []) m.store sorted answered.1
-    (granted_reach l.identity answered.1 m.store.objects sorted (answers_are_granted (policy_of m) m.store l.identity item)))
+    subst P (sym (ended_keeps answered.reply.close id (changed answered.changes (with_link id (record l { served = suc l.served; watching = answered.watch }) m))))
+    (goes_written (l.identity ∷ []) m.store sorted answered.changes
+    (granted_reach l.identity answered.changes m.store.objects sorted (answers_are_granted (policy_of m) m.store l.identity item)))
+
+beside_goes : (id : ℕ) (l : Link) (w : Option PlainWatching) (m : Machine) → AreInOrder m.store.objects → Goes (l.identity ∷ []) m.store (serve_beside id l w m).1.store
+unfolding serve_beside
+beside_goes id l (Some w) m sorted = goes_nowhere (l.identity ∷ []) m.store sorted m.store refl
+beside_goes id l None m sorted = item_goes id l (first (unserved l)) m sorted
 
 serve_goes : (id : ℕ) (o : Option Link) (m : Machine) → AreInOrder m.store.objects → Goes (identity_on o) m.store (serve_step id o m).1.store
 unfolding serve_step
 serve_goes id None m sorted = goes_nowhere [] m.store sorted m.store refl
-serve_goes id (Some l) m sorted = item_goes id l (first (unserved l)) m sorted
+serve_goes id (Some l) m sorted = beside_goes id l l.watching m sorted
 
 turn_goes : (m : Machine) → AreInOrder m.store.objects → Goes [] m.store (turn_step m).1.store
 unfolding turn_step
@@ -101,6 +111,29 @@ turn_goes m sorted = by_turn (next (roles_in m.store.objects)) refl
     by_turn None comes = goes_nowhere [] m.store sorted m.store refl
     by_turn (Some turn) comes = by_write turn comes (rewriting turn m.store) refl
 
+-- ---- the events of watches
+
+passed_keeps : (a : After) (id : ℕ) (l : Link) (w : PlainWatching) (m : Machine) → (after_event a id l w m).store ≡ m.store
+unfolding after_event
+passed_keeps becomes.Watches id l w m = refl
+passed_keeps becomes.Serves id l w m = refl
+passed_keeps becomes.Closes id l w m = refl
+
+shown_keeps : (id : ℕ) (l : Link) (w : PlainWatching) (r : Option EventReply) (m : Machine) → (pump_shown id l w r m).1.store ≡ m.store
+unfolding pump_shown
+shown_keeps id l w None m = refl
+shown_keeps id l w (Some r) m = passed_keeps r.after id l w m
+
+watch_keeps : (id : ℕ) (l : Link) (w : Option PlainWatching) (m : Machine) → (pump_watch id l w m).1.store ≡ m.store
+unfolding pump_watch
+watch_keeps id l None m = refl
+watch_keeps id l (Some w) m = shown_keeps id l w (option_map (event_reply_of m.store w) (pumped m.changes m.store w.watch)) m
+
+pump_keeps : (id : ℕ) (o : Option Link) (m : Machine) → (pump_step id o m).1.store ≡ m.store
+unfolding pump_step
+pump_keeps id None m = refl
+pump_keeps id (Some l) m = watch_keeps id l l.watching m
+
 -- ---- lists of events
 
 event_goes : (m : Machine) (e : Event) → AreInOrder m.store.objects → Goes (acting_by m e) m.store (step m e).1.store
@@ -109,7 +142,8 @@ event_goes m (event.Open identity) sorted = goes_nowhere [] m.store sorted (open
 event_goes m (event.Feed conn piece) sorted =
     goes_nowhere [] m.store sorted (feed_step conn.0 piece (link_at conn.0 m) m).1.store (feed_keeps conn.0 piece (link_at conn.0 m) m)
 event_goes m (event.Serve conn) sorted = serve_goes conn.0 (link_at conn.0 m) m sorted
-event_goes m (event.Pump conn) sorted = goes_nowhere [] m.store sorted m.store refl
+event_goes m (event.Pump conn) sorted =
+    goes_nowhere [] m.store sorted (pump_step conn.0 (link_at conn.0 m) m).1.store (pump_keeps conn.0 (link_at conn.0 m) m)
 event_goes m event.Turn sorted = turn_goes m sorted
 event_goes m (event.Close conn) sorted = goes_nowhere [] m.store sorted m.store refl
 

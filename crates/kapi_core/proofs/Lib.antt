@@ -11,6 +11,7 @@ pub mod Fitting
 pub mod Opened
 pub mod Loads
 pub mod Turning
+pub mod Pumping
 pub mod Gains
 pub mod OpenedPolicy
 pub mod Acting

@@ -11,6 +11,7 @@ use Rattle.kapi_store.specs.State.{State}
 use Rattle.kapi_core.specs.Running.{Running}
 use Rattle.kapi_core.specs.Stands.{Loads}
 use Rattle.kapi_core.specs.Writes.{LoadsInto}
+use Rattle.kapi_core.proofs.AlikeLinks.{changes_follow, links_written}
 
 -- what was loaded into the store and the policy was loaded into the machine
 pub loaded : (old : Running) (t : State) (u : PolicyObjects) (ns : List (List ℕ)) (text : List ℕ) (result : Result (List PolicyChange) LoadError)
@@ -18,7 +19,18 @@ pub loaded : (old : Running) (t : State) (u : PolicyObjects) (ns : List (List �
 loaded old t u ns text (Ok made) (changes, is, told, writes) = λ m h.
     let after = writes m.changes m.store h.store h.policy_is h.covers in
     let P : Plain → Type 0 = λ p. loads p text ≡ Ok changes in
-    (changes, subst P h.store.plain is, told, record { store = after.0; policy_is = after.1; covers = after.2; next_id = h.next_id; links = h.links })
+    let follow = changes_follow old.store t m.changes changes m.store h.store after.0 in (
+      changes,
+      subst P h.store.plain is,
+      told,
+      record {
+        store = after.0;
+        policy_is = after.1;
+        covers = after.2;
+        next_id = h.next_id;
+        links = links_written m.changes changes m.store follow old.connections m.links h.links;
+      },
+    )
 loaded old t u ns text (Err e) (fails, same, kept, marks) = λ m h.
     let P : Plain → Type 0 = λ p. Fails (fault_told e) (loads p text) in (
       subst P h.store.plain fails,

@@ -1,5 +1,5 @@
 -- Each step of the running machine is that of the machine that is data.
-use Rattle.std.proofs.Common.{◌≡◌, ℕ, suc, ◌+◌, ◌<◌, ◌≤◌, Bool, true, false, List, [], ◌++◌, length, Option, Some, None, Result, Ok, Err, refl, sym, ap, ◌∙◌, subst, nat_lt, nat_le, ◌&&◌, if◌then◌else◌}
+use Rattle.std.proofs.Common.{◌≡◌, ℕ, suc, ◌+◌, ◌<◌, ◌≤◌, Bool, true, false, List, [], ◌++◌, length, Option, Some, None, IfSome, is_some, option_map, Result, Ok, Err, refl, sym, ap, ◌∙◌, subst, nat_lt, nat_le, ◌&&◌, if◌then◌else◌}
 use Rattle.std.proofs.lemmas.Bool.{le-leb, lt-leb}
 use Rattle.std.specs.Map.{lookup, set_value, remove_entry}
 use Rattle.std.specs.Ordering.{nat_cmp}
@@ -13,7 +13,11 @@ use Rattle.kapi_http.specs.Inbox.{next_of, after_next}
 use Rattle.kapi_http.specs.declared.message.HttpFault.{HttpFault}
 use Rattle.kapi_http.specs.declared.message.HttpRequest.{HttpRequest}
 use Rattle.kapi_rbac_types.specs.declared.identity.Identity.{Identity}
-use Rattle.kapi_store.specs.Plain.{Plain, PlainChange, StandsFor as StoreStands, plain_of}
+use Rattle.kapi_answer.specs.Watch.{PlainWatching, StandsForWatching, watching_data}
+use Rattle.kapi_answer.specs.declared.watch.Watching.{Watching}
+use Rattle.kapi_store.specs.Plain.{Plain, PlainChange, StandsFor as StoreStands, plain_of, written}
+use Rattle.kapi_watch.proofs.Standing.{starts}
+use Rattle.kapi_watch.specs.Running.{IsFresh}
 use Rattle.kapi_policy.specs.Objects.{PolicyObjects}
 use Rattle.kapi_store.specs.State.{State}
 use Rattle.kapi_stored_policy.specs.Reading.{policy_objects}
@@ -23,10 +27,10 @@ use Rattle.kapi_core.specs.declared.event.Event.{Event}
 use Rattle.kapi_core.specs.declared.event.Event.TheVariants as event
 use Rattle.kapi_core.specs.declared.event.Answer.{Answer}
 use Rattle.kapi_core.specs.declared.event.Answer.TheVariants as told
-use Rattle.kapi_core.specs.Machine.{Link, Machine, changed, link_at, unserved, with_link, ended_if, output_of, step, open_step, feed_step, serve_step, serve_item, after_serve}
+use Rattle.kapi_core.specs.Machine.{Link, Machine, changed, link_at, new_link, unserved, with_link, ended_if, output_of, step, open_step, feed_step, serve_step, serve_beside, serve_item, after_serve}
 use Rattle.kapi_core.specs.Writes.{Writes}
-use Rattle.kapi_core.specs.Stands.{IsLink, AreLinks, Serves, StandsFor, is_early}
-use Rattle.kapi_core.proofs.AlikeLinks.{link_there, link_missing, links_set, links_inserted, links_removed, links_counted, removed_set}
+use Rattle.kapi_core.specs.Stands.{AreLinks, AreWatching, IsLink, Serves, StandsFor, is_early}
+use Rattle.kapi_core.proofs.AlikeLinks.{changes_follow, link_there, link_missing, links_set, links_inserted, links_removed, links_counted, links_written, removed_set}
 use Rattle.kapi_core.proofs.Served.{serves_rest, serves_more, serves_next}
 use Rattle.kapi_core.specs.declared.machine.TheConstants.{LAST_CONNECTION, OPEN_CONNECTIONS}
 use Rattle.kapi_http.specs.declared.inbox.TheConstants.{KEPT_LIMIT}
@@ -62,20 +66,24 @@ HasMarks s ms = Covers ms (roles_in (plain_of s).objects)
 pub covers_known : (s : State) (o : PolicyObjects) (ms : List (List ℕ)) (es : List (ℕ × Connection)) (n : ℕ) (m : Machine) → StandsFor s o ms es n m → HasMarks s ms
 covers_known s o ms es n m h = let P : Plain → Type 0 = λ p. Covers ms (roles_in p.objects) in subst P (sym h.store.plain) h.covers
 
+-- the connections of the machine that is stood for
+pub links_known : (s : State) (o : PolicyObjects) (ms : List (List ℕ)) (es : List (ℕ × Connection)) (n : ℕ) (m : Machine) → StandsFor s o ms es n m → AreLinks m.changes (plain_of s) es m.links
+links_known s o ms es n m h = let P : Plain → Type 0 = λ p. AreLinks m.changes p es m.links in subst P (sym h.store.plain) h.links
+
 -- what is made of a step, by its answer, its store, policy, marks, connections and number
 abbrev pub Made : State → PolicyObjects → List (List ℕ) → List (ℕ × Connection) → ℕ → Machine → Event → Answer → Type 0
 Made s o ms es n m event answer = (answer ≡ (step m event).0) × StandsFor s o ms es n (step m event).1
 
 -- a step from the machine that is stood for
 pub made_for : (s : State) (o : PolicyObjects) (ms : List (List ℕ)) (es : List (ℕ × Connection)) (n : ℕ) (m : Machine) (t : State) (u : PolicyObjects) (ns : List (List ℕ)) (fs : List (ℕ × Connection)) (k : ℕ) (e : Event) (a : Answer)
-    → StandsFor s o ms es n m → ((cs : List PlainChange) → HasHistory s cs → HasPolicy s o → HasMarks s ms → (ps : List (ℕ × Link)) → AreLinks es ps → Made t u ns fs k (machine_of s cs n ps) e a) → Made t u ns fs k m e a
+    → StandsFor s o ms es n m → ((cs : List PlainChange) → HasHistory s cs → HasPolicy s o → HasMarks s ms → (ps : List (ℕ × Link)) → AreLinks cs (plain_of s) es ps → Made t u ns fs k (machine_of s cs n ps) e a) → Made t u ns fs k m e a
 made_for s o ms es n m t u ns fs k e a h f =
-    let P : Machine → Type 0 = λ m. Made t u ns fs k m e a in subst P (machine_is s o ms es n m h) (f m.changes (history_is s o ms es n m h) (policy_known s o ms es n m h) (covers_known s o ms es n m h) m.links h.links)
+    let P : Machine → Type 0 = λ m. Made t u ns fs k m e a in subst P (machine_is s o ms es n m h) (f m.changes (history_is s o ms es n m h) (policy_known s o ms es n m h) (covers_known s o ms es n m h) m.links (links_known s o ms es n m h))
 
 -- what the machine that is stood for answers is not early
 pub not_early : (s : State) (o : PolicyObjects) (ms : List (List ℕ)) (es : List (ℕ × Connection)) (n : ℕ) (m : Machine) (e : Event) → StandsFor s o ms es n m
-    → ((cs : List PlainChange) → HasHistory s cs → HasPolicy s o → HasMarks s ms → (ps : List (ℕ × Link)) → AreLinks es ps → is_early (step (machine_of s cs n ps) e).0 ≡ false) → is_early (step m e).0 ≡ false
-not_early s o ms es n m e h f = let P : Machine → Type 0 = λ m. is_early (step m e).0 ≡ false in subst P (machine_is s o ms es n m h) (f m.changes (history_is s o ms es n m h) (policy_known s o ms es n m h) (covers_known s o ms es n m h) m.links h.links)
+    → ((cs : List PlainChange) → HasHistory s cs → HasPolicy s o → HasMarks s ms → (ps : List (ℕ × Link)) → AreLinks cs (plain_of s) es ps → is_early (step (machine_of s cs n ps) e).0 ≡ false) → is_early (step m e).0 ≡ false
+not_early s o ms es n m e h f = let P : Machine → Type 0 = λ m. is_early (step m e).0 ≡ false in subst P (machine_is s o ms es n m h) (f m.changes (history_is s o ms es n m h) (policy_known s o ms es n m h) (covers_known s o ms es n m h) m.links (links_known s o ms es n m h))
 
 -- an answer that is not early
 pub told_late : (m : Machine) (e : Event) (a : Answer) → a ≡ (step m e).0 → is_early a ≡ false → is_early (step m e).0 ≡ false
@@ -83,33 +91,67 @@ told_late m e a is late = sym (ap is_early is) ∙ late
 
 -- a request is answered late, if at all
 pub served_late : (m : Machine) (conn : ConnId) → is_early (step m (event.Serve conn)).0 ≡ false
-unfolding step serve_step serve_item after_serve
+unfolding step serve_step serve_beside serve_item after_serve
 served_late m conn = late_at conn.0 (link_at conn.0 m) m
   where
     late_item : (id : ℕ) (l : Link) (o : Option (Result HttpRequest HttpFault)) (m : Machine) → is_early (serve_item id l o m).0 ≡ false
     late_item id l None m = refl
     late_item id l (Some item) m = refl
 
+    late_beside : (id : ℕ) (l : Link) (w : Option PlainWatching) (m : Machine) → is_early (serve_beside id l w m).0 ≡ false
+    late_beside id l (Some w) m = refl
+    late_beside id l None m = late_item id l (first (unserved l)) m
+
     late_at : (id : ℕ) (o : Option Link) (m : Machine) → is_early (serve_step id o m).0 ≡ false
     late_at id None m = refl
-    late_at id (Some l) m = late_item id l (first (unserved l)) m
+    late_at id (Some l) m = late_beside id l l.watching m
+
+-- whether a watch runs
+pub is_watching : (o : Option Watching) → is_some o ≡ true → (r : Watching) × (o ≡ Some r)
+is_watching None h = absurd (cc h)
+is_watching (Some r) h = (r, refl)
+
+pub is_idle : (o : Option Watching) → is_some o ≡ false → o ≡ None
+is_idle None h = refl
+is_idle (Some r) h = absurd (cc h)
+
+-- a watch that runs is shown
+pub watching_there : (history : List PlainChange) (p : Plain) (r : Watching) (o : Option Watching) (w : Option PlainWatching) → o ≡ Some r → AreWatching history p o w
+    → (v : PlainWatching) × (w ≡ Some v) × StandsForWatching r history p v
+watching_there history p r None w is h = absurd (cc is)
+watching_there history p r (Some q) None is h = absurd h
+watching_there history p r (Some q) (Some v) is h =
+    let same : q ≡ r = cc is in
+    let P : Watching → Type 0 = λ x. StandsForWatching x history p v in
+    (v, refl, subst P same h)
+
+-- where none runs, none is shown
+pub watching_missing : (history : List PlainChange) (p : Plain) (o : Option Watching) (w : Option PlainWatching) → o ≡ None → AreWatching history p o w → w ≡ None
+watching_missing history p None None is h = refl
+watching_missing history p None (Some w) is h = absurd h
+watching_missing history p (Some q) w is h = absurd (cc is)
+
+-- a watch that was just started is shown as it is
+pub watching_fresh : (history : List PlainChange) (p : Plain) (o : Option Watching) → IfSome o (λ r. IsFresh p r.watch) → AreWatching history p o (option_map watching_data o)
+watching_fresh history p None h = tt
+watching_fresh history p (Some r) h = (starts r.watch history p h, refl)
 
 -- a connection without bytes
 abbrev pub new_connection : Identity → Connection
-new_connection identity = record { identity = identity; inbox = record { kept = []; ended = false } }
+new_connection identity = record { identity = identity; inbox = record { kept = []; ended = false }; watching = None }
 
 -- a connection that is new
-new_link : (identity : Identity) → IsLink (new_connection identity) (record { identity = identity; sent = []; served = 0 })
+is_new : (history : List PlainChange) (p : Plain) (identity : Identity) → IsLink history p (new_connection identity) (new_link identity)
 unfolding Serves
-new_link identity = (refl, refl, refl)
+is_new history p identity = record { identity = refl; kept = refl; goes_on = refl; watching = tt }
 
 -- a connection that was opened
 pub opened : (s : State) (o : PolicyObjects) (ms : List (List ℕ)) (es fs : List (ℕ × Connection)) (n : ℕ) (identity : Identity) → (nat_lt (length es) OPEN_CONNECTIONS && nat_le n LAST_CONNECTION) ≡ true
     → fs ≡ insert_entry nat_cmp es n (new_connection identity)
-    → (cs : List PlainChange) → HasHistory s cs → HasPolicy s o → HasMarks s ms → (ps : List (ℕ × Link)) → AreLinks es ps → Made s o ms fs (n + 1) (machine_of s cs n ps) (event.Open identity) (told.Opened (record { 0 = n }))
+    → (cs : List PlainChange) → HasHistory s cs → HasPolicy s o → HasMarks s ms → (ps : List (ℕ × Link)) → AreLinks cs (plain_of s) es ps → Made s o ms fs (n + 1) (machine_of s cs n ps) (event.Open identity) (told.Opened (record { 0 = n }))
 unfolding step open_step
 opened s o ms es fs n identity room is cs k p v ps h =
-    let test : (nat_lt (length ps) OPEN_CONNECTIONS && nat_le n LAST_CONNECTION) ≡ true = rw (← links_counted es ps h) room in
+    let test : (nat_lt (length ps) OPEN_CONNECTIONS && nat_le n LAST_CONNECTION) ≡ true = rw (← links_counted cs (plain_of s) es ps h) room in
     rw (test, is) (
       refl,
       record {
@@ -117,27 +159,27 @@ opened s o ms es fs n identity room is cs k p v ps h =
         policy_is = p;
         covers = v;
         next_id = refl;
-        links = links_inserted es ps n (new_connection identity) (record { identity = identity; sent = []; served = 0 }) h (new_link identity);
+        links = links_inserted cs (plain_of s) es ps n (new_connection identity) (new_link identity) h (is_new cs (plain_of s) identity);
       },
     )
 
 -- no connection is opened: too many are open, or the numbers are used up
 pub not_opened : (s : State) (o : PolicyObjects) (ms : List (List ℕ)) (es : List (ℕ × Connection)) (n : ℕ) (identity : Identity) → (nat_lt (length es) OPEN_CONNECTIONS && nat_le n LAST_CONNECTION) ≡ false
-    → (cs : List PlainChange) → HasHistory s cs → HasPolicy s o → HasMarks s ms → (ps : List (ℕ × Link)) → AreLinks es ps → Made s o ms es n (machine_of s cs n ps) (event.Open identity) told.TooMany
+    → (cs : List PlainChange) → HasHistory s cs → HasPolicy s o → HasMarks s ms → (ps : List (ℕ × Link)) → AreLinks cs (plain_of s) es ps → Made s o ms es n (machine_of s cs n ps) (event.Open identity) told.TooMany
 unfolding step open_step
 not_opened s o ms es n identity many cs k p v ps h =
-    let test : (nat_lt (length ps) OPEN_CONNECTIONS && nat_le n LAST_CONNECTION) ≡ false = rw (← links_counted es ps h) many in
+    let test : (nat_lt (length ps) OPEN_CONNECTIONS && nat_le n LAST_CONNECTION) ≡ false = rw (← links_counted cs (plain_of s) es ps h) many in
     rw test (refl, record { store = k; policy_is = p; covers = v; next_id = refl; links = h })
 
 -- bytes that were taken in
 pub fed : (s : State) (o : PolicyObjects) (ms : List (List ℕ)) (es fs : List (ℕ × Connection)) (n : ℕ) (conn : ConnId) (piece : List ℕ) (c : Connection)
     → lookup (is_at (nat_cmp conn.0)) es ≡ Some c → length c.inbox.kept + length piece ≤ KEPT_LIMIT
     → fs ≡ set_value (is_at (nat_cmp conn.0)) es (record c { inbox = record { kept = c.inbox.kept ++ piece; ended = false } })
-    → (cs : List PlainChange) → HasHistory s cs → HasPolicy s o → HasMarks s ms → (ps : List (ℕ × Link)) → AreLinks es ps → Made s o ms fs n (machine_of s cs n ps) (event.Feed conn piece) told.Done
+    → (cs : List PlainChange) → HasHistory s cs → HasPolicy s o → HasMarks s ms → (ps : List (ℕ × Link)) → AreLinks cs (plain_of s) es ps → Made s o ms fs n (machine_of s cs n ps) (event.Feed conn piece) told.Done
 unfolding step feed_step
 fed s o ms es fs n conn piece c there fits is cs k p v ps h =
-    let l = link_there (is_at (nat_cmp conn.0)) es ps c h there in
-    let rest = serves_rest l.0.served l.0.sent c.inbox.kept l.2.1 in
+    let l = link_there cs (plain_of s) (is_at (nat_cmp conn.0)) es ps c h there in
+    let rest = serves_rest l.0.served l.0.sent c.inbox.kept l.2.kept in
     rw (l.1, rest, le-leb (length c.inbox.kept + length piece) KEPT_LIMIT fits, is) (
       refl,
       record {
@@ -145,105 +187,127 @@ fed s o ms es fs n conn piece c there fits is cs k p v ps h =
         policy_is = p;
         covers = v;
         next_id = refl;
-        links = links_set (is_at (nat_cmp conn.0)) es ps (record c { inbox = record { kept = c.inbox.kept ++ piece; ended = false } })
-            (record l.0 { sent = l.0.sent ++ piece }) h (l.2.0, serves_more l.0.served l.0.sent c.inbox.kept piece l.2.1, refl);
+        links = links_set cs (plain_of s) (is_at (nat_cmp conn.0)) es ps (record c { inbox = record { kept = c.inbox.kept ++ piece; ended = false } })
+            (record l.0 { sent = l.0.sent ++ piece }) h (record { identity = l.2.identity; kept = serves_more l.0.served l.0.sent c.inbox.kept piece l.2.kept; goes_on = refl; watching = l.2.watching });
       },
     )
 
 -- bytes that were too many
 pub fed_full : (s : State) (o : PolicyObjects) (ms : List (List ℕ)) (es : List (ℕ × Connection)) (n : ℕ) (conn : ConnId) (piece : List ℕ) (c : Connection)
     → lookup (is_at (nat_cmp conn.0)) es ≡ Some c → KEPT_LIMIT < length c.inbox.kept + length piece
-    → (cs : List PlainChange) → HasHistory s cs → HasPolicy s o → HasMarks s ms → (ps : List (ℕ × Link)) → AreLinks es ps → Made s o ms es n (machine_of s cs n ps) (event.Feed conn piece) told.Full
+    → (cs : List PlainChange) → HasHistory s cs → HasPolicy s o → HasMarks s ms → (ps : List (ℕ × Link)) → AreLinks cs (plain_of s) es ps → Made s o ms es n (machine_of s cs n ps) (event.Feed conn piece) told.Full
 unfolding step feed_step
 fed_full s o ms es n conn piece c there many cs k p v ps h =
-    let l = link_there (is_at (nat_cmp conn.0)) es ps c h there in
-    let rest = serves_rest l.0.served l.0.sent c.inbox.kept l.2.1 in
+    let l = link_there cs (plain_of s) (is_at (nat_cmp conn.0)) es ps c h there in
+    let rest = serves_rest l.0.served l.0.sent c.inbox.kept l.2.kept in
     rw (l.1, rest, lt-leb (length c.inbox.kept + length piece) KEPT_LIMIT many) (refl, record { store = k; policy_is = p; covers = v; next_id = refl; links = h })
 
 -- bytes on no connection
 pub fed_nowhere : (s : State) (o : PolicyObjects) (ms : List (List ℕ)) (es : List (ℕ × Connection)) (n : ℕ) (conn : ConnId) (piece : List ℕ)
     → lookup (is_at (nat_cmp conn.0)) es ≡ None
-    → (cs : List PlainChange) → HasHistory s cs → HasPolicy s o → HasMarks s ms → (ps : List (ℕ × Link)) → AreLinks es ps → Made s o ms es n (machine_of s cs n ps) (event.Feed conn piece) told.Ended
+    → (cs : List PlainChange) → HasHistory s cs → HasPolicy s o → HasMarks s ms → (ps : List (ℕ × Link)) → AreLinks cs (plain_of s) es ps → Made s o ms es n (machine_of s cs n ps) (event.Feed conn piece) told.Ended
 unfolding step feed_step
 fed_nowhere s o ms es n conn piece missing cs k p v ps h =
-    rw (link_missing (is_at (nat_cmp conn.0)) es ps h missing) (refl, record { store = k; policy_is = p; covers = v; next_id = refl; links = h })
+    rw (link_missing cs (plain_of s) (is_at (nat_cmp conn.0)) es ps h missing) (refl, record { store = k; policy_is = p; covers = v; next_id = refl; links = h })
 
 -- a connection that was closed, or was none
 pub closed : (s : State) (o : PolicyObjects) (ms : List (List ℕ)) (es fs : List (ℕ × Connection)) (n : ℕ) (conn : ConnId) → fs ≡ remove_entry (is_at (nat_cmp conn.0)) es
-    → (cs : List PlainChange) → HasHistory s cs → HasPolicy s o → HasMarks s ms → (ps : List (ℕ × Link)) → AreLinks es ps → Made s o ms fs n (machine_of s cs n ps) (event.Close conn) told.Done
+    → (cs : List PlainChange) → HasHistory s cs → HasPolicy s o → HasMarks s ms → (ps : List (ℕ × Link)) → AreLinks cs (plain_of s) es ps → Made s o ms fs n (machine_of s cs n ps) (event.Close conn) told.Done
 unfolding step
-closed s o ms es fs n conn is cs k p v ps h = rw is (refl, record { store = k; policy_is = p; covers = v; next_id = refl; links = links_removed (is_at (nat_cmp conn.0)) es ps h })
+closed s o ms es fs n conn is cs k p v ps h = rw is (refl, record { store = k; policy_is = p; covers = v; next_id = refl; links = links_removed cs (plain_of s) (is_at (nat_cmp conn.0)) es ps h })
 
 -- nothing to serve, for there is no connection
 pub served_nowhere : (s : State) (o : PolicyObjects) (ms : List (List ℕ)) (es : List (ℕ × Connection)) (n : ℕ) (conn : ConnId)
     → lookup (is_at (nat_cmp conn.0)) es ≡ None
-    → (cs : List PlainChange) → HasHistory s cs → HasPolicy s o → HasMarks s ms → (ps : List (ℕ × Link)) → AreLinks es ps → Made s o ms es n (machine_of s cs n ps) (event.Serve conn) told.Nothing
+    → (cs : List PlainChange) → HasHistory s cs → HasPolicy s o → HasMarks s ms → (ps : List (ℕ × Link)) → AreLinks cs (plain_of s) es ps → Made s o ms es n (machine_of s cs n ps) (event.Serve conn) told.Nothing
 unfolding step serve_step
 served_nowhere s o ms es n conn missing cs k p v ps h =
-    rw (link_missing (is_at (nat_cmp conn.0)) es ps h missing) (refl, record { store = k; policy_is = p; covers = v; next_id = refl; links = h })
+    rw (link_missing cs (plain_of s) (is_at (nat_cmp conn.0)) es ps h missing) (refl, record { store = k; policy_is = p; covers = v; next_id = refl; links = h })
+
+-- nothing to serve, while a watch runs
+pub served_beside : (s : State) (o : PolicyObjects) (ms : List (List ℕ)) (es : List (ℕ × Connection)) (n : ℕ) (conn : ConnId) (c : Connection) (r : Watching)
+    → lookup (is_at (nat_cmp conn.0)) es ≡ Some c → c.watching ≡ Some r
+    → (cs : List PlainChange) → HasHistory s cs → HasPolicy s o → HasMarks s ms → (ps : List (ℕ × Link)) → AreLinks cs (plain_of s) es ps → Made s o ms es n (machine_of s cs n ps) (event.Serve conn) told.Nothing
+unfolding step serve_step serve_beside
+served_beside s o ms es n conn c r there runs cs k p v ps h =
+    let l = link_there cs (plain_of s) (is_at (nat_cmp conn.0)) es ps c h there in
+    let w = watching_there cs (plain_of s) r c.watching l.0.watching runs l.2.watching in
+    rw (l.1, w.1) (refl, record { store = k; policy_is = p; covers = v; next_id = refl; links = h })
 
 -- nothing to serve, for nothing is whole
 pub served_nothing : (s : State) (o : PolicyObjects) (ms : List (List ℕ)) (es : List (ℕ × Connection)) (n : ℕ) (conn : ConnId) (c : Connection)
-    → lookup (is_at (nat_cmp conn.0)) es ≡ Some c → next_of c.inbox ≡ None
-    → (cs : List PlainChange) → HasHistory s cs → HasPolicy s o → HasMarks s ms → (ps : List (ℕ × Link)) → AreLinks es ps → Made s o ms es n (machine_of s cs n ps) (event.Serve conn) told.Nothing
-unfolding step serve_step serve_item
-served_nothing s o ms es n conn c there none cs k p v ps h =
-    let l = link_there (is_at (nat_cmp conn.0)) es ps c h there in
-    let rest = serves_rest l.0.served l.0.sent c.inbox.kept l.2.1 in
-    let first_none : first c.inbox.kept ≡ None = rw l.2.2 at none in
-    rw (l.1, rest, first_none) (refl, record { store = k; policy_is = p; covers = v; next_id = refl; links = h })
+    → lookup (is_at (nat_cmp conn.0)) es ≡ Some c → c.watching ≡ None → next_of c.inbox ≡ None
+    → (cs : List PlainChange) → HasHistory s cs → HasPolicy s o → HasMarks s ms → (ps : List (ℕ × Link)) → AreLinks cs (plain_of s) es ps → Made s o ms es n (machine_of s cs n ps) (event.Serve conn) told.Nothing
+unfolding step serve_step serve_beside serve_item
+served_nothing s o ms es n conn c there idle none cs k p v ps h =
+    let l = link_there cs (plain_of s) (is_at (nat_cmp conn.0)) es ps c h there in
+    let rest = serves_rest l.0.served l.0.sent c.inbox.kept l.2.kept in
+    let first_none : first c.inbox.kept ≡ None = rw l.2.goes_on at none in
+    rw (l.1, watching_missing cs (plain_of s) c.watching l.0.watching idle l.2.watching, rest, first_none) (refl, record { store = k; policy_is = p; covers = v; next_id = refl; links = h })
 
 -- a fault ends its connection
-fault_closes : (objects : PolicyObjects) (plain : Plain) (identity : Identity) (fault : HttpFault) → (answer objects plain identity (Err fault)).0.close ≡ true
+fault_closes : (objects : PolicyObjects) (plain : Plain) (identity : Identity) (fault : HttpFault) → (answer objects plain identity (Err fault)).reply.close ≡ true
 unfolding answer fault_reply
 fault_closes objects plain identity fault = refl
 
+-- the connection and the link after a request was served
+abbrev pub connection_after : Connection → Result HttpRequest HttpFault → Option Watching → Connection
+connection_after c item r = record c { inbox = after_next c.inbox item; watching = r }
+
+abbrev link_after : Link → Option PlainWatching → Link
+link_after l w = record l { served = suc l.served; watching = w }
+
 -- a connection that goes on after its request was served
-goes_on : (objects : PolicyObjects) (plain : Plain) (identity : Identity) (c : Connection) (l : Link) (item : Result HttpRequest HttpFault) → IsLink c l → first c.inbox.kept ≡ Some item
-    → (answer objects plain identity item).0.close ≡ false → IsLink (record c { inbox = after_next c.inbox item }) (record l { served = suc l.served })
-goes_on objects plain identity c l (Ok request) h e open' = (h.0, serves_next l.served l.sent c.inbox.kept request h.1 e, h.2)
-goes_on objects plain identity c l (Err fault) h e open' = absurd (let both : true ≡ false = sym (fault_closes objects plain identity fault) ∙ open' in cc both)
+goes_on : (history : List PlainChange) (objects : PolicyObjects) (plain : Plain) (identity : Identity) (c : Connection) (l : Link) (item : Result HttpRequest HttpFault) (r : Option Watching) (w : Option PlainWatching)
+    → IsLink history plain c l → AreWatching history plain r w → first c.inbox.kept ≡ Some item
+    → (answer objects plain identity item).reply.close ≡ false → IsLink history plain (connection_after c item r) (link_after l w)
+goes_on history objects plain identity c l (Ok request) r w h watch e open' =
+    record { identity = h.identity; kept = serves_next l.served l.sent c.inbox.kept request h.kept e; goes_on = h.goes_on; watching = watch }
+goes_on history objects plain identity c l (Err fault) r w h watch e open' = absurd (let both : true ≡ false = sym (fault_closes objects plain identity fault) ∙ open' in cc both)
 
 -- the connections after a request was served
-abbrev pub connections_after : Bool → ℕ → Connection → Result HttpRequest HttpFault → List (ℕ × Connection) → List (ℕ × Connection)
-connections_after close id c item es =
-    if close then remove_entry (is_at (nat_cmp id)) (set_value (is_at (nat_cmp id)) es (record c { inbox = after_next c.inbox item }))
-    else set_value (is_at (nat_cmp id)) es (record c { inbox = after_next c.inbox item })
+abbrev pub connections_after : Bool → ℕ → Connection → Result HttpRequest HttpFault → Option Watching → List (ℕ × Connection) → List (ℕ × Connection)
+connections_after close id c item r es =
+    if close then remove_entry (is_at (nat_cmp id)) (set_value (is_at (nat_cmp id)) es (connection_after c item r))
+    else set_value (is_at (nat_cmp id)) es (connection_after c item r)
+
+-- the same connections, before the changes of the request
+links_served : (close : Bool) (history : List PlainChange) (plain : Plain) (objects : PolicyObjects) (id n : ℕ) (c : Connection) (l : Link) (item : Result HttpRequest HttpFault) (r : Option Watching) (w : Option PlainWatching) (es : List (ℕ × Connection)) (ps : List (ℕ × Link))
+    → AreLinks history plain es ps → IsLink history plain c l → AreWatching history plain r w → first c.inbox.kept ≡ Some item → (answer objects plain c.identity item).reply.close ≡ close
+    → AreLinks history plain (connections_after close id c item r es) (ended_if close id (with_link id (link_after l w) (record { store = plain; changes = history; next_id = n; links = ps }))).links
+links_served true history plain objects id n c l item r w es ps h k watch e close =
+    rw (removed_set (is_at (nat_cmp id)) es (connection_after c item r), removed_set (is_at (nat_cmp id)) ps (link_after l w)) (links_removed history plain (is_at (nat_cmp id)) es ps h)
+links_served false history plain objects id n c l item r w es ps h k watch e close =
+    links_set history plain (is_at (nat_cmp id)) es ps (connection_after c item r) (link_after l w) h (goes_on history objects plain c.identity c l item r w k watch e close)
 
 -- the machine after a request was served
-after_served : (close : Bool) (plain : Plain) (s t : State) (o u : PolicyObjects) (ms ns : List (List ℕ)) (cs : List PlainChange) (n id : ℕ) (c : Connection) (l : Link) (item : Result HttpRequest HttpFault) (changes : List PlainChange) (es : List (ℕ × Connection)) (ps : List (ℕ × Link))
-    → HasHistory s cs → HasPolicy s o → HasMarks s ms → AreLinks es ps → IsLink c l → first c.inbox.kept ≡ Some item → (answer o plain c.identity item).0.close ≡ close → Writes s o ms t u ns changes
-    → StandsFor t u ns (connections_after close id c item es) n (ended_if close id (changed changes (with_link id (record l { served = suc l.served }) (machine_of s cs n ps))))
-after_served true plain s t o u ms ns cs n id c l item changes es ps known policy covers h k e close follows = record {
-  store = (follows cs (plain_of s) known policy covers).0;
-  policy_is = (follows cs (plain_of s) known policy covers).1;
-  covers = (follows cs (plain_of s) known policy covers).2;
-  next_id = refl;
-  links = rw (
-    removed_set (is_at (nat_cmp id)) es (record c { inbox = after_next c.inbox item }),
-    removed_set (is_at (nat_cmp id)) ps (record l { served = suc l.served }),
-  )
-      (links_removed (is_at (nat_cmp id)) es ps h);
-}
-after_served false plain s t o u ms ns cs n id c l item changes es ps known policy covers h k e close follows = record {
-  store = (follows cs (plain_of s) known policy covers).0;
-  policy_is = (follows cs (plain_of s) known policy covers).1;
-  covers = (follows cs (plain_of s) known policy covers).2;
-  next_id = refl;
-  links = links_set (is_at (nat_cmp id)) es ps (record c { inbox = after_next c.inbox item }) (record l { served = suc l.served }) h (goes_on o plain c.identity c l item k e close);
-}
+after_served : (close : Bool) (s t : State) (o u : PolicyObjects) (ms ns : List (List ℕ)) (cs : List PlainChange) (n id : ℕ) (c : Connection) (l : Link) (item : Result HttpRequest HttpFault) (r : Option Watching) (w : Option PlainWatching) (changes : List PlainChange) (es : List (ℕ × Connection)) (ps : List (ℕ × Link))
+    → HasHistory s cs → HasPolicy s o → HasMarks s ms → AreLinks cs (plain_of s) es ps → IsLink cs (plain_of s) c l → AreWatching cs (plain_of s) r w → first c.inbox.kept ≡ Some item → (answer o (plain_of s) c.identity item).reply.close ≡ close → Writes s o ms t u ns changes
+    → StandsFor t u ns (connections_after close id c item r es) n (ended_if close id (changed changes (with_link id (link_after l w) (machine_of s cs n ps))))
+after_served close s t o u ms ns cs n id c l item r w changes es ps known policy covers h k watch e closes follows =
+    let after = follows cs (plain_of s) known policy covers in
+    let links = links_served close cs (plain_of s) o id n c l item r w es ps h k watch e closes in
+    by_close close after.0 after.1 after.2
+    (links_written cs changes (plain_of s) (changes_follow s t cs changes (plain_of s) known after.0) (connections_after close id c item r es) _ links)
+  where
+    by_close : (close : Bool) → StoreStands t (cs ++ changes) (written changes (plain_of s)) → u ≡ policy_objects (written changes (plain_of s)).objects → Covers ns (roles_in (written changes (plain_of s)).objects)
+        → AreLinks (cs ++ changes) (written changes (plain_of s)) (connections_after close id c item r es) (ended_if close id (with_link id (link_after l w) (machine_of s cs n ps))).links
+        → StandsFor t u ns (connections_after close id c item r es) n (ended_if close id (changed changes (with_link id (link_after l w) (machine_of s cs n ps))))
+    by_close true store policy covers links = record { store = store; policy_is = policy; covers = covers; next_id = refl; links = links }
+    by_close false store policy covers links = record { store = store; policy_is = policy; covers = covers; next_id = refl; links = links }
 
 -- a request that was served
-pub served : (s t : State) (o u : PolicyObjects) (ms ns : List (List ℕ)) (es fs : List (ℕ × Connection)) (n : ℕ) (conn : ConnId) (c : Connection) (item : Result HttpRequest HttpFault) (answered : Answered)
-    → lookup (is_at (nat_cmp conn.0)) es ≡ Some c → next_of c.inbox ≡ Some item → answered ≡ answer o (plain_of s) c.identity item
-    → Writes s o ms t u ns answered.1 → fs ≡ connections_after answered.0.close conn.0 c item es
-    → (cs : List PlainChange) → HasHistory s cs → HasPolicy s o → HasMarks s ms → (ps : List (ℕ × Link)) → AreLinks es ps → Made t u ns fs n (machine_of s cs n ps) (event.Serve conn) (told.Sent (output_of answered))
-unfolding step serve_step serve_item after_serve
-served s t o u ms ns es fs n conn c item answered there some is follows links cs k p v ps h =
-    let l = link_there (is_at (nat_cmp conn.0)) es ps c h there in
-    let rest = serves_rest l.0.served l.0.sent c.inbox.kept l.2.1 in
-    let first_some : first c.inbox.kept ≡ Some item = rw l.2.2 at some in
+pub served : (s t : State) (o u : PolicyObjects) (ms ns : List (List ℕ)) (es fs : List (ℕ × Connection)) (n : ℕ) (conn : ConnId) (c : Connection) (item : Result HttpRequest HttpFault) (r : Option Watching) (answered : Answered)
+    → lookup (is_at (nat_cmp conn.0)) es ≡ Some c → c.watching ≡ None → next_of c.inbox ≡ Some item → answered ≡ answer o (plain_of s) c.identity item
+    → ((cs : List PlainChange) → AreWatching cs (plain_of s) r answered.watch)
+    → Writes s o ms t u ns answered.changes → fs ≡ connections_after answered.reply.close conn.0 c item r es
+    → (cs : List PlainChange) → HasHistory s cs → HasPolicy s o → HasMarks s ms → (ps : List (ℕ × Link)) → AreLinks cs (plain_of s) es ps → Made t u ns fs n (machine_of s cs n ps) (event.Serve conn) (told.Sent (output_of answered))
+unfolding step serve_step serve_beside serve_item after_serve
+served s t o u ms ns es fs n conn c item r answered there idle some is watch follows links cs k p v ps h =
+    let l = link_there cs (plain_of s) (is_at (nat_cmp conn.0)) es ps c h there in
+    let rest = serves_rest l.0.served l.0.sent c.inbox.kept l.2.kept in
+    let first_some : first c.inbox.kept ≡ Some item = rw l.2.goes_on at some in
     let made : answer (policy_objects (plain_of s).objects) (plain_of s) l.0.identity item ≡ answered =
-    sym (is ∙ ap (λ identity. answer o (plain_of s) identity item) l.2.0 ∙ ap (λ objects. answer objects (plain_of s) l.0.identity item) p) in
-    rw (l.1, rest, first_some, made, links)
-    (refl, after_served answered.0.close (plain_of s) s t o u ms ns cs n conn.0 c l.0 item answered.1 es ps k p v h l.2 first_some (ap (λ a. a.0.close) (sym is)) follows)
+    sym (is ∙ ap (λ identity. answer o (plain_of s) identity item) l.2.identity ∙ ap (λ objects. answer objects (plain_of s) l.0.identity item) p) in
+    rw (l.1, watching_missing cs (plain_of s) c.watching l.0.watching idle l.2.watching, rest, first_some, made, links)
+    (refl, after_served answered.reply.close s t o u ms ns cs n conn.0 c l.0 item r answered.watch answered.changes es ps k p v h l.2 (watch cs) first_some (ap (λ a. a.reply.close) (sym is)) follows)

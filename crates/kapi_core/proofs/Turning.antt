@@ -18,6 +18,7 @@ use Rattle.kapi_core.specs.declared.connection.Connection.{Connection}
 use Rattle.kapi_core.specs.declared.event.Event.TheVariants as event
 use Rattle.kapi_core.specs.declared.event.Answer.TheVariants as told
 use Rattle.kapi_core.specs.declared.event.Turned.{Turned}
+use Rattle.kapi_core.proofs.AlikeLinks.{changes_follow, links_written}
 use Rattle.kapi_core.proofs.Steps.{HasHistory, HasMarks, HasPolicy, Made, machine_of, made_for}
 
 -- a turn is answered late, if at all
@@ -47,7 +48,7 @@ StillCovers s ms ns = Covers ms (roles_at s) → Covers ns (roles_at s)
 
 -- no turn is due
 not_turned : (s : State) (o : PolicyObjects) (ms ns : List (List ℕ)) (es : List (ℕ × Connection)) (n : ℕ) → IsDue s ms None → StillCovers s ms ns
-    → (cs : List PlainChange) → HasHistory s cs → HasPolicy s o → HasMarks s ms → (ps : List (ℕ × Link)) → AreLinks es ps → Made s o ns es n (machine_of s cs n ps) event.Turn told.Nothing
+    → (cs : List PlainChange) → HasHistory s cs → HasPolicy s o → HasMarks s ms → (ps : List (ℕ × Link)) → AreLinks cs (plain_of s) es ps → Made s o ns es n (machine_of s cs n ps) event.Turn told.Nothing
 unfolding step turn_step
 not_turned s o ms ns es n due still cs k p v ps h =
     let m = machine_of s cs n ps in
@@ -68,19 +69,20 @@ kept_due old ns still = λ m h.
 -- a turn that was written
 turn_written : (s t : State) (o u : PolicyObjects) (ms ls ns : List (List ℕ)) (es : List (ℕ × Connection)) (n : ℕ) (turn : Turn) (changes : List PlainChange) (turned : Turned)
     → IsDue s ms (Some turn) → StillCovers s ms ls → rewriting turn (plain_of s) ≡ Ok changes → told.Turned turned ≡ (after_turn turn.name (Ok changes) (machine_of s [] n [])).0 → Writes s o ls t u ns changes
-    → (cs : List PlainChange) → HasHistory s cs → HasPolicy s o → HasMarks s ms → (ps : List (ℕ × Link)) → AreLinks es ps → Made t u ns es n (machine_of s cs n ps) event.Turn (told.Turned turned)
+    → (cs : List PlainChange) → HasHistory s cs → HasPolicy s o → HasMarks s ms → (ps : List (ℕ × Link)) → AreLinks cs (plain_of s) es ps → Made t u ns es n (machine_of s cs n ps) event.Turn (told.Turned turned)
 unfolding step turn_step
 turn_written s t o u ms ls ns es n turn changes turned due still is tells writes cs k p v ps h =
     let m = machine_of s cs n ps in
     let P : Option Turn → Type 0 = λ d. (told.Turned turned ≡ (turned_by d m).0) × StandsFor t u ns es n (turned_by d m).1 in
     let Q : Result (List PlainChange) StoreFault → Type 0 = λ r. (told.Turned turned ≡ (after_turn turn.name r m).0) × StandsFor t u ns es n (after_turn turn.name r m).1 in
     let after = writes cs (plain_of s) k p (still v) in
-    subst P (due v) (subst Q (sym is) (tells, record { store = after.0; policy_is = after.1; covers = after.2; next_id = refl; links = h }))
+    let links = links_written cs changes (plain_of s) (changes_follow s t cs changes (plain_of s) k after.0) es ps h in
+    subst P (due v) (subst Q (sym is) (tells, record { store = after.0; policy_is = after.1; covers = after.2; next_id = refl; links = links }))
 
 -- a turn that was refused
 turn_refused : (s t : State) (o u : PolicyObjects) (ms ls ns : List (List ℕ)) (es : List (ℕ × Connection)) (n : ℕ) (turn : Turn) (fault : StoreFault)
     → IsDue s ms (Some turn) → StillCovers s ms ls → rewriting turn (plain_of s) ≡ Err fault → t ≡ s → u ≡ o → StillCovers s ls ns
-    → (cs : List PlainChange) → HasHistory s cs → HasPolicy s o → HasMarks s ms → (ps : List (ℕ × Link)) → AreLinks es ps → Made t u ns es n (machine_of s cs n ps) event.Turn told.Nothing
+    → (cs : List PlainChange) → HasHistory s cs → HasPolicy s o → HasMarks s ms → (ps : List (ℕ × Link)) → AreLinks cs (plain_of s) es ps → Made t u ns es n (machine_of s cs n ps) event.Turn told.Nothing
 unfolding step turn_step
 turn_refused s t o u ms ls ns es n turn fault due still is same kept on cs k p v ps h =
     let m = machine_of s cs n ps in

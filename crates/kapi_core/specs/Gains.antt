@@ -5,7 +5,7 @@ use Rattle.kapi_policy.specs.Objects.{PolicyObjects}
 use Rattle.kapi_aggregation.specs.Roles.{Labelled}
 use Rattle.kapi_aggregation.specs.Unions.{IsSettled}
 use Rattle.kapi_gains.specs.Access.{GivesNothing, IsHarmless}
-use Rattle.kapi_gains.specs.Members.{Has}
+use Rattle.kapi_aggregation.specs.Members.{Has}
 use Rattle.kapi_core.specs.declared.event.ConnId.{ConnId}
 use Rattle.kapi_core.specs.declared.event.Event.{Event}
 use Rattle.kapi_core.specs.declared.event.Event.TheVariants as event

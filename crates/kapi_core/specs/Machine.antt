@@ -1,5 +1,5 @@
 -- The machine as data, and what each event makes of it.
-use Rattle.std.specs.Prelude.{ℕ, ◌+◌, zero, suc, nat_lt, nat_le, Bool, ◌&&◌, if◌then◌else◌, List, [], ◌∷◌, ◌++◌, length, drop, Option, Some, None, Result, Ok, Err}
+use Rattle.std.specs.Prelude.{ℕ, ◌+◌, zero, suc, nat_lt, nat_le, Bool, true, false, ◌&&◌, if◌then◌else◌, List, [], ◌∷◌, ◌++◌, length, drop, Option, Some, None, option_map, Result, Ok, Err}
 use Rattle.std.specs.Ordering.{nat_cmp}
 use Rattle.std.specs.Map.{lookup, set_value, remove_entry}
 use Rattle.std.specs.BTreeMap.{insert_entry, is_at}
@@ -8,6 +8,10 @@ use Rattle.kapi_aggregation.specs.Roles.{roles_in}
 use Rattle.kapi_aggregation.specs.Turns.{next}
 use Rattle.kapi_aggregation.specs.declared.turn.Turn.{Turn}
 use Rattle.kapi_answer.specs.Answer.{answer, Answered}
+use Rattle.kapi_answer.specs.Watch.{PlainWatching, event_reply_of}
+use Rattle.kapi_answer.specs.declared.watch.After.{After}
+use Rattle.kapi_answer.specs.declared.watch.After.TheVariants as becomes
+use Rattle.kapi_answer.specs.declared.watch.EventReply.{EventReply}
 use Rattle.kapi_http.specs.Cut.{first}
 use Rattle.kapi_http.specs.declared.message.HttpFault.{HttpFault}
 use Rattle.kapi_http.specs.declared.message.HttpRequest.{HttpRequest}
@@ -15,6 +19,7 @@ use Rattle.kapi_rbac_types.specs.declared.identity.Identity.{Identity}
 use Rattle.kapi_policy.specs.Objects.{PolicyObjects}
 use Rattle.kapi_store.specs.Faults.{StoreFault}
 use Rattle.kapi_store.specs.Plain.{Plain, PlainChange, written}
+use Rattle.kapi_watch.specs.Watches.{after_pump, pumped}
 use Rattle.kapi_stored_policy.specs.Reading.{policy_changes, policy_objects}
 use Rattle.kapi_core.specs.declared.event.Event.{Event}
 use Rattle.kapi_core.specs.declared.event.Event.TheVariants as event
@@ -24,11 +29,16 @@ use Rattle.kapi_core.specs.declared.event.Output.{Output}
 use Rattle.kapi_core.specs.declared.machine.TheConstants.{LAST_CONNECTION, OPEN_CONNECTIONS}
 use Rattle.kapi_http.specs.declared.inbox.TheConstants.{KEPT_LIMIT}
 
--- a connection: who makes its requests, all bytes that it ever sent, and how many of its requests were served
+-- a connection: who makes its requests, all bytes that it ever sent, how many of its requests were served, and the watch that it shows
 pub record Link : Type 0 where
   pub identity : Identity
   pub sent : List ℕ
   pub served : ℕ
+  pub watching : Option PlainWatching
+
+-- a connection that was just opened
+abbrev pub new_link : Identity → Link
+new_link identity = record { identity = identity; sent = []; served = 0; watching = None }
 
 -- the objects, all changes that ever made them, the next number, and the open connections by number; one that was closed or has ended
 -- is not among them
@@ -81,7 +91,7 @@ unserved l = rest_after l.served l.sent
 unfoldable pub open_step : Identity → Machine → Answer × Machine
 open_step identity m =
     if nat_lt (length m.links) OPEN_CONNECTIONS && nat_le m.next_id LAST_CONNECTION
-    then (told.Opened (record { 0 = m.next_id }), with_new_link m.next_id (record { identity = identity; sent = []; served = 0 }) m)
+    then (told.Opened (record { 0 = m.next_id }), with_new_link m.next_id (new_link identity) m)
     else (told.TooMany, m)
 
 -- bytes come in: at most 2,097,152 are kept unserved
@@ -102,13 +112,13 @@ changed cs m = record m { store = written cs m.store; changes = m.changes ++ cs 
 
 -- what goes out, and what the step changed in the policy
 abbrev pub output_of : Answered → Output
-output_of answered = record { bytes = answered.0.bytes; close = answered.0.close; policy_changes = policy_changes answered.1 }
+output_of answered = record { bytes = answered.reply.bytes; close = answered.reply.close; policy_changes = policy_changes answered.changes }
 
--- one request more was served, and its changes were made
+-- one request more was served, its changes were made, and its watch is shown from now on
 unfoldable pub after_serve : ℕ → Link → Answered → Machine → Answer × Machine
 after_serve id l answered m = (
   told.Sent (output_of answered),
-  ended_if answered.0.close id (changed answered.1 (with_link id (record l { served = suc l.served }) m)),
+  ended_if answered.reply.close id (changed answered.changes (with_link id (record l { served = suc l.served; watching = answered.watch }) m)),
 )
 
 -- the answer to what was cut, if anything was, by the roles and bindings that there are
@@ -116,10 +126,50 @@ unfoldable pub serve_item : ℕ → Link → Option (Result HttpRequest HttpFaul
 serve_item id l None m = (told.Nothing, m)
 serve_item id l (Some item) m = after_serve id l (answer (policy_of m) m.store l.identity item) m
 
+-- while a watch of the connection runs, no request is served
+unfoldable pub serve_beside : ℕ → Link → Option PlainWatching → Machine → Answer × Machine
+serve_beside id l (Some w) m = (told.Nothing, m)
+serve_beside id l None m = serve_item id l (first (unserved l)) m
+
 -- the next whole request of a connection is answered
 unfoldable pub serve_step : ℕ → Option Link → Machine → Answer × Machine
 serve_step id None m = (told.Nothing, m)
-serve_step id (Some l) m = serve_item id l (first (unserved l)) m
+serve_step id (Some l) m = serve_beside id l l.watching m
+
+-- whether the connection ends with an event of its watch
+abbrev pub is_last : After → Bool
+is_last becomes.Watches = false
+is_last becomes.Serves = false
+is_last becomes.Closes = true
+
+-- what goes out of an event
+abbrev pub event_output : EventReply → Output
+event_output r = record { bytes = r.bytes; close = is_last r.after; policy_changes = [] }
+
+-- the connection whose watch was pumped
+abbrev pub watched_on : Link → PlainWatching → Machine → Link
+watched_on l w m = record l { watching = Some (record w { watch = after_pump m.changes m.store w.watch }) }
+
+-- the machine after an event of a watch
+unfoldable pub after_event : After → ℕ → Link → PlainWatching → Machine → Machine
+after_event becomes.Watches id l w m = with_link id (watched_on l w m) m
+after_event becomes.Serves id l w m = with_link id (record l { watching = None }) m
+after_event becomes.Closes id l w m = without_link id m
+
+-- what is shown goes out; where nothing is, the watch moves on
+unfoldable pub pump_shown : ℕ → Link → PlainWatching → Option EventReply → Machine → Answer × Machine
+pump_shown id l w None m = (told.Nothing, with_link id (watched_on l w m) m)
+pump_shown id l w (Some r) m = (told.Sent (event_output r), after_event r.after id l w m)
+
+-- the next event of a watch, if there is one
+unfoldable pub pump_watch : ℕ → Link → Option PlainWatching → Machine → Answer × Machine
+pump_watch id l None m = (told.Nothing, m)
+pump_watch id l (Some w) m = pump_shown id l w (option_map (event_reply_of m.store w) (pumped m.changes m.store w.watch)) m
+
+-- the next event of a connection's watch
+unfoldable pub pump_step : ℕ → Option Link → Machine → Answer × Machine
+pump_step id None m = (told.Nothing, m)
+pump_step id (Some l) m = pump_watch id l l.watching m
 
 -- the changes of a turn were made; or, where no revision is left, none
 abbrev pub after_turn : List ℕ → Result (List PlainChange) StoreFault → Machine → Answer × Machine
@@ -141,7 +191,7 @@ unfoldable pub step : Machine → Event → Answer × Machine
 step m (event.Open identity) = open_step identity m
 step m (event.Feed conn piece) = feed_step conn.0 piece (link_at conn.0 m) m
 step m (event.Serve conn) = serve_step conn.0 (link_at conn.0 m) m
-step m (event.Pump conn) = (told.Nothing, m)
+step m (event.Pump conn) = pump_step conn.0 (link_at conn.0 m) m
 step m event.Turn = turn_step m
 step m (event.Close conn) = (told.Done, without_link conn.0 m)
 

@@ -10,9 +10,11 @@ use Rattle.kapi_text.specs.Gives.{Fails}
 use Rattle.kapi_aggregation.specs.Marks.{Covers}
 use Rattle.kapi_aggregation.specs.Roles.{roles_in}
 use Rattle.kapi_answer.specs.Load.{fault_told, loads}
+use Rattle.kapi_answer.specs.Watch.{PlainWatching, StandsForWatching}
 use Rattle.kapi_answer.specs.declared.loading.LoadError.{LoadError}
+use Rattle.kapi_answer.specs.declared.watch.Watching.{Watching}
 use Rattle.kapi_policy.specs.declared.change.PolicyChange.{PolicyChange}
-use Rattle.kapi_store.specs.Plain.{PlainChange, StandsFor as StoreStands, plain_of}
+use Rattle.kapi_store.specs.Plain.{Plain, PlainChange, StandsFor as StoreStands, plain_of}
 use Rattle.kapi_stored_policy.specs.Reading.{policy_changes}
 use Rattle.std.specs.Map.{keys_of}
 use Rattle.kapi_core.specs.Opening.{opening_keys}
@@ -36,16 +38,26 @@ unfoldable pub Serves : ℕ → List ℕ → List ℕ → Type 0
 Serves zero bytes rest = rest ≡ bytes
 Serves (suc k) bytes rest = (request : HttpRequest) × (first bytes ≡ Some (Ok request)) × Serves k (drop request.length bytes) rest
 
--- a connection keeps what it was sent and did not serve
-abbrev pub IsLink : Connection → Link → Type 0
-IsLink c l = (c.identity ≡ l.identity) × Serves l.served l.sent c.inbox.kept × (c.inbox.ended ≡ false)
+-- the same watch, if there is one, of all changes ever
+abbrev pub AreWatching : List PlainChange → Plain → Option Watching → Option PlainWatching → Type 0
+AreWatching history s None None = Unit {0}
+AreWatching history s None (Some w) = ⊥
+AreWatching history s (Some r) None = ⊥
+AreWatching history s (Some r) (Some w) = StandsForWatching r history s w
+
+-- a connection keeps what it was sent and did not serve, and shows its watch
+pub record IsLink (history : List PlainChange) (s : Plain) (c : Connection) (l : Link) : Type 0 where
+  pub identity : c.identity ≡ l.identity
+  pub kept : Serves l.served l.sent c.inbox.kept
+  pub goes_on : c.inbox.ended ≡ false
+  pub watching : AreWatching history s c.watching l.watching
 
 -- the same connections by the same numbers
-unfoldable pub AreLinks : List (ℕ × Connection) → List (ℕ × Link) → Type 0
-AreLinks [] [] = Unit {0}
-AreLinks [] (p ∷ ps) = ⊥
-AreLinks (e ∷ es) [] = ⊥
-AreLinks (e ∷ es) (p ∷ ps) = (e.0 ≡ p.0) × IsLink e.1 p.1 × AreLinks es ps
+unfoldable pub AreLinks : List PlainChange → Plain → List (ℕ × Connection) → List (ℕ × Link) → Type 0
+AreLinks history s [] [] = Unit {0}
+AreLinks history s [] (p ∷ ps) = ⊥
+AreLinks history s (e ∷ es) [] = ⊥
+AreLinks history s (e ∷ es) (p ∷ ps) = (e.0 ≡ p.0) × IsLink history s e.1 p.1 × AreLinks history s es ps
 
 -- the store with its window, the policy, the connections and the next number of a machine that is data; each of its aggregated cluster
 -- roles that differs from its union is marked
@@ -54,7 +66,7 @@ pub record StandsFor (kept : State) (policy : PolicyObjects) (marks : List (List
   pub policy_is : policy ≡ policy_of m
   pub covers : Covers marks (roles_in m.store.objects)
   pub next_id : next ≡ m.next_id
-  pub links : AreLinks es m.links
+  pub links : AreLinks m.changes m.store es m.links
 
 -- the running machine stands for the one that is data
 abbrev pub Stands : Running → Machine → Type 0

@@ -6,7 +6,7 @@ ghost use Rattle.kapi_rbac_types.specs.declared.identity.Identity.{Identity};
 ghost use Rattle.kapi_aggregation.specs.Roles.{roles_in};
 ghost use Rattle.kapi_aggregation.specs.Unions.{IsSettled};
 ghost use Rattle.kapi_gains.specs.Access.{IsHarmless};
-ghost use Rattle.kapi_gains.specs.Members.{Has};
+ghost use Rattle.kapi_aggregation.specs.Members.{Has};
 ghost use Rattle.kapi_core.specs.Gains.{IsServed, NobodyGains, acting_in};
 ghost use Rattle.kapi_core.specs.Machine.{Machine, after, policy_of};
 ghost use Rattle.kapi_core.specs.Opening.{opening};

@@ -1,13 +1,17 @@
-ghost use Rattle.std.specs.Prelude.{◌≡◌, Some};
+ghost use Rattle.std.specs.Prelude.{◌≡◌, None, Some};
 ghost use Rattle.std.specs.Ordering.{nat_cmp};
 ghost use Rattle.std.specs.Map.{lookup, set_value};
 ghost use Rattle.std.specs.BTreeMap.{is_at};
-ghost use Rattle.kapi_core.specs.Feeds.{Feeds};
+ghost use Rattle.kapi_answer.specs.declared.watch.Watching.{Watching as Watched};
+ghost use Rattle.kapi_core.specs.Feeds.{Feeds, passed};
+ghost use Rattle.kapi_answer.specs.declared.watch.After.TheVariants as After;
 ghost use Rattle.kapi_http.specs.Inbox.{after_next, next_of};
 ghost use Rattle.kapi_core.specs.declared.connection.Connection.{Connection as Linked};
 
 use crate::connection::Connection;
+use kapi_answer::{After, Watching};
 use kapi_http::{FeedError, HttpFault, HttpRequest};
+use kapi_watch::Place;
 use std::collections::BTreeMap;
 
 /// Takes bytes in on the connection of a number.
@@ -24,17 +28,53 @@ pub fn feed_at(
     }
 }
 
-/// Takes out what stands first on the connection of a number.
+/// Takes out what stands first on the connection of a number, which shows that watch from now on, if there is one.
 pub fn done_at(
     links: &mut BTreeMap<u64, Connection>,
     id: u64,
     item: &Result<HttpRequest, HttpFault>,
+    watching: Option<Watching>,
 )
     requires { (c : Linked) → lookup (is_at (nat_cmp id)) links.old.entries ≡ Some c → next_of c.inbox ≡ Some item.now }
     ensures { (c : Linked) → lookup (is_at (nat_cmp id)) links.old.entries ≡ Some c
-        → links.new.entries ≡ set_value (is_at (nat_cmp id)) links.old.entries (record c { inbox = after_next c.inbox item.now }) }
+        → links.new.entries ≡ set_value (is_at (nat_cmp id)) links.old.entries (record c { inbox = after_next c.inbox item.now; watching = watching }) }
 {
     if let Some(connection) = links.get_mut(&id) {
         connection.inbox.done(item);
+        connection.watching = watching;
+    }
+}
+
+/// After an event of a watch: the watch moves on to a place, or ends, or the connection is closed.
+pub fn pass_event(links: &mut BTreeMap<u64, Connection>, id: u64, after: After, place: Place)
+    ensures { (c : Linked) (w : Watched) → lookup (is_at (nat_cmp id)) links.old.entries ≡ Some c → c.watching ≡ Some w
+        → links.new.entries ≡ passed links.old.entries id c w after place }
+{
+    match after {
+        After::Watches => move_at(links, id, place),
+        After::Serves => unwatch_at(links, id),
+        After::Closes => drop(links.remove(&id)),
+    }
+}
+
+/// Moves the watch of the connection of a number to a place.
+fn move_at(links: &mut BTreeMap<u64, Connection>, id: u64, place: Place)
+    ensures { (c : Linked) (w : Watched) → lookup (is_at (nat_cmp id)) links.old.entries ≡ Some c → c.watching ≡ Some w
+        → links.new.entries ≡ passed links.old.entries id c w After.Watches place }
+{
+    if let Some(connection) = links.get_mut(&id) {
+        if let Some(watching) = &mut connection.watching {
+            watching.watch.shown(place);
+        }
+    }
+}
+
+/// Ends the watch of the connection of a number.
+fn unwatch_at(links: &mut BTreeMap<u64, Connection>, id: u64)
+    ensures { (c : Linked) → lookup (is_at (nat_cmp id)) links.old.entries ≡ Some c
+        → links.new.entries ≡ set_value (is_at (nat_cmp id)) links.old.entries (record c { watching = None }) }
+{
+    if let Some(connection) = links.get_mut(&id) {
+        connection.watching = None;
     }
 }

@@ -2,6 +2,7 @@ ghost use Rattle.std.specs.Prelude.{true, ◌≡◌, ◌≤◌, ◌&&◌, ◌++�
 ghost use Rattle.std.specs.BTreeMap.{is_at};
 ghost use Rattle.std.specs.Map.{remove_entry};
 ghost use Rattle.std.specs.Ordering.{nat_cmp};
+ghost use Rattle.kapi_core.specs.Machine.{is_last};
 ghost use Rattle.kapi_core.specs.Opening.{opening};
 ghost use Rattle.kapi_core.specs.Table.{fits};
 ghost use Rattle.kapi_core.specs.Stands.{HasOpened};
@@ -12,17 +13,18 @@ ghost use Rattle.kapi_policy.specs.Objects.{no_objects};
 
 use crate::connection::Connection;
 use crate::event::{ConnId, OpenError, Output, Turned};
-use crate::links::{done_at, feed_at};
+use crate::links::{done_at, feed_at, pass_event};
 use crate::opening::{LAST_FIRST, open_objects};
 use crate::write::{load_object, make_turn, make_write};
 use kapi_aggregation::Tracker;
-use kapi_answer::{LoadError, Prepared, answer};
+use kapi_answer::{After, LoadError, Prepared, answer, event_reply};
 use kapi_http::{FeedError, Inbox};
 use kapi_names::ResourceRow;
 use kapi_policy::{Policy, PolicyChange};
 use kapi_rbac_types::Identity;
 use kapi_store::Store;
 use kapi_text::{Memory, Sequence};
+use kapi_watch::Next;
 use std::alloc::Global;
 use std::collections::BTreeMap;
 use std::marker::Model;
@@ -143,6 +145,7 @@ impl<P: Policy + Drop> Core<P> {
         let connection = Connection {
             identity,
             inbox: Inbox::new(self.alloc),
+            watching: None,
         };
         match self.connections.insert(id, connection) {
             Ok(replaced) => drop(replaced),
@@ -171,17 +174,25 @@ impl<P: Policy + Drop> Core<P> {
         feed_at(&mut self.connections, conn.0, piece)
     }
 
-    /// Answers the next whole request of a connection, or the fault that stands there; none where there is neither.
+    /// Answers the next whole request of a connection, or the fault that stands there; none where there is neither, and none while
+    /// a watch of the connection runs.
     pub fn serve(&mut self, conn: ConnId) -> Result<Option<Output>, Memory>
         ensures { Sends self.old self.new (Event.Serve conn) result }
     {
         let Some(connection) = self.connections.get(&conn.0) else {
             return Ok(None);
         };
+        if connection.watching.is_some() {
+            return Ok(None);
+        }
         let Some(item) = connection.inbox.next()? else {
             return Ok(None);
         };
-        let Prepared { reply, write } = answer(
+        let Prepared {
+            reply,
+            write,
+            watch,
+        } = answer(
             self.alloc,
             &self.policy,
             &mut self.store,
@@ -195,7 +206,7 @@ impl<P: Policy + Drop> Core<P> {
             &mut self.store,
             write,
         )?;
-        done_at(&mut self.connections, conn.0, &item);
+        done_at(&mut self.connections, conn.0, &item, watch);
         close_if(&mut self.connections, conn.0, reply.close);
         Ok(Some(Output {
             bytes: reply.bytes,
@@ -204,12 +215,29 @@ impl<P: Policy + Drop> Core<P> {
         }))
     }
 
-    /// Shows the next event of a connection's watch. No watch can be started yet, so there is none.
+    /// Shows the next event of a connection's watch; none where it has no watch, and where nothing is to be shown. A watch that cannot
+    /// go on is at its end with that event, and with it the connection, where its request asked for that.
     pub fn pump(&mut self, conn: ConnId) -> Result<Option<Output>, Memory>
         ensures { Sends self.old self.new (Event.Pump conn) result }
     {
-        let _ = conn;
-        Ok(None)
+        let Some(connection) = self.connections.get(&conn.0) else {
+            return Ok(None);
+        };
+        let Some(watching) = &connection.watching else {
+            return Ok(None);
+        };
+        let Next { event, place } = watching.watch.next(&self.store);
+        let Some(event) = event else {
+            pass_event(&mut self.connections, conn.0, After::Watches, place);
+            return Ok(None);
+        };
+        let reply = event_reply(self.alloc, &self.store, watching, &event)?;
+        pass_event(&mut self.connections, conn.0, reply.after, place);
+        Ok(Some(Output {
+            bytes: reply.bytes,
+            close: closes(reply.after),
+            policy_changes: Sequence::new(Vec::new(self.alloc)),
+        }))
     }
 
     /// Makes the controller's next write: the aggregated cluster role of least name whose rules are not its union gets that as its
@@ -234,6 +262,16 @@ impl<P: Policy + Drop> Core<P> {
         ensures { Makes self.old self.new (Event.Close conn) Answer.Done }
     {
         drop(self.connections.remove(&conn.0));
+    }
+}
+
+/// Whether the connection ends.
+fn closes(after: After) -> bool
+    ensures { result ≡ is_last after }
+{
+    match after {
+        After::Closes => true,
+        After::Watches | After::Serves => false,
     }
 }
 

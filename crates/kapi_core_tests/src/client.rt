@@ -74,6 +74,14 @@ pub fn feed(alloc: Global, conn: u64, piece: &[u8]) -> Result<Event, Memory> {
     Ok(Event::Feed(ConnId(conn), Sequence::new(Vec::from_slice(alloc, piece)?)))
 }
 
+/// Serves once; answers what went out, nothing where nothing did.
+pub fn served(alloc: Global, core: &mut Core<PlainPolicy>, conn: u64) -> Result<Vec<u8>, Memory> {
+    match core.step(&Event::Serve(ConnId(conn)))? {
+        Answer::Sent(output) => Ok(output.bytes.into_vec()),
+        _ => Ok(Vec::new(alloc)),
+    }
+}
+
 /// Feeds bytes and serves once; answers what went out, nothing where nothing did.
 pub fn exchange(
     alloc: Global,
@@ -82,10 +90,7 @@ pub fn exchange(
     bytes: &[u8],
 ) -> Result<Vec<u8>, Memory> {
     core.step(&feed(alloc, conn, bytes)?)?;
-    match core.step(&Event::Serve(ConnId(conn)))? {
-        Answer::Sent(output) => Ok(output.bytes.into_vec()),
-        _ => Ok(Vec::new(alloc)),
-    }
+    served(alloc, core, conn)
 }
 
 /// A request and its reply's code: the connection, the method, the target, the body, the code.
@@ -137,7 +142,7 @@ pub type Told = (
 );
 
 /// Whether a text stands among bytes.
-fn holds(bytes: &[u8], text: &str) -> bool {
+pub fn holds(bytes: &[u8], text: &str) -> bool {
     let wanted = text.as_bytes();
     wanted.is_empty() || bytes.windows(wanted.len()).any(|window| window == wanted)
 }

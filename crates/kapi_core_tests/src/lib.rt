@@ -12,6 +12,8 @@ mod limits;
 #[cfg(test)]
 mod loading;
 #[cfg(test)]
+mod moves;
+#[cfg(test)]
 mod options;
 #[cfg(test)]
 mod places;
@@ -24,5 +26,9 @@ pub mod rows;
 mod tests;
 #[cfg(test)]
 mod turns;
+#[cfg(test)]
+mod watch_events;
+#[cfg(test)]
+mod watches;
 #[cfg(test)]
 mod writes;

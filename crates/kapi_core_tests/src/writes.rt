@@ -308,10 +308,18 @@ const WRITES: &[Told] = &[
     (
         0,
         "GET",
-        "/api/v1/namespaces/default/configmaps?watch=true",
+        "/api/v1/namespaces/default/configmaps?watch=true&sendInitialEvents=true",
         "",
         "400",
         "bad request: option",
+    ),
+    (
+        0,
+        "GET",
+        "/api/v1/namespaces/default/configmaps?watch=true&resourceVersion=10",
+        "",
+        "504",
+        "resourceVersion 10 is above the current 9",
     ),
     // the deletion of a collection
     (

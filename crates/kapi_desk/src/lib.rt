@@ -8,8 +8,6 @@ pub mod laws;
 mod rule;
 mod seat;
 mod step;
-#[cfg(test)]
-mod tests;
 mod version;
 
 pub use decision::{SeatDecision, SeatGrant};

@@ -20,7 +20,7 @@ use Rattle.kapi_policy.specs.Laws.{IsInOrder}
 use Rattle.kapi_policy.specs.Objects.{PolicyObjects}
 use Rattle.kapi_gains.proofs.Atoms.{own_in_scope}
 use Rattle.kapi_gains.proofs.Unions.{Source, union_from, union_has}
-use Rattle.kapi_gains.specs.Members.{Has}
+use Rattle.kapi_aggregation.specs.Members.{Has}
 use Rattle.kapi_gains.specs.States.{Labels, cluster_role_at, labelled, labelled_roles, turned}
 use Rattle.kapi_gains.specs.Within.{HasAtom, IsOwn, RoleHas, StaysWithin, scope_of}
 

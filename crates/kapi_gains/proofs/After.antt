@@ -19,9 +19,10 @@ use Rattle.kapi_policy.specs.declared.change.NamespacedName.{NamespacedName}
 use Rattle.kapi_policy.specs.declared.change.PolicyChange.TheVariants as change
 use Rattle.kapi_policy.specs.declared.change.PolicyKey.TheVariants as key
 use Rattle.kapi_policy.specs.declared.change.PolicyPut.TheVariants as put
-use Rattle.kapi_gains.proofs.Elements.{has_either, has_kept, has_left, has_mapped, has_right, kept_of, mapped_of}
+use Rattle.kapi_aggregation.proofs.Lists.{has_kept, has_mapped, kept_of, mapped_of}
+use Rattle.kapi_gains.proofs.Elements.{has_either, has_left, has_right}
 use Rattle.kapi_gains.proofs.Entries.{delete_has, lookup_by, name_exact, name_found, place_exact, place_found, put_has, same_place}
-use Rattle.kapi_gains.specs.Members.{Has}
+use Rattle.kapi_aggregation.specs.Members.{Has}
 use Rattle.kapi_gains.specs.States.{cluster_role_at}
 
 -- ---- cluster roles

@@ -23,9 +23,10 @@ use Rattle.kapi_policy.specs.Objects.{PolicyObjects}
 use Rattle.kapi_policy.specs.declared.change.NamespacedName.{NamespacedName}
 use Rattle.kapi_guard.proofs.Implied.{none_is_missing}
 use Rattle.kapi_guard.specs.Checks.{holds_all}
-use Rattle.kapi_gains.proofs.Elements.{each_passes, has_either, has_left, has_part, kept_of, mapped_of, part_of, passes, passing}
+use Rattle.kapi_aggregation.proofs.Lists.{kept_of, mapped_of, some_at}
+use Rattle.kapi_gains.proofs.Elements.{each_passes, has_either, has_left, has_part, part_of, passing}
 use Rattle.kapi_gains.specs.Access.{may}
-use Rattle.kapi_gains.specs.Members.{Has}
+use Rattle.kapi_aggregation.specs.Members.{Has}
 use Rattle.kapi_gains.specs.Within.{HasAtom, IsOwn, RoleHas, scope_of}
 
 -- ---- what a binding gives
@@ -103,7 +104,7 @@ pub may_by_atom : (objects : PolicyObjects) (identity : Identity) (namespace : L
     → may objects identity namespace p ≡ true
 may_by_atom objects identity namespace p a has allowed =
     allowed_where_held objects identity namespace p
-    ∙ either (is_master identity) _ (sym (rules_by_atoms (held objects identity namespace) p) ∙ passes (λ a. atom_allows a p) (flat_map atoms (held objects identity namespace)) a has allowed)
+    ∙ either (is_master identity) _ (sym (rules_by_atoms (held objects identity namespace) p) ∙ some_at (λ a. atom_allows a p) (flat_map atoms (held objects identity namespace)) a has allowed)
   where
     either : (a b : Bool) → b ≡ true → (a || b) ≡ true
     either true b h = refl

@@ -1,7 +1,7 @@
 -- Items of lists.
-use Rattle.std.proofs.Common.{◌≡◌, ◌⊎◌, inl, inr, List, [], ◌∷◌, ◌++◌, Bool, true, false, cond, ◌&&◌, ◌||◌, refl, ap, map}
-use Rattle.std.specs.List.{AllByRecursion, filter, flat_map, list_all, list_any}
-use Rattle.kapi_gains.specs.Members.{Has}
+use Rattle.std.proofs.Common.{◌≡◌, ◌⊎◌, inl, inr, List, [], ◌∷◌, ◌++◌, Bool, true, false, ◌&&◌, ◌||◌, refl}
+use Rattle.std.specs.List.{flat_map, list_all, list_any}
+use Rattle.kapi_aggregation.specs.Members.{Has}
 
 -- ---- joined lists
 
@@ -39,43 +39,9 @@ module _ {X Y : Type 0} (f : X → List Y) where
       by_case (inl here) more = (x, (inl refl, here))
       by_case (inr there) more = let rest = more there in (rest.0, (inr rest.1.0, rest.1.1))
 
-module _ {X Y : Type 0} (f : X → Y) where
-  pub mapped_of : (xs : List X) (y : Y) → Has (map f xs) y → (x : X) × (Has xs x × (f x ≡ y))
-  mapped_of [] y has = absurd has
-  mapped_of (x ∷ xs) y (inl same) = (x, (inl refl, same))
-  mapped_of (x ∷ xs) y (inr has) = let rest = mapped_of xs y has in (rest.0, (inr rest.1.0, rest.1.1))
-
-  pub has_mapped : (xs : List X) (x : X) → Has xs x → Has (map f xs) (f x)
-  has_mapped [] x has = absurd has
-  has_mapped (y ∷ ys) x (inl same) = inl (ap f same)
-  has_mapped (y ∷ ys) x (inr has) = inr (has_mapped ys x has)
-
 -- ---- tests
 
 module _ {X : Type 0} (p : X → Bool) where
-  -- what is kept was there, and passes
-  pub kept_of : (xs : List X) (x : X) → Has (filter p xs) x → Has xs x × (p x ≡ true)
-  kept_of [] x has = absurd has
-  kept_of (y ∷ ys) x has = by_case (p y) refl (λ there. kept_of ys x there) has
-    where
-      by_case : (b : Bool) → p y ≡ b → (Has (filter p ys) x → Has ys x × (p x ≡ true)) → Has (cond b (y ∷ filter p ys) (filter p ys)) x → Has (y ∷ ys) x × (p x ≡ true)
-      by_case true passes rest (inl same) = (inl same, rw (← same) passes)
-      by_case true passes rest (inr has) = (inr (rest has).0, (rest has).1)
-      by_case false fails rest has = (inr (rest has).0, (rest has).1)
-
-  pub has_kept : (xs : List X) (x : X) → Has xs x → p x ≡ true → Has (filter p xs) x
-  has_kept [] x has passes = absurd has
-  has_kept (y ∷ ys) x (inl same) passes = by_case (p y) (rw same passes)
-    where
-      by_case : (b : Bool) → b ≡ true → Has (cond b (y ∷ filter p ys) (filter p ys)) x
-      by_case true h = inl same
-      by_case false h = absurd (cc h)
-  has_kept (y ∷ ys) x (inr has) passes = by_case (p y) (has_kept ys x has passes)
-    where
-      by_case : (b : Bool) → Has (filter p ys) x → Has (cond b (y ∷ filter p ys) (filter p ys)) x
-      by_case true rest = inr rest
-      by_case false rest = rest
-
   -- where a test is passed some item passes it
   pub passing : (xs : List X) → list_any p xs ≡ true → (x : X) × (Has xs x × (p x ≡ true))
   passing [] some = absurd (cc some)
@@ -84,19 +50,6 @@ module _ {X : Type 0} (p : X → Bool) where
       by_case : (b : Bool) → p y ≡ b → (list_any p ys ≡ true → (x : X) × (Has ys x × (p x ≡ true))) → (b || list_any p ys) ≡ true → (x : X) × (Has (y ∷ ys) x × (p x ≡ true))
       by_case true is more h = (y, (inl refl, is))
       by_case false is more h = let rest = more h in (rest.0, (inr rest.1.0, rest.1.1))
-
-  pub passes : (xs : List X) (x : X) → Has xs x → p x ≡ true → list_any p xs ≡ true
-  passes [] x has is = absurd has
-  passes (y ∷ ys) x (inl same) is = first (p y) (list_any p ys) (rw same is)
-    where
-      first : (a b : Bool) → a ≡ true → (a || b) ≡ true
-      first true b h = refl
-      first false b h = absurd (cc h)
-  passes (y ∷ ys) x (inr has) is = rest (p y) (list_any p ys) (passes ys x has is)
-    where
-      rest : (a b : Bool) → b ≡ true → (a || b) ≡ true
-      rest true b h = refl
-      rest false b h = h
 
   -- a test that all pass is passed by one of them
   pub each_passes : (xs : List X) (x : X) → list_all p xs ≡ true → Has xs x → p x ≡ true
@@ -107,9 +60,3 @@ module _ {X : Type 0} (p : X → Bool) where
       by_case true is more h (inl same) = rw (← same) is
       by_case true is more h (inr there) = more h there
       by_case false is more h there = absurd (cc h)
-
--- what holds of each item holds of one
-pub all_at : {X : Type 0} (P : X → Type 0) (xs : List X) (x : X) → AllByRecursion P xs → Has xs x → P x
-all_at P [] x all has = absurd has
-all_at P (y ∷ ys) x all (inl same) = rw (← same) all.0
-all_at P (y ∷ ys) x all (inr has) = all_at P ys x all.1 has

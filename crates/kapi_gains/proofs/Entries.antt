@@ -13,7 +13,7 @@ use Rattle.kapi_rules.proofs.Covers.{itself, same}
 use Rattle.kapi_policy.specs.Decided.{is_place}
 use Rattle.kapi_policy.specs.Objects.{name_cmp, place_cmp}
 use Rattle.kapi_policy.specs.declared.change.NamespacedName.{NamespacedName}
-use Rattle.kapi_gains.specs.Members.{Has}
+use Rattle.kapi_aggregation.specs.Members.{Has}
 
 -- ---- tests on names and places
 

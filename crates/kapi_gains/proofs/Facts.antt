@@ -20,9 +20,9 @@ use Rattle.kapi_guard.specs.Authority.{full_authority}
 use Rattle.kapi_guard.specs.Checks.{holds_all}
 use Rattle.kapi_guard.specs.Exempt.{binding, escalating}
 use Rattle.kapi_gains.proofs.Atoms.{HeldBy, atom_from_may, held_from, is_held, master_may, may_by_atom, own_allows, own_below, own_in_scope, own_where_bound, wanted_is_implied}
-use Rattle.kapi_gains.proofs.Elements.{passes}
+use Rattle.kapi_aggregation.proofs.Lists.{some_at}
 use Rattle.kapi_gains.specs.Access.{ActsAs, GivesNothing, IsHarmless, may}
-use Rattle.kapi_gains.specs.Members.{Has}
+use Rattle.kapi_aggregation.specs.Members.{Has}
 use Rattle.kapi_gains.specs.States.{Labels}
 use Rattle.kapi_gains.specs.Within.{ActorsHoldOwn, HasAtom, IsOwn, RoleHas, StaysWithin, scope_of}
 
@@ -63,7 +63,7 @@ module _ (acting : List Identity) (start objects : PolicyObjects) (labels : Labe
   -- ---- what is allowed
 
   some_may : (namespace : List ℕ) (p : Point) → (who : Identity) × (Has acting who × (may start who namespace p ≡ true)) → list_any (λ who. may start who namespace p) acting ≡ true
-  some_may namespace p one = passes (λ who. may start who namespace p) acting one.0 one.1.0 one.1.1
+  some_may namespace p one = some_at (λ who. may start who namespace p) acting one.0 one.1.0 one.1.1
 
   pub gives_nothing : GivesNothing acting start objects
   gives_nothing identity namespace p plain allowed = by_case (atom_from_may objects identity namespace p allowed)

@@ -28,12 +28,12 @@ use Rattle.kapi_guard.specs.declared.write.WrittenObject.{WrittenObject}
 use Rattle.kapi_guard.specs.declared.write.WrittenObject.TheVariants as written
 use Rattle.kapi_gains.proofs.Admitted.{ClusterRoleChange, IsAdmitted, facts_kept, has_by_rules, takes_nothing}
 use Rattle.kapi_gains.proofs.After.{binding_deleted, binding_put, cluster_binding_deleted, cluster_binding_put, cluster_role_deleted, cluster_role_put, role_deleted, role_put}
-use Rattle.kapi_gains.proofs.Elements.{all_at, has_mapped}
+use Rattle.kapi_aggregation.proofs.Lists.{all_at, has_mapped}
 use Rattle.kapi_gains.proofs.Entries.{found_in}
 use Rattle.kapi_gains.proofs.Facts.{acts_as_himself, no_binding, no_escalation, no_full_authority, written_are_own}
 use Rattle.kapi_gains.proofs.Unions.{union_has}
 use Rattle.kapi_gains.specs.Access.{IsHarmless, may}
-use Rattle.kapi_gains.specs.Members.{Has}
+use Rattle.kapi_aggregation.specs.Members.{Has}
 use Rattle.kapi_gains.specs.States.{IsSettled, Labels, PolicyState, cluster_role_at, labelled, labelled_roles, turned}
 use Rattle.kapi_gains.specs.Steps.{AreBy, DropsLabels, IsBy, IsDeleted, IsTurned, IsWritten, KeepsLabels, MadeWrite, Makes, PolicyStep, Runs, SetsLabels, deletes, turns, writes}
 use Rattle.kapi_gains.specs.Within.{HasAtom, IsOwn, RoleHas, StaysWithin}

@@ -13,9 +13,9 @@ use Rattle.kapi_policy.specs.Laws.{IsInOrder}
 use Rattle.kapi_policy.specs.Objects.{PolicyObjects, applied}
 use Rattle.kapi_policy.specs.declared.change.PolicyChange.TheVariants as change
 use Rattle.kapi_policy.specs.declared.change.PolicyPut.TheVariants as put
-use Rattle.kapi_gains.proofs.Elements.{mapped_of}
+use Rattle.kapi_aggregation.proofs.Lists.{mapped_of}
 use Rattle.kapi_gains.proofs.Entries.{in_found}
-use Rattle.kapi_gains.specs.Members.{Has}
+use Rattle.kapi_aggregation.specs.Members.{Has}
 use Rattle.kapi_gains.specs.States.{IsSettled, Labels, PolicyState, cluster_role_at, labelled, labelled_roles}
 use Rattle.kapi_gains.specs.Steps.{IsRewritten, IsTurned}
 

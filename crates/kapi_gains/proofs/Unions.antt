@@ -14,9 +14,10 @@ use Rattle.kapi_aggregation.specs.Roles.{Labelled, selectors_of, takes_from}
 use Rattle.kapi_aggregation.specs.Unions.{is_meant, rules_meant, same_rule, union_for, with_rule}
 use Rattle.kapi_policy.specs.Laws.{IsInOrder}
 use Rattle.kapi_policy.specs.Objects.{PolicyObjects}
-use Rattle.kapi_gains.proofs.Elements.{has_kept, has_left, has_mapped, has_part, has_right, has_either, kept_of, mapped_of, part_of, passes, passing}
+use Rattle.kapi_aggregation.proofs.Lists.{has_kept, has_mapped, kept_of, mapped_of, some_at}
+use Rattle.kapi_gains.proofs.Elements.{has_left, has_part, has_right, has_either, part_of, passing}
 use Rattle.kapi_gains.proofs.Entries.{found_in, in_found}
-use Rattle.kapi_gains.specs.Members.{Has}
+use Rattle.kapi_aggregation.specs.Members.{Has}
 use Rattle.kapi_gains.specs.States.{Labels, cluster_role_at, labelled, labelled_roles}
 use Rattle.kapi_gains.specs.Within.{HasAtom}
 
@@ -113,7 +114,7 @@ union_from objects labels name r a order has =
       other = entry.0.0;
       role = entry.0.1;
       found = in_found objects.cluster_roles entry.0 order.cluster_roles entry.1.0;
-      taken = passes (λ s. matches s (labels entry.0.0)) selectors selected.0 selected.1.0 (matched selected.0 (labelled labels entry.0) meant.0 entry.1.1 matching);
+      taken = some_at (λ s. matches s (labels entry.0.0)) selectors selected.0 selected.1.0 (matched selected.0 (labelled labels entry.0) meant.0 entry.1.1 matching);
       has = has_part atoms entry.0.1.rules rule.0 a (moved (labelled labels entry.0) meant.0 rule.0 entry.1.1 meant.1.1) rule.1.1;
     }
 

@@ -16,7 +16,7 @@ use Rattle.kapi_policy.specs.Objects.{applied, with_object}
 use Rattle.kapi_guard.specs.Checks.{grant}
 use Rattle.kapi_guard.specs.Exempt.{binding, escalating}
 use Rattle.kapi_gains.specs.Access.{GivesNothing, IsHarmless, may, verb_of}
-use Rattle.kapi_gains.specs.Members.{Has}
+use Rattle.kapi_aggregation.specs.Members.{Has}
 use Rattle.kapi_gains.specs.States.{IsSettled}
 use Rattle.kapi_gains.specs.Steps.{AreBy, IsGuarded, Runs}
 use Rattle.kapi_gains.specs.Worked.{binder, binding_of_a, bound, eve, filled, taking_all, turn_of_b, unsettled}

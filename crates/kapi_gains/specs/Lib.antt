@@ -1,4 +1,3 @@
-pub mod Members
 pub mod States
 pub mod Access
 pub mod Steps

@@ -17,7 +17,7 @@ use Rattle.kapi_guard.specs.Checks.{grant}
 use Rattle.kapi_guard.specs.Writes.{put_of}
 use Rattle.kapi_guard.specs.declared.write.PolicyWrite.{PolicyWrite}
 use Rattle.kapi_gains.specs.Access.{ActsAs, IsHarmless}
-use Rattle.kapi_gains.specs.Members.{Has}
+use Rattle.kapi_aggregation.specs.Members.{Has}
 use Rattle.kapi_gains.specs.States.{IsSettled, Labels, PolicyState, cluster_role_at, turned}
 
 -- ---- one step

@@ -12,7 +12,7 @@ use Rattle.kapi_aggregation.specs.Roles.{takes_from}
 use Rattle.kapi_policy.specs.Decided.{Binding, bindings_in, held, rules_of_kind}
 use Rattle.kapi_policy.specs.Laws.{IsInOrder}
 use Rattle.kapi_policy.specs.Objects.{PolicyObjects}
-use Rattle.kapi_gains.specs.Members.{Has}
+use Rattle.kapi_aggregation.specs.Members.{Has}
 use Rattle.kapi_gains.specs.States.{Labels, cluster_role_at, labelled}
 
 -- some of the rules has the atom

@@ -10,7 +10,7 @@ ghost use Rattle.kapi_policy.specs.Objects.{PolicyObjects};
 ghost use Rattle.kapi_guard.specs.Checks.{checked, grant};
 ghost use Rattle.kapi_guard.specs.declared.write.PolicyWrite.{PolicyWrite};
 ghost use Rattle.kapi_gains.specs.Access.{GivesNothing, IsHarmless, may};
-ghost use Rattle.kapi_gains.specs.Members.{Has};
+ghost use Rattle.kapi_aggregation.specs.Members.{Has};
 ghost use Rattle.kapi_gains.specs.States.{IsSettled, PolicyState, labelled_roles};
 ghost use Rattle.kapi_gains.specs.Steps.{AreBy, IsGuarded, IsRewritten, IsTurned, PolicyStep, Runs};
 ghost use Rattle.kapi_gains.specs.Within.{ActorsHoldOwn, BindingsStayWithin, RolesStayWithin, TurnsStayWithin};

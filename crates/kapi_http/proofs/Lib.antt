@@ -8,5 +8,6 @@ pub mod Items
 pub mod Lists
 pub mod OnLiterals
 pub mod Printed
+pub mod PrintedChunks
 pub mod Scanning
 pub mod Settling

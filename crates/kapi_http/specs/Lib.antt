@@ -1,4 +1,5 @@
 pub mod Limits
+pub mod ChunkText
 pub mod Chunks
 pub mod Cut
 pub mod Fields

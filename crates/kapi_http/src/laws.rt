@@ -1,7 +1,13 @@
 //! Laws of cutting requests, each the clause of a function that does nothing.
 ghost use Rattle.std.specs.Prelude.{◌≡◌, ◌∷◌, ◌+◌, codes, ◌<◌, ◌≤◌, ◌++◌, List, ℕ, [], IsSome, None, Some, drop, length, take};
-ghost use Rattle.std.specs.List.{flat_map};
+ghost use Rattle.std.specs.List.{concat, flat_map};
 ghost use Rattle.httparse.specs.Grammar.{IsRequestHead, ReadsRequest, RequestHead, print_request};
+ghost use Rattle.kapi_http.specs.ChunkText.{AreChunks, body_text};
+ghost use Rattle.kapi_http.specs.Chunks.{chunked, joined, no_chunks};
+ghost use Rattle.kapi_http.specs.Rules.{checked};
+ghost use Rattle.kapi_http.specs.declared.chunks.Spot.TheVariants.{Whole};
+ghost use Rattle.kapi_http.specs.declared.message.Method.{Method};
+ghost use Rattle.kapi_http.specs.declared.rules.Framing.TheVariants.{Chunked};
 ghost use Rattle.kapi_http.specs.Cut.{Begins, cut, fault_of, first, reach, request_of, settled, settled_of, taken, with_request};
 ghost use Rattle.kapi_http.specs.Head.{head_of, says};
 ghost use Rattle.kapi_http.specs.declared.message.HttpFault.{HttpFault};
@@ -20,6 +26,20 @@ pub fn heads_are_those_of_the_grammar()
 pub fn printed_heads_are_read()
     ensures { (h : RequestHead) (more : List ℕ) → IsRequestHead h → length (print_request h) ≤ 16384 → length h.fields ≤ 64
         → settled (print_request h ++ more) ≡ settled_of (print_request h) (Some (says h)) }
+{}
+
+/// A body that is printed in chunks is read as these and no others, whatever follows it; and so is the request of a
+/// printed head that says that its body comes in chunks (RFC 9112 section 7.1).
+pub fn printed_chunks_are_read()
+    ensures whole { (parts : List (List ℕ)) (more : List ℕ) → AreChunks parts
+        → chunked no_chunks (body_text parts ++ more)
+        ≡ record { spot = Whole; at = length (body_text parts); sum = length (concat parts) } }
+    ensures body { (parts : List (List ℕ)) → AreChunks parts → joined no_chunks (body_text parts) ≡ concat parts }
+    ensures request { (h : RequestHead) (method : Method) (parts : List (List ℕ)) (more : List ℕ)
+        → IsRequestHead h → length (print_request h) ≤ 16384 → length h.fields ≤ 64
+        → checked (says h) ≡ Ok (method, Chunked) → AreChunks parts
+        → first (print_request h ++ (body_text parts ++ more))
+        ≡ Some (Ok (request_of (says h) method (concat parts) (length (print_request h) + length (body_text parts)))) }
 {}
 
 /// What is decided stays decided, whatever follows; a request has a byte at least and lies within the bytes.

@@ -1,6 +1,7 @@
 //! HTTP/1.1 messages (RFC 9110, RFC 9112): bytes that come in any pieces to whole requests, and replies to bytes.
 #![tactic(auto)]
 
+mod chunk_text;
 mod chunks;
 mod fields;
 mod head;
@@ -12,15 +13,14 @@ mod reply;
 mod rules;
 mod scan;
 
+pub use chunk_text::{write_chunk, write_end};
 pub use fields::{is_same, trimmed};
 pub use inbox::{FeedError, Inbox};
 pub use kapi_text::Memory;
 pub use laws::{
     faults_are_decided_early, fronts_are_cut_alike, heads_are_those_of_the_grammar, items_stay,
-    pieces_are_cut_alike, printed_heads_are_read, requests_are_cut_apart, worked_texts,
+    pieces_are_cut_alike, printed_chunks_are_read, printed_heads_are_read, requests_are_cut_apart,
+    worked_texts,
 };
 pub use message::{Header, HttpFault, HttpRequest, Method, Reply, StatusCode};
 pub use reply::write_reply;
-
-#[cfg(test)]
-mod tests;

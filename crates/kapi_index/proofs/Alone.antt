@@ -4,23 +4,17 @@ use Rattle.std.specs.List.Sorted.{IsStrictlySortedBy}
 use Rattle.std.proofs.lemmas.Map.Text.{is_eq-slice_cmp}
 use Rattle.std.proofs.lemmas.Slice.Eq.{bytes_eq-Decides}
 use Rattle.kapi_policy.specs.Objects.{name_cmp}
-use Rattle.kapi_index.proofs.Bools.{or_false}
+use Rattle.kapi_index.proofs.Bools.{or_false, turned}
 use Rattle.kapi_index.specs.Listed.{is_listed}
 use Rattle.kapi_index.specs.NamesOf.{names_in}
 use Rattle.kapi_index.specs.declared.names.Names.{Names}
 use Rattle.kapi_index.specs.declared.names.Names.TheVariants.{Few, Many}
 
-either_way : (a b : List ℕ) → bytes_eq a b ≡ bytes_eq b a
-either_way a b = by_case (bytes_eq a b) (bytes_eq b a) refl refl
-  where
-    by_case : (x y : Bool) → bytes_eq a b ≡ x → bytes_eq b a ≡ y → x ≡ y
-    by_case true true p q = refl
-    by_case false false p q = refl
-    by_case true false p q = let equal : bytes_eq b a ≡ true = (bytes_eq-Decides b a).1 (sym ((bytes_eq-Decides a b).0 p)) in sym equal ∙ q
-    by_case false true p q = let equal : bytes_eq a b ≡ true = (bytes_eq-Decides a b).1 (sym ((bytes_eq-Decides b a).0 q)) in sym p ∙ equal
-
 alone_listed : (one n : List ℕ) → is_listed n (one ∷ []) ≡ bytes_eq one n
-alone_listed one n = or_false _ ∙ is_eq-slice_cmp n one ∙ either_way n one
+alone_listed one n = or_false _ ∙ is_eq-slice_cmp n one ∙ turned n one
+
+abbrev pub IsSorted : Names → Type 0
+IsSorted s = IsStrictlySortedBy name_cmp (names_in s)
 
 pub few_sorted : (o : Option (List ℕ)) → IsStrictlySortedBy name_cmp (names_in (Few o))
 unfolding IsStrictlySortedBy

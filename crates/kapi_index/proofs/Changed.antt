@@ -1,6 +1,8 @@
 -- Names under keys, one of which is changed.
-use Rattle.std.proofs.Common.{◌≡◌, ℕ, Bool, true, false, cond, not, ◌&&◌, ◌||◌, List, [], ◌∷◌, ◌++◌, Option, Some, None, Result, Ok, Err, refl, sym, ap, subst, ◌∙◌}
+use Rattle.std.proofs.Common.{◌≡◌, ℕ, ◌==◌, Bool, true, false, cond, not, ◌&&◌, ◌||◌, List, [], ◌∷◌, ◌++◌, length, Option, Some, None, Result, Ok, Err, refl, sym, ap, subst, ◌∙◌}
 use Rattle.std.specs.BTreeMap.{is_at}
+use Rattle.std.proofs.lemmas.Bool.{eqb-true}
+use Rattle.std.proofs.lemmas.List.{nil_from_length}
 use Rattle.std.proofs.lemmas.List.Folds.{list_any-append}
 use Rattle.std.specs.Map.{lookup}
 use Rattle.std.specs.Option.{unwrap_or}
@@ -10,6 +12,7 @@ use Rattle.std.proofs.lemmas.Map.Text.{is_eq-slice_cmp}
 use Rattle.std.proofs.lemmas.Slice.Eq.{bytes_eq-Decides}
 use Rattle.kapi_policy.specs.Objects.{name_cmp}
 use Rattle.kapi_index.proofs.Bools.{and_false, and_true}
+use Rattle.kapi_index.proofs.Finds.{at_itself}
 use Rattle.kapi_index.specs.Listed.{Adds, AreSame, HasAt, Removes, has_name, is_key, is_listed, names_at}
 
 abbrev pub Sets : Type 0
@@ -88,13 +91,17 @@ removes_nothing key name old new same none = λ k n. rw (sym same) (by_test k n 
     by_test k n true is = let at : key ≡ k = (bytes_eq-Decides key k).0 is in rw (sym at, sym none) refl
     by_test k n false is = rw is (sym (and_true (has_name old k n)))
 
-pub empty_under : (key : List ℕ) (after : List (List ℕ)) (old new : Sets) → Puts key (Some after) old new → after ≡ [] → names_at new key ≡ []
-empty_under key after old new puts none = ap (λ o. unwrap_or o []) (puts key ∙ ap (λ b. cond b (Some after) (lookup (is_at (name_cmp key)) old)) (is_eq-slice_cmp key key ∙ (bytes_eq-Decides key key).1 refl)) ∙ none
+pub names_under : (key : List ℕ) (after : List (List ℕ)) (old new : Sets) → Puts key (Some after) old new → names_at new key ≡ after
+names_under key after old new puts = ap (λ o. unwrap_or o []) (puts key ∙ ap (λ b. cond b (Some after) (lookup (is_at (name_cmp key)) old)) (at_itself key))
 
 -- a key without names may go
-pub removes_onward : (key name : List ℕ) (old mid new : Sets) → Removes (key ∷ []) [] name old mid → names_at mid key ≡ [] → Puts key None mid new → Removes (key ∷ []) [] name old new
-removes_onward key name old mid new gone none puts = λ k n.
+pub removes_onward : (key name : List ℕ) (old mid new : Sets) → Removes (key ∷ []) [] name old mid → (length (names_at mid key) == 0) ≡ true → Puts key None mid new
+    → Removes (key ∷ []) [] name old new
+removes_onward key name old mid new gone empty puts = λ k n.
     by_key key None mid new puts (λ l b. is_listed n l ≡ is_listed n (names_at mid k)) k (λ same. rw (same, none) refl) refl ∙ gone k n
+  where
+    none : names_at mid key ≡ []
+    none = nil_from_length (names_at mid key) (eqb-true (length (names_at mid key)) 0 empty)
 
 -- ---- several keys
 

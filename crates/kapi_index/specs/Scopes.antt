@@ -12,7 +12,7 @@ use Rattle.kapi_rbac_types.specs.Subjects.{names}
 use Rattle.kapi_rbac_types.specs.declared.binding.RoleBinding.{RoleBinding}
 use Rattle.kapi_rbac_types.specs.declared.identity.Identity.{Identity}
 use Rattle.kapi_policy.specs.Objects.{name_cmp}
-use Rattle.kapi_index.specs.Listed.{has_name, is_key, names_at}
+use Rattle.kapi_index.specs.Listed.{AreOrdered, has_name, is_key, names_at}
 use Rattle.kapi_index.specs.Prepared.{groups_of, users_of}
 use Rattle.kapi_index.specs.declared.scope.Bound.{Bound}
 
@@ -46,7 +46,7 @@ group_keys b = b.keys.groups
 
 -- the names under each key are those of the bindings that have it
 pub record IsIndex (keys : Bound → List (List ℕ)) (es : List (List ℕ × Bound)) (sets : List (List ℕ × List (List ℕ))) : Type 0 where
-  pub ordered : (key : List ℕ) → IsStrictlySortedBy name_cmp (names_at sets key)
+  pub ordered : AreOrdered sets
   pub exact : (k n : List ℕ) → has_name sets k n ≡ is_key k (keys_in keys (lookup (is_at (name_cmp n)) es))
 
 -- the lesser of two names, of those that there are

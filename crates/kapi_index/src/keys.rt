@@ -44,15 +44,6 @@ impl Keys {
     }
 }
 
-impl TryCopy for Keys {
-    fn copy(&self, alloc: Global) -> Result<Keys, Memory> {
-        Ok(Keys {
-            users: self.users.copy(alloc)?,
-            groups: self.groups.copy(alloc)?,
-        })
-    }
-}
-
 fn is_group(subject: &Subject) -> bool {
     match subject {
         Subject::Group(_) => true,

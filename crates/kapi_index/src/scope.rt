@@ -28,7 +28,7 @@ pub struct Bound {
 pub type Bindings = BTreeMap<Text, Bound>;
 
 /// So many bindings are looked at one by one sooner than a user and his groups are looked up among them.
-const FEW: usize = 16;
+const FEW: usize = 32;
 
 /// The bindings of one namespace by name, or, where it is empty, the cluster-wide ones.
 #[derive(Drop)]
@@ -247,7 +247,7 @@ fn named<'a>(bindings: &'a Bindings, name: &'a Text) -> Option<(&'a Text, &'a Ro
 }
 
 impl Scope {
-    ghost use Rattle.std.specs.Prelude.{◌≡◌, ◌∷◌, [], true, IfOk, IfSome, MatchOption, OnErr, OnOk};
+    ghost use Rattle.std.specs.Prelude.{◌≡◌, ◌∷◌, [], true, length, nat_le, IfOk, IfSome, MatchOption, OnErr, OnOk};
     ghost use Rattle.std.specs.BTreeMap.{insert_entry, is_at};
     ghost use Rattle.std.specs.Map.{remove_entry};
     ghost use Rattle.std.specs.Range.Bound.{bound_map};
@@ -282,7 +282,9 @@ impl Scope {
     }
 
     /// Whether it is sooner to look at each binding than to look up those that mean an identity.
-    pub fn has_few(&self) -> bool {
+    pub fn has_few(&self) -> bool
+        ensures { result ≡ nat_le (length self.now.bindings) FEW }
+    {
         self.bindings.len() <= FEW
     }
 

@@ -1,5 +1,5 @@
 //! Sets of names under keys.
-ghost use Rattle.std.specs.Prelude.{◌≡◌, ℕ, ◌&&◌, ◌||◌, ◌∷◌, not, true, List, [], OnErr, OnOk, option_copied};
+ghost use Rattle.std.specs.Prelude.{◌≡◌, ℕ, ◌==◌, ◌&&◌, ◌||◌, ◌∷◌, not, List, [], length, OnErr, OnOk, option_copied};
 ghost use Rattle.std.specs.BTreeMap.Range.{is_from_start};
 ghost use Rattle.std.specs.List.{find};
 ghost use Rattle.std.specs.Range.Bound.{bound_map};
@@ -56,14 +56,14 @@ fn add(alloc: Global, sets: &mut NameSets, key: &Text, name: &Text) -> Result<()
 fn take_name(sets: &mut NameSets, key: &Text, name: &Text) -> bool
     ensures gone { Removes (key.now ∷ []) [] name.now sets.old.entries sets.new.entries }
     ensures ordered { AreOrdered sets.old.entries → AreOrdered sets.new.entries }
-    ensures empty { result ≡ true → names_at sets.new.entries key.now ≡ [] }
+    ensures empty { result ≡ (length (names_at sets.new.entries key.now) == 0) }
 {
     match sets.get_mut(key) {
         Some(names) => {
             names.remove(name);
             names.is_empty()
         }
-        None => false,
+        None => true,
     }
 }
 

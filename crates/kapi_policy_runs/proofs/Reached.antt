@@ -10,7 +10,7 @@ use Rattle.kapi_aggregation.specs.Unions.{IsSettled as AreUnions}
 use Rattle.kapi_gains.proofs.Elements.{has_left, has_right}
 use Rattle.kapi_gains.proofs.Law.{nobody_gains}
 use Rattle.kapi_gains.specs.Access.{GivesNothing, IsHarmless}
-use Rattle.kapi_gains.specs.Members.{Has}
+use Rattle.kapi_aggregation.specs.Members.{Has}
 use Rattle.kapi_gains.specs.States.{PolicyState}
 use Rattle.kapi_gains.specs.Steps.{AreBy, IsBy, IsGuarded, KeepsLabels, Makes, PolicyStep, Runs, deletes, turns, writes}
 use Rattle.kapi_policy_runs.proofs.Roles.{labelled_are}

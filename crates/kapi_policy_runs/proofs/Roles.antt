@@ -23,7 +23,7 @@ use Rattle.kapi_stored_policy.specs.declared.kind.PolicyKind.{PolicyKind}
 use Rattle.kapi_stored_policy.specs.declared.kind.PolicyKind.TheVariants as kind
 use Rattle.kapi_aggregation.specs.Rewriting.{role_key}
 use Rattle.kapi_aggregation.specs.Roles.{is_cluster_role, labelled_tree, labels_in, roles_in}
-use Rattle.kapi_gains.specs.Members.{Has}
+use Rattle.kapi_aggregation.specs.Members.{Has}
 use Rattle.kapi_gains.specs.States.{Labels, cluster_role_at, labelled, labelled_roles}
 use Rattle.kapi_policy_runs.specs.States.{AreInOrder, labels_at}
 

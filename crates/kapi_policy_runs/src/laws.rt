@@ -13,7 +13,7 @@ ghost use Rattle.kapi_aggregation.specs.Turns.{next};
 ghost use Rattle.kapi_aggregation.specs.declared.turn.Turn.{Turn};
 ghost use Rattle.kapi_escalation.specs.Granted.{AreGranted};
 ghost use Rattle.kapi_gains.specs.Access.{GivesNothing, IsHarmless};
-ghost use Rattle.kapi_gains.specs.Members.{Has};
+ghost use Rattle.kapi_aggregation.specs.Members.{Has};
 ghost use Rattle.kapi_gains.specs.States.{labelled_roles};
 ghost use Rattle.kapi_policy_runs.specs.Runs.{ObjectsReach};
 ghost use Rattle.kapi_policy_runs.specs.States.{AreInOrder, labels_at};

@@ -1,15 +1,10 @@
+use crate::decisions::assert_decides;
+use crate::reading::{apply, fill};
+use crate::telling::{decided, held, referred};
 use kapi_index::IndexedPolicy;
-use kapi_policy::{
-    BindingKind, Decision, Grant, NamespacedName, PlainPolicy, Policy, PolicyChange, PolicyKey,
-    PolicyPut,
-};
-use kapi_rbac_types::{
-    ClusterRole, ClusterRoleBinding, Identity, PolicyRule, Role, RoleBinding, RoleKind, RoleRef,
-    ServiceAccount, Subject,
-};
-use kapi_rules::{Point, ResourcePoint};
-use kapi_text::{Sequence, Text, TryCopy};
+use kapi_policy::{PlainPolicy, Policy};
 use std::alloc::{AllocError, Global};
+use std::process::Abort;
 use std::test::Fail;
 
 static NAMES: [&str; 3] = ["x", "y", "z"];
@@ -20,120 +15,50 @@ static USERS: [&str; 4] = ["a", "b", "system:serviceaccount:n:a", "g"];
 
 static GROUPS: [&str; 4] = ["-", "g", "g,h", "h,a,g"];
 
-static VERBS: [&str; 3] = ["get", "list", "*"];
+static RULES: [&str; 9] = [
+    "get;;pods;-;-",
+    "get;;secrets;-;-",
+    "get;;*;-;-",
+    "list;;pods;-;-",
+    "list;;secrets;-;-",
+    "list;;*;-;-",
+    "*;;pods;-;-",
+    "*;;secrets;-;-",
+    "*;;*;-;-",
+];
 
-static RESOURCES: [&str; 3] = ["pods", "secrets", "*"];
+static POINTS: [&str; 9] = [
+    "get;;pods;;p",
+    "get;;secrets;;p",
+    "get;;*;;p",
+    "list;;pods;;p",
+    "list;;secrets;;p",
+    "list;;*;;p",
+    "*;;pods;;p",
+    "*;;secrets;;p",
+    "*;;*;;p",
+];
 
-// ---- values
+static ROLES: [&str; 6] = [
+    "Role/x",
+    "Role/y",
+    "Role/z",
+    "ClusterRole/x",
+    "ClusterRole/y",
+    "ClusterRole/z",
+];
 
-fn texts(alloc: Global, words: &str) -> Result<Sequence<Text>, AllocError> {
-    let mut texts: Vec<Text> = Vec::new(alloc);
-    if words != "-" {
-        for word in words.split(',') {
-            texts.push(Text::copy_of(alloc, word)?)?;
-        }
-    }
-    Ok(Sequence::new(texts))
-}
-
-fn rule(alloc: Global, verb: &str, resource: &str) -> Result<PolicyRule, AllocError> {
-    Ok(PolicyRule {
-        verbs: texts(alloc, verb)?,
-        api_groups: texts(alloc, "")?,
-        resources: texts(alloc, resource)?,
-        resource_names: texts(alloc, "-")?,
-        non_resource_urls: texts(alloc, "-")?,
-    })
-}
-
-fn place(alloc: Global, namespace: &str, name: &str) -> Result<NamespacedName, AllocError> {
-    Ok(NamespacedName {
-        namespace: Text::copy_of(alloc, namespace)?,
-        name: Text::copy_of(alloc, name)?,
-    })
-}
-
-fn role_ref(alloc: Global, kind: RoleKind, name: &str) -> Result<RoleRef, AllocError> {
-    Ok(RoleRef {
-        kind,
-        name: Text::copy_of(alloc, name)?,
-    })
-}
-
-/// A user `u:NAME`, a group `g:NAME`, or a service account `NAMESPACE/NAME`.
-fn subject(alloc: Global, text: &str) -> Result<Subject, AllocError> {
-    match text.split_once(':') {
-        Some(("u", name)) => Ok(Subject::User(Text::copy_of(alloc, name)?)),
-        Some((_, name)) => Ok(Subject::Group(Text::copy_of(alloc, name)?)),
-        None => {
-            let (namespace, name) = text.split_once('/').unwrap_or(("", text));
-            Ok(Subject::ServiceAccount(ServiceAccount {
-                namespace: Text::copy_of(alloc, namespace)?,
-                name: Text::copy_of(alloc, name)?,
-            }))
-        }
-    }
-}
-
-fn subjects(alloc: Global, words: &str) -> Result<Sequence<Subject>, AllocError> {
-    let mut subjects: Vec<Subject> = Vec::new(alloc);
-    for word in words.split(' ') {
-        subjects.push(subject(alloc, word)?)?;
-    }
-    Ok(Sequence::new(subjects))
-}
-
-fn identity(alloc: Global, user: &str, groups: &str) -> Result<Identity, AllocError> {
-    Ok(Identity {
-        user: Text::copy_of(alloc, user)?,
-        groups: texts(alloc, groups)?,
-    })
-}
-
-fn point(alloc: Global, verb: &str, resource: &str) -> Result<Point, AllocError> {
-    Ok(Point::Resource(ResourcePoint {
-        verb: Text::copy_of(alloc, verb)?,
-        group: Text::copy_of(alloc, "")?,
-        resource: Text::copy_of(alloc, resource)?,
-        subresource: Text::copy_of(alloc, "")?,
-        name: Text::copy_of(alloc, "p")?,
-    }))
-}
-
-// ---- telling
-
-fn told_grant(alloc: Global, grant: &Grant<'_>) -> Result<String, AllocError> {
-    let kind = match grant.kind {
-        BindingKind::RoleBinding => "RoleBinding",
-        BindingKind::ClusterRoleBinding => "ClusterRoleBinding",
-    };
-    let role = grant.role.kind.as_str();
-    let (binding, name, rule) = (grant.binding, grant.role.name.as_str(), grant.rule);
-    format!(in alloc; "{kind} {binding}, {role} {name}, rule {rule}")
-}
-
-fn told(alloc: Global, decision: &Decision<'_>) -> Result<String, AllocError> {
-    match decision {
-        Decision::Allowed(grant) => told_grant(alloc, grant),
-        Decision::Masters => String::from_str(alloc, "masters"),
-        Decision::Denied => String::from_str(alloc, "denied"),
-    }
-}
-
-fn told_rules(alloc: Global, rules: &[PolicyRule]) -> Result<String, AllocError> {
-    let mut told = String::new(alloc);
-    for rule in rules {
-        for entry in rule.verbs.as_slice() {
-            told.push_str(entry.as_str())?;
-        }
-        told.push_str(" ")?;
-        for entry in rule.resources.as_slice() {
-            told.push_str(entry.as_str())?;
-        }
-        told.push_str("; ")?;
-    }
-    Ok(told)
-}
+static SUBJECTS: [&str; 9] = [
+    "User:a",
+    "User:b User:a User:a",
+    "Group:g",
+    "Group:h Group:g User:a",
+    "ServiceAccount:n/a",
+    "ServiceAccount:/a",
+    "User:g Group:a",
+    "Group:h",
+    "ServiceAccount:m/a User:system:serviceaccount:n:a",
+];
 
 // ---- by chance
 
@@ -150,103 +75,98 @@ fn pick<'a>(state: &mut u64, words: &[&'a str]) -> &'a str {
     words.get(draw(state, words.len())).copied().unwrap_or("")
 }
 
-static SUBJECTS: [&str; 9] = [
-    "u:a",
-    "u:b u:a u:a",
-    "g:g",
-    "g:h g:g u:a",
-    "n/a",
-    "/a",
-    "u:g g:a",
-    "g:h",
-    "m/a u:system:serviceaccount:n:a",
-];
-
-fn any_rules(alloc: Global, state: &mut u64) -> Result<Sequence<PolicyRule>, AllocError> {
-    let mut rules: Vec<PolicyRule> = Vec::new(alloc);
-    for _ in 0..2 {
-        rules.push(rule(alloc, pick(state, &VERBS), pick(state, &RESOURCES))?)?;
-    }
-    Ok(Sequence::new(rules))
-}
-
-fn any_role(alloc: Global, state: &mut u64) -> Result<RoleRef, AllocError> {
-    let kind = if draw(state, 2) == 0 {
-        RoleKind::Role
-    } else {
-        RoleKind::ClusterRole
-    };
-    role_ref(alloc, kind, pick(state, &NAMES))
-}
-
-fn any_key(alloc: Global, state: &mut u64) -> Result<PolicyKey, AllocError> {
+/// A kind and a place.
+fn any_key(alloc: Global, state: &mut u64) -> Result<String, AllocError> {
     let (namespace, name) = (pick(state, &NAMESPACES), pick(state, &NAMES));
     match draw(state, 4) {
-        0 => Ok(PolicyKey::Role(place(alloc, namespace, name)?)),
-        1 => Ok(PolicyKey::ClusterRole(Text::copy_of(alloc, name)?)),
-        2 => Ok(PolicyKey::RoleBinding(place(alloc, namespace, name)?)),
-        _ => Ok(PolicyKey::ClusterRoleBinding(Text::copy_of(alloc, name)?)),
+        0 => format!(in alloc; "Role {namespace}/{name}"),
+        1 => format!(in alloc; "ClusterRole {name}"),
+        2 => format!(in alloc; "RoleBinding {namespace}/{name}"),
+        _ => format!(in alloc; "ClusterRoleBinding {name}"),
     }
 }
 
-fn any_put(alloc: Global, state: &mut u64) -> Result<PolicyPut, AllocError> {
-    match any_key(alloc, state)? {
-        PolicyKey::Role(place) => Ok(PolicyPut::Role(
-            place,
-            Role {
-                rules: any_rules(alloc, state)?,
-            },
-        )),
-        PolicyKey::ClusterRole(name) => Ok(PolicyPut::ClusterRole(
-            name,
-            ClusterRole {
-                aggregation_rule: None,
-                rules: any_rules(alloc, state)?,
-            },
-        )),
-        PolicyKey::RoleBinding(place) => Ok(PolicyPut::RoleBinding(
-            place,
-            RoleBinding {
-                subjects: subjects(alloc, pick(state, &SUBJECTS))?,
-                role_ref: any_role(alloc, state)?,
-            },
-        )),
-        PolicyKey::ClusterRoleBinding(name) => Ok(PolicyPut::ClusterRoleBinding(
-            name,
-            ClusterRoleBinding {
-                subjects: subjects(alloc, pick(state, &SUBJECTS))?,
-                role_ref: any_role(alloc, state)?,
-            },
-        )),
-    }
-}
-
-fn any_change(alloc: Global, state: &mut u64) -> Result<PolicyChange, AllocError> {
-    if draw(state, 3) == 0 {
-        Ok(PolicyChange::Delete(any_key(alloc, state)?))
+/// Two rules of a role, or a binding's role and its subjects.
+fn any_content(state: &mut u64, key: &str) -> (&'static str, &'static str) {
+    if key.contains("Binding") {
+        (pick(state, &ROLES), pick(state, &SUBJECTS))
     } else {
-        Ok(PolicyChange::Put(any_put(alloc, state)?))
+        (pick(state, &RULES), pick(state, &RULES))
     }
 }
 
-/// The decision, the held rules and the rules of a role that a policy answers.
-fn answers<P: Policy>(
-    alloc: Global,
-    policy: &P,
-    identity: &Identity,
-    namespace: &str,
-    point: &Point,
-    role: &RoleRef,
-) -> Result<String, AllocError> {
-    let mut text = told(alloc, &policy.decide(identity, namespace, point))?;
-    text.push_str(" of ")?;
-    let held = policy.held(identity, namespace)?;
-    text.push_str(told_rules(alloc, held.as_slice())?.as_str())?;
-    if let Some(rules) = policy.role_rules(role, namespace) {
-        text.push_str("and ")?;
-        text.push_str(told_rules(alloc, rules)?.as_str())?;
+fn any_change(alloc: Global, state: &mut u64) -> Result<String, AllocError> {
+    let key = any_key(alloc, state)?;
+    if draw(state, 3) == 0 {
+        return format!(in alloc; "delete {}", key.as_str());
     }
-    Ok(text)
+    let (first, second) = any_content(state, key.as_str());
+    format!(in alloc; "put {} {first} {second}", key.as_str())
+}
+
+/// What a policy is asked: who asks for which point, in which namespace, and what a role there is.
+#[derive(Clone, Copy)]
+struct Question {
+    user: &'static str,
+    groups: &'static str,
+    namespace: &'static str,
+    point: &'static str,
+    role: &'static str,
+}
+
+fn any_question(state: &mut u64) -> Question {
+    Question {
+        user: pick(state, &USERS),
+        groups: pick(state, &GROUPS),
+        namespace: pick(state, &NAMESPACES),
+        point: pick(state, &POINTS),
+        role: pick(state, &ROLES),
+    }
+}
+
+// ---- both policies
+
+/// The decision, the held rules and the rules of the role that a policy answers.
+fn answers<P: Policy>(alloc: Global, policy: &P, question: Question) -> Result<String, AllocError> {
+    let Question {
+        user,
+        groups,
+        namespace,
+        point,
+        role,
+    } = question;
+    let decided = decided(alloc, policy, user, groups, namespace, point)?;
+    let held = held(alloc, policy, user, groups, namespace)?;
+    let referred = referred(alloc, policy, role, namespace)?;
+    format!(in alloc;
+        "{} of {}and {}",
+        decided.as_str(),
+        held.as_str(),
+        referred.as_str()
+    )
+}
+
+fn assert_alike(
+    rt: &impl Abort,
+    alloc: Global,
+    plain: &PlainPolicy,
+    indexed: &IndexedPolicy,
+    question: Question,
+) -> Result<(), Fail> {
+    let wanted = answers(alloc, plain, question)?;
+    let told = answers(alloc, indexed, question)?;
+    assert_eq!(rt; told.as_str(), wanted.as_str());
+    Ok(())
+}
+
+fn change_both(
+    alloc: Global,
+    plain: &mut PlainPolicy,
+    indexed: &mut IndexedPolicy,
+    text: &str,
+) -> Result<(), AllocError> {
+    apply(alloc, plain, text)?;
+    apply(alloc, indexed, text)
 }
 
 #[test]
@@ -255,85 +175,183 @@ fn both_policies_answer_alike(rt: HostRuntime) -> Result<(), Fail> {
     let mut plain = PlainPolicy::new(alloc);
     let mut indexed = IndexedPolicy::new(alloc);
     let mut state: u64 = 20_261_122;
-    for step in 0..20_000 {
-        let change = any_change(alloc, &mut state)?;
-        plain.apply(&change)?;
-        indexed.apply(&change)?;
-        let identity = identity(alloc, pick(&mut state, &USERS), pick(&mut state, &GROUPS))?;
-        let namespace = pick(&mut state, &NAMESPACES);
-        let point = point(
-            alloc,
-            pick(&mut state, &VERBS),
-            pick(&mut state, &RESOURCES),
-        )?;
-        let role = any_role(alloc, &mut state)?;
-        let wanted = answers(alloc, &plain, &identity, namespace, &point, &role)?;
-        let told = answers(alloc, &indexed, &identity, namespace, &point, &role)?;
-        assert_eq!(rt; told.as_str(), wanted.as_str(), "after step {step}");
+    for _ in 0..20_000 {
+        let text = any_change(alloc, &mut state)?;
+        change_both(alloc, &mut plain, &mut indexed, text.as_str())?;
+        assert_alike(&rt, alloc, &plain, &indexed, any_question(&mut state))?;
     }
     Ok(())
 }
 
-// ---- each binding once
+// ---- scopes of more bindings than are looked at one by one
 
-fn cluster_binding(
-    alloc: Global,
-    name: &str,
-    meant: &str,
-    role: &str,
-) -> Result<PolicyChange, AllocError> {
-    Ok(PolicyChange::Put(PolicyPut::ClusterRoleBinding(
-        Text::copy_of(alloc, name)?,
-        ClusterRoleBinding {
-            subjects: subjects(alloc, meant)?,
-            role_ref: role_ref(alloc, RoleKind::ClusterRole, role)?,
-        },
-    )))
+static MANY_ROLES: [&str; 4] = [
+    "put ClusterRole pods get;;pods;-;-",
+    "put ClusterRole secrets get;;secrets;-;-",
+    "put ClusterRole lists list;;pods;-;-",
+    "put ClusterRole watches watch;;pods;-;-",
+];
+
+const MANY_POINTS: [&str; 5] = [
+    "get;;pods;;p",
+    "get;;secrets;;s",
+    "list;;pods;;",
+    "watch;;pods;;",
+    "delete;;pods;;p",
+];
+
+/// Decisions where both scopes have many bindings.
+static BOTH_MANY: [&str; 3] = [
+    "ann|g,h||get;;pods;;p|ClusterRoleBinding b28, ClusterRole pods, rule 0",
+    "ann|g,h|n|watch;;pods;;|ClusterRoleBinding b41, ClusterRole watches, rule 0",
+    "ann|g,h|n|delete;;pods;;p|denied",
+];
+
+/// Decisions where none is left cluster-wide.
+static NAMESPACE_MANY: [&str; 3] = [
+    "ann|g,h|n|get;;secrets;;s|RoleBinding b17, ClusterRole secrets, rule 0",
+    "ann|g,h|n|list;;pods;;|RoleBinding b12, ClusterRole lists, rule 0",
+    "ann|g,h||list;;pods;;|denied",
+];
+
+/// The role and the subjects of a binding of a number. Four of them mean user `ann` of the groups `g` and `h`.
+fn bound_to(number: usize) -> &'static str {
+    match number {
+        12 => "ClusterRole/lists User:ann",
+        17 => "ClusterRole/secrets Group:h",
+        28 => "ClusterRole/pods User:ann Group:g",
+        41 => "ClusterRole/watches Group:g",
+        _other => "ClusterRole/pods User:g Group:ann",
+    }
 }
 
-fn cluster_role(alloc: Global, name: &str, resource: &str) -> Result<PolicyChange, AllocError> {
-    let mut rules: Vec<PolicyRule> = Vec::new(alloc);
-    rules.push(rule(alloc, "get", resource)?)?;
-    Ok(PolicyChange::Put(PolicyPut::ClusterRole(
-        Text::copy_of(alloc, name)?,
-        ClusterRole {
-            aggregation_rule: None,
-            rules: Sequence::new(rules),
-        },
-    )))
+fn of_ann(namespace: &'static str, point: &'static str) -> Question {
+    Question {
+        user: "ann",
+        groups: "g,h",
+        namespace,
+        point,
+        role: "ClusterRole/pods",
+    }
+}
+
+fn assert_alike_of_ann(
+    rt: &impl Abort,
+    alloc: Global,
+    plain: &PlainPolicy,
+    indexed: &IndexedPolicy,
+) -> Result<(), Fail> {
+    for point in MANY_POINTS {
+        assert_alike(rt, alloc, plain, indexed, of_ann("", point))?;
+        assert_alike(rt, alloc, plain, indexed, of_ann("n", point))?;
+    }
+    Ok(())
+}
+
+/// Puts forty bindings, the last name first, and asks after each.
+fn grow(
+    rt: &impl Abort,
+    alloc: Global,
+    plain: &mut PlainPolicy,
+    indexed: &mut IndexedPolicy,
+    scope: &str,
+) -> Result<(), Fail> {
+    for number in (10_usize..50).rev() {
+        let text = format!(in alloc; "put {scope}b{number} {}", bound_to(number))?;
+        change_both(alloc, plain, indexed, text.as_str())?;
+        assert_alike_of_ann(rt, alloc, plain, indexed)?;
+    }
+    Ok(())
+}
+
+/// Deletes them, the first name first, and asks after each.
+fn shrink(
+    rt: &impl Abort,
+    alloc: Global,
+    plain: &mut PlainPolicy,
+    indexed: &mut IndexedPolicy,
+    scope: &str,
+) -> Result<(), Fail> {
+    for number in 10_usize..50 {
+        let text = format!(in alloc; "delete {scope}b{number}")?;
+        change_both(alloc, plain, indexed, text.as_str())?;
+        assert_alike_of_ann(rt, alloc, plain, indexed)?;
+    }
+    Ok(())
+}
+
+#[test]
+fn both_policies_answer_alike_of_many_bindings(rt: HostRuntime) -> Result<(), Fail> {
+    let alloc = rt.alloc();
+    let mut plain = PlainPolicy::new(alloc);
+    let mut indexed = IndexedPolicy::new(alloc);
+    fill(alloc, &mut plain, &MANY_ROLES)?;
+    fill(alloc, &mut indexed, &MANY_ROLES)?;
+    grow(&rt, alloc, &mut plain, &mut indexed, "ClusterRoleBinding ")?;
+    grow(&rt, alloc, &mut plain, &mut indexed, "RoleBinding n/")?;
+    assert_decides(&rt, alloc, &indexed, &BOTH_MANY)?;
+    shrink(&rt, alloc, &mut plain, &mut indexed, "ClusterRoleBinding ")?;
+    assert_decides(&rt, alloc, &indexed, &NAMESPACE_MANY)?;
+    shrink(&rt, alloc, &mut plain, &mut indexed, "RoleBinding n/")
+}
+
+// ---- each binding once
+
+/// Changes, and after each the rules that user `ann` of group `g` holds, and the decision for her about getting pods.
+static COUNTS: [(&str, &str, &str); 6] = [
+    ("put ClusterRole first get;;pods;-;-", "", "denied"),
+    ("put ClusterRole second get;;secrets;-;-", "", "denied"),
+    (
+        "put ClusterRoleBinding q ClusterRole/second Group:g User:ann User:ann",
+        "get;;secrets;-;- ",
+        "denied",
+    ),
+    (
+        "put ClusterRoleBinding p ClusterRole/first Group:g",
+        "get;;pods;-;- get;;secrets;-;- ",
+        "ClusterRoleBinding p, ClusterRole first, rule 0",
+    ),
+    ("delete ClusterRoleBinding p", "get;;secrets;-;- ", "denied"),
+    (
+        "put ClusterRoleBinding p ClusterRole/first User:bob",
+        "get;;secrets;-;- ",
+        "denied",
+    ),
+];
+
+fn assert_counted(
+    rt: &impl Abort,
+    alloc: Global,
+    policy: &IndexedPolicy,
+    rules: &str,
+    decision: &str,
+) -> Result<(), Fail> {
+    let held = held(alloc, policy, "ann", "g", "")?;
+    assert_eq!(rt; held.as_str(), rules);
+    let decided = decided(alloc, policy, "ann", "g", "", "get;;pods;;p")?;
+    assert_eq!(rt; decided.as_str(), decision);
+    Ok(())
+}
+
+fn assert_counts(
+    rt: &impl Abort,
+    alloc: Global,
+    policy: &mut IndexedPolicy,
+    cases: &[(&str, &str, &str)],
+) -> Result<(), Fail> {
+    for (text, rules, decision) in cases {
+        apply(alloc, policy, text)?;
+        assert_counted(rt, alloc, policy, rules, decision)?;
+    }
+    Ok(())
 }
 
 #[test]
 fn a_binding_counts_once(rt: HostRuntime) -> Result<(), Fail> {
-    let alloc = rt.alloc();
-    let ann = identity(alloc, "ann", "g")?;
-    let pods = point(alloc, "get", "pods")?;
-    let mut policy = IndexedPolicy::new(alloc);
-    policy.apply(&cluster_role(alloc, "first", "pods")?)?;
-    policy.apply(&cluster_role(alloc, "second", "secrets")?)?;
-    policy.apply(&cluster_binding(alloc, "q", "g:g u:ann u:ann", "second")?)?;
-    policy.apply(&cluster_binding(alloc, "p", "g:g", "first")?)?;
-    let held = policy.held(&ann, "")?;
-    assert_eq!(rt;
-        told_rules(alloc, held.as_slice())?.as_str(),
-        "get pods; get secrets; "
-    );
-    let decision = policy.decide(&ann, "", &pods);
-    assert_eq!(rt;
-        told(alloc, &decision)?.as_str(),
-        "ClusterRoleBinding p, ClusterRole first, rule 0"
-    );
-    policy.apply(&PolicyChange::Delete(PolicyKey::ClusterRoleBinding(Text::copy_of(alloc, "p")?)))?;
-    let held = policy.held(&ann, "")?;
-    assert_eq!(rt;
-        told_rules(alloc, held.as_slice())?.as_str(),
-        "get secrets; "
-    );
-    policy.apply(&cluster_binding(alloc, "p", "u:bob", "first")?.copy(alloc)?)?;
-    let held = policy.held(&ann, "")?;
-    assert_eq!(rt;
-        told_rules(alloc, held.as_slice())?.as_str(),
-        "get secrets; "
-    );
-    Ok(())
+    assert_counts(
+        &rt,
+        rt.alloc(),
+        &mut IndexedPolicy::new(rt.alloc()),
+        &COUNTS,
+    )
 }

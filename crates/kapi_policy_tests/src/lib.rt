@@ -12,4 +12,8 @@ mod grants;
 #[cfg(test)]
 mod index;
 #[cfg(test)]
+mod reading;
+#[cfg(test)]
 mod reviews;
+#[cfg(test)]
+mod telling;

@@ -1,90 +1,29 @@
+use crate::reading::{fill, identity, row};
 use kapi_admission::{ObjectError, read_object};
-use kapi_names::{FieldFault, ResourceRow, Schema};
+use kapi_names::{FieldFault, Schema};
 use kapi_object::Object;
-use kapi_policy::{NamespacedName, PlainPolicy, Policy, PolicyChange, PolicyPut};
-use kapi_rbac_types::{
-    Identity, ReadFault, read_cluster_role, read_cluster_role_binding, read_role, read_role_binding,
-};
+use kapi_policy::PlainPolicy;
+use kapi_rbac_types::Identity;
 use kapi_reviews::{ReviewError, ReviewKind, review};
-use kapi_text::{Sequence, Text};
+use kapi_text::Text;
 use std::alloc::{AllocError, Global};
 use std::process::Abort;
 use std::test::Fail;
 
-/// Roles and bindings: kind, namespace, name and body.
-static POLICY: [(&str, &str, &str, &str); 12] = [
-    (
-        "ClusterRole",
-        "",
-        "cluster-admin",
-        r#"{"rules":[{"verbs":["*"],"apiGroups":["*"],"resources":["*"]},{"verbs":["*"],"nonResourceURLs":["*"]}]}"#,
-    ),
-    (
-        "ClusterRole",
-        "",
-        "system:basic-user",
-        r#"{"rules":[{"verbs":["create"],"apiGroups":["authorization.k8s.io"],"resources":["selfsubjectaccessreviews","selfsubjectrulesreviews"]}]}"#,
-    ),
-    (
-        "ClusterRole",
-        "",
-        "view",
-        r#"{"rules":[{"verbs":["list"],"apiGroups":[""],"resources":["pods"]},{"verbs":["get"],"apiGroups":[""],"resources":["pods","pods/log"]},{"verbs":["get"],"nonResourceURLs":["/healthz"]},{"verbs":["get"],"apiGroups":["apps"],"resources":["deployments"],"resourceNames":["a"]},{"verbs":["get"],"apiGroups":[""],"resources":["pods"]},{"verbs":["get"],"nonResourceURLs":["/livez","/readyz"]}]}"#,
-    ),
-    (
-        "ClusterRoleBinding",
-        "",
-        "cluster-admin",
-        r#"{"roleRef":{"kind":"ClusterRole","name":"cluster-admin"},"subjects":[{"kind":"Group","name":"system:masters"},{"kind":"User","name":"root"}]}"#,
-    ),
-    (
-        "ClusterRoleBinding",
-        "",
-        "system:basic-user",
-        r#"{"roleRef":{"kind":"ClusterRole","name":"system:basic-user"},"subjects":[{"kind":"Group","name":"system:authenticated"}]}"#,
-    ),
-    (
-        "ClusterRoleBinding",
-        "",
-        "viewers",
-        r#"{"roleRef":{"kind":"ClusterRole","name":"view"},"subjects":[{"kind":"Group","name":"viewers"},{"kind":"User","name":"zed"},{"kind":"Group","name":"viewers"}]}"#,
-    ),
-    (
-        "Role",
-        "default",
-        "r",
-        r#"{"rules":[{"verbs":["get"],"apiGroups":[""],"resources":["pods"]}]}"#,
-    ),
-    (
-        "RoleBinding",
-        "default",
-        "b",
-        r#"{"roleRef":{"kind":"Role","name":"r"},"subjects":[{"kind":"User","name":"ann"}]}"#,
-    ),
-    (
-        "RoleBinding",
-        "n",
-        "view",
-        r#"{"roleRef":{"kind":"ClusterRole","name":"view"},"subjects":[{"kind":"User","name":"ann"}]}"#,
-    ),
-    (
-        "RoleBinding",
-        "n",
-        "x",
-        r#"{"roleRef":{"kind":"ClusterRole","name":"view"},"subjects":[{"kind":"User","name":"ann"}]}"#,
-    ),
-    (
-        "ClusterRoleBinding",
-        "",
-        "a-root",
-        r#"{"roleRef":{"kind":"ClusterRole","name":"system:basic-user"},"subjects":[{"kind":"User","name":"root"}]}"#,
-    ),
-    (
-        "RoleBinding",
-        "n",
-        "a-gone",
-        r#"{"roleRef":{"kind":"Role","name":"gone"},"subjects":[{"kind":"User","name":"ann"}]}"#,
-    ),
+/// The policy that the reviews ask.
+static POLICY: [&str; 12] = [
+    "put ClusterRole cluster-admin *;*;*;-;- *;-;-;-;*",
+    "put ClusterRole system:basic-user create;authorization.k8s.io;selfsubjectaccessreviews,selfsubjectrulesreviews;-;-",
+    "put ClusterRole view list;;pods;-;- get;;pods,pods/log;-;- get;-;-;-;/healthz get;apps;deployments;a;- get;;pods;-;- get;-;-;-;/livez,/readyz",
+    "put ClusterRoleBinding cluster-admin ClusterRole/cluster-admin Group:system:masters User:root",
+    "put ClusterRoleBinding system:basic-user ClusterRole/system:basic-user Group:system:authenticated",
+    "put ClusterRoleBinding viewers ClusterRole/view Group:viewers User:zed Group:viewers",
+    "put Role default/r get;;pods;-;-",
+    "put RoleBinding default/b Role/r User:ann",
+    "put RoleBinding n/view ClusterRole/view User:ann",
+    "put RoleBinding n/x ClusterRole/view User:ann",
+    "put ClusterRoleBinding a-root ClusterRole/system:basic-user User:root",
+    "put RoleBinding n/a-gone Role/gone User:ann",
 ];
 
 /// Whether whoever asks may do something: a kind, who asks with his groups, a body, and the answer.
@@ -546,85 +485,16 @@ static MORE_FAULTS: [(&str, &str, &str, &str); 21] = [
 
 // ---- values
 
-fn row(
-    alloc: Global,
-    group: &str,
-    kind: &str,
-    namespaced: bool,
-    schema: Schema,
-) -> Result<ResourceRow, AllocError> {
-    Ok(ResourceRow {
-        group: Text::copy_of(alloc, group)?,
-        version: Text::copy_of(alloc, "v1")?,
-        plural: Text::copy_of(alloc, "")?,
-        kind: Text::copy_of(alloc, kind)?,
-        namespaced,
-        has_status: false,
-        schema,
-    })
-}
-
-fn place(alloc: Global, namespace: &str, name: &str) -> Result<NamespacedName, AllocError> {
-    Ok(NamespacedName {
-        namespace: Text::copy_of(alloc, namespace)?,
-        name: Text::copy_of(alloc, name)?,
-    })
-}
-
-/// A role or a binding as it is put into a policy.
-fn put(
-    alloc: Global,
-    namespace: &str,
-    name: &str,
-    schema: Schema,
-    object: &Object,
-) -> Result<PolicyPut, ReadFault> {
-    let place = place(alloc, namespace, name)?;
-    let name = Text::copy_of(alloc, name)?;
-    match schema {
-        Schema::Role => Ok(PolicyPut::Role(place, read_role(alloc, object)?)),
-        Schema::ClusterRole => Ok(PolicyPut::ClusterRole(name, read_cluster_role(alloc, object)?)),
-        Schema::RoleBinding => Ok(PolicyPut::RoleBinding(place, read_role_binding(alloc, object)?)),
-        _other => {
-            let binding = read_cluster_role_binding(alloc, object)?;
-            Ok(PolicyPut::ClusterRoleBinding(name, binding))
-        }
-    }
-}
-
-fn schema_of(kind: &str) -> Schema {
-    match kind {
-        "Role" => Schema::Role,
-        "ClusterRole" => Schema::ClusterRole,
-        "RoleBinding" => Schema::RoleBinding,
-        "ClusterRoleBinding" => Schema::ClusterRoleBinding,
-        _other => Schema::Open,
-    }
-}
-
-fn policy(alloc: Global) -> Result<PlainPolicy, Fail> {
+fn policy(alloc: Global) -> Result<PlainPolicy, AllocError> {
     let mut policy = PlainPolicy::new(alloc);
-    for (kind, namespace, name, body) in &POLICY {
-        let schema = schema_of(kind);
-        let group = "rbac.authorization.k8s.io";
-        let row = row(alloc, group, kind, !namespace.is_empty(), schema)?;
-        let object = read_object(alloc, &row, body.as_bytes())?;
-        let put = put(alloc, namespace, name, schema, &object)?;
-        policy.apply(&PolicyChange::Put(put))?;
-    }
+    fill(alloc, &mut policy, &POLICY)?;
     Ok(policy)
 }
 
 /// A user, and after commas his groups.
-fn identity(alloc: Global, text: &str) -> Result<Identity, AllocError> {
-    let mut groups: Vec<Text> = Vec::new(alloc);
-    for group in text.split(',').skip(1) {
-        groups.push(Text::copy_of(alloc, group)?)?;
-    }
-    Ok(Identity {
-        user: Text::copy_of(alloc, text.split(',').next().unwrap_or(""))?,
-        groups: Sequence::new(groups),
-    })
+fn caller(alloc: Global, text: &str) -> Result<Identity, AllocError> {
+    let (user, groups) = text.split_once(',').unwrap_or((text, "-"));
+    identity(alloc, user, groups)
 }
 
 // ---- telling
@@ -650,23 +520,50 @@ fn told(alloc: Global, answered: &Result<Object, ReviewError>) -> Result<String,
     }
 }
 
+fn read(alloc: Global, kind: ReviewKind, body: &str) -> Result<Object, ObjectError> {
+    let group = "authorization.k8s.io";
+    let row = row(alloc, group, kind.as_str(), kind.is_local(), Schema::Open)?;
+    read_object(alloc, &row, body.as_bytes())
+}
+
+/// The answer to a body that was read.
+fn answer_object(
+    alloc: Global,
+    policy: &PlainPolicy,
+    caller: &Identity,
+    kind: ReviewKind,
+    object: &Object,
+) -> Result<String, AllocError> {
+    told(alloc, &review(alloc, policy, caller, kind, object))
+}
+
 /// The answer to a body.
 fn answer(
     alloc: Global,
     policy: &PlainPolicy,
     caller: &Identity,
-    kind: &str,
-    body: &[u8],
+    kind: ReviewKind,
+    body: &Result<Object, ObjectError>,
 ) -> Result<String, AllocError> {
-    let Some(kind) = ReviewKind::read(kind) else {
-        return String::from_str(alloc, "no review");
-    };
-    let group = "authorization.k8s.io";
-    let row = row(alloc, group, kind.as_str(), kind.is_local(), Schema::Open)?;
-    match read_object(alloc, &row, body) {
-        Ok(object) => told(alloc, &review(alloc, policy, caller, kind, &object)),
+    match body {
+        Ok(object) => answer_object(alloc, policy, caller, kind, object),
         Err(ObjectError::Invalid(_given, faults)) => told_faults(alloc, faults.as_slice()),
         Err(_other) => String::from_str(alloc, "no object"),
+    }
+}
+
+/// The answer to a body, of a kind that is told by its name.
+fn answer_to(
+    alloc: Global,
+    policy: &PlainPolicy,
+    asks: &str,
+    kind: &str,
+    body: &str,
+) -> Result<String, AllocError> {
+    let caller = caller(alloc, asks)?;
+    match ReviewKind::read(kind) {
+        Some(kind) => answer(alloc, policy, &caller, kind, &read(alloc, kind, body)),
+        None => String::from_str(alloc, "no review"),
     }
 }
 
@@ -677,9 +574,8 @@ fn assert_answers(
     cases: &[(&str, &str, &str, &str)],
 ) -> Result<(), Fail> {
     let policy = policy(alloc)?;
-    for (kind, caller, body, expected) in cases {
-        let caller = identity(alloc, caller)?;
-        let found = answer(alloc, &policy, &caller, kind, body.as_bytes())?;
+    for (kind, asks, body, expected) in cases {
+        let found = answer_to(alloc, &policy, asks, kind, body)?;
         assert_eq!(rt; found.as_str(), *expected, "{kind} {body}");
     }
     Ok(())

@@ -63,6 +63,7 @@ refusal_whole asked name refusal.RoleRefChanged = refl
 refusal_whole asked name refusal.NamespaceNotEmpty = refl
 refusal_whole asked name refusal.NoRevisionLeft = refl
 refusal_whole asked name (refusal.NotYetReached revisions) = refl
+refusal_whole asked name (refusal.Expired old) = refl
 
 -- the causes of bytes that are no request: there is none
 pub fault_whole : (code : StatusCode) (w : List ℕ) → items_have_float (items_of (fault_failure code w).causes) ≡ false

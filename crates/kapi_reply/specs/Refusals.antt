@@ -16,6 +16,7 @@ use Rattle.kapi_reply.specs.declared.refusal.BadWord.TheVariants as word
 use Rattle.kapi_reply.specs.declared.refusal.CheckError.{CheckError}
 use Rattle.kapi_reply.specs.declared.refusal.CheckError.TheVariants as error
 use Rattle.kapi_reply.specs.declared.refusal.NamedRole.{NamedRole}
+use Rattle.kapi_reply.specs.declared.refusal.OldRevision.{OldRevision}
 use Rattle.kapi_reply.specs.declared.refusal.Place.{Place}
 use Rattle.kapi_reply.specs.declared.refusal.Place.TheVariants as place
 use Rattle.kapi_reply.specs.declared.refusal.Refusal.{Refusal}
@@ -136,6 +137,12 @@ abbrev pub not_yet_reached : Revisions → Failed
 not_yet_reached r =
     failed status.GatewayTimeout (codes "Timeout") (codes "resourceVersion " ++ (decimal r.asked ++ (codes " is above the current " ++ decimal r.current)))
 
+-- the failure where a watch would begin, or goes on, below the window of the changes that are kept (Kubernetes, 'Kubernetes API Concepts',
+-- '410 Gone responses')
+abbrev pub expired : OldRevision → Failed
+expired r =
+    failed status.Gone (codes "Expired") (codes "resourceVersion " ++ (decimal r.asked ++ (codes " is below the window, which begins at " ++ decimal r.begins)))
+
 -- the failure that is told of a refusal about the object of that name
 unfoldable pub failure_of : Asked → List ℕ → Refusal → Failed
 failure_of asked name (refusal.BadRequest w) = bad_request (word_text w)
@@ -161,6 +168,7 @@ failure_of asked name refusal.RoleRefChanged = invalid asked name (changed_role_
 failure_of asked name refusal.NamespaceNotEmpty = failed status.Conflict (codes "Conflict") (said_of asked name (codes " still holds objects"))
 failure_of asked name refusal.NoRevisionLeft = failed status.ServiceUnavailable (codes "ServiceUnavailable") (codes "no revision is left")
 failure_of asked name (refusal.NotYetReached revisions) = not_yet_reached revisions
+failure_of asked name (refusal.Expired old) = expired old
 
 -- ---- bytes that are no request
 

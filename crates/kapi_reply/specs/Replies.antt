@@ -6,6 +6,7 @@ use Rattle.kapi_http.specs.declared.message.HttpFault.{HttpFault}
 use Rattle.kapi_http.specs.declared.message.Method.{Method}
 use Rattle.kapi_http.specs.declared.message.Reply.{Reply}
 use Rattle.kapi_http.specs.declared.message.StatusCode.{StatusCode}
+use Rattle.kapi_http.specs.declared.message.StatusCode.TheVariants as status
 use Rattle.kapi_reply.specs.declared.refusal.BadWord.{BadWord}
 use Rattle.kapi_reply.specs.declared.refusal.Refused.{Refused}
 use Rattle.kapi_reply.specs.declared.reply.Content.{Content}
@@ -31,6 +32,11 @@ is_plain content.Text = true
 -- a reply that tells an object, given as JSON text, or a plain text
 abbrev pub content_reply : StatusCode → Content → Bool → List ℕ → WrittenReply
 content_reply code of close body = sent (record (json_reply code [] close (Some body)) { plain = is_plain of })
+
+-- the head of a watch, whose events follow in chunks (RFC 9112 section 7.1): it does not end the connection, which may close after the
+-- watch
+abbrev pub watch_reply : Bool → WrittenReply
+watch_reply close = record { bytes = text (record (json_reply status.Ok [] close None) { chunked = true }); close = false }
 
 -- a reply that tells a failure and whom it is about
 abbrev pub failure_reply : Option Subject → Bool → Failed → WrittenReply

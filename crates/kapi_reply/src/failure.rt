@@ -8,7 +8,7 @@ ghost use Rattle.kapi_reply.specs.Status as status_object;
 ghost use Rattle.kapi_reply.specs.Status.{invalid_field};
 ghost use Rattle.kapi_reply.specs.Views.{asked_data, failure_data, subject_data};
 
-use crate::refusal::{NamedRole, Refusal, Revisions, Sought};
+use crate::refusal::{NamedRole, OldRevision, Refusal, Revisions, Sought};
 use crate::reply::Asked;
 use crate::status::{
     Failure, Subject, changed_role_ref, invalid_fields, missing_atoms, missing_permission,
@@ -67,6 +67,7 @@ pub fn failure_of(
             "no revision is left",
         ),
         Refusal::NotYetReached(revisions) => not_yet_reached(alloc, *revisions),
+        Refusal::Expired(old) => expired(alloc, *old),
     }
 }
 
@@ -86,6 +87,17 @@ fn not_yet_reached(alloc: Global, revisions: Revisions) -> Result<Failure, Memor
         revisions.asked, revisions.current
     )?;
     Ok(with_message(alloc, StatusCode::GatewayTimeout, "Timeout", message))
+}
+
+/// The failure where a watch would begin, or goes on, below the window of the changes that are kept.
+pub fn expired(alloc: Global, old: OldRevision) -> Result<Failure, Memory>
+    ensures { IfOk result (λ f. failure_data f ≡ table.expired old) }
+{
+    let message = format!(in alloc;
+        "resourceVersion {} is below the window, which begins at {}",
+        old.asked, old.begins
+    )?;
+    Ok(with_message(alloc, StatusCode::Gone, "Expired", message))
 }
 
 /// The failure that is told of bytes that are no request.

@@ -6,9 +6,11 @@ pub mod refusal;
 pub mod reply;
 mod status;
 
-pub use refusal::{BadWord, CheckError, NamedRole, Place, Refusal, Refused, Revisions, Sought};
+pub use refusal::{
+    BadWord, CheckError, NamedRole, OldRevision, Place, Refusal, Refused, Revisions, Sought,
+};
 pub use reply::{
-    Asked, Content, WrittenReply, content_reply, deletion_text, fault_reply, refusal_reply,
-    target_reply,
+    Asked, Content, WrittenReply, content_reply, deletion_text, expired_text, fault_reply,
+    refusal_reply, target_reply, watch_reply,
 };
 pub use status::Subject;

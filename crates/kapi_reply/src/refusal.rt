@@ -79,6 +79,8 @@ pub enum Refusal {
     NoRevisionLeft,
     /// The query asks for a revision that is not reached yet.
     NotYetReached(Revisions),
+    /// A watch is asked for from a revision after which some changes may be kept no longer.
+    Expired(OldRevision),
 }
 
 /// A role by its resource and its name.
@@ -93,6 +95,13 @@ pub struct NamedRole {
 pub struct Revisions {
     pub asked: u64,
     pub current: u64,
+}
+
+/// A revision that was asked for, and the one at which the window of the changes that are kept begins.
+#[derive(Clone, Copy, Debug, PartialEq, Eq)]
+pub struct OldRevision {
+    pub asked: u64,
+    pub begins: u64,
 }
 
 /// A refused request: the name of the object that it is about, where that is not the one that its path names, and why.

@@ -1,5 +1,5 @@
 //! Replies with JSON bodies, and what refused requests are sent.
-ghost use Rattle.std.specs.Prelude.{◌≡◌, [], false, map as map_of, IfOk};
+ghost use Rattle.std.specs.Prelude.{◌≡◌, [], false, Some, map as map_of, IfOk};
 ghost use Rattle.std.specs.Option.{option_map};
 ghost use Rattle.serde_json.specs.View.{items_of, view};
 ghost use Rattle.serde_json.specs.Written.{compact_text, items_have_float};
@@ -9,8 +9,8 @@ ghost use Rattle.kapi_reply.specs.Replies.{json_reply, sent};
 ghost use Rattle.kapi_reply.specs.Status.{deleted_status, status_of};
 ghost use Rattle.kapi_reply.specs.Views.{asked_data, failure_data, subject_data};
 
-use crate::failure::{bad_request, failure_of, failure_of_fault, name_of, subject_of};
-use crate::refusal::{BadWord, Refused};
+use crate::failure::{bad_request, expired, failure_of, failure_of_fault, name_of, subject_of};
+use crate::refusal::{BadWord, OldRevision, Refused};
 use crate::status::{Failure, Subject, deletion_status, failure_status};
 use kapi_http::{HttpFault, Method, Reply, StatusCode, write_reply};
 use kapi_request_info::Attributes;
@@ -60,6 +60,24 @@ pub fn content_reply(
         body: Some(Sequence::new(body)),
     };
     write(alloc, &reply)
+}
+
+/// The head of a watch, whose events follow in chunks. It does not end the connection, which may close after the watch.
+pub fn watch_reply(alloc: Global, close: bool) -> Result<WrittenReply, Memory>
+    ensures { IfOk result (λ o. o ≡ replies.watch_reply close) }
+{
+    let head = Reply {
+        code: StatusCode::Ok,
+        plain: false,
+        allow: Sequence::new(Vec::new(alloc)),
+        chunked: true,
+        close,
+        body: None,
+    };
+    Ok(WrittenReply {
+        bytes: Sequence::new(write_reply(alloc, &head)?),
+        close: false,
+    })
 }
 
 fn is_plain(content: Content) -> bool
@@ -164,6 +182,18 @@ fn status_text(
     ensures { IfOk result (λ b. b.items ≡ compact_text (status_of (option_map subject_data subject.entry) (failure_data failure))) }
 {
     failure_status(alloc, subject, failure)?.to_vec(alloc)
+}
+
+/// What a watch is told that cannot go on, as JSON text: that changes after the revision at which it stands may be kept no longer.
+pub fn expired_text(
+    alloc: Global,
+    subject: Subject<'_>,
+    old: OldRevision,
+) -> Result<Vec<u8>, Memory>
+    ensures { IfOk result (λ b. b.items ≡ compact_text (status_of (Some (subject_data subject.entry)) (table.expired old))) }
+{
+    let failure = expired(alloc, old)?;
+    status_text(alloc, Some(subject), failure)
 }
 
 /// What a deletion is told, as JSON text: whom it was about, and the uid of what was deleted (Kubernetes API conventions, 'Response

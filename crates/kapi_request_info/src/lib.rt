@@ -8,8 +8,6 @@ pub mod query;
 mod resource;
 pub mod selector;
 mod target;
-#[cfg(test)]
-mod tests;
 mod worked;
 
 pub use attributes::{Attributes, InfoError, info};

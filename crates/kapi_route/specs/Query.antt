@@ -88,11 +88,11 @@ unfoldable pub filtered : List QueryPair → Result Filter Refused
 filtered query = do
   selector ← selector_asked query
   name ← name_asked query
-  Ok (record { selector = selector; name = name })
+  Ok (record { selector = selector; name = name; since = 0 })
 
 -- all of them
 abbrev pub everything : Filter
-everything = record { selector = record { match_labels = []; match_expressions = [] }; name = [] }
+everything = record { selector = record { match_labels = []; match_expressions = [] }; name = []; since = 0 }
 
 -- the revision that 1 to 15 decimal digits write
 abbrev pub revision : List ℕ → Option ℕ
@@ -123,6 +123,16 @@ listed current query = do
   v ← version_asked current query
   Ok filter
 
+-- the revision that is asked for; 0 where none is
+unfoldable pub revision_asked : List QueryPair → ℕ
+revision_asked query = unwrap_or (revision (asked query (codes "resourceVersion"))) 0
+
+-- a watch: what a list may be asked for, and the revision from which on changes are shown
+unfoldable pub watched : ℕ → List QueryPair → Result Filter Refused
+watched current query = do
+  filter ← listed current query
+  Ok (record filter { since = revision_asked query })
+
 -- a read of one object at the current revision
 abbrev pub read : ℕ → List QueryPair → Result Filter Refused
 read current query = version_asked current query >>= λ u. Ok everything
@@ -139,6 +149,6 @@ all_deleted query = no_dry_run query >>= λ u. filtered query
 unfoldable pub queried : Action → ℕ → List QueryPair → Result Filter Refused
 queried action.Get current query = read current query
 queried action.List current query = listed current query
-queried action.Watch current query = Err bad_option
+queried action.Watch current query = watched current query
 queried action.DeleteCollection current query = all_deleted query
 queried _ current query = written query

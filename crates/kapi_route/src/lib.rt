@@ -4,8 +4,6 @@
 pub mod headers;
 pub mod query;
 pub mod route;
-#[cfg(test)]
-mod tests;
 
 pub use headers::{check_media_type, refuse_impersonation};
 pub use query::{Filter, check_query};

@@ -18,6 +18,8 @@ pub struct Filter {
     pub selector: Selector,
     /// Empty for all names.
     pub name: Text,
+    /// The revision after which a watch shows each change; 0 where it shows first what is there.
+    pub since: u64,
 }
 
 /// Whether what the query asks for is served at the current revision, and which objects of a collection it asks for.
@@ -33,7 +35,7 @@ pub fn check_query(
     match action {
         Action::Get => check_read(alloc, current, query),
         Action::List => check_list(alloc, current, query),
-        Action::Watch => Err(CheckError::Refused(bad_option())),
+        Action::Watch => check_watch(alloc, current, query),
         Action::DeleteCollection => check_deletions(alloc, query),
         Action::Create | Action::Delete | Action::Patch(_) | Action::Update(_) => {
             check_write(alloc, query)
@@ -58,6 +60,27 @@ fn check_list(alloc: Global, current: u64, query: &[QueryPair]) -> Result<Filter
     let filter = read_filter(alloc, query)?;
     check_version(current, query)?;
     Ok(filter)
+}
+
+/// What a list may be asked for, and the revision from which on changes are shown; that they are all kept is not looked at here.
+#[tactic(auto, unfolding(crate::specs::Query::watched))]
+fn check_watch(alloc: Global, current: u64, query: &[QueryPair]) -> Result<Filter, CheckError>
+    ensures { Gives refused_by (λ f. f) result (queries.watched current query.now) }
+{
+    let Filter { selector, name, .. } = check_list(alloc, current, query)?;
+    Ok(Filter {
+        selector,
+        name,
+        since: revision_asked(query),
+    })
+}
+
+/// The revision that is asked for; 0 where none is.
+#[tactic(auto, unfolding(crate::specs::Query::revision_asked))]
+fn revision_asked(query: &[QueryPair]) -> u64
+    ensures { result ≡ queries.revision_asked query.now }
+{
+    revision(asked(query, "resourceVersion").as_bytes()).unwrap_or(0)
 }
 
 fn check_deletions(alloc: Global, query: &[QueryPair]) -> Result<Filter, CheckError>
@@ -163,6 +186,7 @@ fn read_filter(alloc: Global, query: &[QueryPair]) -> Result<Filter, CheckError>
     Ok(Filter {
         selector,
         name: Text::copy_of(alloc, name)?,
+        since: 0,
     })
 }
 
@@ -209,6 +233,7 @@ fn everything(alloc: Global) -> Filter
             match_expressions: Sequence::new(Vec::new(alloc)),
         },
         name: Text::new(String::new(alloc)),
+        since: 0,
     }
 }
 

@@ -71,11 +71,15 @@ pub record StandsFor (s : State) (history : List PlainChange) (p : Plain) : Type
   pub numbered : Follow (λ c. c.revision) p.first history
   pub counted : p.revision ≡ p.first + length history
 
+-- the lowest revision after which all changes are kept
+abbrev pub window_start : Plain → ℕ
+window_start s = max (s.revision - WINDOW) s.first
+
 -- the changes of a history after a revision; none where some of them may be kept no longer (Kubernetes, 'Efficient
 -- detection of changes': 410 Gone)
 unfoldable pub changes_after : List PlainChange → Plain → ℕ → Result (List PlainChange) (Unit {0})
 changes_after history s revision =
-    if nat_lt revision (max (s.revision - WINDOW) s.first) then Err tt else
+    if nat_lt revision (window_start s) then Err tt else
     Ok (filter (λ c. nat_lt revision c.revision) history)
 
 -- whether there is an object at the key

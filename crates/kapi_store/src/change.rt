@@ -36,7 +36,7 @@ impl Shared {
     }
 
     /// One more owner of the same object.
-    pub(crate) fn share(&self) -> Result<Shared, Memory>
+    pub fn share(&self) -> Result<Shared, Memory>
         ensures { IfOk result (λ s. s ≡ self.now) }
     {
         Ok(Shared {

@@ -77,7 +77,7 @@ impl Store {
     ghost use Rattle.kapi_store.specs.Faults.{fault_of};
     ghost use Rattle.kapi_store.specs.Stamps.{with_stamps_of as with_stamps};
     ghost use Rattle.kapi_store.specs.Plain.{Plain, PlainChange, StandsFor, plain_of, plain_change, has_object as has_object_at, has_namespace as has_namespace_of, free_place, revisions_left, creation, creation_in_place, replacement, removal, opened, written, trees};
-    ghost use Rattle.kapi_store.specs.Plain.{changes_after as changes_after_in, replaceable as replaceable_at, holds_objects as holds_objects_in, is_full_namespace, removable, replaced};
+    ghost use Rattle.kapi_store.specs.Plain.{changes_after as changes_after_in, replaceable as replaceable_at, holds_objects as holds_objects_in, is_full_namespace, removable, replaced, window_start as window_start_of};
     ghost use Rattle.kapi_store.specs.Listing.{listed_objects, listed_trees, shown};
 
     /// A store with no object and no change, whose counter starts at `first`; it has the memory for all changes that
@@ -152,6 +152,13 @@ impl Store {
         ensures store { IsStore self.now }
     {
         self.revision
+    }
+
+    /// The lowest revision after which all changes are kept: the first one, or the current one less `WINDOW`.
+    pub fn window_start(&self) -> u64
+        ensures { result ≡ window_start_of (plain_of self.now) }
+    {
+        self.first.max(self.revision.saturating_sub(WINDOW as u64))
     }
 
     /// The changes after a revision, the oldest first; none where some of them may be kept no longer: where the

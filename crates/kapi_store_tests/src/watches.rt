@@ -253,7 +253,7 @@ fn put(store: &mut Store, key: Key, object: Object) -> Result<(), Fail> {
 
 /// What a watch shows next, as text; the empty one where there is nothing.
 fn next_text(alloc: Global, watch: &Watch, store: &Store) -> Result<String, Fail> {
-    let Some(event) = watch.next(store) else {
+    let Some(event) = watch.next(store).event else {
         return Ok(String::new(alloc));
     };
     let object = match event.object_text(alloc)? {
@@ -299,7 +299,7 @@ fn make_step(
 ) -> Result<(), Fail> {
     if let Step::Show(wanted) = step {
         is_text(rt, next_text(alloc, watch, store)?.as_str(), wanted);
-        watch.shown(store);
+        watch.shown(watch.next(store).place);
     }
     write(alloc, store, step)
 }
@@ -356,7 +356,7 @@ fn watch_all(
 
 /// A word for what a watch shows next.
 fn next_word(watch: &Watch, store: &Store) -> &'static str {
-    match watch.next(store) {
+    match watch.next(store).event {
         Some(event) => event.kind(),
         None => "nothing",
     }
@@ -394,7 +394,7 @@ fn watches_start_within_the_window(rt: HostRuntime) -> Result<(), Fail> {
 /// Pumps a watch, and looks at what it shows.
 fn pump(rt: &impl Abort, store: &Store, watch: &mut Watch, wanted: &str) {
     is_text(rt, next_word(watch, store), wanted);
-    watch.shown(store);
+    watch.shown(watch.next(store).place);
 }
 
 #[test]

@@ -1,4 +1,8 @@
 mod Due
-mod Standing
+pub mod Standing
 mod Joined
-mod Runs
+pub mod Runs
+mod Maps
+pub mod Named
+pub mod Lists
+pub mod Histories

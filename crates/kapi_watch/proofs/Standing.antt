@@ -1,23 +1,20 @@
 -- What a running watch stands for, from one pump to the next.
-use Rattle.std.proofs.Common.{◌≡◌, ℕ, zero, suc, ◌+◌, ◌≤◌, ◌<◌, Bool, true, false, List, [], ◌∷◌, ◌++◌, Option, None, Some, Result, Ok, Err, option_map, is_err, map, length, ◌==◌, drop, slice_get, refl, sym, ap, ◌∙◌, subst, arith}
-use Rattle.std.proofs.lemmas.Bool.{lt-ltb, le-ltb}
+use Rattle.std.proofs.Common.{◌≡◌, ℕ, zero, suc, ◌+◌, ◌≤◌, ◌<◌, Bool, true, false, List, [], ◌∷◌, ◌++◌, Option, None, Some, Result, Ok, Err, option_map, if◌then◌else◌, nat_lt, map, length, drop, slice_get, refl, sym, ap, ◌∙◌, subst, arith}
 use Rattle.std.proofs.Math.Dec.{eqb-suc-zero}
+use Rattle.std.proofs.lemmas.Bool.{lt-ltb, le-ltb, ltb-false}
 use Rattle.std.proofs.lemmas.List.{length-map}
 use Rattle.std.proofs.lemmas.Option.{slice_get_within, slice_get-map}
-use Rattle.serde_json.specs.Data.{Data}
 use Rattle.kapi_object.specs.declared.object.Object.{Object}
 use Rattle.kapi_object.specs.Object.{tree_of}
-use Rattle.kapi_text.specs.Gives.{Gives}
 use Rattle.kapi_store.specs.declared.key.Key.{Key}
 use Rattle.kapi_store.specs.Changes.{Follow}
-use Rattle.kapi_store.specs.Listing.{listed_trees}
 use Rattle.kapi_store.specs.Plain.{Plain, PlainChange, changes_after, trees}
 use Rattle.kapi_watch.specs.declared.scope.Scope.{Scope}
 use Rattle.kapi_watch.specs.declared.watch.Watch.{Watch}
 use Rattle.kapi_watch.specs.Shown.{Shown, Added, shown_of, shown_by, selected}
-use Rattle.kapi_watch.specs.Watches.{PlainWatch, started, started_now, started_at, is_gone, shown_all, later, due, is_expired, pumped, moved, after_pump}
+use Rattle.kapi_watch.specs.Watches.{PlainWatch, TooLarge, TooOld, WatchFault, is_gone, startable, shown_all, later, due, is_expired, pumped, moved, after_pump}
 use Rattle.kapi_watch.specs.Looked.{first_in, position_after, shown_in}
-use Rattle.kapi_watch.specs.Running.{StandsForWatch}
+use Rattle.kapi_watch.specs.Running.{IsFresh, StandsForWatch, watch_data}
 use Rattle.kapi_watch.proofs.Due.{drop_front, Behind, behind_first, past_none}
 
 module _ {X : Type 0} where
@@ -184,41 +181,22 @@ module _ (r : Watch) (h : List PlainChange) (s : Plain) (w : PlainWatch) (k : St
           subst P (ap (λ p. position_after s p (first_in w.scope (changes_after h s w.position))) k.position ∙ ap (position_after s r.position) same_place)
           (by_gone_after (is_gone s w.position) refl)
 
--- a watch of what is listed now
-pub starts_now : (scope : Scope) (first : List Object) (h : List PlainChange) (s : Plain)
-    → map tree_of first ≡ map (λ e. e.1) (listed_trees scope.row scope.namespace scope.selector scope.name s.objects)
-    → StandsForWatch (record { scope = scope; first = first; told = 0; position = s.revision }) h s (started_now s scope)
+-- a watch that was just started
+pub starts : (r : Watch) (h : List PlainChange) (s : Plain) → IsFresh s r → StandsForWatch r h s (watch_data r)
 unfolding due
-starts_now scope first h s is =
-    let trees : List Data = map (λ e. e.1) (listed_trees scope.row scope.namespace scope.selector scope.name s.objects) in
-    let len : length trees ≡ length first = ap length (sym is) ∙ length-map first tree_of in
+starts r h s (none, reached) =
+    let len : length (map tree_of r.first) ≡ length r.first = length-map r.first tree_of in
     record {
       scope = refl;
       position = refl;
-      first = sym is;
+      first = refl;
       begun = λ _. (refl, refl);
       ended = λ le. omega arith;
-      rest = refl;
+      rest = rw none refl;
       within = omega arith;
-      known = omega arith;
-      stood = omega arith;
+      known = reached;
+      stood = reached;
     }
-
--- a watch of the changes after a revision
-pub starts_at : (scope : Scope) (revision : ℕ) (h : List PlainChange) (s : Plain) → revision ≤ s.revision
-    → StandsForWatch (record { scope = scope; first = []; told = 0; position = revision }) h s (started_at scope revision)
-unfolding due
-starts_at scope revision h s le = record {
-  scope = refl;
-  position = refl;
-  first = refl;
-  begun = λ lt. absurd (omega arith);
-  ended = λ _. omega arith;
-  rest = refl;
-  within = omega arith;
-  known = le;
-  stood = le;
-}
 
 -- the trees of a list are those of its objects
 pub listed_second : {X : Type 0} (key : X → Key) (object : X → Object) (ls : List X)
@@ -226,21 +204,18 @@ pub listed_second : {X : Type 0} (key : X → Key) (object : X → Object) (ls :
 listed_second key object [] = refl
 listed_second key object (l ∷ ls) = ap (λ ts. tree_of (object l) ∷ ts) (listed_second key object ls)
 
--- where changes after a revision are given, none is gone
-pub not_gone : {C E : Type 0} (view : C → List PlainChange) (h : List PlainChange) (s : Plain) (revision : ℕ) (found : Result C E) → is_err found ≡ false
-    → Gives (λ e. Some tt) view found (changes_after h s revision) → is_gone s revision ≡ false
-unfolding changes_after
-not_gone view h s revision (Err e) is gives = cc
-not_gone view h s revision (Ok c) is gives = by_test (is_gone s revision) refl where
-  by_test : (b : Bool) → is_gone s revision ≡ b → b ≡ false
-  by_test false e = refl
-  by_test true e = let gone : changes_after h s revision ≡ Err tt = rw e refl in let both : Err tt ≡ Ok (view c) = sym gone ∙ gives in cc
+-- whether a watch can start from a revision that is not 0, where that is above the current one, or is not
+abbrev startable_if : Plain → ℕ → Bool → Result (Unit {0}) WatchFault
+startable_if s revision above = if above then Err TooLarge else if is_gone s revision then Err TooOld else Ok tt
 
-not_zero : (n : ℕ) → (n ≡ 0 → ⊥) → (n == 0) ≡ false
-not_zero zero h = absurd (h refl)
-not_zero (suc n) h = eqb-suc-zero n
+not_above : (s : Plain) (revision : ℕ) (above : Bool) → nat_lt s.revision revision ≡ above → startable_if s revision above ≡ Ok tt → revision ≤ s.revision
+not_above s revision true is h = absurd (cc h)
+not_above s revision false is h = ltb-false s.revision revision is
 
--- a watch from a revision on that is neither above the current one nor below the window
-pub started_from : (s : Plain) (scope : Scope) (revision : ℕ) → (revision ≡ 0 → ⊥) → revision ≤ s.revision → is_gone s revision ≡ false
-    → started s scope revision ≡ Ok (started_at scope revision)
-started_from s scope revision some le gone = rw (not_zero revision some, le-ltb s.revision revision le, gone) refl
+-- a watch starts from no revision above the current one
+pub reached : (s : Plain) (revision : ℕ) → startable s revision ≡ Ok tt → revision ≤ s.revision
+unfolding startable
+reached s zero is = omega arith
+reached s (suc n) is =
+    let tested : startable_if s (suc n) (nat_lt s.revision (suc n)) ≡ Ok tt = rw (eqb-suc-zero n) at is in
+    not_above s (suc n) (nat_lt s.revision (suc n)) refl tested

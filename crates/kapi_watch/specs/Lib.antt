@@ -4,3 +4,5 @@ pub mod Looked
 pub mod Running
 pub mod Text
 pub mod Runs
+pub mod Histories
+pub mod Lists

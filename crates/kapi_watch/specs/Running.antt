@@ -1,12 +1,11 @@
 -- When a running watch stands for one that is data.
-use Rattle.std.specs.Prelude.{◌≡◌, ◌≤◌, ◌<◌, List, ◌++◌, Result, Ok, Err, map, length, drop}
-use Rattle.kapi_text.specs.Gives.{Fails}
+use Rattle.std.specs.Prelude.{◌≡◌, ◌≤◌, ◌<◌, List, ◌++◌, map, length, drop}
 use Rattle.kapi_object.specs.Object.{tree_of}
 use Rattle.kapi_store.specs.Plain.{Plain, PlainChange}
-use Rattle.kapi_watch.specs.declared.error.WatchError.{WatchError}
+use Rattle.kapi_watch.specs.declared.watch.Place.{Place}
 use Rattle.kapi_watch.specs.declared.watch.Watch.{Watch}
 use Rattle.kapi_watch.specs.Shown.{Added}
-use Rattle.kapi_watch.specs.Watches.{PlainWatch, WatchFault, fault_of, shown_all, later, due}
+use Rattle.kapi_watch.specs.Watches.{PlainWatch, shown_all, later, due}
 
 -- a running watch, which has shown so many of the objects that are shown first, stands for one that is data: what is due
 -- to that one and was not shown is the rest of those objects, and what the changes after the position show
@@ -21,8 +20,18 @@ pub record StandsForWatch (r : Watch) (history : List PlainChange) (s : Plain) (
   pub known : w.start ≤ s.revision
   pub stood : w.position ≤ s.revision
 
--- a start gives a watch that stands for the one that is defined, or is refused as it is
-abbrev pub Starts : Result Watch WatchError → List PlainChange → Plain → Result PlainWatch WatchFault → Type 0
-Starts (Ok r) history s (Ok w) = StandsForWatch r history s w
-Starts (Ok r) history s (Err fault) = ⊥
-Starts (Err e) history s given = Fails (fault_of e) given
+-- a running watch that was moved to a place
+abbrev pub at_place : Watch → Place → Watch
+at_place r place = record r { told = place.told; position = place.position }
+
+-- a running watch that has shown nothing yet, as data
+abbrev pub watch_data : Watch → PlainWatch
+watch_data r = record { scope = r.scope; first = map tree_of r.first; start = r.position; shown = r.told; position = r.position }
+
+-- a running watch has shown nothing, and stands at a revision that was reached
+abbrev pub IsFresh : Plain → Watch → Type 0
+IsFresh s r = (r.told ≡ 0) × (r.position ≤ s.revision)
+
+-- such a one stands for what it is as data
+abbrev pub StandsAtFirst : Type 0
+StandsAtFirst = (r : Watch) (history : List PlainChange) (s : Plain) → IsFresh s r → StandsForWatch r history s (watch_data r)

@@ -1,10 +1,10 @@
 -- Watches as data: what is due to a watch of all the changes ever, and what each pump shows of it.
-use Rattle.std.specs.Prelude.{ℕ, ◌+◌, ◌-◌, max, nat_lt, ◌==◌, Bool, not, ◌&&◌, if◌then◌else◌, List, [], ◌++◌, Option, None, Some, Result, Ok, Err, map, length, option_map, slice_get}
+use Rattle.std.specs.Prelude.{ℕ, ◌+◌, nat_lt, ◌==◌, Bool, not, ◌&&◌, if◌then◌else◌, List, [], ◌++◌, Option, None, Some, Result, Ok, Err, map, length, option_map, slice_get}
 use Rattle.std.specs.List.{filter, filter_map}
 use Rattle.serde_json.specs.Data.{Data}
-use Rattle.kapi_store.specs.declared.window.TheConstants.{WINDOW}
+use Rattle.kapi_text.specs.Gives.{◌>>=◌}
 use Rattle.kapi_store.specs.Listing.{listed_trees}
-use Rattle.kapi_store.specs.Plain.{Plain, PlainChange}
+use Rattle.kapi_store.specs.Plain.{Plain, PlainChange, window_start}
 use Rattle.kapi_watch.specs.declared.error.WatchError.{WatchError}
 use Rattle.kapi_watch.specs.declared.error.WatchError.TheVariants as error
 use Rattle.kapi_watch.specs.declared.scope.Scope.{Scope}
@@ -32,7 +32,7 @@ fault_of error.Memory = None
 
 -- some changes after a revision may be kept no longer
 abbrev pub is_gone : Plain → ℕ → Bool
-is_gone s revision = nat_lt revision (max (s.revision - WINDOW) s.first)
+is_gone s revision = nat_lt revision (window_start s)
 
 -- a watch of what is listed now, and of each change after it
 abbrev pub started_now : Plain → Scope → PlainWatch
@@ -48,13 +48,23 @@ started_now s scope = record {
 abbrev pub started_at : Scope → ℕ → PlainWatch
 started_at scope revision = record { scope = scope; first = []; start = revision; shown = 0; position = revision }
 
--- a watch from a revision on; 0 asks for what is listed now
-abbrev pub started : Plain → Scope → ℕ → Result PlainWatch WatchFault
-started s scope revision =
-    if revision == 0 then Ok (started_now s scope) else
+-- whether a watch can start from a revision on; 0 asks for what is listed now
+unfoldable pub startable : Plain → ℕ → Result (Unit {0}) WatchFault
+startable s revision =
+    if revision == 0 then Ok tt else
     if nat_lt s.revision revision then Err TooLarge else
     if is_gone s revision then Err TooOld else
-    Ok (started_at scope revision)
+    Ok tt
+
+-- a watch from such a revision on
+unfoldable pub watch_from : Plain → Scope → ℕ → PlainWatch
+watch_from s scope revision = if revision == 0 then started_now s scope else started_at scope revision
+
+-- a watch from a revision on, or why there can be none
+abbrev pub started : Plain → Scope → ℕ → Result PlainWatch WatchFault
+started s scope revision = do
+  u ← startable s revision
+  Ok (watch_from s scope revision)
 
 -- what changes show to a watch, each with its revision
 abbrev pub shown_all : Scope → List PlainChange → List (ℕ × Shown)

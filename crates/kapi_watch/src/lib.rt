@@ -11,6 +11,11 @@ mod written;
 
 pub use error::WatchError;
 pub use event::Event;
-pub use laws::{nothing_is_shown_twice_or_left_out, writes_leave_what_a_watch_stands_for};
+pub use laws::{
+    a_store_writes_a_history, a_watch_begins, nothing_is_shown_twice_or_left_out,
+    the_lists_are_those_of_the_store, what_a_watch_shows_makes_the_list,
+    writes_leave_what_a_watch_stands_for,
+};
+pub use scope::Scope;
 pub use text::event_text;
-pub use watch::Watch;
+pub use watch::{Next, Place, Watch};

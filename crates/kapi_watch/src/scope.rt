@@ -1,5 +1,5 @@
 //! What a watch selects, and what it shows of a change.
-ghost use Rattle.std.specs.Prelude.{◌≡◌, map, option_map, slice_get};
+ghost use Rattle.std.specs.Prelude.{◌≡◌, IfOk, map, option_map, slice_get};
 ghost use Rattle.std.specs.List.{filter_map};
 ghost use Rattle.kapi_object.specs.Object.{tree_of};
 ghost use Rattle.kapi_store.specs.Lent.{changes_of};
@@ -11,7 +11,8 @@ use crate::event::Event;
 use kapi_names::{ResourceRow, Selector};
 use kapi_object::Object;
 use kapi_store::{Change, Changes, Key, Shared};
-use kapi_text::Text;
+use kapi_text::{Memory, Text, TryCopy};
+use std::alloc::Global;
 
 /// Which objects a watch shows.
 #[derive(Debug, Drop)]
@@ -39,6 +40,24 @@ fn is_asked(asked: &Text, text: &Text) -> bool
 }
 
 impl Scope {
+    /// Of a resource, in the namespace or in all, by labels, and of the name or any.
+    pub fn new(
+        alloc: Global,
+        row: &ResourceRow,
+        namespace: &str,
+        selector: &Selector,
+        name: &str,
+    ) -> Result<Scope, Memory>
+        ensures { IfOk result (λ s. s ≡ record { row = row.now; namespace = namespace.now; selector = selector.now; name = name.now }) }
+    {
+        Ok(Scope {
+            row: row.copy(alloc)?,
+            namespace: Text::copy_of(alloc, namespace)?,
+            selector: selector.copy(alloc)?,
+            name: Text::copy_of(alloc, name)?,
+        })
+    }
+
     /// Whether the key is one of those that are watched.
     fn is_within(&self, key: &Key) -> bool
         ensures { result ≡ is_within_of self.now.row self.now.namespace self.now.name key.now }

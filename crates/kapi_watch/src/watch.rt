@@ -2,7 +2,8 @@
 ghost use Rattle.std.specs.Prelude.{◌≡◌, List, IfOk, map, option_map, unwrap_or};
 ghost use Rattle.kapi_object.specs.Object.{tree_of};
 ghost use Rattle.kapi_store.specs.Listing.{shown as listed_of};
-ghost use Rattle.kapi_store.specs.Plain.{Plain, PlainChange, StandsFor, changes_after};
+ghost use Rattle.kapi_text.specs.Gives.{Gives};
+ghost use Rattle.kapi_store.specs.Plain.{Plain, PlainChange, StandsFor, changes_after, plain_of};
 ghost use Rattle.kapi_watch.specs.Shown.{event_of};
 ghost use Rattle.kapi_watch.specs.Looked.{looked, first_in, shown_in};
 
@@ -10,36 +11,49 @@ use crate::error::WatchError;
 use crate::event::Event;
 use crate::scope::{Found, Scope};
 use kapi_names::{ResourceRow, Selector};
-use kapi_object::Object;
-use kapi_store::{Listed, Store, TooOld};
-use kapi_text::{Memory, Sequence, Text, TryCopy};
+use kapi_store::{Listed, Shared, Store, TooOld};
+use kapi_text::{Memory, Sequence};
 use std::alloc::Global;
 
 /// A watch of a store: which objects it shows, those that it shows first, and where it stands.
 #[derive(Debug, Drop)]
 pub struct Watch {
     scope: Scope,
-    first: Sequence<Object>,
+    first: Sequence<Shared>,
     /// How many of the first objects were shown.
     told: usize,
     /// The revision up to which all changes were shown.
     position: u64,
 }
 
-/// The objects of a list, copied.
-fn objects_of(alloc: Global, listed: &[Listed<'_>]) -> Result<Sequence<Object>, Memory>
+/// Where a watch stands: how many of the first objects it has shown, and the revision up to which it has shown all changes.
+#[derive(Clone, Copy, Debug)]
+pub struct Place {
+    told: usize,
+    position: u64,
+}
+
+/// What a watch shows next, if there is anything, and where it stands then.
+#[derive(Clone, Copy, Debug)]
+pub struct Next<'a> {
+    pub event: Option<Event<'a>>,
+    pub place: Place,
+}
+
+/// The objects of a list, each with one owner more.
+fn objects_of(alloc: Global, listed: &[Listed<'_>]) -> Result<Sequence<Shared>, Memory>
     ensures { IfOk result (λ os. map tree_of os ≡ map (λ l. tree_of l.object.now) listed.now) }
 {
     let mut objects = Vec::with_capacity(alloc, listed.len())?;
     for one in listed {
-        objects.push(one.object.get().copy(alloc)?)?;
+        objects.push(one.object.share()?)?;
     }
     Ok(Sequence::new(objects))
 }
 
 /// The event of what was found; where changes are gone, that the watch is at its end.
-fn event_in(found: Result<Option<Found<'_>>, TooOld>) -> Option<Event<'_>>
-    ensures { option_map event_of result ≡ shown_in (looked found.entry) }
+fn event_in<'a>(found: &Result<Option<Found<'a>>, TooOld>) -> Option<Event<'a>>
+    ensures { option_map event_of result ≡ shown_in (looked found.now) }
 {
     match found {
         Ok(Some(found)) => Some(found.event),
@@ -49,16 +63,16 @@ fn event_in(found: Result<Option<Found<'_>>, TooOld>) -> Option<Event<'_>>
 }
 
 impl Watch {
-    ghost use Rattle.kapi_watch.specs.Watches.{PlainWatch, started, started_now, pumped, after_pump};
+    ghost use Rattle.kapi_watch.specs.Watches.{PlainWatch, fault_of, pumped, after_pump, startable, started, started_at, started_now, watch_from};
     ghost use Rattle.kapi_watch.specs.Looked.{position_after};
-    ghost use Rattle.kapi_watch.specs.Running.{StandsForWatch, Starts};
+    ghost use Rattle.kapi_watch.specs.Running.{IsFresh, StandsForWatch, at_place, watch_data};
 
     /// A watch of the objects of a resource that are in the namespace and of the name, or in all and of any where the text
     /// is empty, and whose labels the selector means.
     ///
     /// Without a revision, or with 0, it shows the objects that are there first and then each change after them; with
     /// another one each change after that. Refused where that lies above the current one (`TooLarge`), and where some of
-    /// the changes may be kept no longer (`TooOld`).
+    /// the changes may be kept no longer (`TooOld`), both before any memory is taken.
     pub fn start(
         alloc: Global,
         store: &Store,
@@ -68,25 +82,51 @@ impl Watch {
         name: &str,
         revision: Option<u64>,
     ) -> Result<Watch, WatchError>
-        ensures { (history : List PlainChange) (s : Plain) → StandsFor store.now history s
-            → Starts result history s (started s (record { row = resource.now; namespace = namespace.now; selector = selector.now; name = name.now }) (unwrap_or revision 0)) }
+        ensures gives { Gives fault_of watch_data result (started (plain_of store.now) (record { row = resource.now; namespace = namespace.now; selector = selector.now; name = name.now }) (unwrap_or revision 0)) }
+        ensures fresh { IfOk result (IsFresh (plain_of store.now)) }
     {
-        let scope = Scope {
-            row: resource.copy(alloc)?,
-            namespace: Text::copy_of(alloc, namespace)?,
-            selector: selector.copy(alloc)?,
-            name: Text::copy_of(alloc, name)?,
-        };
-        match revision.unwrap_or(0) {
-            0 => Ok(Watch::from_now(alloc, store, scope)?),
-            revision => Watch::from_revision(alloc, store, scope, revision),
+        let revision = revision.unwrap_or(0);
+        Watch::check(store, revision)?;
+        let scope = Scope::new(alloc, resource, namespace, selector, name)?;
+        Ok(Watch::begin(alloc, store, scope, revision)?)
+    }
+
+    /// Whether a watch can start from a revision on: refused where that lies above the current one (`TooLarge`), and where
+    /// some of the changes after it may be kept no longer (`TooOld`). 0 asks for what is there. Takes no memory.
+    #[tactic(auto, unfolding(crate::specs::Watches::startable))]
+    pub fn check(store: &Store, revision: u64) -> Result<(), WatchError>
+        ensures { Gives fault_of (λ u. u) result (startable (plain_of store.now) revision) }
+    {
+        if revision == 0 {
+            return Ok(());
+        }
+        if revision > store.revision() {
+            return Err(WatchError::TooLarge);
+        }
+        if revision < store.window_start() {
+            return Err(WatchError::TooOld);
+        }
+        Ok(())
+    }
+
+    /// The watch from a revision on that `check` lets pass.
+    #[tactic(auto, unfolding(crate::specs::Watches::watch_from))]
+    pub fn begin(alloc: Global, store: &Store, scope: Scope, revision: u64) -> Result<Watch, Memory>
+        requires { startable (plain_of store.now) revision ≡ Ok tt }
+        ensures gives { IfOk result (λ r. watch_data r ≡ watch_from (plain_of store.now) scope revision) }
+        ensures fresh { IfOk result (IsFresh (plain_of store.now)) }
+    {
+        if revision == 0 {
+            Watch::from_now(alloc, store, scope)
+        } else {
+            Ok(Watch::from_revision(alloc, scope, revision))
         }
     }
 
     /// A watch of what is listed now, and of each change after it.
     fn from_now(alloc: Global, store: &Store, scope: Scope) -> Result<Watch, Memory>
-        ensures { (history : List PlainChange) (s : Plain) → StandsFor store.now history s
-            → IfOk result (λ r. StandsForWatch r history s (started_now s scope)) }
+        ensures gives { IfOk result (λ r. watch_data r ≡ started_now (plain_of store.now) scope) }
+        ensures told { IfOk result (λ r. r.told ≡ 0) }
     {
         let (namespace, name) = (scope.namespace.as_str(), scope.name.as_str());
         let listed = store.list(&scope.row, namespace, &scope.selector, name)?;
@@ -100,27 +140,23 @@ impl Watch {
     }
 
     /// A watch of each change after a revision.
-    fn from_revision(
-        alloc: Global,
-        store: &Store,
-        scope: Scope,
-        revision: u64,
-    ) -> Result<Watch, WatchError>
-        requires { revision ≡ 0 → ⊥ }
-        ensures { (history : List PlainChange) (s : Plain) → StandsFor store.now history s → Starts result history s (started s scope revision) }
+    fn from_revision(alloc: Global, scope: Scope, revision: u64) -> Watch
+        ensures gives { watch_data result ≡ started_at scope revision }
+        ensures told { result.told ≡ 0 }
     {
-        if revision > store.revision() {
-            return Err(WatchError::TooLarge);
-        }
-        if store.changes_after(revision).is_err() {
-            return Err(WatchError::TooOld);
-        }
-        Ok(Watch {
+        Watch {
             scope,
             first: Sequence::new(Vec::new(alloc)),
             told: 0,
             position: revision,
-        })
+        }
+    }
+
+    /// What it shows, and of which objects.
+    pub fn scope(&self) -> &Scope
+        ensures { result.now ≡ self.now.scope }
+    {
+        &self.scope
     }
 
     /// The revision at which the watch stands.
@@ -130,18 +166,37 @@ impl Watch {
         self.position
     }
 
-    /// What the watch shows next, if there is anything; takes no memory. Nothing is changed: `shown` moves the watch on.
+    /// What the watch shows next, if there is anything, and where it stands then: at the revision of that event, or at the current one
+    /// where there is nothing to show; a watch that is at its end stays where it is. Takes no memory, and changes nothing: `shown` moves
+    /// the watch on.
     ///
     /// First the objects that were there at its start. Then, where changes after its position may be kept no longer, that it is at
     /// its end; else the first that these changes show. Each is looked at once, and nothing else of the store is.
-    pub fn next<'a>(&'a self, store: &'a Store) -> Option<Event<'a>>
-        ensures { (history : List PlainChange) (s : Plain) (w : PlainWatch) → StandsFor store.now history s
-            → StandsForWatch self.now history s w → option_map event_of result ≡ pumped history s w }
+    pub fn next<'a>(&'a self, store: &'a Store) -> Next<'a>
+        ensures event { (history : List PlainChange) (s : Plain) (w : PlainWatch) → StandsFor store.now history s
+            → StandsForWatch self.now history s w → option_map event_of result.event ≡ pumped history s w }
+        ensures place { (history : List PlainChange) (s : Plain) (w : PlainWatch) → StandsFor store.now history s
+            → StandsForWatch self.now history s w → StandsForWatch (at_place self.now result.place) history s (after_pump history s w) }
     {
         if let Some(object) = self.first.as_slice().get(self.told) {
-            return Some(Event::Added(object));
+            let place = Place {
+                told: self.told + 1,
+                position: self.position,
+            };
+            return Next {
+                event: Some(Event::Added(object.get())),
+                place,
+            };
         }
-        event_in(self.look(store))
+        let found = self.look(store);
+        let place = Place {
+            told: self.told,
+            position: self.position_past(store, &found),
+        };
+        Next {
+            event: event_in(&found),
+            place,
+        }
     }
 
     /// What the changes after the position show first; refused where some of them may be kept no longer.
@@ -153,28 +208,22 @@ impl Watch {
         Ok(self.scope.first_of(&changes))
     }
 
-    /// Moves the watch past what `next` gives: to the revision of that event, or to the current one where there is nothing to show.
-    /// A watch that is at its end stays there. Takes no memory.
-    pub fn shown(&mut self, store: &Store)
-        ensures { (history : List PlainChange) (s : Plain) (w : PlainWatch) → StandsFor store.now history s
-            → StandsForWatch self.old history s w → StandsForWatch self.new history s (after_pump history s w) }
+    /// The revision at which the watch stands when it has shown what was found.
+    fn position_past(&self, store: &Store, found: &Result<Option<Found<'_>>, TooOld>) -> u64
+        ensures { result ≡ position_after (plain_of store.now) self.now.position (looked found.now) }
     {
-        if self.told < self.first.as_slice().len() {
-            self.told += 1;
-        } else {
-            self.position = self.next_position(store);
-        }
-    }
-
-    /// The revision at which the watch stands when it has shown what the changes after its position show first.
-    fn next_position(&self, store: &Store) -> u64
-        ensures { (history : List PlainChange) (s : Plain) → StandsFor store.now history s
-            → result ≡ position_after s self.now.position (first_in self.now.scope (changes_after history s self.now.position)) }
-    {
-        match self.look(store) {
+        match found {
             Ok(Some(found)) => found.revision,
             Ok(None) => store.revision(),
             Err(_too_old) => self.position,
         }
+    }
+
+    /// Moves the watch to where `next` says that it stands.
+    pub fn shown(&mut self, place: Place)
+        ensures { self.new ≡ at_place self.old place }
+    {
+        self.told = place.told;
+        self.position = place.position;
     }
 }

@@ -65,7 +65,7 @@ fn open(alloc: Global, user: &str, group: &str) -> Result<Event, Memory> {
 }
 
 /// Opens a connection of a user of a group.
-fn connect(
+pub fn connect(
     alloc: Global,
     core: &mut Core<PlainPolicy>,
     user: &str,

@@ -1,7 +1,4 @@
-use Rattle.std.proofs.Common.{◌≡◌, true, subst, sym}
-use Rattle.serde_json.specs.Data.{Data}
 use Rattle.serde_json.specs.View.{view}
-use Rattle.kapi_object.specs.Order.{is_ordered}
 use Rattle.kapi_answer.proofs.Merged.{merged_in_order}
 use Rattle.kapi_answer.proofs.update.merge.Goals as goal
 

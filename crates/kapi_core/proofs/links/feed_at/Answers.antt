@@ -13,9 +13,9 @@ returns-in-Some c =
     let Taken : Result (Unit {0}) FeedError → Type 0 = λ r. OnOk r (u ≡ record { kept = was.inbox.kept ++ piece; ended = false }) in
     let Fitting : Result (Unit {0}) FeedError → Type 0 = λ r. OnOk r (length was.inbox.kept + length piece ≤ KEPT_LIMIT) in
     let Unchanged : Result (Unit {0}) FeedError → Type 0 = λ r. OnErr r (u ≡ was.inbox) in
-    fed_from c.args.links.now.entries (c.get_mut.follows.lender (record { identity = was.identity; inbox = u })).entries c.args.id piece was u c.feed.result
+    fed_from c.args.links.now.entries (c.get_mut.follows.lender (record { identity = was.identity; inbox = u; watching = was.watching })).entries c.args.id piece was u c.feed.result
     (sym c.get_mut.ensures.value ∙ ap option_copied_mut c.in-Some.is)
-    (c.get_mut.follows.holds (record { identity = was.identity; inbox = u })).0
+    (c.get_mut.follows.holds (record { identity = was.identity; inbox = u; watching = was.watching })).0
     (λ done e. (subst Taken e c.feed.ensures.ok, subst Fitting e c.feed.ensures.fits))
     (λ error e. subst Unchanged e c.feed.ensures.err)
     (λ e. c.feed.ensures.ended.0 e)

@@ -11,13 +11,14 @@ use Rattle.kapi_core.proofs.machine.Core.new.Goals as goal
 pub returns-clause-stands : goal.returns-clause-stands
 unfolding opening
 returns-clause-stands g c =
+    let m = opening c.args.table c.args.first in
     let same = openings_same opening_objects (empty c.args.table c.args.first) in
     record {
       store = c.in_ok-store.ensures.0;
       policy_is = c.in_ok-store.ensures.1;
       covers = c.in_ok-store.ensures.2;
       next_id = sym same.next_id;
-      links = subst (λ (ps : List (ℕ × Link)). AreLinks c.new.result.entries ps) (sym same.links) (links_none c.new.result.entries c.new.ensures.len);
+      links = subst (λ (ps : List (ℕ × Link)). AreLinks m.changes m.store c.new.result.entries ps) (sym same.links) (links_none m.changes m.store c.new.result.entries c.new.ensures.len);
     }
 
 pub returns-clause-opened : goal.returns-clause-opened

@@ -1,4 +1,4 @@
-use Rattle.std.proofs.Common.{◌≡◌, ◌+◌, true, ◌&&◌, length, nat_lt, nat_le, ◌∙◌, sym, ap, subst}
+use Rattle.std.proofs.Common.{◌≡◌, ◌+◌, true, ◌&&◌, length, nat_lt, nat_le, None, ◌∙◌, sym, ap, subst}
 use Rattle.std.specs.BTreeMap.{insert_entry}
 use Rattle.std.specs.Ordering.{nat_cmp}
 use Rattle.kapi_core.specs.Running.{Running}
@@ -27,7 +27,7 @@ returns g c =
     subst P c.self.view_is
     (λ m h. made_for old.store old.policy old.marks old.connections old.next_id m old.store old.policy old.marks c.insert.new.self.entries (old.next_id + 1) (event.Open c.args.identity) (told.Opened (record { 0 = old.next_id })) h
     (opened old.store old.policy old.marks old.connections c.insert.new.self.entries old.next_id c.args.identity room
-    (c.in-Ok.ensures.entries ∙ ap (λ u. insert_entry nat_cmp old.connections old.next_id (record { identity = c.args.identity; inbox = u })) c.new.ensures)))
+    (c.in-Ok.ensures.entries ∙ ap (λ u. insert_entry nat_cmp old.connections old.next_id (record { identity = c.args.identity; inbox = u; watching = None })) c.new.ensures)))
 
 pub returns-in-Err : goal.returns-in-Err
 returns-in-Err g c =

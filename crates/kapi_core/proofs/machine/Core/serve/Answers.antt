@@ -5,7 +5,7 @@ use Rattle.std.specs.Ordering.{nat_cmp}
 use Rattle.kapi_answer.specs.Outcomes.{answered_data}
 use Rattle.kapi_policy.specs.declared.change.PolicyChange.{PolicyChange}
 use Rattle.kapi_store.proofs.Stores.{same_stands}
-use Rattle.kapi_store.specs.Plain.{StandsFor}
+use Rattle.kapi_store.specs.Plain.{StandsFor, plain_of}
 use Rattle.kapi_store.specs.State.{State}
 use Rattle.kapi_core.specs.Machine.{Machine}
 use Rattle.kapi_core.specs.Running.{Running}
@@ -13,7 +13,7 @@ use Rattle.kapi_core.specs.Stands.{Makes, Sends}
 use Rattle.kapi_core.specs.declared.event.Event.TheVariants as event
 use Rattle.kapi_core.specs.declared.event.Answer.TheVariants as told
 use Rattle.kapi_core.proofs.RunsOut.{sends_err}
-use Rattle.kapi_core.proofs.Steps.{made_for, served, served_late, served_nothing, served_nowhere}
+use Rattle.kapi_core.proofs.Steps.{is_idle, is_watching, made_for, served, served_beside, served_late, served_nothing, served_nowhere, watching_fresh}
 use Rattle.kapi_core.proofs.machine.Core.serve.Goals as goal
 
 pub returns-in_default : goal.returns-in_default
@@ -23,12 +23,21 @@ returns-in_default g c = λ m h.
     made_for old.store old.policy old.marks old.connections old.next_id m old.store old.policy old.marks old.connections old.next_id (event.Serve c.args.conn) told.Nothing h
     (served_nowhere old.store old.policy old.marks old.connections old.next_id c.args.conn (subst P c.self.view_is (sym c.in_default.ensures.value)))
 
+pub returns-then-is_some : goal.returns-then-is_some
+returns-then-is_some g c = λ m h.
+    let old = c.args.self.now in
+    let runs = is_watching c.in-Some.connection.now.watching (sym c.is_some.ensures ∙ c.if-is_some.true) in
+    let P : Running → Type 0 = λ r. lookup (is_at (nat_cmp c.args.conn.0)) r.connections ≡ Some c.in-Some.connection.now in
+    made_for old.store old.policy old.marks old.connections old.next_id m old.store old.policy old.marks old.connections old.next_id (event.Serve c.args.conn) told.Nothing h
+    (served_beside old.store old.policy old.marks old.connections old.next_id c.args.conn c.in-Some.connection.now runs.0 (subst P c.self.view_is (sym c.in-Some.ensures.value)) runs.1)
+
 pub returns-in_default-2 : goal.returns-in_default-2
 returns-in_default-2 g c = λ m h.
     let old = c.args.self.now in
     let P : Running → Type 0 = λ r. lookup (is_at (nat_cmp c.args.conn.0)) r.connections ≡ Some c.in-Some.connection.now in
     made_for old.store old.policy old.marks old.connections old.next_id m old.store old.policy old.marks old.connections old.next_id (event.Serve c.args.conn) told.Nothing h
     (served_nothing old.store old.policy old.marks old.connections old.next_id c.args.conn c.in-Some.connection.now (subst P c.self.view_is (sym c.in-Some.ensures.value))
+    (is_idle c.in-Some.connection.now.watching (sym c.is_some.ensures ∙ c.if-is_some.false))
     (sym c.in_ok-item.ensures ∙ c.in_default-2.is))
 
 pub returns : goal.returns
@@ -45,7 +54,9 @@ returns g c =
     subst P c.self.view_is (subst Q (sym (c.new.ensures ∙ c.in_ok-changes.ensures.made))
     (λ m h. made_for old.store old.policy old.marks old.connections old.next_id m next.store next.policy next.marks next.connections next.next_id (event.Serve c.args.conn) _ h
     (served old.store next.store old.policy next.policy old.marks next.marks old.connections next.connections old.next_id c.args.conn c.in-Some.connection.now c.in-Some-2.item
-    (answered_data out) there (sym c.in_ok-item.ensures ∙ c.in-Some-2.is) c.in_ok-reply.ensures.gives
+    out.watch (answered_data out) there (is_idle c.in-Some.connection.now.watching (sym c.is_some.ensures ∙ c.if-is_some.false))
+    (sym c.in_ok-item.ensures ∙ c.in-Some-2.is) c.in_ok-reply.ensures.gives
+    (λ cs. watching_fresh cs (plain_of old.store) out.watch c.in_ok-reply.ensures.fresh)
     (λ cs p stands is covers. c.in_ok-changes.ensures.writes cs p (same_stands _ _ c.in_ok-reply.ensures.same cs p stands) is covers) links)))
 
 pub returns-in_err-item : goal.returns-in_err-item

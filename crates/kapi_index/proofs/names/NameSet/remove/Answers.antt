@@ -1,14 +1,7 @@
 use Rattle.std.proofs.Common.{◌∙◌, ap, sym, subst, None, Some}
-use Rattle.std.specs.List.Sorted.{IsStrictlySortedBy}
-use Rattle.kapi_policy.specs.Objects.{name_cmp}
-use Rattle.kapi_index.proofs.Alone.{few_sorted, left_in, taken_out}
-use Rattle.kapi_index.specs.NamesOf.{names_in}
-use Rattle.kapi_index.specs.declared.names.Names.{Names}
+use Rattle.kapi_index.proofs.Alone.{IsSorted, few_sorted, left_in, taken_out}
 use Rattle.kapi_index.specs.declared.names.Names.TheVariants.{Few}
 use Rattle.kapi_index.proofs.names.NameSet.remove.Goals as goal
-
-abbrev IsSorted : Names → Type 0
-IsSorted s = IsStrictlySortedBy name_cmp (names_in s)
 
 pub returns-in-Few-Some-clause-gone : goal.returns-in-Few-Some-clause-gone
 returns-in-Few-Some-clause-gone c =

@@ -1,0 +1,47 @@
+-- What goes out of an event of a watch.
+use Rattle.std.proofs.Common.{◌≡◌, ℕ, List, Some, None, Result, Ok, Err, refl, ap}
+use Rattle.serde_json.specs.Data.{Data}
+use Rattle.serde_json.specs.Written.{compact_text}
+use Rattle.kapi_store.specs.Plain.{Plain}
+use Rattle.kapi_watch.specs.Shown.{Shown, Added, Deleted, Expired, Modified}
+use Rattle.kapi_watch.specs.Text.{object_text_of, type_of}
+use Rattle.kapi_watch.specs.Watches.{WatchFault, startable}
+use Rattle.kapi_answer.specs.Watch.{PlainWatching, ending_of, event_chunk, event_reply_of, since_served, started_or_refused}
+use Rattle.kapi_answer.specs.declared.watch.After.TheVariants as after
+use Rattle.kapi_answer.specs.declared.watch.EventReply.{EventReply}
+
+-- a watch that goes on
+abbrev pub told_of : List ℕ → EventReply
+told_of bytes = record { bytes = bytes; after = after.Watches }
+
+-- bytes that tell a text of an object
+abbrev pub Tells : List ℕ → Shown → List ℕ → Type 0
+Tells bytes e object = (d : Data) → object ≡ compact_text d → bytes ≡ event_chunk (type_of e) d
+
+same_text : (x y : List ℕ) → Some x ≡ Some y → x ≡ y
+same_text x y is = cc
+
+-- an event that shows an object
+pub object_told : (s : Plain) (w : PlainWatching) (e : Shown) (object bytes : List ℕ) → Some object ≡ object_text_of e → Tells bytes e object → told_of bytes ≡ event_reply_of s w e
+unfolding event_reply_of
+object_told s w (Added d) object bytes is tells = ap told_of (tells d (same_text object (compact_text d) is))
+object_told s w (Modified d) object bytes is tells = ap told_of (tells d (same_text object (compact_text d) is))
+object_told s w (Deleted d) object bytes is tells = ap told_of (tells d (same_text object (compact_text d) is))
+object_told s w Expired object bytes is tells = absurd (cc is)
+
+-- an event that shows none
+pub end_told : (s : Plain) (w : PlainWatching) (e : Shown) → None ≡ object_text_of e → ending_of s w ≡ event_reply_of s w e
+unfolding event_reply_of
+end_told s w (Added d) is = absurd (cc is)
+end_told s w (Modified d) is = absurd (cc is)
+end_told s w (Deleted d) is = absurd (cc is)
+end_told s w Expired is = refl
+
+-- where a start is not refused, a watch can start
+not_refused : (s : Plain) (since : ℕ) (r : Result (Unit {0}) WatchFault) → started_or_refused s since r ≡ Ok tt → r ≡ Ok tt
+not_refused s since (Ok u) is = refl
+not_refused s since (Err fault) is = absurd (cc is)
+
+pub startable_served : (s : Plain) (since : ℕ) → since_served s since ≡ Ok tt → startable s since ≡ Ok tt
+unfolding since_served
+startable_served s since is = not_refused s since (startable s since) is

@@ -1,0 +1,144 @@
+//! Watches: where one can start, and what each of its events sends.
+ghost use Rattle.std.specs.Prelude.{◌≡◌, List, Ok, IfOk};
+ghost use Rattle.serde_json.specs.Data.{Data};
+ghost use Rattle.serde_json.specs.Written.{compact_text};
+ghost use Rattle.kapi_text.specs.Gives.{Gives};
+ghost use Rattle.kapi_names.specs.declared.row.ResourceRow.{ResourceRow as Row};
+ghost use Rattle.kapi_reply.specs.Refusals.{refused_by};
+ghost use Rattle.kapi_store.specs.Plain.{Plain, PlainChange, StandsFor, plain_of};
+ghost use Rattle.kapi_watch.specs.Running.{IsFresh, StandsForWatch, watch_data};
+ghost use Rattle.kapi_watch.specs.Shown.{event_of};
+ghost use Rattle.kapi_watch.specs.Watches.{startable};
+ghost use Rattle.kapi_answer.specs.Watch as watches;
+ghost use Rattle.kapi_answer.specs.Watch.{PlainWatching, StandsForWatching, event_reply_of, ending_of, since_served, watch_of};
+
+use kapi_http::{write_chunk, write_end};
+use kapi_names::ResourceRow;
+use kapi_reply::{CheckError, OldRevision, Refusal, Refused, Revisions, Subject, expired_text};
+use kapi_route::Filter;
+use kapi_store::Store;
+use kapi_text::{Memory, Sequence};
+use kapi_watch::{Event, Scope, Watch, WatchError, event_text};
+use std::alloc::Global;
+
+/// A watch that a connection shows.
+#[derive(Drop)]
+pub struct Watching {
+    pub watch: Watch,
+    /// The connection closes after the watch.
+    pub close: bool,
+}
+
+/// What becomes of a watch, and of its connection, after an event was sent.
+#[derive(Clone, Copy, Debug, PartialEq, Eq)]
+pub enum After {
+    /// The watch goes on.
+    Watches,
+    /// The watch has ended, and requests are served again.
+    Serves,
+    /// The watch has ended, and the connection with it.
+    Closes,
+}
+
+/// An event as it goes out.
+#[derive(Debug, Drop)]
+pub struct EventReply {
+    pub bytes: Sequence<u8>,
+    pub after: After,
+}
+
+/// A watch can start from that revision on.
+#[tactic(auto, unfolding(crate::specs::Watch::since_served))]
+pub fn check_since(store: &Store, since: u64) -> Result<(), CheckError>
+    ensures { Gives refused_by (λ u. u) result (since_served (plain_of store.now) since) }
+{
+    let why = match Watch::check(store, since) {
+        Ok(()) => return Ok(()),
+        Err(WatchError::TooLarge) => Refusal::NotYetReached(Revisions {
+            asked: since,
+            current: store.revision(),
+        }),
+        Err(WatchError::TooOld) => Refusal::Expired(OldRevision {
+            asked: since,
+            begins: store.window_start(),
+        }),
+        Err(WatchError::Memory) => return Err(CheckError::Memory),
+    };
+    Err(CheckError::Refused(Refused::asked_for(why)))
+}
+
+/// The watch of what a collection is asked for, from a revision on that `check_since` lets pass.
+pub fn begin(
+    alloc: Global,
+    store: &Store,
+    row: &ResourceRow,
+    namespace: &str,
+    filter: &Filter,
+) -> Result<Watch, Memory>
+    requires { startable (plain_of store.now) filter.now.since ≡ Ok tt }
+    ensures gives { IfOk result (λ w. watch_data w ≡ watch_of (plain_of store.now) row.now namespace.now filter.now) }
+    ensures fresh { IfOk result (IsFresh (plain_of store.now)) }
+{
+    let name = filter.name.as_str();
+    let scope = Scope::new(alloc, row, namespace, &filter.selector, name)?;
+    Watch::begin(alloc, store, scope, filter.since)
+}
+
+/// What a watch sends of an event that it shows next: a chunk of its own; at its end, that it cannot go on, and the end of the body.
+/// Nothing is changed.
+pub fn event_reply(
+    alloc: Global,
+    store: &Store,
+    watching: &Watching,
+    event: &Event<'_>,
+) -> Result<EventReply, Memory>
+    ensures { (history : List PlainChange) (s : Plain) (w : PlainWatching) → StandsFor store.now history s → StandsForWatching watching.now history s w
+        → IfOk result (λ r. r ≡ event_reply_of s w (event_of event.now)) }
+{
+    match event.object_text(alloc)? {
+        Some(object) => Ok(EventReply {
+            bytes: Sequence::new(event_chunk(alloc, event.kind(), &object)?),
+            after: After::Watches,
+        }),
+        None => end_reply(alloc, store, watching),
+    }
+}
+
+/// An event of a type that tells this text of an object, as a line in a chunk.
+fn event_chunk(alloc: Global, kind: &str, object: &[u8]) -> Result<Vec<u8>, Memory>
+    ensures { (d : Data) → object.now ≡ compact_text d → IfOk result (λ b. b.items ≡ watches.event_chunk kind.now d) }
+{
+    let mut line = event_text(alloc, kind, object)?;
+    line.push(b'\n')?;
+    write_chunk(alloc, &line)
+}
+
+/// What a watch sends that cannot go on.
+fn end_reply(alloc: Global, store: &Store, watching: &Watching) -> Result<EventReply, Memory>
+    ensures { (history : List PlainChange) (s : Plain) (w : PlainWatching) → StandsFor store.now history s → StandsForWatching watching.now history s w
+        → IfOk result (λ r. r ≡ ending_of s w) }
+{
+    let scope = watching.watch.scope();
+    let subject = Subject {
+        group: scope.row.group.as_str(),
+        resource: scope.row.plural.as_str(),
+        name: scope.name.as_str(),
+    };
+    let old = OldRevision {
+        asked: watching.watch.position(),
+        begins: store.window_start(),
+    };
+    let status = expired_text(alloc, subject, old)?;
+    let mut bytes = event_chunk(alloc, "ERROR", &status)?;
+    bytes.extend_from_slice(&write_end(alloc)?)?;
+    Ok(EventReply {
+        bytes: Sequence::new(bytes),
+        after: after_end(watching.close),
+    })
+}
+
+fn after_end(close: bool) -> After
+    ensures { result ≡ watches.after_end close }
+{
+    if close { After::Closes } else { After::Serves }
+}

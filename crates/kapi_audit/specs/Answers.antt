@@ -1,0 +1,41 @@
+-- The answers of an audit.
+use Rattle.std.specs.Prelude.{ℕ, List, [], ◌∷◌, ◌++◌, Option, None, Some, Result, Ok, codes, ok_or, option_map}
+use Rattle.kapi_text.specs.Gives.{◌>>=◌}
+use Rattle.kapi_core.specs.Machine.{Machine, policy_of}
+use Rattle.kapi_core.specs.Table.{access_reviews_row}
+use Rattle.kapi_names.specs.declared.row.ResourceRow.{ResourceRow}
+use Rattle.kapi_policy.specs.Decided.{Decided, decided}
+use Rattle.kapi_policy.specs.Objects.{PolicyObjects}
+use Rattle.kapi_reviews.specs.Answers.{reason_of}
+use Rattle.kapi_script.specs.Escapes.{escaped}
+use Rattle.kapi_script.specs.Scripts.{start}
+use Rattle.kapi_audit.specs.Faults.{AuditError, question_line}
+use Rattle.kapi_audit.specs.Lines.{NumberedLine, lines_of}
+use Rattle.kapi_audit.specs.Loading.{made_of}
+use Rattle.kapi_audit.specs.Questions.{question_of}
+
+-- the line of a decision, by the reason that a review tells where it is allowed
+abbrev pub reason_line : Option (List ℕ) → List ℕ
+reason_line None = codes "denied\n"
+reason_line (Some reason) = (codes "allowed " ++ escaped reason) ++ codes "\n"
+
+-- the line of a decision
+abbrev pub decision_line : Decided → List ℕ
+decision_line d = reason_line (reason_of d)
+
+-- the line that answers a question by a policy; none where the line is no question
+abbrev pub answer_of : ResourceRow → PolicyObjects → List ℕ → Option (List ℕ)
+answer_of row policy line = option_map (λ q. decision_line (decided policy q.identity q.namespace q.point)) (question_of row line)
+
+-- the answers to lines, one behind the other, or the first line that has none
+unfoldable pub answered_by : (List ℕ → Option (List ℕ)) → List NumberedLine → Result (List ℕ) AuditError
+answered_by answer [] = Ok []
+answered_by answer (l ∷ ls) = ok_or (answer l.text) (question_line l.number) >>= λ text. (answered_by answer ls >>= λ rest. Ok (text ++ rest))
+
+-- the answers to lines by the policy that other lines make of a machine: after all of them, and then the turns that follow
+abbrev pub answers_on : Machine → List NumberedLine → List NumberedLine → Result (List ℕ) AuditError
+answers_on m lines asked = made_of m lines >>= λ k. answered_by (answer_of access_reviews_row (policy_of k)) asked
+
+-- the answers to a file of questions by the policy that a file of objects is
+unfoldable pub answers : List ℕ → List ℕ → Result (List ℕ) AuditError
+answers policy questions = answers_on start (lines_of policy) (lines_of questions)

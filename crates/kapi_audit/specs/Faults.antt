@@ -1,0 +1,23 @@
+-- Why an audit has no answer.
+use Rattle.std.specs.Prelude.{ℕ, Option, None, Some}
+use Rattle.kapi_desk.specs.declared.seat.SeatError.{SeatError}
+use Rattle.kapi_desk.specs.declared.seat.SeatError.TheVariants as seat
+use Rattle.kapi_audit.specs.declared.fault.AuditFault.{AuditFault}
+use Rattle.kapi_audit.specs.declared.fault.AuditFault.TheVariants as fault
+
+-- the line at fault, of one of the two files
+pub data AuditError : Type 0 where
+  policy_line : ℕ → AuditError
+  question_line : ℕ → AuditError
+
+-- what a fault tells of the files: nothing where memory ran out, or a reader was refused
+abbrev pub fault_told : AuditFault → Option AuditError
+fault_told (fault.PolicyLine n) = Some (policy_line n)
+fault_told (fault.QuestionLine n) = Some (question_line n)
+fault_told fault.Memory = None
+fault_told fault.Busy = None
+
+-- the fault of an audit one of whose readers is refused so
+abbrev pub stopped : SeatError → AuditFault
+stopped seat.Memory = fault.Memory
+stopped seat.Busy = fault.Busy

@@ -1,0 +1,7 @@
+pub mod Lines
+pub mod Faults
+pub mod Loading
+pub mod Questions
+pub mod Answers
+pub mod Sharing
+pub mod Readers

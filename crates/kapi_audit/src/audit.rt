@@ -1,0 +1,157 @@
+ghost use Rattle.std.specs.Prelude.{◌≡◌, ◌≤◌, [], All, IfOk, MatchResult, OnOk, map, length};
+ghost use Rattle.kapi_text.specs.Gives.{Gives};
+ghost use Rattle.kapi_core.specs.Machine.{Machine};
+ghost use Rattle.kapi_core.specs.Table.{access_reviews_row};
+ghost use Rattle.kapi_desk.specs.Boards.{Chair, chair, fresh};
+ghost use Rattle.kapi_desk.specs.Steps.{after};
+ghost use Rattle.kapi_audit.specs.Answers.{answer_of, answered_by, answers, answers_on};
+ghost use Rattle.kapi_audit.specs.Faults.{fault_told};
+ghost use Rattle.kapi_audit.specs.Lines.{line_of};
+ghost use Rattle.kapi_audit.specs.Loading.{Publishes};
+ghost use Rattle.kapi_audit.specs.Readers.{AreReaders};
+
+use crate::fault::AuditFault;
+use crate::gate::Gate;
+use crate::gathering::gather;
+use crate::line::{Line, numbered_lines};
+use crate::publishing::publish_policy;
+use crate::question::access_reviews;
+use crate::reader::Reader;
+use crate::threads::answer_in_threads;
+use kapi_core::Core;
+use kapi_desk::{Desk, Seat};
+use kapi_index::IndexedPolicy;
+use kapi_script::program_table;
+use kapi_text::Memory;
+use std::alloc::Global;
+use std::sync::Wait;
+use std::thread::Threads;
+
+/// So many readers may answer at a time.
+pub const READERS: usize = 16;
+
+/// Tells a seat all that is published, and makes it a reader.
+fn told_reader(desk: &mut Desk, seat: Seat, number: usize, published: u64) -> Result<Reader, Memory>
+    requires published { published ≡ length desk.old.list }
+    requires seat { seat ≡ fresh desk.old.opening }
+    ensures same { desk.new ≡ desk.old }
+    ensures reader { IfOk result (λ r. (r.number ≡ number) × (r.seat ≡ chair desk.old.opening desk.old.list)) }
+{
+    let mut seat = seat;
+    seat.learn(desk.tell()?);
+    Ok(Reader {
+        number,
+        seat,
+        published,
+    })
+}
+
+/// Tells each seat all that is published.
+fn told_readers(
+    alloc: Global,
+    desk: &mut Desk,
+    published: u64,
+    seats: Vec<Seat>,
+) -> Result<Vec<Reader>, Memory>
+    requires published { published ≡ length desk.old.list }
+    requires seats { All (λ s. s ≡ fresh desk.old.opening) seats.items }
+    ensures readers { IfOk result (λ v. AreReaders (chair desk.old.opening desk.old.list) 0 v.items) }
+    ensures count { IfOk result (λ v. length v.items ≡ length seats.items) }
+{
+    let mut seats = seats;
+    let mut readers = Vec::new(alloc);
+    while let Some(seat) = seats.pop() {
+        let reader = told_reader(desk, seat, readers.len(), published)?;
+        readers.push(reader)?;
+    }
+    Ok(readers)
+}
+
+/// The answers of readers in threads, in the order of the questions.
+fn answer_all<R: Threads + Sync, G: Gate + Sync>(
+    alloc: Global,
+    rt: &R,
+    readers: Vec<Reader>,
+    lines: &[Line<'_>],
+    gate: &G,
+) -> Result<Vec<u8>, AuditFault>
+    requires { 1 ≤ length readers.items }
+    ensures { (seat : Chair) → AreReaders seat 0 readers.items
+        → Gives fault_told (λ v. v.items) result (answered_by (answer_of access_reviews_row (after seat.opening seat.seen)) (map line_of lines.now)) }
+{
+    let row = access_reviews().row(alloc)?;
+    let others = readers.len() - 1;
+    let shares = answer_in_threads(alloc, rt, &row, readers, lines, others, gate)?;
+    gather(alloc, shares.as_slice(), lines)
+}
+
+/// Tells the seats what the desk has published, and has them answer.
+fn answer_told<R: Threads + Wait + Sync, G: Gate + Sync>(
+    alloc: Global,
+    rt: &R,
+    desk: &mut Desk,
+    seats: Vec<Seat>,
+    lines: &[Line<'_>],
+    gate: &G,
+) -> Result<Vec<u8>, AuditFault>
+    requires free { desk.old.waiting ≡ [] }
+    requires count { 1 ≤ length seats.items }
+    requires seats { All (λ s. s ≡ fresh desk.old.opening) seats.items }
+    ensures { Gives fault_told (λ v. v.items) result (answered_by (answer_of access_reviews_row (after desk.old.opening desk.old.list)) (map line_of lines.now)) }
+{
+    match desk.retry(rt) {
+        Ok(published) => {
+            let readers = told_readers(alloc, desk, published, seats)?;
+            answer_all(alloc, rt, readers, lines, gate)
+        }
+        Err(_waits) => Err(AuditFault::Memory),
+    }
+}
+
+/// Publishes the policy that lines are, and has the seats answer other lines by it.
+fn answer_by_policy<R: Threads + Wait + Sync, G: Gate + Sync>(
+    rt: &R,
+    core: &mut Core<IndexedPolicy>,
+    desk: &mut Desk,
+    seats: Vec<Seat>,
+    lines: &[Line<'_>],
+    asked: &[Line<'_>],
+    gate: &G,
+) -> Result<Vec<u8>, AuditFault>
+    requires free { desk.old.waiting ≡ [] }
+    requires count { 1 ≤ length seats.items }
+    requires seats { All (λ s. s ≡ fresh desk.old.opening) seats.items }
+    ensures { (m : Machine) → Publishes core.old desk.old m
+        → Gives fault_told (λ v. v.items) result (answers_on m (map line_of lines.now) (map line_of asked.now)) }
+{
+    publish_policy(rt, core, desk, lines)?;
+    answer_told(core.allocator(), rt, desk, seats, asked, gate)
+}
+
+/// Answers a file of questions by the policy that a file of objects is, with so many reader threads. The text has a line for each
+/// question, in their order, whatever the number of readers is.
+///
+/// # Errors
+/// `PolicyLine` at the first line of the policy that is not loaded, else `QuestionLine` at the first line of the questions that is
+/// none; `Memory` where memory ran out, and `Busy` where a reader answered by another policy than the whole one.
+pub fn audit_run<R: Threads + Wait + Sync, G: Gate + Sync>(
+    alloc: Global,
+    rt: &R,
+    policy: &[u8],
+    questions: &[u8],
+    readers: usize,
+    gate: &G,
+) -> Result<Vec<u8>, AuditFault>
+    requires { (1 ≤ readers) × (readers ≤ READERS) }
+    ensures { Gives fault_told (λ v. v.items) result (answers policy.now questions.now) }
+{
+    let lines = numbered_lines(alloc, policy)?;
+    let asked = numbered_lines(alloc, questions)?;
+    let mut core = Core::new(alloc, program_table(alloc)?, IndexedPolicy::new(alloc), 0)?;
+    let opening = core.policy().copy()?;
+    let (mut desk, seats) = Desk::new(alloc, rt, opening, readers)?;
+    let (lines, asked) = (lines.as_slice(), asked.as_slice());
+    let answered = answer_by_policy(rt, &mut core, &mut desk, seats, lines, asked, gate);
+    drop(desk.close(rt));
+    answered
+}

@@ -1,0 +1,117 @@
+//! Questions: each is the `spec` of a SubjectAccessReview (Kubernetes API, authorization.k8s.io/v1), as a server reads it.
+ghost use Rattle.std.specs.Prelude.{◌≡◌, [], true, codes, IfOk, Some};
+ghost use Rattle.serde_json.specs.View.{view};
+ghost use Rattle.kapi_admission.specs.Admission.{read_as};
+ghost use Rattle.kapi_core.specs.Table.{access_reviews_row, row_of};
+ghost use Rattle.kapi_object.specs.Object.{tree_of};
+ghost use Rattle.kapi_object.specs.Order.{is_ordered};
+ghost use Rattle.kapi_reviews.specs.Questions.{at, question};
+ghost use Rattle.kapi_reviews.specs.declared.kind.ReviewKind.TheVariants as ReviewKind;
+ghost use Rattle.kapi_audit.specs.Questions as asks;
+ghost use Rattle.kapi_audit.specs.Questions.{review_of};
+
+use kapi_admission::{ObjectError, admit_tree, read_tree};
+use kapi_core::Resource;
+use kapi_names::{ResourceRow, Schema};
+use kapi_object::{Object, member};
+use kapi_policy::PlainPolicy;
+use kapi_rbac_types::Identity;
+use kapi_reviews::{Question, ReviewError, ReviewKind, read_question, review};
+use kapi_text::{Memory, Sequence, Text};
+use serde_json::{Map, Value, put};
+use std::alloc::{AllocError, Global};
+
+/// The resource whose objects ask what a user may do.
+pub fn access_reviews() -> Resource
+    ensures { row_of result ≡ access_reviews_row }
+{
+    Resource {
+        group: "authorization.k8s.io",
+        plural: "subjectaccessreviews",
+        kind: "SubjectAccessReview",
+        namespaced: false,
+        has_status: false,
+        schema: Schema::Open,
+    }
+}
+
+/// The question that a line is; none where it is none. `row` is that of access reviews.
+#[tactic(auto, unfolding(crate::specs::Questions::question_of))]
+pub fn question_of(
+    alloc: Global,
+    row: &ResourceRow,
+    line: &[u8],
+) -> Result<Option<Question>, Memory>
+    ensures { IfOk result (λ q. q ≡ asks.question_of row.now line.now) }
+{
+    match read_tree(alloc, line) {
+        Ok(spec) => question_in(alloc, row, spec),
+        Err(ObjectError::Memory) => Err(AllocError),
+        Err(_other) => Ok(None),
+    }
+}
+
+/// The question that the review with this `spec` asks, where a server takes it.
+fn question_in(alloc: Global, row: &ResourceRow, spec: Value) -> Result<Option<Question>, Memory>
+    requires ordered { is_ordered (view spec) ≡ true }
+    ensures { IfOk result (λ q. q ≡ asks.asked_if (read_as row.now (Some (review_of (view spec))))) }
+{
+    let mut members = Map::new(alloc);
+    put(&mut members, alloc, "spec", spec)?;
+    match admit_tree(alloc, row, Value::Object(members)) {
+        Ok(object) => question_by(alloc, &object),
+        Err(ObjectError::Memory) => Err(AllocError),
+        Err(_other) => Ok(None),
+    }
+}
+
+/// The question that a review asks, where it has no fault.
+#[tactic(auto, unfolding(crate::specs::Questions::asked_by))]
+fn question_by(alloc: Global, object: &Object) -> Result<Option<Question>, Memory>
+    ensures { IfOk result (λ q. q ≡ asks.asked_by (tree_of object.now)) }
+{
+    let nobody = nobody(alloc)?;
+    if has_no_fault(alloc, &nobody, object)? {
+        Ok(Some(question_in_review(alloc, &nobody, object)?))
+    } else {
+        Ok(None)
+    }
+}
+
+/// Whether a review has no fault: whether a server over an empty policy answers it.
+#[tactic(auto, unfolding(kapi_reviews::specs::Reviews::reviewed))]
+fn has_no_fault(alloc: Global, nobody: &Identity, object: &Object) -> Result<bool, Memory>
+    ensures { IfOk result (λ b. b ≡ asks.has_no_fault (tree_of object.now)) }
+{
+    let nothing = PlainPolicy::new(alloc);
+    match review(
+        alloc,
+        &nothing,
+        nobody,
+        ReviewKind::SubjectAccessReview,
+        object,
+    ) {
+        Ok(_answer) => Ok(true),
+        Err(ReviewError::Invalid(_faults)) => Ok(false),
+        Err(ReviewError::Memory) => Err(AllocError),
+    }
+}
+
+/// What the `spec` of a review asks.
+fn question_in_review(alloc: Global, nobody: &Identity, object: &Object) -> Result<Question, Memory>
+    ensures { IfOk result (λ q. q ≡ question ReviewKind.SubjectAccessReview [] nobody.now (at (codes "spec") (tree_of object.now))) }
+{
+    let nothing = Value::Null;
+    let spec = member(object.as_tree(), "spec").unwrap_or(&nothing);
+    read_question(alloc, ReviewKind::SubjectAccessReview, "", nobody, spec)
+}
+
+/// Who makes the review: it tells a user and groups of its own, so this is not looked at.
+fn nobody(alloc: Global) -> Result<Identity, Memory>
+    ensures { IfOk result (λ i. i ≡ asks.nobody) }
+{
+    Ok(Identity {
+        user: Text::copy_of(alloc, "")?,
+        groups: Sequence::new(Vec::new(alloc)),
+    })
+}

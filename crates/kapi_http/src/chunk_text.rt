@@ -1,0 +1,33 @@
+//! A body in chunks as text (RFC 9112 section 7.1).
+ghost use Rattle.std.specs.Prelude.{◌≡◌, IfOk};
+ghost use Rattle.kapi_http.specs.ChunkText.{chunk, last_chunk};
+
+use kapi_text::Memory;
+use std::alloc::Global;
+
+/// The chunk of these bytes: how many they are in lower case hexadecimal without leading zeros, CRLF, the bytes, CRLF
+/// (RFC 9112 section 7.1).
+///
+/// There should be some bytes: a chunk of none is read as the end of the body, for which [`write_end`] is there.
+#[tactic(auto, using(std::proofs::Common::append_assoc))]
+pub fn write_chunk(alloc: Global, bytes: &[u8]) -> Result<Vec<u8>, Memory>
+    ensures { IfOk result (λ b. b.items ≡ chunk bytes.now) }
+{
+    let count = bytes.len();
+    let size = format!(in alloc; "{count:x}")?;
+    let mut out = Vec::new(alloc);
+    out.extend_from_slice(size.as_bytes())?;
+    out.extend_from_slice(b"\r\n")?;
+    out.extend_from_slice(bytes)?;
+    out.extend_from_slice(b"\r\n")?;
+    Ok(out)
+}
+
+/// The end of a body in chunks: the last chunk, whose size is 0, and the empty line behind it (RFC 9112 section 7.1).
+pub fn write_end(alloc: Global) -> Result<Vec<u8>, Memory>
+    ensures { IfOk result (λ b. b.items ≡ last_chunk) }
+{
+    let mut out = Vec::new(alloc);
+    out.extend_from_slice(b"0\r\n\r\n")?;
+    Ok(out)
+}

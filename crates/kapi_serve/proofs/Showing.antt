@@ -1,0 +1,87 @@
+-- How steps come to stand behind the others.
+use Rattle.std.proofs.Common.{◌≡◌, ◌↔◌, ◌≤◌, ◌<◌, Bool, true, false, List, [], ◌∷◌, ◌++◌, length, refl, sym, ap, ◌∙◌, subst, append_assoc, length-append, Option, None, Some, arith}
+use Rattle.std.specs.Option.{option_to_list}
+use Rattle.std.proofs.lemmas.List.{append-nil}
+use Rattle.kapi_policy.specs.declared.change.PolicyChange.{PolicyChange}
+use Rattle.kapi_desk.specs.Boards.{Board}
+use Rattle.kapi_serve.specs.Shows.{IsPrompt, Shows, Takes, all_steps, step_of, unpublished}
+
+-- nothing waits where none is pending
+pub none_waits : (ws : List (List PolicyChange)) (b : Bool) → ((b ≡ true) ↔ (0 < length ws)) → b ≡ false → ws ≡ []
+none_waits [] b iff off = refl
+none_waits (w ∷ ws) b iff off = let on : b ≡ true = iff.1 (omega arith) in absurd (cc)
+
+-- ---- nothing is shown
+
+pub shows_nothing : (d : Board) (k : Option (List PolicyChange)) → Shows d d k k []
+shows_nothing d k = record { opening = refl; all = sym (append-nil (all_steps d k)); prompt = λ h. h }
+
+pub shows_empty : (d : Board) (k : Option (List PolicyChange)) (cs : List PolicyChange) → cs ≡ [] → Shows d d k k (step_of cs)
+shows_empty d k cs none = subst (λ xs. Shows d d k k (step_of xs)) (sym none) (shows_nothing d k)
+
+pub shows_as : (d e : Board) (k q : Option (List PolicyChange)) (xs ys : List (List PolicyChange)) → xs ≡ ys → Shows d e k q xs → Shows d e k q ys
+shows_as d e k q xs ys same s = subst (λ zs. Shows d e k q zs) same s
+
+-- one after the other
+pub shows_on : (d e f : Board) (p q r : Option (List PolicyChange)) (xs ys : List (List PolicyChange)) → Shows d e p q xs → Shows e f q r ys → Shows d f p r (xs ++ ys)
+shows_on d e f p q r xs ys s t = record {
+  opening = t.opening ∙ s.opening;
+  all = t.all ∙ ap (λ zs. zs ++ ys) s.all ∙ append_assoc (all_steps d p) xs ys;
+  prompt = λ h. t.prompt (s.prompt h);
+}
+
+pub shows_on_nothing : (d e f : Board) (p q r : Option (List PolicyChange)) → Shows d e p q [] → Shows e f q r [] → Shows d f p r []
+shows_on_nothing d e f p q r s t = shows_on d e f p q r [] [] s t
+
+-- ---- a step is shown
+
+pub prompt_none : (d : Board) → d.waiting ≡ [] → (k : Option (List PolicyChange)) → k ≡ None → IsPrompt d k
+prompt_none d none k gone = subst (λ q. IsPrompt d q) (sym gone) (subst (λ ws. length (ws ++ []) ≤ 1) (sym none) (omega arith))
+
+-- where nothing was unpublished, all steps are the published ones
+all_published : (d : Board) → d.waiting ≡ [] → (k : Option (List PolicyChange)) → k ≡ None → all_steps d k ≡ d.list
+all_published d none k gone = ap (λ q. all_steps d q) gone ∙ ap (λ ws. d.list ++ (ws ++ [])) none ∙ append-nil d.list
+
+-- the desk took it
+pub shows_taken : (d e : Board) (k : Option (List PolicyChange)) (cs : List PolicyChange) → d.waiting ≡ [] → k ≡ None → Takes d e cs true → Shows d e k k (cs ∷ [])
+shows_taken d e k cs none gone took = record {
+  opening = took.0;
+  all = ap (λ q. all_steps e q) gone ∙ ap (λ ws. e.list ++ ws) (append-nil e.waiting) ∙ took.1 ∙ ap (λ xs. xs ++ cs ∷ []) (sym (all_published d none k gone));
+  prompt = λ h. subst (λ q. IsPrompt e q) (sym gone) (subst (λ ws. length ws ≤ 1) (sym (append-nil e.waiting)) took.2);
+}
+
+-- it is kept
+pub shows_kept : (d e : Board) (k : Option (List PolicyChange)) (cs : List PolicyChange) → d.waiting ≡ [] → k ≡ None → Takes d e cs false → Shows d e k (Some cs) (cs ∷ [])
+shows_kept d e k cs none gone same =
+    let P : Board → Type 0 = λ b. Shows d b k (Some cs) (cs ∷ []) in
+    subst P (sym same) (record {
+      opening = refl;
+      all = ap (λ ws. d.list ++ (ws ++ cs ∷ [])) none ∙ ap (λ xs. xs ++ cs ∷ []) (sym (all_published d none k gone));
+      prompt = λ h. subst (λ ws. length (ws ++ cs ∷ []) ≤ 1) (sym none) (omega arith);
+    })
+
+-- what waited is published
+pub shows_waiting : (d e : Board) (k : Option (List PolicyChange)) → e.opening ≡ d.opening → e.list ≡ d.list ++ d.waiting → e.waiting ≡ [] → Shows d e k k []
+shows_waiting d e k opening list none =
+    let kept : List (List PolicyChange) = unpublished (record d { waiting = [] }) k in record {
+      opening = opening;
+      all = (λ j. list j ++ (none j ++ kept)) ∙ append_assoc d.list d.waiting kept ∙ sym (append-nil (all_steps d k));
+      prompt = λ h. subst (λ ws. length (ws ++ option_to_list k) ≤ 1) (sym none) (omega (arith, length-append d.waiting (option_to_list k), h));
+    }
+
+-- it still waits
+pub shows_same : (d e : Board) (k : Option (List PolicyChange)) → e.opening ≡ d.opening → e.list ≡ d.list → e.waiting ≡ d.waiting → Shows d e k k []
+shows_same d e k opening list waiting = record {
+  opening = opening;
+  all = (λ j. list j ++ unpublished (record d { waiting = waiting j }) k) ∙ sym (append-nil (all_steps d k));
+  prompt = λ h. subst (λ ws. length (unpublished (record d { waiting = ws }) k) ≤ 1) (sym waiting) h;
+}
+
+-- what was kept is shown
+pub shows_again : (d e : Board) (k q : Option (List PolicyChange)) (cs : List PolicyChange) → k ≡ Some cs → d.waiting ≡ [] → Shows d e None q (cs ∷ []) → Shows d e k q []
+shows_again d e k q cs is none s = record {
+  opening = s.opening;
+  all = s.all ∙ ap (λ ws. (d.list ++ (ws ++ [])) ++ cs ∷ []) none ∙ ap (λ xs. xs ++ cs ∷ []) (append-nil d.list)
+      ∙ ap (λ ws. d.list ++ (ws ++ cs ∷ [])) (sym none) ∙ ap (λ o. all_steps d o) (sym is) ∙ sym (append-nil (all_steps d k));
+  prompt = λ h. s.prompt (prompt_none d none None refl);
+}

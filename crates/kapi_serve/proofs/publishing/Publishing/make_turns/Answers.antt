@@ -1,0 +1,11 @@
+use Rattle.kapi_serve.proofs.Going.{goes_nothing, goes_on}
+use Rattle.kapi_serve.proofs.publishing.Publishing.make_turns.Goals as goal
+
+pub loop-init : goal.loop-init
+loop-init g c = goes_nothing _ _ _
+
+pub loop-preserved : goal.loop-preserved
+loop-preserved g c = goes_on _ _ _ _ _ _ _ _ _ c.loop.invariant c.make_turn.ensures
+
+pub returns-then-not-make_turn : goal.returns-then-not-make_turn
+returns-then-not-make_turn g c = goes_on _ _ _ _ _ _ _ _ _ c.loop.invariant c.make_turn.ensures

@@ -1,0 +1,5 @@
+use Rattle.kapi_serve.specs.Goes.{Goes}
+use Rattle.kapi_serve.proofs.server.Server.settle.Given as goal
+
+abbrev pub invariant-loop : goal.invariant-loop
+invariant-loop g l = Goes l.initial.core l.core l.initial.desk l.desk l.initial.self.publishing.kept l.self.publishing.kept

@@ -1,0 +1,4 @@
+pub mod Ports
+pub mod Pieces
+pub mod Shows
+pub mod Goes

@@ -1,0 +1,188 @@
+ghost use Rattle.std.specs.Prelude.{◌≡◌, ◌<◌, [], None, true};
+ghost use Rattle.std.specs.VecDeque.{deque_len, deque_capacity};
+ghost use Rattle.kapi_serve.specs.Goes.{Goes, Moves};
+ghost use Rattle.kapi_serve.specs.Shows.{Shows, step_of};
+
+use crate::pending::Pending;
+use crate::port::{PortFault, Ports};
+use crate::publishing::Publishing;
+use kapi_core::{ConnId, Core, Output};
+use kapi_desk::Desk;
+use kapi_policy::Policy;
+use std::sync::Wait;
+
+/// How far a connection is.
+#[derive(Clone, Copy, Debug, PartialEq, Eq)]
+pub(crate) enum Phase {
+    /// Its bytes are read and served.
+    Open,
+    /// The client's bytes have ended; the whole requests among them are still served.
+    Ending,
+    /// The machine has closed it, and the pending bytes go out.
+    Closed,
+}
+
+/// What came of writing.
+#[derive(Clone, Copy, Debug, PartialEq, Eq)]
+pub(crate) enum Flushed {
+    /// Nothing was accepted.
+    Nothing,
+    Some,
+    /// The slot is broken.
+    Failed,
+}
+
+/// A connection of the machine on a slot of the ports.
+#[derive(Drop)]
+pub struct Client {
+    pub(crate) slot: usize,
+    pub(crate) id: ConnId,
+    pub(crate) phase: Phase,
+    /// Bytes came since the machine last found no request.
+    pub(crate) fed: bool,
+    /// The slot takes no bytes until it tells so.
+    pub(crate) blocked: bool,
+    pub(crate) pending: Pending,
+}
+
+impl Client {
+    /// Writes pending bytes until the slot takes no more.
+    pub(crate) fn flush<R: Wait, Q: Ports>(&mut self, rt: &R, ports: &mut Q) -> Flushed {
+        let mut flushed = Flushed::Nothing;
+        for _ in rt.forever() {
+            match self.write(ports) {
+                Flushed::Some => flushed = Flushed::Some,
+                Flushed::Nothing => return flushed,
+                Flushed::Failed => return Flushed::Failed,
+            }
+        }
+        unreachable!()
+    }
+
+    /// One write. One that takes no byte is as one that would block.
+    fn write<Q: Ports>(&mut self, ports: &mut Q) -> Flushed {
+        if self.blocked || self.pending.is_empty() {
+            return Flushed::Nothing;
+        }
+        match ports.write(self.slot, self.pending.next()) {
+            Ok(0) | Err(PortFault::WouldBlock) => {
+                self.blocked = true;
+                Flushed::Nothing
+            }
+            Ok(count) => {
+                self.pending.pass(count);
+                Flushed::Some
+            }
+            Err(PortFault::Failed) => Flushed::Failed,
+        }
+    }
+
+    /// Whether the machine may answer more, and there is room for the answer.
+    fn is_ready(&mut self, publishing: &Publishing, desk: &Desk) -> bool
+        ensures room { result ≡ true → deque_len self.new.pending.behind < deque_capacity self.new.pending.behind }
+        ensures waiting { result ≡ true → desk.now.waiting ≡ [] }
+        ensures kept { result ≡ true → publishing.now.kept ≡ None }
+    {
+        if self.phase == Phase::Closed || self.pending.is_full() {
+            return false;
+        }
+        if self.pending.reserve().is_err() {
+            return false;
+        }
+        publishing.is_free(desk)
+    }
+
+    /// Answers the next request. Whether there was one. At the end of the client's bytes the connection is closed when there is none.
+    pub(crate) fn serve<R: Wait, P: Policy + Drop>(
+        &mut self,
+        rt: &R,
+        core: &mut Core<P>,
+        desk: &mut Desk,
+        publishing: &mut Publishing,
+    ) -> bool
+        ensures { Goes core.old core.new desk.old desk.new publishing.old.kept publishing.new.kept }
+    {
+        if !self.fed {
+            return false;
+        }
+        if !self.is_ready(publishing, desk) {
+            return false;
+        }
+        match core.serve(self.id) {
+            Ok(Some(output)) => {
+                self.send(rt, desk, publishing, output);
+                true
+            }
+            Ok(None) => {
+                self.fed = false;
+                self.finish(core);
+                false
+            }
+            Err(_refused) => false,
+        }
+    }
+
+    /// Shows the next event of the connection's watch. Whether there was one.
+    pub(crate) fn pump<R: Wait, P: Policy + Drop>(
+        &mut self,
+        rt: &R,
+        core: &mut Core<P>,
+        desk: &mut Desk,
+        publishing: &mut Publishing,
+    ) -> bool
+        ensures { Goes core.old core.new desk.old desk.new publishing.old.kept publishing.new.kept }
+    {
+        if !self.is_ready(publishing, desk) {
+            return false;
+        }
+        match core.pump(self.id) {
+            Ok(Some(output)) => {
+                self.fed = true;
+                self.send(rt, desk, publishing, output);
+                true
+            }
+            Ok(None) => false,
+            Err(_refused) => false,
+        }
+    }
+
+    /// Puts what the machine answered to the pending bytes, and publishes what it changed.
+    fn send<R: Wait>(
+        &mut self,
+        rt: &R,
+        desk: &mut Desk,
+        publishing: &mut Publishing,
+        output: Output,
+    )
+        requires room { deque_len self.old.pending.behind < deque_capacity self.old.pending.behind }
+        requires waiting { desk.old.waiting ≡ [] }
+        requires kept { publishing.old.kept ≡ None }
+        ensures { Shows desk.old desk.new publishing.old.kept publishing.new.kept (step_of output.policy_changes) }
+    {
+        let Output {
+            bytes,
+            close,
+            policy_changes,
+        } = output;
+        self.pending.push(bytes);
+        if close {
+            self.phase = Phase::Closed;
+        }
+        publishing.publish_step(rt, desk, policy_changes);
+    }
+
+    /// Closes the connection where the client's bytes have ended.
+    fn finish<P: Policy + Drop>(&mut self, core: &mut Core<P>)
+        ensures { Moves core.old core.new }
+    {
+        if self.phase == Phase::Ending {
+            core.close(self.id);
+            self.phase = Phase::Closed;
+        }
+    }
+
+    /// Whether nothing is left to be done.
+    pub(crate) fn is_done(&self) -> bool {
+        self.phase == Phase::Closed && self.pending.is_empty()
+    }
+}

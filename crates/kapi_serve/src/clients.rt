@@ -1,0 +1,184 @@
+ghost use Rattle.std.specs.Prelude.{◌≡◌, ◌<◌, ◌+◌, IfSome, length, vec_len, vec_capacity};
+ghost use Rattle.kapi_serve.specs.Goes.{Moves};
+
+use crate::client::{Client, Phase};
+use crate::pending::Pending;
+use crate::port::{PortFault, Ports};
+use kapi_core::{ConnId, Core};
+use kapi_policy::Policy;
+use kapi_rbac_types::Identity;
+use std::alloc::Global;
+
+/// The connections that are served, in the order of their numbers.
+#[derive(Drop)]
+pub(crate) struct Clients {
+    alloc: Global,
+    pub(crate) list: Vec<Client>,
+}
+
+/// What came of a read.
+#[derive(Clone, Copy, Debug, PartialEq, Eq)]
+pub(crate) enum Pulled {
+    /// Bytes were fed to the machine.
+    Fed,
+    /// There is no more to be read now, or ever.
+    Stopped,
+}
+
+impl Clients {
+    pub(crate) fn new(alloc: Global) -> Clients {
+        Clients {
+            alloc,
+            list: Vec::new(alloc),
+        }
+    }
+
+    /// How many they are.
+    pub(crate) fn len(&self) -> usize
+        ensures { result ≡ length self.now.list.items }
+    {
+        self.list.len()
+    }
+
+    /// Opens a connection for a client; its slot is ended where there is no room for it.
+    pub(crate) fn open<P: Policy + Drop, Q: Ports>(
+        &mut self,
+        core: &mut Core<P>,
+        ports: &mut Q,
+        slot: usize,
+        identity: Identity,
+    )
+        ensures { Moves core.old core.new }
+    {
+        self.forget(core, slot);
+        if self.list.reserve(1).is_err() {
+            return ports.end(slot);
+        }
+        match core.open(identity) {
+            Ok(id) => self.add(slot, id),
+            Err(_refused) => ports.end(slot),
+        }
+    }
+
+    fn add(&mut self, slot: usize, id: ConnId)
+        requires { vec_len self.old.list < vec_capacity self.old.list }
+    {
+        self.list.push_reserved(Client {
+            slot,
+            id,
+            phase: Phase::Open,
+            fed: false,
+            blocked: false,
+            pending: Pending::new(self.alloc),
+        });
+    }
+
+    /// The place of the connection on a slot, if there is one.
+    fn place(&self, slot: usize) -> Option<usize>
+        ensures { IfSome result (λ i. i < length self.now.list.items) }
+    {
+        self.list.iter().position(|client| client.slot == slot)
+    }
+
+    /// Closes the connection on a slot that is given to another client.
+    fn forget<P: Policy + Drop>(&mut self, core: &mut Core<P>, slot: usize)
+        ensures { Moves core.old core.new }
+    {
+        if let Some(index) = self.place(slot) {
+            let client = self.list.remove(index);
+            core.close(client.id);
+        }
+    }
+
+    /// Closes a connection and ends its slot. What was pending does not go out.
+    pub(crate) fn end<P: Policy + Drop, Q: Ports>(
+        &mut self,
+        core: &mut Core<P>,
+        ports: &mut Q,
+        index: usize,
+    )
+        requires { index < length self.old.list.items }
+        ensures length { length self.new.list.items + 1 ≡ length self.old.list.items }
+        ensures moves { Moves core.old core.new }
+    {
+        let client = self.list.remove(index);
+        core.close(client.id);
+        ports.end(client.slot);
+    }
+
+    /// A slot takes bytes again.
+    pub(crate) fn unblock(&mut self, slot: usize) {
+        if let Some(index) = self.place(slot) {
+            self.list[index].blocked = false;
+        }
+    }
+
+    /// Each slot may take bytes again.
+    pub(crate) fn unblock_all(&mut self) {
+        for client in self.list.iter_mut() {
+            client.blocked = false;
+        }
+    }
+
+    /// Reads a piece from a slot and feeds it.
+    pub(crate) fn pull<P: Policy + Drop, Q: Ports>(
+        &mut self,
+        core: &mut Core<P>,
+        ports: &mut Q,
+        slot: usize,
+        buffer: &mut [u8],
+    ) -> Pulled
+        ensures { Moves core.old core.new }
+    {
+        let Some(index) = self.place(slot) else {
+            return Pulled::Stopped;
+        };
+        if self.list[index].phase != Phase::Open {
+            return Pulled::Stopped;
+        }
+        match ports.read(slot, buffer) {
+            Ok(0) => {
+                self.reach_end(index);
+                Pulled::Stopped
+            }
+            Ok(count) => self.feed(core, ports, index, &buffer[..count]),
+            Err(PortFault::WouldBlock) => Pulled::Stopped,
+            Err(PortFault::Failed) => {
+                self.end(core, ports, index);
+                Pulled::Stopped
+            }
+        }
+    }
+
+    /// The client's bytes have ended.
+    fn reach_end(&mut self, index: usize)
+        requires { index < length self.old.list.items }
+    {
+        let client = &mut self.list[index];
+        client.phase = Phase::Ending;
+        client.fed = true;
+    }
+
+    /// Feeds a piece; a connection that cannot take it is closed.
+    fn feed<P: Policy + Drop, Q: Ports>(
+        &mut self,
+        core: &mut Core<P>,
+        ports: &mut Q,
+        index: usize,
+        piece: &[u8],
+    ) -> Pulled
+        requires { index < length self.old.list.items }
+        ensures { Moves core.old core.new }
+    {
+        match core.feed(self.list[index].id, piece) {
+            Ok(()) => {
+                self.list[index].fed = true;
+                Pulled::Fed
+            }
+            Err(_refused) => {
+                self.end(core, ports, index);
+                Pulled::Stopped
+            }
+        }
+    }
+}

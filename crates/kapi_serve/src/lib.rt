@@ -1,0 +1,21 @@
+//! The server: the machine over ports that are read and written without waiting.
+//!
+//! Whatever the ports do, the loop makes one list of events on the machine, which is then that of their run, and the desk publishes the
+//! steps of their answers in order, all but at most the last. That each byte goes to and from the client that it belongs to is tested.
+#![tactic(auto)]
+
+mod client;
+mod clients;
+mod pending;
+mod port;
+mod publishing;
+mod server;
+mod sockets;
+mod starting;
+#[cfg(test)]
+mod tests;
+
+pub use port::{Entry, PortEvent, PortFault, Ports};
+pub use server::serve_loop;
+pub use sockets::Sockets;
+pub use starting::{StartError, Started, start};

@@ -1,0 +1,95 @@
+ghost use Rattle.std.specs.Prelude.{◌≡◌, ◌≤◌, ◌<◌, ◌++◌, [], drop, length, OnOk};
+ghost use Rattle.std.specs.VecDeque.{deque_len, deque_capacity};
+ghost use Rattle.kapi_serve.specs.Pieces.{owed};
+
+use kapi_text::{Memory, Sequence};
+use std::alloc::Global;
+use std::collections::VecDeque;
+
+/// At so many pending bytes a connection is neither served nor pumped.
+const PENDING_LIMIT: usize = 1_048_576;
+
+/// The bytes that are yet to go out on a connection, in their order.
+#[derive(Drop)]
+pub struct Pending {
+    head: Sequence<u8>,
+    /// So many bytes of the head have gone out.
+    sent: usize,
+    behind: VecDeque<Sequence<u8>>,
+    /// How many bytes are pending, at most the greatest number.
+    count: usize,
+}
+
+impl Pending {
+    #[tactic(auto, using(crate::proofs::Joining::owed_none))]
+    pub(crate) fn new(alloc: Global) -> Pending
+        ensures { owed result ≡ [] }
+    {
+        Pending {
+            head: Sequence::new(Vec::new(alloc)),
+            sent: 0,
+            behind: VecDeque::new(alloc),
+            count: 0,
+        }
+    }
+
+    pub(crate) fn is_full(&self) -> bool {
+        self.count >= PENDING_LIMIT
+    }
+
+    /// Makes room for the bytes that are pushed next.
+    pub(crate) fn reserve(&mut self) -> Result<(), Memory>
+        ensures same { owed self.new ≡ owed self.old }
+        ensures room { OnOk result (deque_len self.new.behind < deque_capacity self.new.behind) }
+    {
+        self.behind.reserve(1)
+    }
+
+    /// Puts bytes behind the others.
+    #[tactic(auto, using(crate::proofs::Joining::owed_push))]
+    pub(crate) fn push(&mut self, bytes: Sequence<u8>)
+        requires { deque_len self.old.behind < deque_capacity self.old.behind }
+        ensures { owed self.new ≡ owed self.old ++ bytes }
+    {
+        let count = bytes.as_slice().len();
+        if count == 0 {
+            return;
+        }
+        self.count = self.count.saturating_add(count);
+        self.behind.push_back_reserved(bytes);
+    }
+
+    /// Whether all bytes have gone out.
+    pub(crate) fn is_empty(&self) -> bool {
+        self.sent >= self.head.as_slice().len() && self.behind.is_empty()
+    }
+
+    /// Lets the next bytes stand at the head, if the head has gone out.
+    #[tactic(auto, using(crate::proofs::Joining::owed_next))]
+    fn advance(&mut self)
+        ensures { owed self.new ≡ owed self.old }
+    {
+        if self.sent < self.head.as_slice().len() {
+            return;
+        }
+        if let Some(bytes) = self.behind.pop_front() {
+            self.head = bytes;
+            self.sent = 0;
+        }
+    }
+
+    /// The bytes that go out next; empty only where none are pending.
+    pub(crate) fn next(&mut self) -> &[u8] {
+        self.advance();
+        match self.head.as_slice().get(self.sent..) {
+            Some(bytes) => bytes,
+            None => &[],
+        }
+    }
+
+    /// So many of the next bytes have gone out.
+    pub(crate) fn pass(&mut self, count: usize) {
+        self.sent = self.sent.saturating_add(count);
+        self.count = self.count.saturating_sub(count);
+    }
+}

@@ -1,0 +1,76 @@
+ghost use Rattle.std.specs.Prelude.{◌≡◌, ◌≤◌, ◌<◌, ◌++◌, [], ◌∷◌, IfOk, Err, length};
+ghost use Rattle.kapi_serve.specs.Ports.{gave, opened, took};
+ghost use Rattle.kapi_serve.specs.declared.port.Entry.TheVariants as entry;
+ghost use Rattle.kapi_serve.specs.declared.port.PortFault.TheVariants as fault;
+
+use kapi_rbac_types::Identity;
+
+/// What ports have to tell. A slot is the number of a connection among them, free again once it is ended.
+#[derive(Debug, Drop)]
+pub enum PortEvent {
+    /// A client has connected on this slot, under this identity.
+    Opened(usize, Identity),
+    /// The slot may have bytes, or their end.
+    Readable(usize),
+    /// The slot may take bytes again.
+    Writable(usize),
+    /// A while has passed in which nothing happened.
+    Idle,
+}
+
+/// Why a slot gave or took nothing.
+#[derive(Clone, Copy, Debug, PartialEq, Eq)]
+pub enum PortFault {
+    /// There is nothing now, and an event tells when there may be.
+    WouldBlock,
+    /// The slot is broken.
+    Failed,
+}
+
+/// What a call on ports gave or took, as contracts tell it. No value of it is made.
+pub enum Entry {
+    /// A client has connected.
+    Opened(usize, Identity),
+    /// These bytes were read; none at the end of the client's bytes.
+    Gave(usize, [u8; 0]),
+    /// These bytes were accepted.
+    Took(usize, [u8; 0]),
+    /// The slot was ended.
+    Ended(usize),
+}
+
+/// Connections that are read and written without waiting.
+pub trait Ports {
+    ghost use Rattle.std.specs.Prelude.{ℕ, List};
+    ghost use Rattle.kapi_serve.specs.declared.port.Entry.{Entry as AnEntry};
+
+    /// What the calls gave and took so far.
+    ghost history: { Self → List AnEntry };
+
+    /// What shows that the calls tell the history, where they do.
+    ghost tells: { Type 0 } = { ⊥ };
+
+    /// How often a slot has failed.
+    ghost failures: { Self → ℕ };
+
+    /// What happens next; none where nothing will any more.
+    fn next(&mut self) -> Option<PortEvent>
+        ensures told { tells → history self.new ≡ history self.old ++ opened result };
+
+    /// Reads into the buffer; 0 is the end of the client's bytes.
+    fn read(&mut self, slot: usize, buffer: &mut [u8]) -> Result<usize, PortFault>
+        ensures len { length buffer.new ≡ length buffer.old }
+        ensures bound { IfOk result (λ n. n ≤ length buffer.new) }
+        ensures told { tells → history self.new ≡ history self.old ++ gave slot buffer.new result }
+        ensures failed { result ≡ Err fault.Failed → failures self.old < failures self.new };
+
+    /// Writes some of the bytes.
+    fn write(&mut self, slot: usize, bytes: &[u8]) -> Result<usize, PortFault>
+        ensures bound { IfOk result (λ n. n ≤ length bytes.now) }
+        ensures told { tells → history self.new ≡ history self.old ++ took slot bytes.now result }
+        ensures failed { result ≡ Err fault.Failed → failures self.old < failures self.new };
+
+    /// Ends a slot.
+    fn end(&mut self, slot: usize)
+        ensures told { tells → history self.new ≡ history self.old ++ entry.Ended slot ∷ [] };
+}

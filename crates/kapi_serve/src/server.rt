@@ -1,0 +1,181 @@
+ghost use Rattle.std.specs.Prelude.{◌≡◌, ◌<◌, ◌≤◌, ◌+◌, [], length};
+ghost use Rattle.kapi_serve.specs.Goes.{Goes, Serves};
+
+use crate::client::{Client, Flushed};
+use crate::clients::{Clients, Pulled};
+use crate::port::{PortEvent, Ports};
+use crate::publishing::Publishing;
+use kapi_core::Core;
+use kapi_desk::Desk;
+use kapi_policy::Policy;
+use std::sync::Wait;
+
+/// So many bytes are read at a time.
+const READ_SIZE: usize = 65_536;
+
+/// The connections, and what is left to be published.
+#[derive(Drop)]
+pub struct Server {
+    clients: Clients,
+    publishing: Publishing,
+}
+
+/// Serves the clients of ports until these have no more to tell: each byte read is fed to the machine, each answer goes out in order,
+/// and each step that changed the policy is published before the next one is made.
+pub fn serve_loop<R: Wait, P: Policy + Drop, Q: Ports>(
+    rt: &R,
+    core: &mut Core<P>,
+    desk: &mut Desk,
+    ports: &mut Q,
+)
+    requires { desk.old.waiting ≡ [] }
+    ensures { Serves core.old core.new desk.old desk.new }
+{
+    let mut server = Server {
+        clients: Clients::new(core.allocator()),
+        publishing: Publishing::new(),
+    };
+    let mut buffer = [0u8; READ_SIZE];
+    for _ in rt.forever() {
+        match ports.next() {
+            Some(event) => server.react(rt, core, desk, ports, &mut buffer, event),
+            None => return,
+        }
+    }
+}
+
+impl Server {
+    /// Does all that an event of the ports gives rise to.
+    fn react<R: Wait, P: Policy + Drop, Q: Ports>(
+        &mut self,
+        rt: &R,
+        core: &mut Core<P>,
+        desk: &mut Desk,
+        ports: &mut Q,
+        buffer: &mut [u8],
+        event: PortEvent,
+    )
+        ensures { Goes core.old core.new desk.old desk.new self.old.publishing.kept self.new.publishing.kept }
+    {
+        self.publishing.retry(rt, desk);
+        self.take(rt, core, desk, ports, buffer, event);
+        self.settle(rt, core, desk, ports);
+    }
+
+    /// Takes in what an event tells.
+    fn take<R: Wait, P: Policy + Drop, Q: Ports>(
+        &mut self,
+        rt: &R,
+        core: &mut Core<P>,
+        desk: &mut Desk,
+        ports: &mut Q,
+        buffer: &mut [u8],
+        event: PortEvent,
+    )
+        ensures { Goes core.old core.new desk.old desk.new self.old.publishing.kept self.new.publishing.kept }
+    {
+        match event {
+            PortEvent::Opened(slot, identity) => self.clients.open(core, ports, slot, identity),
+            PortEvent::Readable(slot) => self.read(rt, core, desk, ports, slot, buffer),
+            PortEvent::Writable(slot) => self.clients.unblock(slot),
+            PortEvent::Idle => self.clients.unblock_all(),
+        }
+    }
+
+    /// Reads a slot until it would block, at its end, or at the end of its connection. All that can be done is done after each piece.
+    fn read<R: Wait, P: Policy + Drop, Q: Ports>(
+        &mut self,
+        rt: &R,
+        core: &mut Core<P>,
+        desk: &mut Desk,
+        ports: &mut Q,
+        slot: usize,
+        buffer: &mut [u8],
+    )
+        ensures { Goes core.old core.new desk.old desk.new self.old.publishing.kept self.new.publishing.kept }
+    {
+        for _ in rt.forever() {
+            match self.clients.pull(core, ports, slot, buffer) {
+                Pulled::Fed => self.settle(rt, core, desk, ports),
+                Pulled::Stopped => return,
+            }
+        }
+    }
+
+    /// Goes over the connections until nothing more is done.
+    fn settle<R: Wait, P: Policy + Drop, Q: Ports>(
+        &mut self,
+        rt: &R,
+        core: &mut Core<P>,
+        desk: &mut Desk,
+        ports: &mut Q,
+    )
+        ensures { Goes core.old core.new desk.old desk.new self.old.publishing.kept self.new.publishing.kept }
+    {
+        for _ in rt.forever() {
+            if !self.round(rt, core, desk, ports) {
+                return;
+            }
+        }
+    }
+
+    /// Goes over the connections once. Whether anything was done.
+    fn round<R: Wait, P: Policy + Drop, Q: Ports>(
+        &mut self,
+        rt: &R,
+        core: &mut Core<P>,
+        desk: &mut Desk,
+        ports: &mut Q,
+    ) -> bool
+        ensures { Goes core.old core.new desk.old desk.new self.old.publishing.kept self.new.publishing.kept }
+    {
+        let mut done = self.publishing.make_turns(rt, core, desk);
+        let mut left = self.clients.len();
+        while left > 0 {
+            left -= 1;
+            let index = self.clients.len() - 1 - left;
+            done |= self.visit(rt, core, desk, ports, index);
+        }
+        done
+    }
+
+    /// Writes, serves and pumps a connection, and makes the turns that follow. Whether anything was done.
+    fn visit<R: Wait, P: Policy + Drop, Q: Ports>(
+        &mut self,
+        rt: &R,
+        core: &mut Core<P>,
+        desk: &mut Desk,
+        ports: &mut Q,
+        index: usize,
+    ) -> bool
+        requires { index < length self.old.clients.list.items }
+        ensures few { length self.new.clients.list.items ≤ length self.old.clients.list.items }
+        ensures many { length self.old.clients.list.items ≤ length self.new.clients.list.items + 1 }
+        ensures goes { Goes core.old core.new desk.old desk.new self.old.publishing.kept self.new.publishing.kept }
+    {
+        let client = &mut self.clients.list[index];
+        let flushed = client.flush(rt, ports);
+        if flushed == Flushed::Failed || client.is_done() {
+            self.clients.end(core, ports, index);
+            return true;
+        }
+        let answered = answer(rt, core, desk, &mut self.publishing, client);
+        flushed == Flushed::Some || answered
+    }
+}
+
+/// Serves and pumps a connection, and makes the turns that follow. Whether anything was done.
+fn answer<R: Wait, P: Policy + Drop>(
+    rt: &R,
+    core: &mut Core<P>,
+    desk: &mut Desk,
+    publishing: &mut Publishing,
+    client: &mut Client,
+) -> bool
+    ensures { Goes core.old core.new desk.old desk.new publishing.old.kept publishing.new.kept }
+{
+    let served = client.serve(rt, core, desk, publishing);
+    let shown = client.pump(rt, core, desk, publishing);
+    let turned = publishing.make_turns(rt, core, desk);
+    served || shown || turned
+}

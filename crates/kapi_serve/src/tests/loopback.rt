@@ -1,0 +1,61 @@
+ghost use Rattle.std.specs.Prelude.{◌≡◌};
+
+use super::fixture::{CREATE, CREATED, core, desk, master};
+use crate::{PortEvent, PortFault, Ports, Sockets, serve_loop};
+use std::io::{Read, Write};
+use std::net::{Ipv4Addr, SocketAddr, TcpStream};
+use std::test::Fail;
+
+/// Sockets until nothing has happened a few times.
+#[derive(Drop)]
+struct UntilIdle {
+    sockets: Sockets,
+    idle: u32,
+}
+
+impl Ports for UntilIdle {
+    ghost use Rattle.std.specs.Prelude.{[]};
+
+    ghost history = { λ p. [] };
+
+    ghost failures = { λ p. p.sockets.failures };
+
+    fn next(&mut self) -> Option<PortEvent> {
+        let event = self.sockets.next()?;
+        if matches!(event, PortEvent::Idle) {
+            self.idle = self.idle.checked_sub(1)?;
+        }
+        Some(event)
+    }
+
+    fn read(&mut self, slot: usize, buffer: &mut [u8]) -> Result<usize, PortFault> {
+        self.sockets.read(slot, buffer)
+    }
+
+    fn write(&mut self, slot: usize, bytes: &[u8]) -> Result<usize, PortFault> {
+        self.sockets.write(slot, bytes)
+    }
+
+    fn end(&mut self, slot: usize) {
+        self.sockets.end(slot)
+    }
+}
+
+#[test]
+fn a_client_of_127_0_0_1_is_answered(rt: HostRuntime) -> Result<(), Fail> {
+    let alloc = rt.alloc();
+    let mut sockets = Sockets::new(alloc, &rt)?;
+    let port = sockets.listen(&rt, 0, master(alloc)?)?;
+    let mut client = TcpStream::connect(&rt, SocketAddr::from((Ipv4Addr::LOCALHOST, port)))?;
+    client.write_all(CREATE)?;
+    let mut core = core(alloc)?;
+    let (mut desk, seats) = desk(alloc, &rt)?;
+    let mut ports = UntilIdle { sockets, idle: 3 };
+    serve_loop(&rt, &mut core, &mut desk, &mut ports);
+    drop(seats);
+    drop(desk.close(&rt));
+    let mut got = [0u8; 1024];
+    let count = client.read(&mut got)?;
+    assert_eq!(rt; &got[..count], CREATED);
+    Ok(())
+}

@@ -1,0 +1,218 @@
+//! Ports in memory.
+ghost use Rattle.std.specs.Prelude.{◌≡◌, ◌<◌, ◌≤◌, length};
+ghost use Rattle.kapi_serve.specs.declared.port.PortFault.TheVariants as fault;
+
+use crate::{PortEvent, PortFault, Ports};
+use kapi_rbac_types::Identity;
+use std::alloc::{AllocError, Global};
+
+/// What one call on the ports does in place of passing all.
+#[derive(Clone, Copy, Debug, PartialEq, Eq)]
+pub(super) enum Mishap {
+    Nothing,
+    OneByte,
+    WouldBlock,
+    Fails,
+}
+
+/// A client: what it sends in pieces, and what it got.
+#[derive(Drop)]
+struct Talk {
+    identity: Option<Identity>,
+    sends: Vec<u8>,
+    given: usize,
+    got: Vec<u8>,
+    ended: bool,
+}
+
+/// Clients that all connect at first, and then are asked in turn.
+#[derive(Drop)]
+pub(super) struct Memory {
+    alloc: Global,
+    talks: Vec<Talk>,
+    opened: usize,
+    asked: usize,
+    /// So many events follow.
+    left: usize,
+    /// What the call of this number does.
+    mishap: (usize, Mishap),
+    pub(super) calls: usize,
+    failures: u64,
+}
+
+impl Memory {
+    pub(super) fn new(alloc: Global, mishap: (usize, Mishap)) -> Memory {
+        Memory {
+            alloc,
+            talks: Vec::new(alloc),
+            opened: 0,
+            asked: 0,
+            left: 40,
+            mishap,
+            calls: 0,
+            failures: 0,
+        }
+    }
+
+    /// One client more, who sends these bytes and then ends.
+    pub(super) fn talk(&mut self, identity: Identity, sends: &[u8]) -> Result<(), AllocError> {
+        let mut copy = Vec::with_capacity(self.alloc, sends.len())?;
+        for byte in sends {
+            copy.push(*byte)?;
+        }
+        self.talks.push(Talk {
+            identity: Some(identity),
+            sends: copy,
+            given: 0,
+            got: Vec::new(self.alloc),
+            ended: false,
+        })?;
+        Ok(())
+    }
+
+    /// What the client of a slot got.
+    pub(super) fn got(&self, slot: usize) -> &[u8] {
+        match self.talks.get(slot) {
+            Some(talk) => talk.got.as_slice(),
+            None => &[],
+        }
+    }
+
+    /// Whether a slot was ended.
+    pub(super) fn has_ended(&self, slot: usize) -> bool {
+        match self.talks.get(slot) {
+            Some(talk) => talk.ended,
+            None => false,
+        }
+    }
+
+    /// What this call does.
+    fn call(&mut self) -> Mishap
+        ensures { self.new.failures ≡ self.old.failures }
+    {
+        let number = self.calls;
+        self.calls = self.calls.saturating_add(1);
+        if self.mishap.0 == number {
+            return self.mishap.1;
+        }
+        Mishap::Nothing
+    }
+
+    fn open_next(&mut self) -> Option<PortEvent> {
+        let slot = self.opened;
+        let identity = self.talks.get_mut(slot)?.identity.take()?;
+        self.opened = slot.saturating_add(1);
+        Some(PortEvent::Opened(slot, identity))
+    }
+
+    /// Asks the clients in turn.
+    fn ask_next(&mut self) -> Option<PortEvent> {
+        if self.left == 0 {
+            return None;
+        }
+        self.left -= 1;
+        let slot = self.asked;
+        if slot >= self.talks.len() {
+            self.asked = 0;
+            return Some(PortEvent::Idle);
+        }
+        self.asked = slot + 1;
+        Some(PortEvent::Readable(slot))
+    }
+
+    fn fail(&mut self) -> PortFault
+        ensures { result ≡ fault.Failed → self.old.failures < self.new.failures }
+    {
+        if self.failures == u64::MAX {
+            return PortFault::WouldBlock;
+        }
+        self.failures += 1;
+        PortFault::Failed
+    }
+}
+
+/// How many of so many bytes pass.
+fn passing(mishap: Mishap, count: usize) -> usize
+    ensures { result ≤ count }
+{
+    match mishap {
+        Mishap::OneByte => count.min(1),
+        _ => count,
+    }
+}
+
+impl Talk {
+    /// What the client has not yet sent.
+    fn left(&self) -> &[u8] {
+        match self.sends.as_slice().get(self.given..) {
+            Some(left) => left,
+            None => &[],
+        }
+    }
+
+    /// Gives the client's next bytes; how many they are.
+    fn give(&mut self, mishap: Mishap, buffer: &mut [u8]) -> usize
+        ensures len { length buffer.new ≡ length buffer.old }
+        ensures bound { result ≤ length buffer.new }
+    {
+        let left = self.left();
+        let count = passing(mishap, left.len().min(buffer.len()));
+        for index in 0..count {
+            buffer[index] = left[index];
+        }
+        self.given = self.given.saturating_add(count);
+        count
+    }
+
+    /// Takes bytes for the client; how many they are.
+    fn take(&mut self, mishap: Mishap, bytes: &[u8]) -> usize
+        ensures { result ≤ length bytes.now }
+    {
+        let count = passing(mishap, bytes.len());
+        for index in 0..count {
+            if self.got.push(bytes[index]).is_err() {
+                return index;
+            }
+        }
+        count
+    }
+}
+
+impl Ports for Memory {
+    ghost use Rattle.std.specs.Prelude.{[]};
+
+    ghost history = { λ m. [] };
+
+    ghost failures = { λ m. m.failures };
+
+    fn next(&mut self) -> Option<PortEvent> {
+        match self.open_next() {
+            Some(event) => Some(event),
+            None => self.ask_next(),
+        }
+    }
+
+    fn read(&mut self, slot: usize, buffer: &mut [u8]) -> Result<usize, PortFault> {
+        let mishap = self.call();
+        match (mishap, self.talks.get_mut(slot)) {
+            (Mishap::Nothing | Mishap::OneByte, Some(talk)) => Ok(talk.give(mishap, buffer)),
+            (Mishap::WouldBlock, Some(_talk)) => Err(PortFault::WouldBlock),
+            _ => Err(self.fail()),
+        }
+    }
+
+    fn write(&mut self, slot: usize, bytes: &[u8]) -> Result<usize, PortFault> {
+        let mishap = self.call();
+        match (mishap, self.talks.get_mut(slot)) {
+            (Mishap::Nothing | Mishap::OneByte, Some(talk)) => Ok(talk.take(mishap, bytes)),
+            (Mishap::WouldBlock, Some(_talk)) => Err(PortFault::WouldBlock),
+            _ => Err(self.fail()),
+        }
+    }
+
+    fn end(&mut self, slot: usize) {
+        if let Some(talk) = self.talks.get_mut(slot) {
+            talk.ended = true;
+        }
+    }
+}
