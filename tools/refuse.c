@@ -4,6 +4,8 @@
 #include <dlfcn.h>
 #include <stdio.h>
 #include <stdlib.h>
+#include <sys/syscall.h>
+#include <unistd.h>
 
 static unsigned long made, refused, largest;
 static const char *count_file;
@@ -24,6 +26,12 @@ __attribute__((destructor)) static void end(void) {
         fprintf(file, "%lu %lu\n", all, most);
         fclose(file);
     }
+}
+
+// A program of threads ends so, and then no destructor runs.
+void _exit(int status) {
+    end();
+    for (;;) syscall(SYS_exit_group, status);
 }
 
 static int is_refused(size_t size) {
