@@ -1,6 +1,8 @@
 # make demo      plays scripts/demo.txt and shows it as a transcript, each event with its answer; it proves nothing (wants python3)
 # make test      the gate: every proof from nothing, the must-fail edits, the tests and the program's stored run
 # make kapi      proves and builds the program, and says where it lies
+# make serve     proves and builds the program, and starts it as a server on 127.0.0.1: port 8001 for root, port 8002 for ann
+# make serve-demo starts the same server for ten minutes and proves nothing first
 # make growths   plays each script of the folder SCRIPTS once for every growth of memory, with that growth refused (wants cc and python3)
 # make statuses  the program's exit statuses, and what it writes on standard error
 # make edits     tries the edits of crates/NAME/edits, which the gate does not, of all crates or of those that CRATES names; takes hours for all
@@ -10,7 +12,7 @@
 SCRIPTS ?= scripts
 PROGRAM = crates/kapi/out/kapi
 
-.PHONY: audit-demo demo test kapi edits growths statuses bench
+.PHONY: audit-demo demo test kapi serve serve-demo edits growths statuses bench
 
 demo:
 	@answers=$$(mktemp) && (cd crates/kapi && rt try -- script < ../../scripts/demo.txt) > $$answers && python3 tools/transcript.py scripts/demo.txt $$answers; status=$$?; rm -f $$answers; exit $$status
@@ -24,6 +26,13 @@ kapi:
 
 edits:
 	@sh tools/edits.sh $(CRATES)
+
+serve: kapi
+	@$(PROGRAM) serve --load scripts/serve/objects.jsonl 8001=root,system:masters 8002=ann,system:authenticated
+
+serve-demo:
+	@echo 'In about two minutes, and for ten: 127.0.0.1:8001 is for root, 127.0.0.1:8002 for ann. Ctrl-C ends it.'
+	@cd crates/kapi && rt try --seconds 600 --data objects.jsonl=../../scripts/serve/objects.jsonl -- serve --load objects.jsonl 8001=root,system:masters 8002=ann,system:authenticated > /dev/null 2>&1; true
 
 growths: kapi
 	@cc -shared -fPIC -O2 -o crates/kapi/out/refuse.so tools/refuse.c -ldl

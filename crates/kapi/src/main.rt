@@ -1,11 +1,12 @@
 //! The programs of Kapi. `kapi script` plays events from standard input and prints the answers; `kapi audit` answers questions by the
-//! policy of a file.
+//! policy of a file; `kapi serve` serves requests on ports of this machine.
 #![tactic(auto)]
 
 ghost use Rattle.std.specs.Prelude.{◌≤◌};
 
 mod command_line;
 mod program;
+mod serving;
 #[cfg(test)]
 mod tests;
 
@@ -14,6 +15,7 @@ use kapi_audit::{AuditFault, NoGate, audit_run};
 use kapi_index::IndexedPolicy;
 use kapi_script::script_run;
 use program::{AuditFiles, Command, CommandFault};
+use serving::run_serve;
 use std::env::{self, Env};
 use std::fs::{self, Files};
 use std::io::{self, BufWriter, Write};
@@ -25,6 +27,7 @@ fn main(rt: HostRuntime) -> io::Result<ExitCode> {
     match named_command(&rt) {
         Ok(Command::Script) => run_script(&rt),
         Ok(Command::Audit(files)) => run_audit(&rt, &files),
+        Ok(Command::Serve(options)) => run_serve(&rt, &options),
         Ok(Command::Show(text)) => {
             text.print(&rt)?;
             Ok(ExitCode::SUCCESS)

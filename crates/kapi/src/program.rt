@@ -1,6 +1,7 @@
-ghost use Rattle.std.specs.Prelude.{◌≤◌};
+ghost use Rattle.std.specs.Prelude.{◌≤◌, vec_len};
 
 use clap::Error as Shown;
+use kapi_rbac_types::Identity;
 use std::alloc::AllocError;
 use std::io;
 use thiserror::Error;
@@ -12,6 +13,8 @@ pub enum Command {
     Script,
     /// `kapi audit`: the questions of a file, answered by the policy of another.
     Audit(AuditFiles),
+    /// `kapi serve`: requests on ports of this machine.
+    Serve(ServeOptions),
     /// `--help`, `help` or `--version`: the text that is asked for.
     Show(Shown),
 }
@@ -26,10 +29,28 @@ pub struct AuditFiles {
     ghost few: { (1 ≤ readers) × (readers ≤ 16) },
 }
 
+/// What a server loads, and the ports that it serves.
+#[derive(Drop)]
+pub struct ServeOptions {
+    /// The file of the objects that stand at first, by its name.
+    pub load: Option<String>,
+    /// 1 to 16, in the order of the words.
+    pub listens: Vec<Listen>,
+    ghost few: { (1 ≤ vec_len listens) × (vec_len listens ≤ 16) },
+}
+
+/// A port of 127.0.0.1, and who each of its clients is.
+#[derive(Debug, Drop)]
+pub struct Listen {
+    /// 1 to 65,535.
+    pub port: u16,
+    pub identity: Identity,
+}
+
 /// Why a command line was not understood.
 #[derive(Clone, Copy, Debug, PartialEq, Eq, Error)]
 pub enum CommandFault {
-    #[error("usage: kapi script, or kapi audit POLICY QUESTIONS [--readers N], N from 1 to 16")]
+    #[error("usage: kapi script, kapi audit POLICY QUESTIONS [--readers N], N from 1 to 16, or kapi serve [--load FILE] PORT=USER[,GROUP..]..")]
     Words,
     #[error("out of memory")]
     Memory,

@@ -59,6 +59,60 @@ fn reads_the_words_of_an_audit(rt: HostRuntime) -> Result<(), Fail> {
     Ok(())
 }
 
+/// The file, and the ports with their users and the number of their groups, that the words behind `kapi serve` tell.
+fn serve_words(alloc: Global, words: &[&str]) -> Result<String, Fail> {
+    let options = match command(alloc, words) {
+        Ok(Command::Serve(options)) => options,
+        Ok(_) => return Ok(String::from_str(alloc, "another")?),
+        Err(_) => return Ok(String::from_str(alloc, "refused")?),
+    };
+    let mut told = String::new(alloc);
+    if let Some(file) = &options.load {
+        told.push_str(file.as_str())?;
+    }
+    for listen in options.listens.iter() {
+        let port = listen.port;
+        let user = listen.identity.user.as_str();
+        let groups = listen.identity.groups.as_slice().len();
+        told.push_str(format!(in alloc; " {port} {user} {groups}")?.as_str())?;
+    }
+    Ok(told)
+}
+
+#[test]
+fn reads_the_words_of_a_server(rt: HostRuntime) -> Result<(), Fail> {
+    let alloc: Global = rt.alloc();
+    assert_eq!(rt;
+        serve_words(
+            alloc,
+            &[
+                "kapi",
+                "serve",
+                "--load",
+                "f",
+                "8001=root",
+                "65535=a=b,dev,ops"
+            ]
+        )?
+        .as_str(),
+        "f 8001 root 0 65535 a=b 2"
+    );
+    assert!(rt; is_refused(alloc, &["kapi", "serve"]));
+    for word in [
+        "8001",
+        "=root",
+        "0=root",
+        "65536=root",
+        "+1=root",
+        "000001=root",
+        "8001=",
+        "8001=a,",
+    ] {
+        assert!(rt; is_refused(alloc, &["kapi", "serve", word]));
+    }
+    Ok(())
+}
+
 /// Whether the words name no program.
 fn is_refused(alloc: Global, words: &[&str]) -> bool {
     matches!(command(alloc, words), Err(CommandFault::Words))

@@ -20,10 +20,14 @@ abbrev pub identity_of : List (List ℕ) → Identity
 identity_of [] = record { user = []; groups = [] }
 identity_of (user ∷ groups) = record { user = user; groups = groups }
 
--- names in UTF-8, none empty
+-- the identity that names in UTF-8 tell, none of them empty
+unfoldable pub named_identity : List ℕ → Option Identity
+named_identity s =
+    if is_utf8 s && list_all (λ name. not (length name == 0)) (names_in s) then Some (identity_of (names_in s)) else None
+
+-- a connection of such an identity
 unfoldable pub open_event : List ℕ → Option Event
-open_event s =
-    if is_utf8 s && list_all (λ name. not (length name == 0)) (names_in s) then Some (event.Open (identity_of (names_in s))) else None
+open_event s = option_map (λ identity. event.Open identity) (named_identity s)
 
 -- the number of a connection: 1 to 18 decimal digits
 unfoldable pub connection : List ℕ → Option ConnId

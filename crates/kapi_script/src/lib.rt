@@ -9,5 +9,6 @@ mod script;
 mod table;
 
 pub use escape::write_escaped;
+pub use line::read_identity;
 pub use script::{ScriptFault, script_run};
 pub use table::program_table;

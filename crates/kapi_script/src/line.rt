@@ -4,7 +4,7 @@ ghost use Rattle.std.specs.Str.{is_utf8};
 ghost use Rattle.std.specs.Str.Parse.{digits_value};
 ghost use Rattle.std.specs.List.{list_all, position};
 ghost use Rattle.std.specs.Option.{is_some};
-ghost use Rattle.kapi_script.specs.Events.{connection as connection_of, feed_at as feed_at_of, feed_event, identity_of, line_event, names_in, open_event};
+ghost use Rattle.kapi_script.specs.Events.{connection as connection_of, feed_at as feed_at_of, feed_event, identity_of, line_event, named_identity, names_in, open_event};
 
 use crate::escape::{is_escaped, unescape};
 use kapi_core::{ConnId, Event};
@@ -40,14 +40,22 @@ pub fn parse_line(alloc: Global, line: &[u8]) -> Result<Option<Event>, Memory>
     Ok(None)
 }
 
-/// `USER` or `USER,GROUP,..`, no name empty.
 #[tactic(auto, unfolding(crate::specs::Events::open_event))]
 fn parse_open(alloc: Global, names: &[u8]) -> Result<Option<Event>, Memory>
     ensures event { IfOk result (λ o. o ≡ open_event names.now) }
     ensures known { OnErr result (is_some (open_event names.now) ≡ true) }
 {
+    Ok(read_identity(alloc, names)?.map(Event::Open))
+}
+
+/// The identity that `USER` or `USER,GROUP,..` tells; none where a name is empty or the text is no UTF-8, before any memory is taken.
+#[tactic(auto, unfolding(crate::specs::Events::named_identity))]
+pub fn read_identity(alloc: Global, names: &[u8]) -> Result<Option<Identity>, Memory>
+    ensures told { IfOk result (λ i. i ≡ named_identity names.now) }
+    ensures known { OnErr result (is_some (named_identity names.now) ≡ true) }
+{
     match as_text(names) {
-        Some(names) if are_names(names) => Ok(Some(Event::Open(identity(alloc, names)?))),
+        Some(names) if are_names(names) => Ok(Some(identity(alloc, names)?)),
         _ => Ok(None),
     }
 }

@@ -12,8 +12,6 @@ mod publishing;
 mod server;
 mod sockets;
 mod starting;
-#[cfg(test)]
-mod tests;
 
 pub use port::{Entry, PortEvent, PortFault, Ports};
 pub use server::serve_loop;

@@ -1,7 +1,7 @@
 ghost use Rattle.std.specs.Prelude.{◌≡◌};
 
-use super::fixture::{CREATE, CREATED, core, desk, master};
-use crate::{PortEvent, PortFault, Ports, Sockets, serve_loop};
+use crate::fixture::{CREATE, CREATED, core, desk, master};
+use kapi_serve::{PortEvent, PortFault, Ports, Sockets, serve_loop};
 use std::io::{Read, Write};
 use std::net::{Ipv4Addr, SocketAddr, TcpStream};
 use std::test::Fail;

@@ -10,18 +10,18 @@ use std::alloc::{AllocError, Global};
 use std::sync::Wait;
 
 /// Creates the ConfigMap `a`.
-pub(super) const CREATE: &[u8] =
+pub const CREATE: &[u8] =
     b"POST /api/v1/namespaces/default/configmaps HTTP/1.1\r\nHost: a\r\nContent-Type: application/json\r\nContent-Length: 79\r\n\r\n{\"apiVersion\":\"v1\",\"kind\":\"ConfigMap\",\"metadata\":{\"name\":\"a\"},\"data\":{\"k\":\"v\"}}";
 
-pub(super) const CREATED: &[u8] =
+pub const CREATED: &[u8] =
     b"HTTP/1.1 201 Created\r\nContent-Type: application/json\r\nContent-Length: 168\r\n\r\n{\"apiVersion\":\"v1\",\"data\":{\"k\":\"v\"},\"kind\":\"ConfigMap\",\"metadata\":{\"name\":\"a\",\"namespace\":\"default\",\"resourceVersion\":\"6\",\"uid\":\"00000000-0000-4000-8000-000000000006\"}}";
 
 /// Asks for what nobody but the masters may get.
-pub(super) const FORBIDDEN: &[u8] =
+pub const FORBIDDEN: &[u8] =
     b"GET /api/v1/namespaces/default/widgets/x HTTP/1.1\r\nHost: a\r\n\r\n";
 
 /// A user and his group.
-pub(super) fn identity(alloc: Global, user: &str, group: &str) -> Result<Identity, AllocError> {
+pub fn identity(alloc: Global, user: &str, group: &str) -> Result<Identity, AllocError> {
     let mut groups: Vec<Text> = Vec::new(alloc);
     groups.push(Text::copy_of(alloc, group)?)?;
     Ok(Identity {
@@ -31,16 +31,16 @@ pub(super) fn identity(alloc: Global, user: &str, group: &str) -> Result<Identit
 }
 
 /// A member of `system:masters`.
-pub(super) fn master(alloc: Global) -> Result<Identity, AllocError> {
+pub fn master(alloc: Global) -> Result<Identity, AllocError> {
     identity(alloc, "root", "system:masters")
 }
 
-pub(super) fn core(alloc: Global) -> Result<Core<IndexedPolicy>, AllocError> {
+pub fn core(alloc: Global) -> Result<Core<IndexedPolicy>, AllocError> {
     Core::new(alloc, program_table(alloc)?, IndexedPolicy::new(alloc), 0)
 }
 
 /// A desk with one seat.
-pub(super) fn desk<R: Wait>(alloc: Global, rt: &R) -> Result<(Desk, Vec<Seat>), AllocError>
+pub fn desk<R: Wait>(alloc: Global, rt: &R) -> Result<(Desk, Vec<Seat>), AllocError>
     ensures { IfOk result (λ r. r.0.waiting ≡ []) }
 {
     Desk::new(alloc, rt, IndexedPolicy::new(alloc), 1)

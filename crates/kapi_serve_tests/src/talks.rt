@@ -1,6 +1,6 @@
-use super::fixture::{CREATE, CREATED, FORBIDDEN, core, desk, identity, master};
-use super::memory::{Memory, Mishap};
-use crate::serve_loop;
+use crate::fixture::{CREATE, CREATED, FORBIDDEN, core, desk, identity, master};
+use crate::memory::{Memory, Mishap};
+use kapi_serve::serve_loop;
 use std::alloc::{AllocError, Global};
 use std::sync::Wait;
 use std::test::Fail;

@@ -2,17 +2,26 @@
 ghost use Rattle.std.specs.Prelude.{◌≡◌, ◌<◌, ◌≤◌, length};
 ghost use Rattle.kapi_serve.specs.declared.port.PortFault.TheVariants as fault;
 
-use crate::{PortEvent, PortFault, Ports};
 use kapi_rbac_types::Identity;
+use kapi_serve::{PortEvent, PortFault, Ports};
 use std::alloc::{AllocError, Global};
 
 /// What one call on the ports does in place of passing all.
 #[derive(Clone, Copy, Debug, PartialEq, Eq)]
-pub(super) enum Mishap {
+pub enum Mishap {
     Nothing,
     OneByte,
     WouldBlock,
     Fails,
+}
+
+/// How a client takes what it is sent.
+#[derive(Clone, Copy, Debug, PartialEq, Eq)]
+enum Pace {
+    /// At once; its own bytes end.
+    Prompt,
+    /// Not before so few events are left; its own bytes do not end.
+    Slow(usize),
 }
 
 /// A client: what it sends in pieces, and what it got.
@@ -22,12 +31,13 @@ struct Talk {
     sends: Vec<u8>,
     given: usize,
     got: Vec<u8>,
+    pace: Pace,
     ended: bool,
 }
 
 /// Clients that all connect at first, and then are asked in turn.
 #[derive(Drop)]
-pub(super) struct Memory {
+pub struct Memory {
     alloc: Global,
     talks: Vec<Talk>,
     opened: usize,
@@ -36,12 +46,12 @@ pub(super) struct Memory {
     left: usize,
     /// What the call of this number does.
     mishap: (usize, Mishap),
-    pub(super) calls: usize,
+    pub calls: usize,
     failures: u64,
 }
 
 impl Memory {
-    pub(super) fn new(alloc: Global, mishap: (usize, Mishap)) -> Memory {
+    pub fn new(alloc: Global, mishap: (usize, Mishap)) -> Memory {
         Memory {
             alloc,
             talks: Vec::new(alloc),
@@ -55,23 +65,42 @@ impl Memory {
     }
 
     /// One client more, who sends these bytes and then ends.
-    pub(super) fn talk(&mut self, identity: Identity, sends: &[u8]) -> Result<(), AllocError> {
-        let mut copy = Vec::with_capacity(self.alloc, sends.len())?;
-        for byte in sends {
-            copy.push(*byte)?;
-        }
+    pub fn talk(&mut self, identity: Identity, sends: &[u8]) -> Result<(), AllocError> {
+        self.add(identity, sends, Pace::Prompt)
+    }
+
+    /// One client more, who sends these bytes, and takes nothing until so few events are left.
+    pub fn slow_talk(
+        &mut self,
+        identity: Identity,
+        sends: &[u8],
+        left: usize,
+    ) -> Result<(), AllocError> {
+        self.add(identity, sends, Pace::Slow(left))
+    }
+
+    fn add(&mut self, identity: Identity, sends: &[u8], pace: Pace) -> Result<(), AllocError> {
         self.talks.push(Talk {
             identity: Some(identity),
-            sends: copy,
+            sends: Vec::from_slice(self.alloc, sends)?,
             given: 0,
             got: Vec::new(self.alloc),
+            pace,
             ended: false,
         })?;
         Ok(())
     }
 
+    /// Whether the client of a slot takes nothing yet.
+    fn is_stalled(&self, slot: usize) -> bool {
+        match self.talks.get(slot) {
+            Some(talk) => talk.is_stalled(self.left),
+            None => false,
+        }
+    }
+
     /// What the client of a slot got.
-    pub(super) fn got(&self, slot: usize) -> &[u8] {
+    pub fn got(&self, slot: usize) -> &[u8] {
         match self.talks.get(slot) {
             Some(talk) => talk.got.as_slice(),
             None => &[],
@@ -79,7 +108,7 @@ impl Memory {
     }
 
     /// Whether a slot was ended.
-    pub(super) fn has_ended(&self, slot: usize) -> bool {
+    pub fn has_ended(&self, slot: usize) -> bool {
         match self.talks.get(slot) {
             Some(talk) => talk.ended,
             None => false,
@@ -142,6 +171,19 @@ fn passing(mishap: Mishap, count: usize) -> usize
 }
 
 impl Talk {
+    /// Whether it takes nothing while so many events are left.
+    fn is_stalled(&self, left: usize) -> bool {
+        match self.pace {
+            Pace::Prompt => false,
+            Pace::Slow(until) => left > until,
+        }
+    }
+
+    /// Whether its bytes have not ended, but no more come.
+    fn waits(&self) -> bool {
+        self.pace != Pace::Prompt && self.left().is_empty()
+    }
+
     /// What the client has not yet sent.
     fn left(&self) -> &[u8] {
         match self.sends.as_slice().get(self.given..) {
@@ -195,6 +237,9 @@ impl Ports for Memory {
     fn read(&mut self, slot: usize, buffer: &mut [u8]) -> Result<usize, PortFault> {
         let mishap = self.call();
         match (mishap, self.talks.get_mut(slot)) {
+            (Mishap::Nothing | Mishap::OneByte, Some(talk)) if talk.waits() => {
+                Err(PortFault::WouldBlock)
+            }
             (Mishap::Nothing | Mishap::OneByte, Some(talk)) => Ok(talk.give(mishap, buffer)),
             (Mishap::WouldBlock, Some(_talk)) => Err(PortFault::WouldBlock),
             _ => Err(self.fail()),
@@ -202,6 +247,9 @@ impl Ports for Memory {
     }
 
     fn write(&mut self, slot: usize, bytes: &[u8]) -> Result<usize, PortFault> {
+        if self.is_stalled(slot) {
+            return Err(PortFault::WouldBlock);
+        }
         let mishap = self.call();
         match (mishap, self.talks.get_mut(slot)) {
             (Mishap::Nothing | Mishap::OneByte, Some(talk)) => Ok(talk.take(mishap, bytes)),

@@ -1,0 +1,88 @@
+ghost use Rattle.std.specs.Prelude.{◌≡◌, []};
+
+use crate::program::{Listen, ServeOptions};
+use kapi_serve::{Sockets, Started, serve_loop, start};
+use kapi_text::TryCopy;
+use std::fs::{self, Files};
+use std::io;
+use std::net::Net;
+use std::process::ExitCode;
+use std::sync::Wait;
+
+/// What came of listening.
+#[derive(Drop)]
+enum Listening {
+    On(Sockets),
+    /// This port cannot be listened on.
+    Refused(u16),
+}
+
+/// Serves the ports for as long as clients can be waited for. Status 1 where the file cannot be loaded, 3 where a port cannot be
+/// listened on, 4 where the wait fails.
+pub fn run_serve<R: Files + Print + Eprint + AllocGlobal + Wait + Net>(
+    rt: &R,
+    options: &ServeOptions,
+) -> io::Result<ExitCode> {
+    let objects = match &options.load {
+        Some(file) => match fs::read(rt, file.as_str()) {
+            Ok(objects) => objects,
+            Err(error) => {
+                eprintln!(rt; "{file}: {error}")?;
+                return Ok(ExitCode::from(1));
+            }
+        },
+        None => Vec::new(rt.alloc()),
+    };
+    match start(rt.alloc(), rt, objects.as_slice(), 1) {
+        Ok(started) => serve_ports(rt, started, options.listens.as_slice()),
+        Err(fault) => {
+            eprintln!(rt; "{fault}")?;
+            Ok(ExitCode::from(1))
+        }
+    }
+}
+
+/// Listens on each port and serves its clients; the desk is closed at the end.
+fn serve_ports<R: Print + Eprint + AllocGlobal + Wait + Net>(
+    rt: &R,
+    started: Started,
+    listens: &[Listen],
+) -> io::Result<ExitCode>
+    requires { started.desk.waiting ≡ [] }
+{
+    let Started {
+        mut core,
+        mut desk,
+        seats,
+    } = started;
+    let status = match listen(rt, listens) {
+        Ok(Listening::On(mut sockets)) => {
+            serve_loop(rt, &mut core, &mut desk, &mut sockets);
+            Ok(ExitCode::from(4))
+        }
+        Ok(Listening::Refused(port)) => refuse(rt, port),
+        Err(error) => Err(error),
+    };
+    drop(seats);
+    drop(desk.close(rt));
+    status
+}
+
+/// Listens on the ports in their order and tells each.
+fn listen<R: Print + AllocGlobal + Net>(rt: &R, listens: &[Listen]) -> io::Result<Listening> {
+    let mut sockets = Sockets::new(rt.alloc(), rt)?;
+    for listen in listens {
+        let identity = listen.identity.copy(rt.alloc())?;
+        match sockets.listen(rt, listen.port, identity) {
+            Ok(port) => println!(rt; "listening {port}")?,
+            Err(_error) => return Ok(Listening::Refused(listen.port)),
+        }
+    }
+    Ok(Listening::On(sockets))
+}
+
+/// A port that cannot be listened on: status 3.
+fn refuse(rt: &impl Eprint, port: u16) -> io::Result<ExitCode> {
+    eprintln!(rt; "cannot listen {port}")?;
+    Ok(ExitCode::from(3))
+}

@@ -1,0 +1,15 @@
+//! Tests of the server's loop: over ports in memory, and over sockets of this machine.
+#![tactic(auto)]
+
+#[cfg(test)]
+mod fixture;
+#[cfg(test)]
+mod loopback;
+#[cfg(test)]
+mod memory;
+#[cfg(test)]
+mod slow;
+#[cfg(test)]
+mod starts;
+#[cfg(test)]
+mod talks;
