@@ -3,16 +3,17 @@
 # make kapi      proves and builds the program, and says where it lies
 # make serve     proves and builds the program, and starts it as a server on 127.0.0.1: port 8001 for root, port 8002 for ann
 # make serve-demo starts the same server for ten minutes and proves nothing first
-# make growths   plays each script of the folder SCRIPTS once for every growth of memory, with that growth refused (wants cc and python3)
+# make growths   plays each script of the folder SCRIPTS with every growth of memory refused in turn (wants cc and python3)
 # make statuses  the program's exit statuses, and what it writes on standard error
 # make edits     tries the edits of crates/NAME/edits, which the gate does not, of all crates or of those that CRATES names; takes hours for all
 # make audit-demo  answers a stored file of questions by a stored policy; it proves nothing
+# make load      proves and builds the program and the benchmarks, and prints what a server does under load (wants python3 and wrk)
 # make bench     proves and builds the benchmarks, runs each and prints its figures; takes a while
 
 SCRIPTS ?= scripts
 PROGRAM = crates/kapi/out/kapi
 
-.PHONY: audit-demo demo test kapi serve serve-demo edits growths statuses bench
+.PHONY: audit-demo demo test kapi serve serve-demo edits growths statuses bench load
 
 demo:
 	@answers=$$(mktemp) && (cd crates/kapi && rt try -- script < ../../scripts/demo.txt) > $$answers && python3 tools/transcript.py scripts/demo.txt $$answers; status=$$?; rm -f $$answers; exit $$status
@@ -46,3 +47,7 @@ audit-demo:
 
 bench:
 	@sh tools/bench.sh
+
+load: kapi
+	@cd crates/kapi_bench && rt run > /dev/null
+	@python3 tools/load.py $(PROGRAM) crates/kapi_bench/out/kapi_bench

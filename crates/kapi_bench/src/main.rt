@@ -10,9 +10,11 @@
 //! - `turns`: turns of aggregated cluster roles
 //! - `watches`: events of watches
 //! - `audit`: questions of an audit, and steps that are published
+//! - `echo`: a port that answers each read with the same bytes
 #![tactic(auto)]
 
 mod audit;
+mod echo;
 mod guard;
 mod http;
 mod index;
@@ -42,7 +44,7 @@ fn run_named(rt: &HostRuntime, name: &str, words: &[String]) -> anyhow::Result<(
         "turns" => turns::run(rt, words),
         "watches" => watches::run(rt, words),
         _ => anyhow::bail!(
-            "{name} is no benchmark: store, http, info, rules, guard, index, requests, turns, watches and audit are"
+            "{name} is no benchmark: store, http, info, rules, guard, index, requests, turns, watches, audit and echo are"
         ),
     }
 }
@@ -52,6 +54,7 @@ fn main(rt: HostRuntime) -> anyhow::Result<()> {
     match words.as_slice() {
         [] => Ok(()),
         [name, rest @ ..] if name.as_str() == "audit" => audit::run(&rt, rest),
+        [name, rest @ ..] if name.as_str() == "echo" => echo::run(&rt, rest),
         [name, rest @ ..] => run_named(&rt, name.as_str(), rest),
     }
 }

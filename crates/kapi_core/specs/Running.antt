@@ -1,5 +1,9 @@
 -- What contracts see of a running machine.
-use Rattle.std.specs.Prelude.{ℕ, List}
+use Rattle.std.specs.Prelude.{ℕ, List, Bool, Option, Some, None, is_some}
+use Rattle.std.specs.Map.{lookup}
+use Rattle.std.specs.Ordering.{nat_cmp}
+use Rattle.std.specs.BTreeMap.{is_at}
+use Rattle.kapi_answer.specs.declared.watch.Watching.{Watching}
 use Rattle.kapi_policy.specs.Objects.{PolicyObjects}
 use Rattle.kapi_store.specs.State.{State}
 use Rattle.kapi_core.specs.declared.connection.Connection.{Connection}
@@ -12,3 +16,12 @@ pub record Running : Type 0 where
   pub marks : List (List ℕ)
   pub connections : List (ℕ × Connection)
   pub next_id : ℕ
+
+-- the watch of a connection, if there is one
+abbrev pub watch_of : Option Connection → Option Watching
+watch_of (Some c) = c.watching
+watch_of None = None
+
+-- whether a watch of the connection of a number runs
+abbrev pub watches : Running → ℕ → Bool
+watches m id = is_some (watch_of (lookup (is_at (nat_cmp id)) m.connections))

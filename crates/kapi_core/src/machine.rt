@@ -3,6 +3,7 @@ ghost use Rattle.std.specs.BTreeMap.{is_at};
 ghost use Rattle.std.specs.Map.{remove_entry};
 ghost use Rattle.std.specs.Ordering.{nat_cmp};
 ghost use Rattle.kapi_core.specs.Machine.{is_last};
+ghost use Rattle.kapi_core.specs.Running.{watches};
 ghost use Rattle.kapi_core.specs.Opening.{opening};
 ghost use Rattle.kapi_core.specs.Table.{fits};
 ghost use Rattle.kapi_core.specs.Stands.{HasOpened};
@@ -238,6 +239,16 @@ impl<P: Policy + Drop> Core<P> {
             close: closes(reply.after),
             policy_changes: Sequence::new(Vec::new(self.alloc)),
         }))
+    }
+
+    /// Whether a watch of a connection runs, so that a pump may show something. Takes no memory.
+    pub fn is_watching(&self, conn: ConnId) -> bool
+        ensures { result ≡ watches self.now conn.0 }
+    {
+        match self.connections.get(&conn.0) {
+            Some(connection) => connection.watching.is_some(),
+            None => false,
+        }
     }
 
     /// Makes the controller's next write: the aggregated cluster role of least name whose rules are not its union gets that as its

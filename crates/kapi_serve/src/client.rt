@@ -40,12 +40,19 @@ pub struct Client {
     pub(crate) phase: Phase,
     /// Bytes came since the machine last found no request.
     pub(crate) fed: bool,
+    /// A watch of it runs.
+    pub(crate) watching: bool,
     /// The slot takes no bytes until it tells so.
     pub(crate) blocked: bool,
     pub(crate) pending: Pending,
 }
 
 impl Client {
+    /// Whether nothing can be done before its slot tells something.
+    pub(crate) fn is_quiet(&self) -> bool {
+        self.phase == Phase::Open && !self.fed && !self.watching && self.pending.is_empty()
+    }
+
     /// Writes pending bytes until the slot takes no more.
     pub(crate) fn flush<R: Wait, Q: Ports>(&mut self, rt: &R, ports: &mut Q) -> Flushed {
         let mut flushed = Flushed::Nothing;
@@ -110,6 +117,7 @@ impl Client {
         }
         match core.serve(self.id) {
             Ok(Some(output)) => {
+                self.watching = core.is_watching(self.id);
                 self.send(rt, desk, publishing, output);
                 true
             }
@@ -132,12 +140,16 @@ impl Client {
     ) -> bool
         ensures { Goes core.old core.new desk.old desk.new publishing.old.kept publishing.new.kept }
     {
+        if !self.watching {
+            return false;
+        }
         if !self.is_ready(publishing, desk) {
             return false;
         }
         match core.pump(self.id) {
             Ok(Some(output)) => {
                 self.fed = true;
+                self.watching = core.is_watching(self.id);
                 self.send(rt, desk, publishing, output);
                 true
             }

@@ -1,4 +1,4 @@
-ghost use Rattle.std.specs.Prelude.{◌≡◌, ◌<◌, ◌+◌, IfSome, length, vec_len, vec_capacity};
+ghost use Rattle.std.specs.Prelude.{◌≡◌, ◌<◌, ◌≤◌, ◌+◌, IfSome, length, vec_len, vec_capacity};
 ghost use Rattle.kapi_serve.specs.Goes.{Moves};
 
 use crate::client::{Client, Phase};
@@ -40,6 +40,21 @@ impl Clients {
         self.list.len()
     }
 
+    /// How many of the last so many connections there are from the first on at which something may be done.
+    pub(crate) fn awake(&self, last: usize) -> usize
+        requires { last ≤ length self.now.list.items }
+        ensures { result ≤ last }
+    {
+        let begin = self.list.len() - last;
+        match self.list[begin..]
+            .iter()
+            .position(|client| !client.is_quiet())
+        {
+            Some(passed) => last - passed,
+            None => 0,
+        }
+    }
+
     /// Opens a connection for a client; its slot is ended where there is no room for it.
     pub(crate) fn open<P: Policy + Drop, Q: Ports>(
         &mut self,
@@ -68,6 +83,7 @@ impl Clients {
             id,
             phase: Phase::Open,
             fed: false,
+            watching: false,
             blocked: false,
             pending: Pending::new(self.alloc),
         });

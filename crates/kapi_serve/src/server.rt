@@ -119,7 +119,7 @@ impl Server {
         }
     }
 
-    /// Goes over the connections once. Whether anything was done.
+    /// Goes once over the connections at which something may be done. Whether anything was.
     fn round<R: Wait, P: Policy + Drop, Q: Ports>(
         &mut self,
         rt: &R,
@@ -130,11 +130,11 @@ impl Server {
         ensures { Goes core.old core.new desk.old desk.new self.old.publishing.kept self.new.publishing.kept }
     {
         let mut done = self.publishing.make_turns(rt, core, desk);
-        let mut left = self.clients.len();
+        let mut left = self.clients.awake(self.clients.len());
         while left > 0 {
-            left -= 1;
-            let index = self.clients.len() - 1 - left;
+            let index = self.clients.len() - left;
             done |= self.visit(rt, core, desk, ports, index);
+            left = self.clients.awake(left - 1);
         }
         done
     }

@@ -1,6 +1,9 @@
 use Rattle.kapi_serve.proofs.Going.{goes_nothing, goes_sent, goes_moving, goes_out, moves_unsent}
 use Rattle.kapi_serve.proofs.client.Client.pump.Goals as goal
 
+pub returns-then-not-self : goal.returns-then-not-self
+returns-then-not-self g c = goes_nothing _ _ _
+
 pub returns-then-not-is_ready : goal.returns-then-not-is_ready
 returns-then-not-is_ready g c = goes_nothing _ _ _
 
