@@ -4,6 +4,7 @@
 # make serve     proves and builds the program, and starts it as a server on 127.0.0.1: port 8001 for root, port 8002 for ann
 # make serve-demo starts the same server for ten minutes and proves nothing first
 # make growths   plays each script of the folder SCRIPTS with every growth of memory refused in turn (wants cc and python3)
+# make live      changes the policy of a server while two clients ask what it allows, and looks at what they are told (wants python3)
 # make statuses  the program's exit statuses, and what it writes on standard error
 # make edits     tries the edits of crates/NAME/edits, which the gate does not, of all crates or of those that CRATES names; takes hours for all
 # make audit-demo  answers a stored file of questions by a stored policy; it proves nothing
@@ -13,7 +14,7 @@
 SCRIPTS ?= scripts
 PROGRAM = crates/kapi/out/kapi
 
-.PHONY: audit-demo demo test kapi serve serve-demo edits growths statuses bench load
+.PHONY: audit-demo demo test kapi serve serve-demo edits growths live statuses bench load
 
 demo:
 	@answers=$$(mktemp) && (cd crates/kapi && rt try -- script < ../../scripts/demo.txt) > $$answers && python3 tools/transcript.py scripts/demo.txt $$answers; status=$$?; rm -f $$answers; exit $$status
@@ -38,6 +39,9 @@ serve-demo:
 growths: kapi
 	@cc -shared -fPIC -O2 -o crates/kapi/out/refuse.so tools/refuse.c -ldl
 	@python3 tools/growths.py $(PROGRAM) crates/kapi/out/refuse.so $(SCRIPTS)
+
+live: kapi
+	@python3 tools/live.py $(PROGRAM)
 
 statuses: kapi
 	@sh tools/statuses.sh $(PROGRAM)

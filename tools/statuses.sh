@@ -1,5 +1,5 @@
 #!/bin/sh
-# The program's exit statuses, and what it writes on standard error; what audits of the stored files print. usage: statuses.sh PROGRAM
+# The program's exit statuses, and what it writes on standard error, servers that do not start among them; what audits of the stored files print. usage: statuses.sh PROGRAM
 program=$1
 stored=$(dirname "$0")/../scripts/audit
 room=$(mktemp -d)
@@ -75,5 +75,24 @@ sees 'a policy that is not there' 1 "$error"
 for words in '--readers 0' '--readers 17' '--readers x' 'third'; do
     audits "$room/empty" "$room/empty" $words
     sees "an audit with $words" 2 "$error"
+done
+
+# serves WORD..: the status and standard error of a server that does not start
+serves() {
+    error=$(timeout 20 "$program" serve "$@" 2>&1 >/dev/null </dev/null); status=$?
+}
+
+serves --load "$room/none" 1=a
+sees 'objects that are not there' 1 "$error"
+[ -n "$error" ] || { echo 'objects that are not there: nothing on standard error'; wrong=1; }
+serves --load "$room/bad" 1=a
+sees 'a bad line of objects' 1 'load line 3'
+serves 60001=a 60001=b
+sees 'a port that is not to be had' 3 'cannot listen 60001'
+serves --answer 60001 60001=a
+sees 'a port for questions that is not to be had' 3 'cannot listen 60001'
+for word in 8001 0=a 65536=a 8001= =a 8001=a,; do
+    serves $word
+    sees "a server of $word" 2 "$error"
 done
 exit $wrong

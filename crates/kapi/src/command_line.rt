@@ -1,3 +1,5 @@
+ghost use Rattle.std.specs.Prelude.{◌≤◌, IfSome};
+
 use crate::program::{AuditFiles, Command, CommandFault, Listen, ServeOptions};
 use clap::error::ErrorKind;
 use clap::{Arg, ArgMatches, Command as Program, value_parser};
@@ -36,26 +38,40 @@ fn audit_files(alloc: Global, words: &ArgMatches<'_>) -> Result<AuditFiles, Comm
     else {
         return Err(CommandFault::Words);
     };
-    match words.get_one::<usize>("readers") {
-        Some(readers) if 1 <= readers && readers <= READERS => Ok(AuditFiles {
+    match number_of_readers(words) {
+        Some(readers) => Ok(AuditFiles {
             policy: String::from_str(alloc, policy)?,
             questions: String::from_str(alloc, questions)?,
             readers,
         }),
-        _ => Err(CommandFault::Words),
+        None => Err(CommandFault::Words),
+    }
+}
+
+/// The number behind `--readers`, where it is 1 to 16.
+fn number_of_readers(words: &ArgMatches<'_>) -> Option<usize>
+    ensures { IfSome result (λ n. (1 ≤ n) × (n ≤ 16)) }
+{
+    match words.get_one::<usize>("readers") {
+        Some(readers) if 1 <= readers && readers <= READERS => Some(readers),
+        _ => None,
     }
 }
 
 /// So many ports are served at most.
 const PORTS: usize = 16;
 
-/// The file and the ports that the words behind `serve` tell.
+/// The file, the ports and the number of readers that the words behind `serve` tell.
 fn serve_options(alloc: Global, words: &ArgMatches<'_>) -> Result<ServeOptions, CommandFault> {
     let load = match words.get_str("load") {
         Some(file) => Some(String::from_str(alloc, file)?),
         None => None,
     };
-    let Some(words) = words.get_strs("LISTEN") else {
+    let answer = match words.get_str("answer") {
+        Some(digits) => Some(port(digits).ok_or(CommandFault::Words)?),
+        None => None,
+    };
+    let (Some(readers), Some(words)) = (number_of_readers(words), words.get_strs("LISTEN")) else {
         return Err(CommandFault::Words);
     };
     let Some(listens) = listens(alloc, words)? else {
@@ -64,7 +80,12 @@ fn serve_options(alloc: Global, words: &ArgMatches<'_>) -> Result<ServeOptions, 
     if listens.is_empty() || listens.len() > PORTS {
         return Err(CommandFault::Words);
     }
-    Ok(ServeOptions { load, listens })
+    Ok(ServeOptions {
+        load,
+        listens,
+        answer,
+        readers,
+    })
 }
 
 /// The port and the identity that each word tells; none where one is of another form.
@@ -144,6 +165,9 @@ const SERVE_FORMS: &str =
 
 FILE has one JSON object a line, namespaces first; empty lines and lines that begin with # are skipped. The first line is 1.
 
+With --answer, N threads answer questions while the server goes on, those of one client after the other: each line the spec of a
+SubjectAccessReview, as for kapi audit, and each answer behind the number of changes of the policy that it follows.
+
 Example:
   kapi serve --load objects.jsonl 8001=root,system:masters 8002=ann,dev
   curl -s 127.0.0.1:8001/api/v1/namespaces/default/configmaps -H 'Content-Type: application/json' \
@@ -155,6 +179,10 @@ fn serve<'a>(alloc: Global) -> Result<Program<'a>, Memory> {
         .long("load")
         .value_name("FILE")
         .help("The objects that stand at first");
+    let answer = Arg::new(alloc, "answer")
+        .long("answer")
+        .value_name("PORT")
+        .help("A port on which questions are answered");
     let listen = Arg::new(alloc, "LISTEN")
         .value_name("PORT=USER[,GROUP..]")
         .help("A port and who its clients are, 1 to 16 of them")
@@ -164,6 +192,8 @@ fn serve<'a>(alloc: Global) -> Result<Program<'a>, Memory> {
         .about("Serves requests on ports of this machine")
         .after_help(SERVE_FORMS)
         .arg(load)?
+        .arg(answer)?
+        .arg(readers(alloc))?
         .arg(listen)
 }
 

@@ -4,6 +4,7 @@
 
 ghost use Rattle.std.specs.Prelude.{◌≤◌};
 
+mod answering;
 mod command_line;
 mod program;
 mod serving;

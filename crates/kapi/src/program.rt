@@ -36,7 +36,12 @@ pub struct ServeOptions {
     pub load: Option<String>,
     /// 1 to 16, in the order of the words.
     pub listens: Vec<Listen>,
+    /// The port on which questions are answered, 1 to 65,535.
+    pub answer: Option<u16>,
+    /// The number of threads that answer them.
+    pub readers: usize,
     ghost few: { (1 ≤ vec_len listens) × (vec_len listens ≤ 16) },
+    ghost threads: { (1 ≤ readers) × (readers ≤ 16) },
 }
 
 /// A port of 127.0.0.1, and who each of its clients is.
@@ -50,7 +55,7 @@ pub struct Listen {
 /// Why a command line was not understood.
 #[derive(Clone, Copy, Debug, PartialEq, Eq, Error)]
 pub enum CommandFault {
-    #[error("usage: kapi script, kapi audit POLICY QUESTIONS [--readers N], N from 1 to 16, or kapi serve [--load FILE] PORT=USER[,GROUP..]..")]
+    #[error("usage: kapi script, kapi audit POLICY QUESTIONS [--readers N], N from 1 to 16, or kapi serve [--load FILE] [--answer PORT] [--readers N] PORT=USER[,GROUP..]..")]
     Words,
     #[error("out of memory")]
     Memory,

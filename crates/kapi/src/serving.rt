@@ -1,13 +1,16 @@
-ghost use Rattle.std.specs.Prelude.{◌≡◌, []};
+ghost use Rattle.std.specs.Prelude.{◌≡◌, ◌≤◌, []};
 
+use crate::answering::start_readers;
 use crate::program::{Listen, ServeOptions};
+use kapi_desk::Seat;
 use kapi_serve::{Sockets, Started, serve_loop, start};
 use kapi_text::TryCopy;
 use std::fs::{self, Files};
 use std::io;
-use std::net::Net;
+use std::net::{Ipv4Addr, Net, SocketAddr, TcpListener, TcpStream};
 use std::process::ExitCode;
 use std::sync::Wait;
+use std::thread::Threads;
 
 /// What came of listening.
 #[derive(Drop)]
@@ -19,10 +22,15 @@ enum Listening {
 
 /// Serves the ports for as long as clients can be waited for. Status 1 where the file cannot be loaded, 3 where a port cannot be
 /// listened on, 4 where the wait fails.
-pub fn run_serve<R: Files + Print + Eprint + AllocGlobal + Wait + Net>(
-    rt: &R,
-    options: &ServeOptions,
-) -> io::Result<ExitCode> {
+pub fn run_serve<
+    R: Files
+        + Print
+        + Eprint
+        + AllocGlobal
+        + Wait
+        + Threads
+        + Net<Listener = TcpListener, Stream = TcpStream>,
+>(rt: &R, options: &ServeOptions) -> io::Result<ExitCode> {
     let objects = match &options.load {
         Some(file) => match fs::read(rt, file.as_str()) {
             Ok(objects) => objects,
@@ -33,8 +41,12 @@ pub fn run_serve<R: Files + Print + Eprint + AllocGlobal + Wait + Net>(
         },
         None => Vec::new(rt.alloc()),
     };
-    match start(rt.alloc(), rt, objects.as_slice(), 1) {
-        Ok(started) => serve_ports(rt, started, options.listens.as_slice()),
+    let seats = match options.answer {
+        Some(_port) => options.readers,
+        None => 1,
+    };
+    match start(rt.alloc(), rt, objects.as_slice(), seats) {
+        Ok(started) => serve_ports(rt, started, options),
         Err(fault) => {
             eprintln!(rt; "{fault}")?;
             Ok(ExitCode::from(1))
@@ -43,11 +55,14 @@ pub fn run_serve<R: Files + Print + Eprint + AllocGlobal + Wait + Net>(
 }
 
 /// Listens on each port and serves its clients; the desk is closed at the end.
-fn serve_ports<R: Print + Eprint + AllocGlobal + Wait + Net>(
-    rt: &R,
-    started: Started,
-    listens: &[Listen],
-) -> io::Result<ExitCode>
+fn serve_ports<
+    R: Print
+        + Eprint
+        + AllocGlobal
+        + Wait
+        + Threads
+        + Net<Listener = TcpListener, Stream = TcpStream>,
+>(rt: &R, started: Started, options: &ServeOptions) -> io::Result<ExitCode>
     requires { started.desk.waiting ≡ [] }
 {
     let Started {
@@ -55,7 +70,7 @@ fn serve_ports<R: Print + Eprint + AllocGlobal + Wait + Net>(
         mut desk,
         seats,
     } = started;
-    let status = match listen(rt, listens) {
+    let status = match listen_all(rt, options, seats) {
         Ok(Listening::On(mut sockets)) => {
             serve_loop(rt, &mut core, &mut desk, &mut sockets);
             Ok(ExitCode::from(4))
@@ -63,9 +78,31 @@ fn serve_ports<R: Print + Eprint + AllocGlobal + Wait + Net>(
         Ok(Listening::Refused(port)) => refuse(rt, port),
         Err(error) => Err(error),
     };
-    drop(seats);
     drop(desk.close(rt));
     status
+}
+
+/// Listens on the ports, and then on the one for questions, which readers answer from the seats.
+fn listen_all<R: Print + AllocGlobal + Threads + Net<Listener = TcpListener, Stream = TcpStream>>(
+    rt: &R,
+    options: &ServeOptions,
+    seats: Vec<Seat>,
+) -> io::Result<Listening> {
+    let sockets = match listen(rt, options.listens.as_slice())? {
+        Listening::On(sockets) => sockets,
+        Listening::Refused(port) => return Ok(Listening::Refused(port)),
+    };
+    let Some(port) = options.answer else {
+        return Ok(Listening::On(sockets));
+    };
+    match TcpListener::bind(rt, SocketAddr::from((Ipv4Addr::LOCALHOST, port))) {
+        Ok(listener) => {
+            start_readers(rt, rt.alloc(), &listener, seats)?;
+            println!(rt; "listening {port}")?;
+            Ok(Listening::On(sockets))
+        }
+        Err(_error) => Ok(Listening::Refused(port)),
+    }
 }
 
 /// Listens on the ports in their order and tells each.

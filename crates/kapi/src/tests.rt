@@ -76,6 +76,10 @@ fn serve_words(alloc: Global, words: &[&str]) -> Result<String, Fail> {
         let groups = listen.identity.groups.as_slice().len();
         told.push_str(format!(in alloc; " {port} {user} {groups}")?.as_str())?;
     }
+    if let Some(port) = options.answer {
+        let readers = options.readers;
+        told.push_str(format!(in alloc; " answers {port} by {readers}")?.as_str())?;
+    }
     Ok(told)
 }
 
@@ -97,7 +101,31 @@ fn reads_the_words_of_a_server(rt: HostRuntime) -> Result<(), Fail> {
         .as_str(),
         "f 8001 root 0 65535 a=b 2"
     );
+    assert_eq!(rt;
+        serve_words(
+            alloc,
+            &[
+                "kapi",
+                "serve",
+                "--answer",
+                "8100",
+                "--readers",
+                "16",
+                "1=a"
+            ]
+        )?
+        .as_str(),
+        " 1 a 0 answers 8100 by 16"
+    );
     assert!(rt; is_refused(alloc, &["kapi", "serve"]));
+    for words in [
+        ["--answer", "0"],
+        ["--answer", "+1"],
+        ["--readers", "0"],
+        ["--readers", "17"],
+    ] {
+        assert!(rt; is_refused(alloc, &["kapi", "serve", words[0], words[1], "1=a"]));
+    }
     for word in [
         "8001",
         "=root",

@@ -6,3 +6,4 @@ pub mod Published
 pub mod Loaded
 pub mod Seats
 pub mod Audited
+pub mod Telling

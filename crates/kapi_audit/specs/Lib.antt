@@ -5,3 +5,5 @@ pub mod Questions
 pub mod Answers
 pub mod Sharing
 pub mod Readers
+pub mod Reports
+pub mod Reading

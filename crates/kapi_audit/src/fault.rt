@@ -42,3 +42,20 @@ impl From<SeatError> for AuditFault {
         }
     }
 }
+
+/// Why a client's questions were not answered to their end. The answers before it are written.
+#[derive(Clone, Copy, Debug, PartialEq, Eq, Error)]
+pub enum AnswerFault {
+    #[error("the questions cannot be read")]
+    Read,
+    #[error("the answers cannot be written")]
+    Write,
+    #[error("out of memory")]
+    Memory,
+}
+
+impl From<Memory> for AnswerFault {
+    fn from(_error: Memory) -> AnswerFault {
+        AnswerFault::Memory
+    }
+}

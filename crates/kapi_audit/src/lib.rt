@@ -1,7 +1,9 @@
-//! Audits: a policy as a file of objects, questions as a file of reviews, and the answers that reader threads give to them.
+//! Audits: a policy as a file of objects, questions as a file of reviews, and the answers that reader threads give to them. And questions of a
+//! client, answered from a seat while a desk goes on publishing.
 #![tactic(auto)]
 
 mod answer_text;
+mod answering;
 mod audit;
 mod fault;
 mod gate;
@@ -10,8 +12,10 @@ mod line;
 mod publishing;
 mod question;
 mod reader;
+mod report;
 mod threads;
 
+pub use answering::answer_run;
 pub use audit::{READERS, audit_run};
-pub use fault::AuditFault;
+pub use fault::{AnswerFault, AuditFault};
 pub use gate::{Gate, NoGate};

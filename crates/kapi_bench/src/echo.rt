@@ -14,7 +14,7 @@ use std::sync::Wait;
 const READ_SIZE: usize = 65_536;
 
 const REPLY: &[u8] =
-    b"HTTP/1.1 200 OK\r\nContent-Type: application/json\r\nContent-Length: 277\r\n\r\n{\"apiVersion\":\"v1\",\"data\":{\"key\":\"xxxxxxxxxxxxxxxxxxxxxxxxxxxxxxxxxxxxxxxxxxxxxxxxxxxxxxxxxxxxxxxxxxxxxxxxxxxxxxxxxxxxxxxxxxxxxxxxxxxx\"},\"kind\":\"ConfigMap\",\"metadata\":{\"name\":\"map-0\",\"namespace\":\"default\",\"resourceVersion\":\"14\",\"uid\":\"00000000-0000-4000-8000-00000000000e\"}}";
+    b"HTTP/1.1 200 OK\r\nContent-Type: application/json\r\nContent-Length: 274\r\n\r\n{\"apiVersion\":\"v1\",\"data\":{\"key\":\"xxxxxxxxxxxxxxxxxxxxxxxxxxxxxxxxxxxxxxxxxxxxxxxxxxxxxxxxxxxxxxxxxxxxxxxxxxxxxxxxxxxxxxxxxxxxxxxxxxxx\"},\"kind\":\"ConfigMap\",\"metadata\":{\"name\":\"map-0\",\"namespace\":\"default\",\"resourceVersion\":\"14\",\"uid\":\"00000000-0000-4000-8000-00000000000e\"}}";
 
 /// Listens on the port and answers.
 pub fn run<R: Print + AllocGlobal + Wait + Net>(rt: &R, words: &[String]) -> anyhow::Result<()> {

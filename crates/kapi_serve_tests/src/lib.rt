@@ -1,6 +1,8 @@
-//! Tests of the server's loop: over ports in memory, and over sockets of this machine.
+//! Tests of the server's loop, over ports in memory and over sockets of this machine, and of the answers to a client's questions.
 #![tactic(auto)]
 
+#[cfg(test)]
+mod answers;
 #[cfg(test)]
 mod fixture;
 #[cfg(test)]

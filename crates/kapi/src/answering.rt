@@ -1,0 +1,43 @@
+use kapi_audit::answer_run;
+use kapi_desk::Seat;
+use std::alloc::Global;
+use std::io::{self, BufWriter, ErrorKind};
+use std::net::{TcpListener, TcpStream};
+use std::thread;
+use std::thread::Threads;
+
+/// Starts a thread for each seat. It takes the clients of the listener one after the other and answers their questions; what goes wrong with one
+/// ends that one alone. The threads end with the program.
+pub fn start_readers<R: Threads>(
+    rt: &R,
+    alloc: Global,
+    listener: &TcpListener,
+    seats: Vec<Seat>,
+) -> io::Result<()> {
+    for seat in seats {
+        let listener = listener.try_clone()?;
+        if thread::spawn(rt, move || answer_clients(alloc, listener, seat)).is_err() {
+            return Err(io::Error::from(ErrorKind::OutOfMemory));
+        }
+    }
+    Ok(())
+}
+
+/// Answers the clients of a listener.
+fn answer_clients(alloc: Global, listener: TcpListener, seat: Seat) {
+    let mut seat = seat;
+    for stream in listener.incoming() {
+        if let Ok(stream) = stream {
+            let _ended = answer_client(alloc, &mut seat, &stream);
+        }
+    }
+}
+
+/// Answers a client to the end of his lines.
+fn answer_client(alloc: Global, seat: &mut Seat, stream: &TcpStream) -> io::Result<()> {
+    stream.set_nodelay(true)?;
+    let mut reader = stream;
+    let mut writer = BufWriter::new(alloc, stream)?;
+    let _fault = answer_run(alloc, seat, &mut reader, &mut writer);
+    Ok(())
+}

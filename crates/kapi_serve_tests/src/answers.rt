@@ -1,0 +1,140 @@
+ghost use Rattle.std.specs.Prelude.{◌≡◌, []};
+
+use kapi_audit::{AnswerFault, answer_run};
+use kapi_desk::{Desk, Seat};
+use kapi_policy::{NamespacedName, PolicyChange, PolicyKey};
+use kapi_serve::{Started, start};
+use kapi_text::Text;
+use std::alloc::{AllocError, Global};
+use std::io::{self, Read, Write};
+use std::slice;
+use std::sync::Wait;
+use std::test::Fail;
+
+/// Ann may get pods in `default`: two changes of the policy.
+const OBJECTS: &str =
+    r#"{"apiVersion":"rbac.authorization.k8s.io/v1","kind":"Role","metadata":{"name":"r","namespace":"default"},"rules":[{"apiGroups":[""],"resources":["pods"],"verbs":["get"]}]}
+{"apiVersion":"rbac.authorization.k8s.io/v1","kind":"RoleBinding","metadata":{"name":"b","namespace":"default"},"roleRef":{"kind":"Role","name":"r"},"subjects":[{"kind":"User","name":"ann"}]}
+"#;
+
+/// Of ann and of bob, a comment, an empty line, what is no question, and of a master in a line without its end.
+const QUESTIONS: &str =
+    r#"{"user":"ann","resourceAttributes":{"namespace":"default","verb":"get","resource":"pods"}}
+{"user":"bob","resourceAttributes":{"namespace":"default","verb":"get","resource":"pods"}}
+# a comment
+
+odd
+{"user":"root","groups":["system:masters"],"nonResourceAttributes":{"verb":"get","path":"/x"}}"#;
+
+/// Gives and takes nothing.
+#[derive(Drop)]
+struct Broken;
+
+impl Read for Broken {
+    fn read(&mut self, _buffer: &mut [u8]) -> io::Result<usize> {
+        Err(io::Error::from(io::ErrorKind::BrokenPipe))
+    }
+}
+
+impl Write for Broken {
+    fn write(&mut self, _bytes: &[u8]) -> io::Result<usize> {
+        Err(io::Error::from(io::ErrorKind::BrokenPipe))
+    }
+
+    fn flush(&mut self) -> io::Result<()> {
+        Ok(())
+    }
+}
+
+/// What a seat tells of questions.
+fn told(alloc: Global, seat: &mut Seat, questions: &str) -> Result<String, Fail> {
+    let mut reader = questions.as_bytes();
+    let mut writer = Vec::new(alloc);
+    answer_run(alloc, seat, &mut reader, &mut writer)?;
+    match String::from_utf8(writer) {
+        Ok(text) => Ok(text),
+        Err(_) => Err(Fail::new("no text")),
+    }
+}
+
+/// Deletes the binding `b`.
+fn binding_is_deleted(alloc: Global) -> Result<PolicyChange, AllocError> {
+    Ok(PolicyChange::Delete(PolicyKey::RoleBinding(NamespacedName {
+        namespace: Text::copy_of(alloc, "default")?,
+        name: Text::copy_of(alloc, "b")?,
+    })))
+}
+
+/// Publishes the deletion of the binding `b`. How many changes are published then.
+fn publish_deletion<R: Wait>(rt: &R, alloc: Global, desk: &mut Desk) -> Result<u64, Fail>
+    requires { desk.old.waiting ≡ [] }
+{
+    let deleted = binding_is_deleted(alloc)?;
+    match desk.publish(rt, slice::from_ref(&deleted)) {
+        Ok(count) => Ok(count),
+        Err(_refused) => Err(Fail::new("not published")),
+    }
+}
+
+/// What is told before and after the deletion.
+fn told_twice<R: Wait>(
+    rt: &R,
+    alloc: Global,
+    desk: &mut Desk,
+    seat: &mut Seat,
+) -> Result<String, Fail>
+    requires { desk.old.waiting ≡ [] }
+{
+    let mut said = told(alloc, seat, QUESTIONS)?;
+    publish_deletion(rt, alloc, desk)?;
+    let later = told(alloc, seat, QUESTIONS)?;
+    said.push_str(later.as_str())?;
+    Ok(said)
+}
+
+#[test]
+fn questions_are_answered_by_what_is_published_then(rt: HostRuntime) -> Result<(), Fail> {
+    let alloc = rt.alloc();
+    let Started {
+        core,
+        mut desk,
+        mut seats,
+    } = start(alloc, &rt, OBJECTS.as_bytes(), 1)?;
+    drop(core);
+    let said = match seats.get_mut(0) {
+        Some(seat) => told_twice(&rt, alloc, &mut desk, seat),
+        None => Err(Fail::new("no seat")),
+    };
+    drop(desk.close(&rt));
+    assert_eq!(rt;
+        said?.as_str(),
+        "2 allowed RoleBinding b, Role r, rule 0\n2 denied\nbad\n2 allowed group system:masters\n3 denied\n3 denied\nbad\n3 allowed group system:masters\n"
+    );
+    Ok(())
+}
+
+#[test]
+fn a_client_that_breaks_is_told(rt: HostRuntime) -> Result<(), Fail> {
+    let alloc = rt.alloc();
+    let Started {
+        core,
+        desk,
+        mut seats,
+    } = start(alloc, &rt, b"", 1)?;
+    drop(core);
+    drop(desk.close(&rt));
+    let Some(seat) = seats.get_mut(0) else {
+        return Err(Fail::new("no seat"));
+    };
+    let closed = told(alloc, seat, QUESTIONS)?;
+    assert_eq!(rt;
+        closed.as_str(),
+        "error Busy\nerror Busy\nbad\nerror Busy\n"
+    );
+    let unread = answer_run(alloc, seat, &mut Broken, &mut Vec::new(alloc));
+    assert_eq!(rt; unread, Err(AnswerFault::Read));
+    let mut reader = QUESTIONS.as_bytes();
+    let unwritten = answer_run(alloc, seat, &mut reader, &mut Broken);
+    assert_eq!(rt; unwritten, Err(AnswerFault::Write));
+    Ok(())
+}
