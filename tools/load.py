@@ -92,8 +92,8 @@ def main():
     echo = subprocess.Popen([bench, "echo", str(ECHO)], stdout=subprocess.PIPE)
     echo.stdout.readline()
     with Server(program) as server:
-        print("a get, 8 connections:", rates(ANN, f"{MAPS}/map-0", 8))
-        print("the same bytes from an echo:", rates(ECHO, "/", 8))
+        for _pair in range(5):
+            print("a get, and the same bytes from an echo, 8 connections:", rates(ANN, f"{MAPS}/map-0", 8, 1), rates(ECHO, "/", 8, 1))
         print("a denied get, 10 bindings:", rates(ANN, "/api/v1/namespaces/default/secrets/a", 8))
     echo.kill()
     with Server(program, bindings=10_000) as server:
