@@ -1,6 +1,7 @@
 -- Pieces that are joined.
-use Rattle.std.proofs.Common.{◌≡◌, ℕ, ◌≤◌, List, [], ◌∷◌, ◌++◌, length, drop, sym, ap, ◌∙◌, append_assoc}
-use Rattle.std.proofs.lemmas.List.{append-nil, drop_all}
+use Rattle.std.proofs.Common.{◌≡◌, ℕ, ◌≤◌, List, [], ◌∷◌, ◌++◌, length, drop, take, min, ◌+◌, sym, ap, ◌∙◌, append_assoc, arith, inl, inr}
+use Rattle.std.proofs.lemmas.Bool.{cases_lt}
+use Rattle.std.proofs.lemmas.List.{append-nil, drop-drop, drop_all, length-drop, take-append-drop}
 use Rattle.kapi_serve.specs.Pieces.{joined}
 
 -- a piece more
@@ -19,3 +20,20 @@ owed_none head pieces empty none = (λ j. empty j ++ joined (none j))
 -- the next piece takes the place of a head that has gone out
 pub owed_next : (head : List ℕ) (sent : ℕ) (piece : List ℕ) (old new : List (List ℕ)) → length head ≤ sent → old ≡ piece ∷ new → drop 0 piece ++ joined new ≡ drop sent head ++ joined old
 owed_next head sent piece old new out next = sym (λ j. drop_all sent head out j ++ joined (next j))
+
+-- some of the head has gone out
+taken : (xs : List ℕ) (sent count : ℕ) (rest : List ℕ) → drop sent xs ++ rest ≡ take count (drop sent xs) ++ (drop (sent + count) xs ++ rest)
+taken xs sent count rest = ap (λ ys. ys ++ rest) (sym (take-append-drop count (drop sent xs))) ∙ append_assoc (take count (drop sent xs)) (drop count (drop sent xs)) rest
+    ∙ ap (λ ys. take count (drop sent xs) ++ (ys ++ rest)) (drop-drop count sent xs)
+
+pub owed_pass : (head : List ℕ) (sent count next : ℕ) (rest : List ℕ) → count ≤ length (drop sent head) → next ≡ min (min (sent + count) 18446744073709551615) (length head)
+    → length head ≤ 18446744073709551615 → drop sent head ++ rest ≡ take count (drop sent head) ++ (drop next head ++ rest)
+owed_pass head sent count next rest few is bound = elim (cases_lt sent (length head)) [
+    inl below ↦
+        let same : sent + count ≡ next = omega (arith, length-drop sent head, few, is, bound, below) in
+        taken head sent count rest ∙ ap (λ n. take count (drop sent head) ++ (drop n head ++ rest)) same
+  | inr above ↦
+        let none : count ≡ 0 = omega (arith, length-drop sent head, few, above) in
+        let all : next ≡ length head = omega (arith, is, bound, above) in
+        ap (λ ys. ys ++ rest) (drop_all sent head above ∙ sym (drop_all next head (omega (arith, all)))) ∙ ap (λ n. take n (drop sent head) ++ (drop next head ++ rest)) (sym none)
+  ]

@@ -1,3 +1,10 @@
 pub mod Joining
 pub mod Showing
+pub mod Seating
+pub mod Placing
+pub mod Flows
+pub mod Seats
+pub mod Numbers
+pub mod Fares
+pub mod Accounting
 pub mod Going

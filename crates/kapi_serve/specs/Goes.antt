@@ -1,18 +1,22 @@
 -- What the server makes of the machine and of the desk.
-use Rattle.std.specs.Prelude.{◌≡◌, ◌≤◌, List, [], ◌∷◌, ◌++◌, length, Option}
+use Rattle.std.specs.Prelude.{◌≡◌, ℕ, ◌≤◌, List, [], ◌∷◌, ◌++◌, length, Option}
 use Rattle.kapi_policy.specs.declared.change.PolicyChange.{PolicyChange}
 use Rattle.kapi_core.specs.Machine.{Machine, after, answers}
 use Rattle.kapi_core.specs.Running.{Running}
-use Rattle.kapi_core.specs.Stands.{Stands}
-use Rattle.kapi_core.specs.declared.event.Event.{Event}
+use Rattle.kapi_core.specs.Stands.{Makes, Stands}
+use Rattle.kapi_core.specs.declared.event.Event.TheVariants as event
 use Rattle.kapi_core.specs.declared.event.Answer.{Answer}
 use Rattle.kapi_core.specs.declared.event.Answer.TheVariants as answer
 use Rattle.kapi_desk.specs.Boards.{Board}
+use Rattle.kapi_serve.specs.Account.{Account, Made}
+use Rattle.kapi_serve.specs.Acts.{Act, Follows, Seat, answers_of, entries_in, events_of, made_in}
 use Rattle.kapi_serve.specs.Shows.{Shows, step_of}
+use Rattle.kapi_serve.specs.declared.port.Entry.{Entry}
+use Rattle.kapi_serve.specs.declared.port.Entry.TheVariants as entry
 
--- the events were made on the machine, and these were their answers
-abbrev pub Runs : Running → Running → List Event → List Answer → Type 0
-Runs old new events told = (m : Machine) → Stands old m → (told ≡ answers m events) × Stands new (after m events)
+-- the events were made on the machine, and answered as they say
+abbrev pub Runs : Running → Running → List Made → Type 0
+Runs old new made = (m : Machine) → Stands old m → (answers_of made ≡ answers m (events_of made)) × Stands new (after m (events_of made))
 
 -- the step of an answer
 abbrev pub step_in : Answer → List (List PolicyChange)
@@ -25,27 +29,47 @@ unfoldable pub steps_in : List Answer → List (List PolicyChange)
 steps_in [] = []
 steps_in (a ∷ rest) = step_in a ++ steps_in rest
 
--- events that change no policy were made
-pub record Moves (old new : Running) : Type 0 where
-  pub events : List Event
-  pub told : List Answer
-  pub runs : Runs old new events told
-  pub quiet : steps_in told ≡ []
+-- so many clients stand in front of one
+abbrev pub IsAt : ℕ → List Seat → List Seat → Seat → List Seat → Type 0
+IsAt index seats front x back = (seats ≡ front ++ x ∷ back) × (length front ≡ index)
 
--- events were made, and their steps were put behind the others
-pub record Goes (old new : Running) (board next : Board) (p q : Option (List PolicyChange)) : Type 0 where
-  pub events : List Event
-  pub told : List Answer
-  pub runs : Runs old new events told
-  pub shows : Shows board next p q (steps_in told)
+-- bytes that a client was owed went out to him
+pub record Writes (x y : Seat) (tells : Type 0) (history next : List Entry) : Type 0 where
+  pub acts : List Act
+  pub idle : made_in acts ≡ []
+  pub follows : (front back : List Seat) → Follows (front ++ x ∷ back) acts (front ++ y ∷ back)
+  pub told : tells → next ≡ history ++ entries_in acts
+
+-- a client's connection was closed and his slot ended
+pub record Closes (old new : Running) (x : Seat) (tells : Type 0) (history next : List Entry) : Type 0 where
+  pub makes : Makes old new (event.Close x.conn) answer.Done
+  pub told : tells → next ≡ history ++ entry.Ended x.slot ∷ []
+
+-- acts whose events change no policy were made
+pub record Moves (old new : Running) (s t : List Seat) (tells : Type 0) (history next : List Entry) : Type 0 where
+  pub acts : List Act
+  pub runs : Runs old new (made_in acts)
+  pub quiet : steps_in (answers_of (made_in acts)) ≡ []
+  pub follows : Follows s acts t
+  pub told : tells → next ≡ history ++ entries_in acts
+
+-- acts were made, and the steps of their events were put behind the others
+pub record Goes (old new : Running) (board next : Board) (p q : Option (List PolicyChange)) (s t : List Seat) (tells : Type 0) (history later : List Entry) : Type 0 where
+  pub acts : List Act
+  pub runs : Runs old new (made_in acts)
+  pub shows : Shows board next p q (steps_in (answers_of (made_in acts)))
+  pub follows : Follows s acts t
+  pub told : tells → later ≡ history ++ entries_in acts
 
 -- what a server did: its events are one list, after which the machine is that of their run; the desk has published the steps of
--- their answers in order, all but at most the last
-pub record Serves (old new : Running) (board next : Board) : Type 0 where
-  pub events : List Event
-  pub told : List Answer
-  pub runs : Runs old new events told
+-- their answers in order, all but at most the last; and where the ports tell what they gave and took, that and the events are accounted for
+pub record Serves (old new : Running) (board next : Board) (tells : Type 0) (history later : List Entry) : Type 0 where
+  pub made : List Made
+  pub runs : Runs old new made
   pub opening : next.opening ≡ board.opening
   pub left : List (List PolicyChange)
-  pub published : next.list ++ left ≡ board.list ++ steps_in told
+  pub published : next.list ++ left ≡ board.list ++ steps_in (answers_of made)
   pub prompt : length left ≤ 1
+  pub entries : List Entry
+  pub told : tells → later ≡ history ++ entries
+  pub account : (m : Machine) → Stands old m → Account entries made

@@ -2,3 +2,6 @@ pub mod Ports
 pub mod Pieces
 pub mod Shows
 pub mod Goes
+pub mod Account
+pub mod Acts
+pub mod Clients

@@ -1,7 +1,11 @@
-ghost use Rattle.std.specs.Prelude.{◌≡◌, ◌<◌, [], None, true};
+ghost use Rattle.std.specs.Prelude.{◌≡◌, ◌<◌, List, [], ◌∷◌, ◌++◌, None, true, ⊤};
 ghost use Rattle.std.specs.VecDeque.{deque_len, deque_capacity};
-ghost use Rattle.kapi_serve.specs.Goes.{Goes, Moves};
+ghost use Rattle.kapi_serve.specs.Acts.{Seat};
+ghost use Rattle.kapi_serve.specs.Clients.{seat_of};
+ghost use Rattle.kapi_serve.specs.Goes.{Goes, Moves, Writes};
+ghost use Rattle.kapi_serve.specs.Pieces.{owed};
 ghost use Rattle.kapi_serve.specs.Shows.{Shows, step_of};
+ghost use Rattle.kapi_serve.specs.declared.port.Entry.{Entry as AnEntry};
 
 use crate::pending::Pending;
 use crate::port::{PortFault, Ports};
@@ -54,7 +58,9 @@ impl Client {
     }
 
     /// Writes pending bytes until the slot takes no more.
-    pub(crate) fn flush<R: Wait, Q: Ports>(&mut self, rt: &R, ports: &mut Q) -> Flushed {
+    pub(crate) fn flush<R: Wait, Q: Ports>(&mut self, rt: &R, ports: &mut Q) -> Flushed
+        ensures { Writes (seat_of self.old) (seat_of self.new) Q.tells (Q.history ports.old) (Q.history ports.new) }
+    {
         let mut flushed = Flushed::Nothing;
         for _ in rt.forever() {
             match self.write(ports) {
@@ -67,21 +73,30 @@ impl Client {
     }
 
     /// One write. One that takes no byte is as one that would block.
-    fn write<Q: Ports>(&mut self, ports: &mut Q) -> Flushed {
+    fn write<Q: Ports>(&mut self, ports: &mut Q) -> Flushed
+        ensures { Writes (seat_of self.old) (seat_of self.new) Q.tells (Q.history ports.old) (Q.history ports.new) }
+    {
         if self.blocked || self.pending.is_empty() {
             return Flushed::Nothing;
         }
+        self.pending.advance();
         match ports.write(self.slot, self.pending.next()) {
-            Ok(0) | Err(PortFault::WouldBlock) => {
-                self.blocked = true;
-                Flushed::Nothing
-            }
+            Ok(0) => self.block(),
             Ok(count) => {
                 self.pending.pass(count);
                 Flushed::Some
             }
+            Err(PortFault::WouldBlock) => self.block(),
             Err(PortFault::Failed) => Flushed::Failed,
         }
+    }
+
+    /// The slot takes no bytes now.
+    fn block(&mut self) -> Flushed
+        ensures { seat_of self.new ≡ seat_of self.old }
+    {
+        self.blocked = true;
+        Flushed::Nothing
     }
 
     /// Whether the machine may answer more, and there is room for the answer.
@@ -89,6 +104,7 @@ impl Client {
         ensures room { result ≡ true → deque_len self.new.pending.behind < deque_capacity self.new.pending.behind }
         ensures waiting { result ≡ true → desk.now.waiting ≡ [] }
         ensures kept { result ≡ true → publishing.now.kept ≡ None }
+        ensures seat { seat_of self.new ≡ seat_of self.old }
     {
         if self.phase == Phase::Closed || self.pending.is_full() {
             return false;
@@ -107,7 +123,7 @@ impl Client {
         desk: &mut Desk,
         publishing: &mut Publishing,
     ) -> bool
-        ensures { Goes core.old core.new desk.old desk.new publishing.old.kept publishing.new.kept }
+        ensures { (front back : List Seat) (h : List AnEntry) → Goes core.old core.new desk.old desk.new publishing.old.kept publishing.new.kept (front ++ seat_of self.old ∷ back) (front ++ seat_of self.new ∷ back) ⊤ h h }
     {
         if !self.fed {
             return false;
@@ -138,7 +154,7 @@ impl Client {
         desk: &mut Desk,
         publishing: &mut Publishing,
     ) -> bool
-        ensures { Goes core.old core.new desk.old desk.new publishing.old.kept publishing.new.kept }
+        ensures { (front back : List Seat) (h : List AnEntry) → Goes core.old core.new desk.old desk.new publishing.old.kept publishing.new.kept (front ++ seat_of self.old ∷ back) (front ++ seat_of self.new ∷ back) ⊤ h h }
     {
         if !self.watching {
             return false;
@@ -169,7 +185,10 @@ impl Client {
         requires room { deque_len self.old.pending.behind < deque_capacity self.old.pending.behind }
         requires waiting { desk.old.waiting ≡ [] }
         requires kept { publishing.old.kept ≡ None }
-        ensures { Shows desk.old desk.new publishing.old.kept publishing.new.kept (step_of output.policy_changes) }
+        ensures shows { Shows desk.old desk.new publishing.old.kept publishing.new.kept (step_of output.policy_changes) }
+        ensures slot { self.new.slot ≡ self.old.slot }
+        ensures id { self.new.id ≡ self.old.id }
+        ensures owed { owed self.new.pending ≡ owed self.old.pending ++ output.bytes }
     {
         let Output {
             bytes,
@@ -185,7 +204,7 @@ impl Client {
 
     /// Closes the connection where the client's bytes have ended.
     fn finish<P: Policy + Drop>(&mut self, core: &mut Core<P>)
-        ensures { Moves core.old core.new }
+        ensures { (front back : List Seat) (h : List AnEntry) → Moves core.old core.new (front ++ seat_of self.old ∷ back) (front ++ seat_of self.new ∷ back) ⊤ h h }
     {
         if self.phase == Phase::Ending {
             core.close(self.id);
@@ -193,8 +212,8 @@ impl Client {
         }
     }
 
-    /// Whether nothing is left to be done.
-    pub(crate) fn is_done(&self) -> bool {
-        self.phase == Phase::Closed && self.pending.is_empty()
+    /// Whether nothing is left to be done, or nothing can be after what came of writing.
+    pub(crate) fn is_over(&self, flushed: Flushed) -> bool {
+        flushed == Flushed::Failed || self.phase == Phase::Closed && self.pending.is_empty()
     }
 }

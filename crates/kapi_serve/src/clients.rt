@@ -1,5 +1,11 @@
-ghost use Rattle.std.specs.Prelude.{◌≡◌, ◌<◌, ◌≤◌, ◌+◌, IfSome, length, vec_len, vec_capacity};
-ghost use Rattle.kapi_serve.specs.Goes.{Moves};
+ghost use Rattle.std.specs.Prelude.{◌≡◌, ◌<◌, ◌≤◌, ◌+◌, List, [], ◌∷◌, ◌++◌, None, IfSome, ◌==◌, length, vec_len, vec_capacity, ⊤};
+ghost use Rattle.std.specs.List.{HoldsAt, position};
+ghost use Rattle.kapi_serve.specs.Acts.{IsFree, Seat};
+ghost use Rattle.kapi_serve.specs.Clients.{others, seats_of};
+ghost use Rattle.kapi_serve.specs.Goes.{Closes, IsAt, Moves};
+ghost use Rattle.kapi_serve.specs.declared.client.Phase.TheVariants as phase;
+ghost use Rattle.kapi_serve.specs.declared.port.Entry.{Entry as AnEntry};
+ghost use Rattle.kapi_serve.specs.declared.port.Entry.TheVariants as entry;
 
 use crate::client::{Client, Phase};
 use crate::pending::Pending;
@@ -26,7 +32,9 @@ pub(crate) enum Pulled {
 }
 
 impl Clients {
-    pub(crate) fn new(alloc: Global) -> Clients {
+    pub(crate) fn new(alloc: Global) -> Clients
+        ensures { seats_of result.list.items ≡ [] }
+    {
         Clients {
             alloc,
             list: Vec::new(alloc),
@@ -63,7 +71,7 @@ impl Clients {
         slot: usize,
         identity: Identity,
     )
-        ensures { Moves core.old core.new }
+        ensures { (h : List AnEntry) → (Q.tells → Q.history ports.old ≡ h ++ entry.Opened slot identity ∷ []) → Moves core.old core.new (seats_of self.old.list.items) (seats_of self.new.list.items) Q.tells h (Q.history ports.new) }
     {
         self.forget(core, slot);
         if self.list.reserve(1).is_err() {
@@ -77,6 +85,7 @@ impl Clients {
 
     fn add(&mut self, slot: usize, id: ConnId)
         requires { vec_len self.old.list < vec_capacity self.old.list }
+        ensures { seats_of self.new.list.items ≡ seats_of self.old.list.items ++ record { slot = slot; conn = id; owed = [] } ∷ [] }
     {
         self.list.push_reserved(Client {
             slot,
@@ -89,18 +98,28 @@ impl Clients {
         });
     }
 
-    /// The place of the connection on a slot, if there is one.
-    fn place(&self, slot: usize) -> Option<usize>
-        ensures { IfSome result (λ i. i < length self.now.list.items) }
+    /// The first connection on a slot, if there is one.
+    fn first_on(&self, slot: usize) -> Option<usize>
+        ensures { result ≡ position (λ client. client.slot == slot) self.now.list.items }
     {
         self.list.iter().position(|client| client.slot == slot)
     }
 
+    /// The place of the connection on a slot, if there is one.
+    fn place(&self, slot: usize) -> Option<usize>
+        ensures bound { IfSome result (λ i. i < length self.now.list.items) }
+        ensures found { IfSome result (λ i. (front : List Seat) × (x : Seat) × (back : List Seat) × IsAt i (seats_of self.now.list.items) front x back × (x.slot ≡ slot)) }
+        ensures free { result ≡ None → IsFree slot (seats_of self.now.list.items) }
+    {
+        self.first_on(slot)
+    }
+
     /// Closes the connection on a slot that is given to another client.
     fn forget<P: Policy + Drop>(&mut self, core: &mut Core<P>, slot: usize)
-        ensures { Moves core.old core.new }
+        ensures moves { (h : List AnEntry) → Moves core.old core.new (seats_of self.old.list.items) (seats_of self.new.list.items) ⊤ h h }
+        ensures free { IsFree slot (seats_of self.new.list.items) }
     {
-        if let Some(index) = self.place(slot) {
+        while let Some(index) = self.place(slot) {
             let client = self.list.remove(index);
             core.close(client.id);
         }
@@ -115,7 +134,8 @@ impl Clients {
     )
         requires { index < length self.old.list.items }
         ensures length { length self.new.list.items + 1 ≡ length self.old.list.items }
-        ensures moves { Moves core.old core.new }
+        ensures seats { (front : List Seat) (x : Seat) (back : List Seat) → IsAt index (seats_of self.old.list.items) front x back → seats_of self.new.list.items ≡ front ++ back }
+        ensures closes { (front : List Seat) (x : Seat) (back : List Seat) → IsAt index (seats_of self.old.list.items) front x back → Closes core.old core.new x Q.tells (Q.history ports.old) (Q.history ports.new) }
     {
         let client = self.list.remove(index);
         core.close(client.id);
@@ -123,16 +143,20 @@ impl Clients {
     }
 
     /// A slot takes bytes again.
-    pub(crate) fn unblock(&mut self, slot: usize) {
+    pub(crate) fn unblock(&mut self, slot: usize)
+        ensures { seats_of self.new.list.items ≡ seats_of self.old.list.items }
+    {
         if let Some(index) = self.place(slot) {
             self.list[index].blocked = false;
         }
     }
 
     /// Each slot may take bytes again.
-    pub(crate) fn unblock_all(&mut self) {
-        for client in self.list.iter_mut() {
-            client.blocked = false;
+    pub(crate) fn unblock_all(&mut self)
+        ensures { seats_of self.new.list.items ≡ seats_of self.old.list.items }
+    {
+        for index in 0..self.list.len() {
+            self.list[index].blocked = false;
         }
     }
 
@@ -144,7 +168,8 @@ impl Clients {
         slot: usize,
         buffer: &mut [u8],
     ) -> Pulled
-        ensures { Moves core.old core.new }
+        ensures moves { Moves core.old core.new (seats_of self.old.list.items) (seats_of self.new.list.items) Q.tells (Q.history ports.old) (Q.history ports.new) }
+        ensures others { others slot (seats_of self.new.list.items) ≡ others slot (seats_of self.old.list.items) }
     {
         let Some(index) = self.place(slot) else {
             return Pulled::Stopped;
@@ -169,6 +194,7 @@ impl Clients {
     /// The client's bytes have ended.
     fn reach_end(&mut self, index: usize)
         requires { index < length self.old.list.items }
+        ensures { seats_of self.new.list.items ≡ seats_of self.old.list.items }
     {
         let client = &mut self.list[index];
         client.phase = Phase::Ending;
@@ -183,8 +209,10 @@ impl Clients {
         index: usize,
         piece: &[u8],
     ) -> Pulled
-        requires { index < length self.old.list.items }
-        ensures { Moves core.old core.new }
+        requires bound { index < length self.old.list.items }
+        requires reading { HoldsAt (λ client. client.phase ≡ phase.Open) self.old.list.items index }
+        ensures others { (front : List Seat) (x : Seat) (back : List Seat) → IsAt index (seats_of self.old.list.items) front x back → others x.slot (seats_of self.new.list.items) ≡ others x.slot (seats_of self.old.list.items) }
+        ensures moves { (front : List Seat) (x : Seat) (back : List Seat) → IsAt index (seats_of self.old.list.items) front x back → (h : List AnEntry) → (Q.tells → Q.history ports.old ≡ h ++ entry.Gave x.slot piece.now ∷ []) → Moves core.old core.new (seats_of self.old.list.items) (seats_of self.new.list.items) Q.tells h (Q.history ports.new) }
     {
         match core.feed(self.list[index].id, piece) {
             Ok(()) => {

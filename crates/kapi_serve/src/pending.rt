@@ -1,4 +1,4 @@
-ghost use Rattle.std.specs.Prelude.{◌≡◌, ◌≤◌, ◌<◌, ◌++◌, [], drop, length, OnOk};
+ghost use Rattle.std.specs.Prelude.{◌≡◌, ◌≤◌, ◌<◌, ◌++◌, [], drop, take, length, OnOk};
 ghost use Rattle.std.specs.VecDeque.{deque_len, deque_capacity};
 ghost use Rattle.kapi_serve.specs.Pieces.{owed};
 
@@ -66,7 +66,7 @@ impl Pending {
 
     /// Lets the next bytes stand at the head, if the head has gone out.
     #[tactic(auto, using(crate::proofs::Joining::owed_next))]
-    fn advance(&mut self)
+    pub(crate) fn advance(&mut self)
         ensures { owed self.new ≡ owed self.old }
     {
         if self.sent < self.head.as_slice().len() {
@@ -78,9 +78,10 @@ impl Pending {
         }
     }
 
-    /// The bytes that go out next; empty only where none are pending.
-    pub(crate) fn next(&mut self) -> &[u8] {
-        self.advance();
+    /// What is left of the head.
+    pub(crate) fn next(&self) -> &[u8]
+        ensures { result.now ≡ drop self.now.sent self.now.head }
+    {
         match self.head.as_slice().get(self.sent..) {
             Some(bytes) => bytes,
             None => &[],
@@ -88,8 +89,13 @@ impl Pending {
     }
 
     /// So many of the next bytes have gone out.
-    pub(crate) fn pass(&mut self, count: usize) {
-        self.sent = self.sent.saturating_add(count);
+    #[tactic(auto, using(crate::proofs::Joining::owed_pass))]
+    pub(crate) fn pass(&mut self, count: usize)
+        requires { count ≤ length (drop self.old.sent self.old.head) }
+        ensures { owed self.old ≡ take count (drop self.old.sent self.old.head) ++ owed self.new }
+    {
+        let end = self.head.as_slice().len();
+        self.sent = self.sent.saturating_add(count).min(end);
         self.count = self.count.saturating_sub(count);
     }
 }

@@ -1,8 +1,10 @@
-ghost use Rattle.std.specs.Prelude.{◌≡◌, List, Option, [], ◌∷◌, None, true, false};
+ghost use Rattle.std.specs.Prelude.{◌≡◌, List, Option, [], ◌∷◌, None, true, false, ⊤};
 ghost use Rattle.kapi_policy.specs.declared.change.PolicyChange.{PolicyChange as AChange};
 ghost use Rattle.kapi_desk.specs.Steps.{AreDeletions, IsStep};
+ghost use Rattle.kapi_serve.specs.Acts.{Seat};
 ghost use Rattle.kapi_serve.specs.Goes.{Goes};
 ghost use Rattle.kapi_serve.specs.Shows.{Shows, Takes, step_of};
+ghost use Rattle.kapi_serve.specs.declared.port.Entry.{Entry as AnEntry};
 
 use kapi_core::Core;
 use kapi_desk::{Desk, PublishError};
@@ -105,7 +107,7 @@ impl Publishing {
         core: &mut Core<P>,
         desk: &mut Desk,
     ) -> bool
-        ensures { Goes core.old core.new desk.old desk.new self.old.kept self.new.kept }
+        ensures { (s : List Seat) (h : List AnEntry) → Goes core.old core.new desk.old desk.new self.old.kept self.new.kept s s ⊤ h h }
     {
         let mut made = false;
         for _ in 0..TURNS {
@@ -124,7 +126,7 @@ impl Publishing {
         core: &mut Core<P>,
         desk: &mut Desk,
     ) -> bool
-        ensures { Goes core.old core.new desk.old desk.new self.old.kept self.new.kept }
+        ensures { (s : List Seat) (h : List AnEntry) → Goes core.old core.new desk.old desk.new self.old.kept self.new.kept s s ⊤ h h }
     {
         if self.turns == 0 {
             return false;

@@ -1,6 +1,7 @@
-use Rattle.std.proofs.Common.{None}
+use Rattle.std.proofs.Common.{None, []}
+use Rattle.kapi_serve.specs.Clients.{seats_of}
 use Rattle.kapi_serve.specs.Goes.{Goes}
 use Rattle.kapi_serve.proofs.server.serve_loop.Given as goal
 
 abbrev pub invariant-loop : goal.invariant-loop
-invariant-loop g l = Goes l.initial.core l.core l.initial.desk l.desk None l.server.publishing.kept
+invariant-loop g l = Goes l.initial.core l.core l.initial.desk l.desk None l.server.publishing.kept [] (seats_of l.server.clients.list.items) g.Q.Ports.tells (g.Q.Ports.history l.initial.ports) (g.Q.Ports.history l.ports)

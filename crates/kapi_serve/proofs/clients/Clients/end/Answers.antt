@@ -1,5 +1,11 @@
-use Rattle.kapi_serve.proofs.Going.{moves_done}
+use Rattle.std.proofs.Common.{ap, ◌∙◌}
+use Rattle.kapi_serve.specs.Clients.{seat_of, seats_of}
+use Rattle.kapi_serve.proofs.Going.{closes_of}
+use Rattle.kapi_serve.proofs.Placing.{at_get, at_remove}
 use Rattle.kapi_serve.proofs.clients.Clients.end.Goals as goal
 
-pub returns-clause-moves : goal.returns-clause-moves
-returns-clause-moves g c = moves_done _ _ _ c.close.ensures
+pub returns-clause-seats : goal.returns-clause-seats
+returns-clause-seats g c = λ front x back at. ap seats_of c.remove-client.ensures.items ∙ at_remove c.args.self.now.list.items c.args.index front x back at
+
+pub returns-clause-closes : goal.returns-clause-closes
+returns-clause-closes g c = λ front x back at. closes_of _ _ x (seat_of c.remove-client.result) _ _ _ (ap seat_of c.remove-client.ensures.value ∙ at_get c.args.self.now.list.items c.args.index front x back c.remove-client.result at) c.close.ensures c.end.ensures.told

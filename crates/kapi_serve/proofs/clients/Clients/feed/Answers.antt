@@ -1,8 +1,26 @@
-use Rattle.kapi_serve.proofs.Going.{moves_fed, moves_on}
+use Rattle.std.proofs.Common.{◌≡◌, ◌∙◌, ap, subst, refl, Ok, Err}
+use Rattle.kapi_serve.specs.Clients.{others, seat_of, seats_of}
+use Rattle.kapi_core.specs.Stands.{Makes, TakesIn}
+use Rattle.kapi_core.specs.declared.event.Event.TheVariants as event
+use Rattle.kapi_core.specs.declared.event.Answer.TheVariants as answer
+use Rattle.kapi_serve.proofs.Going.{moves_as, moves_fed, moves_refused}
+use Rattle.kapi_serve.proofs.Placing.{at_get, others_ended, seats_same}
 use Rattle.kapi_serve.proofs.clients.Clients.feed.Goals as goal
 
-pub returns-in-Ok : goal.returns-in-Ok
-returns-in-Ok g c = moves_fed _ _ _ _ c.feed.result c.feed.ensures
+pub returns-in-Ok-clause-moves : goal.returns-in-Ok-clause-moves
+returns-in-Ok-clause-moves g c = λ front x back at h first.
+    let is : seat_of c.index.result.now ≡ x = ap seat_of c.index.ensures ∙ at_get c.args.self.now.list.items c.args.index front x back c.index.result.now at in
+    moves_as _ _ _ _ _ _ _ h _ at.0 (seats_same c.args.self.now.list.items c.args.index _ c.index_mut.result.now (ap seat_of c.index_mut.ensures.value) ∙ at.0)
+        (moves_fed _ _ front back x _ h _ c.args.piece.now (subst (λ z. Makes c.args.core.now c.feed.new.self (event.Feed z.conn c.args.piece.now) answer.Done) is c.in-Ok.ensures) first)
 
-pub returns-in-Err : goal.returns-in-Err
-returns-in-Err g c = moves_on _ _ _ (moves_fed _ _ _ _ c.feed.result c.feed.ensures) c.end.ensures.moves
+pub returns-in-Err-clause-moves : goal.returns-in-Err-clause-moves
+returns-in-Err-clause-moves g c = λ front x back at h first.
+    let is : seat_of c.index.result.now ≡ x = ap seat_of c.index.ensures ∙ at_get c.args.self.now.list.items c.args.index front x back c.index.result.now at in
+    moves_as _ _ _ _ _ _ _ h _ at.0 (c.end.ensures.seats front x back at)
+        (moves_refused _ _ _ front back x _ h _ _ c.args.piece.now c.in-Err._refused (subst (λ z. TakesIn c.args.core.now c.feed.new.self z.conn c.args.piece.now (Err c.in-Err._refused)) is c.in-Err.ensures) (c.end.ensures.closes front x back at) first)
+
+pub returns-in-Ok-clause-others : goal.returns-in-Ok-clause-others
+returns-in-Ok-clause-others g c = λ front x back at. ap (λ xs. others x.slot xs) (seats_same c.args.self.now.list.items c.args.index _ c.index_mut.result.now (ap seat_of c.index_mut.ensures.value))
+
+pub returns-in-Err-clause-others : goal.returns-in-Err-clause-others
+returns-in-Err-clause-others g c = λ front x back at. others_ended x.slot _ _ front x back at.0 (c.end.ensures.seats front x back at) refl

@@ -1,8 +1,22 @@
-use Rattle.kapi_serve.proofs.Going.{moves_done, moves_nothing}
+use Rattle.std.proofs.Common.{◌≡◌, ◌∙◌, ap, subst, refl}
+use Rattle.kapi_serve.specs.Clients.{seat_of, seats_of}
+use Rattle.kapi_core.specs.Stands.{Makes}
+use Rattle.kapi_core.specs.declared.event.Event.TheVariants as event
+use Rattle.kapi_core.specs.declared.event.Answer.TheVariants as answer
+use Rattle.kapi_serve.proofs.Going.{moves_as, moves_forgotten, moves_nothing, moves_on}
+use Rattle.kapi_serve.proofs.Placing.{at_get, at_remove}
 use Rattle.kapi_serve.proofs.clients.Clients.forget.Goals as goal
 
-pub returns-in-Some : goal.returns-in-Some
-returns-in-Some g c = moves_done _ _ _ c.close.ensures
+pub loop-index-init : goal.loop-index-init
+loop-index-init g c = λ h. moves_nothing _ _ _ h
 
-pub returns-in_default : goal.returns-in_default
-returns-in_default g c = moves_nothing _
+pub loop-index-preserved : goal.loop-index-preserved
+loop-index-preserved g c = λ h.
+    let k = c.in-Some.ensures.found in
+    let front = k.0 in
+    let x = k.1 in
+    let back = k.2 in
+    let is : seat_of c.remove-client.result ≡ x = ap seat_of c.remove-client.ensures.value ∙ at_get c.loop-index.self.list.items c.in-Some.index front x back c.remove-client.result k.3 in
+    moves_on _ _ _ _ _ _ _ h h h (c.loop-index.invariant h)
+        (moves_as _ _ _ _ _ _ _ h h k.3.0 (ap seats_of c.remove-client.ensures.items ∙ at_remove c.loop-index.self.list.items c.in-Some.index front x back k.3)
+            (moves_forgotten _ _ front back x h (subst (λ z. Makes c.loop-index.core c.close.new.self (event.Close z.conn) answer.Done) is c.close.ensures)))

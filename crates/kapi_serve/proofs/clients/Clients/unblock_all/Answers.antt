@@ -1,0 +1,8 @@
+use Rattle.std.proofs.Common.{ap, ◌∙◌}
+use Rattle.std.proofs.lemmas.List.{length-set}
+use Rattle.kapi_serve.specs.Clients.{seat_of, seats_of}
+use Rattle.kapi_serve.proofs.Placing.{seats_same}
+use Rattle.kapi_serve.proofs.clients.Clients.unblock_all.Goals as goal
+
+pub loop-index-preserved : goal.loop-index-preserved
+loop-index-preserved c = (seats_same c.loop-index.self.list.items c.loop-index.index _ c.index_mut.result.now (ap seat_of c.index_mut.ensures.value) ∙ c.loop-index.invariant.0, length-set c.loop-index.self.list.items c.loop-index.index _ ∙ c.loop-index.invariant.1)

@@ -1,0 +1,6 @@
+use Rattle.std.specs.Prelude.{◌≡◌, length}
+use Rattle.kapi_serve.specs.Clients.{seats_of}
+use Rattle.kapi_serve.proofs.clients.Clients.unblock_all.Given as goal
+
+abbrev pub invariant-loop-index : goal.invariant-loop-index
+invariant-loop-index l = (seats_of l.self.list.items ≡ seats_of l.initial.self.list.items) × (length l.self.list.items ≡ length l.initial.self.list.items)
