@@ -5,6 +5,7 @@ use kapi_desk::{Desk, Seat};
 use kapi_index::IndexedPolicy;
 use kapi_rbac_types::Identity;
 use kapi_script::program_table;
+use kapi_serve::{Ports, serve_loop};
 use kapi_text::{Sequence, Text};
 use std::alloc::{AllocError, Global};
 use std::sync::Wait;
@@ -16,9 +17,27 @@ pub const CREATE: &[u8] =
 pub const CREATED: &[u8] =
     b"HTTP/1.1 201 Created\r\nContent-Type: application/json\r\nContent-Length: 168\r\n\r\n{\"apiVersion\":\"v1\",\"data\":{\"k\":\"v\"},\"kind\":\"ConfigMap\",\"metadata\":{\"name\":\"a\",\"namespace\":\"default\",\"resourceVersion\":\"6\",\"uid\":\"00000000-0000-4000-8000-000000000006\"}}";
 
+/// Asks for the ConfigMap `a`.
+pub const GET: &[u8] = b"GET /api/v1/namespaces/default/configmaps/a HTTP/1.1\r\nHost: a\r\n\r\n";
+
+pub const GOT: &[u8] =
+    b"HTTP/1.1 200 OK\r\nContent-Type: application/json\r\nContent-Length: 168\r\n\r\n{\"apiVersion\":\"v1\",\"data\":{\"k\":\"v\"},\"kind\":\"ConfigMap\",\"metadata\":{\"name\":\"a\",\"namespace\":\"default\",\"resourceVersion\":\"6\",\"uid\":\"00000000-0000-4000-8000-000000000006\"}}";
+
+/// The head of the answer to a watch.
+pub const WATCHED: &str =
+    "HTTP/1.1 200 OK\r\nContent-Type: application/json\r\nTransfer-Encoding: chunked\r\n\r\n";
+
 /// Asks for what nobody but the masters may get.
 pub const FORBIDDEN: &[u8] =
     b"GET /api/v1/namespaces/default/widgets/x HTTP/1.1\r\nHost: a\r\n\r\n";
+
+/// A user in no group.
+pub fn user(alloc: Global, user: &str) -> Result<Identity, AllocError> {
+    Ok(Identity {
+        user: Text::copy_of(alloc, user)?,
+        groups: Sequence::new(Vec::new(alloc)),
+    })
+}
 
 /// A user and his group.
 pub fn identity(alloc: Global, user: &str, group: &str) -> Result<Identity, AllocError> {
@@ -44,4 +63,22 @@ pub fn desk<R: Wait>(alloc: Global, rt: &R) -> Result<(Desk, Vec<Seat>), AllocEr
     ensures { IfOk result (λ r. r.0.waiting ≡ []) }
 {
     Desk::new(alloc, rt, IndexedPolicy::new(alloc), 1)
+}
+
+/// A reply with a body.
+pub fn reply(alloc: Global, status: &str, body: &str) -> Result<String, AllocError> {
+    let length = body.len();
+    format!(in alloc;
+        "HTTP/1.1 {status}\r\nContent-Type: application/json\r\nContent-Length: {length}\r\n\r\n{body}"
+    )
+}
+
+/// Serves the clients of ports until these have no more to tell.
+pub fn serve<R: Wait, P: Ports>(alloc: Global, rt: &R, ports: &mut P) -> Result<(), AllocError> {
+    let mut core = core(alloc)?;
+    let (mut desk, seats) = desk(alloc, rt)?;
+    serve_loop(rt, &mut core, &mut desk, ports);
+    drop(seats);
+    drop(desk.close(rt));
+    Ok(())
 }

@@ -4,14 +4,24 @@
 #[cfg(test)]
 mod answers;
 #[cfg(test)]
+mod crowd;
+#[cfg(test)]
 mod fixture;
+#[cfg(test)]
+mod live;
 #[cfg(test)]
 mod loopback;
 #[cfg(test)]
 mod memory;
+#[cfg(test)]
+mod scene;
 #[cfg(test)]
 mod slow;
 #[cfg(test)]
 mod starts;
 #[cfg(test)]
 mod talks;
+#[cfg(test)]
+mod turned;
+#[cfg(test)]
+mod unserved;

@@ -4,16 +4,30 @@ use crate::fixture::{CREATE, CREATED, core, desk, master};
 use kapi_serve::{PortEvent, PortFault, Ports, Sockets, serve_loop};
 use std::io::{Read, Write};
 use std::net::{Ipv4Addr, SocketAddr, TcpStream};
+use std::sync::atomic::{AtomicBool, Ordering};
 use std::test::Fail;
 
-/// Sockets until nothing has happened a few times.
+/// Sockets until nothing happens any more.
 #[derive(Drop)]
-struct UntilIdle {
+pub struct UntilIdle<'o> {
     sockets: Sockets,
+    /// The clients are done.
+    over: &'o AtomicBool,
+    /// So many times nothing may happen after that.
     idle: u32,
 }
 
-impl Ports for UntilIdle {
+impl<'o> UntilIdle<'o> {
+    pub fn new(sockets: Sockets, over: &'o AtomicBool, idle: u32) -> UntilIdle<'o> {
+        UntilIdle {
+            sockets,
+            over,
+            idle,
+        }
+    }
+}
+
+impl Ports for UntilIdle<'_> {
     ghost use Rattle.std.specs.Prelude.{[]};
 
     ghost history = { λ p. [] };
@@ -22,7 +36,7 @@ impl Ports for UntilIdle {
 
     fn next(&mut self) -> Option<PortEvent> {
         let event = self.sockets.next()?;
-        if matches!(event, PortEvent::Idle) {
+        if matches!(event, PortEvent::Idle) && self.over.load(Ordering::SeqCst) {
             self.idle = self.idle.checked_sub(1)?;
         }
         Some(event)
@@ -50,7 +64,8 @@ fn a_client_of_127_0_0_1_is_answered(rt: HostRuntime) -> Result<(), Fail> {
     client.write_all(CREATE)?;
     let mut core = core(alloc)?;
     let (mut desk, seats) = desk(alloc, &rt)?;
-    let mut ports = UntilIdle { sockets, idle: 3 };
+    let over = AtomicBool::new(true);
+    let mut ports = UntilIdle::new(sockets, &over, 3);
     serve_loop(&rt, &mut core, &mut desk, &mut ports);
     drop(seats);
     drop(desk.close(&rt));

@@ -20,6 +20,8 @@ pub enum Mishap {
 enum Pace {
     /// At once; its own bytes end.
     Prompt,
+    /// At once; its own bytes do not end.
+    Lasting,
     /// Not before so few events are left; its own bytes do not end.
     Slow(usize),
 }
@@ -64,9 +66,19 @@ impl Memory {
         }
     }
 
+    /// So many events follow when all clients have connected.
+    pub fn set_events(&mut self, events: usize) {
+        self.left = events;
+    }
+
     /// One client more, who sends these bytes and then ends.
     pub fn talk(&mut self, identity: Identity, sends: &[u8]) -> Result<(), AllocError> {
         self.add(identity, sends, Pace::Prompt)
+    }
+
+    /// One client more, who sends these bytes and stays.
+    pub fn lasting_talk(&mut self, identity: Identity, sends: &[u8]) -> Result<(), AllocError> {
+        self.add(identity, sends, Pace::Lasting)
     }
 
     /// One client more, who sends these bytes, and takes nothing until so few events are left.
@@ -174,7 +186,7 @@ impl Talk {
     /// Whether it takes nothing while so many events are left.
     fn is_stalled(&self, left: usize) -> bool {
         match self.pace {
-            Pace::Prompt => false,
+            Pace::Prompt | Pace::Lasting => false,
             Pace::Slow(until) => left > until,
         }
     }

@@ -1,7 +1,6 @@
 //! A watcher that takes nothing for a while.
-use crate::fixture::{core, desk, master};
+use crate::fixture::{master, serve};
 use crate::memory::{Memory, Mishap};
-use kapi_serve::serve_loop;
 use std::alloc::{AllocError, Global};
 use std::str;
 use std::sync::Wait;
@@ -44,11 +43,7 @@ fn slow_watcher<R: Wait>(alloc: Global, rt: &R) -> Result<Memory, AllocError> {
     let mut ports = Memory::new(alloc, (0, Mishap::Nothing));
     ports.slow_talk(master(alloc)?, WATCH, 20)?;
     ports.talk(master(alloc)?, changes(alloc)?.as_bytes())?;
-    let mut core = core(alloc)?;
-    let (mut desk, seats) = desk(alloc, rt)?;
-    serve_loop(rt, &mut core, &mut desk, &mut ports);
-    drop(seats);
-    drop(desk.close(rt));
+    serve(alloc, rt, &mut ports)?;
     Ok(ports)
 }
 

@@ -1,6 +1,5 @@
-use crate::fixture::{CREATE, CREATED, FORBIDDEN, core, desk, identity, master};
+use crate::fixture::{CREATE, CREATED, FORBIDDEN, identity, master, serve};
 use crate::memory::{Memory, Mishap};
-use kapi_serve::serve_loop;
 use std::alloc::{AllocError, Global};
 use std::sync::Wait;
 use std::test::Fail;
@@ -17,11 +16,7 @@ fn two_clients<R: Wait>(
     let mut ports = Memory::new(alloc, mishap);
     ports.talk(master(alloc)?, CREATE)?;
     ports.talk(identity(alloc, "bob", "system:authenticated")?, FORBIDDEN)?;
-    let mut core = core(alloc)?;
-    let (mut desk, seats) = desk(alloc, rt)?;
-    serve_loop(rt, &mut core, &mut desk, &mut ports);
-    drop(seats);
-    drop(desk.close(rt));
+    serve(alloc, rt, &mut ports)?;
     Ok(ports)
 }
 

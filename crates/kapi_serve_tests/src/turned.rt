@@ -1,0 +1,106 @@
+//! A watcher and a writer, while turns rewrite an aggregated cluster role.
+use crate::fixture::{WATCHED, master, reply, serve};
+use crate::memory::{Memory, Mishap};
+use std::alloc::{AllocError, Global};
+use std::sync::Wait;
+use std::test::Fail;
+
+const WATCH: &[u8] =
+    b"GET /apis/rbac.authorization.k8s.io/v1/clusterroles?watch=1&resourceVersion=5 HTTP/1.1\r\nHost: a\r\n\r\n";
+
+/// Creates the aggregated role `sum` and the role `part`, whose rules it takes, asks for `sum`, deletes `part` and asks again.
+const WRITES: &[u8] =
+    b"POST /apis/rbac.authorization.k8s.io/v1/clusterroles HTTP/1.1\r\nHost: a\r\nContent-Length: 165\r\n\r\n{\"aggregationRule\":{\"clusterRoleSelectors\":[{\"matchLabels\":{\"agg\":\"m\"}}]},\"apiVersion\":\"rbac.authorization.k8s.io/v1\",\"kind\":\"ClusterRole\",\"metadata\":{\"name\":\"sum\"}}\
+POST /apis/rbac.authorization.k8s.io/v1/clusterroles HTTP/1.1\r\nHost: a\r\nContent-Length: 180\r\n\r\n{\"apiVersion\":\"rbac.authorization.k8s.io/v1\",\"kind\":\"ClusterRole\",\"metadata\":{\"labels\":{\"agg\":\"m\"},\"name\":\"part\"},\"rules\":[{\"apiGroups\":[\"\"],\"resources\":[\"pods\"],\"verbs\":[\"get\"]}]}\
+GET /apis/rbac.authorization.k8s.io/v1/clusterroles/sum HTTP/1.1\r\nHost: a\r\n\r\n\
+DELETE /apis/rbac.authorization.k8s.io/v1/clusterroles/part HTTP/1.1\r\nHost: a\r\n\r\n\
+GET /apis/rbac.authorization.k8s.io/v1/clusterroles/sum HTTP/1.1\r\nHost: a\r\n\r\n";
+
+const RULES: &str = r#"[{"apiGroups":[""],"resources":["pods"],"verbs":["get"]}]"#;
+
+const DELETED: &str =
+    r#"{"apiVersion":"v1","details":{"group":"rbac.authorization.k8s.io","kind":"clusterroles","name":"part","uid":"00000000-0000-4000-8000-000000000007"},"kind":"Status","metadata":{},"status":"Success"}"#;
+
+/// The aggregated role at a revision.
+fn sum(alloc: Global, revision: u64, rules: &str) -> Result<String, AllocError> {
+    format!(in alloc;
+        r#"{{"aggregationRule":{{"clusterRoleSelectors":[{{"matchLabels":{{"agg":"m"}}}}]}},"apiVersion":"rbac.authorization.k8s.io/v1","kind":"ClusterRole","metadata":{{"name":"sum","resourceVersion":"{revision}","uid":"00000000-0000-4000-8000-000000000006"}},"rules":{rules}}}"#
+    )
+}
+
+/// The role whose rules are taken, at a revision.
+fn part(alloc: Global, revision: u64) -> Result<String, AllocError> {
+    format!(in alloc;
+        r#"{{"apiVersion":"rbac.authorization.k8s.io/v1","kind":"ClusterRole","metadata":{{"labels":{{"agg":"m"}},"name":"part","resourceVersion":"{revision}","uid":"00000000-0000-4000-8000-000000000007"}},"rules":{RULES}}}"#
+    )
+}
+
+/// An event of a watch as a chunk.
+fn event(alloc: Global, object: String, change: &str) -> Result<String, AllocError> {
+    let text = format!(in alloc; "{{\"object\":{object},\"type\":\"{change}\"}}\n")?;
+    let length = text.len();
+    format!(in alloc; "{length:x}\r\n{text}\r\n")
+}
+
+/// What the watcher is told: the turns are among the changes.
+fn shown(alloc: Global) -> Result<String, AllocError> {
+    let mut text = String::from_str(alloc, WATCHED)?;
+    text.push_str(event(alloc, sum(alloc, 6, "[]")?, "ADDED")?.as_str())?;
+    text.push_str(event(alloc, part(alloc, 7)?, "ADDED")?.as_str())?;
+    text.push_str(event(alloc, sum(alloc, 8, RULES)?, "MODIFIED")?.as_str())?;
+    text.push_str(event(alloc, part(alloc, 9)?, "DELETED")?.as_str())?;
+    text.push_str(event(alloc, sum(alloc, 10, "[]")?, "MODIFIED")?.as_str())?;
+    Ok(text)
+}
+
+/// What the writer is told: the turn has been made when he asks.
+fn replied(alloc: Global) -> Result<String, AllocError> {
+    let mut text = reply(alloc, "201 Created", sum(alloc, 6, "[]")?.as_str())?;
+    text.push_str(reply(alloc, "201 Created", part(alloc, 7)?.as_str())?.as_str())?;
+    text.push_str(reply(alloc, "200 OK", sum(alloc, 8, RULES)?.as_str())?.as_str())?;
+    text.push_str(reply(alloc, "200 OK", DELETED)?.as_str())?;
+    text.push_str(reply(alloc, "200 OK", sum(alloc, 10, "[]")?.as_str())?.as_str())?;
+    Ok(text)
+}
+
+/// A watcher and a writer, both of whom stay; one call on the ports has a mishap.
+fn watched<R: Wait>(alloc: Global, rt: &R, mishap: (usize, Mishap)) -> Result<Memory, AllocError> {
+    let mut ports = Memory::new(alloc, mishap);
+    ports.lasting_talk(master(alloc)?, WATCH)?;
+    ports.lasting_talk(master(alloc)?, WRITES)?;
+    serve(alloc, rt, &mut ports)?;
+    Ok(ports)
+}
+
+#[test]
+fn turns_are_shown_to_a_watcher_and_to_who_asks(rt: HostRuntime) -> Result<(), Fail> {
+    let alloc = rt.alloc();
+    let ports = watched(alloc, &rt, (0, Mishap::Nothing))?;
+    assert_eq!(rt; ports.got(0), shown(alloc)?.as_bytes());
+    assert_eq!(rt; ports.got(1), replied(alloc)?.as_bytes());
+    assert!(rt; !ports.has_ended(0));
+    assert!(rt; !ports.has_ended(1));
+    Ok(())
+}
+
+/// Which of the calls change what is got where they have this mishap.
+fn changed_by<R: Wait>(alloc: Global, rt: &R, mishap: Mishap) -> Result<Vec<usize>, AllocError> {
+    let whole = watched(alloc, rt, (0, Mishap::Nothing))?;
+    let mut changed = Vec::new(alloc);
+    for number in 0..whole.calls {
+        let ports = watched(alloc, rt, (number, mishap))?;
+        if ports.got(0) != whole.got(0) || ports.got(1) != whole.got(1) {
+            changed.push(number)?;
+        }
+    }
+    Ok(changed)
+}
+
+#[test]
+fn pieces_and_waits_change_nothing_of_what_is_shown(rt: HostRuntime) -> Result<(), Fail> {
+    for mishap in [Mishap::OneByte, Mishap::WouldBlock] {
+        let changed = changed_by(rt.alloc(), &rt, mishap)?;
+        assert!(rt; changed.is_empty(), "{changed:?} at {mishap:?}");
+    }
+    Ok(())
+}
