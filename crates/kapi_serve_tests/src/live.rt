@@ -3,13 +3,13 @@ ghost use Rattle.std.specs.Prelude.{◌≡◌, []};
 
 use crate::fixture::{master, user};
 use crate::loopback::UntilIdle;
-use crate::scene::{Doors, play};
+use crate::scene::{Clients, play};
 use kapi_audit::answer_run;
 use kapi_core::Core;
 use kapi_desk::{Desk, Seat, SeatDecision};
 use kapi_index::IndexedPolicy;
 use kapi_rules::{Point, ResourcePoint};
-use kapi_serve::{Sockets, Started, serve_loop, start};
+use kapi_serve::{Ports, Sockets, Started, serve_loop, start};
 use kapi_text::Text;
 use std::alloc::{AllocError, Global};
 use std::io::{self, Read};
@@ -27,12 +27,12 @@ const QUESTION: &[u8] =
 /// So many questions are asked of a seat at most.
 const QUESTIONS: u32 = 200_000;
 
-/// The same question again and again until the clients are done.
+/// The same question once, and then again and again until the clients are done.
 #[derive(Drop)]
 struct Questions<'o> {
     over: &'o AtomicBool,
-    /// So many more may be asked.
-    left: u32,
+    /// So many were asked.
+    asked: u32,
     /// What is still to be read of the last one.
     rest: &'static [u8],
 }
@@ -40,10 +40,11 @@ struct Questions<'o> {
 impl Questions<'_> {
     /// Whether the question is asked once more.
     fn goes_on(&mut self) -> bool {
-        if self.left == 0 || self.over.load(Ordering::SeqCst) {
+        let is_over = self.asked > 0 && self.over.load(Ordering::SeqCst);
+        if is_over || self.asked >= QUESTIONS {
             return false;
         }
-        self.left -= 1;
+        self.asked += 1;
         true
     }
 }
@@ -67,7 +68,7 @@ struct Asked {
 fn ask(alloc: Global, mut seat: Seat, over: &AtomicBool) -> Asked {
     let mut questions = Questions {
         over,
-        left: QUESTIONS,
+        asked: 0,
         rest: &[],
     };
     let mut told = Vec::new(alloc);
@@ -94,7 +95,7 @@ fn number_of(line: &str) -> Option<u64> {
     }
 }
 
-/// Whether each line is what ann is told after its number of changes, and no number falls.
+/// Whether there are lines, each is what ann is told after its number of changes, and no number falls.
 fn is_right(told: &str) -> bool {
     let mut last = 0;
     for line in told.lines() {
@@ -103,7 +104,7 @@ fn is_right(told: &str) -> bool {
             _ => return false,
         }
     }
-    true
+    !told.is_empty()
 }
 
 /// Whether a seat that is told nothing denies ann after all changes.
@@ -144,18 +145,40 @@ type Outcome = (io::Result<()>, Result<Vec<Asked>, AllocError>);
 fn play_and_ask<R: Threads + Sync + Net<Listener = TcpListener, Stream = TcpStream>>(
     rt: &R,
     alloc: Global,
-    doors: Doors,
+    clients: Clients<'_>,
     seats: Vec<Seat>,
-    over: &AtomicBool,
 ) -> Outcome {
     thread::join(
         rt,
-        || play(rt, alloc, doors, over),
-        || thread::map_vec(rt, seats, &|seat| ask(alloc, seat, over)),
+        || play(rt, alloc, clients),
+        || thread::map_vec(rt, seats, &|seat| ask(alloc, seat, clients.over)),
     )
 }
 
-/// The loop runs in this thread, and the clients and askers in others. How many seats were right.
+/// The loop runs in this thread, and the clients and askers in others.
+fn serve_beside<
+    R: Threads + Wait + Sync + Net<Listener = TcpListener, Stream = TcpStream>,
+    P: Ports,
+>(
+    rt: &R,
+    core: &mut Core<IndexedPolicy>,
+    desk: &mut Desk,
+    ports: &mut P,
+    clients: Clients<'_>,
+    seats: Vec<Seat>,
+) -> Outcome
+    requires { desk.old.waiting ≡ [] }
+{
+    let alloc = core.allocator();
+    let (outcome, ()) = thread::join(
+        rt,
+        || play_and_ask(rt, alloc, clients, seats),
+        || serve_loop(rt, core, desk, ports),
+    );
+    outcome
+}
+
+/// How many seats were right while clients of two ports of 127.0.0.1 were served.
 fn serve_and_ask<R: Threads + Wait + Sync + Net<Listener = TcpListener, Stream = TcpStream>>(
     rt: &R,
     alloc: Global,
@@ -167,16 +190,13 @@ fn serve_and_ask<R: Threads + Wait + Sync + Net<Listener = TcpListener, Stream =
 {
     let over = AtomicBool::new(false);
     let mut sockets = Sockets::new(alloc, rt)?;
-    let doors = Doors {
+    let clients = Clients {
         root: sockets.listen(rt, 0, master(alloc)?)?,
         bob: sockets.listen(rt, 0, user(alloc, "bob")?)?,
+        over: &over,
     };
     let mut ports = UntilIdle::new(sockets, &over, 0);
-    let ((played, asked), ()) = thread::join(
-        rt,
-        || play_and_ask(rt, alloc, doors, seats, &over),
-        || serve_loop(rt, core, desk, &mut ports),
-    );
+    let (played, asked) = serve_beside(rt, core, desk, &mut ports, clients, seats);
     played?;
     Ok(count_right(alloc, asked?)?)
 }

@@ -17,11 +17,12 @@ const REFUSED: &[u8] =
 const MISSING: &[u8] =
     b"HTTP/1.1 404 Not Found\r\nContent-Type: application/json\r\nContent-Length: 168\r\n\r\n{\"apiVersion\":\"v1\",\"code\":404,\"details\":{\"kind\":\"widgets\",\"name\":\"x\"},\"kind\":\"Status\",\"message\":\"no such resource\",\"metadata\":{},\"reason\":\"NotFound\",\"status\":\"Failure\"}";
 
-/// The ports on which the clients have their identities.
+/// The ports on which the clients have their identities, and where they tell that they are done.
 #[derive(Clone, Copy)]
-pub struct Doors {
+pub struct Clients<'o> {
     pub root: u16,
     pub bob: u16,
+    pub over: &'o AtomicBool,
 }
 
 /// An object of the policy in the namespace `default`.
@@ -141,10 +142,10 @@ fn change_policy(alloc: Global, root: &mut TcpStream) -> io::Result<()> {
 fn play_all<R: Net<Listener = TcpListener, Stream = TcpStream>>(
     rt: &R,
     alloc: Global,
-    doors: Doors,
+    clients: Clients<'_>,
 ) -> io::Result<()> {
-    let mut root = connect(rt, doors.root)?;
-    let mut bob = connect(rt, doors.bob)?;
+    let mut root = connect(rt, clients.root)?;
+    let mut bob = connect(rt, clients.bob)?;
     ask_for_objects(alloc, &mut root, &mut bob)?;
     change_policy(alloc, &mut root)
 }
@@ -153,10 +154,9 @@ fn play_all<R: Net<Listener = TcpListener, Stream = TcpStream>>(
 pub fn play<R: Net<Listener = TcpListener, Stream = TcpStream>>(
     rt: &R,
     alloc: Global,
-    doors: Doors,
-    over: &AtomicBool,
+    clients: Clients<'_>,
 ) -> io::Result<()> {
-    let played = play_all(rt, alloc, doors);
-    over.store(true, Ordering::SeqCst);
+    let played = play_all(rt, alloc, clients);
+    clients.over.store(true, Ordering::SeqCst);
     played
 }

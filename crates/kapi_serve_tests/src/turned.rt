@@ -83,13 +83,21 @@ fn turns_are_shown_to_a_watcher_and_to_who_asks(rt: HostRuntime) -> Result<(), F
     Ok(())
 }
 
-/// Which of the calls change what is got where they have this mishap.
-fn changed_by<R: Wait>(alloc: Global, rt: &R, mishap: Mishap) -> Result<Vec<usize>, AllocError> {
-    let whole = watched(alloc, rt, (0, Mishap::Nothing))?;
+/// So many calls on the ports at least are made by `watched`.
+const CALLS: usize = 12;
+
+/// Which of so many calls change what is got where they have this mishap.
+fn changed_by<R: Wait>(
+    alloc: Global,
+    rt: &R,
+    calls: usize,
+    mishap: Mishap,
+) -> Result<Vec<usize>, AllocError> {
+    let (shown, replied) = (shown(alloc)?, replied(alloc)?);
     let mut changed = Vec::new(alloc);
-    for number in 0..whole.calls {
+    for number in 0..calls {
         let ports = watched(alloc, rt, (number, mishap))?;
-        if ports.got(0) != whole.got(0) || ports.got(1) != whole.got(1) {
+        if ports.got(0) != shown.as_bytes() || ports.got(1) != replied.as_bytes() {
             changed.push(number)?;
         }
     }
@@ -98,8 +106,10 @@ fn changed_by<R: Wait>(alloc: Global, rt: &R, mishap: Mishap) -> Result<Vec<usiz
 
 #[test]
 fn pieces_and_waits_change_nothing_of_what_is_shown(rt: HostRuntime) -> Result<(), Fail> {
+    let calls = watched(rt.alloc(), &rt, (0, Mishap::Nothing))?.calls;
+    assert!(rt; calls >= CALLS);
     for mishap in [Mishap::OneByte, Mishap::WouldBlock] {
-        let changed = changed_by(rt.alloc(), &rt, mishap)?;
+        let changed = changed_by(rt.alloc(), &rt, calls, mishap)?;
         assert!(rt; changed.is_empty(), "{changed:?} at {mishap:?}");
     }
     Ok(())

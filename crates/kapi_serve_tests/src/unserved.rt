@@ -83,15 +83,14 @@ fn long_request(alloc: Global) -> Result<String, AllocError> {
     format!(in alloc; "{begin}{letters}{end}")
 }
 
-/// A client, who takes nothing until so few events are left, asks for more than waits for him. Then he sends as many bytes as are kept, and
-/// these.
-fn deaf<R: Wait>(alloc: Global, rt: &R, left: usize, more: &str) -> Result<Memory, AllocError> {
+/// A client who takes nothing for a while asks for more than waits for him. Then he sends as many bytes as are kept, and these.
+fn deaf<R: Wait>(alloc: Global, rt: &R, more: &str) -> Result<Memory, AllocError> {
     let mut sends = large_requests(alloc)?;
     sends.push_str(long_request(alloc)?.repeat(alloc, KEPT / HEAD)?.as_str())?;
     sends.push_str(more)?;
     let mut ports = Memory::new(alloc, (0, Mishap::Nothing));
     ports.lasting_talk(master(alloc)?, CREATE)?;
-    ports.slow_talk(master(alloc)?, sends.as_bytes(), left)?;
+    ports.slow_talk(master(alloc)?, sends.as_bytes(), 10)?;
     serve(alloc, rt, &mut ports)?;
     Ok(ports)
 }
@@ -99,7 +98,7 @@ fn deaf<R: Wait>(alloc: Global, rt: &R, left: usize, more: &str) -> Result<Memor
 #[test]
 fn a_client_who_takes_late_is_answered_in_full(rt: HostRuntime) -> Result<(), Fail> {
     let alloc = rt.alloc();
-    let ports = deaf(alloc, &rt, 10, "")?;
+    let ports = deaf(alloc, &rt, "")?;
     let mut replies = large_replies(alloc)?;
     let got = str::from_utf8(GOT).unwrap_or("");
     replies.push_str(got.repeat(alloc, KEPT / HEAD)?.as_str())?;
@@ -111,7 +110,7 @@ fn a_client_who_takes_late_is_answered_in_full(rt: HostRuntime) -> Result<(), Fa
 
 #[test]
 fn a_client_who_takes_nothing_and_sends_too_much_is_closed(rt: HostRuntime) -> Result<(), Fail> {
-    let ports = deaf(rt.alloc(), &rt, 10, "a")?;
+    let ports = deaf(rt.alloc(), &rt, "a")?;
     assert_eq!(rt; ports.got(0), CREATED);
     assert!(rt; ports.got(1).is_empty());
     assert!(rt; ports.has_ended(1));
