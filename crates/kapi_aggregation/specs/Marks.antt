@@ -24,6 +24,7 @@ with_mark marks name = if is_marked marks name then marks else insert_key (slice
 abbrev pub mark_taker : Option Data → List (List ℕ) → Labelled → List (List ℕ)
 mark_taker labels marks r = if takes_from r labels then with_mark marks r.name else marks
 
+-- the same, each cluster role looked at in turn
 unfoldable pub mark_takers : List Labelled → List (List ℕ) → Option Data → List (List ℕ)
 mark_takers roles marks labels = fold (mark_taker labels) marks roles
 
@@ -31,6 +32,7 @@ mark_takers roles marks labels = fold (mark_taker labels) marks roles
 abbrev pub mark_old : List Labelled → List ℕ → List (List ℕ) → Labelled → List (List ℕ)
 mark_old roles name marks r = if bytes_eq r.name name then mark_takers roles marks r.labels else marks
 
+-- the same, each cluster role looked at in turn
 unfoldable pub mark_by_name : List Labelled → List (List ℕ) → List ℕ → List (List ℕ)
 mark_by_name roles marks name = fold (mark_old roles name) marks roles
 

@@ -45,6 +45,7 @@ resources_match words resource subresource =
     if length subresource == 0 then words_match words resource
     else (words_match words (resource ++ 47 ∷ subresource) || words_match words (42 ∷ 47 ∷ subresource))
 
+-- the URL is the path itself, or begins with what stood before the stars
 abbrev pub url_admits : Url → List ℕ → Bool
 url_admits (Path path) asked = bytes_eq path asked
 url_admits (Front front) asked = starts_with nat_eq asked front

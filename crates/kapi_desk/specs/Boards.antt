@@ -18,6 +18,7 @@ pub record Chair : Type 0 where
   pub opening : PolicyObjects
   pub seen : List (List PolicyChange)
 
+-- a seat or a told list of that opening policy, by which those steps were seen
 abbrev pub chair : PolicyObjects → List (List PolicyChange) → Chair
 chair opening seen = record { opening = opening; seen = seen }
 
@@ -33,6 +34,7 @@ longer xs ys = if nat_lt (length xs) (length ys) then ys else xs
 abbrev pub seat_granted : SeatGrant → Granted
 seat_granted g = record { kind = g.kind; binding = g.binding; role = g.role; rule = g.rule }
 
+-- what a seat decides, as a decision of the policy
 abbrev pub seat_decision : SeatDecision → Decided
 seat_decision (Allowed g) = allowed (seat_granted g)
 seat_decision Masters = masters

@@ -16,6 +16,7 @@ counted v step = record { policy = after_changes step v.policy; steps = v.steps 
 abbrev pub newcomer : View
 newcomer = record { knows = false; opening = no_objects; seen = [] }
 
+-- who knows the policy that the desk opened with, and has seen no step
 abbrev pub opened : PolicyObjects → View
 opened policy = record { knows = true; opening = policy; seen = [] }
 
@@ -23,6 +24,7 @@ opened policy = record { knows = true; opening = policy; seen = [] }
 abbrev pub grown : View → List (List PolicyChange) → View
 grown v steps = record { knows = v.knows; opening = v.opening; seen = v.seen ++ steps }
 
+-- the second list begins with the first
 abbrev pub Begins : List (List PolicyChange) → List (List PolicyChange) → Type 0
 Begins xs ys = (rest : List (List PolicyChange)) × (ys ≡ xs ++ rest)
 

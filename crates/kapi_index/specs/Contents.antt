@@ -21,9 +21,11 @@ use Rattle.kapi_index.specs.declared.spaces.Namespace.{Namespace}
 abbrev pub by_text : {Y X : Type 0} → List (String Y × X) → List (List ℕ × X)
 by_text spaces = map (λ s. (string_bytes s.0, s.1)) spaces
 
+-- the roles of a namespace, by name
 abbrev pub roles_in : Namespace → List (List ℕ × Role)
 roles_in space = space.roles.entries
 
+-- the RoleBindings of a namespace, by name
 abbrev pub bindings_in : Namespace → List (List ℕ × RoleBinding)
 bindings_in space = space.bound.bindings
 
@@ -55,9 +57,11 @@ pub record Part : Type 0 where
   pub roles : List (List ℕ × Role)
   pub bound : Scoped
 
+-- a namespace as it is seen
 abbrev pub part : Namespace → Part
 part space = record { roles = space.roles.entries; bound = space.bound }
 
+-- the namespaces as they are seen, each with its name
 abbrev pub parts : List (List ℕ × Namespace) → List (List ℕ × Part)
 parts spaces = map (λ s. (s.0, part s.1)) spaces
 

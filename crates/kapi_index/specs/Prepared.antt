@@ -22,8 +22,10 @@ group_of (User name) = []
 group_of (Group name) = name ∷ []
 group_of (ServiceAccount account) = []
 
+-- the users that the subjects of a binding in a namespace are, in order
 abbrev pub users_of : List ℕ → List Subject → List (List ℕ)
 users_of namespace subjects = flat_map (user_of namespace) subjects
 
+-- the groups that the subjects of a binding are, in order
 abbrev pub groups_of : List Subject → List (List ℕ)
 groups_of subjects = flat_map group_of subjects

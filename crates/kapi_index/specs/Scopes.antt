@@ -38,9 +38,11 @@ abbrev pub keys_in : (Bound → List (List ℕ)) → Option Bound → List (List
 keys_in keys None = []
 keys_in keys (Some b) = keys b
 
+-- the users under whom a binding stands in the index
 abbrev pub user_keys : Bound → List (List ℕ)
 user_keys b = b.keys.users
 
+-- the groups under which a binding stands in the index
 abbrev pub group_keys : Bound → List (List ℕ)
 group_keys b = b.keys.groups
 
@@ -66,6 +68,7 @@ pub record IsPrepared (namespace : List ℕ) (b : Bound) : Type 0 where
   pub users : b.keys.users ≡ users_of namespace b.binding.subjects
   pub groups : b.keys.groups ≡ groups_of b.binding.subjects
 
+-- each binding has the keys of its subjects
 abbrev pub ArePrepared : List ℕ → List (List ℕ × Bound) → Type 0
 ArePrepared namespace [] = Unit {0}
 ArePrepared namespace (e ∷ es) = IsPrepared namespace e.1 × ArePrepared namespace es

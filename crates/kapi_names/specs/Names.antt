@@ -11,15 +11,19 @@ use Rattle.kapi_names.specs.declared.row.Schema.TheVariants.{Open}
 abbrev pub hyphen : ℕ
 hyphen = 45
 
+-- the byte `_`
 abbrev pub underscore : ℕ
 underscore = 95
 
+-- the byte `.`
 abbrev pub dot : ℕ
 dot = 46
 
+-- the byte `/`
 abbrev pub slash : ℕ
 slash = 47
 
+-- the byte `%`
 abbrev pub percent : ℕ
 percent = 37
 

@@ -19,10 +19,12 @@ abbrev mutual
   is_ordered (array ds) = are_ordered ds
   is_ordered (object ms) = in_order ms
 
+  -- the same of each item of a list
   pub are_ordered : Items → Bool
   are_ordered no_items = true
   are_ordered (item d ds) = is_ordered d && are_ordered ds
 
+  -- the same of the members of an object
   pub in_order : Members → Bool
   in_order no_members = true
   in_order (member k d ms) = precedes k ms && (is_ordered d && in_order ms)

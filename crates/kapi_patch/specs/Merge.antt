@@ -22,6 +22,7 @@ abbrev pub changed : List ℕ → Data → Data → Members → Members
 changed name null value ms = without name ms
 changed name patch value ms = put name value ms
 
+-- the merge patch of a target, and of the members of one
 abbrev mutual
   -- a target with a patch applied: an object changes each name that it has, anything else is put in the target's place
   pub merged : Data → Data → Data

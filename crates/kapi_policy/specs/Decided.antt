@@ -31,10 +31,12 @@ is_in namespace place = bytes_eq place.namespace namespace
 abbrev pub is_place : List ℕ → List ℕ → NamespacedName → Bool
 is_place namespace name place = is_in namespace place && bytes_eq place.name name
 
+-- the rules of a Role, if it exists
 abbrev pub rules_in : Option Role → Option (List PolicyRule)
 rules_in None = None
 rules_in (Some role) = Some role.rules
 
+-- the rules of a ClusterRole, if it exists
 abbrev pub cluster_rules_in : Option ClusterRole → Option (List PolicyRule)
 cluster_rules_in None = None
 cluster_rules_in (Some role) = Some role.rules
@@ -57,6 +59,7 @@ pub record Binding : Type 0 where
   pub subjects : List Subject
   pub role : RoleRef
 
+-- a ClusterRoleBinding of a name, as a binding of either kind
 abbrev pub cluster_binding : List ℕ × ClusterRoleBinding → Binding
 cluster_binding entry = record {
   kind = kind.ClusterRoleBinding;
@@ -66,6 +69,7 @@ cluster_binding entry = record {
   role = entry.1.role_ref;
 }
 
+-- a RoleBinding at its place, as a binding of either kind
 abbrev pub namespace_binding : NamespacedName × RoleBinding → Binding
 namespace_binding entry = record {
   kind = kind.RoleBinding;
@@ -102,11 +106,13 @@ pub record Granted : Type 0 where
   pub role : RoleRef
   pub rule : ℕ
 
+-- what is decided: allowed, and by what; allowed to a member of system:masters; or denied
 pub data Decided : Type 0 where
   allowed : Granted → Decided
   masters : Decided
   denied : Decided
 
+-- the grant that names a binding and a rule of its role, where there is such a rule
 abbrev pub granted_at : Binding → Option ℕ → Option Granted
 granted_at b None = None
 granted_at b (Some index) = Some (record { kind = b.kind; binding = b.name; role = b.role; rule = index })
@@ -124,6 +130,7 @@ first_some f (x ∷ xs) = option_or (f x) (first_some f xs)
 unfoldable pub granted : PolicyObjects → Identity → List ℕ → Point → Option Granted
 granted objects identity namespace point = first_some (granted_by objects identity point) (bindings_in objects namespace)
 
+-- the decision where system:masters has no part in it
 abbrev pub allowed_if : Option Granted → Decided
 allowed_if None = denied
 allowed_if (Some g) = allowed g

@@ -18,6 +18,7 @@ use Rattle.kapi_policy.specs.declared.change.PolicyPut.{PolicyPut}
 use Rattle.kapi_policy.specs.declared.change.PolicyPut.TheVariants as put
 use Rattle.kapi_policy.specs.Objects.{PolicyObjects, name_cmp, place_cmp}
 
+-- the decision allows the request
 abbrev pub is_allowed : Decided → Bool
 is_allowed (allowed g) = true
 is_allowed masters = true

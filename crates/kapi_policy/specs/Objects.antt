@@ -24,6 +24,7 @@ pub record PolicyObjects : Type 0 where
   pub role_bindings : List (NamespacedName × RoleBinding)
   pub cluster_role_bindings : List (List ℕ × ClusterRoleBinding)
 
+-- the policy without any object
 abbrev pub no_objects : PolicyObjects
 no_objects = record { roles = []; cluster_roles = []; role_bindings = []; cluster_role_bindings = [] }
 

@@ -22,11 +22,13 @@ abbrev mutual
   same_tree (object ms) (object ns) = same_members ms ns
   same_tree _ _ = false
 
+  -- as many items, each equal to the one at its place
   pub same_items : Items → Items → Bool
   same_items no_items no_items = true
   same_items (item d ds) (item e es) = same_tree d e && same_items ds es
   same_items _ _ = false
 
+  -- as many members, each of the key and value of the one at its place
   pub same_members : Members → Members → Bool
   same_members no_members no_members = true
   same_members (member k d ms) (member l e ns) = bytes_eq k l && (same_tree d e && same_members ms ns)
