@@ -1,29 +1,28 @@
-ghost use Rattle.std.specs.Prelude.{◌≤◌, IfSome};
+ghost use Rattle.std.specs.Prelude.{◌≡◌, ◌≤◌, ℕ, List, IfOk, IsErrOf, codes, map, option_and_then, option_map, string_bytes, vec_len};
+ghost use Rattle.clap.specs.Matches.{found_of};
+ghost use Rattle.clap.specs.Simple.{subcommand_rows_of};
+ghost use Rattle.clap.specs.Walk.{first_of, rows_of};
+ghost use Rattle.kapi.specs.Asked.{AreWrong, Names, Reads, answer_of, asked_by, files_in, files_told, listens_in, options_in, options_told, readers_in, told};
+ghost use Rattle.kapi.specs.Listens.{listen_of, listens_of, parted as parted_of};
+ghost use Rattle.kapi.specs.Numbers.{number_of, port_of, readers_of};
 
+use crate::arguments::program;
 use crate::program::{AuditFiles, Command, CommandFault, Listen, ServeOptions};
+use clap::ArgMatches;
 use clap::error::ErrorKind;
-use clap::{Arg, ArgMatches, Command as Program, value_parser};
 use kapi_audit::READERS;
 use kapi_script::read_identity;
-use kapi_text::{Memory, are_digits};
+use kapi_text::{Memory, are_digits, number};
 use std::alloc::Global;
 
-/// The version that `--version` tells.
-const VERSION: &str = "0.1.0";
-
 /// Reads the command line; the first word is the program's name.
-pub fn command(alloc: Global, words: &[&str]) -> Result<Command, CommandFault> {
-    let program = match program(alloc) {
-        Ok(program) => program,
-        Err(_) => return Err(CommandFault::Memory),
-    };
+pub fn command(alloc: Global, words: &[&str]) -> Result<Command, CommandFault>
+    ensures named { IfOk result (λ c. Names (map (λ word. word.now) words.now) c) }
+    ensures wrong { IsErrOf result CommandFault.Words → AreWrong (map (λ word. word.now) words.now) }
+{
+    let program = program(alloc)?;
     match program.try_get_matches_from(words) {
-        Ok(matches) => match matches.subcommand() {
-            Some(("script", _)) => Ok(Command::Script),
-            Some(("audit", words)) => Ok(Command::Audit(audit_files(alloc, words)?)),
-            Some(("serve", words)) => Ok(Command::Serve(serve_options(alloc, words)?)),
-            _ => Err(CommandFault::Words),
-        },
+        Ok(matches) => asked(alloc, &matches),
         Err(error) => match error.kind() {
             ErrorKind::DisplayHelp | ErrorKind::DisplayVersion => Ok(Command::Show(error)),
             ErrorKind::OutOfMemory => Err(CommandFault::Memory),
@@ -32,54 +31,89 @@ pub fn command(alloc: Global, words: &[&str]) -> Result<Command, CommandFault> {
     }
 }
 
-/// The files and the number of readers that the words behind `audit` tell.
-fn audit_files(alloc: Global, words: &ArgMatches<'_>) -> Result<AuditFiles, CommandFault> {
-    let (Some(policy), Some(questions)) = (words.get_str("POLICY"), words.get_str("QUESTIONS"))
-    else {
-        return Err(CommandFault::Words);
-    };
-    match number_of_readers(words) {
-        Some(readers) => Ok(AuditFiles {
-            policy: String::from_str(alloc, policy)?,
-            questions: String::from_str(alloc, questions)?,
-            readers,
-        }),
+/// What the subcommand and the words behind it ask for.
+fn asked(alloc: Global, matches: &ArgMatches<'_>) -> Result<Command, CommandFault>
+    ensures { Reads told result (option_and_then (λ p. asked_by p.0 p.1) (subcommand_rows_of matches.now)) }
+{
+    match matches.subcommand() {
+        Some((name, words)) => named(alloc, name, words),
         None => Err(CommandFault::Words),
     }
 }
 
+/// What the subcommand of that name asks for.
+fn named(alloc: Global, name: &str, words: &ArgMatches<'_>) -> Result<Command, CommandFault>
+    ensures { Reads told result (asked_by name.now (rows_of (found_of words.now))) }
+{
+    match name {
+        "script" => Ok(Command::Script),
+        "audit" => Ok(Command::Audit(audit_files(alloc, words)?)),
+        "serve" => Ok(Command::Serve(serve_options(alloc, words)?)),
+        _ => Err(CommandFault::Words),
+    }
+}
+
+/// The files and the number of readers that the words behind `audit` tell.
+fn audit_files(alloc: Global, words: &ArgMatches<'_>) -> Result<AuditFiles, CommandFault>
+    ensures { Reads files_told result (files_in (rows_of (found_of words.now))) }
+{
+    let policy = value(words, "POLICY").ok_or(CommandFault::Words)?;
+    let questions = value(words, "QUESTIONS").ok_or(CommandFault::Words)?;
+    let readers = number_of_readers(words).ok_or(CommandFault::Words)?;
+    Ok(AuditFiles {
+        policy: String::from_str(alloc, policy)?,
+        questions: String::from_str(alloc, questions)?,
+        readers,
+    })
+}
+
+/// The value of that name, if it has one.
+#[tactic(auto, using(crate::proofs::Reading::first_value_rows))]
+fn value<'a>(words: &ArgMatches<'a>, name: &str) -> Option<&'a str>
+    ensures { option_map (λ s. s.now) result ≡ first_of name.now (rows_of (found_of words.now)) }
+{
+    words.get_str(name)
+}
+
 /// The number behind `--readers`, where it is 1 to 16.
 fn number_of_readers(words: &ArgMatches<'_>) -> Option<usize>
-    ensures { IfSome result (λ n. (1 ≤ n) × (n ≤ 16)) }
+    ensures { result ≡ readers_in (rows_of (found_of words.now)) }
 {
-    match words.get_one::<usize>("readers") {
+    match value(words, "readers") {
+        Some(digits) => few_readers(digits),
+        None => None,
+    }
+}
+
+/// The number that the digits tell, where it is 1 to 16.
+fn few_readers(digits: &str) -> Option<usize>
+    ensures { result ≡ readers_of digits.now }
+{
+    match whole_number(digits) {
         Some(readers) if 1 <= readers && readers <= READERS => Some(readers),
         _ => None,
     }
 }
 
+/// The number that the digits tell, a plus before them or not.
+#[tactic(auto, using(crate::proofs::Reading::number_read))]
+fn whole_number(digits: &str) -> Option<usize>
+    ensures { result ≡ number_of digits.now }
+{
+    digits.parse().ok()
+}
+
 /// So many ports are served at most.
-const PORTS: usize = 16;
+pub const PORTS: usize = 16;
 
 /// The file, the ports and the number of readers that the words behind `serve` tell.
-fn serve_options(alloc: Global, words: &ArgMatches<'_>) -> Result<ServeOptions, CommandFault> {
-    let load = match words.get_str("load") {
-        Some(file) => Some(String::from_str(alloc, file)?),
-        None => None,
-    };
-    let answer = match words.get_str("answer") {
-        Some(digits) => Some(port(digits).ok_or(CommandFault::Words)?),
-        None => None,
-    };
-    let (Some(readers), Some(words)) = (number_of_readers(words), words.get_strs("LISTEN")) else {
-        return Err(CommandFault::Words);
-    };
-    let Some(listens) = listens(alloc, words)? else {
-        return Err(CommandFault::Words);
-    };
-    if listens.is_empty() || listens.len() > PORTS {
-        return Err(CommandFault::Words);
-    }
+fn serve_options(alloc: Global, words: &ArgMatches<'_>) -> Result<ServeOptions, CommandFault>
+    ensures { Reads options_told result (options_in (rows_of (found_of words.now))) }
+{
+    let answer = answer(words).ok_or(CommandFault::Words)?;
+    let readers = number_of_readers(words).ok_or(CommandFault::Words)?;
+    let listens = listens(alloc, words)?;
+    let load = copied(alloc, value(words, "load"))?;
     Ok(ServeOptions {
         load,
         listens,
@@ -88,124 +122,81 @@ fn serve_options(alloc: Global, words: &ArgMatches<'_>) -> Result<ServeOptions, 
     })
 }
 
-/// The port and the identity that each word tells; none where one is of another form.
-fn listens(alloc: Global, words: &[&str]) -> Result<Option<Vec<Listen>>, Memory> {
+/// The port for questions, where one is told.
+fn answer(words: &ArgMatches<'_>) -> Option<Option<u16>>
+    ensures { result ≡ answer_of (first_of (codes "answer") (rows_of (found_of words.now))) }
+{
+    match value(words, "answer") {
+        Some(digits) => port(digits).map(Some),
+        None => Some(None),
+    }
+}
+
+fn copied(alloc: Global, text: Option<&str>) -> Result<Option<String>, Memory>
+    ensures { IfOk result (λ copy. option_map (λ s. string_bytes s) copy ≡ option_map (λ s. s.now) text.entry) }
+{
+    match text {
+        Some(text) => Ok(Some(String::from_str(alloc, text)?)),
+        None => Ok(None),
+    }
+}
+
+/// The ports and the identities that the words tell, 1 to 16 in their order.
+#[tactic(auto, using(crate::proofs::Reading::raw_values_rows))]
+fn listens(alloc: Global, words: &ArgMatches<'_>) -> Result<Vec<Listen>, CommandFault>
+    ensures few { IfOk result (λ l. (1 ≤ vec_len l) × (vec_len l ≤ 16)) }
+    ensures told { Reads (λ l. l.items) result (listens_in (rows_of (found_of words.now))) }
+{
+    let words = words.get_strs("LISTEN").ok_or(CommandFault::Words)?;
+    let listens = each_listen(alloc, words)?;
+    if listens.is_empty() || listens.len() > PORTS {
+        return Err(CommandFault::Words);
+    }
+    Ok(listens)
+}
+
+/// The port and the identity that each word tells.
+fn each_listen(alloc: Global, words: &[&str]) -> Result<Vec<Listen>, CommandFault>
+    ensures { Reads (λ l. l.items) result (listens_of (map (λ word. word.now) words.now)) }
+{
     let mut listens = Vec::new(alloc);
     for word in words {
-        match listen(alloc, word)? {
-            Some(listen) => listens.push(listen)?,
-            None => return Ok(None),
-        }
+        listens.push(listen(alloc, word)?)?;
     }
-    Ok(Some(listens))
+    Ok(listens)
 }
 
 /// `PORT=USER` or `PORT=USER,GROUP,..`.
-fn listen(alloc: Global, word: &str) -> Result<Option<Listen>, Memory> {
-    let Some((digits, names)) = word.split_once('=') else {
-        return Ok(None);
-    };
-    match (port(digits), read_identity(alloc, names.as_bytes())?) {
-        (Some(port), Some(identity)) => Ok(Some(Listen { port, identity })),
-        _ => Ok(None),
-    }
+#[tactic(auto, unfolding(crate::specs::Listens::listen_of))]
+fn listen(alloc: Global, word: &str) -> Result<Listen, CommandFault>
+    ensures { Reads (λ l. l) result (listen_of word.now) }
+{
+    let (digits, names) = parted(word).ok_or(CommandFault::Words)?;
+    let port = port(digits).ok_or(CommandFault::Words)?;
+    let identity = read_identity(alloc, names.as_bytes())?.ok_or(CommandFault::Words)?;
+    Ok(Listen { port, identity })
+}
+
+/// The texts before and behind the first `=`.
+fn parted(word: &str) -> Option<(&str, &str)>
+    ensures { option_map {U = List ℕ × List ℕ} (λ p. (p.0.now, p.1.now)) result ≡ parted_of word.now }
+{
+    word.split_once('=')
 }
 
 /// A port is a decimal number of so many digits at most.
 const PORT_DIGITS: usize = 5;
 
 /// The port that the digits tell, from 1 to 65,535.
-fn port(digits: &str) -> Option<u16> {
+#[tactic(auto, unfolding(crate::specs::Numbers::port_of))]
+fn port(digits: &str) -> Option<u16>
+    ensures { result ≡ port_of digits.now }
+{
     if digits.len() > PORT_DIGITS || !are_digits(digits.as_bytes()) {
         return None;
     }
-    match digits.parse() {
+    match u16::try_from(number(digits.as_bytes())) {
         Ok(0) | Err(_) => None,
         Ok(port) => Some(port),
     }
-}
-
-fn program<'a>(alloc: Global) -> Result<Program<'a>, Memory> {
-    let script = Program::new(alloc, "script").about(
-        "Plays the events on standard input and prints their answers",
-    );
-    Program::new(alloc, "kapi")
-        .about("An API server for declared objects with role-based access control")
-        .version(VERSION)
-        .subcommand_required(true)
-        .subcommand(script)?
-        .subcommand(audit(alloc)?)?
-        .subcommand(serve(alloc)?)
-}
-
-/// What `kapi audit --help` shows below the arguments.
-const AUDIT_FORMS: &str =
-    r#"Each file has one JSON object a line; empty lines and lines that begin with # are skipped. The first line is 1.
-
-POLICY: objects as a cluster gives them, namespaces first, as
-  {"apiVersion":"rbac.authorization.k8s.io/v1","kind":"Role","metadata":{"name":"r","namespace":"default"},"rules":[{"apiGroups":[""],"resources":["pods"],"verbs":["get"]}]}
-
-QUESTIONS: each the spec of a SubjectAccessReview, as
-  {"user":"ann","groups":["dev"],"resourceAttributes":{"namespace":"default","verb":"get","resource":"pods"}}
-
-One line answers each question: 'denied', 'allowed RoleBinding b, Role r, rule 0' or 'allowed group system:masters'."#;
-
-fn audit<'a>(alloc: Global) -> Result<Program<'a>, Memory> {
-    Program::new(alloc, "audit")
-        .about("Answers the questions of a file by the roles and bindings of another")
-        .after_help(AUDIT_FORMS)
-        .arg(file(alloc, "POLICY", "The objects of the policy"))?
-        .arg(file(alloc, "QUESTIONS", "The questions"))?
-        .arg(readers(alloc))
-}
-
-/// What `kapi serve --help` shows below the arguments.
-const SERVE_FORMS: &str =
-    r#"Each port stands on 127.0.0.1, and each of its clients is the user that its word names, in the groups behind him.
-
-FILE has one JSON object a line, namespaces first; empty lines and lines that begin with # are skipped. The first line is 1.
-
-With --answer, N threads answer questions while the server goes on, those of one client after the other: each line the spec of a
-SubjectAccessReview, as for kapi audit, and each answer behind the number of changes of the policy that it follows.
-
-Example:
-  kapi serve --load objects.jsonl 8001=root,system:masters 8002=ann,dev
-  curl -s 127.0.0.1:8001/api/v1/namespaces/default/configmaps -H 'Content-Type: application/json' \
-    -d '{"apiVersion":"v1","kind":"ConfigMap","metadata":{"name":"a"},"data":{"k":"v"}}'
-  curl -s 127.0.0.1:8001/api/v1/namespaces/default/configmaps/a"#;
-
-fn serve<'a>(alloc: Global) -> Result<Program<'a>, Memory> {
-    let load = Arg::new(alloc, "load")
-        .long("load")
-        .value_name("FILE")
-        .help("The objects that stand at first");
-    let answer = Arg::new(alloc, "answer")
-        .long("answer")
-        .value_name("PORT")
-        .help("A port on which questions are answered");
-    let listen = Arg::new(alloc, "LISTEN")
-        .value_name("PORT=USER[,GROUP..]")
-        .help("A port and who its clients are, 1 to 16 of them")
-        .required(true)
-        .num_args(1..=PORTS);
-    Program::new(alloc, "serve")
-        .about("Serves requests on ports of this machine")
-        .after_help(SERVE_FORMS)
-        .arg(load)?
-        .arg(answer)?
-        .arg(readers(alloc))?
-        .arg(listen)
-}
-
-fn file<'a>(alloc: Global, name: &'a str, help: &'a str) -> Arg<'a> {
-    Arg::new(alloc, name).help(help).required(true)
-}
-
-fn readers<'a>(alloc: Global) -> Arg<'a> {
-    Arg::new(alloc, "readers")
-        .long("readers")
-        .value_name("N")
-        .help("How many threads answer, from 1 to 16")
-        .value_parser(value_parser!(usize))
-        .default_value("2")
 }

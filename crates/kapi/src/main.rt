@@ -5,6 +5,7 @@
 ghost use Rattle.std.specs.Prelude.{◌≤◌};
 
 mod answering;
+mod arguments;
 mod command_line;
 mod program;
 mod serving;

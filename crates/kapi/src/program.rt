@@ -1,8 +1,9 @@
-ghost use Rattle.std.specs.Prelude.{◌≤◌, vec_len};
+ghost use Rattle.std.specs.Prelude.{◌≡◌, ◌≤◌, vec_len};
+ghost use Rattle.kapi.specs.declared.program.CommandFault.TheVariants.{Memory as NoMemory};
 
 use clap::Error as Shown;
 use kapi_rbac_types::Identity;
-use std::alloc::AllocError;
+use std::alloc::{AllocError, AllocFailed};
 use std::io;
 use thiserror::Error;
 
@@ -62,7 +63,20 @@ pub enum CommandFault {
 }
 
 impl From<AllocError> for CommandFault {
+    ghost from_gives = { λ _ e. e ≡ NoMemory };
+
     fn from(_refused: AllocError) -> CommandFault {
+        CommandFault::Memory
+    }
+}
+
+impl<T: Drop> From<AllocFailed<T>> for CommandFault {
+    ghost use Rattle.std.specs.Prelude.{◌≡◌};
+    ghost use Rattle.kapi.specs.declared.program.CommandFault.TheVariants.{Memory as NoMemory};
+
+    ghost from_gives = { λ _ e. e ≡ NoMemory };
+
+    fn from(_failed: AllocFailed<T>) -> CommandFault {
         CommandFault::Memory
     }
 }

@@ -1,0 +1,114 @@
+-- What clap makes of Kapi's command line.
+use Rattle.std.proofs.Common.{◌≡◌, ◌∙◌, ◌⊎◌, ◌||◌, ◌==◌, ◌≢◌, Bool, true, false, List, [], ◌∷◌, length, Option, Some, None, Result, Ok, Err, IfOk, IsErrOf, inl, inr, refl, sym, ap, subst, not, codes, if◌then◌else◌}
+use Rattle.std.proofs.Math.Dec.{eqb-suc-zero}
+use Rattle.std.specs.Prelude.{option_and_then, option_map}
+use Rattle.std.specs.List.{list_any}
+use Rattle.std.specs.Str.{bytes_eq}
+use Rattle.clap.specs.Faults.{fault_of, is_simple_and_free}
+use Rattle.clap.specs.Kinds.{IsAmong, Kinds}
+use Rattle.clap.specs.Simple.{App, HasMatchesOf, is_simple, subcommand_of, subcommand_rows_of}
+use Rattle.clap.specs.Walk.{Row, Text}
+use Rattle.clap.specs.declared.error.kind.ErrorKind.{ErrorKind}
+use Rattle.clap.specs.declared.error.kind.ErrorKind.TheVariants.{DisplayHelp, DisplayVersion, OutOfMemory}
+use Rattle.clap.specs.declared.parser.matches.ArgMatches.{ArgMatches}
+use Rattle.clap.proofs.OnLiterals.{clap_on_literals}
+use Rattle.kapi.specs.Asked.{AreWrong, Asked, Files, Names, Options, Reads, asked, asked_by, files_in, is_shown, options_in, told}
+use Rattle.kapi.specs.Asked.{Audit, Script, Serve, Show}
+use Rattle.kapi.specs.CommandLine.{kapi}
+use Rattle.kapi.specs.declared.program.Command.{Command}
+use Rattle.kapi.specs.declared.program.Command.TheVariants as command
+use Rattle.kapi.specs.declared.program.CommandFault.{CommandFault}
+use Rattle.kapi.specs.declared.program.CommandFault.TheVariants as fault
+
+kapi_is_simple : is_simple kapi ≡ true
+unfolding clap_on_literals
+kapi_is_simple = refl
+
+kapi_is_free : is_simple_and_free kapi ≡ true
+unfolding clap_on_literals
+kapi_is_free = refl
+
+-- ---- a parse that succeeds
+
+abbrev pub given : ArgMatches → Option Asked
+given m = option_and_then (λ p. asked_by p.0 p.1) (subcommand_rows_of m)
+
+pub faultless : (a : App) (words : List Text) → a ≡ kapi → (is_simple_and_free a ≡ true → fault_of a words ≡ []) → fault_of kapi words ≡ []
+faultless a words e none = ap (λ x. fault_of x words) (sym e) ∙ none (ap is_simple_and_free e ∙ kapi_is_free)
+
+pub asked_of : (a : App) (words : List Text) (m : ArgMatches) → a ≡ kapi → (is_simple_and_free a ≡ true → fault_of a words ≡ []) → HasMatchesOf a words m
+    → asked words ≡ given m
+unfolding asked
+asked_of a words m e none rows =
+    let same : subcommand_rows_of m ≡ subcommand_of kapi words = (rows (ap is_simple e ∙ kapi_is_simple)).1 ∙ ap (λ x. subcommand_of x words) e in
+    rw (faultless a words e none, same) refl
+
+never_audit : (o : Option Files) (k : ErrorKind) → option_map Audit o ≡ Some (Show k) → ⊥
+never_audit None k e = cc
+never_audit (Some f) k e = cc
+
+never_serve : (o : Option Options) (k : ErrorKind) → option_map Serve o ≡ Some (Show k) → ⊥
+never_serve None k e = cc
+never_serve (Some f) k e = cc
+
+never_of : (a b c : Bool) (x y : Option Asked) (k : ErrorKind) → (x ≡ Some (Show k) → ⊥) → (y ≡ Some (Show k) → ⊥)
+    → (if a then Some Script else (if b then x else (if c then y else None))) ≡ Some (Show k) → ⊥
+never_of true b c x y k p q e = cc
+never_of false true c x y k p q e = p e
+never_of false false true x y k p q e = q e
+never_of false false false x y k p q e = cc
+
+never_by : (name : Text) (rows : List Row) (k : ErrorKind) → asked_by name rows ≡ Some (Show k) → ⊥
+never_by name rows k =
+    never_of (bytes_eq name (codes "script")) (bytes_eq name (codes "audit")) (bytes_eq name (codes "serve")) _ _ k (never_audit (files_in rows) k) (never_serve (options_in rows) k)
+
+never_shown : (o : Option (Text × List Row)) (k : ErrorKind) → option_and_then (λ p. asked_by p.0 p.1) o ≡ Some (Show k) → ⊥
+never_shown None k e = cc
+never_shown (Some p) k e = never_by p.0 p.1 k e
+
+pub names_of : (words : List Text) (m : ArgMatches) (r : Result Command CommandFault) → asked words ≡ given m → Reads told r (given m) → IfOk r (Names words)
+names_of words m (Ok command.Script) e h = e ∙ h
+names_of words m (Ok (command.Audit f)) e h = e ∙ h
+names_of words m (Ok (command.Serve o)) e h = e ∙ h
+names_of words m (Ok (command.Show x)) e h = absurd (never_shown (subcommand_rows_of m) _ h)
+names_of words m (Err x) e h = tt
+
+pub wrong_of : (words : List Text) (m : ArgMatches) (r : Result Command CommandFault) → asked words ≡ given m → (fault_of kapi words ≡ [])
+    → Reads told r (given m) → IsErrOf r fault.Words → AreWrong words
+wrong_of words m (Ok c) e none h is = let bad : ⊥ = cc in absurd bad
+wrong_of words m (Err fault.Words) e none h is = (e ∙ h, inl none)
+wrong_of words m (Err fault.Memory) e none h is = let bad : ⊥ = cc in absurd bad
+
+-- ---- a parse that fails
+
+not_shown : (k : ErrorKind) → k ≢ DisplayHelp → k ≢ DisplayVersion → not (is_shown k) ≡ true
+not_shown DisplayHelp h v = absurd (h refl)
+not_shown DisplayVersion h v = absurd (v refl)
+not_shown _ h v = refl
+
+some_kind : (k : ErrorKind) (ks : Kinds) → IsAmong k ks → (length ks == 0) ≡ false
+some_kind k [] h = absurd h
+some_kind k (x ∷ xs) h = eqb-suc-zero (length xs)
+
+or_true : (b : Bool) → (b || true) ≡ true
+or_true true = refl
+or_true false = refl
+
+among_any : (p : ErrorKind → Bool) (k : ErrorKind) (ks : Kinds) → p k ≡ true → IsAmong k ks → list_any p ks ≡ true
+among_any p k [] e h = absurd h
+among_any p k (x ∷ xs) e (inl same) = rw (← same, e) refl
+among_any p k (x ∷ xs) e (inr more) = rw (among_any p k xs e more) (or_true (p x))
+
+wrong_among : (words : List Text) (k : ErrorKind) → k ≢ DisplayHelp → k ≢ DisplayVersion → IsAmong k (fault_of kapi words) → AreWrong words
+unfolding asked
+wrong_among words k h v among =
+    let some = some_kind k (fault_of kapi words) among in
+    (rw some refl, inr (among_any (λ x. not (is_shown x)) k (fault_of kapi words) (not_shown k h v) among))
+
+pub wrong_at : (a : App) (words : List Text) (x k : ErrorKind) → a ≡ kapi → x ≡ k → (is_simple_and_free a ≡ true → (k ≡ OutOfMemory) ⊎ IsAmong k (fault_of a words))
+    → x ≢ DisplayHelp → x ≢ DisplayVersion → x ≢ OutOfMemory → AreWrong words
+wrong_at a words x k e same kinds h v o =
+    elim (kinds (ap is_simple_and_free e ∙ kapi_is_free)) [
+      | inl memory ↦ absurd (o (same ∙ memory))
+      | inr among ↦ wrong_among words k (λ z. h (same ∙ z)) (λ z. v (same ∙ z)) (subst (λ y. IsAmong k (fault_of y words)) e among)
+    ]

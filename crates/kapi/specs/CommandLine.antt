@@ -1,0 +1,46 @@
+-- The command line of Kapi, as clap takes it.
+use Rattle.std.specs.Prelude.{Some, [], ◌∷◌, codes, true}
+use Rattle.clap.specs.Words.{App, Rule, Text, new_app, new_rule, with_rule, with_subcommand}
+use Rattle.clap.specs.Simple.{on_top}
+use Rattle.clap.specs.declared.builder.value_parser.ValueParser.TheVariants.{Unsigned}
+
+-- a file that must be named
+abbrev pub file : Text → Rule
+file name = record (new_rule name) { required = true }
+
+-- `--NAME VALUE`, which may be left out
+abbrev pub option : Text → Rule
+option name = record (new_rule name) { long = Some name; value_names = 1 }
+
+-- `--readers N`, where N is a number of 64 bits, and 2 where it is left out
+abbrev pub readers : Rule
+readers = record (option (codes "readers")) {
+  parser = Some (Unsigned 0 18446744073709551615);
+  defaults = codes "2" ∷ [];
+}
+
+-- the words of the ports, 1 to 16
+abbrev pub listen : Rule
+listen = record (new_rule (codes "LISTEN")) {
+  value_names = 1;
+  required = true;
+  range = Some (record { start_inclusive = 1; end_inclusive = 16 });
+}
+
+-- `kapi script`
+abbrev pub script : App
+script = new_app (codes "script")
+
+-- `kapi audit`, its files before its option
+abbrev pub audit : App
+audit = with_rule (with_rule (with_rule (new_app (codes "audit")) (file (codes "POLICY"))) (file (codes "QUESTIONS"))) readers
+
+-- `kapi serve`, its options before its ports
+abbrev pub serve : App
+serve =
+    with_rule (with_rule (with_rule (with_rule (new_app (codes "serve")) (option (codes "load"))) (option (codes "answer"))) readers) listen
+
+-- `kapi`, which has a version and needs one of its three subcommands
+abbrev pub kapi : App
+kapi =
+    with_subcommand (with_subcommand (with_subcommand (on_top (λ s. record s { has_version = true; subcommand_required = true }) (new_app (codes "kapi"))) script.top) audit.top) serve.top

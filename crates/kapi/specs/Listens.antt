@@ -1,0 +1,37 @@
+-- The ports that words of a command line tell, and who their clients are.
+use Rattle.std.specs.Prelude.{ℕ, ◌==◌, ◌&&◌, nat_le, nat_lt, if◌then◌else◌, List, [], ◌∷◌, length, Option, Some, None, option_and_then}
+use Rattle.std.specs.List.{position_or_len, before_first, after_first}
+use Rattle.kapi_script.specs.Events.{named_identity}
+use Rattle.kapi.specs.Numbers.{port_of}
+use Rattle.kapi.specs.declared.program.Listen.{Listen}
+
+infixl 10 ◌>>=◌
+-- a step after another, where there is a value
+abbrev pub ◌>>=◌ : {A B : Type 0} → Option A → (A → Option B) → Option B
+o >>= f = option_and_then f o
+
+-- the texts before and behind the first = of a word, if it has one
+abbrev pub parted : List ℕ → Option (List ℕ × List ℕ)
+parted word =
+    if nat_lt (position_or_len (λ b. b == 61) word) (length word) then Some (before_first (λ b. b == 61) word, after_first (λ b. b == 61) word)
+    else None
+
+-- the port and the identity that a word tells, as `PORT=USER,GROUP,..`
+unfoldable pub listen_of : List ℕ → Option Listen
+listen_of word = do
+  parts ← parted word
+  port ← port_of parts.0
+  identity ← named_identity parts.1
+  Some (record { port = port; identity = identity })
+
+-- what each word tells, in their order; none where one of them tells nothing
+abbrev pub listens_of : List (List ℕ) → Option (List Listen)
+listens_of [] = Some []
+listens_of (word ∷ words) = do
+  listen ← listen_of word
+  listens ← listens_of words
+  Some (listen ∷ listens)
+
+-- the list, where it has 1 to 16 elements
+abbrev pub few : List Listen → Option (List Listen)
+few listens = if nat_le 1 (length listens) && nat_le (length listens) 16 then Some listens else None
