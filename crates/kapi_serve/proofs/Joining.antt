@@ -29,11 +29,11 @@ taken xs sent count rest = ap (λ ys. ys ++ rest) (sym (take-append-drop count (
 pub owed_pass : (head : List ℕ) (sent count next : ℕ) (rest : List ℕ) → count ≤ length (drop sent head) → next ≡ min (min (sent + count) 18446744073709551615) (length head)
     → length head ≤ 18446744073709551615 → drop sent head ++ rest ≡ take count (drop sent head) ++ (drop next head ++ rest)
 owed_pass head sent count next rest few is bound = elim (cases_lt sent (length head)) [
-    inl below ↦
-        let same : sent + count ≡ next = omega (arith, length-drop sent head, few, is, bound, below) in
-        taken head sent count rest ∙ ap (λ n. take count (drop sent head) ++ (drop n head ++ rest)) same
+  | inl below ↦
+      let same : sent + count ≡ next = omega (arith, length-drop sent head, few, is, bound, below) in
+      taken head sent count rest ∙ ap (λ n. take count (drop sent head) ++ (drop n head ++ rest)) same
   | inr above ↦
-        let none : count ≡ 0 = omega (arith, length-drop sent head, few, above) in
-        let all : next ≡ length head = omega (arith, is, bound, above) in
-        ap (λ ys. ys ++ rest) (drop_all sent head above ∙ sym (drop_all next head (omega (arith, all)))) ∙ ap (λ n. take n (drop sent head) ++ (drop next head ++ rest)) (sym none)
-  ]
+      let none : count ≡ 0 = omega (arith, length-drop sent head, few, above) in
+      let all : next ≡ length head = omega (arith, is, bound, above) in
+      ap (λ ys. ys ++ rest) (drop_all sent head above ∙ sym (drop_all next head (omega (arith, all)))) ∙ ap (λ n. take n (drop sent head) ++ (drop next head ++ rest)) (sym none)
+]

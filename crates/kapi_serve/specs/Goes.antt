@@ -34,32 +34,32 @@ abbrev pub IsAt : ℕ → List Seat → List Seat → Seat → List Seat → Typ
 IsAt index seats front x back = (seats ≡ front ++ x ∷ back) × (length front ≡ index)
 
 -- bytes that a client was owed went out to him
-pub record Writes (x y : Seat) (tells : Type 0) (history next : List Entry) : Type 0 where
+pub record Writes (x y : Seat) (T U : Type 0) (history next : List Entry) : Type 0 where
   pub acts : List Act
   pub idle : made_in acts ≡ []
   pub follows : (front back : List Seat) → Follows (front ++ x ∷ back) acts (front ++ y ∷ back)
-  pub told : tells → next ≡ history ++ entries_in acts
+  pub told : U → T × (next ≡ history ++ entries_in acts)
 
 -- a client's connection was closed and his slot ended
-pub record Closes (old new : Running) (x : Seat) (tells : Type 0) (history next : List Entry) : Type 0 where
+pub record Closes (old new : Running) (x : Seat) (T U : Type 0) (history next : List Entry) : Type 0 where
   pub makes : Makes old new (event.Close x.conn) answer.Done
-  pub told : tells → next ≡ history ++ entry.Ended x.slot ∷ []
+  pub told : U → T × (next ≡ history ++ entry.Ended x.slot ∷ [])
 
 -- acts whose events change no policy were made
-pub record Moves (old new : Running) (s t : List Seat) (tells : Type 0) (history next : List Entry) : Type 0 where
+pub record Moves (old new : Running) (s t : List Seat) (T U : Type 0) (history next : List Entry) : Type 0 where
   pub acts : List Act
   pub runs : Runs old new (made_in acts)
   pub quiet : steps_in (answers_of (made_in acts)) ≡ []
   pub follows : Follows s acts t
-  pub told : tells → next ≡ history ++ entries_in acts
+  pub told : U → T × (next ≡ history ++ entries_in acts)
 
 -- acts were made, and the steps of their events were put behind the others
-pub record Goes (old new : Running) (board next : Board) (p q : Option (List PolicyChange)) (s t : List Seat) (tells : Type 0) (history later : List Entry) : Type 0 where
+pub record Goes (old new : Running) (board next : Board) (p q : Option (List PolicyChange)) (s t : List Seat) (T U : Type 0) (history later : List Entry) : Type 0 where
   pub acts : List Act
   pub runs : Runs old new (made_in acts)
   pub shows : Shows board next p q (steps_in (answers_of (made_in acts)))
   pub follows : Follows s acts t
-  pub told : tells → later ≡ history ++ entries_in acts
+  pub told : U → T × (later ≡ history ++ entries_in acts)
 
 -- what a server did: its events are one list, after which the machine is that of their run; the desk has published the steps of
 -- their answers in order, all but at most the last; and where the ports tell what they gave and took, that and the events are accounted for

@@ -59,7 +59,7 @@ impl Client {
 
     /// Writes pending bytes until the slot takes no more.
     pub(crate) fn flush<R: Wait, Q: Ports>(&mut self, rt: &R, ports: &mut Q) -> Flushed
-        ensures { Writes (seat_of self.old) (seat_of self.new) Q.tells (Q.history ports.old) (Q.history ports.new) }
+        ensures { Writes (seat_of self.old) (seat_of self.new) (Q.tells ports.old) (Q.tells ports.new) (Q.history ports.old) (Q.history ports.new) }
     {
         let mut flushed = Flushed::Nothing;
         for _ in rt.forever() {
@@ -74,7 +74,7 @@ impl Client {
 
     /// One write. One that takes no byte is as one that would block.
     fn write<Q: Ports>(&mut self, ports: &mut Q) -> Flushed
-        ensures { Writes (seat_of self.old) (seat_of self.new) Q.tells (Q.history ports.old) (Q.history ports.new) }
+        ensures { Writes (seat_of self.old) (seat_of self.new) (Q.tells ports.old) (Q.tells ports.new) (Q.history ports.old) (Q.history ports.new) }
     {
         if self.blocked || self.pending.is_empty() {
             return Flushed::Nothing;
@@ -123,7 +123,7 @@ impl Client {
         desk: &mut Desk,
         publishing: &mut Publishing,
     ) -> bool
-        ensures { (front back : List Seat) (h : List AnEntry) → Goes core.old core.new desk.old desk.new publishing.old.kept publishing.new.kept (front ++ seat_of self.old ∷ back) (front ++ seat_of self.new ∷ back) ⊤ h h }
+        ensures { (front back : List Seat) (h : List AnEntry) → Goes core.old core.new desk.old desk.new publishing.old.kept publishing.new.kept (front ++ seat_of self.old ∷ back) (front ++ seat_of self.new ∷ back) ⊤ ⊤ h h }
     {
         if !self.fed {
             return false;
@@ -154,7 +154,7 @@ impl Client {
         desk: &mut Desk,
         publishing: &mut Publishing,
     ) -> bool
-        ensures { (front back : List Seat) (h : List AnEntry) → Goes core.old core.new desk.old desk.new publishing.old.kept publishing.new.kept (front ++ seat_of self.old ∷ back) (front ++ seat_of self.new ∷ back) ⊤ h h }
+        ensures { (front back : List Seat) (h : List AnEntry) → Goes core.old core.new desk.old desk.new publishing.old.kept publishing.new.kept (front ++ seat_of self.old ∷ back) (front ++ seat_of self.new ∷ back) ⊤ ⊤ h h }
     {
         if !self.watching {
             return false;
@@ -204,7 +204,7 @@ impl Client {
 
     /// Closes the connection where the client's bytes have ended.
     fn finish<P: Policy + Drop>(&mut self, core: &mut Core<P>)
-        ensures { (front back : List Seat) (h : List AnEntry) → Moves core.old core.new (front ++ seat_of self.old ∷ back) (front ++ seat_of self.new ∷ back) ⊤ h h }
+        ensures { (front back : List Seat) (h : List AnEntry) → Moves core.old core.new (front ++ seat_of self.old ∷ back) (front ++ seat_of self.new ∷ back) ⊤ ⊤ h h }
     {
         if self.phase == Phase::Ending {
             core.close(self.id);

@@ -71,7 +71,7 @@ impl Clients {
         slot: usize,
         identity: Identity,
     )
-        ensures { (h : List AnEntry) → (Q.tells → Q.history ports.old ≡ h ++ entry.Opened slot identity ∷ []) → Moves core.old core.new (seats_of self.old.list.items) (seats_of self.new.list.items) Q.tells h (Q.history ports.new) }
+        ensures { (h : List AnEntry) → (Q.tells ports.old → Q.history ports.old ≡ h ++ entry.Opened slot identity ∷ []) → Moves core.old core.new (seats_of self.old.list.items) (seats_of self.new.list.items) (Q.tells ports.old) (Q.tells ports.new) h (Q.history ports.new) }
     {
         self.forget(core, slot);
         if self.list.reserve(1).is_err() {
@@ -116,7 +116,7 @@ impl Clients {
 
     /// Closes the connection on a slot that is given to another client.
     fn forget<P: Policy + Drop>(&mut self, core: &mut Core<P>, slot: usize)
-        ensures moves { (h : List AnEntry) → Moves core.old core.new (seats_of self.old.list.items) (seats_of self.new.list.items) ⊤ h h }
+        ensures moves { (h : List AnEntry) → Moves core.old core.new (seats_of self.old.list.items) (seats_of self.new.list.items) ⊤ ⊤ h h }
         ensures free { IsFree slot (seats_of self.new.list.items) }
     {
         while let Some(index) = self.place(slot) {
@@ -135,7 +135,7 @@ impl Clients {
         requires { index < length self.old.list.items }
         ensures length { length self.new.list.items + 1 ≡ length self.old.list.items }
         ensures seats { (front : List Seat) (x : Seat) (back : List Seat) → IsAt index (seats_of self.old.list.items) front x back → seats_of self.new.list.items ≡ front ++ back }
-        ensures closes { (front : List Seat) (x : Seat) (back : List Seat) → IsAt index (seats_of self.old.list.items) front x back → Closes core.old core.new x Q.tells (Q.history ports.old) (Q.history ports.new) }
+        ensures closes { (front : List Seat) (x : Seat) (back : List Seat) → IsAt index (seats_of self.old.list.items) front x back → Closes core.old core.new x (Q.tells ports.old) (Q.tells ports.new) (Q.history ports.old) (Q.history ports.new) }
     {
         let client = self.list.remove(index);
         core.close(client.id);
@@ -168,7 +168,7 @@ impl Clients {
         slot: usize,
         buffer: &mut [u8],
     ) -> Pulled
-        ensures moves { Moves core.old core.new (seats_of self.old.list.items) (seats_of self.new.list.items) Q.tells (Q.history ports.old) (Q.history ports.new) }
+        ensures moves { Moves core.old core.new (seats_of self.old.list.items) (seats_of self.new.list.items) (Q.tells ports.old) (Q.tells ports.new) (Q.history ports.old) (Q.history ports.new) }
         ensures others { others slot (seats_of self.new.list.items) ≡ others slot (seats_of self.old.list.items) }
     {
         let Some(index) = self.place(slot) else {
@@ -212,7 +212,7 @@ impl Clients {
         requires bound { index < length self.old.list.items }
         requires reading { HoldsAt (λ client. client.phase ≡ phase.Open) self.old.list.items index }
         ensures others { (front : List Seat) (x : Seat) (back : List Seat) → IsAt index (seats_of self.old.list.items) front x back → others x.slot (seats_of self.new.list.items) ≡ others x.slot (seats_of self.old.list.items) }
-        ensures moves { (front : List Seat) (x : Seat) (back : List Seat) → IsAt index (seats_of self.old.list.items) front x back → (h : List AnEntry) → (Q.tells → Q.history ports.old ≡ h ++ entry.Gave x.slot piece.now ∷ []) → Moves core.old core.new (seats_of self.old.list.items) (seats_of self.new.list.items) Q.tells h (Q.history ports.new) }
+        ensures moves { (front : List Seat) (x : Seat) (back : List Seat) → IsAt index (seats_of self.old.list.items) front x back → (h : List AnEntry) → (Q.tells ports.old → Q.history ports.old ≡ h ++ entry.Gave x.slot piece.now ∷ []) → Moves core.old core.new (seats_of self.old.list.items) (seats_of self.new.list.items) (Q.tells ports.old) (Q.tells ports.new) h (Q.history ports.new) }
     {
         match core.feed(self.list[index].id, piece) {
             Ok(()) => {

@@ -4,6 +4,7 @@ ghost use Rattle.kapi_serve.specs.declared.port.Entry.TheVariants as entry;
 ghost use Rattle.kapi_serve.specs.declared.port.PortFault.TheVariants as fault;
 
 use kapi_rbac_types::Identity;
+use kapi_text::Sequence;
 
 /// What ports have to tell. A slot is the number of a connection among them, free again once it is ended.
 #[derive(Debug, Drop)]
@@ -27,14 +28,15 @@ pub enum PortFault {
     Failed,
 }
 
-/// What a call on ports gave or took, as contracts tell it. No value of it is made.
+/// What a call on ports gave or took. Ports that tell their history keep it.
+#[derive(Debug, Drop)]
 pub enum Entry {
     /// A client has connected.
     Opened(usize, Identity),
     /// These bytes were read; none at the end of the client's bytes.
-    Gave(usize, [u8; 0]),
+    Gave(usize, Sequence<u8>),
     /// These bytes were accepted.
-    Took(usize, [u8; 0]),
+    Took(usize, Sequence<u8>),
     /// The slot was ended.
     Ended(usize),
 }
@@ -47,30 +49,30 @@ pub trait Ports {
     /// What the calls gave and took so far.
     ghost history: { Self → List AnEntry };
 
-    /// What shows that the calls tell the history, where they do.
-    ghost tells: { Type 0 } = { ⊥ };
+    /// What shows that all calls so far told the history, where they did.
+    ghost tells: { Self → Type 0 } = { λ ports. ⊥ };
 
     /// How often a slot has failed.
     ghost failures: { Self → ℕ };
 
     /// What happens next; none where nothing will any more.
     fn next(&mut self) -> Option<PortEvent>
-        ensures told { tells → history self.new ≡ history self.old ++ opened result };
+        ensures told { tells self.new → tells self.old × (history self.new ≡ history self.old ++ opened result) };
 
     /// Reads into the buffer; 0 is the end of the client's bytes.
     fn read(&mut self, slot: usize, buffer: &mut [u8]) -> Result<usize, PortFault>
         ensures len { length buffer.new ≡ length buffer.old }
         ensures bound { IfOk result (λ n. n ≤ length buffer.new) }
-        ensures told { tells → history self.new ≡ history self.old ++ gave slot buffer.new result }
+        ensures told { tells self.new → tells self.old × (history self.new ≡ history self.old ++ gave slot buffer.new result) }
         ensures failed { result ≡ Err fault.Failed → failures self.old < failures self.new };
 
     /// Writes some of the bytes.
     fn write(&mut self, slot: usize, bytes: &[u8]) -> Result<usize, PortFault>
         ensures bound { IfOk result (λ n. n ≤ length bytes.now) }
-        ensures told { tells → history self.new ≡ history self.old ++ took slot bytes.now result }
+        ensures told { tells self.new → tells self.old × (history self.new ≡ history self.old ++ took slot bytes.now result) }
         ensures failed { result ≡ Err fault.Failed → failures self.old < failures self.new };
 
     /// Ends a slot.
     fn end(&mut self, slot: usize)
-        ensures told { tells → history self.new ≡ history self.old ++ entry.Ended slot ∷ [] };
+        ensures told { tells self.new → tells self.old × (history self.new ≡ history self.old ++ entry.Ended slot ∷ []) };
 }

@@ -107,7 +107,7 @@ impl Publishing {
         core: &mut Core<P>,
         desk: &mut Desk,
     ) -> bool
-        ensures { (s : List Seat) (h : List AnEntry) → Goes core.old core.new desk.old desk.new self.old.kept self.new.kept s s ⊤ h h }
+        ensures { (s : List Seat) (h : List AnEntry) → Goes core.old core.new desk.old desk.new self.old.kept self.new.kept s s ⊤ ⊤ h h }
     {
         let mut made = false;
         for _ in 0..TURNS {
@@ -126,7 +126,7 @@ impl Publishing {
         core: &mut Core<P>,
         desk: &mut Desk,
     ) -> bool
-        ensures { (s : List Seat) (h : List AnEntry) → Goes core.old core.new desk.old desk.new self.old.kept self.new.kept s s ⊤ h h }
+        ensures { (s : List Seat) (h : List AnEntry) → Goes core.old core.new desk.old desk.new self.old.kept self.new.kept s s ⊤ ⊤ h h }
     {
         if self.turns == 0 {
             return false;

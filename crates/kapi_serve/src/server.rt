@@ -33,7 +33,7 @@ pub fn serve_loop<R: Wait, P: Policy + Drop, Q: Ports>(
     ports: &mut Q,
 )
     requires { desk.old.waiting ≡ [] }
-    ensures { Serves core.old core.new desk.old desk.new Q.tells (Q.history ports.old) (Q.history ports.new) }
+    ensures { Serves core.old core.new desk.old desk.new (Q.tells ports.new) (Q.history ports.old) (Q.history ports.new) }
 {
     let mut server = Server {
         clients: Clients::new(core.allocator()),
@@ -59,7 +59,7 @@ impl Server {
         buffer: &mut [u8],
         event: PortEvent,
     )
-        ensures { (h : List AnEntry) → (Q.tells → Q.history ports.old ≡ h ++ opened (Some event)) → Goes core.old core.new desk.old desk.new self.old.publishing.kept self.new.publishing.kept (seats_of self.old.clients.list.items) (seats_of self.new.clients.list.items) Q.tells h (Q.history ports.new) }
+        ensures { (h : List AnEntry) → (Q.tells ports.old → Q.history ports.old ≡ h ++ opened (Some event)) → Goes core.old core.new desk.old desk.new self.old.publishing.kept self.new.publishing.kept (seats_of self.old.clients.list.items) (seats_of self.new.clients.list.items) (Q.tells ports.old) (Q.tells ports.new) h (Q.history ports.new) }
     {
         self.publishing.retry(rt, desk);
         self.take(rt, core, desk, ports, buffer, event);
@@ -76,7 +76,7 @@ impl Server {
         buffer: &mut [u8],
         event: PortEvent,
     )
-        ensures { (h : List AnEntry) → (Q.tells → Q.history ports.old ≡ h ++ opened (Some event)) → Goes core.old core.new desk.old desk.new self.old.publishing.kept self.new.publishing.kept (seats_of self.old.clients.list.items) (seats_of self.new.clients.list.items) Q.tells h (Q.history ports.new) }
+        ensures { (h : List AnEntry) → (Q.tells ports.old → Q.history ports.old ≡ h ++ opened (Some event)) → Goes core.old core.new desk.old desk.new self.old.publishing.kept self.new.publishing.kept (seats_of self.old.clients.list.items) (seats_of self.new.clients.list.items) (Q.tells ports.old) (Q.tells ports.new) h (Q.history ports.new) }
     {
         match event {
             PortEvent::Opened(slot, identity) => self.clients.open(core, ports, slot, identity),
@@ -96,7 +96,7 @@ impl Server {
         slot: usize,
         buffer: &mut [u8],
     )
-        ensures { Goes core.old core.new desk.old desk.new self.old.publishing.kept self.new.publishing.kept (seats_of self.old.clients.list.items) (seats_of self.new.clients.list.items) Q.tells (Q.history ports.old) (Q.history ports.new) }
+        ensures { Goes core.old core.new desk.old desk.new self.old.publishing.kept self.new.publishing.kept (seats_of self.old.clients.list.items) (seats_of self.new.clients.list.items) (Q.tells ports.old) (Q.tells ports.new) (Q.history ports.old) (Q.history ports.new) }
     {
         for _ in rt.forever() {
             match self.clients.pull(core, ports, slot, buffer) {
@@ -114,7 +114,7 @@ impl Server {
         desk: &mut Desk,
         ports: &mut Q,
     )
-        ensures { Goes core.old core.new desk.old desk.new self.old.publishing.kept self.new.publishing.kept (seats_of self.old.clients.list.items) (seats_of self.new.clients.list.items) Q.tells (Q.history ports.old) (Q.history ports.new) }
+        ensures { Goes core.old core.new desk.old desk.new self.old.publishing.kept self.new.publishing.kept (seats_of self.old.clients.list.items) (seats_of self.new.clients.list.items) (Q.tells ports.old) (Q.tells ports.new) (Q.history ports.old) (Q.history ports.new) }
     {
         for _ in rt.forever() {
             if !self.round(rt, core, desk, ports) {
@@ -131,7 +131,7 @@ impl Server {
         desk: &mut Desk,
         ports: &mut Q,
     ) -> bool
-        ensures { Goes core.old core.new desk.old desk.new self.old.publishing.kept self.new.publishing.kept (seats_of self.old.clients.list.items) (seats_of self.new.clients.list.items) Q.tells (Q.history ports.old) (Q.history ports.new) }
+        ensures { Goes core.old core.new desk.old desk.new self.old.publishing.kept self.new.publishing.kept (seats_of self.old.clients.list.items) (seats_of self.new.clients.list.items) (Q.tells ports.old) (Q.tells ports.new) (Q.history ports.old) (Q.history ports.new) }
     {
         let mut done = self.publishing.make_turns(rt, core, desk);
         let mut left = self.clients.awake(self.clients.len());
@@ -155,7 +155,7 @@ impl Server {
         requires { index < length self.old.clients.list.items }
         ensures few { length self.new.clients.list.items ≤ length self.old.clients.list.items }
         ensures many { length self.old.clients.list.items ≤ length self.new.clients.list.items + 1 }
-        ensures goes { Goes core.old core.new desk.old desk.new self.old.publishing.kept self.new.publishing.kept (seats_of self.old.clients.list.items) (seats_of self.new.clients.list.items) Q.tells (Q.history ports.old) (Q.history ports.new) }
+        ensures goes { Goes core.old core.new desk.old desk.new self.old.publishing.kept self.new.publishing.kept (seats_of self.old.clients.list.items) (seats_of self.new.clients.list.items) (Q.tells ports.old) (Q.tells ports.new) (Q.history ports.old) (Q.history ports.new) }
     {
         let client = &mut self.clients.list[index];
         let flushed = client.flush(rt, ports);
@@ -176,7 +176,7 @@ fn answer<R: Wait, P: Policy + Drop>(
     publishing: &mut Publishing,
     client: &mut Client,
 ) -> bool
-    ensures { (front back : List Seat) (h : List AnEntry) → Goes core.old core.new desk.old desk.new publishing.old.kept publishing.new.kept (front ++ seat_of client.old ∷ back) (front ++ seat_of client.new ∷ back) ⊤ h h }
+    ensures { (front back : List Seat) (h : List AnEntry) → Goes core.old core.new desk.old desk.new publishing.old.kept publishing.new.kept (front ++ seat_of client.old ∷ back) (front ++ seat_of client.new ∷ back) ⊤ ⊤ h h }
 {
     let served = client.serve(rt, core, desk, publishing);
     let shown = client.pump(rt, core, desk, publishing);

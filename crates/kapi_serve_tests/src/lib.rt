@@ -14,6 +14,8 @@ mod loopback;
 #[cfg(test)]
 mod memory;
 #[cfg(test)]
+mod recorded;
+#[cfg(test)]
 mod scene;
 #[cfg(test)]
 mod slow;

@@ -2,17 +2,18 @@ use Rattle.std.proofs.Common.{◌≡◌, ◌++◌, [], None, Some, ap, ◌∙◌
 use Rattle.kapi_serve.specs.Clients.{seat_of, seats_of}
 use Rattle.kapi_serve.specs.Goes.{Goes}
 use Rattle.kapi_serve.specs.Ports.{opened}
-use Rattle.kapi_serve.proofs.Going.{goes_as, goes_nothing, goes_on, goes_serves, goes_still}
+use Rattle.kapi_serve.proofs.Going.{goes_as, goes_before, goes_nothing, goes_on, goes_serves, goes_still}
 use Rattle.kapi_serve.proofs.server.serve_loop.Goals as goal
 
 pub loop-init : goal.loop-init
 loop-init g c =
     let at = c.args in
-    subst (λ k. Goes at.core.now at.core.now at.desk.now at.desk.now None k [] (seats_of c.new.result.list.items) g.Q.Ports.tells (g.Q.Ports.history at.ports.now) (g.Q.Ports.history at.ports.now)) (sym c.new-2.ensures)
-        (goes_as _ _ _ _ _ _ _ _ _ _ _ _ _ refl c.new.ensures (goes_nothing _ _ None _ _ _))
+    subst (λ k. Goes at.core.now at.core.now at.desk.now at.desk.now None k [] (seats_of c.new.result.list.items) (g.Q.Ports.tells at.ports.now) (g.Q.Ports.tells at.ports.now) (g.Q.Ports.history at.ports.now) (g.Q.Ports.history at.ports.now)) (sym c.new-2.ensures)
+    (goes_as _ _ _ _ _ _ _ _ _ _ _ _ _ _ refl c.new.ensures (goes_nothing _ _ None _ _ _))
 
 pub loop-preserved : goal.loop-preserved
-loop-preserved g c = goes_on _ _ _ _ _ _ _ _ _ _ _ _ _ _ _ _ c.loop.invariant (c.react.ensures _ c.in-Some-next.ensures.told)
+loop-preserved g c = goes_on _ _ _ _ _ _ _ _ _ _ _ _ _ _ _ _ _ _ c.loop.invariant
+    (goes_before _ _ _ _ _ _ _ _ _ _ _ _ _ (λ y. (c.in-Some-next.ensures.told y).0) (c.react.ensures _ (λ y. (c.in-Some-next.ensures.told y).1)))
 
 pub returns-in-None-next : goal.returns-in-None-next
-returns-in-None-next g c = goes_serves _ _ _ _ _ _ _ _ _ c.requires (goes_on _ _ _ _ _ _ _ _ _ _ _ _ _ _ _ _ c.loop.invariant (goes_still _ _ _ _ _ _ _ _ refl c.in-None-next.ensures.told))
+returns-in-None-next g c = goes_serves _ _ _ _ _ _ _ _ _ _ c.requires (goes_on _ _ _ _ _ _ _ _ _ _ _ _ _ _ _ _ _ _ c.loop.invariant (goes_still _ _ _ _ _ _ _ _ _ refl c.in-None-next.ensures.told))

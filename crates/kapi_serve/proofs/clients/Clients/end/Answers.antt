@@ -8,4 +8,4 @@ pub returns-clause-seats : goal.returns-clause-seats
 returns-clause-seats g c = λ front x back at. ap seats_of c.remove-client.ensures.items ∙ at_remove c.args.self.now.list.items c.args.index front x back at
 
 pub returns-clause-closes : goal.returns-clause-closes
-returns-clause-closes g c = λ front x back at. closes_of _ _ x (seat_of c.remove-client.result) _ _ _ (ap seat_of c.remove-client.ensures.value ∙ at_get c.args.self.now.list.items c.args.index front x back c.remove-client.result at) c.close.ensures c.end.ensures.told
+returns-clause-closes g c = λ front x back at. closes_of _ _ x (seat_of c.remove-client.result) _ _ _ _ (ap seat_of c.remove-client.ensures.value ∙ at_get c.args.self.now.list.items c.args.index front x back c.remove-client.result at) c.close.ensures c.end.ensures.told

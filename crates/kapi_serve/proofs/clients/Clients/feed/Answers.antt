@@ -10,14 +10,14 @@ use Rattle.kapi_serve.proofs.clients.Clients.feed.Goals as goal
 pub returns-in-Ok-clause-moves : goal.returns-in-Ok-clause-moves
 returns-in-Ok-clause-moves g c = λ front x back at h first.
     let is : seat_of c.index.result.now ≡ x = ap seat_of c.index.ensures ∙ at_get c.args.self.now.list.items c.args.index front x back c.index.result.now at in
-    moves_as _ _ _ _ _ _ _ h _ at.0 (seats_same c.args.self.now.list.items c.args.index _ c.index_mut.result.now (ap seat_of c.index_mut.ensures.value) ∙ at.0)
-        (moves_fed _ _ front back x _ h _ c.args.piece.now (subst (λ z. Makes c.args.core.now c.feed.new.self (event.Feed z.conn c.args.piece.now) answer.Done) is c.in-Ok.ensures) first)
+    moves_as _ _ _ _ _ _ _ _ h _ at.0 (seats_same c.args.self.now.list.items c.args.index _ c.index_mut.result.now (ap seat_of c.index_mut.ensures.value) ∙ at.0)
+    (moves_fed _ _ front back x _ _ h _ c.args.piece.now (subst (λ z. Makes c.args.core.now c.feed.new.self (event.Feed z.conn c.args.piece.now) answer.Done) is c.in-Ok.ensures) (λ y. (y, first y)))
 
 pub returns-in-Err-clause-moves : goal.returns-in-Err-clause-moves
 returns-in-Err-clause-moves g c = λ front x back at h first.
     let is : seat_of c.index.result.now ≡ x = ap seat_of c.index.ensures ∙ at_get c.args.self.now.list.items c.args.index front x back c.index.result.now at in
-    moves_as _ _ _ _ _ _ _ h _ at.0 (c.end.ensures.seats front x back at)
-        (moves_refused _ _ _ front back x _ h _ _ c.args.piece.now c.in-Err._refused (subst (λ z. TakesIn c.args.core.now c.feed.new.self z.conn c.args.piece.now (Err c.in-Err._refused)) is c.in-Err.ensures) (c.end.ensures.closes front x back at) first)
+    moves_as _ _ _ _ _ _ _ _ h _ at.0 (c.end.ensures.seats front x back at)
+    (moves_refused _ _ _ front back x _ _ h _ _ c.args.piece.now c.in-Err._refused (subst (λ z. TakesIn c.args.core.now c.feed.new.self z.conn c.args.piece.now (Err c.in-Err._refused)) is c.in-Err.ensures) (c.end.ensures.closes front x back at) first)
 
 pub returns-in-Ok-clause-others : goal.returns-in-Ok-clause-others
 returns-in-Ok-clause-others g c = λ front x back at. ap (λ xs. others x.slot xs) (seats_same c.args.self.now.list.items c.args.index _ c.index_mut.result.now (ap seat_of c.index_mut.ensures.value))

@@ -17,6 +17,6 @@ loop-index-preserved g c = λ h.
     let x = k.1 in
     let back = k.2 in
     let is : seat_of c.remove-client.result ≡ x = ap seat_of c.remove-client.ensures.value ∙ at_get c.loop-index.self.list.items c.in-Some.index front x back c.remove-client.result k.3 in
-    moves_on _ _ _ _ _ _ _ h h h (c.loop-index.invariant h)
-        (moves_as _ _ _ _ _ _ _ h h k.3.0 (ap seats_of c.remove-client.ensures.items ∙ at_remove c.loop-index.self.list.items c.in-Some.index front x back k.3)
-            (moves_forgotten _ _ front back x h (subst (λ z. Makes c.loop-index.core c.close.new.self (event.Close z.conn) answer.Done) is c.close.ensures)))
+    moves_on _ _ _ _ _ _ _ _ _ h h h (c.loop-index.invariant h)
+    (moves_as _ _ _ _ _ _ _ _ h h k.3.0 (ap seats_of c.remove-client.ensures.items ∙ at_remove c.loop-index.self.list.items c.in-Some.index front x back k.3)
+    (moves_forgotten _ _ front back x h (subst (λ z. Makes c.loop-index.core c.close.new.self (event.Close z.conn) answer.Done) is c.close.ensures)))

@@ -5,7 +5,7 @@ use Rattle.kapi_serve.specs.declared.port.Entry.{Entry}
 use Rattle.kapi_serve.proofs.clients.Clients.forget.Given as goal
 
 abbrev pub invariant-loop-index : goal.invariant-loop-index
-invariant-loop-index g l = (h : List Entry) → Moves l.initial.core l.core (seats_of l.initial.self.list.items) (seats_of l.self.list.items) ⊤ h h
+invariant-loop-index g l = (h : List Entry) → Moves l.initial.core l.core (seats_of l.initial.self.list.items) (seats_of l.self.list.items) ⊤ ⊤ h h
 
 abbrev pub decreases-loop-index : goal.decreases-loop-index
 decreases-loop-index g l = length l.self.list.items

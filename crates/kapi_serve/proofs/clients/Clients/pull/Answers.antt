@@ -1,7 +1,7 @@
 use Rattle.std.proofs.Common.{◌≡◌, ◌++◌, [], ◌∷◌, take, ap, sym, refl, subst, ◌∙◌}
 use Rattle.kapi_serve.specs.Clients.{others, seats_of}
 use Rattle.kapi_serve.specs.declared.port.Entry.TheVariants as entry
-use Rattle.kapi_serve.proofs.Going.{moves_as, moves_end, moves_ended, moves_nothing, moves_on, moves_still}
+use Rattle.kapi_serve.proofs.Going.{moves_as, moves_before, moves_end, moves_ended, moves_nothing, moves_on, moves_still}
 use Rattle.kapi_serve.proofs.Placing.{others_ended}
 use Rattle.kapi_serve.proofs.clients.Clients.pull.Goals as goal
 
@@ -15,17 +15,19 @@ pub returns-in-Ok-eq0-clause-moves : goal.returns-in-Ok-eq0-clause-moves
 returns-in-Ok-eq0-clause-moves g c =
     let k = c.in-Some.ensures.found in
     let history = g.Q.Ports.history c.args.ports.now in
-    moves_as _ _ _ _ _ _ _ _ _ k.3.0 (c.reach_end.ensures ∙ k.3.0)
-        (moves_end _ k.0 k.2 k.1 _ history _ (λ y. c.in-Ok-eq0.ensures.told y ∙ (λ j. history ++ entry.Gave (sym k.4 j) (take (c.in-Ok-eq0.field-0-test j) c.read.new.buffer) ∷ [])))
+    moves_as _ _ _ _ _ _ _ _ _ _ k.3.0 (c.reach_end.ensures ∙ k.3.0)
+    (moves_end _ k.0 k.2 k.1 _ _ history _ (λ y.
+    let b = c.in-Ok-eq0.ensures.told y in
+    (b.0, b.1 ∙ (λ j. history ++ entry.Gave (sym k.4 j) (take (c.in-Ok-eq0.field-0-test j) c.read.new.buffer) ∷ []))))
 
 pub returns-in-Err-WouldBlock-clause-moves : goal.returns-in-Err-WouldBlock-clause-moves
-returns-in-Err-WouldBlock-clause-moves g c = moves_still _ _ _ _ _ _ refl c.in-Err-WouldBlock.ensures.told
+returns-in-Err-WouldBlock-clause-moves g c = moves_still _ _ _ _ _ _ _ refl c.in-Err-WouldBlock.ensures.told
 
 pub returns-in-Err-Failed-clause-moves : goal.returns-in-Err-Failed-clause-moves
 returns-in-Err-Failed-clause-moves g c =
     let k = c.in-Some.ensures.found in
-    moves_on _ _ _ _ _ _ _ _ _ _ (moves_still _ _ _ _ _ _ refl c.in-Err-Failed.ensures.told)
-        (moves_as _ _ _ _ _ _ _ _ _ k.3.0 (c.end.ensures.seats k.0 k.1 k.2 k.3) (moves_ended _ _ k.0 k.2 k.1 _ _ _ (c.end.ensures.closes k.0 k.1 k.2 k.3)))
+    moves_on _ _ _ _ _ _ _ _ _ _ _ _ (moves_still _ _ _ _ _ _ _ refl c.in-Err-Failed.ensures.told)
+    (moves_as _ _ _ _ _ _ _ _ _ _ k.3.0 (c.end.ensures.seats k.0 k.1 k.2 k.3) (moves_ended _ _ k.0 k.2 k.1 _ _ _ _ (c.end.ensures.closes k.0 k.1 k.2 k.3)))
 
 pub returns-in-Ok-eq0-clause-others : goal.returns-in-Ok-eq0-clause-others
 returns-in-Ok-eq0-clause-others g c = ap (λ xs. others c.args.slot xs) c.reach_end.ensures
@@ -34,7 +36,8 @@ pub returns-in-Ok-clause-moves : goal.returns-in-Ok-clause-moves
 returns-in-Ok-clause-moves g c =
     let k = c.in-Some.ensures.found in
     let history = g.Q.Ports.history c.args.ports.now in
-    c.feed.ensures.moves k.0 k.1 k.2 k.3 history (λ y. c.in-Ok.ensures.told y ∙ ap (λ s. history ++ entry.Gave s (take c.in-Ok.count c.read.new.buffer) ∷ []) (sym k.4))
+    moves_before _ _ _ _ _ _ _ history _ (λ y. (c.in-Ok.ensures.told y).0)
+    (c.feed.ensures.moves k.0 k.1 k.2 k.3 history (λ y. (c.in-Ok.ensures.told y).1 ∙ ap (λ s. history ++ entry.Gave s (take c.in-Ok.count c.read.new.buffer) ∷ []) (sym k.4)))
 
 pub returns-in-Ok-clause-others : goal.returns-in-Ok-clause-others
 returns-in-Ok-clause-others g c =

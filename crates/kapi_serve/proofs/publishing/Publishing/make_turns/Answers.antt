@@ -5,7 +5,7 @@ pub loop-init : goal.loop-init
 loop-init g c = λ s h. goes_nothing _ _ _ s _ h
 
 pub loop-preserved : goal.loop-preserved
-loop-preserved g c = λ s h. goes_on _ _ _ _ _ _ _ _ _ _ _ _ _ _ _ _ (c.loop.invariant s h) (c.make_turn.ensures s h)
+loop-preserved g c = λ s h. goes_on _ _ _ _ _ _ _ _ _ _ _ _ _ _ _ _ _ _ (c.loop.invariant s h) (c.make_turn.ensures s h)
 
 pub returns-then-not-make_turn : goal.returns-then-not-make_turn
-returns-then-not-make_turn g c = λ s h. goes_on _ _ _ _ _ _ _ _ _ _ _ _ _ _ _ _ (c.loop.invariant s h) (c.make_turn.ensures s h)
+returns-then-not-make_turn g c = λ s h. goes_on _ _ _ _ _ _ _ _ _ _ _ _ _ _ _ _ _ _ (c.loop.invariant s h) (c.make_turn.ensures s h)

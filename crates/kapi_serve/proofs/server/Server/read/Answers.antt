@@ -5,7 +5,7 @@ pub loop-init : goal.loop-init
 loop-init g c = goes_nothing _ _ _ _ _ _
 
 pub loop-preserved : goal.loop-preserved
-loop-preserved g c = goes_on _ _ _ _ _ _ _ _ _ _ _ _ _ _ _ _ c.loop.invariant (goes_on _ _ _ _ _ _ _ _ _ _ _ _ _ _ _ _ (goes_moving _ _ _ _ _ _ _ _ _ c.pull.ensures.moves) c.settle.ensures)
+loop-preserved g c = goes_on _ _ _ _ _ _ _ _ _ _ _ _ _ _ _ _ _ _ c.loop.invariant (goes_on _ _ _ _ _ _ _ _ _ _ _ _ _ _ _ _ _ _ (goes_moving _ _ _ _ _ _ _ _ _ _ c.pull.ensures.moves) c.settle.ensures)
 
 pub returns-in-Stopped : goal.returns-in-Stopped
-returns-in-Stopped g c = goes_on _ _ _ _ _ _ _ _ _ _ _ _ _ _ _ _ c.loop.invariant (goes_moving _ _ _ _ _ _ _ _ _ c.pull.ensures.moves)
+returns-in-Stopped g c = goes_on _ _ _ _ _ _ _ _ _ _ _ _ _ _ _ _ _ _ c.loop.invariant (goes_moving _ _ _ _ _ _ _ _ _ _ c.pull.ensures.moves)

@@ -6,7 +6,7 @@ pub loop-left-init : goal.loop-left-init
 loop-left-init g c = (omega (arith, c.len.ensures, c.awake-left.ensures), goes_nothing _ _ _ _ _ _)
 
 pub loop-left-preserved : goal.loop-left-preserved
-loop-left-preserved g c = (omega (arith, c.loop-left.invariant.0, c.visit-done.ensures.many, c.awake-left.ensures), goes_on _ _ _ _ _ _ _ _ _ _ _ _ _ _ _ _ c.loop-left.invariant.1 c.visit-done.ensures.goes)
+loop-left-preserved g c = (omega (arith, c.loop-left.invariant.0, c.visit-done.ensures.many, c.awake-left.ensures), goes_on _ _ _ _ _ _ _ _ _ _ _ _ _ _ _ _ _ _ c.loop-left.invariant.1 c.visit-done.ensures.goes)
 
 pub returns : goal.returns
-returns g c = goes_on _ _ _ _ _ _ _ _ _ _ _ _ _ _ _ _ (goes_any _ _ _ _ _ _ _ _ _ _ (c.make_turns-done.ensures _ _)) c.loop-left.invariant.1
+returns g c = goes_on _ _ _ _ _ _ _ _ _ _ _ _ _ _ _ _ _ _ (goes_any _ _ _ _ _ _ _ _ _ _ (c.make_turns-done.ensures _ _)) c.loop-left.invariant.1

@@ -16,8 +16,8 @@ returns-then-is_over-clause-goes g c =
     let is : seat_of d ≡ k.1 = ap seat_of c.index_mut-client.ensures.value ∙ sym k.4 in
     let there : seats_of items ≡ front ++ seat_of d ∷ back = k.3.0 ∙ ap (λ z. front ++ z ∷ back) (sym is) in
     let at : IsAt c.args.index (seats_of (set items c.args.index f)) front (seat_of f) back = (at_set items c.args.index front k.1 back f k.3, k.3.1) in
-    goes_as _ _ _ _ _ _ _ _ _ _ _ _ _ there (c.end.ensures.seats front (seat_of f) back at)
-        (goes_on _ _ _ _ _ _ _ _ _ _ _ _ _ _ _ _ (goes_writing _ _ _ front back (seat_of d) (seat_of f) _ _ _ c.flush-flushed.ensures) (goes_moving _ _ _ _ _ _ _ _ _ (moves_ended _ _ front back (seat_of f) _ _ _ (c.end.ensures.closes front (seat_of f) back at))))
+    goes_as _ _ _ _ _ _ _ _ _ _ _ _ _ _ there (c.end.ensures.seats front (seat_of f) back at)
+    (goes_on _ _ _ _ _ _ _ _ _ _ _ _ _ _ _ _ _ _ (goes_writing _ _ _ front back (seat_of d) (seat_of f) _ _ _ _ c.flush-flushed.ensures) (goes_moving _ _ _ _ _ _ _ _ _ _ (moves_ended _ _ front back (seat_of f) _ _ _ _ (c.end.ensures.closes front (seat_of f) back at))))
 
 pub returns-then-eq-clause-goes : goal.returns-then-eq-clause-goes
 returns-then-eq-clause-goes g c =
@@ -29,8 +29,8 @@ returns-then-eq-clause-goes g c =
     let back = k.2 in
     let is : seat_of d ≡ k.1 = ap seat_of c.index_mut-client.ensures.value ∙ sym k.4 in
     let there : seats_of items ≡ front ++ seat_of d ∷ back = k.3.0 ∙ ap (λ z. front ++ z ∷ back) (sym is) in
-    goes_as _ _ _ _ _ _ _ _ _ _ _ _ _ there (at_set items c.args.index front k.1 back c.answer-answered.new.client k.3)
-        (goes_on _ _ _ _ _ _ _ _ _ _ _ _ _ _ _ _ (goes_writing _ _ _ front back (seat_of d) (seat_of f) _ _ _ c.flush-flushed.ensures) (goes_any _ _ _ _ _ _ _ _ _ _ (c.answer-answered.ensures front back _)))
+    goes_as _ _ _ _ _ _ _ _ _ _ _ _ _ _ there (at_set items c.args.index front k.1 back c.answer-answered.new.client k.3)
+    (goes_on _ _ _ _ _ _ _ _ _ _ _ _ _ _ _ _ _ _ (goes_writing _ _ _ front back (seat_of d) (seat_of f) _ _ _ _ c.flush-flushed.ensures) (goes_any _ _ _ _ _ _ _ _ _ _ (c.answer-answered.ensures front back _)))
 
 pub returns-else-eq-clause-goes : goal.returns-else-eq-clause-goes
 returns-else-eq-clause-goes g c =
@@ -42,5 +42,5 @@ returns-else-eq-clause-goes g c =
     let back = k.2 in
     let is : seat_of d ≡ k.1 = ap seat_of c.index_mut-client.ensures.value ∙ sym k.4 in
     let there : seats_of items ≡ front ++ seat_of d ∷ back = k.3.0 ∙ ap (λ z. front ++ z ∷ back) (sym is) in
-    goes_as _ _ _ _ _ _ _ _ _ _ _ _ _ there (at_set items c.args.index front k.1 back c.answer-answered.new.client k.3)
-        (goes_on _ _ _ _ _ _ _ _ _ _ _ _ _ _ _ _ (goes_writing _ _ _ front back (seat_of d) (seat_of f) _ _ _ c.flush-flushed.ensures) (goes_any _ _ _ _ _ _ _ _ _ _ (c.answer-answered.ensures front back _)))
+    goes_as _ _ _ _ _ _ _ _ _ _ _ _ _ _ there (at_set items c.args.index front k.1 back c.answer-answered.new.client k.3)
+    (goes_on _ _ _ _ _ _ _ _ _ _ _ _ _ _ _ _ _ _ (goes_writing _ _ _ front back (seat_of d) (seat_of f) _ _ _ _ c.flush-flushed.ensures) (goes_any _ _ _ _ _ _ _ _ _ _ (c.answer-answered.ensures front back _)))
