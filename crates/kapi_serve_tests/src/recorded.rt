@@ -124,9 +124,9 @@ impl<Q: Ports + Drop> Ports for Recorded<Q> {
 }
 
 /// The bytes that a slot accepted.
-fn taken(alloc: Global, record: &Record, slot: usize) -> Result<Vec<u8>, AllocError> {
+fn taken(alloc: Global, kept: &Record, slot: usize) -> Result<Vec<u8>, AllocError> {
     let mut bytes = Vec::new(alloc);
-    for entry in record.entries.iter() {
+    for entry in kept.entries.iter() {
         if let Entry::Took(at, piece) = entry
             && *at == slot
         {
