@@ -46,7 +46,7 @@ use Rattle.kapi_answer.specs.Watch.{since_served}
 use Rattle.kapi_answer.specs.Update.{replaces, to_patch, to_update, told_after}
 
 -- what holds behind a check that passed, of what that check gave
-then_keeps : {A B F : Type 0} {Q : A → Type 0} (r : Result A F) (f : A → Result B F) (P : B → Type 0) → IfOk r Q → ((x : A) → Q x → IfOk (f x) P) → IfOk (r >>= f) P
+pub then_keeps : {A B F : Type 0} {Q : A → Type 0} (r : Result A F) (f : A → Result B F) (P : B → Type 0) → IfOk r Q → ((x : A) → Q x → IfOk (f x) P) → IfOk (r >>= f) P
 then_keeps (Ok x) f P q h = h x q
 then_keeps (Err e) f P q h = tt
 
@@ -170,7 +170,7 @@ answer_tells objects identity kind row namespace body =
     (λ same. then_holds (valid [] body.object) _ (λ outcome. outcome.changes ≡ [])
     (λ tree. then_holds (valid [] (reviewed objects identity kind (housed row namespace tree))) _ (λ outcome. outcome.changes ≡ []) (λ answer. refl)))
 
-review_tells : (objects : PolicyObjects) (identity : Identity) (kind : ReviewKind) (row : ResourceRow) (namespace bytes : List ℕ)
+pub review_tells : (objects : PolicyObjects) (identity : Identity) (kind : ReviewKind) (row : ResourceRow) (namespace bytes : List ℕ)
     → IfOk (to_review objects identity kind row namespace bytes) (λ outcome. outcome.changes ≡ [])
 unfolding to_review
 review_tells objects identity kind row namespace bytes =

@@ -3,3 +3,5 @@ pub mod Merged
 pub mod Listed
 pub mod Granted
 pub mod Watched
+mod NamedTrees
+pub mod Histories

@@ -10,3 +10,4 @@ pub mod Watch
 pub mod Answer
 pub mod Outcomes
 pub mod Load
+pub mod Histories

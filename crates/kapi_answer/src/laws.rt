@@ -7,10 +7,19 @@ ghost use Rattle.kapi_policy.specs.Objects.{PolicyObjects};
 ghost use Rattle.kapi_rbac_types.specs.declared.identity.Identity.{Identity};
 ghost use Rattle.kapi_store.specs.Plain.{Plain};
 ghost use Rattle.kapi_answer.specs.Answer.{answer};
+ghost use Rattle.kapi_answer.specs.Histories.{AnswersWrite, LoadsCreate};
 
 /// The check against escalation grants whoever asks what an answer changes: the first of the changes; those after it are deletions.
 #[tactic(auto, using(crate::proofs::Granted::answers_are_granted))]
 pub fn what_an_answer_changes_was_granted()
     ensures { (objects : PolicyObjects) (s : Plain) (identity : Identity) (item : Result HttpRequest HttpFault)
         → AreGranted objects identity (answer objects s identity item).changes }
+{}
+
+/// Where each object that stands tells the namespace and the name of its place, an answer changes what one write makes: nothing, or
+/// what a creation, a replacement or a removal makes, whose trees tell the namespace and the name of their places too. An object that is
+/// loaded is created so, whatever stands.
+pub fn what_an_answer_changes_is_one_write()
+    ensures answers { AnswersWrite }
+    ensures loads { LoadsCreate }
 {}

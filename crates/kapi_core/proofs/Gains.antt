@@ -43,7 +43,7 @@ use Rattle.kapi_core.specs.Running.{Running}
 use Rattle.kapi_core.specs.Stands.{Stands}
 
 -- the objects stay in the order of their keys, and the policy that they are is run on by those who act
-record Goes (acting : List Identity) (s t : Plain) : Type 0 where
+pub record Goes (acting : List Identity) (s t : Plain) : Type 0 where
   pub order : AreInOrder t.objects
   pub reached : ObjectsReach acting s.objects t.objects
 
@@ -62,18 +62,18 @@ either : (b : Bool) (x y : Answer × Machine) (s : Plain) → x.1.store ≡ s �
 either true x y s one other = one
 either false x y s one other = other
 
-open_keeps : (identity : Identity) (m : Machine) → (open_step identity m).1.store ≡ m.store
+pub open_keeps : (identity : Identity) (m : Machine) → (open_step identity m).1.store ≡ m.store
 unfolding open_step
 open_keeps identity m = either (nat_lt (length m.links) OPEN_CONNECTIONS && nat_le m.next_id LAST_CONNECTION) _ _ m.store refl refl
 
-feed_keeps : (id : ℕ) (piece : List ℕ) (o : Option Link) (m : Machine) → (feed_step id piece o m).1.store ≡ m.store
+pub feed_keeps : (id : ℕ) (piece : List ℕ) (o : Option Link) (m : Machine) → (feed_step id piece o m).1.store ≡ m.store
 unfolding feed_step
 feed_keeps id piece None m = refl
 feed_keeps id piece (Some l) m = either (nat_le (length (unserved l) + length piece) KEPT_LIMIT) _ _ m.store refl refl
 
 -- ---- the events that write
 
-ended_keeps : (close : Bool) (id : ℕ) (m : Machine) → (ended_if close id m).store ≡ m.store
+pub ended_keeps : (close : Bool) (id : ℕ) (m : Machine) → (ended_if close id m).store ≡ m.store
 ended_keeps true id m = refl
 ended_keeps false id m = refl
 
@@ -129,14 +129,14 @@ unfolding pump_watch
 watch_keeps id l None m = refl
 watch_keeps id l (Some w) m = shown_keeps id l w (option_map (event_reply_of m.store w) (pumped m.changes m.store w.watch)) m
 
-pump_keeps : (id : ℕ) (o : Option Link) (m : Machine) → (pump_step id o m).1.store ≡ m.store
+pub pump_keeps : (id : ℕ) (o : Option Link) (m : Machine) → (pump_step id o m).1.store ≡ m.store
 unfolding pump_step
 pump_keeps id None m = refl
 pump_keeps id (Some l) m = watch_keeps id l l.watching m
 
 -- ---- lists of events
 
-event_goes : (m : Machine) (e : Event) → AreInOrder m.store.objects → Goes (acting_by m e) m.store (step m e).1.store
+pub event_goes : (m : Machine) (e : Event) → AreInOrder m.store.objects → Goes (acting_by m e) m.store (step m e).1.store
 unfolding step
 event_goes m (event.Open identity) sorted = goes_nowhere [] m.store sorted (open_step identity m).1.store (open_keeps identity m)
 event_goes m (event.Feed conn piece) sorted =

@@ -13,5 +13,8 @@ pub mod Loads
 pub mod Turning
 pub mod Pumping
 pub mod Gains
+pub mod Telling
 pub mod OpenedPolicy
 pub mod Acting
+pub mod Histories
+mod Listed

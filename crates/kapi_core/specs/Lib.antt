@@ -7,4 +7,6 @@ pub mod Opening
 pub mod Table
 pub mod Openings
 pub mod Gains
+pub mod Telling
 pub mod OpeningPolicy
+pub mod Histories

@@ -8,10 +8,14 @@ ghost use Rattle.kapi_aggregation.specs.Unions.{IsSettled};
 ghost use Rattle.kapi_gains.specs.Access.{IsHarmless};
 ghost use Rattle.kapi_aggregation.specs.Members.{Has};
 ghost use Rattle.kapi_core.specs.Gains.{IsServed, NobodyGains, acting_in};
-ghost use Rattle.kapi_core.specs.Machine.{Machine, after, policy_of};
+ghost use Rattle.kapi_core.specs.Histories.{DueIsListed, EventsGoOn, FirstIsListed, FirstShownIsListed, ListedThen, LoadsGoOn, ServedIsAHistory, ShownIsListed, TurnsReplace};
+ghost use Rattle.kapi_core.specs.Machine.{Machine, after, answers, policy_of};
 ghost use Rattle.kapi_core.specs.Opening.{opening};
 ghost use Rattle.kapi_core.specs.OpeningPolicy.{opening_policy};
+ghost use Rattle.kapi_core.specs.Running.{Running};
+ghost use Rattle.kapi_core.specs.Stands.{Stands};
 ghost use Rattle.kapi_core.specs.Table.{fits};
+ghost use Rattle.kapi_core.specs.Telling.{policy_told};
 ghost use Rattle.kapi_core.specs.declared.opening.TheConstants.{LAST_FIRST};
 ghost use Rattle.kapi_core.specs.declared.event.Event.{Event};
 
@@ -34,4 +38,31 @@ pub fn the_opening_is_settled()
 #[tactic(auto, using(crate::proofs::Acting::acts_served))]
 pub fn who_acts_is_served()
     ensures { (m : Machine) (events : List Event) (who : Identity) → Has (acting_in m events) who → IsServed m events who }
+{}
+
+/// What the answers to events tell of the policy is what became of it: so whoever makes these changes, in their order, has the
+/// policy of the machine.
+pub fn answers_tell_what_changed_in_the_policy()
+    ensures { (core : Running) (m : Machine) (events : List Event) → Stands core m → policy_of (after m events) ≡ policy_told (answers m events) (policy_of m) }
+{}
+
+/// All the changes ever of a machine are a history, from its first revision on: whatever it began with, whatever was loaded, and whatever
+/// events it made. Where those of any other machine are, they are so after its events and loads. A turn changes what a replacement makes.
+pub fn the_changes_of_a_machine_are_a_history()
+    ensures served { ServedIsAHistory }
+    ensures events { EventsGoOn }
+    ensures loads { LoadsGoOn }
+    ensures turns { TurnsReplace }
+{}
+
+/// What a watch of a machine from a revision on shows, on top of the list at that revision, is what the machine lists now, for the objects
+/// that it selects: so it is with all that is due to it, and with what it has shown while the window holds, once nothing is due any more.
+/// A watch that shows the objects first makes that list on top of nothing. The list at a revision is what the machine listed when it
+/// stood at that.
+pub fn what_a_watch_of_the_machine_shows_makes_its_list()
+    ensures due { DueIsListed }
+    ensures shown { ShownIsListed }
+    ensures first { FirstIsListed }
+    ensures first_shown { FirstShownIsListed }
+    ensures at { ListedThen }
 {}

@@ -31,11 +31,11 @@ made_append [] ys os m n = n
 made_append (c ∷ xs) ys os m n = (m.0, m.1, made_append xs ys (placed c.key c.new os) m.2 n)
 
 -- changes that are made of a store next
-record AreNext (s : Plain) (cs : List PlainChange) : Type 0 where
-  made : AreMadeOf s.objects cs
-  next : Follow (λ c. c.revision) s.revision cs
+pub record AreNext (s : Plain) (cs : List PlainChange) : Type 0 where
+  pub made : AreMadeOf s.objects cs
+  pub next : Follow (λ c. c.revision) s.revision cs
 
-next_none : (s : Plain) → AreNext s []
+pub next_none : (s : Plain) → AreNext s []
 unfolding AreMadeOf Follow
 next_none s = record { made = tt; next = tt }
 
@@ -43,14 +43,19 @@ next_one : (s : Plain) (c : PlainChange) → c.revision ≡ s.revision + 1 → c
 unfolding AreMadeOf Follow
 next_one s c is old new = record { made = (old, new, tt); next = (is, tt) }
 
-next_goes_on : (store : State) (h cs : List PlainChange) (s : Plain) → StandsFor store h s → IsHistory s.first h → AreNext s cs → IsHistory s.first (h ++ cs)
-next_goes_on store h cs s stands k n =
+-- they go on with the history that made the store's objects, and that its revision counts
+pub counted_goes_on : (h cs : List PlainChange) (s : Plain) → s.objects ≡ placed_all (trees_left_by h) [] → s.revision ≡ s.first + length h → IsHistory s.first h → AreNext s cs
+    → IsHistory s.first (h ++ cs)
+counted_goes_on h cs s made counted k n =
     let P : List (Key × Data) → Type 0 = λ os. AreMadeOf os cs in
     let Q : ℕ → Type 0 = λ revision. Follow (λ c. c.revision) revision cs in
     record {
-      made = made_append h cs [] k.made (subst P stands.made n.made);
-      numbered = Follow_append (λ c. c.revision) s.first h cs k.numbered (subst Q stands.counted n.next);
+      made = made_append h cs [] k.made (subst P made n.made);
+      numbered = Follow_append (λ c. c.revision) s.first h cs k.numbered (subst Q counted n.next);
     }
+
+next_goes_on : (store : State) (h cs : List PlainChange) (s : Plain) → StandsFor store h s → IsHistory s.first h → AreNext s cs → IsHistory s.first (h ++ cs)
+next_goes_on store h cs s stands k n = counted_goes_on h cs s stands.made stands.counted k n
 
 -- ---- a creation
 
@@ -83,8 +88,11 @@ creation_next : (s : Plain) (k : Key) (tree : Data) (cs : List PlainChange) → 
 creation_next s k tree cs named (Err e) free is = absurd (cc is)
 creation_next s k tree cs named (Ok u) free is = in_place_next s k tree cs named (nothing_stands s k free) (revisions_left s 1) is
 
+pub creation_is_next : (s : Plain) (cs : List PlainChange) → IsCreation s cs → AreNext s cs
+creation_is_next s cs w = creation_next s w.0 w.1 cs w.2 (free_place s w.0) refl w.3
+
 pub created_goes_on : GoesOn IsCreation
-created_goes_on store h cs s stands k w = next_goes_on store h cs s stands k (creation_next s w.0 w.1 cs w.2 (free_place s w.0) refl w.3)
+created_goes_on store h cs s stands k w = next_goes_on store h cs s stands k (creation_is_next s cs w)
 
 -- ---- a replacement
 
@@ -114,9 +122,11 @@ replacement_next s k tree version cs named None at is = absurd (cc is)
 replacement_next s k tree version cs named (Some old) at is =
     admitted_next s k tree old cs named at (Conflict (version_in old)) (admits (version_in old) version) is
 
+pub replacement_is_next : (s : Plain) (cs : List PlainChange) → IsReplacement s cs → AreNext s cs
+replacement_is_next s cs w = replacement_next s w.0 w.1 (given_of w.1).resource_version cs w.2 (lookup (is_key w.0) s.objects) refl w.3
+
 pub replaced_goes_on : GoesOn IsReplacement
-replaced_goes_on store h cs s stands k w =
-    next_goes_on store h cs s stands k (replacement_next s w.0 w.1 (given_of w.1).resource_version cs w.2 (lookup (is_key w.0) s.objects) refl w.3)
+replaced_goes_on store h cs s stands k w = next_goes_on store h cs s stands k (replacement_is_next s cs w)
 
 -- ---- a removal
 
@@ -154,5 +164,8 @@ removal_next s ks cs apart (Ok u) (Ok v) is =
       next = removals_follow s.objects s.revision ks;
     }
 
+pub removal_is_next : (s : Plain) (cs : List PlainChange) → IsRemoval s cs → AreNext s cs
+removal_is_next s cs w = removal_next s w.0 cs w.1 (removable s w.0) (revisions_left s (length w.0)) w.2
+
 pub removed_goes_on : GoesOn IsRemoval
-removed_goes_on store h cs s stands k w = next_goes_on store h cs s stands k (removal_next s w.0 cs w.1 (removable s w.0) (revisions_left s (length w.0)) w.2)
+removed_goes_on store h cs s stands k w = next_goes_on store h cs s stands k (removal_is_next s cs w)

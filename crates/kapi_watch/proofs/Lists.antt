@@ -13,8 +13,7 @@ use Rattle.kapi_store.proofs.Writes.{placed_all_append}
 use Rattle.kapi_store.specs.Changes.{placed, placed_all, Follow}
 use Rattle.kapi_store.specs.Keys.{is_key, key_cmp}
 use Rattle.kapi_store.specs.Listing.{is_listed}
-use Rattle.kapi_store.specs.Plain.{Plain, PlainChange, StandsFor, trees_left_by}
-use Rattle.kapi_store.specs.State.{State}
+use Rattle.kapi_store.specs.Plain.{Plain, PlainChange, trees_left_by}
 use Rattle.kapi_store.specs.declared.key.Key.{Key}
 use Rattle.kapi_watch.specs.declared.scope.Scope.{Scope}
 use Rattle.kapi_watch.specs.Histories.{IsNamedBy, AreMadeOf, IsHistory}
@@ -58,9 +57,9 @@ up_to_front number limit before (x ∷ xs) ys is h =
 -- ---- the objects that changes make
 
 -- they are in the order of their keys, and each tells the namespace and the name of its own
-record Keeps (os : List (Key × Data)) : Type 0 where
-  sorted : IsStrictlySortedBy key_cmp (keys_of os)
-  named : AllByRecursion (λ e. IsNamedBy e.0 e.1) os
+pub record Keeps (os : List (Key × Data)) : Type 0 where
+  pub sorted : IsStrictlySortedBy key_cmp (keys_of os)
+  pub named : AllByRecursion (λ e. IsNamedBy e.0 e.1) os
 
 keeps_none : Keeps []
 unfolding IsStrictlySortedBy
@@ -86,6 +85,14 @@ after_first : (xs ys : List PlainChange) (os : List (Key × Data)) → Keeps os 
 unfolding AreMadeOf placed_all
 after_first [] ys os k m = record { keeps = k; made = m }
 after_first (c ∷ xs) ys os k m = after_first xs ys (placed c.key c.new os) (keeps_placed c.key c.new os m.1 k) m.2
+
+-- so are those that a history made
+pub history_keeps : (first : ℕ) (h : List PlainChange) → IsHistory first h → Keeps (objects_after h)
+history_keeps first h k = let P : List PlainChange → Type 0 = AreMadeOf [] in (after_first h [] [] keeps_none (subst P (sym (append-nil h)) k.made)).keeps
+
+-- what stands at a key tells that key's namespace and name, where all do
+pub standing_is_named : (k : Key) (tree : Data) (os : List (Key × Data)) → AllByRecursion (λ e. IsNamedBy e.0 e.1) os → lookup (is_key k) os ≡ Some tree → IsNamedBy k tree
+standing_is_named k tree os named is = lookup_all key_cmp key_total key_same (λ e. IsNamedBy e.0 e.1) k tree os named is
 
 -- ---- the events of a list, and what they tell
 
@@ -168,7 +175,7 @@ module _ (scope : Scope) where
   standing_named k old os h is =
       elim old as (λ o. old ≡ o → IfSome o (IsNamedBy k)) [
         | None ↦ λ none. tt
-        | Some t ↦ λ some. lookup_all key_cmp key_total key_same (λ e. IsNamedBy e.0 e.1) k t os h.named (sym is ∙ some)
+        | Some t ↦ λ some. standing_is_named k t os h.named (sym is ∙ some)
       ] refl
 
   step : (c : PlainChange) (os : List (Key × Data)) → Keeps os → c.old ≡ lookup (is_key c.key) os → IfSome c.new (IsNamedBy c.key)
@@ -243,18 +250,23 @@ due_is_the_list first h scope revision k =
 
 -- ---- the lists are the store's
 
+-- up to the revision that counts a part of a history, that is that part
+up_to_counted : (h more : List PlainChange) (s : Plain) → s.revision ≡ s.first + length h → IsHistory s.first (h ++ more) → up_to s.revision (h ++ more) ≡ h
+up_to_counted h more s counted k = up_to_front (λ c. c.revision) s.revision s.first h more counted k.numbered
+
+-- the list at that revision is the one of the objects that the part made
+pub counted_showed : (h more : List PlainChange) (s : Plain) (scope : Scope) → s.objects ≡ placed_all (trees_left_by h) [] → s.revision ≡ s.first + length h → IsHistory s.first (h ++ more)
+    → list_at scope s.revision (h ++ more) ≡ listed scope s.objects
+counted_showed h more s scope made counted k = ap (λ cs. listed scope (objects_after cs)) (up_to_counted h more s counted k) ∙ ap (listed scope) (sym made)
+
 pub store_shows : StoreShowsTheList
 store_shows store h s scope stands = ap (listed scope) (sym stands.made ∙ ap (λ p. p.objects) (sym stands.plain))
-
--- up to the revision at which a store stood for a part of a history, that is that part
-up_to_stood : (store : State) (h more : List PlainChange) (s : Plain) → StandsFor store h s → IsHistory s.first (h ++ more) → up_to s.revision (h ++ more) ≡ h
-up_to_stood store h more s stands k = up_to_front (λ c. c.revision) s.revision s.first h more stands.counted k.numbered
 
 pub store_showed : StoreShowedTheList
 store_showed store h more s scope stands k =
     let number : store.revision ≡ s.revision = ap (λ p. p.revision) stands.plain in
     ap (λ revision. list_at scope revision (h ++ more)) number
-    ∙ ap (λ cs. listed scope (objects_after cs)) (up_to_stood store h more s stands k)
+    ∙ ap (λ cs. listed scope (objects_after cs)) (up_to_counted h more s stands.counted k)
     ∙ store_shows store h s scope stands
 
 -- ---- a watch that shows what is listed first
@@ -264,18 +276,22 @@ first_made : (revision : ℕ) (scope : Scope) (os : List (Key × Data)) → Keep
 first_made revision scope os k =
     added scope revision [] (listed scope os) (filter_sorted key_cmp key_total key_same (takes scope) os k.sorted) (places scope os k.named)
 
-pub first_is_the_list : FirstIsTheList
+pub counted_first_is_the_list : (h more : List PlainChange) (s : Plain) (scope : Scope) → s.objects ≡ placed_all (trees_left_by h) [] → s.revision ≡ s.first + length h
+    → IsHistory s.first (h ++ more) → all_on_top scope [] (still_due (h ++ more) (started_now s scope)) ≡ list_now scope (h ++ more)
 unfolding due
-first_is_the_list store h more s scope stands k =
+counted_first_is_the_list h more s scope made counted k =
     let at : After (objects_after h) more = after_first h more [] keeps_none k.made in
     let front : List (ℕ × Shown) = first_due s.revision (trees_in (listed scope s.objects)) in
     let back : List (ℕ × Shown) = shown_all scope (later s.revision (h ++ more)) in
-    let keeps : Keeps s.objects = subst Keeps (sym stands.made) at.keeps in
-    let start : listed scope s.objects ≡ list_at scope s.revision (h ++ more) = ap (listed scope) stands.made ∙ ap (λ cs. listed scope (objects_after cs)) (sym (up_to_stood store h more s stands k)) in
+    let keeps : Keeps s.objects = subst Keeps (sym made) at.keeps in
+    let start : listed scope s.objects ≡ list_at scope s.revision (h ++ more) = sym (counted_showed h more s scope made counted k) in
     ap (all_on_top scope []) (map-append (λ e. e.1) front back)
     ∙ on_top_append scope [] (events_in front) (events_in back)
     ∙ ap (λ list. all_on_top scope list (events_in back)) (first_made s.revision scope s.objects keeps ∙ start)
     ∙ due_is_the_list s.first (h ++ more) scope s.revision k
+
+pub first_is_the_list : FirstIsTheList
+first_is_the_list store h more s scope stands k = counted_first_is_the_list h more s scope stands.made stands.counted k
 
 -- ---- what was shown
 
@@ -301,10 +317,15 @@ history_goes_on [] h = sym (append-nil h)
 history_goes_on (Made cs ∷ ts) h = history_goes_on ts (h ++ cs) ∙ append_assoc h cs (made_in ts)
 history_goes_on (Pump ∷ ts) h = history_goes_on ts h
 
-pub first_shown_is_the_list : FirstShownIsTheList
-first_shown_is_the_list store ts h s scope stands k holds none =
+pub counted_first_shown : (ts : List Step) (h : List PlainChange) (s : Plain) (scope : Scope) → s.objects ≡ placed_all (trees_left_by h) [] → s.revision ≡ s.first + length h
+    → IsHistory s.first (history_after ts h) → HoldsOn ts h s (started_now s scope) → still_due (history_after ts h) (watch_after ts h s (started_now s scope)) ≡ []
+    → all_on_top scope [] (shown_over ts h s (started_now s scope)) ≡ list_now scope (history_after ts h)
+counted_first_shown ts h s scope made counted k holds none =
     let all : history_after ts h ≡ h ++ made_in ts = history_goes_on ts h in
     let P : List PlainChange → Type 0 = λ now. all_on_top scope [] (still_due now (started_now s scope)) ≡ list_now scope now in
     let Q : List PlainChange → Type 0 = λ now. IsHistory s.first now in
     ap (all_on_top scope []) (shown_is_due ts h s (started_now s scope) holds none)
-    ∙ subst P (sym all) (first_is_the_list store h (made_in ts) s scope stands (subst Q all k))
+    ∙ subst P (sym all) (counted_first_is_the_list h (made_in ts) s scope made counted (subst Q all k))
+
+pub first_shown_is_the_list : FirstShownIsTheList
+first_shown_is_the_list store ts h s scope stands k holds none = counted_first_shown ts h s scope stands.made stands.counted k holds none

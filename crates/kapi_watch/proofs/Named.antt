@@ -24,15 +24,15 @@ use Rattle.kapi_watch.specs.Shown.{at_version, changed_at, with_changed}
 
 -- ---- a text that is put
 
-in_object : (q : List ℕ) (d : Data) → get_member q (members_or_none (Some d)) ≡ get q d
+pub in_object : (q : List ℕ) (d : Data) → get_member q (members_or_none (Some d)) ≡ get q d
 in_object q (object ms) = refl
 in_object q _ = refl
 
-in_members : (q : List ℕ) (o : Option Data) → get_member q (members_or_none o) ≡ option_and_then (get q) o
+pub in_members : (q : List ℕ) (o : Option Data) → get_member q (members_or_none o) ≡ option_and_then (get q) o
 in_members q None = refl
 in_members q (Some d) = in_object q d
 
-in_text : (q k t : List ℕ) (d : Data) → bytes_eq q k ≡ false → in_metadata q (with_text k t d) ≡ in_metadata q d
+pub in_text : (q k t : List ℕ) (d : Data) → bytes_eq q k ≡ false → in_metadata q (with_text k t d) ≡ in_metadata q d
 in_text q k t d h =
     ap (option_and_then (get q)) (get_member-put (codes "metadata") (object (put k (string t) (metadata_of d))) (members_or_none (Some d)))
     ∙ put_other q k (string t) (metadata_of d) h
