@@ -117,6 +117,12 @@ fn reads_the_words_of_a_server(rt: HostRuntime) -> Result<(), Fail> {
         .as_str(),
         " 1 a 0 answers 8100 by 16"
     );
+    Ok(())
+}
+
+#[test]
+fn words_that_serve_nobody_are_refused(rt: HostRuntime) -> Result<(), Fail> {
+    let alloc: Global = rt.alloc();
     assert!(rt; is_refused(alloc, &["kapi", "serve"]));
     for words in [
         ["--answer", "0"],

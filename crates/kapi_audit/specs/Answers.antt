@@ -1,5 +1,5 @@
 -- The answers of an audit.
-use Rattle.std.specs.Prelude.{ℕ, List, [], ◌∷◌, ◌++◌, Option, None, Some, Result, Ok, codes, ok_or, option_map}
+use Rattle.std.specs.Prelude.{ℕ, List, [], ◌∷◌, ◌++◌, Option, None, Some, Result, Ok, Err, codes, ok_or, option_map}
 use Rattle.kapi_text.specs.Gives.{◌>>=◌}
 use Rattle.kapi_core.specs.Machine.{Machine, policy_of}
 use Rattle.kapi_core.specs.Table.{access_reviews_row}
@@ -8,10 +8,10 @@ use Rattle.kapi_policy.specs.Decided.{Decided, decided}
 use Rattle.kapi_policy.specs.Objects.{PolicyObjects}
 use Rattle.kapi_reviews.specs.Answers.{reason_of}
 use Rattle.kapi_script.specs.Escapes.{escaped}
-use Rattle.kapi_script.specs.Scripts.{start}
-use Rattle.kapi_audit.specs.Faults.{AuditError, question_line}
-use Rattle.kapi_audit.specs.Lines.{NumberedLine, lines_of}
-use Rattle.kapi_audit.specs.Loading.{made_of}
+use Rattle.kapi_audit.specs.Faults.{AuditError, policy_line, question_line}
+use Rattle.kapi_loading.specs.Faults.{FileFault, bad_line}
+use Rattle.kapi_loading.specs.Lines.{NumberedLine, lines_of}
+use Rattle.kapi_loading.specs.Loading.{machine_of}
 use Rattle.kapi_audit.specs.Questions.{question_of}
 
 -- the line of a decision, by the reason that a review tells where it is allowed
@@ -32,10 +32,11 @@ unfoldable pub answered_by : (List ℕ → Option (List ℕ)) → List NumberedL
 answered_by answer [] = Ok []
 answered_by answer (l ∷ ls) = ok_or (answer l.text) (question_line l.number) >>= λ text. (answered_by answer ls >>= λ rest. Ok (text ++ rest))
 
--- the answers to lines by the policy that other lines make of a machine: after all of them, and then the turns that follow
-abbrev pub answers_on : Machine → List NumberedLine → List NumberedLine → Result (List ℕ) AuditError
-answers_on m lines asked = made_of m lines >>= λ k. answered_by (answer_of access_reviews_row (policy_of k)) asked
+-- the answers to lines by the policy of a machine, or the line of its file that is not loaded
+abbrev pub answers_on : Result Machine FileFault → List NumberedLine → Result (List ℕ) AuditError
+answers_on (Ok m) asked = answered_by (answer_of access_reviews_row (policy_of m)) asked
+answers_on (Err (bad_line n)) asked = Err (policy_line n)
 
 -- the answers to a file of questions by the policy that a file of objects is
 unfoldable pub answers : List ℕ → List ℕ → Result (List ℕ) AuditError
-answers policy questions = answers_on start (lines_of policy) (lines_of questions)
+answers policy questions = answers_on (machine_of policy) (lines_of questions)

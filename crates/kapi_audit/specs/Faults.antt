@@ -2,6 +2,8 @@
 use Rattle.std.specs.Prelude.{ℕ, Option, None, Some}
 use Rattle.kapi_desk.specs.declared.seat.SeatError.{SeatError}
 use Rattle.kapi_desk.specs.declared.seat.SeatError.TheVariants as seat
+use Rattle.kapi_loading.specs.declared.fault.StartError.{StartError}
+use Rattle.kapi_loading.specs.declared.fault.StartError.TheVariants as start
 use Rattle.kapi_audit.specs.declared.fault.AuditFault.{AuditFault}
 use Rattle.kapi_audit.specs.declared.fault.AuditFault.TheVariants as fault
 
@@ -16,6 +18,11 @@ fault_told (fault.PolicyLine n) = Some (policy_line n)
 fault_told (fault.QuestionLine n) = Some (question_line n)
 fault_told fault.Memory = None
 fault_told fault.Busy = None
+
+-- the fault of an audit whose policy is not loaded
+abbrev pub unloaded : StartError → AuditFault
+unloaded (start.Line n) = fault.PolicyLine n
+unloaded start.Memory = fault.Memory
 
 -- the fault of an audit one of whose readers is refused so
 abbrev pub stopped : SeatError → AuditFault

@@ -1,6 +1,4 @@
-pub mod Lines
 pub mod Faults
-pub mod Loading
 pub mod Questions
 pub mod Answers
 pub mod Sharing

@@ -1,27 +1,21 @@
 ghost use Rattle.std.specs.Prelude.{◌≡◌, ◌≤◌, [], All, IfOk, MatchResult, OnOk, map, length};
 ghost use Rattle.kapi_text.specs.Gives.{Gives};
-ghost use Rattle.kapi_core.specs.Machine.{Machine};
 ghost use Rattle.kapi_core.specs.Table.{access_reviews_row};
 ghost use Rattle.kapi_desk.specs.Boards.{Chair, chair, fresh};
 ghost use Rattle.kapi_desk.specs.Steps.{after};
-ghost use Rattle.kapi_audit.specs.Answers.{answer_of, answered_by, answers, answers_on};
+ghost use Rattle.kapi_audit.specs.Answers.{answer_of, answered_by, answers};
 ghost use Rattle.kapi_audit.specs.Faults.{fault_told};
-ghost use Rattle.kapi_audit.specs.Lines.{line_of};
-ghost use Rattle.kapi_audit.specs.Loading.{Publishes};
+ghost use Rattle.kapi_loading.specs.Lines.{line_of};
 ghost use Rattle.kapi_audit.specs.Readers.{AreReaders};
 
 use crate::fault::AuditFault;
 use crate::gate::Gate;
 use crate::gathering::gather;
-use crate::line::{Line, numbered_lines};
-use crate::publishing::publish_policy;
 use crate::question::access_reviews;
 use crate::reader::Reader;
 use crate::threads::answer_in_threads;
-use kapi_core::Core;
 use kapi_desk::{Desk, Seat};
-use kapi_index::IndexedPolicy;
-use kapi_script::program_table;
+use kapi_loading::{Line, Started, numbered_lines, start};
 use kapi_text::Memory;
 use std::alloc::Global;
 use std::sync::Wait;
@@ -108,26 +102,6 @@ fn answer_told<R: Threads + Wait + Sync, G: Gate + Sync>(
     }
 }
 
-/// Publishes the policy that lines are, and has the seats answer other lines by it.
-fn answer_by_policy<R: Threads + Wait + Sync, G: Gate + Sync>(
-    rt: &R,
-    core: &mut Core<IndexedPolicy>,
-    desk: &mut Desk,
-    seats: Vec<Seat>,
-    lines: &[Line<'_>],
-    asked: &[Line<'_>],
-    gate: &G,
-) -> Result<Vec<u8>, AuditFault>
-    requires free { desk.old.waiting ≡ [] }
-    requires count { 1 ≤ length seats.items }
-    requires seats { All (λ s. s ≡ fresh desk.old.opening) seats.items }
-    ensures { (m : Machine) → Publishes core.old desk.old m
-        → Gives fault_told (λ v. v.items) result (answers_on m (map line_of lines.now) (map line_of asked.now)) }
-{
-    publish_policy(rt, core, desk, lines)?;
-    answer_told(core.allocator(), rt, desk, seats, asked, gate)
-}
-
 /// Answers a file of questions by the policy that a file of objects is, with so many reader threads. The text has a line for each
 /// question, in their order, whatever the number of readers is.
 ///
@@ -145,13 +119,21 @@ pub fn audit_run<R: Threads + Wait + Sync, G: Gate + Sync>(
     requires { (1 ≤ readers) × (readers ≤ READERS) }
     ensures { Gives fault_told (λ v. v.items) result (answers policy.now questions.now) }
 {
-    let lines = numbered_lines(alloc, policy)?;
     let asked = numbered_lines(alloc, questions)?;
-    let mut core = Core::new(alloc, program_table(alloc)?, IndexedPolicy::new(alloc), 0)?;
-    let opening = core.policy().copy()?;
-    let (mut desk, seats) = Desk::new(alloc, rt, opening, readers)?;
-    let (lines, asked) = (lines.as_slice(), asked.as_slice());
-    let answered = answer_by_policy(rt, &mut core, &mut desk, seats, lines, asked, gate);
+    let started = start(alloc, rt, policy, readers)?;
+    let Started {
+        core,
+        mut desk,
+        seats,
+    } = started;
+    let answered = answer_told(
+        core.allocator(),
+        rt,
+        &mut desk,
+        seats,
+        asked.as_slice(),
+        gate,
+    );
     drop(desk.close(rt));
     answered
 }

@@ -1,4 +1,5 @@
 use kapi_desk::SeatError;
+use kapi_loading::StartError;
 use kapi_text::Memory;
 use thiserror::Error;
 
@@ -26,6 +27,20 @@ impl From<Memory> for AuditFault {
 
     fn from(_error: Memory) -> AuditFault {
         AuditFault::Memory
+    }
+}
+
+impl From<StartError> for AuditFault {
+    ghost use Rattle.std.specs.Prelude.{◌≡◌};
+    ghost use Rattle.kapi_audit.specs.Faults.{unloaded};
+
+    ghost from_gives = { λ e f. f ≡ unloaded e };
+
+    fn from(error: StartError) -> AuditFault {
+        match error {
+            StartError::Line(number) => AuditFault::PolicyLine(number),
+            StartError::Memory => AuditFault::Memory,
+        }
     }
 }
 

@@ -8,8 +8,6 @@ mod audit;
 mod fault;
 mod gate;
 mod gathering;
-mod line;
-mod publishing;
 mod question;
 mod reader;
 mod report;

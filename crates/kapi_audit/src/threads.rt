@@ -8,9 +8,9 @@ ghost use Rattle.kapi_desk.specs.Steps.{after};
 
 use crate::gate::Gate;
 use crate::gathering::Answer;
-use crate::line::Line;
 use crate::reader::{Reader, answer_share};
 use kapi_desk::SeatError;
+use kapi_loading::Line;
 use kapi_names::ResourceRow;
 use kapi_text::Sequence;
 use std::alloc::{AllocError, Global};

@@ -145,7 +145,7 @@ holds_opened n s slot who conn es ms sits free next h =
 
 -- what a client is who is ended at once
 abbrev no_visit : Identity → Visit
-no_visit who = record { identity = who; read = []; accepted = [] }
+no_visit who = record { identity = who; ended_at_once = true; read = []; accepted = [] }
 
 -- he is a visit, of which nothing is read or accepted
 visits_at_once : (slot : ℕ) (who : Identity) (es : List Entry) → visits (entry.Opened slot who ∷ entry.Ended slot ∷ es) ≡ no_visit who ∷ visits es
@@ -200,7 +200,7 @@ account_lost slot who es ms a =
     record {
       given = given;
       all = a.all;
-      theirs = subst (λ vs. AreTheirs vs given) (sym (visits_at_once slot who es)) (refl, refl, a.theirs);
+      theirs = subst (λ vs. AreTheirs vs given) (sym (visits_at_once slot who es)) (refl, a.theirs);
     }
 
 -- the controller may have written

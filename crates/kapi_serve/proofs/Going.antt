@@ -1,5 +1,5 @@
 -- How what was done is joined.
-use Rattle.std.proofs.Common.{◌≡◌, ℕ, List, [], ◌∷◌, ◌++◌, refl, sym, ap, ◌∙◌, subst, append_assoc, Option, None, Some, Result, Ok, Err}
+use Rattle.std.proofs.Common.{◌≡◌, ℕ, List, [], ◌∷◌, ◌++◌, refl, sym, ap, ◌∙◌, subst, append_assoc, Option, None, Some, Err}
 use Rattle.std.specs.Prelude.{⊤}
 use Rattle.std.proofs.lemmas.List.{append-nil, map-append}
 use Rattle.kapi_core.specs.Machine.{Machine, step, answers, after}
@@ -21,11 +21,12 @@ use Rattle.kapi_policy.specs.declared.change.PolicyChange.{PolicyChange}
 use Rattle.kapi_desk.specs.Boards.{Board}
 use Rattle.kapi_serve.specs.Account.{Made}
 use Rattle.kapi_serve.specs.Acts.{Act, Deals, Does, Follows, IsFree, Leaves, Seat, answers_of, ends, entries_in, entries_of, events_of, loses, made_in, made_of, opens, serves, shuns, turns}
-use Rattle.kapi_serve.specs.Goes.{Closes, Goes, IsAt, Moves, Runs, Serves, Writes, step_in, steps_in}
+use Rattle.kapi_serve.specs.Goes.{Closes, Goes, Moves, Runs, Serves, Writes, step_in, steps_in}
 use Rattle.kapi_serve.specs.Shows.{Shows, step_of, unpublished}
 use Rattle.kapi_serve.specs.declared.port.Entry.{Entry}
 use Rattle.kapi_serve.specs.declared.port.Entry.TheVariants as entry
 use Rattle.kapi_serve.proofs.Accounting.{accounts}
+use Rattle.kapi_serve.proofs.Policies.{policies_shown}
 use Rattle.kapi_serve.proofs.Seating.{deals_closed, deals_end, deals_fed, deals_served, deals_shown, deals_took, deals_unserved, deals_unshown, leaves_ended, leaves_forgotten, leaves_full, leaves_late, leaves_starved}
 use Rattle.kapi_serve.proofs.Showing.{prompt_none, shows_as, shows_nothing, shows_on}
 
@@ -451,9 +452,13 @@ goes_serves a b d e q t T U h k none s = record {
   runs = s.runs;
   opening = s.shows.opening;
   left = unpublished e q;
-  published = s.shows.all ∙ ap (λ ws. (d.list ++ (ws ++ [])) ++ steps_by s.acts) none ∙ ap (λ xs. xs ++ steps_by s.acts) (append-nil d.list);
+  published = published;
   prompt = s.shows.prompt (prompt_none d none None refl);
+  policies = policies_shown a d e (events_of (made_in s.acts)) (answers_of (made_in s.acts)) (unpublished e q) s.shows.opening (λ m shown. (s.runs m shown.0).0) published;
   entries = entries_in s.acts;
   told = λ y. (s.told y).1;
   account = λ m y. accounts m s.acts t s.follows (s.runs m y).0;
 }
+  where
+    published : e.list ++ unpublished e q ≡ d.list ++ steps_by s.acts
+    published = s.shows.all ∙ ap (λ ws. (d.list ++ (ws ++ [])) ++ steps_by s.acts) none ∙ ap (λ xs. xs ++ steps_by s.acts) (append-nil d.list)

@@ -7,4 +7,5 @@ pub mod Seats
 pub mod Numbers
 pub mod Fares
 pub mod Accounting
+pub mod Policies
 pub mod Going

@@ -2,15 +2,12 @@
 use Rattle.std.proofs.Common.{◌≡◌, ℕ, ◌==◌, true, false, ◌||◌, if◌then◌else◌, List, [], ◌∷◌, ◌++◌, refl, sym, ap, ◌∙◌}
 use Rattle.std.proofs.lemmas.List.{append-nil}
 use Rattle.std.proofs.lemmas.Bool.{eq-eqb}
-use Rattle.kapi_core.specs.declared.event.Answer.{Answer}
 use Rattle.kapi_core.specs.declared.event.Answer.TheVariants as answer
 use Rattle.kapi_core.specs.declared.event.ConnId.{ConnId}
-use Rattle.kapi_core.specs.declared.event.Event.{Event}
 use Rattle.kapi_core.specs.declared.event.Event.TheVariants as event
 use Rattle.kapi_core.specs.declared.event.Output.{Output}
-use Rattle.kapi_serve.specs.Account.{Made, accepted_by, answered_to, closes, fed_to, read_from}
+use Rattle.kapi_serve.specs.Account.{accepted_by, answered_to, closes, fed_to, read_from}
 use Rattle.kapi_serve.specs.Acts.{AreTo, Deals, Leaves, Seat, StayOn}
-use Rattle.kapi_serve.specs.declared.port.Entry.{Entry}
 use Rattle.kapi_serve.specs.declared.port.Entry.TheVariants as entry
 
 -- a number is itself

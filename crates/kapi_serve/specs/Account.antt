@@ -1,5 +1,5 @@
 -- The account of a server: which bytes of its ports are whose, and what was made of them.
-use Rattle.std.specs.Prelude.{◌≡◌, ℕ, ◌==◌, Bool, false, ◌||◌, if◌then◌else◌, List, [], ◌∷◌, ◌++◌, Option, Some, None}
+use Rattle.std.specs.Prelude.{◌≡◌, ℕ, ◌==◌, Bool, true, false, ◌||◌, if◌then◌else◌, List, [], ◌∷◌, ◌++◌, Option, Some, None}
 use Rattle.kapi_core.specs.declared.event.Answer.{Answer}
 use Rattle.kapi_core.specs.declared.event.Answer.TheVariants as answer
 use Rattle.kapi_core.specs.declared.event.ConnId.{ConnId}
@@ -32,16 +32,22 @@ accepted_by slot (entry.Gave s bytes ∷ rest) = accepted_by slot rest
 accepted_by slot (entry.Took s bytes ∷ rest) = if s == slot then bytes ++ accepted_by slot rest else accepted_by slot rest
 accepted_by slot (entry.Ended s ∷ rest) = if s == slot then [] else accepted_by slot rest
 
--- a client: who he is, what was read from him, and what he accepted
+-- whether a slot is ended next
+abbrev pub is_ended_next : ℕ → List Entry → Bool
+is_ended_next slot (entry.Ended s ∷ rest) = s == slot
+is_ended_next slot _ = false
+
+-- a client: who he is, whether his slot was ended at once, what was read from him, and what he accepted
 pub record Visit : Type 0 where
   pub identity : Identity
+  pub ended_at_once : Bool
   pub read : List ℕ
   pub accepted : List ℕ
 
 -- the clients that connected, in order
 unfoldable pub visits : List Entry → List Visit
 visits [] = []
-visits (entry.Opened slot who ∷ rest) = record { identity = who; read = read_from slot rest; accepted = accepted_by slot rest } ∷ visits rest
+visits (entry.Opened slot who ∷ rest) = record { identity = who; ended_at_once = is_ended_next slot rest; read = read_from slot rest; accepted = accepted_by slot rest } ∷ visits rest
 visits (entry.Gave slot bytes ∷ rest) = visits rest
 visits (entry.Took slot bytes ∷ rest) = visits rest
 visits (entry.Ended slot ∷ rest) = visits rest
@@ -113,12 +119,13 @@ pub record Fits (v : Visit) (t : Talk) : Type 0 where
   pub left : List ℕ
   pub accepted : t.answered ≡ v.accepted ++ left
 
--- each client's connection is his; where memory ran out at his entry he has none, and nothing was read from him or accepted
+-- each client's connection is his; where memory ran out at his entry he has none, and his slot was ended at once, so nothing was read
+-- from him
 unfoldable pub AreTheirs : List Visit → List (Option Talk) → Type 0
 AreTheirs [] [] = Unit {0}
 AreTheirs [] (g ∷ gs) = ⊥
 AreTheirs (v ∷ vs) [] = ⊥
-AreTheirs (v ∷ vs) (None ∷ gs) = (v.read ≡ []) × (v.accepted ≡ []) × AreTheirs vs gs
+AreTheirs (v ∷ vs) (None ∷ gs) = (v.ended_at_once ≡ true) × AreTheirs vs gs
 AreTheirs (v ∷ vs) (Some t ∷ gs) = Fits v t × AreTheirs vs gs
 
 -- those that there are

@@ -4,12 +4,14 @@ use Rattle.kapi_policy.specs.declared.change.PolicyChange.{PolicyChange}
 use Rattle.kapi_core.specs.Machine.{Machine, after, answers}
 use Rattle.kapi_core.specs.Running.{Running}
 use Rattle.kapi_core.specs.Stands.{Makes, Stands}
+use Rattle.kapi_core.specs.Telling.{changes_told}
 use Rattle.kapi_core.specs.declared.event.Event.TheVariants as event
 use Rattle.kapi_core.specs.declared.event.Answer.{Answer}
 use Rattle.kapi_core.specs.declared.event.Answer.TheVariants as answer
 use Rattle.kapi_desk.specs.Boards.{Board}
 use Rattle.kapi_serve.specs.Account.{Account, Made}
 use Rattle.kapi_serve.specs.Acts.{Act, Follows, Seat, answers_of, entries_in, events_of, made_in}
+use Rattle.kapi_serve.specs.Policies.{ShowsPolicies}
 use Rattle.kapi_serve.specs.Shows.{Shows, step_of}
 use Rattle.kapi_serve.specs.declared.port.Entry.{Entry}
 use Rattle.kapi_serve.specs.declared.port.Entry.TheVariants as entry
@@ -20,9 +22,7 @@ Runs old new made = (m : Machine) → Stands old m → (answers_of made ≡ answ
 
 -- the step of an answer
 abbrev pub step_in : Answer → List (List PolicyChange)
-step_in (answer.Sent output) = step_of output.policy_changes
-step_in (answer.Turned turned) = step_of turned.policy_changes
-step_in _ = []
+step_in a = step_of (changes_told a)
 
 -- the steps of answers, in order
 unfoldable pub steps_in : List Answer → List (List PolicyChange)
@@ -62,7 +62,8 @@ pub record Goes (old new : Running) (board next : Board) (p q : Option (List Pol
   pub told : U → T × (later ≡ history ++ entries_in acts)
 
 -- what a server did: its events are one list, after which the machine is that of their run; the desk has published the steps of
--- their answers in order, all but at most the last; and where the ports tell what they gave and took, that and the events are accounted for
+-- their answers in order, all but at most the last, so what it publishes is a policy that the machine had; and where the ports tell what
+-- they gave and took, that and the events are accounted for
 pub record Serves (old new : Running) (board next : Board) (tells : Type 0) (history later : List Entry) : Type 0 where
   pub made : List Made
   pub runs : Runs old new made
@@ -70,6 +71,7 @@ pub record Serves (old new : Running) (board next : Board) (tells : Type 0) (his
   pub left : List (List PolicyChange)
   pub published : next.list ++ left ≡ board.list ++ steps_in (answers_of made)
   pub prompt : length left ≤ 1
+  pub policies : ShowsPolicies old board next (events_of made)
   pub entries : List Entry
   pub told : tells → later ≡ history ++ entries
   pub account : (m : Machine) → Stands old m → Account entries made

@@ -1,6 +1,7 @@
 pub mod Ports
 pub mod Pieces
 pub mod Shows
+pub mod Policies
 pub mod Goes
 pub mod Account
 pub mod Acts

@@ -12,9 +12,7 @@ mod port;
 mod publishing;
 mod server;
 mod sockets;
-mod starting;
 
 pub use port::{Entry, PortEvent, PortFault, Ports};
 pub use server::serve_loop;
 pub use sockets::Sockets;
-pub use starting::{StartError, Started, start};

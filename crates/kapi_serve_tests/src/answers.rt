@@ -2,8 +2,8 @@ ghost use Rattle.std.specs.Prelude.{◌≡◌, []};
 
 use kapi_audit::{AnswerFault, answer_run};
 use kapi_desk::{Desk, Seat};
+use kapi_loading::{Started, start};
 use kapi_policy::{NamespacedName, PolicyChange, PolicyKey};
-use kapi_serve::{Started, start};
 use kapi_text::Text;
 use std::alloc::{AllocError, Global};
 use std::io::{self, Read, Write};

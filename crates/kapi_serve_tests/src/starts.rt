@@ -1,4 +1,4 @@
-use kapi_serve::{StartError, Started, start};
+use kapi_loading::{StartError, Started, start};
 use std::alloc::Global;
 use std::sync::Wait;
 use std::test::Fail;

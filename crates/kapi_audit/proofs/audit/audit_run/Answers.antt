@@ -1,18 +1,19 @@
-use Rattle.std.proofs.Common.{◌∙◌, ap, map, subst}
-use Rattle.kapi_audit.proofs.Audited.{audited_files, published_first}
-use Rattle.kapi_audit.specs.Lines.{line_of}
-use Rattle.kapi_core.specs.Opening.{opening}
-use Rattle.kapi_core.specs.Stands.{Stands}
-use Rattle.kapi_script.specs.Scripts.{start}
+use Rattle.std.proofs.Common.{◌∙◌, ap, map, refl}
+use Rattle.kapi_audit.proofs.Audited.{audited, audited_files, unanswered}
+use Rattle.kapi_loading.specs.Lines.{line_of, lines_of}
+use Rattle.kapi_loading.specs.Loading.{machine_of}
 use Rattle.kapi_audit.proofs.audit.audit_run.Goals as goal
 
 pub returns : goal.returns
 returns g c =
-    let core = c.in_ok-core.core in
-    let desk = c.in_ok-desk.ensures.desk in
-    let stands = subst (λ rows. Stands core (opening rows 0)) c.in_ok-program_table.ensures.rows c.in_ok-core.ensures.stands in
-    let shown = published_first core c.in_ok-desk.desk start stands (desk.0 ∙ c.in_ok-opening.ensures ∙ c.policy.ensures) desk.1 in
-    audited_files (λ v. v.items) c.answer_by_policy-answered.result _ _ c.args.policy.now c.args.questions.now
-    (ap (map line_of) c.as_slice-lines.ensures.value ∙ c.in_ok-lines.ensures)
-    (ap (map line_of) c.as_slice-asked.ensures.value ∙ c.in_ok-asked.ensures)
-    (c.answer_by_policy-answered.ensures start shown)
+    let started = c.in_ok-started.started in
+    audited_files (λ v. v.items) c.answer_told-answered.result c.args.policy.now c.args.questions.now _
+    (ap (map line_of) c.as_slice.ensures.value ∙ c.in_ok-asked.ensures)
+    (audited (λ v. v.items) started.core started.desk (machine_of c.args.policy.now) _ c.answer_told-answered.result c.in_ok-started.ensures.machine c.answer_told-answered.ensures)
+
+pub returns-in_err-started : goal.returns-in_err-started
+returns-in_err-started g c =
+    let asked = lines_of c.args.questions.now in
+    let result = c.from_residual-in_err-started.result in
+    audited_files (λ v. v.items) result c.args.policy.now c.args.questions.now asked refl
+    (unanswered (λ v. v.items) result c.in_err-started.field-0.0 (machine_of c.args.policy.now) asked c.from_residual-in_err-started.ensures.1 c.in_err-started.ensures.machine)

@@ -1,6 +1,6 @@
 use Rattle.kapi_core.specs.declared.event.Event.TheVariants as event
-use Rattle.std.proofs.Common.{◌++◌, ◌∷◌, sym, ap, refl}
-use Rattle.kapi_serve.proofs.Going.{goes_from, goes_moving, goes_nothing, goes_out, goes_shown, goes_to, moves_on, moves_unshown}
+use Rattle.std.proofs.Common.{◌++◌, ◌∷◌, sym, ap}
+use Rattle.kapi_serve.proofs.Going.{goes_from, goes_moving, goes_nothing, goes_out, goes_shown, goes_to, moves_unshown}
 use Rattle.kapi_serve.proofs.client.Client.pump.Goals as goal
 
 pub returns-then-not-self : goal.returns-then-not-self

@@ -1,5 +1,5 @@
 use Rattle.kapi_core.specs.declared.event.Event.TheVariants as event
-use Rattle.std.proofs.Common.{◌++◌, ◌∷◌, sym, ap, refl}
+use Rattle.std.proofs.Common.{◌++◌, ◌∷◌, sym, ap}
 use Rattle.kapi_serve.proofs.Going.{goes_from, goes_moving, goes_nothing, goes_out, goes_served, goes_to, moves_on, moves_unserved}
 use Rattle.kapi_serve.proofs.client.Client.serve.Goals as goal
 

@@ -1,5 +1,5 @@
-use Rattle.std.proofs.Common.{◌≡◌, ◌∙◌, ap, subst, refl, Ok, Err}
-use Rattle.kapi_serve.specs.Clients.{others, seat_of, seats_of}
+use Rattle.std.proofs.Common.{◌≡◌, ◌∙◌, ap, subst, refl, Err}
+use Rattle.kapi_serve.specs.Clients.{others, seat_of}
 use Rattle.kapi_core.specs.Stands.{Makes, TakesIn}
 use Rattle.kapi_core.specs.declared.event.Event.TheVariants as event
 use Rattle.kapi_core.specs.declared.event.Answer.TheVariants as answer

@@ -1,4 +1,4 @@
-use Rattle.std.proofs.Common.{◌≡◌, ◌∙◌, ap, subst, refl}
+use Rattle.std.proofs.Common.{◌≡◌, ◌∙◌, ap, subst}
 use Rattle.kapi_serve.specs.Clients.{seat_of, seats_of}
 use Rattle.kapi_core.specs.Stands.{Makes}
 use Rattle.kapi_core.specs.declared.event.Event.TheVariants as event

@@ -1,4 +1,4 @@
-use Rattle.std.proofs.Common.{◌≡◌, ◌++◌, ◌∷◌, set, refl, sym, ap, ◌∙◌}
+use Rattle.std.proofs.Common.{◌≡◌, ◌++◌, ◌∷◌, set, sym, ap, ◌∙◌}
 use Rattle.kapi_serve.specs.Goes.{IsAt}
 use Rattle.kapi_serve.specs.Clients.{seat_of, seats_of}
 use Rattle.kapi_serve.proofs.Going.{goes_any, goes_as, goes_moving, goes_on, goes_writing, moves_ended}

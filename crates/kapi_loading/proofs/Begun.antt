@@ -1,0 +1,34 @@
+-- A machine and its desk at their start.
+use Rattle.std.proofs.Common.{◌≡◌, ℕ, List, [], Result, ◌∙◌, subst}
+use Rattle.kapi_core.specs.Machine.{Machine}
+use Rattle.kapi_core.specs.Opening.{opening}
+use Rattle.kapi_core.specs.Running.{Running}
+use Rattle.kapi_core.specs.Stands.{Stands}
+use Rattle.kapi_desk.specs.Boards.{Board}
+use Rattle.kapi_desk.specs.Steps.{after}
+use Rattle.kapi_names.specs.declared.row.ResourceRow.{ResourceRow}
+use Rattle.kapi_script.specs.ProgramTable.{program_rows}
+use Rattle.kapi_script.specs.Scripts.{start}
+use Rattle.kapi_loading.specs.Lines.{NumberedLine, lines_of}
+use Rattle.kapi_loading.specs.Loading.{Publishes, Reaches, machine_of, made_of}
+use Rattle.kapi_loading.specs.declared.fault.StartError.{StartError}
+
+-- a desk over the policy of a core has published it
+pub published_first : (core : Running) (desk : Board) (m : Machine) → Stands core m → desk.opening ≡ core.policy → desk.list ≡ [] → Publishes core desk m
+unfolding after
+published_first core desk m stands opening none =
+    (stands, (λ i. after (opening i) (none i)) ∙ stands.policy_is)
+
+-- what the lines of a file reach, from the machine that begins as every one
+pub reached : (core : Running) (desk : Board) (result : Result (Unit {0}) StartError) (lines : List NumberedLine) (objects : List ℕ) → lines ≡ lines_of objects
+    → Reaches core desk result (made_of start lines) → Reaches core desk result (machine_of objects)
+unfolding machine_of
+reached core desk result lines objects is h = subst (λ ls. Reaches core desk result (made_of start ls)) is h
+
+-- the same of a core and a desk over its policy
+pub begun : (core next : Running) (desk board : Board) (result : Result (Unit {0}) StartError) (rows : List ResourceRow) (lines : List NumberedLine) (objects : List ℕ) → Stands core (opening rows 0)
+    → rows ≡ program_rows → desk.opening ≡ core.policy → desk.list ≡ [] → lines ≡ lines_of objects
+    → ((m : Machine) → Publishes core desk m → Reaches next board result (made_of m lines)) → Reaches next board result (machine_of objects)
+begun core next desk board result rows lines objects stands is policy none same reaches =
+    let from : Stands core start = subst (λ r. Stands core (opening r 0)) is stands in
+    reached next board result lines objects same (reaches start (published_first core desk start from policy none))

@@ -1,0 +1,4 @@
+pub mod Parts
+pub mod Published
+pub mod Loaded
+pub mod Begun

@@ -1,0 +1,23 @@
+use Rattle.std.proofs.Common.{◌∙◌, ap, arith, subst, Ok, ◌-◌, ◌+◌}
+use Rattle.kapi_loading.proofs.Loaded.{all_turned, no_turn_left, turn_made}
+use Rattle.kapi_core.specs.Stands.{Turns}
+use Rattle.kapi_desk.specs.Steps.{after, after_changes}
+use Rattle.kapi_loading.proofs.publishing.make_turns.Goals as goal
+
+pub loop-preserved : goal.loop-preserved
+loop-preserved g c =
+    let k = c.in_ok-publish-in-Some.ensures in
+    let made = subst (λ t. Turns c.loop.core c.turn.new.self (Ok t)) c.in-Some.is c.in_ok-turned.ensures in (
+      k.waiting,
+      c.publish.ensures.opening ∙ c.loop.invariant.1,
+      λ m h. turn_made m (64 - c.loop.counter) (64 - (c.loop.counter + 1)) c.loop.core c.turn.new.self c.loop.desk c.publish.new.desk c.in-Some.turned (omega (arith, c.loop-test.true)) (c.loop.invariant.2 m h) made
+          (k.policy ∙ ap (λ cs. after_changes cs (after c.loop.desk.opening c.loop.desk.list)) c.as_slice.ensures),
+    )
+
+pub returns-in-None-clause-reaches : goal.returns-in-None-clause-reaches
+returns-in-None-clause-reaches g c =
+    let none = subst (λ t. Turns c.loop.core c.turn.new.self (Ok t)) c.in-None.is c.in_ok-turned.ensures in
+    λ m h. no_turn_left m (64 - c.loop.counter) c.loop.core c.turn.new.self c.loop.desk (c.loop.invariant.2 m h) none
+
+pub returns-clause-reaches : goal.returns-clause-reaches
+returns-clause-reaches g c = λ m h. all_turned m (64 - c.loop.counter) c.loop.core c.loop.desk (omega (arith, c.loop-test.false)) (c.loop.invariant.2 m h)

@@ -1,0 +1,13 @@
+-- Why no machine was made of a file.
+use Rattle.std.specs.Prelude.{ℕ, Option, None, Some}
+use Rattle.kapi_loading.specs.declared.fault.StartError.{StartError}
+use Rattle.kapi_loading.specs.declared.fault.StartError.TheVariants as fault
+
+-- the line that is not loaded
+pub data FileFault : Type 0 where
+  bad_line : ℕ → FileFault
+
+-- the fault that an error tells: none where memory ran out
+abbrev pub fault_told : StartError → Option FileFault
+fault_told (fault.Line n) = Some (bad_line n)
+fault_told fault.Memory = None

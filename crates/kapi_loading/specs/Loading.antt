@@ -1,0 +1,55 @@
+-- The policy of a file: its lines loaded in order, and then the turns that follow.
+use Rattle.std.specs.Prelude.{◌≡◌, ℕ, zero, suc, List, [], ◌∷◌, Result, Ok, Err}
+use Rattle.kapi_text.specs.Gives.{Fails, ◌>>=◌}
+use Rattle.kapi_answer.specs.Load.{LoadFault, loads}
+use Rattle.kapi_answer.specs.declared.loading.LoadError.{LoadError}
+use Rattle.kapi_answer.specs.declared.loading.LoadError.TheVariants as error
+use Rattle.kapi_store.specs.Plain.{PlainChange}
+use Rattle.kapi_core.specs.Machine.{Machine, changed, policy_of, step}
+use Rattle.kapi_core.specs.Running.{Running}
+use Rattle.kapi_core.specs.Stands.{Stands}
+use Rattle.kapi_core.specs.declared.event.Event.TheVariants as event
+use Rattle.kapi_desk.specs.Boards.{Board}
+use Rattle.kapi_desk.specs.Steps.{after}
+use Rattle.kapi_loading.specs.Faults.{FileFault, bad_line, fault_told}
+use Rattle.kapi_script.specs.Scripts.{start}
+use Rattle.kapi_loading.specs.Lines.{NumberedLine, lines_of}
+use Rattle.kapi_loading.specs.declared.fault.StartError.{StartError}
+use Rattle.kapi_loading.specs.declared.fault.StartError.TheVariants as fault
+
+-- why no machine is made where a line of this number is not loaded
+abbrev pub load_fault : ℕ → LoadError → StartError
+load_fault number error.Memory = fault.Memory
+load_fault number _ = fault.Line number
+
+-- the machine that a line's object was created on, or the line
+abbrev pub made_by : ℕ → Machine → Result (List PlainChange) LoadFault → Result Machine FileFault
+made_by number m (Ok changes) = Ok (changed changes m)
+made_by number m (Err fault) = Err (bad_line number)
+
+-- the machine after all lines, or the first that is not loaded
+unfoldable pub loaded : Machine → List NumberedLine → Result Machine FileFault
+loaded m [] = Ok m
+loaded m (l ∷ ls) = made_by l.number m (loads m.store l.text) >>= λ next. loaded next ls
+
+-- the machine after so many turns; one that has nothing to do changes nothing
+unfoldable pub turned : ℕ → Machine → Machine
+turned zero m = m
+turned (suc k) m = turned k (step m event.Turn).1
+
+-- the machine that lines make: after all its lines, and then the turns that follow, 64 at most
+abbrev pub made_of : Machine → List NumberedLine → Result Machine FileFault
+made_of m lines = loaded m lines >>= λ k. Ok (turned 64 k)
+
+-- the machine that begins as every one, and that a file of objects makes, or the first line that is not loaded
+unfoldable pub machine_of : List ℕ → Result Machine FileFault
+machine_of objects = made_of start (lines_of objects)
+
+-- the core stands for a machine, and the desk has published its policy
+abbrev pub Publishes : Running → Board → Machine → Type 0
+Publishes core desk m = Stands core m × (after desk.opening desk.list ≡ policy_of m)
+
+-- the same of the machine that is given, or why none is
+abbrev pub Reaches : Running → Board → Result (Unit {0}) StartError → Result Machine FileFault → Type 0
+Reaches core desk (Ok done) given = (m : Machine) × (given ≡ Ok m) × Publishes core desk m
+Reaches core desk (Err e) given = Fails (fault_told e) given

@@ -1,0 +1,13 @@
+-- What a start gives.
+use Rattle.std.specs.Prelude.{◌≡◌, Result, Ok, Err}
+use Rattle.kapi_text.specs.Gives.{Fails}
+use Rattle.kapi_core.specs.Machine.{Machine}
+use Rattle.kapi_loading.specs.Faults.{FileFault, fault_told}
+use Rattle.kapi_loading.specs.Loading.{Publishes}
+use Rattle.kapi_loading.specs.declared.fault.StartError.{StartError}
+use Rattle.kapi_loading.specs.declared.starting.Started.{Started}
+
+-- a core that stands for the machine that is given, whose policy the desk has published, or why none is
+abbrev pub Starts : Result Started StartError → Result Machine FileFault → Type 0
+Starts (Ok s) given = (m : Machine) × (given ≡ Ok m) × Publishes s.core s.desk m
+Starts (Err e) given = Fails (fault_told e) given

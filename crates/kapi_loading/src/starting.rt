@@ -1,0 +1,50 @@
+ghost use Rattle.std.specs.Prelude.{◌≡◌, ◌≤◌, [], IfOk, replicate};
+ghost use Rattle.kapi_desk.specs.Boards.{fresh};
+ghost use Rattle.kapi_loading.specs.Loading.{machine_of};
+ghost use Rattle.kapi_loading.specs.Starting.{Starts};
+
+use crate::fault::StartError;
+use crate::line::numbered_lines;
+use crate::publishing::publish_policy;
+use kapi_core::Core;
+use kapi_desk::{Desk, Seat};
+use kapi_index::IndexedPolicy;
+use kapi_script::program_table;
+use std::alloc::Global;
+use std::sync::Wait;
+
+/// A machine, the desk that publishes its policy, and the seats of that desk.
+pub struct Started {
+    pub core: Core<IndexedPolicy>,
+    pub desk: Desk,
+    pub seats: Vec<Seat>,
+}
+
+/// A machine with the objects of a file, a JSON object a line, whose policy is published to so many seats. The turns that follow the
+/// objects are made, 64 at most.
+///
+/// # Errors
+/// `Line` at the first line that cannot be loaded, `Memory` where memory runs out.
+pub fn start<R: Wait>(
+    alloc: Global,
+    rt: &R,
+    objects: &[u8],
+    seats: usize,
+) -> Result<Started, StartError>
+    requires { (1 ≤ seats) × (seats ≤ 16) }
+    ensures machine { Starts result (machine_of objects.now) }
+    ensures waiting { IfOk result (λ s. s.desk.waiting ≡ []) }
+    ensures seats { IfOk result (λ s. s.seats.items ≡ replicate seats (fresh s.desk.opening)) }
+{
+    let lines = numbered_lines(alloc, objects)?;
+    let mut core = Core::new(alloc, program_table(alloc)?, IndexedPolicy::new(alloc), 0)?;
+    let opening = core.policy().copy()?;
+    let (mut desk, seats) = Desk::new(alloc, rt, opening, seats)?;
+    match publish_policy(rt, &mut core, &mut desk, lines.as_slice()) {
+        Ok(()) => Ok(Started { core, desk, seats }),
+        Err(error) => {
+            drop(desk.close(rt));
+            Err(error)
+        }
+    }
+}

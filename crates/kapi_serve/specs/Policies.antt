@@ -1,0 +1,17 @@
+-- Which policies a desk has published.
+use Rattle.std.specs.Prelude.{◌≡◌, ℕ, List, take}
+use Rattle.kapi_core.specs.Machine.{Machine, after as machine_after, policy_of}
+use Rattle.kapi_core.specs.Running.{Running}
+use Rattle.kapi_core.specs.declared.event.Event.{Event}
+use Rattle.kapi_desk.specs.Boards.{Board}
+use Rattle.kapi_desk.specs.Rule.{Begins}
+use Rattle.kapi_desk.specs.Steps.{after}
+use Rattle.kapi_loading.specs.Loading.{Publishes}
+use Rattle.kapi_policy.specs.declared.change.PolicyChange.{PolicyChange}
+
+-- where a desk had published the policy of the machine, each list of steps that was published since is the policy that the machine had
+-- after some of the events: so whoever learns the list decides as the machine did then
+abbrev pub ShowsPolicies : Running → Board → Board → List Event → Type 0
+ShowsPolicies core board next events =
+    (m : Machine) → Publishes core board m → (seen : List (List PolicyChange)) → Begins board.list seen → Begins seen next.list
+    → (n : ℕ) × (after next.opening seen ≡ policy_of (machine_after m (take n events)))
