@@ -76,6 +76,19 @@ def drip(sockets, is_over):
             time.sleep(1 / len(sockets))
 
 
+def beside_slow():
+    """Requests a second over one connection while 255 others send one byte a second each."""
+    sockets, is_over = [socket.create_connection(("127.0.0.1", ROOT)) for _client in range(255)], threading.Event()
+    slow = threading.Thread(target=drip, args=(sockets, is_over))
+    slow.start()
+    rate = rates(ANN, f"{MAPS}/map-0", 1, 1)
+    is_over.set()
+    slow.join()
+    for each in sockets:
+        each.close()
+    return rate
+
+
 def change(times):
     """Changes a configmap so often."""
     client = socket.create_connection(("127.0.0.1", ROOT))
@@ -99,14 +112,9 @@ def main():
     with Server(program, bindings=10_000) as server:
         print("a denied get, 10,000 bindings:", rates(ANN, "/api/v1/namespaces/default/secrets/a", 8))
     with Server(program) as server:
-        print("a get, 1 connection:", rates(ANN, f"{MAPS}/map-0", 1))
-        sockets, is_over = [socket.create_connection(("127.0.0.1", ROOT)) for _client in range(255)], threading.Event()
-        slow = threading.Thread(target=drip, args=(sockets, is_over))
-        slow.start()
-        print("beside 255 that send one byte a second:", rates(ANN, f"{MAPS}/map-0", 1))
-        is_over.set()
-        slow.join()
-        print("a get, 1 connection, 255 others open:", rates(ANN, f"{MAPS}/map-0", 1))
+        for _pair in range(5):
+            alone = rates(ANN, f"{MAPS}/map-0", 1, 1)
+            print("a get over 1 connection, alone and beside 255 that send one byte a second:", alone, beside_slow())
     with Server(program) as server:
         watcher = socket.create_connection(("127.0.0.1", ANN))
         watcher.sendall(f"GET {MAPS}?watch=1 HTTP/1.1\r\nHost: a\r\n\r\n".encode())
