@@ -70,14 +70,14 @@ impl Record {
 #[derive(Drop)]
 pub struct Recorded<Q: Ports + Drop> {
     pub ports: Q,
-    pub record: Record,
+    pub notes: Record,
 }
 
 impl<Q: Ports + Drop> Recorded<Q> {
     pub fn new(alloc: Global, ports: Q) -> Recorded<Q> {
         Recorded {
             ports,
-            record: Record::new(alloc),
+            notes: Record::new(alloc),
         }
     }
 }
@@ -85,22 +85,22 @@ impl<Q: Ports + Drop> Recorded<Q> {
 impl<Q: Ports + Drop> Ports for Recorded<Q> {
     ghost use Rattle.std.specs.Prelude.{◌≡◌, false};
 
-    ghost history = { λ p. p.record.entries.items };
+    ghost history = { λ p. p.notes.entries.items };
 
-    ghost tells = { λ p. p.record.lost ≡ false };
+    ghost tells = { λ p. p.notes.lost ≡ false };
 
     ghost failures = { λ p. Q.failures p.ports };
 
     fn next(&mut self) -> Option<PortEvent> {
         let event = self.ports.next();
-        self.record.note_event(&event);
+        self.notes.note_event(&event);
         event
     }
 
     fn read(&mut self, slot: usize, buffer: &mut [u8]) -> Result<usize, PortFault> {
         match self.ports.read(slot, buffer) {
             Ok(count) => {
-                self.record.note_read(slot, &buffer[..count]);
+                self.notes.note_read(slot, &buffer[..count]);
                 Ok(count)
             }
             Err(fault) => Err(fault),
@@ -110,7 +110,7 @@ impl<Q: Ports + Drop> Ports for Recorded<Q> {
     fn write(&mut self, slot: usize, bytes: &[u8]) -> Result<usize, PortFault> {
         match self.ports.write(slot, bytes) {
             Ok(count) => {
-                self.record.note_write(slot, &bytes[..count]);
+                self.notes.note_write(slot, &bytes[..count]);
                 Ok(count)
             }
             Err(fault) => Err(fault),
@@ -119,7 +119,7 @@ impl<Q: Ports + Drop> Ports for Recorded<Q> {
 
     fn end(&mut self, slot: usize) {
         self.ports.end(slot);
-        self.record.note(Entry::Ended(slot));
+        self.notes.note(Entry::Ended(slot));
     }
 }
 
@@ -144,9 +144,9 @@ fn ports_tell_what_their_clients_got(rt: HostRuntime) -> Result<(), Fail> {
     memory.talk(user(alloc, "bob")?, FORBIDDEN)?;
     let mut ports = Recorded::new(alloc, memory);
     serve(alloc, &rt, &mut ports)?;
-    assert!(rt; !ports.record.lost);
+    assert!(rt; !ports.notes.lost);
     for slot in 0..2 {
-        let taken = taken(alloc, &ports.record, slot)?;
+        let taken = taken(alloc, &ports.notes, slot)?;
         assert!(rt; !taken.is_empty());
         assert_eq!(rt; taken.as_slice(), ports.ports.got(slot));
     }
