@@ -39,7 +39,7 @@ WasThere es id who = (l : Link) × (Has es (id, l) × (l.identity ≡ who))
 
 -- ---- entries
 
-nat_exact : (a b : ℕ) → nat_cmp a b ≡ Equal → a ≡ b
+pub nat_exact : (a b : ℕ) → nat_cmp a b ≡ Equal → a ≡ b
 nat_exact a b is = ranked a b Equal (sym is)
 
 equal_number : (a b : ℕ) → is_at (nat_cmp a) b ≡ true → a ≡ b

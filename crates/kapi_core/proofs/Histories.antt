@@ -64,7 +64,7 @@ pub record HasHistory (first : ℕ) (m : Machine) : Type 0 where
   pub history : IsHistory first m.changes
 
 -- its objects are in order, and named by their keys
-are_named : (first : ℕ) (m : Machine) → HasHistory first m → AreNamed m.store.objects
+pub are_named : (first : ℕ) (m : Machine) → HasHistory first m → AreNamed m.store.objects
 are_named first m h =
     let k : Keeps (objects_after m.changes) = history_keeps first m.changes h.history in
     let P : List (Key × Data) → Type 0 = AreNamed in
@@ -80,11 +80,11 @@ write_next s cs (write.removes w) = removal_is_next s cs w
 -- ---- a step of a machine
 
 -- some changes of one write were made
-record Writes (m n : Machine) : Type 0 where
-  changes : List PlainChange
-  one : IsWrite m.store changes
-  store : n.store ≡ written changes m.store
-  told : n.changes ≡ m.changes ++ changes
+pub record Writes (m n : Machine) : Type 0 where
+  pub changes : List PlainChange
+  pub one : IsWrite m.store changes
+  pub store : n.store ≡ written changes m.store
+  pub told : n.changes ≡ m.changes ++ changes
 
 -- none were made
 stays : (m n : Machine) → n.store ≡ m.store → n.changes ≡ m.changes → Writes m n
@@ -130,7 +130,7 @@ written_goes_on first m cs h one =
     let Q : ℕ → Type 0 = λ f. HasHistory f (changed cs m) in
     subst Q h.begins (goes_on m cs (subst P (sym h.begins) h) one)
 
-writes_go_on : (first : ℕ) (m n : Machine) → HasHistory first m → Writes m n → HasHistory first n
+pub writes_go_on : (first : ℕ) (m n : Machine) → HasHistory first m → Writes m n → HasHistory first n
 writes_go_on first m n h w = same_history first (changed w.changes m) n w.store w.told (written_goes_on first m w.changes h w.one)
 
 -- ---- the events that write nothing
@@ -232,7 +232,7 @@ turn_writes m named = by_due (next (roles_in m.store.objects))
 
 -- ---- lists of events
 
-event_writes : (m : Machine) (e : Event) → AreNamed m.store.objects → Writes m (step m e).1
+pub event_writes : (m : Machine) (e : Event) → AreNamed m.store.objects → Writes m (step m e).1
 unfolding step
 event_writes m (event.Open identity) named = stays m (open_step identity m).1 (open_keeps identity m) (open_tells identity m)
 event_writes m (event.Feed conn piece) named =

@@ -18,3 +18,5 @@ pub mod OpenedPolicy
 pub mod Acting
 pub mod Histories
 mod Listed
+mod Numbered
+mod Pumps

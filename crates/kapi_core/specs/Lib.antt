@@ -10,3 +10,4 @@ pub mod Gains
 pub mod Telling
 pub mod OpeningPolicy
 pub mod Histories
+pub mod Pumps

@@ -12,6 +12,7 @@ ghost use Rattle.kapi_core.specs.Histories.{DueIsListed, EventsGoOn, FirstIsList
 ghost use Rattle.kapi_core.specs.Machine.{Machine, after, answers, policy_of};
 ghost use Rattle.kapi_core.specs.Opening.{opening};
 ghost use Rattle.kapi_core.specs.OpeningPolicy.{opening_policy};
+ghost use Rattle.kapi_core.specs.Pumps.{EventsAreARun, FirstSentIsListed, SentIsListed};
 ghost use Rattle.kapi_core.specs.Running.{Running};
 ghost use Rattle.kapi_core.specs.Stands.{Stands};
 ghost use Rattle.kapi_core.specs.Table.{fits};
@@ -65,4 +66,13 @@ pub fn what_a_watch_of_the_machine_shows_makes_its_list()
     ensures first { FirstIsListed }
     ensures first_shown { FirstShownIsListed }
     ensures at { ListedThen }
+{}
+
+/// Events over which a connection shows a watch are a run of it, in which the window holds, and what is sent on the connection is what the
+/// watch shows. So what a client was sent of a watch from a revision on, on top of the list at that revision, is what the machine lists
+/// now, once nothing is due to him any more; and what he was sent of a watch that shows the objects first is that list.
+pub fn what_is_sent_of_a_watch_makes_its_list()
+    ensures run { EventsAreARun }
+    ensures sent { SentIsListed }
+    ensures first { FirstSentIsListed }
 {}

@@ -2,3 +2,4 @@ pub mod Parts
 pub mod Published
 pub mod Loaded
 pub mod Begun
+mod Served

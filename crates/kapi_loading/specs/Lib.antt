@@ -2,3 +2,4 @@ pub mod Lines
 pub mod Faults
 pub mod Loading
 pub mod Starting
+pub mod Laws

@@ -1,4 +1,4 @@
-ghost use Rattle.std.specs.Prelude.{◌≡◌, ◌<◌, ◌≤◌, ◌+◌, List, [], ◌∷◌, ◌++◌, None, IfSome, ◌==◌, length, vec_len, vec_capacity, ⊤};
+ghost use Rattle.std.specs.Prelude.{◌≡◌, ◌<◌, ◌+◌, List, [], ◌∷◌, ◌++◌, None, IfSome, OnOk, ◌==◌, length, vec_len, vec_capacity, ⊤};
 ghost use Rattle.std.specs.List.{HoldsAt, position};
 ghost use Rattle.kapi_serve.specs.Acts.{IsFree, Seat};
 ghost use Rattle.kapi_serve.specs.Clients.{others, seats_of};
@@ -7,12 +7,14 @@ ghost use Rattle.kapi_serve.specs.declared.client.Phase.TheVariants as phase;
 ghost use Rattle.kapi_serve.specs.declared.port.Entry.{Entry as AnEntry};
 ghost use Rattle.kapi_serve.specs.declared.port.Entry.TheVariants as entry;
 
+use crate::awake::Awake;
 use crate::client::{Client, Phase};
 use crate::pending::Pending;
 use crate::port::{PortFault, Ports};
 use kapi_core::{ConnId, Core};
 use kapi_policy::Policy;
 use kapi_rbac_types::Identity;
+use kapi_text::Memory;
 use std::alloc::Global;
 
 /// The connections that are served, in the order of their numbers.
@@ -20,6 +22,8 @@ use std::alloc::Global;
 pub(crate) struct Clients {
     alloc: Global,
     pub(crate) list: Vec<Client>,
+    /// Those at which something may be done before their slots tell anything.
+    pub(crate) awake: Awake,
 }
 
 /// What came of a read.
@@ -38,28 +42,30 @@ impl Clients {
         Clients {
             alloc,
             list: Vec::new(alloc),
+            awake: Awake::new(alloc),
         }
     }
 
-    /// How many they are.
-    pub(crate) fn len(&self) -> usize
-        ensures { result ≡ length self.now.list.items }
+    /// The place of one of those awake, if it is still there.
+    pub(crate) fn awake_at(&self, position: usize) -> Option<usize>
+        ensures { IfSome result (λ i. i < length self.now.list.items) }
     {
-        self.list.len()
+        let id = self.awake.get(position)?;
+        self.list
+            .binary_search_by_key(&id.0, |client| client.id.0)
+            .ok()
     }
 
-    /// How many of the last so many connections there are from the first on at which something may be done.
-    pub(crate) fn awake(&self, last: usize) -> usize
-        requires { last ≤ length self.now.list.items }
-        ensures { result ≤ last }
+    /// Lets one of those awake sleep, if nothing can be done at it. The position of the next one.
+    pub(crate) fn pass(&mut self, position: usize) -> usize
+        ensures { self.new.list ≡ self.old.list }
     {
-        let begin = self.list.len() - last;
-        match self.list[begin..]
-            .iter()
-            .position(|client| !client.is_quiet())
-        {
-            Some(passed) => last - passed,
-            None => 0,
+        match self.awake_at(position) {
+            Some(index) if !self.list[index].is_quiet() => position.saturating_add(1),
+            _ => {
+                self.awake.remove(position);
+                position
+            }
         }
     }
 
@@ -74,13 +80,22 @@ impl Clients {
         ensures { (h : List AnEntry) → (Q.tells ports.old → Q.history ports.old ≡ h ++ entry.Opened slot identity ∷ []) → Moves core.old core.new (seats_of self.old.list.items) (seats_of self.new.list.items) (Q.tells ports.old) (Q.tells ports.new) h (Q.history ports.new) }
     {
         self.forget(core, slot);
-        if self.list.reserve(1).is_err() {
+        if self.reserve().is_err() {
             return ports.end(slot);
         }
         match core.open(identity) {
             Ok(id) => self.add(slot, id),
             Err(_refused) => ports.end(slot),
         }
+    }
+
+    /// Makes room for one more.
+    fn reserve(&mut self) -> Result<(), Memory>
+        ensures items { self.new.list.items ≡ self.old.list.items }
+        ensures room { OnOk result (vec_len self.new.list < vec_capacity self.new.list) }
+    {
+        self.awake.reserve(self.list.len())?;
+        self.list.reserve(1)
     }
 
     fn add(&mut self, slot: usize, id: ConnId)
@@ -160,7 +175,7 @@ impl Clients {
         }
     }
 
-    /// Reads a piece from a slot and feeds it.
+    /// Reads a piece from a slot and feeds it. A connection that cannot be noted among those awake is closed, as one that takes no piece.
     pub(crate) fn pull<P: Policy + Drop, Q: Ports>(
         &mut self,
         core: &mut Core<P>,
@@ -175,6 +190,10 @@ impl Clients {
             return Pulled::Stopped;
         };
         if self.list[index].phase != Phase::Open {
+            return Pulled::Stopped;
+        }
+        if self.awake.add(self.list[index].id).is_err() {
+            self.end(core, ports, index);
             return Pulled::Stopped;
         }
         match ports.read(slot, buffer) {

@@ -5,6 +5,7 @@
 //! goes to and from the client that it belongs to.
 #![tactic(auto)]
 
+mod awake;
 mod client;
 mod clients;
 mod pending;

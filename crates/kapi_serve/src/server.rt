@@ -1,4 +1,4 @@
-ghost use Rattle.std.specs.Prelude.{◌≡◌, ◌<◌, ◌≤◌, ◌+◌, List, [], ◌∷◌, ◌++◌, Some, length, ⊤};
+ghost use Rattle.std.specs.Prelude.{◌≡◌, List, [], ◌∷◌, ◌++◌, Some, ⊤};
 ghost use Rattle.kapi_serve.specs.Acts.{Seat};
 ghost use Rattle.kapi_serve.specs.Clients.{seat_of, seats_of};
 ghost use Rattle.kapi_serve.specs.Goes.{Goes, Serves};
@@ -134,29 +134,28 @@ impl Server {
         ensures { Goes core.old core.new desk.old desk.new self.old.publishing.kept self.new.publishing.kept (seats_of self.old.clients.list.items) (seats_of self.new.clients.list.items) (Q.tells ports.old) (Q.tells ports.new) (Q.history ports.old) (Q.history ports.new) }
     {
         let mut done = self.publishing.make_turns(rt, core, desk);
-        let mut left = self.clients.awake(self.clients.len());
-        while left > 0 {
-            let index = self.clients.len() - left;
-            done |= self.visit(rt, core, desk, ports, index);
-            left = self.clients.awake(left - 1);
+        let mut position = 0;
+        for _ in 0..self.clients.awake.len() {
+            done |= self.visit(rt, core, desk, ports, position);
+            position = self.clients.pass(position);
         }
         done
     }
 
-    /// Writes, serves and pumps a connection, and makes the turns that follow. Whether anything was done.
+    /// Writes, serves and pumps one of the connections awake, and makes the turns that follow. Whether anything was done.
     fn visit<R: Wait, P: Policy + Drop, Q: Ports>(
         &mut self,
         rt: &R,
         core: &mut Core<P>,
         desk: &mut Desk,
         ports: &mut Q,
-        index: usize,
+        position: usize,
     ) -> bool
-        requires { index < length self.old.clients.list.items }
-        ensures few { length self.new.clients.list.items ≤ length self.old.clients.list.items }
-        ensures many { length self.old.clients.list.items ≤ length self.new.clients.list.items + 1 }
-        ensures goes { Goes core.old core.new desk.old desk.new self.old.publishing.kept self.new.publishing.kept (seats_of self.old.clients.list.items) (seats_of self.new.clients.list.items) (Q.tells ports.old) (Q.tells ports.new) (Q.history ports.old) (Q.history ports.new) }
+        ensures { Goes core.old core.new desk.old desk.new self.old.publishing.kept self.new.publishing.kept (seats_of self.old.clients.list.items) (seats_of self.new.clients.list.items) (Q.tells ports.old) (Q.tells ports.new) (Q.history ports.old) (Q.history ports.new) }
     {
+        let Some(index) = self.clients.awake_at(position) else {
+            return false;
+        };
         let client = &mut self.clients.list[index];
         let flushed = client.flush(rt, ports);
         if client.is_over(flushed) {

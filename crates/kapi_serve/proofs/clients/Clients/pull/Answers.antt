@@ -11,6 +11,16 @@ returns-in_default-clause-moves g c = moves_nothing _ _ _ _
 pub returns-then-ne-clause-moves : goal.returns-then-ne-clause-moves
 returns-then-ne-clause-moves g c = moves_nothing _ _ _ _
 
+pub returns-then-is_err-clause-moves : goal.returns-then-is_err-clause-moves
+returns-then-is_err-clause-moves g c =
+    let k = c.in-Some.ensures.found in
+    moves_as _ _ _ _ _ _ _ _ _ _ k.3.0 (c.end.ensures.seats k.0 k.1 k.2 k.3) (moves_ended _ _ k.0 k.2 k.1 _ _ _ _ (c.end.ensures.closes k.0 k.1 k.2 k.3))
+
+pub returns-then-is_err-clause-others : goal.returns-then-is_err-clause-others
+returns-then-is_err-clause-others g c =
+    let k = c.in-Some.ensures.found in
+    others_ended c.args.slot _ _ k.0 k.1 k.2 k.3.0 (c.end.ensures.seats k.0 k.1 k.2 k.3) k.4
+
 pub returns-in-Ok-eq0-clause-moves : goal.returns-in-Ok-eq0-clause-moves
 returns-in-Ok-eq0-clause-moves g c =
     let k = c.in-Some.ensures.found in
@@ -27,7 +37,7 @@ pub returns-in-Err-Failed-clause-moves : goal.returns-in-Err-Failed-clause-moves
 returns-in-Err-Failed-clause-moves g c =
     let k = c.in-Some.ensures.found in
     moves_on _ _ _ _ _ _ _ _ _ _ _ _ (moves_still _ _ _ _ _ _ _ refl c.in-Err-Failed.ensures.told)
-    (moves_as _ _ _ _ _ _ _ _ _ _ k.3.0 (c.end.ensures.seats k.0 k.1 k.2 k.3) (moves_ended _ _ k.0 k.2 k.1 _ _ _ _ (c.end.ensures.closes k.0 k.1 k.2 k.3)))
+    (moves_as _ _ _ _ _ _ _ _ _ _ k.3.0 (c.end-in-Err-Failed.ensures.seats k.0 k.1 k.2 k.3) (moves_ended _ _ k.0 k.2 k.1 _ _ _ _ (c.end-in-Err-Failed.ensures.closes k.0 k.1 k.2 k.3)))
 
 pub returns-in-Ok-eq0-clause-others : goal.returns-in-Ok-eq0-clause-others
 returns-in-Ok-eq0-clause-others g c = ap (λ xs. others c.args.slot xs) c.reach_end.ensures
@@ -47,4 +57,4 @@ returns-in-Ok-clause-others g c =
 pub returns-in-Err-Failed-clause-others : goal.returns-in-Err-Failed-clause-others
 returns-in-Err-Failed-clause-others g c =
     let k = c.in-Some.ensures.found in
-    others_ended c.args.slot _ _ k.0 k.1 k.2 k.3.0 (c.end.ensures.seats k.0 k.1 k.2 k.3) k.4
+    others_ended c.args.slot _ _ k.0 k.1 k.2 k.3.0 (c.end-in-Err-Failed.ensures.seats k.0 k.1 k.2 k.3) k.4

@@ -1,12 +1,6 @@
-use Rattle.std.proofs.Common.{◌≤◌, length}
 use Rattle.kapi_serve.specs.Clients.{seats_of}
 use Rattle.kapi_serve.specs.Goes.{Goes}
 use Rattle.kapi_serve.proofs.server.Server.round.Given as goal
 
-abbrev pub invariant-loop-left : goal.invariant-loop-left
-invariant-loop-left g l =
-    (l.left ≤ length l.self.clients.list.items)
-    × Goes l.initial.core l.core l.initial.desk l.desk l.initial.self.publishing.kept l.self.publishing.kept (seats_of l.initial.self.clients.list.items) (seats_of l.self.clients.list.items) (g.Q.Ports.tells l.initial.ports) (g.Q.Ports.tells l.ports) (g.Q.Ports.history l.initial.ports) (g.Q.Ports.history l.ports)
-
-abbrev pub decreases-loop-left : goal.decreases-loop-left
-decreases-loop-left g l = l.left
+abbrev pub invariant-loop : goal.invariant-loop
+invariant-loop g l = Goes l.initial.core l.core l.initial.desk l.desk l.initial.self.publishing.kept l.self.publishing.kept (seats_of l.initial.self.clients.list.items) (seats_of l.self.clients.list.items) (g.Q.Ports.tells l.initial.ports) (g.Q.Ports.tells l.ports) (g.Q.Ports.history l.initial.ports) (g.Q.Ports.history l.ports)

@@ -1,0 +1,16 @@
+-- The machine that a file makes is one that the laws of machines speak of.
+use Rattle.std.specs.Prelude.{◌≡◌, ℕ, List, map, replicate, Ok}
+use Rattle.kapi_core.specs.Histories.{served}
+use Rattle.kapi_core.specs.Machine.{Machine}
+use Rattle.kapi_core.specs.declared.event.Event.TheVariants as event
+use Rattle.kapi_loading.specs.Lines.{lines_of}
+use Rattle.kapi_loading.specs.Loading.{machine_of}
+use Rattle.kapi_script.specs.ProgramTable.{program_rows}
+
+-- the texts of the objects of a file
+abbrev pub objects_in : List ℕ → List (List ℕ)
+objects_in file = map (λ l. l.text) (lines_of file)
+
+-- it has begun, loaded the objects of the file, and made turns
+abbrev pub FileIsServed : Type 0
+FileIsServed = (file : List ℕ) (m : Machine) → machine_of file ≡ Ok m → m ≡ served program_rows 0 (objects_in file) (replicate 64 event.Turn)

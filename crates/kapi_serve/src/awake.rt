@@ -1,0 +1,63 @@
+ghost use Rattle.std.specs.Prelude.{◌≡◌, [], IfSome, OnErr, OnOk, length, remove};
+ghost use Rattle.std.specs.List.{Contains, HoldsAt};
+
+use kapi_core::ConnId;
+use kapi_text::Memory;
+use std::alloc::Global;
+
+/// Connections in the order of their numbers.
+#[derive(Drop)]
+pub(crate) struct Awake {
+    numbers: Vec<u64>,
+}
+
+impl Awake {
+    pub(crate) fn new(alloc: Global) -> Awake
+        ensures { result.numbers.items ≡ [] }
+    {
+        Awake {
+            numbers: Vec::new(alloc),
+        }
+    }
+
+    /// How many they are.
+    pub(crate) fn len(&self) -> usize
+        ensures { result ≡ length self.now.numbers.items }
+    {
+        self.numbers.len()
+    }
+
+    /// Makes room for one more than so many.
+    pub(crate) fn reserve(&mut self, count: usize) -> Result<(), Memory>
+        ensures { self.new.numbers.items ≡ self.old.numbers.items }
+    {
+        self.numbers.reserve(count.saturating_add(1))
+    }
+
+    /// Takes a connection in, if it is not there. No memory is taken where there is room.
+    pub(crate) fn add(&mut self, id: ConnId) -> Result<(), Memory>
+        ensures there { OnOk result (Contains self.new.numbers.items id.0) }
+        ensures err { OnErr result (self.new.numbers.items ≡ self.old.numbers.items) }
+    {
+        match self.numbers.binary_search(&id.0) {
+            Ok(_there) => Ok(()),
+            Err(position) => Ok(self.numbers.insert(position, id.0)?),
+        }
+    }
+
+    /// The one at a position.
+    pub(crate) fn get(&self, position: usize) -> Option<ConnId>
+        ensures { IfSome result (λ id. HoldsAt (λ number. number ≡ id.0) self.now.numbers.items position) }
+    {
+        Some(ConnId(*self.numbers.get(position)?))
+    }
+
+    /// Takes the one at a position away, if there is one.
+    pub(crate) fn remove(&mut self, position: usize)
+        ensures { self.new.numbers.items ≡ remove self.old.numbers.items position }
+    {
+        if position < self.numbers.len() {
+            self.numbers.remove(position);
+        }
+    }
+}
