@@ -1,29 +1,33 @@
 # make demo      plays scripts/demo.txt and shows it as a transcript, each event with its answer; it proves nothing (wants python3)
+# make replay    plays the stored transcript of a policy; it proves nothing
 # make test      the gate: every proof from nothing, the must-fail edits, the tests and the program's stored run
 # make kapi      proves and builds the program, and says where it lies
 # make serve     proves and builds the program, and starts it as a server on 127.0.0.1: port 8001 for root, port 8002 for ann
 # make serve-demo starts the same server for ten minutes and proves nothing first
-# make growths   plays each script of the folder SCRIPTS with every growth of memory refused in turn (wants cc and python3)
+# make growths   plays each script of the folder SCRIPTS, or each case of a transcript of that name, with every growth of memory refused in turn (wants cc and python3)
 # make live      changes the policy of a server while two clients ask what it allows, and looks at what they are told (wants python3)
 # make statuses  the program's exit statuses, and what it writes on standard error
 # make edits     tries the edits of crates/NAME/edits, which the gate does not, of all crates or of those that CRATES names; takes hours for all
 # make audit-demo  answers a stored file of questions by a stored policy; it proves nothing
-# make load      proves and builds the program and the benchmarks, and prints what a server does under load (wants python3 and wrk)
-# make bench     proves and builds the benchmarks, runs each and prints its figures; takes a while
+# make load      proves and builds the program, and prints what a server does under load (wants cc, python3 and wrk)
+# make bench     proves and builds the program, and prints what its events and questions cost (wants python3)
 
 SCRIPTS ?= scripts
 PROGRAM = crates/kapi/out/kapi
 
-.PHONY: audit-demo demo test kapi serve serve-demo edits growths live statuses bench load
+.PHONY: audit-demo demo replay test kapi serve serve-demo edits growths live statuses bench load
 
 demo:
 	@answers=$$(mktemp) && (cd crates/kapi && rt try -- script < ../../scripts/demo.txt) > $$answers && python3 tools/transcript.py scripts/demo.txt $$answers; status=$$?; rm -f $$answers; exit $$status
+
+replay:
+	@cd crates/kapi && rt try --data scripts/replay/policy.jsonl=../../scripts/replay/policy.jsonl --data support.txt=../../scripts/replay/support.txt -- replay support.txt
 
 test:
 	@rt ci
 
 kapi:
-	@cd crates/kapi && rt run -- script < stdin > /dev/null
+	@cd crates/kapi && rt run -- script < /dev/null > /dev/null
 	@ls -l $(PROGRAM)
 
 edits:
@@ -49,9 +53,9 @@ statuses: kapi
 audit-demo:
 	@cd crates/kapi && rt try --data policy.jsonl=../../scripts/audit/policy.jsonl --data questions.jsonl=../../scripts/audit/questions.jsonl -- audit policy.jsonl questions.jsonl
 
-bench:
-	@sh tools/bench.sh
+bench: kapi
+	@python3 tools/bench.py $(PROGRAM)
 
 load: kapi
-	@cd crates/kapi_bench && rt run > /dev/null
-	@python3 tools/load.py $(PROGRAM) crates/kapi_bench/out/kapi_bench
+	@cc -O2 -o crates/kapi/out/echo tools/echo.c
+	@python3 tools/load.py $(PROGRAM) crates/kapi/out/echo

@@ -1,7 +1,9 @@
 #!/usr/bin/env python3
-"""Plays each script of a folder with every growth of memory that it makes refused in turn.
+"""Plays scripts and the cases of transcripts with every growth of memory that they make refused in turn.
 
-usage: growths.py PROGRAM REFUSE.SO FOLDER
+usage: growths.py PROGRAM REFUSE.SO FOLDER|TRANSCRIPT
+
+FOLDER has scripts, each a file NAME.txt; of a TRANSCRIPT each case is a script, but those that load a file.
 
 A refused growth may end the program with a message before its first event or between two events; else the event's answer is
 `error Memory`, the same line once more gets the undisturbed answer, and so do all lines after it. Whatever differs is printed,
@@ -19,6 +21,8 @@ import subprocess
 import sys
 import tempfile
 from dataclasses import dataclass
+
+import transcripts
 
 REFUSED = b"error Memory\n"
 
@@ -60,13 +64,14 @@ def tells_of_memory(message):
     return b"memory" in message or b"OutOfMemory" in message
 
 
-def is_event(line):
-    return line != b"\n" and not line.startswith(b"#")
-
-
-def events_of(path):
-    lines = [line if line.endswith(b"\n") else line + b"\n" for line in path.read_bytes().splitlines(keepends=True)]
-    return [line for line in lines if is_event(line)]
+def scripts_at(path):
+    """The scripts of a folder or of a transcript: a name and the lines of each."""
+    if path.is_dir():
+        for script in sorted(path.glob("*.txt")):
+            yield script.name, [line for line in script.read_bytes().split(b"\n") if line and not line.startswith(b"#")]
+    else:
+        for number, lines in enumerate(transcripts.scripts(path.read_bytes()), 1):
+            yield f"{path.name}, case {number}", lines
 
 
 def run(program, shim, events, numbers=None, **settings):
@@ -150,9 +155,9 @@ def shares_left(plain, played):
     return shares
 
 
-def play_all(program, shim, path, workers):
+def play_all(program, shim, name, lines, workers):
     """Plays a script with each of its growths refused, and says what was wrong."""
-    events = events_of(path)
+    events = [line + b"\n" for line in lines]
     plain = run(program, shim, events, [])
     answers, played, faults = plain.answers, [Played() for _event in events], []
     while any(event.next for event in played):
@@ -168,9 +173,9 @@ def play_all(program, shim, path, workers):
         kinds = {kind: kinds[kind] + number for kind, number in told.items()}
         faults += wrong
     for fault in faults:
-        print(f"{path.name}: {fault}")
+        print(f"{name}: {fault}")
     print(
-        f"{path.name}: {plain.growths} growths, the largest of {plain.largest} bytes: {kinds['ended']} ended the program with a message outside an event, "
+        f"{name}: {plain.growths} growths, the largest of {plain.largest} bytes: {kinds['ended']} ended the program with a message outside an event, "
         f"{kinds['refused']} were answered `error Memory` and then as undisturbed, {kinds['unseen']} changed nothing; "
         f"{sum(len(numbers) for _event, numbers in shares)} had a run of their own",
         flush=True,
@@ -179,9 +184,9 @@ def play_all(program, shim, path, workers):
 
 
 def main():
-    program, shim, folder = os.path.abspath(sys.argv[1]), os.path.abspath(sys.argv[2]), pathlib.Path(sys.argv[3])
+    program, shim, path = os.path.abspath(sys.argv[1]), os.path.abspath(sys.argv[2]), pathlib.Path(sys.argv[3])
     with multiprocessing.Pool() as workers:
-        well = [play_all(program, shim, path, workers) for path in sorted(folder.iterdir()) if path.suffix == ".txt"]
+        well = [play_all(program, shim, name, lines, workers) for name, lines in scripts_at(path)]
     return 0 if all(well) else 1
 
 

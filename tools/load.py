@@ -1,7 +1,7 @@
 #!/usr/bin/env python3
 """Measures a server under load, and prints requests a second and resident memory. Wants wrk.
 
-usage: load.py KAPI BENCH     KAPI is the built program, BENCH the built benchmarks, whose `echo` is measured beside it
+usage: load.py KAPI ECHO     KAPI is the built program, ECHO the built tools/echo.c, which is measured beside it
 """
 import json
 import pathlib
@@ -89,6 +89,15 @@ def beside_slow():
     return rate
 
 
+def answer_to(request):
+    """The bytes that ann is answered."""
+    client = socket.create_connection(("127.0.0.1", ANN))
+    client.sendall(request.encode())
+    answer = client.recv(65536)
+    client.close()
+    return answer
+
+
 def change(times):
     """Changes a configmap so often."""
     client = socket.create_connection(("127.0.0.1", ROOT))
@@ -101,9 +110,13 @@ def change(times):
 
 
 def main():
-    program, bench = sys.argv[1:]
-    echo = subprocess.Popen([bench, "echo", str(ECHO)], stdout=subprocess.PIPE)
-    echo.stdout.readline()
+    program, echo = sys.argv[1:]
+    with tempfile.NamedTemporaryFile() as reply:
+        with Server(program):
+            reply.write(answer_to(f"GET {MAPS}/map-0 HTTP/1.1\r\nHost: a\r\n\r\n"))
+            reply.flush()
+        echo = subprocess.Popen([echo, str(ECHO), reply.name], stdout=subprocess.PIPE)
+        echo.stdout.readline()
     with Server(program) as server:
         for _pair in range(5):
             print("a get, and the same bytes from an echo, 8 connections:", rates(ANN, f"{MAPS}/map-0", 8, 1), rates(ECHO, "/", 8, 1))

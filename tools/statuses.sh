@@ -77,6 +77,53 @@ for words in '--readers 0' '--readers 17' '--readers x' 'third'; do
     sees "an audit with $words" 2 "$error"
 done
 
+# replays FILE..: the status of a replay, its standard error, and what it prints in the file played
+replays() {
+    error=$("$program" replay "$@" 2>&1 >"$room/played" </dev/null); status=$?
+}
+
+# plays NAME LINES: a transcript of these lines, all of which are as they are wanted but one, is told with status 1
+differs() {
+    printf "as root,system:masters\nGET /api/v1/namespaces/default\n$2\n" > "$room/transcript"
+    replays "$room/transcript"
+    sees "$1" 1 ''
+    if ! grep -q "^$room/transcript:$3" "$room/played"; then
+        echo "$1: line $3 is not told: $(cat "$room/played")"
+        wrong=1
+    fi
+}
+
+(cd "$(dirname "$0")/.." && "$program" replay scripts/replay/support.txt) > "$room/played" 2>&1; status=$?; error=$(grep -v ': 12 answers$' "$room/played")
+sees 'a replay of the stored transcript' 0 ''
+differs 'another code' '= 404' 3
+differs 'a text that is not there' '= 200\n= 200 other' 4
+differs 'another body' '== {}' 3
+differs 'a text that an answer has not' '~ other' 3
+differs 'another answer' '> none' 3
+differs 'an answer of no event' 'begin\n= 200' 4
+differs 'a line of no known form' '= 200\nlist' 4
+differs 'a name that is none' '= 200\nas ,a' 4
+differs 'a header field of no request' '= 200\nHost: a' 4
+differs 'a file that is not there' 'load none' 3
+printf '{}\n' > "$room/objects"
+differs 'a file of no objects' "load $room/objects" 3
+printf 'as a\nGET /healthz\n= 200\n' > "$room/first"
+printf 'as a\nGET /healthz\n= 403\n' > "$room/second"
+replays "$room/second" "$room/first"
+sees 'two transcripts, the second not as wanted' 1 ''
+replays "$room/second" "$room/second"
+sees 'two transcripts' 0 ''
+[ "$(grep -c ': 1 answers$' "$room/played")" = 2 ] || { echo 'two transcripts: not both are told'; wrong=1; }
+replays --write "$room/first"
+sees 'a transcript that is written' 1 ''
+printf 'as a\nGET /healthz\n' > "$room/wanted"
+sed -n '3s/^> out HTTP.*403.*/as it should be/p' "$room/played" | grep -q . || { echo 'a transcript that is written: line 3 is not the answer'; wrong=1; }
+replays "$room/none"
+sees 'a transcript that is not there' 1 "$error"
+[ -n "$error" ] || { echo 'a transcript that is not there: nothing on standard error'; wrong=1; }
+replays
+sees 'a replay of nothing' 2 "$error"
+
 # serves WORD..: the status and standard error of a server that does not start
 serves() {
     error=$(timeout 20 "$program" serve "$@" 2>&1 >/dev/null </dev/null); status=$?

@@ -12,8 +12,8 @@ use Rattle.clap.specs.declared.error.kind.ErrorKind.{ErrorKind}
 use Rattle.clap.specs.declared.error.kind.ErrorKind.TheVariants.{DisplayHelp, DisplayVersion, OutOfMemory}
 use Rattle.clap.specs.declared.parser.matches.ArgMatches.{ArgMatches}
 use Rattle.clap.proofs.OnLiterals.{clap_on_literals}
-use Rattle.kapi.specs.Asked.{AreWrong, Asked, Files, Names, Options, Reads, asked, asked_by, files_in, is_shown, options_in, told}
-use Rattle.kapi.specs.Asked.{Audit, Script, Serve, Show}
+use Rattle.kapi.specs.Asked.{AreWrong, Asked, Files, Names, Options, Reads, Shows, Transcripts, asked, asked_by, files_in, is_shown, options_in, told, transcripts_in}
+use Rattle.kapi.specs.Asked.{Audit, Replay, Script, Serve, Show}
 use Rattle.kapi.specs.CommandLine.{kapi}
 use Rattle.kapi.specs.declared.program.Command.{Command}
 use Rattle.kapi.specs.declared.program.Command.TheVariants as command
@@ -51,16 +51,22 @@ never_serve : (o : Option Options) (k : ErrorKind) → option_map Serve o ≡ So
 never_serve None k e = cc
 never_serve (Some f) k e = cc
 
-never_of : (a b c : Bool) (x y : Option Asked) (k : ErrorKind) → (x ≡ Some (Show k) → ⊥) → (y ≡ Some (Show k) → ⊥)
-    → (if a then Some Script else (if b then x else (if c then y else None))) ≡ Some (Show k) → ⊥
-never_of true b c x y k p q e = cc
-never_of false true c x y k p q e = p e
-never_of false false true x y k p q e = q e
-never_of false false false x y k p q e = cc
+never_replay : (o : Option Transcripts) (k : ErrorKind) → option_map Replay o ≡ Some (Show k) → ⊥
+never_replay None k e = cc
+never_replay (Some t) k e = cc
+
+never_of : (a b c d : Bool) (x y z : Option Asked) (k : ErrorKind) → (x ≡ Some (Show k) → ⊥) → (y ≡ Some (Show k) → ⊥) → (z ≡ Some (Show k) → ⊥)
+    → (if a then Some Script else (if b then x else (if c then y else (if d then z else None)))) ≡ Some (Show k) → ⊥
+never_of true b c d x y z k p q r e = cc
+never_of false true c d x y z k p q r e = p e
+never_of false false true d x y z k p q r e = q e
+never_of false false false true x y z k p q r e = r e
+never_of false false false false x y z k p q r e = cc
 
 never_by : (name : Text) (rows : List Row) (k : ErrorKind) → asked_by name rows ≡ Some (Show k) → ⊥
 never_by name rows k =
-    never_of (bytes_eq name (codes "script")) (bytes_eq name (codes "audit")) (bytes_eq name (codes "serve")) _ _ k (never_audit (files_in rows) k) (never_serve (options_in rows) k)
+    never_of (bytes_eq name (codes "script")) (bytes_eq name (codes "audit")) (bytes_eq name (codes "serve")) (bytes_eq name (codes "replay")) _ _ _ k
+    (never_audit (files_in rows) k) (never_serve (options_in rows) k) (never_replay (transcripts_in rows) k)
 
 never_shown : (o : Option (Text × List Row)) (k : ErrorKind) → option_and_then (λ p. asked_by p.0 p.1) o ≡ Some (Show k) → ⊥
 never_shown None k e = cc
@@ -70,6 +76,7 @@ pub names_of : (words : List Text) (m : ArgMatches) (r : Result Command CommandF
 names_of words m (Ok command.Script) e h = e ∙ h
 names_of words m (Ok (command.Audit f)) e h = e ∙ h
 names_of words m (Ok (command.Serve o)) e h = e ∙ h
+names_of words m (Ok (command.Replay o)) e h = e ∙ h
 names_of words m (Ok (command.Show x)) e h = absurd (never_shown (subcommand_rows_of m) _ h)
 names_of words m (Err x) e h = tt
 
@@ -112,3 +119,15 @@ wrong_at a words x k e same kinds h v o =
       | inl memory ↦ absurd (o (same ∙ memory))
       | inr among ↦ wrong_among words k (λ z. h (same ∙ z)) (λ z. v (same ∙ z)) (subst (λ y. IsAmong k (fault_of y words)) e among)
     ]
+
+-- a text that is asked for is shown
+pub shown_at : (a : App) (words : List Text) (x k : ErrorKind) → a ≡ kapi → x ≡ k → (is_simple_and_free a ≡ true → (k ≡ OutOfMemory) ⊎ IsAmong k (fault_of a words))
+    → is_shown x ≡ true → Shows words k
+shown_at a words x k e same kinds shown =
+    elim (kinds (ap is_simple_and_free e ∙ kapi_is_free)) [
+      | inl memory ↦ never_memory (ap is_shown (sym (same ∙ memory)) ∙ shown)
+      | inr among ↦ (subst (λ y. IsAmong k (fault_of y words)) e among, ap is_shown (sym same) ∙ shown)
+    ]
+  where
+    never_memory : {P : Type 0} → is_shown OutOfMemory ≡ true → P
+    never_memory h = absurd (cc h)

@@ -1,5 +1,5 @@
 -- What the words of a command line ask for.
-use Rattle.std.specs.Prelude.{◌≡◌, ◌⊎◌, ℕ, ◌==◌, not, if◌then◌else◌, Bool, true, false, List, [], length, codes, string_bytes, Option, Some, None, option_map, Result, Ok, Err}
+use Rattle.std.specs.Prelude.{◌≡◌, ◌⊎◌, ℕ, ◌==◌, not, if◌then◌else◌, Bool, true, false, List, [], length, codes, map, string_bytes, Option, Some, None, option_map, Result, Ok, Err}
 use Rattle.std.specs.List.{list_any}
 use Rattle.std.specs.Str.{bytes_eq}
 use Rattle.clap.specs.Kinds.{IsAmong}
@@ -15,6 +15,7 @@ use Rattle.kapi.specs.declared.program.Command.TheVariants as command
 use Rattle.kapi.specs.declared.program.CommandFault.{CommandFault}
 use Rattle.kapi.specs.declared.program.CommandFault.TheVariants as fault
 use Rattle.kapi.specs.declared.program.Listen.{Listen}
+use Rattle.kapi.specs.declared.program.ReplayOptions.{ReplayOptions}
 use Rattle.kapi.specs.declared.program.ServeOptions.{ServeOptions}
 
 -- the files of an audit, by their names, and how many threads answer
@@ -30,11 +31,17 @@ pub record Options : Type 0 where
   pub answer : Option ℕ
   pub readers : ℕ
 
+-- the transcripts that are played, by their names, and whether they are written
+pub record Transcripts : Type 0 where
+  pub files : List Text
+  pub write : Bool
+
 -- one of the programs with what it is given, or a text of that kind
 pub data Asked : Type 0 where
   Script : Asked
   Audit : Files → Asked
   Serve : Options → Asked
+  Replay : Transcripts → Asked
   Show : ErrorKind → Asked
 
 -- ---- of the matches behind a subcommand
@@ -71,12 +78,24 @@ options_in rows = do
   listens ← listens_in rows
   Some (record { load = first_of (codes "load") rows; listens = listens; answer = answer; readers = readers })
 
+-- a flag that is given has the value true
+abbrev pub is_true : Option Text → Bool
+is_true None = false
+is_true (Some value) = bytes_eq value (codes "true")
+
+-- the transcripts that they ask for
+abbrev pub transcripts_in : List Row → Option Transcripts
+transcripts_in rows = do
+  files ← all_of (codes "FILE") rows
+  Some (record { files = files; write = is_true (first_of (codes "write") rows) })
+
 -- what the subcommand of that name asks for
 abbrev pub asked_by : Text → List Row → Option Asked
 asked_by name rows =
     if bytes_eq name (codes "script") then Some Script
     else (if bytes_eq name (codes "audit") then option_map Audit (files_in rows)
-    else (if bytes_eq name (codes "serve") then option_map Serve (options_in rows) else None))
+    else (if bytes_eq name (codes "serve") then option_map Serve (options_in rows)
+    else (if bytes_eq name (codes "replay") then option_map Replay (transcripts_in rows) else None)))
 
 -- ---- of the words
 
@@ -111,11 +130,16 @@ abbrev pub options_told : ServeOptions → Options
 options_told o =
     record { load = option_map (λ s. string_bytes s) o.load; listens = o.listens.items; answer = o.answer; readers = o.readers }
 
+-- the fields of a replay
+abbrev pub transcripts_told : ReplayOptions → Transcripts
+transcripts_told o = record { files = map string_bytes o.files.items; write = o.write }
+
 -- a command with its fields
 abbrev pub told : Command → Asked
 told command.Script = Script
 told (command.Audit files) = Audit (files_told files)
 told (command.Serve options) = Serve (options_told options)
+told (command.Replay options) = Replay (transcripts_told options)
 told (command.Show text) = Show (kind_of text)
 
 -- the words ask for that command

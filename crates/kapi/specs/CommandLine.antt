@@ -2,6 +2,7 @@
 use Rattle.std.specs.Prelude.{Some, [], ◌∷◌, codes, true}
 use Rattle.clap.specs.Words.{App, Rule, Text, new_app, new_rule, with_rule, with_subcommand}
 use Rattle.clap.specs.Simple.{on_top}
+use Rattle.clap.specs.declared.builder.action.ArgAction.TheVariants.{SetTrue}
 use Rattle.clap.specs.declared.builder.value_parser.ValueParser.TheVariants.{Unsigned}
 
 -- a file that must be named
@@ -40,7 +41,22 @@ abbrev pub serve : App
 serve =
     with_rule (with_rule (with_rule (with_rule (new_app (codes "serve")) (option (codes "load"))) (option (codes "answer"))) readers) listen
 
--- `kapi`, which has a version and needs one of its three subcommands
+-- `--write`, which has no value
+abbrev pub write_flag : Rule
+write_flag = record (new_rule (codes "write")) { long = Some (codes "write"); action = Some SetTrue }
+
+-- the names of the transcripts, one or more
+abbrev pub transcripts : Rule
+transcripts = record (new_rule (codes "FILE")) {
+  required = true;
+  range = Some (record { start_inclusive = 1; end_inclusive = 18446744073709551615 });
+}
+
+-- `kapi replay`, its flag before its files
+abbrev pub replay : App
+replay = with_rule (with_rule (new_app (codes "replay")) write_flag) transcripts
+
+-- `kapi`, which has a version and needs one of its four subcommands
 abbrev pub kapi : App
 kapi =
-    with_subcommand (with_subcommand (with_subcommand (on_top (λ s. record s { has_version = true; subcommand_required = true }) (new_app (codes "kapi"))) script.top) audit.top) serve.top
+    with_subcommand (with_subcommand (with_subcommand (with_subcommand (on_top (λ s. record s { has_version = true; subcommand_required = true }) (new_app (codes "kapi"))) script.top) audit.top) serve.top) replay.top

@@ -2,10 +2,10 @@ ghost use Rattle.std.specs.Prelude.{◌≡◌, IfOk, false};
 ghost use Rattle.clap.specs.Simple.{app_of};
 ghost use Rattle.clap.specs.Walk.{rule_of};
 ghost use Rattle.clap.specs.declared.builder.command.Command.TheViews.{out-Command};
-ghost use Rattle.kapi.specs.CommandLine.{kapi, audit as audit_app, serve as serve_app, script as script_app, file as file_rule, option as option_rule, readers as readers_rule, listen as listen_rule};
+ghost use Rattle.kapi.specs.CommandLine.{kapi, audit as audit_app, replay as replay_app, serve as serve_app, script as script_app, file as file_rule, option as option_rule, readers as readers_rule, listen as listen_rule, transcripts as transcripts_rule, write_flag as write_rule};
 
 use crate::command_line::PORTS;
-use clap::{Arg, Command, value_parser};
+use clap::{Arg, ArgAction, Command, value_parser};
 use kapi_text::Memory;
 use std::alloc::Global;
 
@@ -22,7 +22,8 @@ pub fn program<'a>(alloc: Global) -> Result<Command<'a>, Memory>
         .subcommand_required(true)
         .subcommand(script(alloc))?
         .subcommand(audit(alloc)?)?
-        .subcommand(serve(alloc)?)
+        .subcommand(serve(alloc)?)?
+        .subcommand(replay(alloc)?)
 }
 
 fn script<'a>(alloc: Global) -> Command<'a>
@@ -87,6 +88,61 @@ fn serve<'a>(alloc: Global) -> Result<Command<'a>, Memory>
         ))?
         .arg(readers(alloc))?
         .arg(ports(alloc))
+}
+
+/// What `kapi replay --help` shows below the arguments.
+const REPLAY_FORMS: &str =
+    r#"A transcript has a request, an event or a wanted answer a line; empty lines and lines that begin with # are skipped.
+
+  as ann,visitors                        the connection of that user and groups
+  GET /api/v1/namespaces/default/pods    a request; POST, PUT and PATCH have a body behind the target, header fields stand below
+  = 403 ann may not do this              the reply has this code, and this text in it
+  == {"kind":"PodList", ..}              the reply has exactly this body
+  pump                                   the next event of the connection's watch
+  ~ "type":"ADDED"                       the answer has this text in it
+  turn                                   any line of kapi script
+  > turn 8 monitoring                    the answer is exactly this line
+  begin                                  a new machine; load FILE: one with the objects of a file, as of kapi serve --load
+
+Example:
+  # A reader reads, and deletes nothing.
+  load policy.jsonl
+  as ann
+  GET /api/v1/namespaces/shop/configmaps
+  = 200
+  DELETE /api/v1/namespaces/shop/configmaps/prices
+  = 403 ["delete","","configmaps","","prices"]
+
+Status 0 where every answer is as it is wanted, else 1."#;
+
+fn replay<'a>(alloc: Global) -> Result<Command<'a>, Memory>
+    ensures { IfOk result (λ c. (app_of c ≡ replay_app) × ((out-Command c).has_globals ≡ false)) }
+{
+    Command::new(alloc, "replay")
+        .about("Plays transcripts and tells which answers are not as they are wanted")
+        .after_help(REPLAY_FORMS)
+        .arg(write_flag(alloc))?
+        .arg(transcripts(alloc))
+}
+
+fn write_flag<'a>(alloc: Global) -> Arg<'a>
+    ensures rule { rule_of result ≡ write_rule }
+    ensures local { result.global ≡ false }
+{
+    Arg::new(alloc, "write")
+        .long("write")
+        .action(ArgAction::SetTrue)
+        .help("Prints the transcripts with the answers that came where others are wanted")
+}
+
+fn transcripts<'a>(alloc: Global) -> Arg<'a>
+    ensures rule { rule_of result ≡ transcripts_rule }
+    ensures local { result.global ≡ false }
+{
+    Arg::new(alloc, "FILE")
+        .help("The transcripts")
+        .required(true)
+        .num_args(1..)
 }
 
 fn file<'a>(alloc: Global, name: &'a str, help: &'a str) -> Arg<'a>

@@ -1,13 +1,13 @@
 ghost use Rattle.std.specs.Prelude.{◌≡◌, ◌≤◌, ℕ, List, IfOk, IsErrOf, codes, map, option_and_then, option_map, string_bytes, vec_len};
 ghost use Rattle.clap.specs.Matches.{found_of};
 ghost use Rattle.clap.specs.Simple.{subcommand_rows_of};
-ghost use Rattle.clap.specs.Walk.{first_of, rows_of};
-ghost use Rattle.kapi.specs.Asked.{AreWrong, Names, Reads, answer_of, asked_by, files_in, files_told, listens_in, options_in, options_told, readers_in, told};
+ghost use Rattle.clap.specs.Walk.{all_of, first_of, rows_of};
+ghost use Rattle.kapi.specs.Asked.{AreWrong, Names, Reads, answer_of, asked_by, files_in, files_told, is_true, listens_in, options_in, options_told, readers_in, told, transcripts_in, transcripts_told};
 ghost use Rattle.kapi.specs.Listens.{listen_of, listens_of, parted as parted_of};
 ghost use Rattle.kapi.specs.Numbers.{number_of, port_of, readers_of};
 
 use crate::arguments::program;
-use crate::program::{AuditFiles, Command, CommandFault, Listen, ServeOptions};
+use crate::program::{AuditFiles, Command, CommandFault, Listen, ReplayOptions, ServeOptions};
 use clap::ArgMatches;
 use clap::error::ErrorKind;
 use kapi_audit::READERS;
@@ -49,6 +49,7 @@ fn named(alloc: Global, name: &str, words: &ArgMatches<'_>) -> Result<Command, C
         "script" => Ok(Command::Script),
         "audit" => Ok(Command::Audit(audit_files(alloc, words)?)),
         "serve" => Ok(Command::Serve(serve_options(alloc, words)?)),
+        "replay" => Ok(Command::Replay(replay_options(alloc, words)?)),
         _ => Err(CommandFault::Words),
     }
 }
@@ -65,6 +66,49 @@ fn audit_files(alloc: Global, words: &ArgMatches<'_>) -> Result<AuditFiles, Comm
         questions: String::from_str(alloc, questions)?,
         readers,
     })
+}
+
+/// The transcripts that the words behind `replay` tell, and whether they are written.
+fn replay_options(alloc: Global, words: &ArgMatches<'_>) -> Result<ReplayOptions, CommandFault>
+    ensures { Reads transcripts_told result (transcripts_in (rows_of (found_of words.now))) }
+{
+    let files = files(alloc, words)?;
+    Ok(ReplayOptions {
+        files,
+        write: is_given(words, "write"),
+    })
+}
+
+/// The names of the transcripts, in the order of the words.
+#[tactic(auto, using(crate::proofs::Reading::raw_values_rows))]
+fn files(alloc: Global, words: &ArgMatches<'_>) -> Result<Vec<String>, CommandFault>
+    ensures { Reads (λ v. map string_bytes v.items) result (all_of (codes "FILE") (rows_of (found_of words.now))) }
+{
+    match words.get_strs("FILE") {
+        Some(names) => Ok(copies(alloc, names)?),
+        None => Err(CommandFault::Words),
+    }
+}
+
+/// Copies of texts.
+fn copies(alloc: Global, texts: &[&str]) -> Result<Vec<String>, Memory>
+    ensures { IfOk result (λ v. map string_bytes v.items ≡ map (λ text. text.now) texts.now) }
+{
+    let mut copies = Vec::new(alloc);
+    for text in texts {
+        copies.push(String::from_str(alloc, text)?)?;
+    }
+    Ok(copies)
+}
+
+/// Whether the flag of that name is given.
+fn is_given(words: &ArgMatches<'_>, name: &str) -> bool
+    ensures { result ≡ is_true (first_of name.now (rows_of (found_of words.now))) }
+{
+    match value(words, name) {
+        Some(value) => value == "true",
+        None => false,
+    }
 }
 
 /// The value of that name, if it has one.

@@ -1,5 +1,5 @@
 //! The programs of Kapi. `kapi script` plays events from standard input and prints the answers; `kapi audit` answers questions by the
-//! policy of a file; `kapi serve` serves requests on ports of this machine.
+//! policy of a file; `kapi serve` serves requests on ports of this machine; `kapi replay` plays transcripts.
 #![tactic(auto)]
 
 ghost use Rattle.std.specs.Prelude.{◌≤◌};
@@ -8,6 +8,7 @@ mod answering;
 mod arguments;
 mod command_line;
 mod program;
+mod replaying;
 mod serving;
 #[cfg(test)]
 mod tests;
@@ -17,6 +18,7 @@ use kapi_audit::{AuditFault, NoGate, audit_run};
 use kapi_index::IndexedPolicy;
 use kapi_script::script_run;
 use program::{AuditFiles, Command, CommandFault};
+use replaying::run_replay;
 use serving::run_serve;
 use std::env::{self, Env};
 use std::fs::{self, Files};
@@ -30,6 +32,7 @@ fn main(rt: HostRuntime) -> io::Result<ExitCode> {
         Ok(Command::Script) => run_script(&rt),
         Ok(Command::Audit(files)) => run_audit(&rt, &files),
         Ok(Command::Serve(options)) => run_serve(&rt, &options),
+        Ok(Command::Replay(options)) => run_replay(&rt, &options),
         Ok(Command::Show(text)) => {
             text.print(&rt)?;
             Ok(ExitCode::SUCCESS)

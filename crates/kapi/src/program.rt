@@ -16,6 +16,8 @@ pub enum Command {
     Audit(AuditFiles),
     /// `kapi serve`: requests on ports of this machine.
     Serve(ServeOptions),
+    /// `kapi replay`: transcripts, whose answers are compared with those that are wanted.
+    Replay(ReplayOptions),
     /// `--help`, `help` or `--version`: the text that is asked for.
     Show(Shown),
 }
@@ -28,6 +30,14 @@ pub struct AuditFiles {
     /// 1 to 16.
     pub readers: usize,
     ghost few: { (1 ≤ readers) × (readers ≤ 16) },
+}
+
+/// The transcripts that are played, by their names, and whether they are written with the answers that came.
+#[derive(Drop)]
+pub struct ReplayOptions {
+    /// One or more, in the order of the words.
+    pub files: Vec<String>,
+    pub write: bool,
 }
 
 /// What a server loads, and the ports that it serves.
@@ -56,7 +66,7 @@ pub struct Listen {
 /// Why a command line was not understood.
 #[derive(Clone, Copy, Debug, PartialEq, Eq, Error)]
 pub enum CommandFault {
-    #[error("usage: kapi script, kapi audit POLICY QUESTIONS [--readers N], N from 1 to 16, or kapi serve [--load FILE] [--answer PORT] [--readers N] PORT=USER[,GROUP..]..")]
+    #[error("usage: kapi script, kapi audit POLICY QUESTIONS [--readers N], N from 1 to 16, kapi replay [--write] FILE.., or kapi serve [--load FILE] [--answer PORT] [--readers N] PORT=USER[,GROUP..]..")]
     Words,
     #[error("out of memory")]
     Memory,

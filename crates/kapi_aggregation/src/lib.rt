@@ -5,8 +5,6 @@
 pub mod laws;
 mod roles;
 mod same;
-#[cfg(test)]
-mod tests;
 mod tracker;
 mod turn;
 mod union;

@@ -1,11 +1,12 @@
 -- What an answer changes was granted to whoever asks.
-use Rattle.std.proofs.Common.{◌≡◌, ◌+◌, ℕ, List, [], ◌∷◌, Bool, Option, None, Some, Result, Ok, Err, length, refl}
+use Rattle.std.proofs.Common.{◌≡◌, ◌+◌, inl, inr, ℕ, List, [], ◌∷◌, Bool, Option, None, Some, Result, Ok, Err, length, refl}
 use Rattle.std.specs.Fmt.{decimal}
 use Rattle.std.specs.List.{AllByRecursion}
 use Rattle.std.specs.Map.{lookup}
 use Rattle.std.specs.Prelude.{IfOk}
 use Rattle.serde_json.specs.Data.{Data}
 use Rattle.kapi_text.specs.Gives.{◌>>=◌}
+use Rattle.kapi_guard.specs.Impersonation.{MakesAs, impersonated}
 use Rattle.kapi_http.specs.declared.message.HttpFault.{HttpFault}
 use Rattle.kapi_http.specs.declared.message.HttpRequest.{HttpRequest}
 use Rattle.kapi_object.specs.Given.{given_of}
@@ -18,8 +19,11 @@ use Rattle.kapi_reviews.specs.Reviews.{reviewed}
 use Rattle.kapi_reviews.specs.declared.kind.ReviewKind.{ReviewKind}
 use Rattle.kapi_names.specs.declared.row.ResourceRow.{ResourceRow}
 use Rattle.kapi_request_info.specs.Faults.{TargetFault}
+use Rattle.kapi_request_info.specs.Impersonation.{Misuse, bad_headers, impersonation}
+use Rattle.kapi_request_info.specs.declared.impersonated.Impersonation.{Impersonation}
+use Rattle.kapi_rules.specs.declared.point.Point.{Point}
 use Rattle.kapi_request_info.specs.declared.attributes.Attributes.{Attributes}
-use Rattle.kapi_route.specs.Headers.{unimpersonated, media_typed}
+use Rattle.kapi_route.specs.Headers.{media_typed}
 use Rattle.kapi_route.specs.Query.{queried}
 use Rattle.kapi_route.specs.Route.{ResourceRouted, Routed, health, resource, routed}
 use Rattle.kapi_route.specs.declared.route.Action.{Action}
@@ -34,12 +38,13 @@ use Rattle.kapi_stored_policy.proofs.Sound.{either_holds, then_holds}
 use Rattle.kapi_stored_policy.specs.Kind.{policy_kind}
 use Rattle.kapi_escalation.proofs.Granted.{deletion_is_granted, passed_is_granted, stamped_is_granted}
 use Rattle.kapi_escalation.specs.Granted.{AreGranted, IsDeletion, IsGrantedAt}
-use Rattle.kapi_answer.specs.Answer.{Passed, Plan, Task, answer, answer_asked, answer_by, answer_passed, asked_by, carried_out, checked, create, delete, deletes, escalation_checked, passes, planned, planned_at, planned_creation, planned_for, planned_on, replace, task, tell, tells, to_be_created, to_be_replaced, told, told_well, watch, watching}
+use Rattle.kapi_answer.specs.Answer.{Passed, Plan, Task, answer, answer_as, answer_asked, answer_by, answer_passed, asked_by, carried_out, checked, create, delete, deletes, escalation_checked, passes, planned, planned_at, planned_creation, planned_for, planned_on, replace, task, tell, tells, to_be_created, to_be_replaced, told, told_well, watch, watching}
 use Rattle.kapi_answer.specs.Authorization.{authorized}
 use Rattle.kapi_answer.specs.Collection.{listed, to_delete_all}
 use Rattle.kapi_answer.specs.Create.{Admitted, admitted, created, creates, housed, stored, to_create, valid}
 use Rattle.kapi_answer.specs.Delete.{Deletion, removed, removes, to_delete}
 use Rattle.kapi_answer.specs.Get.{found, found_if}
+use Rattle.kapi_answer.specs.Impersonation.{AreGrantedAs, acts_as, acts_or_refused, made_as}
 use Rattle.kapi_answer.specs.Outcome.{Outcome}
 use Rattle.kapi_answer.specs.Review.{in_review_namespace, review_kind, to_answer, to_review}
 use Rattle.kapi_answer.specs.Watch.{since_served}
@@ -222,9 +227,8 @@ module _ (objects : PolicyObjects) (s : Plain) (identity : Identity) (request : 
   planned_granted : (a : Attributes) → IfOk (planned objects s identity request a) IsGrantedHere
   unfolding planned
   planned_granted a =
-      then_holds (unimpersonated request.headers) _ IsGrantedHere
-      (λ u. then_holds (authorized objects identity a) _ IsGrantedHere
-      (λ v. then_holds (routed s.table request.method a) _ IsGrantedHere (planned_at_granted a)))
+      then_holds (authorized objects identity a) _ IsGrantedHere
+      (λ u. then_holds (routed s.table request.method a) _ IsGrantedHere (planned_at_granted a))
 
   checked_granted : (a : Attributes) → IfOk (checked objects s identity request a) (IsGrantedPassed objects identity)
   unfolding checked
@@ -243,13 +247,34 @@ module _ (objects : PolicyObjects) (s : Plain) (identity : Identity) (request : 
   by_outcome asked close (Ok passed) h = by_passed close passed h
   by_outcome asked close (Err refused) h = tt
 
-  asked_granted : (r : Result Attributes TargetFault) → AreGranted objects identity (answer_asked objects s identity request r).changes
-  unfolding answer_asked
-  asked_granted (Ok a) = by_outcome (asked_by identity request a) request.close (checked objects s identity request a) (checked_granted a)
-  asked_granted (Err fault) = tt
+-- ---- as whom a request is made
 
--- the changes of every answer are granted to whoever asks
-pub answers_are_granted : (objects : PolicyObjects) (s : Plain) (identity : Identity) (item : Result HttpRequest HttpFault) → AreGranted objects identity (answer objects s identity item).changes
+module _ (objects : PolicyObjects) (identity : Identity) where
+  impersonated_makes : (wanted : Impersonation) (r : Result Identity (List Point)) → impersonated objects identity wanted ≡ r → IfOk (acts_or_refused r) (MakesAs objects identity)
+  impersonated_makes wanted (Ok other) is = inr (wanted, is)
+  impersonated_makes wanted (Err points) is = tt
+
+  acting_makes : (r : Result (Option Impersonation) Misuse) → IfOk (acts_as objects identity r) (MakesAs objects identity)
+  unfolding acts_as
+  acting_makes (Ok None) = inl refl
+  acting_makes (Ok (Some wanted)) = impersonated_makes wanted (impersonated objects identity wanted) refl
+  acting_makes (Err bad_headers) = tt
+
+  as_granted : (s : Plain) (request : HttpRequest) (a : Attributes) (r : Result Identity Refused) → IfOk r (MakesAs objects identity)
+      → AreGrantedAs objects identity (answer_as objects s identity request a r).changes
+  unfolding answer_as
+  as_granted s request a (Ok other) makes =
+      (other, (makes, by_outcome objects s other request (asked_by other request a) request.close (checked objects s other request a) (checked_granted objects s other request a)))
+  as_granted s request a (Err refused) makes = (identity, (inl refl, tt))
+
+  asked_granted : (s : Plain) (request : HttpRequest) (r : Result Attributes TargetFault) → AreGrantedAs objects identity (answer_asked objects s identity request r).changes
+  unfolding answer_asked
+  asked_granted s request (Ok a) = as_granted s request a (made_as objects identity request) (acting_makes (impersonation request.headers))
+  asked_granted s request (Err fault) = (identity, (inl refl, tt))
+
+-- the changes of every answer are granted to the identity as which its request is made
+pub answers_are_granted : (objects : PolicyObjects) (s : Plain) (identity : Identity) (item : Result HttpRequest HttpFault)
+    → AreGrantedAs objects identity (answer objects s identity item).changes
 unfolding answer
-answers_are_granted objects s identity (Ok request) = asked_granted objects s identity request (info request.method request.target)
-answers_are_granted objects s identity (Err fault) = tt
+answers_are_granted objects s identity (Ok request) = asked_granted objects identity s request (info request.method request.target)
+answers_are_granted objects s identity (Err fault) = (identity, (inl refl, tt))

@@ -24,7 +24,7 @@ use Rattle.kapi_request_info.specs.Attributes.{info}
 use Rattle.kapi_request_info.specs.Faults.{TargetFault}
 use Rattle.kapi_request_info.specs.declared.attributes.Attributes.{Attributes}
 use Rattle.kapi_reviews.specs.declared.kind.ReviewKind.{ReviewKind}
-use Rattle.kapi_route.specs.Headers.{unimpersonated, media_typed}
+use Rattle.kapi_route.specs.Headers.{media_typed}
 use Rattle.kapi_route.specs.Query.{queried}
 use Rattle.kapi_route.specs.Route.{ResourceRouted, Routed, health, resource, routed}
 use Rattle.kapi_route.specs.declared.query.Filter.{Filter}
@@ -44,12 +44,13 @@ use Rattle.kapi_watch.proofs.Lists.{standing_is_named}
 use Rattle.kapi_watch.specs.Histories.{IsNamedBy, IsCreation}
 use Rattle.kapi_answer.proofs.Granted.{review_tells, then_keeps}
 use Rattle.kapi_answer.proofs.NamedTrees.{IsHome, is_home, new_named, other_named}
-use Rattle.kapi_answer.specs.Answer.{Passed, Plan, Task, answer, answer_asked, answer_by, answer_passed, asked_by, carried_out, checked, create, delete, deletes, escalation_checked, passes, planned, planned_at, planned_creation, planned_for, planned_on, replace, task, tell, tells, to_be_created, to_be_replaced, told, told_well, watch, watching}
+use Rattle.kapi_answer.specs.Answer.{Passed, Plan, Task, answer, answer_as, answer_asked, answer_by, answer_passed, asked_by, carried_out, checked, create, delete, deletes, escalation_checked, passes, planned, planned_at, planned_creation, planned_for, planned_on, replace, task, tell, tells, to_be_created, to_be_replaced, told, told_well, watch, watching}
 use Rattle.kapi_answer.specs.Authorization.{authorized}
 use Rattle.kapi_answer.specs.Collection.{chosen, deletes_all, listed, to_delete_all}
 use Rattle.kapi_answer.specs.Create.{Admitted, admitted, admitted_from, created, creates, given_name, in_namespace, key_of, name_text, stored, to_create, to_place, valid}
 use Rattle.kapi_answer.specs.Delete.{Deletion, deletable, removed, removes, standing, to_delete}
 use Rattle.kapi_answer.specs.Get.{found, found_if}
+use Rattle.kapi_answer.specs.Impersonation.{made_as}
 use Rattle.kapi_answer.specs.Histories.{AreNamed, AnswersWrite, IsWrite, LoadsCreate}
 use Rattle.kapi_answer.specs.Histories as write
 use Rattle.kapi_answer.specs.Load.{LoadFault, bad_object, is_kept_kind, loads, made, named_namespace, namespace_in, on_load, to_create_tree, to_load, unknown_kind}
@@ -296,9 +297,8 @@ module _ (s : Plain) (h : AreNamed s.objects) where
     planned_named : (a : Attributes) → IfOk (planned objects s identity request a) IsNamedPlan
     unfolding planned
     planned_named a =
-        then_holds (unimpersonated request.headers) _ IsNamedPlan
-        (λ u. then_holds (authorized objects identity a) _ IsNamedPlan
-        (λ v. then_holds (routed s.table request.method a) _ IsNamedPlan (planned_at_named a)))
+        then_holds (authorized objects identity a) _ IsNamedPlan
+        (λ u. then_holds (routed s.table request.method a) _ IsNamedPlan (planned_at_named a))
 
     checked_write : (a : Attributes) → IfOk (checked objects s identity request a) IsWritePassed
     unfolding checked
@@ -316,10 +316,16 @@ module _ (s : Plain) (h : AreNamed s.objects) where
     by_outcome asked close (Ok passed) w = by_passed close passed w
     by_outcome asked close (Err refused) w = write.nothing refl
 
-    asked_write : (r : Result Attributes TargetFault) → IsWrite s (answer_asked objects s identity request r).changes
-    unfolding answer_asked
-    asked_write (Ok a) = by_outcome (asked_by identity request a) request.close (checked objects s identity request a) (checked_write a)
-    asked_write (Err fault) = write.nothing refl
+  as_write : (objects : PolicyObjects) (identity : Identity) (request : HttpRequest) (a : Attributes) (r : Result Identity Refused) → IsWrite s (answer_as objects s identity request a r).changes
+  unfolding answer_as
+  as_write objects identity request a (Ok other) =
+      by_outcome objects other request (asked_by other request a) request.close (checked objects s other request a) (checked_write objects other request a)
+  as_write objects identity request a (Err refused) = write.nothing refl
+
+  asked_write : (objects : PolicyObjects) (identity : Identity) (request : HttpRequest) (r : Result Attributes TargetFault) → IsWrite s (answer_asked objects s identity request r).changes
+  unfolding answer_asked
+  asked_write objects identity request (Ok a) = as_write objects identity request a (made_as objects identity request)
+  asked_write objects identity request (Err fault) = write.nothing refl
 
 -- the changes of every answer are those of one write
 pub answers_write : AnswersWrite

@@ -19,7 +19,7 @@ use Rattle.kapi_reply.specs.declared.refusal.BadWord.TheVariants as word
 use Rattle.kapi_reply.specs.declared.refusal.Refused.{Refused}
 use Rattle.kapi_reply.specs.declared.reply.WrittenReply.{WrittenReply}
 use Rattle.kapi_reviews.specs.declared.kind.ReviewKind.{ReviewKind}
-use Rattle.kapi_route.specs.Headers.{unimpersonated, media_typed}
+use Rattle.kapi_route.specs.Headers.{media_typed}
 use Rattle.kapi_route.specs.Query.{queried}
 use Rattle.kapi_route.specs.Route.{ResourceRouted, Routed, health, resource, routed}
 use Rattle.kapi_route.specs.declared.route.Action.{Action}
@@ -33,6 +33,7 @@ use Rattle.kapi_answer.specs.Collection.{listed, to_delete_all}
 use Rattle.kapi_answer.specs.Create.{creates, key_of, to_create}
 use Rattle.kapi_answer.specs.Delete.{Deletion, removes, to_delete}
 use Rattle.kapi_answer.specs.Get.{found}
+use Rattle.kapi_answer.specs.Impersonation.{made_as}
 use Rattle.kapi_answer.specs.Outcome.{Outcome, well}
 use Rattle.kapi_answer.specs.Review.{review_kind, to_review}
 use Rattle.kapi_watch.specs.Watches.{PlainWatch}
@@ -130,7 +131,6 @@ planned_at objects s identity request a (resource r) = planned_for objects s ide
 -- the checks of a request by the roles and bindings that there are, in their order, but for those of the store
 unfoldable pub planned : PolicyObjects → Plain → Identity → HttpRequest → Attributes → Result Plan Refused
 planned objects s identity request a = do
-  u ← unimpersonated request.headers
   v ← authorized objects identity a
   r ← routed s.table request.method a
   planned_at objects s identity request a r
@@ -187,9 +187,15 @@ target_word bad_query = word.Query
 abbrev pub asked_by : Identity → HttpRequest → Attributes → Asked
 asked_by identity request a = record { user = identity.user; method = request.method; attributes = a }
 
+-- the answer to a request, all of whose checks are for the identity as which it is made; where there is none it is refused to the
+-- one that asks
+unfoldable pub answer_as : PolicyObjects → Plain → Identity → HttpRequest → Attributes → Result Identity Refused → Answered
+answer_as objects s identity request a (Ok other) = answer_by (asked_by other request a) request.close (checked objects s other request a)
+answer_as objects s identity request a (Err refused) = replied (refusal_reply (asked_by identity request a) request.close refused)
+
 -- the answer to a request whose target gives those attributes, or has a fault
 unfoldable pub answer_asked : PolicyObjects → Plain → Identity → HttpRequest → Result Attributes TargetFault → Answered
-answer_asked objects s identity request (Ok a) = answer_by (asked_by identity request a) request.close (checked objects s identity request a)
+answer_asked objects s identity request (Ok a) = answer_as objects s identity request a (made_as objects identity request)
 answer_asked objects s identity request (Err fault) = replied (target_reply (target_word fault) request.close)
 
 -- the answer to what was cut from a connection's bytes, by the roles and bindings that there are

@@ -1,4 +1,5 @@
 pub mod Authorization
+pub mod Impersonation
 pub mod Outcome
 pub mod Get
 pub mod Create

@@ -1,6 +1,5 @@
 //! Laws of answers, each the clause of a function that does nothing.
 ghost use Rattle.std.specs.Prelude.{Result};
-ghost use Rattle.kapi_escalation.specs.Granted.{AreGranted};
 ghost use Rattle.kapi_http.specs.declared.message.HttpFault.{HttpFault};
 ghost use Rattle.kapi_http.specs.declared.message.HttpRequest.{HttpRequest};
 ghost use Rattle.kapi_policy.specs.Objects.{PolicyObjects};
@@ -8,12 +7,14 @@ ghost use Rattle.kapi_rbac_types.specs.declared.identity.Identity.{Identity};
 ghost use Rattle.kapi_store.specs.Plain.{Plain};
 ghost use Rattle.kapi_answer.specs.Answer.{answer};
 ghost use Rattle.kapi_answer.specs.Histories.{AnswersWrite, LoadsCreate};
+ghost use Rattle.kapi_answer.specs.Impersonation.{AreGrantedAs};
 
-/// The check against escalation grants whoever asks what an answer changes: the first of the changes; those after it are deletions.
+/// The check against escalation grants what an answer changes to the identity as which the request is made, which is the one that asks
+/// or one that it may impersonate: the first of the changes; those after it are deletions.
 #[tactic(auto, using(crate::proofs::Granted::answers_are_granted))]
 pub fn what_an_answer_changes_was_granted()
     ensures { (objects : PolicyObjects) (s : Plain) (identity : Identity) (item : Result HttpRequest HttpFault)
-        → AreGranted objects identity (answer objects s identity item).changes }
+        → AreGrantedAs objects identity (answer objects s identity item).changes }
 {}
 
 /// Where each object that stands tells the namespace and the name of its place, an answer changes what one write makes: nothing, or

@@ -7,6 +7,7 @@ mod create;
 mod delete;
 mod get;
 mod health;
+mod impersonation;
 pub mod laws;
 pub mod loading;
 pub mod outcome;

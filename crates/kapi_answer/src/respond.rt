@@ -10,6 +10,7 @@ ghost use Rattle.kapi_watch.specs.Running.{IsFresh};
 ghost use Rattle.kapi_watch.specs.Watches.{startable};
 ghost use Rattle.kapi_answer.specs.Answer as answers;
 ghost use Rattle.kapi_answer.specs.Answer.{answer_by, answer_passed, asked_by, checked, escalation_checked, planned, planned_creation, planned_for, planned_on, to_be_created, to_be_replaced};
+ghost use Rattle.kapi_answer.specs.Impersonation.{made_as};
 ghost use Rattle.kapi_answer.specs.Review as reviews;
 ghost use Rattle.kapi_answer.specs.Outcomes.{ChangesNothing, IsReady, answered_data, new_data, passed_data, plan_data, task_data, watch_in, write_of};
 
@@ -19,6 +20,7 @@ use crate::create::{check_create, create, key_of};
 use crate::delete::{check_delete, delete};
 use crate::get::find;
 use crate::health::tell_health;
+use crate::impersonation::impersonate;
 use crate::outcome::{NewObject, Outcome, Passed, Plan};
 use crate::review::{review_kind, tell_review};
 use crate::task::Task;
@@ -29,13 +31,11 @@ use kapi_http::{HttpFault, HttpRequest};
 use kapi_policy::Policy;
 use kapi_rbac_types::Identity;
 use kapi_reply::{
-    Asked, BadWord, CheckError, WrittenReply, content_reply, fault_reply, refusal_reply,
+    Asked, BadWord, CheckError, Refused, WrittenReply, content_reply, fault_reply, refusal_reply,
     target_reply, watch_reply,
 };
 use kapi_request_info::{Attributes, InfoError, info};
-use kapi_route::{
-    Action, ResourceRoute, Route, check_media_type, check_query, find_route, refuse_impersonation,
-};
+use kapi_route::{Action, ResourceRoute, Route, check_media_type, check_query, find_route};
 use kapi_store::{Ready, Store};
 use kapi_text::Memory;
 use std::alloc::{AllocError, Global};
@@ -111,9 +111,52 @@ fn refuse_target(alloc: Global, word: BadWord, close: bool) -> Result<Prepared, 
     Ok(Prepared::told(target_reply(alloc, word, close)?))
 }
 
-/// The answer to a request whose attributes are known.
-#[tactic(auto, unfolding(crate::specs::Answer::answer_by))]
+/// The answer to a request whose attributes are known, which is made as whoever asks or as whom he may impersonate.
+#[tactic(auto, unfolding(crate::specs::Answer::answer_as))]
 fn answer_asked<P: Policy>(
+    alloc: Global,
+    policy: &P,
+    store: &mut Store,
+    identity: &Identity,
+    request: &HttpRequest,
+    attributes: &Attributes,
+) -> Result<Prepared, Memory>
+    ensures same { Same store.old store.new }
+    ensures gives { IfOk result (λ p. answered_data p ≡ answers.answer_as (P.content policy.now) (plain_of store.old) identity.now request.now attributes.now (made_as (P.content policy.now) identity.now request.now)) }
+    ensures fits { IfOk result (λ p. IfSome p.write (Fits store.new)) }
+    ensures fresh { IfOk result (λ p. IfSome p.watch (λ w. IsFresh (plain_of store.old) w.watch)) }
+{
+    match impersonate(alloc, policy, identity, request.headers.as_slice()) {
+        Ok(None) => answer_made_by(alloc, policy, store, identity, request, attributes),
+        Ok(Some(other)) => answer_made_by(alloc, policy, store, &other, request, attributes),
+        Err(CheckError::Refused(refused)) => {
+            refuse(alloc, identity, request, attributes, &refused)
+        }
+        Err(CheckError::Memory) => Err(AllocError),
+    }
+}
+
+/// The answer to a request that is refused to the identity.
+fn refuse(
+    alloc: Global,
+    identity: &Identity,
+    request: &HttpRequest,
+    attributes: &Attributes,
+    refused: &Refused,
+) -> Result<Prepared, Memory>
+    ensures { IfOk result (λ p. p ≡ record { reply = replies.refusal_reply (asked_by identity.now request.now attributes.now) request.now.close refused.now; write = None; watch = None }) }
+{
+    let asked = Asked {
+        user: identity.user.as_str(),
+        method: request.method,
+        attributes,
+    };
+    Ok(Prepared::told(refusal_reply(alloc, asked, request.close, refused)?))
+}
+
+/// The answer to a request that is made as the identity.
+#[tactic(auto, unfolding(crate::specs::Answer::answer_by))]
+fn answer_made_by<P: Policy>(
     alloc: Global,
     policy: &P,
     store: &mut Store,
@@ -129,12 +172,7 @@ fn answer_asked<P: Policy>(
     match check(alloc, policy, store, identity, request, attributes) {
         Ok(passed) => Ok(prepare(alloc, request.close, passed)?),
         Err(CheckError::Refused(refused)) => {
-            let asked = Asked {
-                user: identity.user.as_str(),
-                method: request.method,
-                attributes,
-            };
-            Ok(Prepared::told(refusal_reply(alloc, asked, request.close, &refused)?))
+            refuse(alloc, identity, request, attributes, &refused)
         }
         Err(CheckError::Memory) => Err(AllocError),
     }
@@ -209,7 +247,6 @@ fn plan<P: Policy>(
     ensures ready { IfOk result (IsReady (plain_of store.now)) }
     ensures told { IfOk result ChangesNothing }
 {
-    refuse_impersonation(request.headers.as_slice())?;
     authorize(policy, identity, attributes)?;
     match find_route(store.table(), request.method, attributes)? {
         Route::Health => Ok(Plan::Tell(tell_health(alloc, request)?)),

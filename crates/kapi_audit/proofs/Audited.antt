@@ -11,7 +11,7 @@ use Rattle.kapi_desk.specs.Boards.{Board}
 use Rattle.kapi_desk.specs.Steps.{after}
 use Rattle.kapi_loading.specs.Faults as loading
 use Rattle.kapi_loading.specs.Faults.{FileFault}
-use Rattle.kapi_loading.specs.Lines.{NumberedLine, lines_of}
+use Rattle.kapi_lines.specs.Lines.{NumberedLine, lines_of}
 use Rattle.kapi_loading.specs.Loading.{Publishes, machine_of}
 use Rattle.kapi_loading.specs.declared.fault.StartError.{StartError}
 use Rattle.kapi_loading.specs.declared.fault.StartError.TheVariants as start

@@ -3,7 +3,7 @@ use Rattle.std.proofs.Common.{◌≡◌, ℕ, zero, suc, ◌+◌, ◌<◌, List,
 use Rattle.kapi_audit.specs.Answers.{answer_of}
 use Rattle.kapi_audit.specs.Readers.{AreReaders}
 use Rattle.kapi_audit.specs.Sharing.{AreShares, share}
-use Rattle.kapi_loading.specs.declared.line.Line.{Line}
+use Rattle.kapi_lines.specs.declared.line.Line.{Line}
 use Rattle.kapi_audit.specs.declared.reader.Reader.{Reader}
 use Rattle.kapi_desk.specs.Boards.{Chair}
 use Rattle.kapi_desk.specs.Steps.{after}

@@ -2,7 +2,7 @@
 use Rattle.std.proofs.Common.{◌≡◌, ℕ, zero, suc, ◌+◌, List, [], ◌∷◌, ◌++◌, Option, map, refl, sym, ap, ◌∙◌, subst, append_assoc, append-nil, add-one, drop, drop-cons, get_or, length, ◌<◌, ◌≤◌}
 use Rattle.std.proofs.lemmas.List.{drop_all}
 use Rattle.kapi_audit.specs.Sharing.{share}
-use Rattle.kapi_loading.specs.declared.line.Line.{Line}
+use Rattle.kapi_lines.specs.declared.line.Line.{Line}
 
 -- what is answered, and behind it the answers to the share of the rest, are the answers to the whole share
 abbrev pub Shared : (List ℕ → Option (List ℕ)) → ℕ → ℕ → List Line → ℕ → ℕ → List (Option (List ℕ)) → Type 0

@@ -4,8 +4,8 @@ use Rattle.std.proofs.lemmas.List.{drop_all}
 use Rattle.kapi_text.specs.Gives.{◌>>=◌}
 use Rattle.kapi_audit.specs.Answers.{answered_by}
 use Rattle.kapi_audit.specs.Faults.{AuditError, question_line}
-use Rattle.kapi_loading.specs.Lines.{NumberedLine, line_of}
-use Rattle.kapi_loading.specs.declared.line.Line.{Line}
+use Rattle.kapi_lines.specs.Lines.{NumberedLine, line_of}
+use Rattle.kapi_lines.specs.declared.line.Line.{Line}
 use Rattle.kapi_audit.specs.Sharing.{AreShares, share}
 
 -- readers behind the first one: for each of them the next question is one nearer

@@ -7,7 +7,7 @@ use Rattle.std.proofs.lemmas.List.Splits.{slice_split_at, slice_split_none}
 use Rattle.kapi_core.specs.Table.{access_reviews_row}
 use Rattle.kapi_desk.specs.Boards.{Chair}
 use Rattle.kapi_names.specs.declared.row.ResourceRow.{ResourceRow}
-use Rattle.kapi_script.proofs.Appending.{appends_more, appends_nothing}
+use Rattle.kapi_lines.proofs.Appending.{appends_more, appends_nothing}
 use Rattle.kapi_script.specs.Scripts.{lines}
 use Rattle.kapi_audit.specs.Reading.{Reading, ToldSoFar}
 use Rattle.kapi_audit.specs.Reports.{IsTold, Reports, Told, report_text}

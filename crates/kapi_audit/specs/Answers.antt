@@ -7,10 +7,10 @@ use Rattle.kapi_names.specs.declared.row.ResourceRow.{ResourceRow}
 use Rattle.kapi_policy.specs.Decided.{Decided, decided}
 use Rattle.kapi_policy.specs.Objects.{PolicyObjects}
 use Rattle.kapi_reviews.specs.Answers.{reason_of}
-use Rattle.kapi_script.specs.Escapes.{escaped}
+use Rattle.kapi_lines.specs.Escapes.{escaped}
 use Rattle.kapi_audit.specs.Faults.{AuditError, policy_line, question_line}
 use Rattle.kapi_loading.specs.Faults.{FileFault, bad_line}
-use Rattle.kapi_loading.specs.Lines.{NumberedLine, lines_of}
+use Rattle.kapi_lines.specs.Lines.{NumberedLine, lines_of}
 use Rattle.kapi_loading.specs.Loading.{machine_of}
 use Rattle.kapi_audit.specs.Questions.{question_of}
 

@@ -2,13 +2,13 @@
 ghost use Rattle.std.specs.Prelude.{◌≡◌, ◌++◌, IfOk, OnOk};
 ghost use Rattle.kapi_policy.specs.Views.{decision_of};
 ghost use Rattle.kapi_desk.specs.Boards.{seat_decision};
-ghost use Rattle.kapi_script.specs.Escapes.{escaped};
+ghost use Rattle.kapi_lines.specs.Escapes.{escaped};
 ghost use Rattle.kapi_audit.specs.Answers.{decision_line};
 
 use kapi_desk::SeatDecision;
+use kapi_lines::write_escaped;
 use kapi_policy::{Decision, Grant};
 use kapi_reviews::reason;
-use kapi_script::write_escaped;
 use kapi_text::{Memory, Sequence};
 use std::alloc::{AllocError, Global};
 

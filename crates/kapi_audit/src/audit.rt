@@ -5,7 +5,7 @@ ghost use Rattle.kapi_desk.specs.Boards.{Chair, chair, fresh};
 ghost use Rattle.kapi_desk.specs.Steps.{after};
 ghost use Rattle.kapi_audit.specs.Answers.{answer_of, answered_by, answers};
 ghost use Rattle.kapi_audit.specs.Faults.{fault_told};
-ghost use Rattle.kapi_loading.specs.Lines.{line_of};
+ghost use Rattle.kapi_lines.specs.Lines.{line_of};
 ghost use Rattle.kapi_audit.specs.Readers.{AreReaders};
 
 use crate::fault::AuditFault;
@@ -15,7 +15,8 @@ use crate::question::access_reviews;
 use crate::reader::Reader;
 use crate::threads::answer_in_threads;
 use kapi_desk::{Desk, Seat};
-use kapi_loading::{Line, Started, numbered_lines, start};
+use kapi_lines::{Line, numbered_lines};
+use kapi_loading::{Started, start};
 use kapi_text::Memory;
 use std::alloc::Global;
 use std::sync::Wait;

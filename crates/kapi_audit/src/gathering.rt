@@ -3,11 +3,11 @@ ghost use Rattle.std.specs.Prelude.{◌≡◌, ◌+◌, ◌++◌, ◌∷◌, [],
 ghost use Rattle.kapi_text.specs.Gives.{Gives};
 ghost use Rattle.kapi_audit.specs.Answers.{answered_by};
 ghost use Rattle.kapi_audit.specs.Faults.{fault_told};
-ghost use Rattle.kapi_loading.specs.Lines.{line_of};
+ghost use Rattle.kapi_lines.specs.Lines.{line_of};
 ghost use Rattle.kapi_audit.specs.Sharing.{AreShares};
 
 use crate::fault::AuditFault;
-use kapi_loading::Line;
+use kapi_lines::Line;
 use kapi_text::{Memory, Sequence};
 use std::alloc::Global;
 

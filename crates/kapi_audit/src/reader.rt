@@ -9,7 +9,7 @@ use crate::gate::Gate;
 use crate::gathering::Answer;
 use crate::question::question_of;
 use kapi_desk::{Seat, SeatError};
-use kapi_loading::Line;
+use kapi_lines::Line;
 use kapi_names::ResourceRow;
 use kapi_text::Sequence;
 use std::alloc::Global;

@@ -70,7 +70,7 @@ pub fn write_report<W: Write>(writer: &mut W, report: &Report) -> Result<(), Ans
     Ok(())
 }
 
-#[tactic(auto, using(kapi_script::proofs::Appending::appends_nothing))]
+#[tactic(auto, using(kapi_lines::proofs::Appending::appends_nothing))]
 fn write_text<W: Write>(writer: &mut W, report: &Report) -> io::Result<()>
     ensures { OnOk result (Appends (W.contents writer.old) (W.contents writer.new) (report_text report.now)) }
 {
@@ -83,7 +83,7 @@ fn write_text<W: Write>(writer: &mut W, report: &Report) -> io::Result<()>
     }
 }
 
-#[tactic(auto, using(kapi_script::proofs::Appending::appends_more))]
+#[tactic(auto, using(kapi_lines::proofs::Appending::appends_more))]
 fn write_told<W: Write>(writer: &mut W, count: u64, text: &[u8]) -> io::Result<()>
     ensures { OnOk result (Appends (W.contents writer.old) (W.contents writer.new) ((decimal count ++ codes " ") ++ text.now)) }
 {

@@ -10,7 +10,7 @@ use crate::gate::Gate;
 use crate::gathering::Answer;
 use crate::reader::{Reader, answer_share};
 use kapi_desk::SeatError;
-use kapi_loading::Line;
+use kapi_lines::Line;
 use kapi_names::ResourceRow;
 use kapi_text::Sequence;
 use std::alloc::{AllocError, Global};

@@ -21,11 +21,13 @@ use Rattle.kapi_aggregation.specs.Turns.{next}
 use Rattle.kapi_aggregation.specs.declared.turn.Turn.{Turn}
 use Rattle.kapi_answer.proofs.Granted.{answers_are_granted}
 use Rattle.kapi_answer.specs.Answer.{Answered, answer}
+use Rattle.kapi_answer.specs.Impersonation.{AreGrantedAs}
 use Rattle.kapi_answer.specs.Watch.{PlainWatching, event_reply_of}
 use Rattle.kapi_answer.specs.declared.watch.After.{After}
 use Rattle.kapi_answer.specs.declared.watch.After.TheVariants as becomes
 use Rattle.kapi_answer.specs.declared.watch.EventReply.{EventReply}
 use Rattle.kapi_watch.specs.Watches.{pumped}
+use Rattle.kapi_gains.proofs.Impersonating.{acts_as}
 use Rattle.kapi_policy_runs.proofs.Reached.{objects_give_nothing, reaches_both, reaches_itself}
 use Rattle.kapi_policy_runs.proofs.Turns.{turn_runs}
 use Rattle.kapi_policy_runs.proofs.Writes.{granted_reach}
@@ -83,10 +85,11 @@ unfolding serve_item after_serve
 item_goes id l None m sorted = goes_nowhere (l.identity ∷ []) m.store sorted m.store refl
 item_goes id l (Some item) m sorted =
     let answered : Answered = answer (policy_of m) m.store l.identity item in
+    let granted : AreGrantedAs (policy_of m) l.identity answered.changes = answers_are_granted (policy_of m) m.store l.identity item in
     let P : Plain → Type 0 = λ p. Goes (l.identity ∷ []) m.store p in
     subst P (sym (ended_keeps answered.reply.close id (changed answered.changes (with_link id (record l { served = suc l.served; watching = answered.watch }) m))))
     (goes_written (l.identity ∷ []) m.store sorted answered.changes
-    (granted_reach l.identity answered.changes m.store.objects sorted (answers_are_granted (policy_of m) m.store l.identity item)))
+    (granted_reach l.identity granted.0 answered.changes m.store.objects sorted (acts_as (policy_of m) l.identity granted.0 granted.1.0) granted.1.1))
 
 beside_goes : (id : ℕ) (l : Link) (w : Option PlainWatching) (m : Machine) → AreInOrder m.store.objects → Goes (l.identity ∷ []) m.store (serve_beside id l w m).1.store
 unfolding serve_beside

@@ -8,4 +8,5 @@ pub mod After
 pub mod Steps
 pub mod Law
 pub mod Turns
+pub mod Impersonating
 pub mod Worked

@@ -1,2 +1,3 @@
 pub mod Implied
 pub mod Grants
+pub mod Accounts

@@ -3,3 +3,4 @@ pub mod Exempt
 pub mod Authority
 pub mod Checks
 pub mod Laws
+pub mod Impersonation

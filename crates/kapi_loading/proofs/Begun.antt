@@ -9,7 +9,7 @@ use Rattle.kapi_desk.specs.Steps.{after}
 use Rattle.kapi_names.specs.declared.row.ResourceRow.{ResourceRow}
 use Rattle.kapi_script.specs.ProgramTable.{program_rows}
 use Rattle.kapi_script.specs.Scripts.{start}
-use Rattle.kapi_loading.specs.Lines.{NumberedLine, lines_of}
+use Rattle.kapi_lines.specs.Lines.{NumberedLine, lines_of}
 use Rattle.kapi_loading.specs.Loading.{Publishes, Reaches, machine_of, made_of}
 use Rattle.kapi_loading.specs.declared.fault.StartError.{StartError}
 

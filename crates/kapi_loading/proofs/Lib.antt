@@ -1,4 +1,3 @@
-pub mod Parts
 pub mod Published
 pub mod Loaded
 pub mod Begun

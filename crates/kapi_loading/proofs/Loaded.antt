@@ -3,7 +3,7 @@ use Rattle.std.proofs.Common.{◌≡◌, ℕ, zero, suc, ◌+◌, List, [], ◌�
 use Rattle.std.proofs.lemmas.List.{drop_all}
 use Rattle.kapi_text.specs.Gives.{Fails, Gives, ◌>>=◌}
 use Rattle.kapi_loading.specs.Faults.{FileFault, bad_line, fault_told}
-use Rattle.kapi_loading.specs.Lines.{NumberedLine, line_of}
+use Rattle.kapi_lines.specs.Lines.{NumberedLine, line_of}
 use Rattle.kapi_loading.specs.Loading.{Publishes, Reaches, load_fault, loaded, made_by, made_of, turned}
 use Rattle.kapi_aggregation.specs.Rewriting.{rewriting}
 use Rattle.kapi_aggregation.specs.Roles.{roles_in}
@@ -30,7 +30,7 @@ use Rattle.kapi_store.specs.Plain.{PlainChange}
 use Rattle.kapi_stored_policy.proofs.Writes.{policy_written, stands_in_order}
 use Rattle.kapi_stored_policy.specs.Reading as stored
 use Rattle.kapi_stored_policy.specs.Reading.{policy_changes}
-use Rattle.kapi_loading.specs.declared.line.Line.{Line}
+use Rattle.kapi_lines.specs.declared.line.Line.{Line}
 use Rattle.kapi_loading.specs.declared.fault.StartError.{StartError}
 
 -- of lines those from a place on are still to be loaded, on a machine whose policy is published

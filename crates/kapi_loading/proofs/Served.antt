@@ -9,7 +9,7 @@ use Rattle.kapi_core.specs.Machine.{Machine, after, changed, step}
 use Rattle.kapi_core.specs.declared.event.Event.TheVariants as event
 use Rattle.kapi_loading.specs.Faults.{FileFault}
 use Rattle.kapi_loading.specs.Laws.{FileIsServed}
-use Rattle.kapi_loading.specs.Lines.{NumberedLine, lines_of}
+use Rattle.kapi_lines.specs.Lines.{NumberedLine, lines_of}
 use Rattle.kapi_loading.specs.Loading.{loaded, machine_of, made_by, turned}
 use Rattle.kapi_script.specs.Scripts.{start}
 

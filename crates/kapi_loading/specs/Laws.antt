@@ -3,7 +3,7 @@ use Rattle.std.specs.Prelude.{◌≡◌, ℕ, List, map, replicate, Ok}
 use Rattle.kapi_core.specs.Histories.{served}
 use Rattle.kapi_core.specs.Machine.{Machine}
 use Rattle.kapi_core.specs.declared.event.Event.TheVariants as event
-use Rattle.kapi_loading.specs.Lines.{lines_of}
+use Rattle.kapi_lines.specs.Lines.{lines_of}
 use Rattle.kapi_loading.specs.Loading.{machine_of}
 use Rattle.kapi_script.specs.ProgramTable.{program_rows}
 

@@ -1,4 +1,3 @@
-pub mod Lines
 pub mod Faults
 pub mod Loading
 pub mod Starting

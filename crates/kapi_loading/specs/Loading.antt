@@ -13,7 +13,7 @@ use Rattle.kapi_desk.specs.Boards.{Board}
 use Rattle.kapi_desk.specs.Steps.{after}
 use Rattle.kapi_loading.specs.Faults.{FileFault, bad_line, fault_told}
 use Rattle.kapi_script.specs.Scripts.{start}
-use Rattle.kapi_loading.specs.Lines.{NumberedLine, lines_of}
+use Rattle.kapi_lines.specs.Lines.{NumberedLine, lines_of}
 use Rattle.kapi_loading.specs.declared.fault.StartError.{StartError}
 use Rattle.kapi_loading.specs.declared.fault.StartError.TheVariants as fault
 

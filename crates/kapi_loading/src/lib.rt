@@ -3,11 +3,9 @@
 
 mod fault;
 mod laws;
-mod line;
 mod publishing;
 mod starting;
 
 pub use fault::StartError;
 pub use laws::a_file_makes_a_machine_of_the_laws;
-pub use line::{Line, numbered_lines};
 pub use starting::{Started, start};

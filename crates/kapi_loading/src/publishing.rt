@@ -2,14 +2,14 @@
 ghost use Rattle.std.specs.Prelude.{◌≡◌, [], IfErr, OnOk, map, Ok};
 ghost use Rattle.kapi_core.specs.Machine.{Machine};
 ghost use Rattle.kapi_desk.specs.Steps.{after, after_changes};
-ghost use Rattle.kapi_loading.specs.Lines.{line_of};
+ghost use Rattle.kapi_lines.specs.Lines.{line_of};
 ghost use Rattle.kapi_loading.specs.Loading.{Publishes, Reaches, load_fault, loaded, made_of, turned};
 
 use crate::fault::StartError;
-use crate::line::Line;
 use kapi_core::{Core, LoadError};
 use kapi_desk::Desk;
 use kapi_index::IndexedPolicy;
+use kapi_lines::Line;
 use kapi_policy::PolicyChange;
 use kapi_text::Memory;
 use std::alloc::AllocError;

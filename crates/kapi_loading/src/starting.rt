@@ -4,11 +4,11 @@ ghost use Rattle.kapi_loading.specs.Loading.{machine_of};
 ghost use Rattle.kapi_loading.specs.Starting.{Starts};
 
 use crate::fault::StartError;
-use crate::line::numbered_lines;
 use crate::publishing::publish_policy;
 use kapi_core::Core;
 use kapi_desk::{Desk, Seat};
 use kapi_index::IndexedPolicy;
+use kapi_lines::numbered_lines;
 use kapi_script::program_table;
 use std::alloc::Global;
 use std::sync::Wait;

@@ -1,4 +1,4 @@
--- The changes of a write are a run, where they are granted to whoever makes it.
+-- The changes of a write are a run, where they are granted to whoever makes it, or to whom he acts as.
 use Rattle.std.proofs.Common.{◌≡◌, inl, List, [], ◌∷◌, Option, Some, None, refl, sym, ap, ◌∙◌, subst}
 use Rattle.std.specs.List.{AllByRecursion}
 use Rattle.serde_json.specs.Data.{Data}
@@ -16,6 +16,7 @@ use Rattle.kapi_stored_policy.specs.declared.kind.PolicyKind.{PolicyKind}
 use Rattle.kapi_aggregation.specs.Roles.{labels_in}
 use Rattle.kapi_escalation.proofs.Granted.{deletion_is_granted}
 use Rattle.kapi_escalation.specs.Granted.{AreGranted, IsDeletion, IsGranted, IsGrantedAt, IsGrantedPut}
+use Rattle.kapi_gains.specs.Access.{ActsAs}
 use Rattle.kapi_gains.specs.Steps.{IsDeleted, IsWritten, SetsLabels, deletes, writes}
 use Rattle.kapi_policy_runs.proofs.Labels.{deleted_labels, labels_kept, put_labels}
 use Rattle.kapi_policy_runs.proofs.Reached.{reaches_itself, reaches_next, reaches_onward}
@@ -27,14 +28,14 @@ read_at : (k : Key) (left : Option Data) (os : List (Key × Data)) → AreInOrde
     → policy_objects (placed k left os) ≡ after_changes (changes_at o k left) (policy_objects os)
 read_at k left os sorted o at = placed_read k left os sorted ∙ ap (λ o. after_changes (changes_at o k left) (policy_objects os)) at
 
-module _ (who : Identity) (os : List (Key × Data)) (sorted : AreInOrder os) where
+module _ (who other : Identity) (os : List (Key × Data)) (sorted : AreInOrder os) (acts : ActsAs (policy_objects os) who other) where
   -- a write of a role or binding
-  put_made : (of : PolicyKind) (k : Key) (tree : Data) → policy_kind k ≡ Some of → (g : IsGrantedPut (policy_objects os) who of k tree)
-      → IsWritten (policy_state os) (record { writer = who; made_as = who; write = g.write; labels = labels_in tree }) (policy_state (placed k (Some tree) os))
+  put_made : (of : PolicyKind) (k : Key) (tree : Data) → policy_kind k ≡ Some of → (g : IsGrantedPut (policy_objects os) other of k tree)
+      → IsWritten (policy_state os) (record { writer = who; made_as = other; write = g.write; labels = labels_in tree }) (policy_state (placed k (Some tree) os))
   unfolding after_changes
   put_made of k tree at g =
       let P : PolicyPut → Type 0 = λ p. SetsLabels p (labels_in tree) (labels_at os) (labels_at (placed k (Some tree) os)) in record {
-        acts = inl refl;
+        acts = acts;
         granted = g.granted;
         objects = read_at k (Some tree) os sorted (Some of) at ∙ ap (λ p. applied (change.Put p) (policy_objects os)) (sym g.puts);
         labels = subst P (sym g.puts) (put_labels k tree os sorted of at);
@@ -54,15 +55,15 @@ module _ (who : Identity) (os : List (Key × Data)) (sorted : AreInOrder os) whe
     runs = (read_at k left os sorted None at, labels_kept k left os sorted None at (λ never. cc never));
   }
 
-  change_at_kind : (o : Option PolicyKind) (k : Key) (left : Option Data) → policy_kind k ≡ o → IsGrantedAt (policy_objects os) who o k left → ObjectsReach (who ∷ []) os (placed k left os)
+  change_at_kind : (o : Option PolicyKind) (k : Key) (left : Option Data) → policy_kind k ≡ o → IsGrantedAt (policy_objects os) other o k left → ObjectsReach (who ∷ []) os (placed k left os)
   change_at_kind None k left at g = nothing_made k left at
   change_at_kind (Some of) k (Some tree) at g =
-      reaches_next (who ∷ []) (policy_state os) (policy_state (placed k (Some tree) os)) (writes (record { writer = who; made_as = who; write = g.write; labels = labels_in tree }))
+      reaches_next (who ∷ []) (policy_state os) (policy_state (placed k (Some tree) os)) (writes (record { writer = who; made_as = other; write = g.write; labels = labels_in tree }))
       (inl refl) (put_made of k tree at g)
   change_at_kind (Some of) k None at g =
       reaches_next (who ∷ []) (policy_state os) (policy_state (placed k None os)) (deletes (key_at of k)) tt (deletion_made of k at)
 
-  change_reaches : (c : PlainChange) → IsGranted (policy_objects os) who c → ObjectsReach (who ∷ []) os (placed c.key c.new os)
+  change_reaches : (c : PlainChange) → IsGranted (policy_objects os) other c → ObjectsReach (who ∷ []) os (placed c.key c.new os)
   change_reaches c g = change_at_kind (policy_kind c.key) c.key c.new refl g
 
 -- deletions are granted to everybody
@@ -72,15 +73,15 @@ deletions_reach who [] os sorted all = reaches_itself (who ∷ []) (policy_state
 deletions_reach who (c ∷ cs) os sorted all =
     let P : Option Data → Type 0 = λ left. IsGrantedAt (policy_objects os) who (policy_kind c.key) c.key left in
     reaches_onward (who ∷ []) (policy_state os) (policy_state (placed c.key c.new os)) (policy_state (placed_all (trees_left_by cs) (placed c.key c.new os)))
-    (change_reaches who os sorted c (subst P (sym all.0) (deletion_is_granted (policy_objects os) who (policy_kind c.key) c.key)))
+    (change_reaches who who os sorted (inl refl) c (subst P (sym all.0) (deletion_is_granted (policy_objects os) who (policy_kind c.key) c.key)))
     (deletions_reach who cs (placed c.key c.new os) (placed_keeps c.key c.new os sorted) all.1)
 
 -- the changes of a write that is granted
-pub granted_reach : (who : Identity) (cs : List PlainChange) (os : List (Key × Data)) → AreInOrder os → AreGranted (policy_objects os) who cs
-    → ObjectsReach (who ∷ []) os (placed_all (trees_left_by cs) os)
+pub granted_reach : (who other : Identity) (cs : List PlainChange) (os : List (Key × Data)) → AreInOrder os → ActsAs (policy_objects os) who other
+    → AreGranted (policy_objects os) other cs → ObjectsReach (who ∷ []) os (placed_all (trees_left_by cs) os)
 unfolding placed_all
-granted_reach who [] os sorted granted = reaches_itself (who ∷ []) (policy_state os)
-granted_reach who (c ∷ cs) os sorted granted =
+granted_reach who other [] os sorted acts granted = reaches_itself (who ∷ []) (policy_state os)
+granted_reach who other (c ∷ cs) os sorted acts granted =
     reaches_onward (who ∷ []) (policy_state os) (policy_state (placed c.key c.new os)) (policy_state (placed_all (trees_left_by cs) (placed c.key c.new os)))
-    (change_reaches who os sorted c granted.0)
+    (change_reaches who other os sorted acts c granted.0)
     (deletions_reach who cs (placed c.key c.new os) (placed_keeps c.key c.new os sorted) granted.1)

@@ -12,18 +12,18 @@ ghost use Rattle.kapi_aggregation.specs.Unions.{IsSettled};
 ghost use Rattle.kapi_aggregation.specs.Turns.{next};
 ghost use Rattle.kapi_aggregation.specs.declared.turn.Turn.{Turn};
 ghost use Rattle.kapi_escalation.specs.Granted.{AreGranted};
-ghost use Rattle.kapi_gains.specs.Access.{GivesNothing, IsHarmless};
+ghost use Rattle.kapi_gains.specs.Access.{ActsAs, GivesNothing, IsHarmless};
 ghost use Rattle.kapi_aggregation.specs.Members.{Has};
 ghost use Rattle.kapi_gains.specs.States.{labelled_roles};
 ghost use Rattle.kapi_policy_runs.specs.Runs.{ObjectsReach};
 ghost use Rattle.kapi_policy_runs.specs.States.{AreInOrder, labels_at};
 
-/// Changes that are granted to an identity make a run of his of the policy: from that of the objects before them to that of the
-/// objects after them.
+/// Changes that are granted to an identity make a run of the policy, by him or whoever acts as him: from that of the objects before
+/// them to that of the objects after them.
 #[tactic(auto, using(crate::proofs::Writes::granted_reach))]
 pub fn granted_changes_are_a_run()
-    ensures { (who : Identity) (changes : List PlainChange) (os : List (Key × Data)) → AreInOrder os → AreGranted (policy_objects os) who changes
-        → ObjectsReach (who ∷ []) os (placed_all (trees_left_by changes) os) }
+    ensures { (who other : Identity) (changes : List PlainChange) (os : List (Key × Data)) → AreInOrder os → ActsAs (policy_objects os) who other
+        → AreGranted (policy_objects os) other changes → ObjectsReach (who ∷ []) os (placed_all (trees_left_by changes) os) }
 {}
 
 /// The changes of the turn that comes next make a run of one turn, whoever acts.

@@ -1,13 +1,20 @@
-//! Tests of scripts, of audits, and of a desk and its seats in threads.
+//! Tests of what no transcript shows: memory that is refused, lists of events, the last revision, a window of 1,024 changes, readers in
+//! pieces, audits, and a desk and its seats in threads.
 #![tactic(auto)]
 
-#[cfg(test)]
-mod attacks;
 #[cfg(test)]
 mod audits;
 #[cfg(test)]
 mod desks;
 #[cfg(test)]
-mod played;
+mod events;
+#[cfg(test)]
+mod last_revision;
+#[cfg(test)]
+mod loading;
+#[cfg(test)]
+mod machine;
 #[cfg(test)]
 mod scripts;
+#[cfg(test)]
+mod window;

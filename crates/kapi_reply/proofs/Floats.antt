@@ -10,11 +10,12 @@ use Rattle.kapi_http.specs.declared.message.StatusCode.TheVariants as status
 use Rattle.kapi_object.proofs.NoFloats.{put_has_no_float}
 use Rattle.kapi_names.specs.declared.fault.FieldFault.{FieldFault}
 use Rattle.kapi_rules.specs.declared.atom.Atom.{Atom}
+use Rattle.kapi_rules.specs.declared.point.Point.{Point}
 use Rattle.kapi_reply.specs.declared.refusal.Refusal.{Refusal}
 use Rattle.kapi_reply.specs.declared.refusal.Refusal.TheVariants as refusal
 use Rattle.kapi_reply.specs.declared.refusal.Sought.TheVariants as sought
 use Rattle.kapi_reply.specs.Refusals.{Asked, failure_of, fault_failure, not_found}
-use Rattle.kapi_reply.specs.Status.{Subject, Failed, with_some_text, with_causes, with_subject, with_some_object, deleted_status, details_of, status_of, invalid_field, missing_atom}
+use Rattle.kapi_reply.specs.Status.{Subject, Failed, with_some_text, with_causes, with_subject, with_some_object, deleted_status, details_of, status_of, invalid_field, missing_atom, missing_permission}
 
 -- one of two lists of members without floats
 either_way : (b : Bool) (ms ns : Members) → members_have_float ms ≡ false → members_have_float ns ≡ false → members_have_float (cond b ms ns) ≡ false
@@ -44,10 +45,15 @@ atoms_in : (atoms : List Atom) → items_have_float (items_of (map missing_atom 
 atoms_in [] = refl
 atoms_in (a ∷ atoms) = atoms_in atoms
 
+points_in : (points : List Point) → items_have_float (items_of (map missing_permission points)) ≡ false
+points_in [] = refl
+points_in (p ∷ points) = points_in points
+
 -- the causes of a refusal
 pub refusal_whole : (asked : Asked) (name : List ℕ) (r : Refusal) → items_have_float (items_of (failure_of asked name r).causes) ≡ false
 unfolding failure_of not_found
 refusal_whole asked name (refusal.BadRequest w) = refl
+refusal_whole asked name (refusal.Impersonation points) = points_in points
 refusal_whole asked name refusal.Forbidden = refl
 refusal_whole asked name (refusal.Escalation atoms) = atoms_in atoms
 refusal_whole asked name refusal.NoSuchResource = refl

@@ -146,6 +146,10 @@ expired r =
 -- the failure that is told of a refusal about the object of that name
 unfoldable pub failure_of : Asked → List ℕ → Refusal → Failed
 failure_of asked name (refusal.BadRequest w) = bad_request (word_text w)
+failure_of asked name (refusal.Impersonation points) =
+    record (failed status.Forbidden (codes "Forbidden") (asked.user ++ codes " may not impersonate")) {
+      causes = map missing_permission points;
+    }
 failure_of asked name refusal.Forbidden =
     record (failed status.Forbidden (codes "Forbidden") (denied_text asked.user asked.attributes.namespace)) {
       causes = missing_permission asked.attributes.point ∷ [];

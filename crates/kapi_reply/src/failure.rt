@@ -12,6 +12,7 @@ use crate::refusal::{NamedRole, OldRevision, Refusal, Revisions, Sought};
 use crate::reply::Asked;
 use crate::status::{
     Failure, Subject, changed_role_ref, invalid_fields, missing_atoms, missing_permission,
+    missing_permissions,
 };
 use kapi_http::{Method, StatusCode};
 use kapi_names::FieldFault;
@@ -41,6 +42,7 @@ pub fn failure_of(
 {
     match refusal {
         Refusal::BadRequest(word) => bad_request(alloc, word.as_str()),
+        Refusal::Impersonation(points) => impersonation(alloc, asked, points.as_slice()),
         Refusal::Forbidden => denied(alloc, asked),
         Refusal::Escalation(atoms) => escalation(alloc, asked, atoms.as_slice()),
         Refusal::NoSuchResource => no_such_resource(alloc),
@@ -160,6 +162,21 @@ fn not_allowed(alloc: Global, method: &str, allow: &'static [Method]) -> Result<
         message: format!(in alloc; "{method} is not served here")?,
         causes: Vec::new(alloc),
         allow,
+    })
+}
+
+/// The failure of an impersonation, with each point that no rule allows as a cause.
+#[tactic(auto, unfolding(crate::specs::Refusals::failure_of))]
+fn impersonation(alloc: Global, asked: Asked<'_>, points: &[Point]) -> Result<Failure, Memory>
+    ensures { IfOk result (λ f. failure_data f ≡ table.failure_of (asked_data asked.entry) [] (Refusal.Impersonation points.now)) }
+{
+    let user = asked.user;
+    Ok(Failure {
+        code: StatusCode::Forbidden,
+        reason: "Forbidden",
+        message: format!(in alloc; "{user} may not impersonate")?,
+        causes: missing_permissions(alloc, points)?,
+        allow: &[],
     })
 }
 

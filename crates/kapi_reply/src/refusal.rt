@@ -1,6 +1,6 @@
 use kapi_http::Method;
 use kapi_names::FieldFault;
-use kapi_rules::Atom;
+use kapi_rules::{Atom, Point};
 use kapi_text::{Memory, Sequence, Text};
 use thiserror::Error;
 
@@ -55,6 +55,8 @@ pub enum Sought {
 #[derive(Debug, Drop)]
 pub enum Refusal {
     BadRequest(BadWord),
+    /// Whoever asks may not impersonate: these points are denied, that of the user first, then those of the groups.
+    Impersonation(Sequence<Point>),
     /// Authorization denies the request's point.
     Forbidden,
     /// Whoever asks does not hold these parts of what the role or binding that he writes gives.

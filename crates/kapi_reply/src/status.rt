@@ -255,6 +255,17 @@ fn resource_atom_list(alloc: Global, atom: &ResourceAtom) -> Result<Value, Memor
     }
 }
 
+/// The causes of a denial of several points, in their order.
+pub fn missing_permissions(alloc: Global, points: &[Point]) -> Result<Vec<Value>, Memory>
+    ensures { IfOk result (λ v. map_of view v.items ≡ map_of status_object.missing_permission points.now) }
+{
+    let mut causes = Vec::new(alloc);
+    for point in points {
+        causes.push(missing_permission(alloc, point)?)?;
+    }
+    Ok(causes)
+}
+
 /// The causes of an escalation's refusal, in the order of what is missing.
 pub fn missing_atoms(alloc: Global, atoms: &[Atom]) -> Result<Vec<Value>, Memory>
     ensures { IfOk result (λ v. map_of view v.items ≡ map_of status_object.missing_atom atoms.now) }

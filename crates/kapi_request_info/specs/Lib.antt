@@ -8,3 +8,5 @@ pub mod Resource
 pub mod Attributes
 pub mod Slashes
 pub mod Written
+pub mod Fields
+pub mod Impersonation

@@ -1,7 +1,9 @@
-//! The attributes of a request, from its method and target.
+//! The attributes of a request, from its method and target, and whom its header fields name to be impersonated.
 #![tactic(auto)]
 
 pub mod attributes;
+pub mod headers;
+pub mod impersonated;
 mod laws;
 mod path;
 pub mod query;
@@ -11,7 +13,9 @@ mod target;
 mod worked;
 
 pub use attributes::{Attributes, InfoError, info};
+pub use headers::{impersonation, is_named};
+pub use impersonated::{Impersonation, ImpersonationError};
 pub use laws::{authorities_mean_nothing, written_paths_are_read};
 pub use query::{QueryPair, query_value};
-pub use selector::selected_name;
+pub use selector::{behind, selected_name};
 pub use worked::worked_rows;

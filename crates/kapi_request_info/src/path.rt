@@ -150,7 +150,8 @@ fn texts(alloc: Global, segments: &[Sequence<u8>]) -> Result<Vec<Text>, InfoErro
     Ok(texts)
 }
 
-fn text_in(bytes: &[u8]) -> Option<&str>
+/// The bytes as a text, where they are UTF-8.
+pub fn text_in(bytes: &[u8]) -> Option<&str>
     ensures { option_copied result ≡ text_in_of bytes.now }
 {
     match str::from_utf8(bytes) {

@@ -25,7 +25,7 @@ fn named_behind<'a>(selector: &'a str, prefix: &str) -> Option<&'a str>
 }
 
 /// What follows a prefix, where the text begins with it.
-fn behind<'a>(text: &'a str, prefix: &str) -> Option<&'a str>
+pub fn behind<'a>(text: &'a str, prefix: &str) -> Option<&'a str>
     ensures { option_copied result ≡ behind_of text.now prefix.now }
 {
     text.strip_prefix(prefix)

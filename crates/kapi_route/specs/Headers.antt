@@ -1,6 +1,6 @@
 -- What the header fields of a request must keep.
-use Rattle.std.specs.Prelude.{ℕ, ◌==◌, Bool, true, false, not, ◌&&◌, ◌||◌, if◌then◌else◌, List, length, take, find, nat_le, codes, Option, Some, None, Result, Ok, Err}
-use Rattle.std.specs.List.{list_any, list_all, before_first}
+use Rattle.std.specs.Prelude.{ℕ, ◌==◌, Bool, true, false, not, ◌&&◌, ◌||◌, if◌then◌else◌, List, find, codes, Option, Some, None, Result, Ok, Err}
+use Rattle.std.specs.List.{list_all, before_first}
 use Rattle.std.specs.Str.{str_eq_ignore_ascii_case}
 use Rattle.httparse.specs.Grammar.{trim_ows}
 use Rattle.kapi_http.specs.declared.message.Header.{Header}
@@ -8,20 +8,8 @@ use Rattle.kapi_http.specs.declared.message.Method.{Method}
 use Rattle.kapi_http.specs.declared.message.Method.TheVariants.{Get, Post, Put, Patch, Delete}
 use Rattle.kapi_reply.specs.declared.refusal.Refused.{Refused}
 use Rattle.kapi_reply.specs.declared.refusal.Refusal.TheVariants as refusal
-use Rattle.kapi_reply.specs.declared.refusal.BadWord.TheVariants as word
 use Rattle.kapi_reply.specs.Refusals.{asked_for}
-
--- the field has that name, in any case (RFC 9110 section 5.1)
-abbrev pub is_named : List ℕ → Header → Bool
-is_named name h = str_eq_ignore_ascii_case h.name name
-
--- the field is of the family of impersonation (Kubernetes, 'User impersonation')
-abbrev pub is_impersonation : Header → Bool
-is_impersonation h = nat_le 12 (length h.name) && str_eq_ignore_ascii_case (take 12 h.name) (codes "impersonate-")
-
--- no field of that family is served yet
-unfoldable pub unimpersonated : List Header → Result (Unit {0}) Refused
-unimpersonated headers = if list_any is_impersonation headers then Err (asked_for (refusal.BadRequest word.Impersonation)) else Ok tt
+use Rattle.kapi_request_info.specs.Fields.{is_named}
 
 -- the field is no content coding but `identity` (RFC 9110 section 8.4)
 abbrev pub is_uncoded : Header → Bool

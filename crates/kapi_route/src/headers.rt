@@ -1,41 +1,12 @@
 ghost use Rattle.std.specs.Prelude.{◌≡◌, ◌==◌, ◌<◌, IfSome, length, position};
 ghost use Rattle.std.specs.Option.{option_copied};
-ghost use Rattle.std.specs.List.{list_any, list_all, before_first};
+ghost use Rattle.std.specs.List.{list_all, before_first};
 ghost use Rattle.kapi_route.specs.Headers as fields;
-ghost use Rattle.kapi_route.specs.Headers.{unimpersonated, media_typed};
+ghost use Rattle.kapi_route.specs.Headers.{media_typed};
 
 use kapi_http::{Header, Method, is_same, trimmed};
-use kapi_reply::{BadWord, Refusal, Refused};
-
-/// Impersonation is not served yet: every header of its family is refused.
-#[tactic(auto, unfolding(crate::specs::Headers::unimpersonated))]
-pub fn refuse_impersonation(headers: &[Header]) -> Result<(), Refused>
-    ensures { result ≡ unimpersonated headers.now }
-{
-    if some_impersonates(headers) {
-        Err(Refused::asked_for(Refusal::BadRequest(BadWord::Impersonation)))
-    } else {
-        Ok(())
-    }
-}
-
-fn some_impersonates(headers: &[Header]) -> bool
-    ensures { result ≡ list_any fields.is_impersonation headers.now }
-{
-    headers.iter().any(|header| is_impersonation(header))
-}
-
-/// Whether a field is of the family of impersonation (Kubernetes, 'User impersonation').
-fn is_impersonation(header: &Header) -> bool
-    ensures { result ≡ fields.is_impersonation header.now }
-{
-    let name = header.name.as_str().as_bytes();
-    if name.len() < 12 {
-        return false;
-    }
-    let (front, _) = name.split_at(12);
-    is_same(front, b"impersonate-")
-}
+use kapi_reply::{Refusal, Refused};
+use kapi_request_info::is_named;
 
 /// The body's encoding and media type (RFC 9110 sections 8.3 and 8.4): no coding but `identity`, and the type that the method reads.
 #[tactic(auto, unfolding(crate::specs::Headers::media_typed))]
@@ -59,12 +30,6 @@ fn is_uncoded(header: &Header) -> bool
     ensures { result ≡ fields.is_uncoded header.now }
 {
     !is_named(header, b"content-encoding") || is_same(header.value.as_slice(), b"identity")
-}
-
-fn is_named(header: &Header, name: &[u8]) -> bool
-    ensures { result ≡ fields.is_named name.now header.now }
-{
-    is_same(header.name.as_str().as_bytes(), name)
 }
 
 /// No body of a read or of a deletion has a type of its own.

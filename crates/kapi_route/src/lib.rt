@@ -5,6 +5,6 @@ pub mod headers;
 pub mod query;
 pub mod route;
 
-pub use headers::{check_media_type, refuse_impersonation};
+pub use headers::check_media_type;
 pub use query::{Filter, check_query};
 pub use route::{Action, Part, ResourceRoute, Route, find_route, is_of_reviews};

@@ -8,8 +8,6 @@ pub mod laws;
 mod missing_atoms;
 mod point;
 mod rule;
-#[cfg(test)]
-mod tests;
 
 pub use atom::{Atom, Names, ResourceAtom, UrlAtom, atoms};
 pub use covering::implies;

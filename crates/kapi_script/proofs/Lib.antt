@@ -1,4 +1,3 @@
-pub mod Appending
 pub mod Texts
 pub mod Lines
 pub mod Lined

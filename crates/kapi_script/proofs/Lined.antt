@@ -6,7 +6,7 @@ use Rattle.kapi_core.specs.Stands.{Stands}
 use Rattle.kapi_core.specs.Running.{Running}
 use Rattle.kapi_script.specs.AnswerLines.{answer_line, refused_line}
 use Rattle.kapi_script.specs.Scripts.{line_of, is_bad, written_for, after_line, said, first_bad_from}
-use Rattle.kapi_script.specs.Playing.{Plays, played_text, is_bad_play, Reached, ReachedBy, Stopped, Goes}
+use Rattle.kapi_script.specs.Playing.{Play, Plays, played_text, is_bad_play, Reached, ReachedBy, Stopped, Goes}
 use Rattle.kapi_script.specs.declared.script.Played.{Played}
 use Rattle.kapi_script.specs.declared.script.Played.TheVariants as played
 use Rattle.kapi_script.specs.declared.script.ScriptFault.{ScriptFault}
@@ -30,7 +30,7 @@ unfolding first_bad_from
 bad_first n line rest e = rw e refl
 
 -- a line was played, or refused for want of memory
-reached_more : (all rest : List (List ℕ)) (n : ℕ) (old new : Running) (line written text : List ℕ) (r : Bool) (h : Reached all (line ∷ rest) n old written)
+reached_more : (all : Play) (rest : List (List ℕ)) (n : ℕ) (old new : Running) (line written text : List ℕ) (r : Bool) (h : Reached all (line ∷ rest) n old written)
     → is_bad (line_of line) ≡ false → text ≡ written_for (line_of line) r h.machine → Stands new (after_line (line_of line) r h.machine)
     → Reached all rest (n + 1) new (written ++ text)
 reached_more all rest n old new line written text r h good e stands = record {
@@ -56,14 +56,14 @@ held before written text (Some xs) (Some ys) e h =
     ap Some (h ∙ ap (λ l. l ++ text) (some_is xs (before ++ written) e) ∙ append_assoc before written text)
 
 -- the same of what a writer holds
-reached_by : (all rest : List (List ℕ)) (n : ℕ) (old new : Running) (line before text : List ℕ) (r : Bool) (c d : Option (List ℕ)) → is_bad (line_of line) ≡ false
+reached_by : (all : Play) (rest : List (List ℕ)) (n : ℕ) (old new : Running) (line before text : List ℕ) (r : Bool) (c d : Option (List ℕ)) → is_bad (line_of line) ≡ false
     → Appends c d text → (h : ReachedBy all (line ∷ rest) n old before c) → text ≡ written_for (line_of line) r h.1.machine
     → Stands new (after_line (line_of line) r h.1.machine) → ReachedBy all rest (n + 1) new before d
 reached_by all rest n old new line before text r c d good wrote h e stands =
     (h.0 ++ text, reached_more all rest n old new line h.0 text r h.1 good e stands, held before h.0 text c d h.2 wrote)
 
 -- one line more, that is not bad
-more : (all rest : List (List ℕ)) (n : ℕ) (old new : Running) (line before : List ℕ) (p : Played) (c d : Option (List ℕ)) → Plays old new line p → is_bad_play p ≡ false
+more : (all : Play) (rest : List (List ℕ)) (n : ℕ) (old new : Running) (line before : List ℕ) (p : Played) (c d : Option (List ℕ)) → Plays old new line p → is_bad_play p ≡ false
     → Appends c d (played_text p) → ReachedBy all (line ∷ rest) n old before c → ReachedBy all rest (n + 1) new before d
 more all rest n old new line before played.Skipped c d plays good wrote h =
     reached_by all rest n old new line before [] false c d (rw plays.0 refl) wrote h (rw plays.0 refl) (rw plays.0 (plays.1 h.1.machine h.1.stands))
@@ -75,7 +75,7 @@ more all rest n old new line before (played.Told answer) c d plays good wrote h 
     reached_by all rest n old new line before (answer_line answer) false c d (rw plays.1 refl) wrote h (rw plays.1 (ap answer_line made.0)) (rw plays.1 made.1)
 
 -- a line was played, and its answer written or not
-pub gone : (all rest : List (List ℕ)) (n : ℕ) (old new : Running) (line before : List ℕ) (p : Played) (c d : Option (List ℕ)) (result : Result (Unit {0}) ScriptFault)
+pub gone : (all : Play) (rest : List (List ℕ)) (n : ℕ) (old new : Running) (line before : List ℕ) (p : Played) (c d : Option (List ℕ)) (result : Result (Unit {0}) ScriptFault)
     → Plays old new line p → is_bad_play p ≡ false → OnOk result (Appends c d (played_text p)) → IfErr result (λ e. e ≡ fault.Write)
     → ReachedBy all (line ∷ rest) n old before c → Goes all rest (n + 1) new before d result
 gone all rest n old new line before p c d (Ok done) plays good wrote failed h = more all rest n old new line before p c d plays good wrote h
@@ -88,7 +88,7 @@ is_bad_line old new line played.Refused plays b = absurd (cc b)
 is_bad_line old new line (played.Told answer) plays b = absurd (cc b)
 
 -- a bad line ends the script
-pub stopped : (all rest : List (List ℕ)) (n : ℕ) (old new : Running) (line before : List ℕ) (p : Played) (c : Option (List ℕ))
+pub stopped : (all : Play) (rest : List (List ℕ)) (n : ℕ) (old new : Running) (line before : List ℕ) (p : Played) (c : Option (List ℕ))
     → Plays old new line p → is_bad_play p ≡ true → ReachedBy all (line ∷ rest) n old before c → Stopped all (n + 1) before c
 stopped all rest n old new line before p c plays b h =
     let bad = is_bad_line old new line p plays b in

@@ -5,7 +5,7 @@ use Rattle.kapi_core.specs.declared.event.Answer.{Answer}
 use Rattle.kapi_core.specs.declared.event.Answer.TheVariants as told
 use Rattle.kapi_core.specs.declared.event.Output.{Output}
 use Rattle.kapi_core.specs.declared.event.Turned.{Turned}
-use Rattle.kapi_script.specs.Escapes.{escaped}
+use Rattle.kapi_lines.specs.Escapes.{escaped}
 
 -- bytes that go out; `last` where the connection ends with them
 unfoldable pub output_line : Output → List ℕ

@@ -9,7 +9,8 @@ use Rattle.kapi_rbac_types.specs.declared.identity.Identity.{Identity}
 use Rattle.kapi_core.specs.declared.event.ConnId.{ConnId}
 use Rattle.kapi_core.specs.declared.event.Event.{Event}
 use Rattle.kapi_core.specs.declared.event.Event.TheVariants as event
-use Rattle.kapi_script.specs.Escapes.{unescaped}
+use Rattle.kapi_lines.specs.Escapes.{unescaped}
+use Rattle.kapi_lines.specs.Words.{begins}
 
 -- the names of `USER` or `USER,GROUP,..`
 abbrev pub names_in : List ℕ → List (List ℕ)
@@ -47,10 +48,6 @@ feed_at s (Some at) = fed (connection (take at s)) (unescaped (drop 1 (drop at s
 -- the event of a line that feeds
 unfoldable pub feed_event : List ℕ → Option Event
 feed_event s = feed_at s (position (λ b. b == 32) s)
-
--- the text begins with that word
-abbrev pub begins : List ℕ → List ℕ → Bool
-begins s word = starts_with nat_eq s word
 
 -- the event of a line; none where it has no known form
 unfoldable pub line_event : List ℕ → Option Event

@@ -1,4 +1,3 @@
-pub mod Escapes
 pub mod Events
 pub mod AnswerLines
 pub mod ProgramTable

@@ -66,16 +66,16 @@ first_bad_from n (l ∷ ls) = if is_bad (line_of l) then Some n else first_bad_f
 abbrev pub start : Machine
 start = opening program_rows 0
 
--- what is written for a script, and the number of its first bad line, if it has one
-abbrev pub script : List ℕ → List Bool → List ℕ
-script text refused = said start (lines text) refused
-
 -- the number of the first bad line of a script, from 1
 abbrev pub first_bad : List ℕ → Option ℕ
 first_bad text = first_bad_from 1 (lines text)
 
--- behind what was written before stands what the script is answered, for some lines at which memory ran out; and its first bad line
--- is that one, or there is none
+-- behind what was written before stands what a machine answers to the lines of a script, for some lines at which memory ran out; and
+-- the first bad line is that one, or there is none
+abbrev pub IsAnsweredBy : Machine → List ℕ → List ℕ → Option (List ℕ) → Option ℕ → Type 0
+IsAnsweredBy m text before contents number =
+    (refused : List Bool) × (contents ≡ Some (before ++ said m (lines text) refused)) × (first_bad text ≡ number)
+
+-- the same of the machine that a script is played on
 abbrev pub IsAnswered : List ℕ → List ℕ → Option (List ℕ) → Option ℕ → Type 0
-IsAnswered text before contents number =
-    (refused : List Bool) × (contents ≡ Some (before ++ script text refused)) × (first_bad text ≡ number)
+IsAnswered text before contents number = IsAnsweredBy start text before contents number

@@ -3,8 +3,8 @@ ghost use Rattle.std.specs.Fmt.{decimal};
 ghost use Rattle.std.specs.Io.KnownBytes.{Appends};
 ghost use Rattle.kapi_script.specs.AnswerLines.{answer_line, output_line, turn_line};
 
-use crate::escape::write_escaped;
 use kapi_core::{Answer, ConnId, Output, Turned};
+use kapi_lines::write_escaped;
 use std::io::{self, Write};
 
 /// Writes the line of an answer, with its end. Takes no memory.
@@ -30,7 +30,7 @@ fn write_opened<W: Write>(writer: &mut W, conn: ConnId) -> io::Result<()>
     writeln!(writer, "conn {}", conn.0)
 }
 
-#[tactic(auto, unfolding(crate::specs::AnswerLines::output_line), using(crate::proofs::Appending::appends_more))]
+#[tactic(auto, unfolding(crate::specs::AnswerLines::output_line), using(kapi_lines::proofs::Appending::appends_more))]
 fn write_output<W: Write>(writer: &mut W, output: &Output) -> io::Result<()>
     ensures { OnOk result (Appends (W.contents writer.old) (W.contents writer.new) (output_line output.now)) }
 {
@@ -43,7 +43,7 @@ fn write_output<W: Write>(writer: &mut W, output: &Output) -> io::Result<()>
     writer.write_all(b"\n")
 }
 
-#[tactic(auto, unfolding(crate::specs::AnswerLines::turn_line), using(crate::proofs::Appending::appends_more))]
+#[tactic(auto, unfolding(crate::specs::AnswerLines::turn_line), using(kapi_lines::proofs::Appending::appends_more))]
 fn write_turned<W: Write>(writer: &mut W, turned: &Turned) -> io::Result<()>
     ensures { OnOk result (Appends (W.contents writer.old) (W.contents writer.new) (turn_line turned.now)) }
 {

@@ -2,13 +2,11 @@
 #![tactic(auto)]
 
 mod answer_text;
-mod escape;
 pub mod laws;
 mod line;
 mod script;
 mod table;
 
-pub use escape::write_escaped;
 pub use line::read_identity;
-pub use script::{ScriptFault, script_run};
+pub use script::{ScriptFault, play_script, script_run};
 pub use table::program_table;

@@ -6,8 +6,8 @@ ghost use Rattle.std.specs.List.{list_all, position};
 ghost use Rattle.std.specs.Option.{is_some};
 ghost use Rattle.kapi_script.specs.Events.{connection as connection_of, feed_at as feed_at_of, feed_event, identity_of, line_event, named_identity, names_in, open_event};
 
-use crate::escape::{is_escaped, unescape};
 use kapi_core::{ConnId, Event};
+use kapi_lines::{is_escaped, unescape};
 use kapi_rbac_types::Identity;
 use kapi_text::{Memory, Sequence, Text, TryCopy, are_digits, number};
 use std::alloc::Global;

@@ -1,11 +1,12 @@
 ghost use Rattle.std.specs.Prelude.{◌≡◌, ◌+◌, ◌<◌, ◌≤◌, ◌++◌, [], ◌∷◌, Bool, List, ℕ, None, Some, Err, OnOk, IfOk, IfErr, IfSome, length, take};
 ghost use Rattle.kapi_script.specs.declared.script.ScriptFault.TheVariants as Fault;
 ghost use Rattle.std.specs.Io.KnownBytes.{Appends, Consumes, IsAtEnd};
-ghost use Rattle.kapi_core.specs.Stands.{Keeps, Steps};
-ghost use Rattle.kapi_script.specs.Playing.{is_bad_play, Ends, Goes, Plays, ReachedBy, Reading, ReadsOn, played_text};
+ghost use Rattle.kapi_core.specs.Machine.{Machine};
+ghost use Rattle.kapi_core.specs.Stands.{Keeps, Stands, Steps};
+ghost use Rattle.kapi_script.specs.Playing.{is_bad_play, Ends, Goes, Play, Plays, ReachedBy, Reading, ReadsOn, played_text};
 ghost use Rattle.kapi_policy.specs.Objects.{no_objects};
 ghost use Rattle.kapi_script.specs.Gains.{NobodyGainsFrom};
-ghost use Rattle.kapi_script.specs.Scripts.{IsAnswered, lines};
+ghost use Rattle.kapi_script.specs.Scripts.{IsAnswered, IsAnsweredBy};
 
 use crate::answer_text::write_answer;
 use crate::line::parse_line;
@@ -102,7 +103,7 @@ fn write_played<W: Write>(writer: &mut W, played: &Played) -> Result<(), ScriptF
     Ok(())
 }
 
-#[tactic(auto, using(crate::proofs::Appending::appends_nothing))]
+#[tactic(auto, using(kapi_lines::proofs::Appending::appends_nothing))]
 fn write_text<W: Write>(writer: &mut W, played: &Played) -> io::Result<()>
     ensures { OnOk result (Appends (W.contents writer.old) (W.contents writer.new) (played_text played.now)) }
 {
@@ -122,7 +123,7 @@ fn play_line<P: Policy + Drop, W: Write>(
     writer: &mut W,
 ) -> Result<(), ScriptFault>
     requires { lines < 18446744073709551615 }
-    ensures { (all rest : List (List ℕ)) (before : List ℕ) → ReachedBy all (line.now ∷ rest) lines core.old before (W.contents writer.old)
+    ensures { (all : Play) (rest : List (List ℕ)) (before : List ℕ) → ReachedBy all (line.now ∷ rest) lines core.old before (W.contents writer.old)
         → Goes all rest (lines + 1) core.new before (W.contents writer.new) result }
 {
     let played = play(alloc, core, line);
@@ -141,7 +142,7 @@ fn play_byte<P: Policy + Drop, W: Write>(
     writer: &mut W,
 ) -> Result<(), ScriptFault>
     requires { script.old.lines < 18446744073709551615 }
-    ensures goes { (all : List (List ℕ)) (unread before : List ℕ) → Reading all (byte ∷ unread) core.old script.old before (W.contents writer.old)
+    ensures goes { (all : Play) (unread before : List ℕ) → Reading all (byte ∷ unread) core.old script.old before (W.contents writer.old)
         → ReadsOn all unread core.new script.new before (W.contents writer.new) result }
     ensures count { OnOk result (script.new.lines ≤ script.old.lines + 1) }
 {
@@ -177,7 +178,7 @@ fn play_bytes<P: Policy + Drop, W: Write>(
     writer: &mut W,
 ) -> Result<(), ScriptFault>
     requires { script.old.lines + length bytes.now ≤ 18446744073709551615 }
-    ensures goes { (all : List (List ℕ)) (unread before : List ℕ) → Reading all (bytes.now ++ unread) core.old script.old before (W.contents writer.old)
+    ensures goes { (all : Play) (unread before : List ℕ) → Reading all (bytes.now ++ unread) core.old script.old before (W.contents writer.old)
         → ReadsOn all unread core.new script.new before (W.contents writer.new) result }
     ensures count { OnOk result (script.new.lines ≤ script.old.lines + length bytes.now) }
 {
@@ -198,7 +199,7 @@ fn end_script<P: Policy + Drop, W: Write>(
     writer: &mut W,
 ) -> Result<(), ScriptFault>
     requires { script.old.lines < 18446744073709551615 }
-    ensures { (all : List (List ℕ)) (before : List ℕ) → Reading all [] core.old script.old before (W.contents writer.old)
+    ensures { (all : Play) (before : List ℕ) → Reading all [] core.old script.old before (W.contents writer.old)
         → Ends all before (W.contents writer.new) result }
 {
     play_line(alloc, core, script.lines, script.line.as_slice(), writer)
@@ -229,6 +230,26 @@ pub fn script_run<P: Policy + Drop, R: Read, W: Write>(
         → NobodyGainsFrom text refused count }
 {
     let mut core = Core::new(alloc, program_table(alloc)?, policy, 0)?;
+    play_script(alloc, &mut core, reader, writer)
+}
+
+/// Plays the events that a reader gives, line by line, on a machine, and writes the answers as they are made.
+///
+/// # Errors
+/// As of `script_run`.
+pub fn play_script<P: Policy + Drop, R: Read, W: Write>(
+    alloc: Global,
+    core: &mut Core<P>,
+    reader: &mut R,
+    writer: &mut W,
+) -> Result<(), ScriptFault>
+    ensures played { (m : Machine) (text before : List ℕ) → Stands core.old m → R.remaining reader.old ≡ Some text
+        → W.contents writer.old ≡ Some before → OnOk result (IsAnsweredBy m text before (W.contents writer.new) None) }
+    ensures bad { (m : Machine) (text before : List ℕ) (number : ℕ) → Stands core.old m → R.remaining reader.old ≡ Some text
+        → W.contents writer.old ≡ Some before → result ≡ Err (Fault.BadLine number)
+        → IsAnsweredBy m text before (W.contents writer.new) (Some number) }
+    ensures whole { OnOk result (IsAtEnd (R.remaining reader.new)) }
+{
     let mut script = Script {
         line: Vec::new(alloc),
         lines: 0,
@@ -236,7 +257,7 @@ pub fn script_run<P: Policy + Drop, R: Read, W: Write>(
     let mut buffer = vec![in alloc; 0u8; READ_SIZE]?;
     play_all(
         alloc,
-        &mut core,
+        core,
         &mut script,
         reader,
         buffer.as_mut_slice(),
@@ -256,7 +277,7 @@ fn play_all<P: Policy + Drop, R: Read, W: Write>(
     requires lines { script.old.lines ≡ 0 }
     requires room { 0 < length buffer.old }
     requires size { length buffer.old ≤ 65536 }
-    ensures ends { (all : List (List ℕ)) (unread before : List ℕ) → R.remaining reader.old ≡ Some unread
+    ensures ends { (all : Play) (unread before : List ℕ) → R.remaining reader.old ≡ Some unread
         → Reading all unread core.old script.old before (W.contents writer.old) → Ends all before (W.contents writer.new) result }
     ensures whole { OnOk result (IsAtEnd (R.remaining reader.new)) }
 {

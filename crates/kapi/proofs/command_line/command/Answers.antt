@@ -1,5 +1,6 @@
 -- What clap says of a parse of Kapi's command line, at each way out.
-use Rattle.kapi.proofs.Asking.{asked_of, faultless, names_of, wrong_at, wrong_of}
+use Rattle.std.proofs.Common.{inl, inr, refl}
+use Rattle.kapi.proofs.Asking.{asked_of, faultless, names_of, shown_at, wrong_at, wrong_of}
 use Rattle.kapi.proofs.command_line.command.Goals as goal
 
 pub returns-in-Ok-clause-named : goal.returns-in-Ok-clause-named
@@ -17,3 +18,10 @@ returns-in_default c = record {
   named = tt;
   wrong = λ _. wrong_at _ _ _ _ c.in_ok-program.ensures c.kind.ensures c.in-Err.ensures.kinds c.in_default.not-DisplayHelp c.in_default.not-DisplayVersion c.in_default.not-OutOfMemory;
 }
+
+pub returns-in-DisplayHelp-clause-named : goal.returns-in-DisplayHelp-clause-named
+returns-in-DisplayHelp-clause-named c =
+    shown_at _ _ _ _ c.in_ok-program.ensures c.kind.ensures c.in-Err.ensures.kinds (elim c.in-DisplayHelp.is [
+      | inl e ↦ rw e refl
+      | inr e ↦ rw e refl
+    ])

@@ -1,6 +1,6 @@
 use Rattle.std.proofs.Common.{Ok, Err, ap, map, ◌∙◌}
 use Rattle.kapi_loading.proofs.Begun.{begun}
-use Rattle.kapi_loading.specs.Lines.{line_of}
+use Rattle.kapi_lines.specs.Lines.{line_of}
 use Rattle.kapi_loading.proofs.starting.start.Goals as goal
 
 pub returns-in-Ok-clause-machine : goal.returns-in-Ok-clause-machine

@@ -5,24 +5,18 @@ use Rattle.kapi_core.specs.Opening.{opening}
 use Rattle.kapi_core.specs.Stands.{Stands}
 use Rattle.kapi_script.specs.Gains.{NobodyGainsFrom, made, made_from}
 use Rattle.kapi_script.specs.ProgramTable.{program_rows}
-use Rattle.kapi_script.specs.Scripts.{lines}
-use Rattle.kapi_script.proofs.Bytes.{at_start}
-use Rattle.kapi_script.proofs.Ends.{played_to_end, stopped_at}
+use Rattle.kapi_script.specs.Scripts.{lines, start}
 use Rattle.kapi_script.proofs.script.script_run.Goals as goal
 
 pub returns-clause-played : goal.returns-clause-played
 returns-clause-played g c = λ text before r w.
-    played_to_end text before _ _
-    (c.play_all.ensures.ends (lines text) text before r
-    (at_start text before c.new-2.result.items c.in_ok-core.core _ c.new-2.ensures.items
-    (subst (λ rows. Stands c.in_ok-core.core (opening rows 0)) c.in_ok-program_table.ensures.rows c.in_ok-core.ensures.stands) w))
+    c.play_script.ensures.played start text before
+    (subst (λ rows. Stands c.in_ok-core.core (opening rows 0)) c.in_ok-program_table.ensures.rows c.in_ok-core.ensures.stands) r w
 
 pub returns-clause-bad : goal.returns-clause-bad
 returns-clause-bad g c = λ text before number r w.
-    stopped_at text before _ number _
-    (c.play_all.ensures.ends (lines text) text before r
-    (at_start text before c.new-2.result.items c.in_ok-core.core _ c.new-2.ensures.items
-    (subst (λ rows. Stands c.in_ok-core.core (opening rows 0)) c.in_ok-program_table.ensures.rows c.in_ok-core.ensures.stands) w))
+    c.play_script.ensures.bad start text before number
+    (subst (λ rows. Stands c.in_ok-core.core (opening rows 0)) c.in_ok-program_table.ensures.rows c.in_ok-core.ensures.stands) r w
 
 -- whatever stands in the text, and wherever memory runs out
 nobody_gains : (text : List ℕ) (refused : List Bool) (count : ℕ) → NobodyGainsFrom text refused count
@@ -37,6 +31,3 @@ returns-in_err-program_table-clause-gains g c = λ text refused count r. nobody_
 
 pub returns-in_err-core-clause-gains : goal.returns-in_err-core-clause-gains
 returns-in_err-core-clause-gains g c = λ text refused count r. nobody_gains text refused count
-
-pub returns-in_err-buffer-clause-gains : goal.returns-in_err-buffer-clause-gains
-returns-in_err-buffer-clause-gains g c = λ text refused count r. nobody_gains text refused count

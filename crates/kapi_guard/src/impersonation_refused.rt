@@ -1,0 +1,26 @@
+ghost use Rattle.std.specs.Prelude.{◌≡◌};
+
+use kapi_rules::Point;
+use kapi_text::Sequence;
+use std::alloc::AllocError;
+use thiserror::Error;
+
+/// Why nobody is impersonated.
+#[derive(Debug, Drop, Error)]
+pub enum ImpersonationRefused {
+    /// These points are denied: that of the user, then those of the groups, in their order.
+    #[error("impersonation is denied")]
+    Missing(Sequence<Point>),
+    #[error("want of memory")]
+    Memory,
+}
+
+impl From<AllocError> for ImpersonationRefused {
+    ghost use Rattle.kapi_guard.specs.declared.impersonation_refused.ImpersonationRefused.TheVariants.{Memory as WantOfMemory};
+
+    ghost from_gives = { λ _ e. e ≡ WantOfMemory };
+
+    fn from(_error: AllocError) -> ImpersonationRefused {
+        ImpersonationRefused::Memory
+    }
+}

@@ -1,0 +1,147 @@
+//! The edges of the window of changes, as watches see them.
+use crate::store::{is_text, key, object, put_all, row, store_at};
+use kapi_names::{ResourceRow, Selector};
+use kapi_store::Store;
+use kapi_watch::{Watch, WatchError};
+use std::alloc::Global;
+use std::process::Abort;
+use std::test::Fail;
+
+/// Updates that come after revision 3, a revision to start from, and what the watch shows first, or why it does not start.
+static WINDOWS: [(u64, Option<u64>, &str); 8] = [
+    (1_024, Some(2), "below the window"),
+    (1_024, Some(3), "MODIFIED"),
+    (1_025, Some(3), "below the window"),
+    (1_025, Some(0), "ADDED"),
+    (0, Some(0), "ADDED"),
+    (0, None, "ADDED"),
+    (0, Some(3), "nothing"),
+    (0, Some(4), "above the current revision"),
+];
+
+/// The row of config maps.
+fn config_maps(alloc: Global) -> Result<ResourceRow, Fail> {
+    row(alloc, "configmaps", "ConfigMap", true)
+}
+
+/// Updates a config map so many times.
+fn update(alloc: Global, store: &mut Store, count: u64) -> Result<(), Fail> {
+    for number in 0..count {
+        let value = format!(in alloc; "[{number}]")?;
+        let key = key(alloc, "configmaps", "n", "a")?;
+        let ready = store.replace(key, object(alloc, value.as_str())?)?;
+        store.commit(ready);
+    }
+    Ok(())
+}
+
+/// A watch of all config maps.
+fn watch_all(
+    alloc: Global,
+    store: &Store,
+    revision: Option<u64>,
+) -> Result<Result<Watch, WatchError>, Fail> {
+    let selector = Selector::parse(alloc, "")?;
+    let row = config_maps(alloc)?;
+    Ok(Watch::start(alloc, store, &row, "", &selector, "", revision))
+}
+
+/// A word for what a watch shows next.
+fn next_word(watch: &Watch, store: &Store) -> &'static str {
+    match watch.next(store).event {
+        Some(event) => event.kind(),
+        None => "nothing",
+    }
+}
+
+/// A word for what a watch that starts shows first, or why it does not start.
+fn word(started: &Result<Watch, WatchError>, store: &Store) -> &'static str {
+    match started {
+        Ok(watch) => next_word(watch, store),
+        Err(WatchError::TooOld) => "below the window",
+        Err(WatchError::TooLarge) => "above the current revision",
+        Err(WatchError::Memory) => "out of memory",
+    }
+}
+
+/// A store in which a config map of revision 3 was updated so many times.
+fn updated(alloc: Global, count: u64) -> Result<Store, Fail> {
+    let mut store = store_at(alloc, 0)?;
+    put_all(
+        alloc,
+        &mut store,
+        &["namespaces//m", "namespaces//n", "configmaps/n/a"],
+    )?;
+    update(alloc, &mut store, count)?;
+    Ok(store)
+}
+
+/// That watches which start so show this first.
+fn are_started(
+    rt: &impl Abort,
+    alloc: Global,
+    rows: &[(u64, Option<u64>, &str)],
+) -> Result<(), Fail> {
+    for (count, revision, wanted) in rows {
+        let store = updated(alloc, *count)?;
+        let started = watch_all(alloc, &store, *revision)?;
+        is_text(rt, word(&started, &store), wanted);
+    }
+    Ok(())
+}
+
+#[test]
+fn watches_start_within_the_window(rt: HostRuntime) -> Result<(), Fail> {
+    are_started(&rt, rt.alloc(), &WINDOWS)
+}
+
+/// Pumps a watch, and looks at what it shows.
+fn pump(rt: &impl Abort, store: &Store, watch: &mut Watch, wanted: &str) {
+    is_text(rt, next_word(watch, store), wanted);
+    watch.shown(watch.next(store).place);
+}
+
+#[test]
+fn a_watch_expires_after_its_first_objects(rt: HostRuntime) -> Result<(), Fail> {
+    let alloc = rt.alloc();
+    let mut store = updated(alloc, 0)?;
+    let mut watch = watch_all(alloc, &store, None)??;
+    update(alloc, &mut store, 1_025)?;
+    pump(&rt, &store, &mut watch, "ADDED");
+    pump(&rt, &store, &mut watch, "ERROR");
+    pump(&rt, &store, &mut watch, "ERROR");
+    Ok(())
+}
+
+/// Creates so many namespaces of names that begin with this letter.
+fn create_namespaces(
+    alloc: Global,
+    store: &mut Store,
+    letter: &str,
+    count: u64,
+) -> Result<(), Fail> {
+    for number in 0..count {
+        let place = format!(in alloc; "namespaces//{letter}{number}")?;
+        put_all(alloc, store, &[place.as_str()])?;
+    }
+    Ok(())
+}
+
+#[test]
+fn a_watch_moves_on_past_changes_of_other_resources(rt: HostRuntime) -> Result<(), Fail> {
+    let alloc = rt.alloc();
+    let mut store = updated(alloc, 0)?;
+    let mut watch = watch_all(alloc, &store, Some(3))??;
+    create_namespaces(alloc, &mut store, "o", 600)?;
+    pump(&rt, &store, &mut watch, "nothing");
+    create_namespaces(alloc, &mut store, "p", 600)?;
+    pump(&rt, &store, &mut watch, "nothing");
+    is_text(
+        &rt,
+        format!(in alloc; "{}", watch.position())?.as_str(),
+        "1203",
+    );
+    create_namespaces(alloc, &mut store, "q", 1_025)?;
+    pump(&rt, &store, &mut watch, "ERROR");
+    Ok(())
+}

@@ -1,0 +1,161 @@
+ghost use Rattle.std.specs.Prelude.{◌≡◌, ◌++◌, ◌<◌, ◌∷◌, [], IfOk, IfSome, OnOk, if◌then◌else◌, Some, None, option_map};
+ghost use Rattle.std.specs.Char.{digit_char, digit_value, is_digit};
+ghost use Rattle.std.specs.Io.KnownBytes.{Appends};
+ghost use Rattle.std.specs.Option.{is_some};
+ghost use Rattle.kapi_lines.specs.Escapes.{after_backslash as after_backslash_of, by_digits as by_digits_of, escaped, escaped_byte, read as read_of, unescaped};
+
+use kapi_text::Memory;
+use std::alloc::Global;
+use std::io::{self, Write};
+
+/// Where a reader of a script's text stands.
+#[derive(Clone, Copy, Debug, PartialEq, Eq)]
+pub enum Place {
+    Plain,
+    /// Behind a backslash.
+    Escape,
+    /// Behind `\x`.
+    HighDigit,
+    /// Behind `\x` and this byte.
+    LowDigit(u8),
+}
+
+/// What a byte of a script's text does.
+#[derive(Clone, Copy, Debug, PartialEq, Eq)]
+pub enum Effect {
+    /// It ends the text of this byte.
+    Byte(u8),
+    To(Place),
+    /// No text goes on so.
+    Bad,
+}
+
+#[tactic(auto, unfolding(crate::specs::Escapes::read))]
+fn read(place: Place, byte: u8) -> Effect
+    ensures { result ≡ read_of place byte }
+{
+    match place {
+        Place::Plain => {
+            if byte == b'\\' {
+                Effect::To(Place::Escape)
+            } else {
+                Effect::Byte(byte)
+            }
+        }
+        Place::Escape => after_backslash(byte),
+        Place::HighDigit => Effect::To(Place::LowDigit(byte)),
+        Place::LowDigit(high) => by_digits(high, byte),
+    }
+}
+
+#[tactic(auto, unfolding(crate::specs::Escapes::after_backslash))]
+fn after_backslash(letter: u8) -> Effect
+    ensures { result ≡ after_backslash_of letter }
+{
+    match letter {
+        b'\\' => Effect::Byte(b'\\'),
+        b'n' => Effect::Byte(b'\n'),
+        b'r' => Effect::Byte(b'\r'),
+        b't' => Effect::Byte(b'\t'),
+        b'x' => Effect::To(Place::HighDigit),
+        _ => Effect::Bad,
+    }
+}
+
+#[tactic(auto, unfolding(crate::specs::Escapes::by_digits))]
+fn by_digits(high: u8, low: u8) -> Effect
+    ensures { result ≡ by_digits_of high low }
+{
+    match (hex_value(high), hex_value(low)) {
+        (Some(high), Some(low)) => Effect::Byte(high * 16 + low),
+        _ => Effect::Bad,
+    }
+}
+
+/// The value of a hexadecimal digit of either case.
+fn hex_value(digit: u8) -> Option<u8>
+    ensures value { result ≡ (if is_digit digit 16 then Some (digit_value digit) else None) }
+    ensures small { IfSome result (λ v. v < 16) }
+{
+    match digit {
+        b'0'..=b'9' => Some(digit - b'0'),
+        b'a'..=b'f' => Some(digit - b'a' + 10),
+        b'A'..=b'F' => Some(digit - b'A' + 10),
+        _ => None,
+    }
+}
+
+/// Whether the text stands for bytes: each backslash begins an escape. Takes no memory.
+#[tactic(auto, unfolding(crate::specs::Escapes::unescaped_from))]
+pub fn is_escaped(text: &[u8]) -> bool
+    ensures { result ≡ is_some (unescaped text.now) }
+{
+    let mut place = Place::Plain;
+    for byte in text {
+        match read(place, *byte) {
+            Effect::Byte(_) => place = Place::Plain,
+            Effect::To(next) => place = next,
+            Effect::Bad => return false,
+        }
+    }
+    matches!(place, Place::Plain)
+}
+
+/// The bytes that a text stands for; none where a backslash begins no escape.
+#[tactic(auto, unfolding(crate::specs::Escapes::unescaped_from))]
+pub fn unescape(alloc: Global, text: &[u8]) -> Result<Option<Vec<u8>>, Memory>
+    ensures { IfOk result (λ o. option_map (λ v. v.items) o ≡ unescaped text.now) }
+{
+    let mut bytes = Vec::new(alloc);
+    let mut place = Place::Plain;
+    for byte in text {
+        match read(place, *byte) {
+            Effect::Byte(byte) => {
+                bytes.push(byte)?;
+                place = Place::Plain;
+            }
+            Effect::To(next) => place = next,
+            Effect::Bad => return Ok(None),
+        }
+    }
+    match place {
+        Place::Plain => Ok(Some(bytes)),
+        _ => Ok(None),
+    }
+}
+
+/// Writes bytes as the text of a script. Takes no memory.
+pub fn write_escaped<W: Write>(writer: &mut W, bytes: &[u8]) -> io::Result<()>
+    ensures { OnOk result (Appends (W.contents writer.old) (W.contents writer.new) (escaped bytes.now)) }
+{
+    for byte in bytes {
+        write_escaped_byte(writer, *byte)?;
+    }
+    Ok(())
+}
+
+#[tactic(auto, unfolding(crate::specs::Escapes::escaped_byte))]
+fn write_escaped_byte<W: Write>(writer: &mut W, byte: u8) -> io::Result<()>
+    ensures { OnOk result (Appends (W.contents writer.old) (W.contents writer.new) (escaped_byte byte)) }
+{
+    match byte {
+        b'\\' => writer.write_all(b"\\\\"),
+        b'\n' => writer.write_all(b"\\n"),
+        b'\r' => writer.write_all(b"\\r"),
+        b'\t' => writer.write_all(b"\\t"),
+        0x20..=0x7e => writer.write_all(&[byte]),
+        _ => writer.write_all(&[b'\\', b'x', hex_digit(byte / 16), hex_digit(byte % 16)]),
+    }
+}
+
+/// The lower case hexadecimal digit of a number below 16.
+fn hex_digit(number: u8) -> u8
+    requires { number < 16 }
+    ensures { result ≡ digit_char number }
+{
+    if number < 10 {
+        b'0' + number
+    } else {
+        b'a' + (number - 10)
+    }
+}

@@ -1,0 +1,216 @@
+//! Lists of events, bytes one by one, bodies of the largest size, and what an answer tells beside its bytes.
+use crate::machine::{MAPS, core_at, exchange, feed, has_code, open_root, opened_at, request};
+use kapi_core::{Answer, ConnId, Core, Event};
+use kapi_index::IndexedPolicy;
+use kapi_text::Memory;
+use std::alloc::Global;
+use std::test::Fail;
+
+const CREATE: &[u8] =
+    b"POST /api/v1/namespaces/default/configmaps HTTP/1.1\r\nHost: a\r\nContent-Type: application/json\r\nContent-Length: 79\r\n\r\n{\"apiVersion\":\"v1\",\"kind\":\"ConfigMap\",\"metadata\":{\"name\":\"a\"},\"data\":{\"k\":\"v\"}}";
+
+const GET: &[u8] = b"GET /api/v1/namespaces/default/configmaps/a HTTP/1.1\r\nHost: a\r\n\r\n";
+
+/// The replies to both, one behind the other.
+const CREATED_AND_FOUND: &[u8] =
+    b"HTTP/1.1 201 Created\r\nContent-Type: application/json\r\nContent-Length: 168\r\n\r\n{\"apiVersion\":\"v1\",\"data\":{\"k\":\"v\"},\"kind\":\"ConfigMap\",\"metadata\":{\"name\":\"a\",\"namespace\":\"default\",\"resourceVersion\":\"6\",\"uid\":\"00000000-0000-4000-8000-000000000006\"}}HTTP/1.1 200 OK\r\nContent-Type: application/json\r\nContent-Length: 168\r\n\r\n{\"apiVersion\":\"v1\",\"data\":{\"k\":\"v\"},\"kind\":\"ConfigMap\",\"metadata\":{\"name\":\"a\",\"namespace\":\"default\",\"resourceVersion\":\"6\",\"uid\":\"00000000-0000-4000-8000-000000000006\"}}";
+
+/// What the run of a create and a get is told, event by event.
+const TOLD: &[&str] = &[
+    "opened", "done", "sent", "done", "sent", "nothing", "nothing", "nothing", "done",
+];
+
+fn name_of(answer: &Answer) -> &'static str {
+    match answer {
+        Answer::Opened(_) => "opened",
+        Answer::Done => "done",
+        Answer::Nothing => "nothing",
+        Answer::Sent(_) => "sent",
+        _ => "another",
+    }
+}
+
+fn bytes_of(answer: &Answer) -> &[u8] {
+    match answer {
+        Answer::Sent(output) => output.bytes.as_slice(),
+        _ => &[],
+    }
+}
+
+/// A create and a get, then a serve, a pump and a turn that have nothing to do.
+fn create_and_get(alloc: Global) -> Result<Vec<Event>, Memory> {
+    let mut events = Vec::new(alloc);
+    events.push(open_root(alloc)?)?;
+    events.push(feed(alloc, 0, CREATE)?)?;
+    events.push(Event::Serve(ConnId(0)))?;
+    events.push(feed(alloc, 0, GET)?)?;
+    events.push(Event::Serve(ConnId(0)))?;
+    events.push(Event::Serve(ConnId(0)))?;
+    events.push(Event::Pump(ConnId(0)))?;
+    events.push(Event::Turn)?;
+    events.push(Event::Close(ConnId(0)))?;
+    Ok(events)
+}
+
+#[test]
+fn runs_a_create_and_a_get(rt: HostRuntime) -> Result<(), Fail> {
+    let alloc = rt.alloc();
+    let mut core = core_at(alloc, 0)?;
+    let events = create_and_get(alloc)?;
+    let outputs = core.run(events.as_slice());
+    assert!(rt; outputs.stopped.is_none());
+    let answers = outputs.answers.into_vec();
+    assert_eq!(rt; answers.len(), TOLD.len());
+    let mut sent = Vec::new(alloc);
+    for (answer, told) in answers.iter().zip(TOLD) {
+        assert_eq!(rt; name_of(answer), *told);
+        sent.extend_from_slice(bytes_of(answer))?;
+    }
+    assert_eq!(rt; sent.as_slice(), CREATED_AND_FOUND);
+    Ok(())
+}
+
+#[test]
+fn runs_10_000_events(rt: HostRuntime) -> Result<(), Fail> {
+    let alloc = rt.alloc();
+    let mut core = core_at(alloc, 0)?;
+    let mut events = Vec::new(alloc);
+    for _ in 0..10_000usize {
+        events.push(Event::Turn)?;
+    }
+    let outputs = core.run(events.as_slice());
+    assert!(rt; outputs.stopped.is_none());
+    let answers = outputs.answers.into_vec();
+    assert_eq!(rt; answers.len(), 10_000);
+    for answer in answers.as_slice() {
+        assert!(rt; matches!(answer, Answer::Nothing));
+    }
+    Ok(())
+}
+
+/// What bytes are sent where each comes in a piece of its own.
+fn sent_byte_by_byte(alloc: Global, bytes: &[u8]) -> Result<Vec<u8>, Memory> {
+    let mut core = opened_at(alloc, 0)?;
+    let mut sent = Vec::new(alloc);
+    for byte in bytes {
+        sent.extend_from_slice(exchange(alloc, &mut core, 0, &[*byte])?.as_slice())?;
+    }
+    Ok(sent)
+}
+
+#[test]
+fn answers_alike_however_bytes_come(rt: HostRuntime) -> Result<(), Fail> {
+    let alloc = rt.alloc();
+    let mut both = Vec::from_slice(alloc, CREATE)?;
+    both.extend_from_slice(GET)?;
+    let sent = sent_byte_by_byte(alloc, both.as_slice())?;
+    assert_eq!(rt; sent.as_slice(), CREATED_AND_FOUND);
+    Ok(())
+}
+
+#[test]
+fn keeps_2_097_152_bytes(rt: HostRuntime) -> Result<(), Fail> {
+    let alloc = rt.alloc();
+    let mut core = opened_at(alloc, 0)?;
+    let piece = vec![in alloc; b'\n'; 65_536]?;
+    for _ in 0..32 {
+        assert!(rt; matches!(core.step(&feed(alloc, 0, piece.as_slice())?)?, Answer::Done));
+    }
+    assert!(rt; matches!(core.step(&feed(alloc, 0, b"x")?)?, Answer::Full));
+    assert!(rt; matches!(core.step(&feed(alloc, 0, b"")?)?, Answer::Done));
+    Ok(())
+}
+
+const LONGEST_BODY: &[u8] =
+    b"POST /api/v1/namespaces/default/configmaps HTTP/1.1\r\nHost: a\r\nContent-Length: 1048576\r\n\r\n{\"metadata\":{\"name\":\"a\"},\"data\":{\"k\":\"";
+
+#[test]
+fn creates_from_a_body_of_1_048_576_bytes(rt: HostRuntime) -> Result<(), Fail> {
+    let alloc = rt.alloc();
+    let mut core = opened_at(alloc, 0)?;
+    let mut request = Vec::from_slice(alloc, LONGEST_BODY)?;
+    let value = vec![in alloc; b'v'; 1048535]?;
+    request.extend_from_slice(value.as_slice())?;
+    request.extend_from_slice(b"\"}}")?;
+    let created = exchange(alloc, &mut core, 0, request.as_slice())?;
+    assert!(rt; created.as_slice().starts_with(b"HTTP/1.1 201 Created\r\n"));
+    assert!(rt; created.len() > 1_048_576);
+    Ok(())
+}
+
+const ROLES: &str = "/apis/rbac.authorization.k8s.io/v1/namespaces/default/roles";
+
+const READER: &str =
+    r#"{"metadata":{"name":"reader"},"rules":[{"verbs":["get"],"apiGroups":[""],"resources":["configmaps"]}]}"#;
+
+/// How many policy changes the answer to a create tells.
+fn changes_told(
+    alloc: Global,
+    core: &mut Core<IndexedPolicy>,
+    target: &str,
+    body: &str,
+) -> Result<usize, Memory> {
+    let text = request(alloc, "POST", target, body)?;
+    core.step(&feed(alloc, 0, text.as_bytes())?)?;
+    match core.step(&Event::Serve(ConnId(0)))? {
+        Answer::Sent(output) => Ok(output.policy_changes.as_slice().len()),
+        _ => Ok(99),
+    }
+}
+
+#[test]
+fn tells_what_changed_in_the_policy(rt: HostRuntime) -> Result<(), Fail> {
+    let alloc = rt.alloc();
+    let mut core = opened_at(alloc, 0)?;
+    let config_map = r#"{"metadata":{"name":"x"}}"#;
+    assert_eq!(rt; changes_told(alloc, &mut core, MAPS, config_map)?, 0);
+    assert_eq!(rt; changes_told(alloc, &mut core, ROLES, READER)?, 1);
+    assert_eq!(rt; changes_told(alloc, &mut core, ROLES, READER)?, 0);
+    Ok(())
+}
+
+const CLUSTER_ROLES: &str = "/apis/rbac.authorization.k8s.io/v1/clusterroles";
+
+/// A cluster role that takes its rules from the second one.
+const TAKER: &str =
+    r#"{"metadata":{"name":"a"},"aggregationRule":{"clusterRoleSelectors":[{"matchLabels":{"x":"1"}}]}}"#;
+
+const PART: &str =
+    r#"{"metadata":{"name":"b","labels":{"x":"1"}},"rules":[{"verbs":["get"],"apiGroups":[""],"resources":["pods"]}]}"#;
+
+/// The answer to an event, which is tried again where memory was refused.
+fn answered(core: &mut Core<IndexedPolicy>, event: &Event) -> Result<Answer, Memory> {
+    match core.step(event) {
+        Ok(answer) => Ok(answer),
+        Err(_refused) => core.step(event),
+    }
+}
+
+/// Whether a cluster role is created by a serve that is tried again where memory was refused.
+fn is_created(alloc: Global, core: &mut Core<IndexedPolicy>, body: &str) -> Result<bool, Memory> {
+    let text = request(alloc, "POST", CLUSTER_ROLES, body)?;
+    core.step(&feed(alloc, 0, text.as_bytes())?)?;
+    let answer = answered(core, &Event::Serve(ConnId(0)))?;
+    Ok(has_code(bytes_of(&answer), "201"))
+}
+
+/// Whether an answer tells the turn of this cluster role.
+fn is_turn(answer: &Answer, revision: u64, name: &str) -> bool {
+    match answer {
+        Answer::Turned(turn) => turn.revision == revision && turn.name.as_str() == name,
+        _ => false,
+    }
+}
+
+/// Run with each allocation refused in turn: a write that was refused is made once, and the turn that it makes due is not lost.
+#[test]
+fn want_of_memory_loses_no_turn(rt: HostRuntime) -> Result<(), Fail> {
+    let alloc = rt.alloc();
+    let mut core = opened_at(alloc, 0)?;
+    assert!(rt; is_created(alloc, &mut core, TAKER)?);
+    assert!(rt; is_created(alloc, &mut core, PART)?);
+    let turned = answered(&mut core, &Event::Turn)?;
+    assert!(rt; is_turn(&turned, 8, "a"));
+    assert!(rt; matches!(answered(&mut core, &Event::Turn)?, Answer::Nothing));
+    Ok(())
+}

@@ -1,0 +1,119 @@
+//! A machine in tests, and requests of a master on its connection 0.
+ghost use Rattle.std.specs.Prelude.{◌≤◌};
+
+use kapi_core::{Answer, ConnId, Core, Event, LAST_FIRST};
+use kapi_index::IndexedPolicy;
+use kapi_rbac_types::Identity;
+use kapi_script::program_table;
+use kapi_text::{Memory, Sequence, Text};
+use std::alloc::Global;
+
+pub const MAPS: &str = "/api/v1/namespaces/default/configmaps";
+
+/// A machine as `kapi script` makes it, which begins at a revision.
+pub fn core_at(alloc: Global, first: u64) -> Result<Core<IndexedPolicy>, Memory>
+    requires { first ≤ LAST_FIRST }
+{
+    Core::new(
+        alloc,
+        program_table(alloc)?,
+        IndexedPolicy::new(alloc),
+        first,
+    )
+}
+
+/// The same with a connection of a member of `system:masters`.
+pub fn opened_at(alloc: Global, first: u64) -> Result<Core<IndexedPolicy>, Memory>
+    requires { first ≤ LAST_FIRST }
+{
+    let mut core = core_at(alloc, first)?;
+    core.step(&open_root(alloc)?)?;
+    Ok(core)
+}
+
+/// An open of a member of `system:masters`.
+pub fn open_root(alloc: Global) -> Result<Event, Memory> {
+    let mut groups = Vec::new(alloc);
+    groups.push(Text::copy_of(alloc, "system:masters")?)?;
+    Ok(Event::Open(Identity {
+        user: Text::copy_of(alloc, "root")?,
+        groups: Sequence::new(groups),
+    }))
+}
+
+pub fn feed(alloc: Global, conn: u64, piece: &[u8]) -> Result<Event, Memory> {
+    Ok(Event::Feed(ConnId(conn), Sequence::new(Vec::from_slice(alloc, piece)?)))
+}
+
+/// What goes out at an event, nothing where nothing does.
+pub fn sent(
+    alloc: Global,
+    core: &mut Core<IndexedPolicy>,
+    event: &Event,
+) -> Result<Vec<u8>, Memory> {
+    match core.step(event)? {
+        Answer::Sent(output) => Ok(output.bytes.into_vec()),
+        _ => Ok(Vec::new(alloc)),
+    }
+}
+
+/// What goes out when bytes are fed and served once.
+pub fn exchange(
+    alloc: Global,
+    core: &mut Core<IndexedPolicy>,
+    conn: u64,
+    bytes: &[u8],
+) -> Result<Vec<u8>, Memory> {
+    core.step(&feed(alloc, conn, bytes)?)?;
+    sent(alloc, core, &Event::Serve(ConnId(conn)))
+}
+
+/// A request with a body; that of a patch has its media type.
+pub fn request(alloc: Global, method: &str, target: &str, body: &str) -> Result<String, Memory> {
+    let length = body.len();
+    let media = if method == "PATCH" {
+        "Content-Type: application/merge-patch+json\r\n"
+    } else {
+        ""
+    };
+    format!(in alloc;
+        "{method} {target} HTTP/1.1\r\nHost: a\r\n{media}Content-Length: {length}\r\n\r\n{body}"
+    )
+}
+
+/// Whether a text stands among bytes.
+pub fn holds(bytes: &[u8], text: &str) -> bool {
+    let wanted = text.as_bytes();
+    wanted.is_empty() || bytes.windows(wanted.len()).any(|window| window == wanted)
+}
+
+/// A request and what stands in its reply: the method, the target, the body, the code, a text.
+pub type Told = (
+    &'static str,
+    &'static str,
+    &'static str,
+    &'static str,
+    &'static str,
+);
+
+/// Whether a reply has the code.
+pub fn has_code(reply: &[u8], code: &str) -> bool {
+    let (_version, rest) = reply.split_at(reply.len().min(9));
+    rest.starts_with(code.as_bytes())
+}
+
+/// Makes requests in their order; answers the method, target and body of the first whose reply has another code or not the text.
+pub fn first_untold(
+    alloc: Global,
+    core: &mut Core<IndexedPolicy>,
+    steps: &[Told],
+) -> Result<Option<(&'static str, &'static str, &'static str)>, Memory> {
+    for (method, target, body, code, text) in steps {
+        let bytes = request(alloc, method, target, body)?;
+        let reply = exchange(alloc, core, 0, bytes.as_bytes())?;
+        if !has_code(reply.as_slice(), code) || !holds(reply.as_slice(), text) {
+            return Ok(Some((*method, *target, *body)));
+        }
+    }
+    Ok(None)
+}

@@ -1,0 +1,89 @@
+-- What of a case is not as it is wanted.
+use Rattle.std.specs.Prelude.{◌≡◌, ℕ, Bool, if◌then◌else◌, List, [], ◌∷◌, ◌++◌, Option, Some, None, option_map, Result, Ok, Err}
+use Rattle.std.specs.List.{find, flat_map}
+use Rattle.std.specs.Str.{bytes_eq}
+use Rattle.kapi_core.specs.Machine.{Machine}
+use Rattle.kapi_loading.specs.Faults.{FileFault}
+use Rattle.kapi_loading.specs.Faults as file_fault
+use Rattle.kapi_lines.specs.Lines.{parts_of}
+use Rattle.kapi_lines.specs.Words.{nth}
+use Rattle.kapi_loading.specs.Loading.{machine_of}
+use Rattle.kapi_replay.specs.Reports.{line_at}
+use Rattle.kapi_transcript.specs.Wants.{is_met}
+use Rattle.kapi_transcript.specs.declared.case.Case.{Case}
+use Rattle.kapi_transcript.specs.declared.case.Event.{Event}
+use Rattle.kapi_transcript.specs.declared.case.Loaded.{Loaded}
+use Rattle.kapi_transcript.specs.declared.case.Want.{Want}
+use Rattle.kapi_replay.specs.declared.failure.Failure.{Failure}
+use Rattle.kapi_replay.specs.declared.failure.Failure.TheVariants as failure
+use Rattle.kapi_replay.specs.declared.replay.NamedFile.{NamedFile}
+use Rattle.kapi_script.specs.Scripts.{first_bad, lines, said, start}
+
+-- a line of a script, with its end
+abbrev pub line_text : List ℕ → List ℕ
+line_text line = line ++ 10 ∷ []
+
+-- a script as one text
+abbrev pub script_text : List Event → List ℕ
+script_text script = flat_map (λ e. line_text e.text) script
+
+-- the number of an event, if there is one
+abbrev pub number_or : Option Event → ℕ
+number_or None = 0
+number_or (Some e) = e.number
+
+-- the transcript's line of the event of this number; 0 where there is none
+abbrev pub number_at : List Event → ℕ → ℕ
+number_at script n = number_or (nth script n)
+
+-- the failure of what is wanted, where the answer is not so
+abbrev pub unmet : List Event → List (List ℕ) → Want → List Failure
+unmet script answers w =
+    if is_met w.wanted (line_at answers w.events) then []
+    else failure.Differs w.number (number_at script w.events) (line_at answers w.events) ∷ []
+
+-- the failures of a case that is answered by this text, a line an event
+abbrev pub differences : Case → List ℕ → List Failure
+differences c text = flat_map (unmet c.script (parts_of text)) c.wants
+
+-- the failure of a case whose script has a line of no known form
+abbrev pub bad_line : Case → ℕ → List Failure
+bad_line c n = failure.NoForm (number_at c.script n) ∷ []
+
+-- a line of the script has no known form, or its answers are compared
+abbrev pub failures_by : Case → Option ℕ → List ℕ → List Failure
+failures_by c (Some n) text = bad_line c n
+failures_by c None text = differences c text
+
+-- the failures of a case that is played on a machine, where memory ran out at some of its lines
+abbrev pub failures_on : Machine → Case → List Bool → List Failure
+failures_on m c refused = failures_by c (first_bad (script_text c.script)) (said m (lines (script_text c.script)) refused)
+
+-- these are the failures, for some lines at which memory ran out
+abbrev pub FailsOn : Machine → Case → List Failure → Type 0
+FailsOn m c failures = (refused : List Bool) × (failures ≡ failures_on m c refused)
+
+-- the failures on the machine that a file makes, or the line of it that is not loaded
+abbrev pub FailsBy : Case → Loaded → Result Machine FileFault → List Failure → Type 0
+FailsBy c load (Ok m) failures = FailsOn m c failures
+FailsBy c load (Err (file_fault.bad_line n)) failures = failures ≡ failure.NotLoaded load.number n ∷ []
+
+abbrev pub FailsLoaded : Case → Loaded → List ℕ → List Failure → Type 0
+FailsLoaded c load objects failures = FailsBy c load (machine_of objects) failures
+
+-- the first file of that name
+abbrev pub file_named : List NamedFile → List ℕ → Option (List ℕ)
+file_named files name = option_map (λ f. f.bytes) (find (λ f. bytes_eq f.name name) files)
+
+-- the failures where a file of that name is there or not
+abbrev pub FailsWith : Case → Loaded → Option (List ℕ) → List Failure → Type 0
+FailsWith c load (Some objects) failures = FailsLoaded c load objects failures
+FailsWith c load None failures = failures ≡ failure.NoFile load.number ∷ []
+
+-- the failures of a case on the machine that begins as every one, or on the one that a file makes
+abbrev pub FailsFrom : List NamedFile → Case → Option Loaded → List Failure → Type 0
+FailsFrom files c None failures = FailsOn start c failures
+FailsFrom files c (Some load) failures = FailsWith c load (file_named files load.name) failures
+
+abbrev pub Fails : List NamedFile → Case → List Failure → Type 0
+Fails files c failures = FailsFrom files c c.load failures

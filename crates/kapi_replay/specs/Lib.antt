@@ -1,0 +1,3 @@
+pub mod Reports
+pub mod Failures
+pub mod Outcomes

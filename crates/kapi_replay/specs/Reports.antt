@@ -1,0 +1,89 @@
+-- The report of a transcript.
+use Rattle.std.specs.Prelude.{ℕ, ◌+◌, ◌==◌, nat_lt, Bool, if◌then◌else◌, List, [], ◌∷◌, ◌++◌, length, codes, Option, None, Some}
+use Rattle.std.specs.Fmt.{decimal}
+use Rattle.std.specs.List.{flat_map}
+use Rattle.std.specs.Option.{option_or, unwrap_or}
+use Rattle.kapi_lines.specs.Lines.{parts_of}
+use Rattle.kapi_lines.specs.Words.{nth}
+use Rattle.kapi_transcript.specs.Requests.{number_line}
+use Rattle.kapi_replay.specs.declared.failure.Failure.{Failure}
+use Rattle.kapi_replay.specs.declared.failure.Failure.TheVariants as failure
+use Rattle.kapi_replay.specs.declared.failure.Outcome.{Outcome}
+
+-- the line of this number, from 1; nothing where there is none
+abbrev pub line_at : List (List ℕ) → ℕ → List ℕ
+line_at lines n = unwrap_or (nth lines n) []
+
+-- `NAME:LINE`
+abbrev pub place_text : List ℕ → ℕ → List ℕ
+place_text name n = name ++ number_line (codes ":") n
+
+-- the line of the transcript at which something is not as it is wanted
+abbrev pub number_of : Failure → ℕ
+number_of (failure.Differs n asked answer) = n
+number_of (failure.NoForm n) = n
+number_of (failure.NoFile n) = n
+number_of (failure.NotLoaded n line) = n
+
+-- what is not as it is wanted: the event that was answered, what is wanted and what came; or why nothing came
+abbrev pub what_text : List (List ℕ) → Failure → List ℕ
+what_text lines (failure.Differs n asked answer) =
+    codes "\n  asked  " ++ line_at lines asked ++ codes "\n  wanted " ++ line_at lines n ++ codes "\n  got    " ++ answer
+what_text lines (failure.NoForm n) = codes ": no known form"
+what_text lines (failure.NoFile n) = codes ": the file cannot be read"
+what_text lines (failure.NotLoaded n line) = number_line (codes ": load line ") line
+
+-- a failure, and where it is
+abbrev pub failure_text : List ℕ → List (List ℕ) → Failure → List ℕ
+failure_text name lines f = (place_text name (number_of f) ++ what_text lines f) ++ codes "\n"
+
+-- failures, one after the other
+abbrev pub failures_text : List ℕ → List (List ℕ) → List Failure → List ℕ
+failures_text name lines failures = flat_map (failure_text name lines) failures
+
+-- how many failures there are, if there are some
+abbrev pub count_text : ℕ → List ℕ
+count_text n = if n == 0 then codes "\n" else number_line (codes ", ") n ++ codes " not as wanted\n"
+
+-- the failures of a transcript, and then how many answers it wants
+abbrev pub report_text : List (List ℕ) → Outcome → List ℕ
+report_text lines o =
+    (((failures_text o.name lines o.failures ++ o.name) ++ number_line (codes ": ") o.wanted) ++ codes " answers") ++ count_text (length o.failures)
+
+-- ---- a transcript with the answers that came
+
+-- the answer that came in place of the one that this line wants, if another came
+abbrev pub answer_for : ℕ → Failure → Option (List ℕ)
+answer_for n (failure.Differs line asked answer) = if line == n then Some answer else None
+answer_for n f = None
+
+-- the first answer that came in place of the one that this line wants
+abbrev pub came_for : ℕ → List Failure → Option (List ℕ)
+came_for n [] = None
+came_for n (f ∷ fs) = option_or (answer_for n f) (came_for n fs)
+
+-- a line, or the answer that came in its place
+abbrev pub line_or : List ℕ → Option (List ℕ) → List ℕ
+line_or line None = line
+line_or line (Some answer) = codes "> " ++ answer
+
+-- a line of a transcript as it is rewritten, behind the end of the one before it
+abbrev pub rewritten_line : List Failure → ℕ → List ℕ → List ℕ
+rewritten_line failures n line = (if nat_lt 1 n then codes "\n" else []) ++ line_or line (came_for n failures)
+
+-- lines as they are rewritten; the number of the first is n
+abbrev pub rewritten_from : List Failure → ℕ → List (List ℕ) → List ℕ
+rewritten_from failures n [] = []
+rewritten_from failures n (l ∷ ls) = rewritten_line failures n l ++ rewritten_from failures (n + 1) ls
+
+-- a transcript in which each line that wants another answer than came is that answer
+abbrev pub rewritten : List (List ℕ) → List Failure → List ℕ
+rewritten lines failures = rewritten_from failures 1 lines
+
+-- what is written of a transcript: its report, or the transcript with the answers that came
+abbrev pub written : Bool → List ℕ → Outcome → List ℕ
+written rewrites text o = if rewrites then rewritten (parts_of text) o.failures else report_text (parts_of text) o
+
+-- nothing is otherwise than it is wanted
+abbrev pub is_well : Outcome → Bool
+is_well o = length o.failures == 0

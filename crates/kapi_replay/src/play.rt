@@ -1,0 +1,201 @@
+//! A case, played.
+ghost use Rattle.std.specs.Prelude.{◌≡◌, ◌++◌, ◌∷◌, [], IfOk, OnOk, option_map};
+ghost use Rattle.kapi_core.specs.Machine.{Machine};
+ghost use Rattle.kapi_core.specs.Stands.{Stands};
+ghost use Rattle.kapi_script.specs.Scripts.{start as begun};
+ghost use Rattle.kapi_replay.specs.Reports.{line_at};
+ghost use Rattle.kapi_replay.specs.Failures as fails;
+ghost use Rattle.kapi_replay.specs.Failures.{Fails, file_named, script_text as script_text_of};
+
+use crate::failure::Failure;
+use crate::replay::NamedFile;
+use kapi_core::Core;
+use kapi_index::IndexedPolicy;
+use kapi_lines::{copy_of, nth, split_lines};
+use kapi_loading::{StartError, Started, start};
+use kapi_script::{ScriptFault, play_script, program_table};
+use kapi_text::{Memory, Sequence};
+use kapi_transcript::{Case, Event, Loaded, Want, is_met};
+use std::alloc::{AllocError, Global};
+use std::sync::Wait;
+
+/// The lines of a script as one text.
+fn script_text(alloc: Global, script: &[Event]) -> Result<Vec<u8>, Memory>
+    ensures { IfOk result (λ v. v.items ≡ script_text_of script.now) }
+{
+    let mut text = Vec::new(alloc);
+    for event in script {
+        push_line(&mut text, event.text.as_slice())?;
+    }
+    Ok(text)
+}
+
+fn push_line(text: &mut Vec<u8>, line: &[u8]) -> Result<(), Memory>
+    ensures { OnOk result (text.new.items ≡ text.old.items ++ fails.line_text line.now) }
+{
+    text.extend_from_slice(line)?;
+    text.push(b'\n')?;
+    Ok(())
+}
+
+/// The answer to the event of this number; nothing where there is none.
+fn answer_at(answers: &[Sequence<u8>], number: usize) -> &[u8]
+    ensures { result.now ≡ line_at answers.now number }
+{
+    match nth(answers, number) {
+        Some(answer) => answer.as_slice(),
+        None => b"".as_slice(),
+    }
+}
+
+/// The transcript's line of the event of this number; 0 where there is none.
+fn number_at(script: &[Event], number: usize) -> usize
+    ensures { result ≡ fails.number_at script.now number }
+{
+    match nth(script, number) {
+        Some(event) => event.number,
+        None => 0,
+    }
+}
+
+/// Adds a failure where an answer is not as it is wanted.
+fn check_want(
+    alloc: Global,
+    failures: &mut Vec<Failure>,
+    script: &[Event],
+    answers: &[Sequence<u8>],
+    want: &Want,
+) -> Result<(), Memory>
+    ensures { OnOk result (failures.new.items ≡ failures.old.items ++ fails.unmet script.now answers.now want.now) }
+{
+    let answer = answer_at(answers, want.events);
+    if is_met(alloc, &want.wanted, answer)? {
+        return Ok(());
+    }
+    let asked = number_at(script, want.events);
+    failures.push(Failure::Differs(want.number, asked, copy_of(alloc, answer)?))?;
+    Ok(())
+}
+
+/// The failures of a case whose answers these are.
+fn differences(alloc: Global, case: &Case, text: &[u8]) -> Result<Vec<Failure>, Memory>
+    ensures { IfOk result (λ v. v.items ≡ fails.differences case.now text.now) }
+{
+    let answers = split_lines(alloc, text)?;
+    let mut failures = Vec::new(alloc);
+    for want in case.wants.as_slice() {
+        check_want(
+            alloc,
+            &mut failures,
+            case.script.as_slice(),
+            answers.as_slice(),
+            want,
+        )?;
+    }
+    Ok(failures)
+}
+
+/// One failure.
+fn only(alloc: Global, failure: Failure) -> Result<Vec<Failure>, Memory>
+    ensures { IfOk result (λ v. v.items ≡ failure ∷ []) }
+{
+    let mut failures = Vec::new(alloc);
+    failures.push(failure)?;
+    Ok(failures)
+}
+
+/// The failure of a case whose script has a line of no known form, of this number.
+fn bad_line(alloc: Global, case: &Case, number: u64) -> Result<Vec<Failure>, Memory>
+    ensures { IfOk result (λ v. v.items ≡ fails.bad_line case.now number) }
+{
+    match usize::try_from(number) {
+        Ok(number) => only(
+            alloc,
+            Failure::NoForm(number_at(case.script.as_slice(), number)),
+        ),
+        Err(_large) => Err(AllocError),
+    }
+}
+
+/// Plays a case on a machine, and compares its answers with those that are wanted.
+fn play_on(
+    alloc: Global,
+    core: &mut Core<IndexedPolicy>,
+    case: &Case,
+) -> Result<Vec<Failure>, Memory>
+    ensures { (m : Machine) → Stands core.old m → IfOk result (λ v. fails.FailsOn m case.now v.items) }
+{
+    let script = script_text(alloc, case.script.as_slice())?;
+    let mut reader = script.as_slice();
+    let mut answers = Vec::new(alloc);
+    match play_script(alloc, core, &mut reader, &mut answers) {
+        Ok(()) => differences(alloc, case, answers.as_slice()),
+        Err(ScriptFault::BadLine(number)) => bad_line(alloc, case, number),
+        Err(_other) => Err(AllocError),
+    }
+}
+
+/// The bytes of the file of that name.
+fn file<'a>(files: &'a [NamedFile], name: &[u8]) -> Option<&'a [u8]>
+    ensures { option_map (λ s. s.now) result ≡ file_named files.now name.now }
+{
+    match files
+        .iter()
+        .find(|file| file.name.as_str().as_bytes() == name)
+    {
+        Some(file) => Some(file.bytes.as_slice()),
+        None => None,
+    }
+}
+
+/// Plays a case on a machine that has loaded a file of objects.
+fn play_loaded<R: Wait>(
+    alloc: Global,
+    rt: &R,
+    case: &Case,
+    load: &Loaded,
+    objects: &[u8],
+) -> Result<Vec<Failure>, Memory>
+    ensures { IfOk result (λ v. fails.FailsLoaded case.now load.now objects.now v.items) }
+{
+    match start(alloc, rt, objects, 1) {
+        Ok(started) => {
+            let Started {
+                mut core,
+                desk,
+                seats: _seats,
+            } = started;
+            let failures = play_on(alloc, &mut core, case);
+            drop(desk.close(rt));
+            failures
+        }
+        Err(StartError::Line(line)) => only(alloc, Failure::NotLoaded(load.number, line)),
+        Err(StartError::Memory) => Err(AllocError),
+    }
+}
+
+/// Plays a case on the machine that begins as every one.
+fn play_begun(alloc: Global, case: &Case) -> Result<Vec<Failure>, Memory>
+    ensures { IfOk result (λ v. fails.FailsOn begun case.now v.items) }
+{
+    let mut core = Core::new(alloc, program_table(alloc)?, IndexedPolicy::new(alloc), 0)?;
+    play_on(alloc, &mut core, case)
+}
+
+/// What is not as the case wants it. The files are those that it may load.
+pub fn play_case<R: Wait>(
+    alloc: Global,
+    rt: &R,
+    files: &[NamedFile],
+    case: &Case,
+) -> Result<Vec<Failure>, Memory>
+    ensures { IfOk result (λ v. Fails files.now case.now v.items) }
+{
+    let Some(load) = &case.load else {
+        return play_begun(alloc, case);
+    };
+    match file(files, load.name.as_slice()) {
+        Some(objects) => play_loaded(alloc, rt, case, load, objects),
+        None => only(alloc, Failure::NoFile(load.number)),
+    }
+}

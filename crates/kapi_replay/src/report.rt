@@ -1,0 +1,198 @@
+//! The report of a transcript.
+ghost use Rattle.std.specs.Prelude.{◌≡◌, ◌++◌, IfOk, OnOk, option_map};
+ghost use Rattle.std.specs.List.{flat_map};
+ghost use Rattle.kapi_replay.specs.Reports as reports;
+ghost use Rattle.kapi_replay.specs.Reports.{came_for as came_for_of, failures_text, report_text, rewritten, rewritten_from, rewritten_line};
+
+use crate::failure::{Failure, Outcome};
+use kapi_lines::{nth, split_lines};
+use kapi_text::{Memory, Sequence};
+use kapi_transcript::push_number;
+use std::alloc::Global;
+
+/// The line of this number, from 1; nothing where there is none.
+fn line_at(lines: &[Sequence<u8>], number: usize) -> &[u8]
+    ensures { result.now ≡ reports.line_at lines.now number }
+{
+    match nth(lines, number) {
+        Some(line) => line.as_slice(),
+        None => b"".as_slice(),
+    }
+}
+
+/// Appends a label and what it names.
+fn push_part(text: &mut Vec<u8>, label: &[u8], part: &[u8]) -> Result<(), Memory>
+    ensures { OnOk result (text.new.items ≡ (text.old.items ++ label.now) ++ part.now) }
+{
+    text.extend_from_slice(label)?;
+    text.extend_from_slice(part)?;
+    Ok(())
+}
+
+/// Appends `NAME:LINE`.
+fn push_place(text: &mut Vec<u8>, name: &str, number: usize) -> Result<(), Memory>
+    ensures { OnOk result (text.new.items ≡ text.old.items ++ reports.place_text name.now number) }
+{
+    text.extend_from_slice(name.as_bytes())?;
+    push_number(text, b":", number)
+}
+
+/// Appends what is not as it is wanted.
+fn push_what(text: &mut Vec<u8>, lines: &[Sequence<u8>], failure: &Failure) -> Result<(), Memory>
+    ensures { OnOk result (text.new.items ≡ text.old.items ++ reports.what_text lines.now failure.now) }
+{
+    match failure {
+        Failure::Differs(number, asked, answer) => {
+            push_part(text, b"\n  asked  ", line_at(lines, *asked))?;
+            push_part(text, b"\n  wanted ", line_at(lines, *number))?;
+            push_part(text, b"\n  got    ", answer.as_slice())
+        }
+        Failure::NoForm(_number) => Ok(text.extend_from_slice(b": no known form")?),
+        Failure::NoFile(_number) => Ok(text.extend_from_slice(b": the file cannot be read")?),
+        Failure::NotLoaded(_number, line) => push_number(text, b": load line ", *line),
+    }
+}
+
+/// The line of the transcript at which something is not as it is wanted.
+fn number_of(failure: &Failure) -> usize
+    ensures { result ≡ reports.number_of failure.now }
+{
+    match failure {
+        Failure::Differs(number, _asked, _answer) => *number,
+        Failure::NoForm(number) | Failure::NoFile(number) => *number,
+        Failure::NotLoaded(number, _line) => *number,
+    }
+}
+
+/// Appends a failure, and where it is.
+fn push_failure(
+    text: &mut Vec<u8>,
+    name: &str,
+    lines: &[Sequence<u8>],
+    failure: &Failure,
+) -> Result<(), Memory>
+    ensures { OnOk result (text.new.items ≡ text.old.items ++ reports.failure_text name.now lines.now failure.now) }
+{
+    push_place(text, name, number_of(failure))?;
+    push_what(text, lines, failure)?;
+    text.push(b'\n')?;
+    Ok(())
+}
+
+fn push_failures(
+    text: &mut Vec<u8>,
+    name: &str,
+    lines: &[Sequence<u8>],
+    failures: &[Failure],
+) -> Result<(), Memory>
+    ensures { OnOk result (text.new.items ≡ text.old.items ++ failures_text name.now lines.now failures.now) }
+{
+    for failure in failures {
+        push_failure(text, name, lines, failure)?;
+    }
+    Ok(())
+}
+
+/// Appends how many failures there are, if there are some.
+fn push_count(text: &mut Vec<u8>, failures: usize) -> Result<(), Memory>
+    ensures { OnOk result (text.new.items ≡ text.old.items ++ reports.count_text failures) }
+{
+    if failures == 0 {
+        text.push(b'\n')?;
+        return Ok(());
+    }
+    push_number(text, b", ", failures)?;
+    text.extend_from_slice(b" not as wanted\n")?;
+    Ok(())
+}
+
+/// What became of a transcript: each failure, and how many answers it wants.
+fn report(alloc: Global, lines: &[Sequence<u8>], outcome: &Outcome) -> Result<Vec<u8>, Memory>
+    ensures { IfOk result (λ v. v.items ≡ report_text lines.now outcome.now) }
+{
+    let mut text = Vec::new(alloc);
+    let name = outcome.name.as_str();
+    push_failures(&mut text, name, lines, outcome.failures.as_slice())?;
+    text.extend_from_slice(name.as_bytes())?;
+    push_number(&mut text, b": ", outcome.wanted)?;
+    text.extend_from_slice(b" answers")?;
+    push_count(&mut text, outcome.failures.as_slice().len())?;
+    Ok(text)
+}
+
+/// The answer that came in place of the one that a failure's line wants, where it is this line.
+fn answer_for(number: usize, failure: &Failure) -> Option<&[u8]>
+    ensures { option_map (λ s. s.now) result ≡ reports.answer_for number failure.now }
+{
+    match failure {
+        Failure::Differs(line, _asked, answer) => {
+            if *line == number {
+                Some(answer.as_slice())
+            } else {
+                None
+            }
+        }
+        _ => None,
+    }
+}
+
+/// The first answer that came in place of the one that this line wants.
+fn came_for(number: usize, failures: &[Failure]) -> Option<&[u8]>
+    ensures { option_map (λ s. s.now) result ≡ came_for_of number failures.now }
+{
+    let mut rest = failures;
+    while let [failure, tail @ ..] = rest {
+        let came = answer_for(number, failure);
+        if came.is_some() {
+            return came;
+        }
+        rest = tail;
+    }
+    None
+}
+
+/// Appends a line, or the answer that came in its place.
+fn push_line(
+    text: &mut Vec<u8>,
+    number: usize,
+    line: &[u8],
+    failures: &[Failure],
+) -> Result<(), Memory>
+    ensures { OnOk result (text.new.items ≡ text.old.items ++ rewritten_line failures.now number line.now) }
+{
+    if number > 1 {
+        text.push(b'\n')?;
+    }
+    match came_for(number, failures) {
+        Some(answer) => push_part(text, b"> ", answer),
+        None => Ok(text.extend_from_slice(line)?),
+    }
+}
+
+/// A transcript in which each line that wants another answer than came is that answer.
+fn rewrite(alloc: Global, lines: &[Sequence<u8>], failures: &[Failure]) -> Result<Vec<u8>, Memory>
+    ensures { IfOk result (λ v. v.items ≡ rewritten lines.now failures.now) }
+{
+    let mut text = Vec::new(alloc);
+    for index in 0..lines.len() {
+        push_line(&mut text, index + 1, lines[index].as_slice(), failures)?;
+    }
+    Ok(text)
+}
+
+/// The report of a transcript, or the transcript with the answers that came.
+pub fn outcome_text(
+    alloc: Global,
+    rewrites: bool,
+    transcript: &[u8],
+    outcome: &Outcome,
+) -> Result<Vec<u8>, Memory>
+    ensures { IfOk result (λ v. v.items ≡ reports.written rewrites transcript.now outcome.now) }
+{
+    let lines = split_lines(alloc, transcript)?;
+    if rewrites {
+        rewrite(alloc, lines.as_slice(), outcome.failures.as_slice())
+    } else {
+        report(alloc, lines.as_slice(), outcome)
+    }
+}

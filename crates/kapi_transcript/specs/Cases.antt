@@ -1,0 +1,132 @@
+-- The cases of a transcript: what each line adds to the script of its case.
+use Rattle.std.specs.Prelude.{ℕ, Bool, true, false, if◌then◌else◌, List, [], ◌∷◌, ◌++◌, length, drop, codes, Option, Some, None}
+use Rattle.std.specs.List.{position}
+use Rattle.std.specs.Str.{bytes_eq}
+use Rattle.kapi_lines.specs.Lines.{NumberedLine}
+use Rattle.kapi_transcript.specs.Forms.{form_of}
+use Rattle.kapi_transcript.specs.Requests.{feed_line, number_line, request_text}
+use Rattle.kapi_transcript.specs.declared.case.Case.{Case}
+use Rattle.kapi_transcript.specs.declared.case.Event.{Event}
+use Rattle.kapi_transcript.specs.declared.case.Loaded.{Loaded}
+use Rattle.kapi_transcript.specs.declared.case.Want.{Want}
+use Rattle.kapi_transcript.specs.declared.draft.Draft.{Draft}
+use Rattle.kapi_transcript.specs.declared.form.Form.{Form}
+use Rattle.kapi_transcript.specs.declared.form.Form.TheVariants as form
+use Rattle.kapi_transcript.specs.declared.request.Request.{Request}
+use Rattle.kapi_transcript.specs.declared.wanted.Wanted.{Wanted}
+use Rattle.kapi_lines.specs.Words.{begins}
+
+-- a case that is being read: its file, its script and wants so far, for whom its connections were opened in their order, the connection
+-- that was taken last, and whether a header field may follow
+pub record PlainDraft : Type 0 where
+  pub load : Option Loaded
+  pub script : List Event
+  pub wants : List Want
+  pub opened : List (List ℕ)
+  pub taken : Option ℕ
+  pub fields : Bool
+
+-- a draft, as lists
+abbrev pub draft_of : Draft → PlainDraft
+draft_of d =
+    record { load = d.load; script = d.script.items; wants = d.wants.items; opened = d.opened.items; taken = d.taken; fields = d.fields }
+
+-- a case without lines
+abbrev pub fresh : Option Loaded → PlainDraft
+fresh load = record { load = load; script = []; wants = []; opened = []; taken = None; fields = false }
+
+-- the case that was read
+abbrev pub case_of : PlainDraft → Case
+case_of d = record { load = d.load; script = d.script; wants = d.wants }
+
+-- ---- what a line adds
+
+-- a line of the script
+abbrev pub event : PlainDraft → ℕ → List ℕ → PlainDraft
+event d n text = record d { script = d.script ++ record { number = n; text = text } ∷ []; fields = false }
+
+-- the names of a line that opens a connection
+abbrev pub opened_by : List ℕ → List (List ℕ)
+opened_by text = if begins text (codes "open ") then drop 5 text ∷ [] else []
+
+-- a line of a script, as it stands
+abbrev pub raw : PlainDraft → ℕ → List ℕ → PlainDraft
+raw d n text = record (event d n text) { opened = d.opened ++ opened_by text }
+
+-- the first connection that was opened for these names
+abbrev pub connection_of : List (List ℕ) → List ℕ → Option ℕ
+connection_of opened names = position (λ other. bytes_eq other names) opened
+
+-- the line that opens a connection
+abbrev pub open_line : List ℕ → List ℕ
+open_line names = codes "open " ++ names
+
+-- a connection is opened and taken
+abbrev pub opens : PlainDraft → ℕ → List ℕ → PlainDraft
+opens d n names = record (event d n (open_line names)) { opened = d.opened ++ names ∷ []; taken = Some (length d.opened) }
+
+-- a connection is taken, and opened where there is none
+abbrev pub acted_on : PlainDraft → ℕ → List ℕ → Option ℕ → PlainDraft
+acted_on d n names None = opens d n names
+acted_on d n names (Some k) = record d { taken = Some k; fields = false }
+
+-- the connection of these names is taken
+abbrev pub acted : PlainDraft → ℕ → List ℕ → PlainDraft
+acted d n names = acted_on d n names (connection_of d.opened names)
+
+-- a request is fed to the connection that was taken last, and served; without one its line is none
+abbrev pub asked_on : PlainDraft → NumberedLine → Request → List NumberedLine → Option ℕ → PlainDraft
+asked_on d l r later None = raw d l.number l.text
+asked_on d l r later (Some k) =
+    record (event (event d l.number (feed_line k (request_text r later))) l.number (number_line (codes "serve ") k)) { fields = true }
+
+abbrev pub asked : PlainDraft → NumberedLine → Request → List NumberedLine → PlainDraft
+asked d l r later = asked_on d l r later d.taken
+
+-- the connection that was taken last is pumped
+abbrev pub pumped_on : PlainDraft → NumberedLine → Option ℕ → PlainDraft
+pumped_on d l None = raw d l.number l.text
+pumped_on d l (Some k) = event d l.number (number_line (codes "pump ") k)
+
+abbrev pub pumped : PlainDraft → NumberedLine → PlainDraft
+pumped d l = pumped_on d l d.taken
+
+-- something is wanted of the last answer
+abbrev pub wants : PlainDraft → ℕ → Wanted → PlainDraft
+wants d n wanted = record d { wants = d.wants ++ record { number = n; events = length d.script; wanted = wanted } ∷ []; fields = false }
+
+-- a header field belongs to the request above it
+abbrev pub field : PlainDraft → NumberedLine → PlainDraft
+field d l = if d.fields then d else raw d l.number l.text
+
+-- the case after a line of that form, before those that follow
+abbrev pub drafted : PlainDraft → NumberedLine → Form → List NumberedLine → PlainDraft
+drafted d l (form.Actor names) later = acted d l.number names
+drafted d l (form.Request r) later = asked d l r later
+drafted d l form.Field later = field d l
+drafted d l form.Pump later = pumped d l
+drafted d l (form.Want wanted) later = wants d l.number wanted
+drafted d l f later = raw d l.number l.text
+
+-- ---- the cases
+
+-- the case that ends before a line of that form, if one does
+abbrev pub ended : PlainDraft → Form → List Case
+ended d form.Begin = case_of d ∷ []
+ended d (form.Load name) = case_of d ∷ []
+ended d f = []
+
+-- the case that is being read after a line of that form, before those that follow
+abbrev pub next : PlainDraft → NumberedLine → Form → List NumberedLine → PlainDraft
+next d l form.Begin later = fresh None
+next d l (form.Load name) later = fresh (Some (record { number = l.number; name = name }))
+next d l f later = drafted d l f later
+
+-- the cases of lines, the first of which is being read
+unfoldable pub cases_from : PlainDraft → List NumberedLine → List Case
+cases_from d [] = case_of d ∷ []
+cases_from d (l ∷ ls) = ended d (form_of l.text) ++ cases_from (next d l (form_of l.text) ls) ls
+
+-- the cases of a transcript: `begin` and `load` begin another one
+abbrev pub cases_of : List NumberedLine → List Case
+cases_of lines = cases_from (fresh None) lines

@@ -1,0 +1,6 @@
+pub mod Fields
+pub mod Requests
+pub mod Sent
+pub mod Wants
+pub mod Forms
+pub mod Cases

@@ -1,0 +1,32 @@
+use crate::wanted::Wanted;
+use kapi_text::Sequence;
+
+/// The file whose objects a machine begins with, and the line that names it.
+#[derive(Drop)]
+pub struct Loaded {
+    pub number: usize,
+    pub name: Sequence<u8>,
+}
+
+/// A line of a case's script, and the line of the transcript that it stands for.
+#[derive(Drop)]
+pub struct Event {
+    pub number: usize,
+    pub text: Sequence<u8>,
+}
+
+/// What a line of the transcript wants of the answer to the last of so many events.
+#[derive(Drop)]
+pub struct Want {
+    pub number: usize,
+    pub events: usize,
+    pub wanted: Wanted,
+}
+
+/// A case of a transcript: a script on a machine of its own, and what is wanted of its answers.
+#[derive(Drop)]
+pub struct Case {
+    pub load: Option<Loaded>,
+    pub script: Sequence<Event>,
+    pub wants: Sequence<Want>,
+}

@@ -1,0 +1,269 @@
+//! The cases of a transcript, read line by line.
+ghost use Rattle.std.specs.Prelude.{◌≡◌, ◌++◌, ◌∷◌, [], IfOk, OnOk, map};
+ghost use Rattle.kapi_lines.specs.Lines.{line_of};
+ghost use Rattle.kapi_transcript.specs.Cases as cased;
+ghost use Rattle.kapi_transcript.specs.Cases.{case_of, cases_from, draft_of, drafted, fresh};
+
+use crate::case::{Case, Event, Loaded, Want};
+use crate::form::{Form, parse_form};
+use crate::request::{Request, feed_line, request_bytes, word_line};
+use crate::wanted::Wanted;
+use kapi_lines::{Line, copy_of};
+use kapi_text::{Memory, Sequence};
+use std::alloc::Global;
+use std::mem;
+
+/// A case that is being read.
+#[derive(Drop)]
+pub struct Draft {
+    load: Option<Loaded>,
+    script: Vec<Event>,
+    wants: Vec<Want>,
+    /// The names that the connections were opened for, in their order.
+    opened: Vec<Sequence<u8>>,
+    /// The connection that was taken last.
+    taken: Option<usize>,
+    /// Whether a header field may stand on the next line.
+    fields: bool,
+}
+
+impl Draft {
+    /// A case without lines.
+    fn new(alloc: Global, load: Option<Loaded>) -> Draft
+        ensures { draft_of result ≡ fresh load }
+    {
+        Draft {
+            load,
+            script: Vec::new(alloc),
+            wants: Vec::new(alloc),
+            opened: Vec::new(alloc),
+            taken: None,
+            fields: false,
+        }
+    }
+
+    /// The case that was read.
+    fn into_case(self) -> Case
+        ensures { result ≡ case_of (draft_of self) }
+    {
+        Case {
+            load: self.load,
+            script: Sequence::new(self.script),
+            wants: Sequence::new(self.wants),
+        }
+    }
+
+    /// Adds a line of the script.
+    fn push_event(&mut self, number: usize, text: Sequence<u8>) -> Result<(), Memory>
+        ensures { OnOk result (draft_of self.new ≡ cased.event (draft_of self.old) number text) }
+    {
+        self.script.push(Event { number, text })?;
+        self.fields = false;
+        Ok(())
+    }
+
+    /// Takes the connection of an identity, and opens it where there is none.
+    fn take(&mut self, alloc: Global, number: usize, names: Sequence<u8>) -> Result<(), Memory>
+        ensures { OnOk result (draft_of self.new ≡ cased.acted (draft_of self.old) number names) }
+    {
+        match connection_of(self.opened.as_slice(), names.as_slice()) {
+            Some(connection) => {
+                self.taken = Some(connection);
+                self.fields = false;
+                Ok(())
+            }
+            None => self.open(alloc, number, names),
+        }
+    }
+
+    /// Opens a connection and takes it.
+    fn open(&mut self, alloc: Global, number: usize, names: Sequence<u8>) -> Result<(), Memory>
+        ensures { OnOk result (draft_of self.new ≡ cased.opens (draft_of self.old) number names) }
+    {
+        let connection = self.opened.len();
+        self.push_event(number, open_line(alloc, names.as_slice())?)?;
+        self.opened.push(names)?;
+        self.taken = Some(connection);
+        Ok(())
+    }
+
+    /// Adds a line of a script as it stands.
+    fn push_line(&mut self, alloc: Global, number: usize, text: &[u8]) -> Result<(), Memory>
+        ensures { OnOk result (draft_of self.new ≡ cased.raw (draft_of self.old) number text.now) }
+    {
+        self.push_event(number, copy_of(alloc, text)?)?;
+        if text.starts_with(b"open ") {
+            self.opened.push(copy_of(alloc, &text[5..])?)?;
+        }
+        Ok(())
+    }
+
+    /// Adds a request on the connection that was taken last.
+    fn push_request(
+        &mut self,
+        alloc: Global,
+        line: &Line<'_>,
+        request: &Request,
+        later: &[Line<'_>],
+    ) -> Result<(), Memory>
+        ensures { OnOk result (draft_of self.new ≡ cased.asked (draft_of self.old) (line_of line.now) request.now (map line_of later.now)) }
+    {
+        let Some(connection) = self.taken else {
+            return self.push_line(alloc, line.number, line.text);
+        };
+        let bytes = request_bytes(alloc, request, later)?;
+        self.push_event(line.number, feed_line(alloc, connection, bytes.as_slice())?)?;
+        self.push_event(line.number, word_line(alloc, b"serve ", connection)?)?;
+        self.fields = true;
+        Ok(())
+    }
+
+    /// Adds a pump of the connection that was taken last.
+    fn push_pump(&mut self, alloc: Global, line: &Line<'_>) -> Result<(), Memory>
+        ensures { OnOk result (draft_of self.new ≡ cased.pumped (draft_of self.old) (line_of line.now)) }
+    {
+        let Some(connection) = self.taken else {
+            return self.push_line(alloc, line.number, line.text);
+        };
+        self.push_event(line.number, word_line(alloc, b"pump ", connection)?)
+    }
+
+    /// Adds what is wanted of the last answer.
+    fn push_want(&mut self, number: usize, wanted: Wanted) -> Result<(), Memory>
+        ensures { OnOk result (draft_of self.new ≡ cased.wants (draft_of self.old) number wanted) }
+    {
+        let events = self.script.len();
+        self.wants.push(Want {
+            number,
+            events,
+            wanted,
+        })?;
+        self.fields = false;
+        Ok(())
+    }
+
+    /// Passes over a header field of a request; elsewhere it is a line of the script.
+    fn push_field(&mut self, alloc: Global, line: &Line<'_>) -> Result<(), Memory>
+        ensures { OnOk result (draft_of self.new ≡ cased.field (draft_of self.old) (line_of line.now)) }
+    {
+        if self.fields {
+            return Ok(());
+        }
+        self.push_line(alloc, line.number, line.text)
+    }
+
+    /// Adds a line of that form, before those that follow.
+    fn push(
+        &mut self,
+        alloc: Global,
+        line: &Line<'_>,
+        form: Form,
+        later: &[Line<'_>],
+    ) -> Result<(), Memory>
+        ensures { OnOk result (draft_of self.new ≡ drafted (draft_of self.old) (line_of line.now) form (map line_of later.now)) }
+    {
+        match form {
+            Form::Actor(names) => self.take(alloc, line.number, names),
+            Form::Request(request) => self.push_request(alloc, line, &request, later),
+            Form::Field => self.push_field(alloc, line),
+            Form::Pump => self.push_pump(alloc, line),
+            Form::Want(wanted) => self.push_want(line.number, wanted),
+            Form::Begin | Form::Load(_) | Form::Event => {
+                self.push_line(alloc, line.number, line.text)
+            }
+        }
+    }
+}
+
+/// The number of the first connection that was opened for these names.
+fn connection_of(opened: &[Sequence<u8>], names: &[u8]) -> Option<usize>
+    ensures { result ≡ cased.connection_of opened.now names.now }
+{
+    opened.iter().position(|other| other.as_slice() == names)
+}
+
+/// The line of a script that opens a connection.
+fn open_line(alloc: Global, names: &[u8]) -> Result<Sequence<u8>, Memory>
+    ensures { IfOk result (λ s. s ≡ cased.open_line names.now) }
+{
+    let mut text = Vec::new(alloc);
+    text.extend_from_slice(b"open ")?;
+    text.extend_from_slice(names)?;
+    Ok(Sequence::new(text))
+}
+
+/// Ends the case that is being read, and begins another.
+fn begin(
+    alloc: Global,
+    cases: &mut Vec<Case>,
+    draft: &mut Draft,
+    load: Option<Loaded>,
+) -> Result<(), Memory>
+    ensures ended { OnOk result (cases.new.items ≡ cases.old.items ++ case_of (draft_of draft.old) ∷ []) }
+    ensures begun { OnOk result (draft_of draft.new ≡ fresh load) }
+{
+    let ended = mem::replace(draft, Draft::new(alloc, load));
+    cases.push(ended.into_case())?;
+    Ok(())
+}
+
+/// Reads a line of that form, before those that follow.
+fn read_form(
+    alloc: Global,
+    cases: &mut Vec<Case>,
+    draft: &mut Draft,
+    line: &Line<'_>,
+    form: Form,
+    later: &[Line<'_>],
+) -> Result<(), Memory>
+    ensures ended { OnOk result (cases.new.items ≡ cases.old.items ++ cased.ended (draft_of draft.old) form) }
+    ensures next { OnOk result (draft_of draft.new ≡ cased.next (draft_of draft.old) (line_of line.now) form (map line_of later.now)) }
+{
+    match form {
+        Form::Begin => begin(alloc, cases, draft, None),
+        Form::Load(name) => {
+            let number = line.number;
+            begin(alloc, cases, draft, Some(Loaded { number, name }))
+        }
+        form => draft.push(alloc, line, form, later),
+    }
+}
+
+/// Reads a line, before those that follow.
+fn read_line(
+    alloc: Global,
+    cases: &mut Vec<Case>,
+    draft: &mut Draft,
+    line: &Line<'_>,
+    later: &[Line<'_>],
+) -> Result<(), Memory>
+    ensures { OnOk result (cases.new.items ++ cases_from (draft_of draft.new) (map line_of later.now)
+        ≡ cases.old.items ++ cases_from (draft_of draft.old) (line_of line.now ∷ map line_of later.now)) }
+{
+    let form = parse_form(alloc, line.text)?;
+    read_form(alloc, cases, draft, line, form, later)
+}
+
+/// Ends the last case.
+#[tactic(auto, unfolding(crate::specs::Cases::cases_from))]
+fn end(cases: &mut Vec<Case>, draft: Draft) -> Result<(), Memory>
+    ensures { OnOk result (cases.new.items ≡ cases.old.items ++ cases_from (draft_of draft) []) }
+{
+    cases.push(draft.into_case())?;
+    Ok(())
+}
+
+/// The cases of a transcript's lines.
+pub fn cases(alloc: Global, lines: &[Line<'_>]) -> Result<Vec<Case>, Memory>
+    ensures { IfOk result (λ v. v.items ≡ cased.cases_of (map line_of lines.now)) }
+{
+    let mut cases = Vec::new(alloc);
+    let mut draft = Draft::new(alloc, None);
+    let mut rest = lines;
+    while let [line, later @ ..] = rest {
+        read_line(alloc, &mut cases, &mut draft, line, later)?;
+        rest = later;
+    }
+    end(&mut cases, draft)?;
+    Ok(cases)
+}

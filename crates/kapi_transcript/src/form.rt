@@ -1,0 +1,76 @@
+//! What a line of a transcript is.
+ghost use Rattle.std.specs.Prelude.{◌≡◌, IfOk};
+ghost use Rattle.kapi_transcript.specs.Forms as forms;
+ghost use Rattle.kapi_transcript.specs.Forms.{form_of, line_form_of};
+
+use crate::field::is_field;
+use crate::request::{Request, parse_request, request_line};
+use crate::wanted::{Wanted, parse_wanted};
+use kapi_lines::copy_of;
+use kapi_text::{Memory, Sequence};
+use std::alloc::Global;
+
+/// The form of a line.
+#[derive(Drop)]
+pub enum Form {
+    /// `begin`: a new machine.
+    Begin,
+    /// `load FILE`: a new machine, with the objects of a file.
+    Load(Sequence<u8>),
+    /// `as USER` or `as USER,GROUP,..`: the connection of that identity.
+    Actor(Sequence<u8>),
+    /// `METHOD TARGET` or `METHOD TARGET BODY`: a request on it.
+    Request(Request),
+    /// `Name: value`: a further header field of the request above.
+    Field,
+    /// `pump`: the next event of the connection's watch.
+    Pump,
+    /// What is wanted of the last answer.
+    Want(Wanted),
+    /// A line of a script.
+    Event,
+}
+
+/// The form of a line that is neither empty nor a comment.
+#[tactic(auto, unfolding(crate::specs::Forms::form_of))]
+pub fn parse_form(alloc: Global, line: &[u8]) -> Result<Form, Memory>
+    ensures { IfOk result (λ f. f ≡ form_of line.now) }
+{
+    if line == b"begin".as_slice() {
+        return Ok(Form::Begin);
+    }
+    if line == b"pump".as_slice() {
+        return Ok(Form::Pump);
+    }
+    if line.starts_with(b"load ") {
+        return Ok(Form::Load(copy_of(alloc, &line[5..])?));
+    }
+    if line.starts_with(b"as ") {
+        return Ok(Form::Actor(copy_of(alloc, &line[3..])?));
+    }
+    match parse_wanted(alloc, line)? {
+        Some(wanted) => Ok(Form::Want(wanted)),
+        None => line_form(alloc, line),
+    }
+}
+
+/// The form of a line that begins with none of these words.
+fn line_form(alloc: Global, line: &[u8]) -> Result<Form, Memory>
+    ensures { IfOk result (λ f. f ≡ line_form_of line.now) }
+{
+    match request_line(line) {
+        Some((method, rest)) => Ok(Form::Request(parse_request(alloc, method, rest)?)),
+        None => Ok(plain_form(line)),
+    }
+}
+
+/// A header field, or a line of a script.
+fn plain_form(line: &[u8]) -> Form
+    ensures { result ≡ forms.plain_form line.now }
+{
+    if is_field(line) {
+        Form::Field
+    } else {
+        Form::Event
+    }
+}

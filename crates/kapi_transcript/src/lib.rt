@@ -1,0 +1,16 @@
+//! Transcripts: requests and events with the answers that are wanted of them, a line each, and the scripts that they stand for.
+#![tactic(auto)]
+
+mod case;
+mod draft;
+mod field;
+mod form;
+mod request;
+mod sent;
+mod wanted;
+
+pub use case::{Case, Event, Loaded, Want};
+pub use draft::{Draft, cases};
+pub use form::{Form, parse_form};
+pub use request::{Request, push_number};
+pub use wanted::{Wanted, is_met};
