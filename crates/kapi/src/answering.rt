@@ -1,3 +1,4 @@
+use crate::bounded_lines::BoundedLines;
 use kapi_audit::answer_run;
 use kapi_desk::Seat;
 use std::alloc::Global;
@@ -5,10 +6,14 @@ use std::io::{self, BufWriter, ErrorKind};
 use std::net::{TcpListener, TcpStream};
 use std::thread;
 use std::thread::Threads;
+use std::time::{Clock, Duration};
+
+/// So many milliseconds pass before a client is waited for again where none could be accepted.
+const PAUSE: u64 = 100;
 
 /// Starts a thread for each seat. It takes the clients of the listener one after the other and answers their questions; what goes wrong with one
 /// ends that one alone. The threads end with the program.
-pub fn start_readers<R: Threads>(
+pub fn start_readers<R: Threads + Clock + Clone + Drop + Send + 'static>(
     rt: &R,
     alloc: Global,
     listener: &TcpListener,
@@ -16,7 +21,8 @@ pub fn start_readers<R: Threads>(
 ) -> io::Result<()> {
     for seat in seats {
         let listener = listener.try_clone()?;
-        if thread::spawn(rt, move || answer_clients(alloc, listener, seat)).is_err() {
+        let clock = rt.clone()?;
+        if thread::spawn(rt, move || answer_clients(&clock, alloc, listener, seat)).is_err() {
             return Err(io::Error::from(ErrorKind::OutOfMemory));
         }
     }
@@ -24,19 +30,22 @@ pub fn start_readers<R: Threads>(
 }
 
 /// Answers the clients of a listener.
-fn answer_clients(alloc: Global, listener: TcpListener, seat: Seat) {
+fn answer_clients<C: Clock>(clock: &C, alloc: Global, listener: TcpListener, seat: Seat) {
     let mut seat = seat;
     for stream in listener.incoming() {
-        if let Ok(stream) = stream {
-            let _ended = answer_client(alloc, &mut seat, &stream);
+        match stream {
+            Ok(stream) => {
+                let _ended = answer_client(alloc, &mut seat, &stream);
+            }
+            Err(_error) => thread::sleep(clock, Duration::from_millis(PAUSE)),
         }
     }
 }
 
-/// Answers a client to the end of his lines.
+/// Answers a client to the end of its lines, or to one that is too long.
 fn answer_client(alloc: Global, seat: &mut Seat, stream: &TcpStream) -> io::Result<()> {
     stream.set_nodelay(true)?;
-    let mut reader = stream;
+    let mut reader = BoundedLines::new(stream);
     let mut writer = BufWriter::new(alloc, stream)?;
     let _fault = answer_run(alloc, seat, &mut reader, &mut writer);
     Ok(())

@@ -6,6 +6,7 @@ ghost use Rattle.std.specs.Prelude.{◌≤◌};
 
 mod answering;
 mod arguments;
+mod bounded_lines;
 mod command_line;
 mod program;
 mod replaying;

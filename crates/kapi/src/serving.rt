@@ -12,11 +12,12 @@ use std::net::{Ipv4Addr, Net, SocketAddr, TcpListener, TcpStream};
 use std::process::ExitCode;
 use std::sync::Wait;
 use std::thread::Threads;
+use std::time::Clock;
 
 /// What came of listening.
 #[derive(Drop)]
-enum Listening {
-    On(Sockets),
+enum Listening<C: Clock + Drop> {
+    On(Sockets<C>),
     /// This port cannot be listened on.
     Refused(u16),
 }
@@ -30,7 +31,12 @@ pub fn run_serve<
         + AllocGlobal
         + Wait
         + Threads
-        + Net<Listener = TcpListener, Stream = TcpStream>,
+        + Clock
+        + Clone
+        + Drop
+        + Send
+        + Net<Listener = TcpListener, Stream = TcpStream>
+        + 'static,
 >(rt: &R, options: &ServeOptions) -> io::Result<ExitCode> {
     let objects = match &options.load {
         Some(file) => match fs::read(rt, file.as_str()) {
@@ -62,7 +68,12 @@ fn serve_ports<
         + AllocGlobal
         + Wait
         + Threads
-        + Net<Listener = TcpListener, Stream = TcpStream>,
+        + Clock
+        + Clone
+        + Drop
+        + Send
+        + Net<Listener = TcpListener, Stream = TcpStream>
+        + 'static,
 >(rt: &R, started: Started, options: &ServeOptions) -> io::Result<ExitCode>
     requires { started.desk.waiting ≡ [] }
 {
@@ -84,11 +95,17 @@ fn serve_ports<
 }
 
 /// Listens on the ports, and then on the one for questions, which readers answer from the seats.
-fn listen_all<R: Print + AllocGlobal + Threads + Net<Listener = TcpListener, Stream = TcpStream>>(
-    rt: &R,
-    options: &ServeOptions,
-    seats: Vec<Seat>,
-) -> io::Result<Listening> {
+fn listen_all<
+    R: Print
+        + AllocGlobal
+        + Threads
+        + Clock
+        + Clone
+        + Drop
+        + Send
+        + Net<Listener = TcpListener, Stream = TcpStream>
+        + 'static,
+>(rt: &R, options: &ServeOptions, seats: Vec<Seat>) -> io::Result<Listening<R>> {
     let sockets = match listen(rt, options.listens.as_slice())? {
         Listening::On(sockets) => sockets,
         Listening::Refused(port) => return Ok(Listening::Refused(port)),
@@ -107,8 +124,11 @@ fn listen_all<R: Print + AllocGlobal + Threads + Net<Listener = TcpListener, Str
 }
 
 /// Listens on the ports in their order and tells each.
-fn listen<R: Print + AllocGlobal + Net>(rt: &R, listens: &[Listen]) -> io::Result<Listening> {
-    let mut sockets = Sockets::new(rt.alloc(), rt)?;
+fn listen<R: Print + AllocGlobal + Clock + Clone + Drop + Net>(
+    rt: &R,
+    listens: &[Listen],
+) -> io::Result<Listening<R>> {
+    let mut sockets = Sockets::new(rt.alloc(), rt, rt.clone()?)?;
     for listen in listens {
         let identity = listen.identity.copy(rt.alloc())?;
         match sockets.listen(rt, listen.port, identity) {

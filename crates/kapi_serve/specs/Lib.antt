@@ -6,3 +6,4 @@ pub mod Goes
 pub mod Account
 pub mod Acts
 pub mod Clients
+pub mod Turns

@@ -13,6 +13,7 @@ mod port;
 mod publishing;
 mod server;
 mod sockets;
+mod stream;
 
 pub use port::{Entry, PortEvent, PortFault, Ports};
 pub use server::serve_loop;

@@ -1,23 +1,30 @@
-ghost use Rattle.std.specs.Prelude.{◌≡◌, ◌<◌, vec_len, IfOk};
+ghost use Rattle.std.specs.Prelude.{◌≡◌, ◌<◌, ◌≤◌, HoldsAt, IfOk, IfSome, None, Some, vec_len};
+ghost use Rattle.kapi_serve.specs.declared.port.PortEvent.TheVariants as event;
 ghost use Rattle.kapi_serve.specs.declared.port.PortFault.TheVariants as fault;
 
 use crate::port::{PortEvent, PortFault, Ports};
+use crate::stream::Stream;
 use kapi_rbac_types::Identity;
 use kapi_text::TryCopy;
 use mio::event::Event;
-use mio::net::{TcpListener, TcpStream};
+use mio::net::TcpListener;
 use mio::{Events, Interest, Poll, Token};
-use std::alloc::{AllocError, Global};
-use std::collections::VecDeque;
-use std::io::{self, ErrorKind, Read, Write};
+use std::alloc::Global;
+use std::io::{self, ErrorKind};
 use std::net::{Ipv4Addr, Net, SocketAddr};
-use std::time::Duration;
+use std::time::{Clock, Duration};
 
 /// So many events are taken from one wait.
 const EVENTS: usize = 256;
 
 /// So many milliseconds a wait lasts at most.
 const WAIT: u64 = 100;
+
+/// So many sockets of clients are open at most.
+const MOST_OPEN: usize = 320;
+
+/// So many clients are taken in before the open ones have their turn again.
+const MOST_ACCEPTED: usize = 16;
 
 /// A port that is listened on, and the identity that each of its connections has.
 #[derive(Drop)]
@@ -26,50 +33,40 @@ struct Listener {
     identity: Identity,
     /// A client may wait to be accepted.
     waiting: bool,
+    /// So many clients may still be taken in in this round.
+    left: usize,
+    ghost few: { left ≤ 16 },
 }
 
-/// What a wait has found.
-#[derive(Clone, Copy, Debug, PartialEq, Eq)]
-enum Found {
-    Readable(usize),
-    Writable(usize),
-}
-
-/// Ports over sockets of this machine.
+/// Ports over sockets of this machine. They go in rounds: each slot that is ready has one turn, and then a few clients are taken in.
 #[derive(Drop)]
-pub struct Sockets {
+pub struct Sockets<C: Clock + Drop> {
     alloc: Global,
+    clock: C,
     poll: Poll,
     events: Events,
     listeners: Vec<Listener>,
     /// The streams by slot.
-    streams: Vec<Option<TcpStream>>,
-    found: VecDeque<Found>,
+    streams: Vec<Option<Stream>>,
+    /// The slots from this one on have not had their turn in this round.
+    turn: usize,
+    /// When the round began.
+    now: Duration,
     failures: u64,
 }
 
-/// What came of an attempt to accept a client.
-#[derive(Drop)]
-enum Accepted {
-    Client(PortEvent),
-    /// A client was lost.
-    Lost,
-    /// None waits.
-    Nothing,
-}
-
-impl Sockets {
+impl<C: Clock + Drop> Sockets<C> {
     /// Ports with no listener.
-    pub fn new<N: Net>(alloc: Global, net: &N) -> io::Result<Sockets> {
-        let mut found = VecDeque::new(alloc);
-        found.reserve(2 * EVENTS)?;
+    pub fn new<N: Net>(alloc: Global, net: &N, clock: C) -> io::Result<Sockets<C>> {
         Ok(Sockets {
             alloc,
+            clock,
             poll: Poll::new(net)?,
             events: Events::with_capacity(alloc, EVENTS)?,
             listeners: Vec::new(alloc),
             streams: Vec::new(alloc),
-            found,
+            turn: 0,
+            now: Duration::ZERO,
             failures: 0,
         })
     }
@@ -88,74 +85,121 @@ impl Sockets {
             socket,
             identity,
             waiting: false,
+            left: 0,
         })?;
         Ok(port)
     }
 
-    /// A place that no stream has.
-    fn free_slot(&mut self) -> Result<usize, AllocError>
-        ensures slot { IfOk result (λ slot. slot < vec_len self.new.streams) }
+    /// A slot that no stream has, if there is one.
+    fn free_slot(&mut self) -> Option<usize>
+        ensures slot { IfSome result (λ slot. slot < vec_len self.new.streams) }
+        ensures free { IfSome result (λ slot. HoldsAt (λ place. place ≡ None) self.new.streams.items slot) }
+        ensures few { vec_len self.old.streams ≤ 320 → vec_len self.new.streams ≤ 320 }
         ensures same { self.new.listeners ≡ self.old.listeners }
     {
         match self.streams.iter().position(|stream| stream.is_none()) {
-            Some(slot) => Ok(slot),
+            Some(slot) => Some(slot),
             None => {
-                self.streams.push(None)?;
-                Ok(self.streams.len() - 1)
+                if self.streams.len() >= MOST_OPEN {
+                    return None;
+                }
+                self.streams.push(None).ok()?;
+                Some(self.streams.len() - 1)
             }
         }
     }
 
-    /// Takes one client in, if one waits.
-    fn accept(&mut self) -> Accepted {
-        let Some(index) = self.listeners.iter().position(|listener| listener.waiting) else {
-            return Accepted::Nothing;
-        };
-        match self.accept_at(index) {
-            Ok(event) => Accepted::Client(event),
-            Err(error) => {
-                self.listeners[index].waiting = error.kind() != ErrorKind::WouldBlock;
-                Accepted::Lost
+    /// Takes one client in, if one waits and a slot is free. Where none is, a client that takes nothing loses its own.
+    fn accept(&mut self) -> Option<PortEvent> {
+        for _ in 0..self.listeners.len() {
+            let index = self
+                .listeners
+                .iter()
+                .position(|listener| listener.waiting && listener.left > 0)?;
+            let Some(slot) = self.free_slot() else {
+                self.break_stuck();
+                return None;
+            };
+            match self.accept_at(index, slot) {
+                Ok(event) => return Some(event),
+                Err(error) => self.listeners[index].pause(error.kind()),
             }
         }
+        None
     }
 
-    fn accept_at(&mut self, index: usize) -> io::Result<PortEvent>
-        requires { index < vec_len self.old.listeners }
-        ensures { vec_len self.new.listeners ≡ vec_len self.old.listeners }
+    fn accept_at(&mut self, index: usize, slot: usize) -> io::Result<PortEvent>
+        requires listener { index < vec_len self.old.listeners }
+        requires slot { slot < vec_len self.old.streams }
+        ensures identity { HoldsAt (λ listener. IfOk result (λ opened. opened ≡ event.Opened slot listener.identity)) self.old.listeners.items index }
+        ensures same { vec_len self.new.listeners ≡ vec_len self.old.listeners }
     {
-        let identity = self.listeners[index].identity.copy(self.alloc)?;
-        let slot = self.free_slot()?;
-        let (mut stream, _address) = self.listeners[index].socket.accept()?;
-        stream.set_nodelay(true)?;
+        let listener = &mut self.listeners[index];
+        listener.left = listener.left.saturating_sub(1);
+        let identity = listener.identity.copy(self.alloc)?;
+        let (mut socket, _address) = listener.socket.accept()?;
+        socket.set_nodelay(true)?;
         self.poll.registry().register(
-            &mut stream,
+            &mut socket,
             Token(self.listeners.len().saturating_add(slot)),
             Interest::READABLE | Interest::WRITABLE,
         )?;
-        self.streams[slot] = Some(stream);
+        self.streams[slot] = Some(Stream::new(socket));
         Ok(PortEvent::Opened(slot, identity))
     }
 
-    /// Waits until something can be done, and notes what. None where the wait fails.
-    fn wait(&mut self) -> Option<()> {
-        let most = Duration::from_millis(WAIT);
-        match self.poll.poll(&mut self.events, Some(most)) {
-            Ok(()) => {
-                for event in &self.events {
-                    note(&mut self.listeners, &mut self.found, event);
-                }
-                Some(())
+    /// Breaks the first of the streams that have taken nothing for too long.
+    fn break_stuck(&mut self) {
+        let now = self.now;
+        for stream in self.streams.iter_mut().flatten() {
+            if stream.is_stuck(now) {
+                return stream.break_off();
             }
-            Err(_error) => None,
         }
     }
 
-    /// What was noted first.
-    fn take_found(&mut self) -> Option<PortEvent> {
-        match self.found.pop_front()? {
-            Found::Readable(slot) => Some(PortEvent::Readable(slot)),
-            Found::Writable(slot) => Some(PortEvent::Writable(slot)),
+    /// The next turn of this round.
+    fn take_turn(&mut self) -> Option<PortEvent>
+        ensures { IfSome result (λ event. self.old.turn < self.new.turn) }
+    {
+        for slot in self.turn..self.streams.len() {
+            self.turn = slot + 1;
+            if let Some(Some(stream)) = self.streams.get_mut(slot) {
+                if let Some(event) = stream.take_turn(slot) {
+                    return Some(event);
+                }
+            }
+        }
+        None
+    }
+
+    /// What is left to be told in this round.
+    fn go_on(&mut self) -> Option<PortEvent> {
+        match self.take_turn() {
+            Some(event) => Some(event),
+            None => self.accept(),
+        }
+    }
+
+    /// Begins a round, after so many milliseconds at most. None where the wait fails.
+    fn begin_round(&mut self, most: u64) -> Option<()> {
+        self.poll
+            .poll(&mut self.events, Some(Duration::from_millis(most)))
+            .ok()?;
+        for event in &self.events {
+            note(&mut self.listeners, &mut self.streams, event);
+        }
+        self.allow();
+        self.now = self.clock.monotonic().unwrap_or(self.now);
+        self.turn = 0;
+        Some(())
+    }
+
+    /// Each listener may take in as many clients as any other.
+    fn allow(&mut self) {
+        let share = MOST_ACCEPTED / self.listeners.len().max(1);
+        for listener in &mut self.listeners {
+            listener.left = share.max(1);
         }
     }
 
@@ -176,23 +220,27 @@ impl Sockets {
     }
 }
 
+impl Listener {
+    /// No client is taken in in this round any more.
+    fn pause(&mut self, error: ErrorKind) {
+        self.left = 0;
+        self.waiting = error != ErrorKind::WouldBlock;
+    }
+}
+
 /// Notes what an event tells.
-fn note(listeners: &mut Vec<Listener>, found: &mut VecDeque<Found>, event: &Event) {
+fn note(listeners: &mut Vec<Listener>, streams: &mut Vec<Option<Stream>>, event: &Event) {
     let token = event.token().0;
     if token < listeners.len() {
         listeners[token].waiting = true;
         return;
     }
-    let slot = token - listeners.len();
-    if event.is_writable() {
-        let _full = found.push_back(Found::Writable(slot));
-    }
-    if event.is_readable() || event.is_read_closed() || event.is_error() {
-        let _full = found.push_back(Found::Readable(slot));
+    if let Some(Some(stream)) = streams.get_mut(token - listeners.len()) {
+        stream.note(event);
     }
 }
 
-impl Ports for Sockets {
+impl<C: Clock + Drop> Ports for Sockets<C> {
     ghost use Rattle.std.specs.Prelude.{[]};
 
     ghost history = { λ s. [] };
@@ -200,19 +248,15 @@ impl Ports for Sockets {
     ghost failures = { λ s. s.failures };
 
     fn next(&mut self) -> Option<PortEvent> {
-        if let Some(event) = self.take_found() {
+        if let Some(event) = self.go_on() {
             return Some(event);
         }
-        if let Accepted::Client(event) = self.accept() {
+        self.begin_round(0)?;
+        if let Some(event) = self.go_on() {
             return Some(event);
         }
-        self.wait()?;
-        match self.accept() {
-            Accepted::Client(event) => Some(event),
-            Accepted::Lost | Accepted::Nothing => Some(
-                self.take_found().unwrap_or(PortEvent::Idle),
-            ),
-        }
+        self.begin_round(WAIT)?;
+        Some(self.go_on().unwrap_or(PortEvent::Idle))
     }
 
     fn read(&mut self, slot: usize, buffer: &mut [u8]) -> Result<usize, PortFault> {
@@ -228,7 +272,7 @@ impl Ports for Sockets {
 
     fn write(&mut self, slot: usize, bytes: &[u8]) -> Result<usize, PortFault> {
         let error = match self.streams.get_mut(slot) {
-            Some(Some(stream)) => match stream.write(bytes) {
+            Some(Some(stream)) => match stream.write(bytes, self.now) {
                 Ok(count) => return Ok(count),
                 Err(error) => Some(error),
             },
@@ -237,7 +281,9 @@ impl Ports for Sockets {
         Err(self.fault(error))
     }
 
-    fn end(&mut self, slot: usize) {
+    fn end(&mut self, slot: usize)
+        ensures freed { slot < vec_len self.old.streams → HoldsAt (λ place. place ≡ None) self.new.streams.items slot }
+    {
         if let Some(place) = self.streams.get_mut(slot) {
             drop(place.take());
         }

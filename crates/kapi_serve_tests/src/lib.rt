@@ -6,6 +6,8 @@ mod answers;
 #[cfg(test)]
 mod crowd;
 #[cfg(test)]
+mod fair;
+#[cfg(test)]
 mod fixture;
 #[cfg(test)]
 mod live;

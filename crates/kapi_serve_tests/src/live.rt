@@ -20,6 +20,7 @@ use std::sync::atomic::{AtomicBool, Ordering};
 use std::test::Fail;
 use std::thread;
 use std::thread::Threads;
+use std::time::Clock;
 
 /// Whether ann may get pods.
 const QUESTION: &[u8] =
@@ -180,7 +181,9 @@ fn serve_beside<
 }
 
 /// How many seats were right while clients of two ports of 127.0.0.1 were served.
-fn serve_and_ask<R: Threads + Wait + Sync + Net<Listener = TcpListener, Stream = TcpStream>>(
+fn serve_and_ask<
+    R: Threads + Wait + Sync + Clock + Net<Listener = TcpListener, Stream = TcpStream>,
+>(
     rt: &R,
     alloc: Global,
     core: &mut Core<IndexedPolicy>,
@@ -190,7 +193,7 @@ fn serve_and_ask<R: Threads + Wait + Sync + Net<Listener = TcpListener, Stream =
     requires { desk.old.waiting ≡ [] }
 {
     let over = AtomicBool::new(false);
-    let mut sockets = Sockets::new(alloc, rt)?;
+    let mut sockets = Sockets::new(alloc, rt, rt)?;
     let clients = Clients {
         root: sockets.listen(rt, 0, master(alloc)?)?,
         bob: sockets.listen(rt, 0, user(alloc, "bob")?)?,

@@ -6,19 +6,20 @@ use std::io::{Read, Write};
 use std::net::{Ipv4Addr, SocketAddr, TcpStream};
 use std::sync::atomic::{AtomicBool, Ordering};
 use std::test::Fail;
+use std::time::Clock;
 
 /// Sockets until nothing happens any more.
 #[derive(Drop)]
-pub struct UntilIdle<'o> {
-    sockets: Sockets,
+pub struct UntilIdle<'o, C: Clock + Drop> {
+    sockets: Sockets<C>,
     /// The clients are done.
     over: &'o AtomicBool,
     /// So many times nothing may happen after that.
     idle: u32,
 }
 
-impl<'o> UntilIdle<'o> {
-    pub fn new(sockets: Sockets, over: &'o AtomicBool, idle: u32) -> UntilIdle<'o> {
+impl<'o, C: Clock + Drop> UntilIdle<'o, C> {
+    pub fn new(sockets: Sockets<C>, over: &'o AtomicBool, idle: u32) -> UntilIdle<'o, C> {
         UntilIdle {
             sockets,
             over,
@@ -27,7 +28,7 @@ impl<'o> UntilIdle<'o> {
     }
 }
 
-impl Ports for UntilIdle<'_> {
+impl<C: Clock + Drop> Ports for UntilIdle<'_, C> {
     ghost use Rattle.std.specs.Prelude.{[]};
 
     ghost history = { λ p. [] };
@@ -58,7 +59,7 @@ impl Ports for UntilIdle<'_> {
 #[test]
 fn a_client_of_127_0_0_1_is_answered(rt: HostRuntime) -> Result<(), Fail> {
     let alloc = rt.alloc();
-    let mut sockets = Sockets::new(alloc, &rt)?;
+    let mut sockets = Sockets::new(alloc, &rt, &rt)?;
     let port = sockets.listen(&rt, 0, master(alloc)?)?;
     let mut client = TcpStream::connect(&rt, SocketAddr::from((Ipv4Addr::LOCALHOST, port)))?;
     client.write_all(CREATE)?;

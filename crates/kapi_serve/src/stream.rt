@@ -1,0 +1,132 @@
+ghost use Rattle.std.specs.Prelude.{◌≡◌, ◌+◌, ◌≤◌, None, Some, true, false, IfOk, IsErr, length};
+ghost use Rattle.kapi_serve.specs.Turns.{turn_of};
+
+use crate::port::PortEvent;
+use mio::event::Event;
+use mio::net::TcpStream;
+use std::io::{self, ErrorKind, Read, Write};
+use std::net::Shutdown;
+use std::time::Duration;
+
+/// So many bytes of a client are read before the others have their turn.
+const READ_SHARE: usize = 2_048;
+
+/// So many bytes are written to a client before the others have their turn.
+const WRITE_SHARE: usize = 32_768;
+
+/// So many seconds a client may take nothing of what is written to it, where others need its socket.
+const PATIENCE: u64 = 60;
+
+/// The socket of a client, and what is left of its share.
+#[derive(Drop)]
+pub(crate) struct Stream {
+    socket: TcpStream,
+    /// It may have bytes, or their end.
+    readable: bool,
+    /// It may take bytes again.
+    writable: bool,
+    read_left: usize,
+    write_left: usize,
+    /// The socket has taken nothing since then.
+    blocked_since: Option<Duration>,
+    ghost shares: { (read_left ≤ 2_048) × (write_left ≤ 32_768) },
+}
+
+impl Stream {
+    pub(crate) fn new(socket: TcpStream) -> Stream {
+        Stream {
+            socket,
+            readable: false,
+            writable: false,
+            read_left: READ_SHARE,
+            write_left: WRITE_SHARE,
+            blocked_since: None,
+        }
+    }
+
+    /// Notes what an event tells.
+    pub(crate) fn note(&mut self, event: &Event) {
+        if event.is_writable() && self.blocked_since.is_some() {
+            self.writable = true;
+        }
+        if event.is_readable() || event.is_read_closed() || event.is_error() {
+            self.readable = true;
+        }
+    }
+
+    /// What the stream on this slot can be asked for, if it can be. Its share is whole then.
+    pub(crate) fn take_turn(&mut self, slot: usize) -> Option<PortEvent>
+        ensures { result ≡ turn_of slot self.old.writable self.old.readable }
+    {
+        if self.writable {
+            self.writable = false;
+            self.write_left = WRITE_SHARE;
+            return Some(PortEvent::Writable(slot));
+        }
+        if self.readable {
+            self.readable = false;
+            self.read_left = READ_SHARE;
+            return Some(PortEvent::Readable(slot));
+        }
+        None
+    }
+
+    /// Reads within the share. When it is used up, or what is written waits for its own turn, reading goes on at the next turn.
+    pub(crate) fn read(&mut self, buffer: &mut [u8]) -> io::Result<usize>
+        ensures len { length buffer.new ≡ length buffer.old }
+        ensures bound { IfOk result (λ n. n ≤ length buffer.new) }
+        ensures share { IfOk result (λ n. n + self.new.read_left ≡ self.old.read_left) }
+        ensures used_up { self.old.read_left ≡ 0 → IsErr result × (self.new.readable ≡ true) }
+    {
+        let most = self.read_left.min(buffer.len());
+        if most == 0 || self.writable {
+            self.readable = true;
+            return Err(io::Error::from(ErrorKind::WouldBlock));
+        }
+        let count = self.socket.read(&mut buffer[..most])?;
+        self.read_left -= count;
+        Ok(count)
+    }
+
+    /// Writes within the share. When it is used up, writing goes on at the next turn.
+    pub(crate) fn write(&mut self, bytes: &[u8], now: Duration) -> io::Result<usize>
+        ensures bound { IfOk result (λ n. n ≤ length bytes.now) }
+        ensures share { IfOk result (λ n. n + self.new.write_left ≡ self.old.write_left) }
+        ensures used_up { self.old.write_left ≡ 0 → IsErr result × (self.new.writable ≡ true) }
+    {
+        if self.write_left == 0 {
+            self.writable = true;
+            return Err(io::Error::from(ErrorKind::WouldBlock));
+        }
+        let most = self.write_left.min(bytes.len());
+        match self.socket.write(&bytes[..most]) {
+            Ok(count) => {
+                self.write_left -= count;
+                self.blocked_since = None;
+                Ok(count)
+            }
+            Err(error) => {
+                self.blocked_since = self.blocked_since.or(Some(now));
+                Err(error)
+            }
+        }
+    }
+
+    /// Whether the client has taken nothing for as long as it may.
+    pub(crate) fn is_stuck(&self, now: Duration) -> bool
+        ensures { self.now.blocked_since ≡ None → result ≡ false }
+    {
+        match self.blocked_since {
+            Some(since) => now.saturating_sub(since).as_secs() >= PATIENCE,
+            None => false,
+        }
+    }
+
+    /// Breaks the connection, so that the next write fails.
+    pub(crate) fn break_off(&mut self)
+        ensures { self.new.writable ≡ true }
+    {
+        let _fault = self.socket.shutdown(Shutdown::Both);
+        self.writable = true;
+    }
+}

@@ -1,0 +1,78 @@
+//! A client that has sent many requests beside one that has sent one.
+ghost use Rattle.std.specs.Prelude.{◌≡◌};
+
+use crate::fixture::{core, desk, master};
+use kapi_serve::{PortEvent, PortFault, Ports, Sockets, serve_loop};
+use std::io::Write;
+use std::net::{Ipv4Addr, SocketAddr, TcpStream};
+use std::test::Fail;
+use std::time::Clock;
+
+const GET: &str = "GET /api/v1/namespaces/default/configmaps HTTP/1.1\r\nHost: a\r\n\r\n";
+
+/// Sockets until the second client is written to.
+#[derive(Drop)]
+struct UntilSecond<C: Clock + Drop> {
+    sockets: Sockets<C>,
+    /// So many bytes of the first client were read.
+    read: usize,
+    over: bool,
+}
+
+impl<C: Clock + Drop> Ports for UntilSecond<C> {
+    ghost use Rattle.std.specs.Prelude.{[]};
+
+    ghost history = { λ p. [] };
+
+    ghost failures = { λ p. p.sockets.failures };
+
+    fn next(&mut self) -> Option<PortEvent> {
+        if self.over {
+            return None;
+        }
+        self.sockets.next()
+    }
+
+    fn read(&mut self, slot: usize, buffer: &mut [u8]) -> Result<usize, PortFault> {
+        let count = self.sockets.read(slot, buffer)?;
+        if slot == 0 {
+            self.read = self.read.saturating_add(count);
+        }
+        Ok(count)
+    }
+
+    fn write(&mut self, slot: usize, bytes: &[u8]) -> Result<usize, PortFault> {
+        if slot == 1 {
+            self.over = true;
+        }
+        self.sockets.write(slot, bytes)
+    }
+
+    fn end(&mut self, slot: usize) {
+        self.sockets.end(slot)
+    }
+}
+
+#[test]
+fn a_client_is_answered_after_two_shares_of_another_at_most(rt: HostRuntime) -> Result<(), Fail> {
+    let alloc = rt.alloc();
+    let mut sockets = Sockets::new(alloc, &rt, &rt)?;
+    let port = sockets.listen(&rt, 0, master(alloc)?)?;
+    let address = SocketAddr::from((Ipv4Addr::LOCALHOST, port));
+    let mut greedy = TcpStream::connect(&rt, address)?;
+    greedy.write_all(GET.repeat(alloc, 500)?.as_bytes())?;
+    let mut other = TcpStream::connect(&rt, address)?;
+    other.write_all(GET.as_bytes())?;
+    let mut core = core(alloc)?;
+    let (mut desk, seats) = desk(alloc, &rt)?;
+    let mut ports = UntilSecond {
+        sockets,
+        read: 0,
+        over: false,
+    };
+    serve_loop(&rt, &mut core, &mut desk, &mut ports);
+    drop(seats);
+    drop(desk.close(&rt));
+    assert!(rt; 0 < ports.read && ports.read <= 4_096);
+    Ok(())
+}

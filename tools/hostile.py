@@ -1,0 +1,222 @@
+#!/usr/bin/env python3
+"""Attacks a server on 127.0.0.1 as a client without rights may, and prints what each attack costs the others.
+
+usage: hostile.py KAPI [ATTACK..]     KAPI is the built program; all attacks if none is named: greedy flood silent spin line
+
+Each attack starts a server of its own and is bounded in count and time. The exit status is 1 where one is above its bound.
+"""
+import os
+import pathlib
+import re
+import resource
+import select
+import socket
+import statistics
+import subprocess
+import sys
+import threading
+import time
+
+ROOT, ANN, ANSWER = 18011, 18012, 18013
+GET = b"GET /api/v1/namespaces/default/configmaps HTTP/1.1\r\nHost: a\r\n\r\n"
+GREEDY_CLIENTS, GREEDY_SECONDS = 8, 20
+CONNECTS, FLOODERS, FLOOD_SECONDS = 100_000, 4, 10
+SILENT_CLIENTS, SILENT_SECONDS = 450, 75
+SPIN_SECONDS = 2
+LINE_BYTES = 64_000_000
+
+
+class Server:
+    """A server of root's and ann's port, and one for questions; so many descriptors, if any number is named."""
+
+    def __init__(self, program, descriptors=None):
+        limit = (lambda: resource.setrlimit(resource.RLIMIT_NOFILE, (descriptors, descriptors))) if descriptors else None
+        words = [program, "serve", "--answer", str(ANSWER), "--readers", "2", f"{ROOT}=root,system:masters", f"{ANN}=ann"]
+        self.process = subprocess.Popen(words, stdout=subprocess.PIPE, preexec_fn=limit)
+        for _port in (ROOT, ANN, ANSWER):
+            self.process.stdout.readline()
+
+    def __enter__(self):
+        return self
+
+    def __exit__(self, *_fault):
+        self.process.kill()
+        self.process.wait()
+
+    def resident(self):
+        """Resident memory, in millions of bytes."""
+        status = pathlib.Path(f"/proc/{self.process.pid}/status").read_text()
+        return int(re.search(r"VmRSS:\s+(\d+)", status)[1]) / 1000
+
+    def descriptors(self):
+        return len(os.listdir(f"/proc/{self.process.pid}/fd"))
+
+    def seconds(self):
+        """Seconds of processor time."""
+        fields = pathlib.Path(f"/proc/{self.process.pid}/stat").read_text().rsplit(")", 1)[1].split()
+        return (int(fields[11]) + int(fields[12])) / os.sysconf("SC_CLK_TCK")
+
+
+def connect(port):
+    return socket.create_connection(("127.0.0.1", port))
+
+
+def create(client, name, letters):
+    """Creates a ConfigMap with so many letters."""
+    body = b'{"metadata":{"name":"%s"},"data":{"k":"%s"}}' % (name, b"a" * letters)
+    client.sendall(b"POST /api/v1/namespaces/default/configmaps HTTP/1.1\r\nHost: a\r\nContent-Length: %d\r\n\r\n" % len(body) + body)
+    while not client.recv(65536).endswith(b"}"):
+        pass
+
+
+def waits(seconds, pause=0.02):
+    """Milliseconds that each of root's gets waits for its answer, one after the other over one connection; the last one may have none."""
+    client, told, end = connect(ROOT), [], time.monotonic() + seconds
+    client.settimeout(seconds)
+    while time.monotonic() < end:
+        begin = time.monotonic()
+        client.sendall(GET)
+        try:
+            answer = client.recv(65536)
+        except TimeoutError:
+            answer = None
+        told.append(1000 * (time.monotonic() - begin))
+        if not answer:
+            break
+        time.sleep(pause)
+    client.close()
+    return told
+
+
+def judge(name, figures):
+    """Prints figures, each with its bound, if it has one. Whether all are within them."""
+    words = [f"{what} {value:,.1f}" + (f" (at most {most:,})" if most is not None else "") for what, value, most in figures]
+    well = all(most is None or value <= most for _what, value, most in figures)
+    print(f"{name}: {'; '.join(words)}{'' if well else ': ABOVE ITS BOUND'}", flush=True)
+    return well
+
+
+def demand():
+    """A client without rights that sends without pause and reads its refusals, until it is killed or a minute has passed."""
+    client, requests, end = connect(ANN), GET * 64, time.monotonic() + 60
+    client.setblocking(False)
+    left = requests
+    while time.monotonic() < end:
+        readable, writable, _none = select.select([client], [client], [], 0.1)
+        if readable and not client.recv(1 << 20):
+            return
+        if writable:
+            left = left[client.send(left):] or requests
+
+
+def greedy(program):
+    """Clients that send without pause, in processes of their own, beside root's gets."""
+    with Server(program):
+        words = [sys.executable, __file__, program, "--demand"]
+        clients = [subprocess.Popen(words) for _client in range(GREEDY_CLIENTS)]
+        time.sleep(1)
+        told = waits(GREEDY_SECONDS)
+        lasting = sum(client.poll() is None for client in clients)
+        for client in clients:
+            client.kill()
+            client.wait()
+    figures = [("root's get, ms in the median", statistics.median(told), 10), ("at the most", max(told), 100), ("clients left", lasting, None)]
+    return judge(f"{GREEDY_CLIENTS} clients that send without pause", figures)
+
+
+def flood(program):
+    """Connects in great number, beside root's gets over an open connection."""
+    made = [0] * FLOODERS
+
+    def attack(number, is_over):
+        while not is_over.is_set() and made[number] < CONNECTS // FLOODERS:
+            try:
+                connect(ANN).close()
+            except OSError:
+                time.sleep(0.01)
+            made[number] += 1
+
+    with Server(program):
+        is_over, told = threading.Event(), []
+        threads = [threading.Thread(target=attack, args=(number, is_over)) for number in range(FLOODERS)]
+        asker = threading.Thread(target=lambda: told.extend(waits(FLOOD_SECONDS)))
+        asker.start()
+        for thread in threads:
+            thread.start()
+        asker.join()
+        is_over.set()
+        for thread in threads:
+            thread.join()
+    return judge(f"{sum(made):,} connects in {FLOOD_SECONDS} s", [("an open connection's get, ms at the most", max(told), 50), ("in the median", statistics.median(told), None)])
+
+
+def silent(program):
+    """Clients that ask for a large answer and that their connection be closed, and read nothing."""
+    request = GET.replace(b"\r\n\r\n", b"\r\nConnection: close\r\n\r\n")
+    with Server(program) as server:
+        root = connect(ROOT)
+        for name in (b"a", b"b", b"c"):
+            create(root, name, 900_000)
+        root.close()
+        clients, most = [], 0
+        for _client in range(SILENT_CLIENTS):
+            client = socket.socket()
+            client.setsockopt(socket.SOL_SOCKET, socket.SO_RCVBUF, 4096)
+            client.connect(("127.0.0.1", ROOT))
+            client.sendall(request)
+            clients.append(client)
+            most = max(most, server.descriptors())
+        time.sleep(3)
+        most, resident = max(most, server.descriptors()), server.resident()
+        time.sleep(SILENT_SECONDS)
+        begin, late = time.monotonic(), connect(ROOT)
+        late.settimeout(20)
+        late.sendall(GET)
+        answered = 0 if late.recv(16) else 1
+        figures = [("descriptors", most, 340), ("million bytes resident", resident, None), ("seconds until a client is served that comes after a minute", time.monotonic() - begin, 10), ("refused", answered, 0)]
+    return judge(f"{SILENT_CLIENTS} clients that read nothing", figures)
+
+
+def spin(program):
+    """Clients of the port for questions beyond the descriptors that the server has."""
+    with Server(program, 24) as server:
+        clients = [connect(ANSWER) for _client in range(40)] + [connect(ANN) for _client in range(40)]
+        time.sleep(0.5)
+        before = server.seconds()
+        time.sleep(SPIN_SECONDS)
+        used = server.seconds() - before
+        for client in clients:
+            client.close()
+    return judge("no descriptor left", [(f"seconds of processor time in {SPIN_SECONDS} s", used, 0.2)])
+
+
+def line(program):
+    """A line without end on the port for questions."""
+    with Server(program) as server:
+        before, sent, client = server.resident(), 0, connect(ANSWER)
+        try:
+            while sent < LINE_BYTES:
+                sent += client.send(b"a" * 65536)
+        except OSError:
+            pass
+        grown = server.resident() - before
+        other = connect(ANSWER)
+        other.settimeout(10)
+        other.sendall(b'{"user":"ann","resourceAttributes":{"verb":"get","resource":"pods"}}\n')
+        answered = 0 if other.recv(64) == b"0 denied\n" else 1
+    return judge(f"a line of {LINE_BYTES:,} bytes", [("million bytes more resident", grown, 8), ("sent, millions", sent / 1e6, None), ("others refused", answered, 0)])
+
+
+ATTACKS = {"greedy": greedy, "flood": flood, "silent": silent, "spin": spin, "line": line}
+
+
+def main():
+    program, *names = sys.argv[1:]
+    if names == ["--demand"]:
+        return demand()
+    resource.setrlimit(resource.RLIMIT_NOFILE, (min(4096, resource.getrlimit(resource.RLIMIT_NOFILE)[1]),) * 2)
+    return 0 if all([ATTACKS[name](program) for name in names or ATTACKS]) else 1
+
+
+if __name__ == "__main__":
+    sys.exit(main())
