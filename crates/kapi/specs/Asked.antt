@@ -24,9 +24,11 @@ pub record Files : Type 0 where
   pub questions : Text
   pub readers : ℕ
 
--- the file that a server loads, the ports that it serves, the one on which questions are answered, and by how many threads
+-- the file that a server loads, whether the rights of watches are looked at anew, the ports that it serves, the one on which questions
+-- are answered, and by how many threads
 pub record Options : Type 0 where
   pub load : Option Text
+  pub recheck : Bool
   pub listens : List Listen
   pub answer : Option ℕ
   pub readers : ℕ
@@ -70,18 +72,24 @@ listens_in rows = do
   listens ← listens_of words
   few listens
 
+-- a flag that is given has the value true
+abbrev pub is_true : Option Text → Bool
+is_true None = false
+is_true (Some value) = bytes_eq value (codes "true")
+
 -- the server that they ask for
 abbrev pub options_in : List Row → Option Options
 options_in rows = do
   answer ← answer_of (first_of (codes "answer") rows)
   readers ← readers_in rows
   listens ← listens_in rows
-  Some (record { load = first_of (codes "load") rows; listens = listens; answer = answer; readers = readers })
-
--- a flag that is given has the value true
-abbrev pub is_true : Option Text → Bool
-is_true None = false
-is_true (Some value) = bytes_eq value (codes "true")
+  Some (record {
+    load = first_of (codes "load") rows;
+    recheck = is_true (first_of (codes "recheck-watches") rows);
+    listens = listens;
+    answer = answer;
+    readers = readers;
+  })
 
 -- the transcripts that they ask for
 abbrev pub transcripts_in : List Row → Option Transcripts
@@ -127,8 +135,13 @@ files_told f = record { policy = string_bytes f.policy; questions = string_bytes
 
 -- the fields of a server
 abbrev pub options_told : ServeOptions → Options
-options_told o =
-    record { load = option_map (λ s. string_bytes s) o.load; listens = o.listens.items; answer = o.answer; readers = o.readers }
+options_told o = record {
+  load = option_map (λ s. string_bytes s) o.load;
+  recheck = o.recheck;
+  listens = o.listens.items;
+  answer = o.answer;
+  readers = o.readers;
+}
 
 -- the fields of a replay
 abbrev pub transcripts_told : ReplayOptions → Transcripts

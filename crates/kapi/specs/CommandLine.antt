@@ -36,14 +36,16 @@ script = new_app (codes "script")
 abbrev pub audit : App
 audit = with_rule (with_rule (with_rule (new_app (codes "audit")) (file (codes "POLICY"))) (file (codes "QUESTIONS"))) readers
 
+-- `--NAME`, which has no value
+abbrev pub flag : Text → Rule
+flag name = record (new_rule name) { long = Some name; action = Some SetTrue }
+
 -- `kapi serve`, its options before its ports
 abbrev pub serve : App
 serve =
-    with_rule (with_rule (with_rule (with_rule (new_app (codes "serve")) (option (codes "load"))) (option (codes "answer"))) readers) listen
-
--- `--write`, which has no value
-abbrev pub write_flag : Rule
-write_flag = record (new_rule (codes "write")) { long = Some (codes "write"); action = Some SetTrue }
+    with_rule
+    (with_rule (with_rule (with_rule (with_rule (new_app (codes "serve")) (option (codes "load"))) (flag (codes "recheck-watches"))) (option (codes "answer"))) readers)
+    listen
 
 -- the names of the transcripts, one or more
 abbrev pub transcripts : Rule
@@ -54,7 +56,7 @@ transcripts = record (new_rule (codes "FILE")) {
 
 -- `kapi replay`, its flag before its files
 abbrev pub replay : App
-replay = with_rule (with_rule (new_app (codes "replay")) write_flag) transcripts
+replay = with_rule (with_rule (new_app (codes "replay")) (flag (codes "write"))) transcripts
 
 -- `kapi`, which has a version and needs one of its four subcommands
 abbrev pub kapi : App

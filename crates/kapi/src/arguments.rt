@@ -2,7 +2,7 @@ ghost use Rattle.std.specs.Prelude.{◌≡◌, IfOk, false};
 ghost use Rattle.clap.specs.Simple.{app_of};
 ghost use Rattle.clap.specs.Walk.{rule_of};
 ghost use Rattle.clap.specs.declared.builder.command.Command.TheViews.{out-Command};
-ghost use Rattle.kapi.specs.CommandLine.{kapi, audit as audit_app, replay as replay_app, serve as serve_app, script as script_app, file as file_rule, option as option_rule, readers as readers_rule, listen as listen_rule, transcripts as transcripts_rule, write_flag as write_rule};
+ghost use Rattle.kapi.specs.CommandLine.{kapi, audit as audit_app, replay as replay_app, serve as serve_app, script as script_app, file as file_rule, option as option_rule, readers as readers_rule, listen as listen_rule, transcripts as transcripts_rule, flag as flag_rule};
 
 use crate::command_line::PORTS;
 use clap::{Arg, ArgAction, Command, value_parser};
@@ -64,6 +64,9 @@ const SERVE_FORMS: &str =
 
 FILE has one JSON object a line, namespaces first; empty lines and lines that begin with # are skipped. The first line is 1.
 
+With --recheck-watches a watch ends with a 403 once the roles and bindings do not allow it any more; else its rights are looked at when
+it starts, and then no more.
+
 With --answer, N threads answer questions while the server goes on, those of one client after the other: each line the spec of a
 SubjectAccessReview, as for kapi audit, and each answer behind the number of changes of the policy that it follows.
 
@@ -80,6 +83,11 @@ fn serve<'a>(alloc: Global) -> Result<Command<'a>, Memory>
         .about("Serves requests on ports of this machine")
         .after_help(SERVE_FORMS)
         .arg(option(alloc, "load", "FILE", "The objects that stand at first"))?
+        .arg(flag(
+            alloc,
+            "recheck-watches",
+            "Looks at the rights of a watch anew at each of its events",
+        ))?
         .arg(option(
             alloc,
             "answer",
@@ -103,6 +111,7 @@ const REPLAY_FORMS: &str =
   turn                                   any line of kapi script
   > turn 8 monitoring                    the answer is exactly this line
   begin                                  a new machine; load FILE: one with the objects of a file, as of kapi serve --load
+  recheck                                rights of watches are looked at anew in this case, as of kapi serve --recheck-watches
 
 Example:
   # A reader reads, and deletes nothing.
@@ -121,18 +130,22 @@ fn replay<'a>(alloc: Global) -> Result<Command<'a>, Memory>
     Command::new(alloc, "replay")
         .about("Plays transcripts and tells which answers are not as they are wanted")
         .after_help(REPLAY_FORMS)
-        .arg(write_flag(alloc))?
+        .arg(flag(
+            alloc,
+            "write",
+            "Prints the transcripts with the answers that came where others are wanted",
+        ))?
         .arg(transcripts(alloc))
 }
 
-fn write_flag<'a>(alloc: Global) -> Arg<'a>
-    ensures rule { rule_of result ≡ write_rule }
+fn flag<'a>(alloc: Global, name: &'a str, help: &'a str) -> Arg<'a>
+    ensures rule { rule_of result ≡ flag_rule name.entry.now }
     ensures local { result.global ≡ false }
 {
-    Arg::new(alloc, "write")
-        .long("write")
+    Arg::new(alloc, name)
+        .long(name)
         .action(ArgAction::SetTrue)
-        .help("Prints the transcripts with the answers that came where others are wanted")
+        .help(help)
 }
 
 fn transcripts<'a>(alloc: Global) -> Arg<'a>

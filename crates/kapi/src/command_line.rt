@@ -150,7 +150,7 @@ fn whole_number(digits: &str) -> Option<usize>
 /// So many ports are served at most.
 pub const PORTS: usize = 16;
 
-/// The file, the ports and the number of readers that the words behind `serve` tell.
+/// The file, the switch, the ports and the number of readers that the words behind `serve` tell.
 fn serve_options(alloc: Global, words: &ArgMatches<'_>) -> Result<ServeOptions, CommandFault>
     ensures { Reads options_told result (options_in (rows_of (found_of words.now))) }
 {
@@ -160,6 +160,7 @@ fn serve_options(alloc: Global, words: &ArgMatches<'_>) -> Result<ServeOptions, 
     let load = copied(alloc, value(words, "load"))?;
     Ok(ServeOptions {
         load,
+        recheck: is_given(words, "recheck-watches"),
         listens,
         answer,
         readers,

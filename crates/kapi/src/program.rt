@@ -45,6 +45,8 @@ pub struct ReplayOptions {
 pub struct ServeOptions {
     /// The file of the objects that stand at first, by its name.
     pub load: Option<String>,
+    /// The rights of a watch are looked at anew at each of its events.
+    pub recheck: bool,
     /// 1 to 16, in the order of the words.
     pub listens: Vec<Listen>,
     /// The port on which questions are answered, 1 to 65,535.
@@ -66,7 +68,7 @@ pub struct Listen {
 /// Why a command line was not understood.
 #[derive(Clone, Copy, Debug, PartialEq, Eq, Error)]
 pub enum CommandFault {
-    #[error("usage: kapi script, kapi audit POLICY QUESTIONS [--readers N], N from 1 to 16, kapi replay [--write] FILE.., or kapi serve [--load FILE] [--answer PORT] [--readers N] PORT=USER[,GROUP..]..")]
+    #[error("usage: kapi script, kapi audit POLICY QUESTIONS [--readers N], N from 1 to 16, kapi replay [--write] FILE.., or kapi serve [--load FILE] [--recheck-watches] [--answer PORT] [--readers N] PORT=USER[,GROUP..]..")]
     Words,
     #[error("out of memory")]
     Memory,

@@ -75,13 +75,15 @@ fn serve_ports<
         + Net<Listener = TcpListener, Stream = TcpStream>
         + 'static,
 >(rt: &R, started: Started, options: &ServeOptions) -> io::Result<ExitCode>
-    requires { started.desk.waiting ≡ [] }
+    requires free { started.desk.waiting ≡ [] }
+    requires unopened { started.core.next_id ≡ 0 }
 {
     let Started {
         mut core,
         mut desk,
         seats,
     } = started;
+    core.recheck_watches(options.recheck);
     let status = match listen_all(rt, options, seats) {
         Ok(Listening::On(mut sockets)) => {
             serve_loop(rt, &mut core, &mut desk, &mut sockets);

@@ -237,15 +237,15 @@ module _ (objects : PolicyObjects) (s : Plain) (identity : Identity) (request : 
 
   -- ---- what is answered
 
-  by_passed : (close : Bool) (p : Passed) → IsGrantedPassed objects identity p → AreGranted objects identity (answer_passed close p).changes
+  by_passed : (a : Attributes) (p : Passed) → IsGrantedPassed objects identity p → AreGranted objects identity (answer_passed identity a request.close p).changes
   unfolding answer_passed
-  by_passed close (told outcome) h = h
-  by_passed close (watching w) h = tt
+  by_passed a (told outcome) h = h
+  by_passed a (watching w) h = tt
 
-  by_outcome : (asked : Asked) (close : Bool) (r : Result Passed Refused) → IfOk r (IsGrantedPassed objects identity) → AreGranted objects identity (answer_by asked close r).changes
+  by_outcome : (a : Attributes) (r : Result Passed Refused) → IfOk r (IsGrantedPassed objects identity) → AreGranted objects identity (answer_by identity request a r).changes
   unfolding answer_by
-  by_outcome asked close (Ok passed) h = by_passed close passed h
-  by_outcome asked close (Err refused) h = tt
+  by_outcome a (Ok passed) h = by_passed a passed h
+  by_outcome a (Err refused) h = tt
 
 -- ---- as whom a request is made
 
@@ -264,7 +264,7 @@ module _ (objects : PolicyObjects) (identity : Identity) where
       → AreGrantedAs objects identity (answer_as objects s identity request a r).changes
   unfolding answer_as
   as_granted s request a (Ok other) makes =
-      (other, (makes, by_outcome objects s other request (asked_by other request a) request.close (checked objects s other request a) (checked_granted objects s other request a)))
+      (other, (makes, by_outcome objects s other request a (checked objects s other request a) (checked_granted objects s other request a)))
   as_granted s request a (Err refused) makes = (identity, (inl refl, tt))
 
   asked_granted : (s : Plain) (request : HttpRequest) (r : Result Attributes TargetFault) → AreGrantedAs objects identity (answer_asked objects s identity request r).changes

@@ -306,20 +306,20 @@ module _ (s : Plain) (h : AreNamed s.objects) where
 
     -- ---- what is answered
 
-    by_passed : (close : Bool) (p : Passed) → IsWritePassed p → IsWrite s (answer_passed close p).changes
+    by_passed : (a : Attributes) (p : Passed) → IsWritePassed p → IsWrite s (answer_passed identity a request.close p).changes
     unfolding answer_passed
-    by_passed close (told outcome) w = w
-    by_passed close (watching w) u = write.nothing refl
+    by_passed a (told outcome) w = w
+    by_passed a (watching w) u = write.nothing refl
 
-    by_outcome : (asked : Asked) (close : Bool) (r : Result Passed Refused) → IfOk r IsWritePassed → IsWrite s (answer_by asked close r).changes
+    by_outcome : (a : Attributes) (r : Result Passed Refused) → IfOk r IsWritePassed → IsWrite s (answer_by identity request a r).changes
     unfolding answer_by
-    by_outcome asked close (Ok passed) w = by_passed close passed w
-    by_outcome asked close (Err refused) w = write.nothing refl
+    by_outcome a (Ok passed) w = by_passed a passed w
+    by_outcome a (Err refused) w = write.nothing refl
 
   as_write : (objects : PolicyObjects) (identity : Identity) (request : HttpRequest) (a : Attributes) (r : Result Identity Refused) → IsWrite s (answer_as objects s identity request a r).changes
   unfolding answer_as
   as_write objects identity request a (Ok other) =
-      by_outcome objects other request (asked_by other request a) request.close (checked objects s other request a) (checked_write objects other request a)
+      by_outcome objects other request a (checked objects s other request a) (checked_write objects other request a)
   as_write objects identity request a (Err refused) = write.nothing refl
 
   asked_write : (objects : PolicyObjects) (identity : Identity) (request : HttpRequest) (r : Result Attributes TargetFault) → IsWrite s (answer_asked objects s identity request r).changes

@@ -1,12 +1,14 @@
 -- What goes out of an event of a watch.
-use Rattle.std.proofs.Common.{◌≡◌, ℕ, List, Some, None, Result, Ok, Err, refl, ap}
+use Rattle.std.proofs.Common.{◌≡◌, ℕ, List, Some, None, Result, Ok, Err, refl, ap, sym}
 use Rattle.serde_json.specs.Data.{Data}
 use Rattle.serde_json.specs.Written.{compact_text}
 use Rattle.kapi_store.specs.Plain.{Plain}
-use Rattle.kapi_watch.specs.Shown.{Shown, Added, Deleted, Expired, Modified}
+use Rattle.kapi_watch.specs.Shown.{Shown, Added, Deleted, Expired, Modified, Refused, event_of}
 use Rattle.kapi_watch.specs.Text.{object_text_of, type_of}
 use Rattle.kapi_watch.specs.Watches.{WatchFault, startable}
-use Rattle.kapi_answer.specs.Watch.{PlainWatching, ending_of, event_chunk, event_reply_of, since_served, started_or_refused}
+use Rattle.kapi_watch.specs.declared.event.Event.{Event}
+use Rattle.kapi_watch.specs.declared.event.Event.TheVariants as event
+use Rattle.kapi_answer.specs.Watch.{PlainWatching, ending_of, event_chunk, event_reply_of, expired_status, refused_status, since_served, started_or_refused}
 use Rattle.kapi_answer.specs.declared.watch.After.TheVariants as after
 use Rattle.kapi_answer.specs.declared.watch.EventReply.{EventReply}
 
@@ -28,14 +30,22 @@ object_told s w (Added d) object bytes is tells = ap told_of (tells d (same_text
 object_told s w (Modified d) object bytes is tells = ap told_of (tells d (same_text object (compact_text d) is))
 object_told s w (Deleted d) object bytes is tells = ap told_of (tells d (same_text object (compact_text d) is))
 object_told s w Expired object bytes is tells = absurd (cc is)
+object_told s w Refused object bytes is tells = absurd (cc is)
 
--- an event that shows none
-pub end_told : (s : Plain) (w : PlainWatching) (e : Shown) → None ≡ object_text_of e → ending_of s w ≡ event_reply_of s w e
+-- the end of a watch that cannot go on
+pub end_expired : (s : Plain) (w : PlainWatching) (e : Event) → (e ≡ event.Refused → ⊥) → None ≡ object_text_of (event_of e)
+    → ending_of w.close (expired_status s w.watch) ≡ event_reply_of s w (event_of e)
 unfolding event_reply_of
-end_told s w (Added d) is = absurd (cc is)
-end_told s w (Modified d) is = absurd (cc is)
-end_told s w (Deleted d) is = absurd (cc is)
-end_told s w Expired is = refl
+end_expired s w (event.Added o) never is = absurd (cc is)
+end_expired s w (event.Modified o) never is = absurd (cc is)
+end_expired s w (event.Deleted o revision) never is = absurd (cc is)
+end_expired s w event.Expired never is = refl
+end_expired s w event.Refused never is = absurd (never refl)
+
+-- the end of one whose rights were taken away
+pub end_refused : (s : Plain) (w : PlainWatching) (e : Event) → e ≡ event.Refused → ending_of w.close (refused_status w) ≡ event_reply_of s w (event_of e)
+unfolding event_reply_of
+end_refused s w e is = ap (λ x. event_reply_of s w (event_of x)) (sym is)
 
 -- where a start is not refused, a watch can start
 not_refused : (s : Plain) (since : ℕ) (r : Result (Unit {0}) WatchFault) → started_or_refused s since r ≡ Ok tt → r ≡ Ok tt

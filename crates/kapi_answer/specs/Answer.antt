@@ -167,15 +167,14 @@ abbrev pub replied : WrittenReply → Answered
 replied reply = record { reply = reply; changes = []; watch = None }
 
 -- the answer to a request that passed every check
-unfoldable pub answer_passed : Bool → Passed → Answered
-answer_passed close (told outcome) =
+unfoldable pub answer_passed : Identity → Attributes → Bool → Passed → Answered
+answer_passed identity a close (told outcome) =
     record { reply = content_reply outcome.code outcome.content close outcome.body; changes = outcome.changes; watch = None }
-answer_passed close (watching w) = record { reply = watch_reply close; changes = []; watch = Some (record { watch = w; close = close }) }
-
--- the answer that a request's checks lead to
-unfoldable pub answer_by : Asked → Bool → Result Passed Refused → Answered
-answer_by asked close (Ok passed) = answer_passed close passed
-answer_by asked close (Err refused) = replied (refusal_reply asked close refused)
+answer_passed identity a close (watching w) = record {
+  reply = watch_reply close;
+  changes = [];
+  watch = Some (record { watch = w; close = close; identity = identity; attributes = a });
+}
 
 -- the word for a fault of a target
 abbrev pub target_word : TargetFault → BadWord
@@ -187,10 +186,15 @@ target_word bad_query = word.Query
 abbrev pub asked_by : Identity → HttpRequest → Attributes → Asked
 asked_by identity request a = record { user = identity.user; method = request.method; attributes = a }
 
+-- the answer that a request's checks lead to, which were for the identity
+unfoldable pub answer_by : Identity → HttpRequest → Attributes → Result Passed Refused → Answered
+answer_by identity request a (Ok passed) = answer_passed identity a request.close passed
+answer_by identity request a (Err refused) = replied (refusal_reply (asked_by identity request a) request.close refused)
+
 -- the answer to a request, all of whose checks are for the identity as which it is made; where there is none it is refused to the
 -- one that asks
 unfoldable pub answer_as : PolicyObjects → Plain → Identity → HttpRequest → Attributes → Result Identity Refused → Answered
-answer_as objects s identity request a (Ok other) = answer_by (asked_by other request a) request.close (checked objects s other request a)
+answer_as objects s identity request a (Ok other) = answer_by other request a (checked objects s other request a)
 answer_as objects s identity request a (Err refused) = replied (refusal_reply (asked_by identity request a) request.close refused)
 
 -- the answer to a request whose target gives those attributes, or has a fault

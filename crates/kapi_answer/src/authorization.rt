@@ -1,5 +1,5 @@
 ghost use Rattle.std.specs.Prelude.{◌≡◌};
-ghost use Rattle.kapi_answer.specs.Authorization.{authorized};
+ghost use Rattle.kapi_answer.specs.Authorization.{authorized, is_authorized as is_authorized_by};
 
 use kapi_policy::Policy;
 use kapi_rbac_types::Identity;
@@ -15,10 +15,19 @@ pub fn authorize<P: Policy>(
 ) -> Result<(), Refused>
     ensures { result ≡ authorized (P.content policy.now) identity.now attributes.now }
 {
-    let decision = policy.decide(identity, attributes.namespace.as_str(), &attributes.point);
-    if decision.is_allowed() {
+    if is_authorized(policy, identity, attributes) {
         Ok(())
     } else {
         Err(Refused::asked_for(Refusal::Forbidden))
     }
+}
+
+/// Whether the identity may do it.
+pub fn is_authorized<P: Policy>(policy: &P, identity: &Identity, attributes: &Attributes) -> bool
+    ensures { result ≡ is_authorized_by (P.content policy.now) identity.now attributes.now }
+{
+    let namespace = attributes.namespace.as_str();
+    policy
+        .decide(identity, namespace, &attributes.point)
+        .is_allowed()
 }

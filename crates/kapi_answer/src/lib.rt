@@ -20,4 +20,4 @@ pub mod watch;
 pub use kapi_reply::WrittenReply;
 pub use loading::{LoadError, load};
 pub use respond::{Prepared, answer};
-pub use watch::{After, EventReply, Watching, event_reply};
+pub use watch::{After, EventReply, Watching, event_reply, recheck};

@@ -37,7 +37,7 @@ use kapi_reply::{
 use kapi_request_info::{Attributes, InfoError, info};
 use kapi_route::{Action, ResourceRoute, Route, check_media_type, check_query, find_route};
 use kapi_store::{Ready, Store};
-use kapi_text::Memory;
+use kapi_text::{Memory, TryCopy};
 use std::alloc::{AllocError, Global};
 
 /// An answer that is whole, and the write that it tells of, which is still to be made.
@@ -165,12 +165,12 @@ fn answer_made_by<P: Policy>(
     attributes: &Attributes,
 ) -> Result<Prepared, Memory>
     ensures same { Same store.old store.new }
-    ensures gives { IfOk result (λ p. answered_data p ≡ answer_by (asked_by identity.now request.now attributes.now) request.now.close (checked (P.content policy.now) (plain_of store.old) identity.now request.now attributes.now)) }
+    ensures gives { IfOk result (λ p. answered_data p ≡ answer_by identity.now request.now attributes.now (checked (P.content policy.now) (plain_of store.old) identity.now request.now attributes.now)) }
     ensures fits { IfOk result (λ p. IfSome p.write (Fits store.new)) }
     ensures fresh { IfOk result (λ p. IfSome p.watch (λ w. IsFresh (plain_of store.old) w.watch)) }
 {
     match check(alloc, policy, store, identity, request, attributes) {
-        Ok(passed) => Ok(prepare(alloc, request.close, passed)?),
+        Ok(passed) => Ok(prepare(alloc, identity, attributes, request.close, passed)?),
         Err(CheckError::Refused(refused)) => {
             refuse(alloc, identity, request, attributes, &refused)
         }
@@ -178,10 +178,17 @@ fn answer_made_by<P: Policy>(
     }
 }
 
-/// The reply of a request that passed every check: what it is told, or the head of its watch.
+/// The reply of a request that passed every check: what it is told, or the head of its watch, which keeps as whom and what was asked
+/// for.
 #[tactic(auto, unfolding(crate::specs::Answer::answer_passed))]
-fn prepare(alloc: Global, close: bool, passed: Passed) -> Result<Prepared, Memory>
-    ensures gives { IfOk result (λ p. answered_data p ≡ answer_passed close (passed_data passed)) }
+fn prepare(
+    alloc: Global,
+    identity: &Identity,
+    attributes: &Attributes,
+    close: bool,
+    passed: Passed,
+) -> Result<Prepared, Memory>
+    ensures gives { IfOk result (λ p. answered_data p ≡ answer_passed identity.now attributes.now close (passed_data passed)) }
     ensures same { IfOk result (λ p. p.write ≡ write_of passed) }
     ensures watch { IfOk result (λ p. option_map (λ w. w.watch) p.watch ≡ watch_in passed) }
 {
@@ -202,7 +209,12 @@ fn prepare(alloc: Global, close: bool, passed: Passed) -> Result<Prepared, Memor
         Passed::Watching(watch) => Ok(Prepared {
             reply: watch_reply(alloc, close)?,
             write: None,
-            watch: Some(Watching { watch, close }),
+            watch: Some(Watching {
+                watch,
+                close,
+                identity: identity.copy(alloc)?,
+                attributes: attributes.copy(alloc)?,
+            }),
         }),
     }
 }

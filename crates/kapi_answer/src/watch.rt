@@ -1,5 +1,5 @@
 //! Watches: where one can start, and what each of its events sends.
-ghost use Rattle.std.specs.Prelude.{◌≡◌, List, Ok, IfOk};
+ghost use Rattle.std.specs.Prelude.{◌≡◌, List, Ok, None, IfOk, option_map};
 ghost use Rattle.serde_json.specs.Data.{Data};
 ghost use Rattle.serde_json.specs.Written.{compact_text};
 ghost use Rattle.kapi_text.specs.Gives.{Gives};
@@ -8,13 +8,21 @@ ghost use Rattle.kapi_reply.specs.Refusals.{refused_by};
 ghost use Rattle.kapi_store.specs.Plain.{Plain, PlainChange, StandsFor, plain_of};
 ghost use Rattle.kapi_watch.specs.Running.{IsFresh, StandsForWatch, watch_data};
 ghost use Rattle.kapi_watch.specs.Shown.{event_of};
+ghost use Rattle.kapi_watch.specs.Text.{object_text_of};
 ghost use Rattle.kapi_watch.specs.Watches.{startable};
 ghost use Rattle.kapi_answer.specs.Watch as watches;
-ghost use Rattle.kapi_answer.specs.Watch.{PlainWatching, StandsForWatching, event_reply_of, ending_of, since_served, watch_of};
+ghost use Rattle.kapi_answer.specs.Watch.{PlainWatching, StandsForWatching, event_reply_of, ending_of, expired_status, rechecked, refused_status, since_served, watch_of};
 
-use kapi_http::{write_chunk, write_end};
+use crate::authorization::is_authorized;
+use kapi_http::{Method, write_chunk, write_end};
 use kapi_names::ResourceRow;
-use kapi_reply::{CheckError, OldRevision, Refusal, Refused, Revisions, Subject, expired_text};
+use kapi_policy::Policy;
+use kapi_rbac_types::Identity;
+use kapi_reply::{
+    Asked, CheckError, OldRevision, Refusal, Refused, Revisions, Subject, expired_text,
+    refusal_text,
+};
+use kapi_request_info::Attributes;
 use kapi_route::Filter;
 use kapi_store::Store;
 use kapi_text::{Memory, Sequence};
@@ -27,6 +35,10 @@ pub struct Watching {
     pub watch: Watch,
     /// The connection closes after the watch.
     pub close: bool,
+    /// As whom it was asked for.
+    pub identity: Identity,
+    /// What its request was about.
+    pub attributes: Attributes,
 }
 
 /// What becomes of a watch, and of its connection, after an event was sent.
@@ -100,7 +112,26 @@ pub fn event_reply(
             bytes: Sequence::new(event_chunk(alloc, event.kind(), &object)?),
             after: After::Watches,
         }),
-        None => end_reply(alloc, store, watching),
+        None => end_reply(alloc, store, watching, event),
+    }
+}
+
+/// What is shown of a watch whose rights are looked at anew, where that is `on`: that whoever watches may not any more comes before all
+/// else. Takes no memory.
+#[tactic(auto, unfolding(crate::specs::Watch::rechecked))]
+pub fn recheck<'a, P: Policy>(
+    policy: &P,
+    on: bool,
+    watching: &Watching,
+    event: Option<Event<'a>>,
+) -> Option<Event<'a>>
+    ensures { (history : List PlainChange) (s : Plain) (w : PlainWatching) → StandsForWatching watching.now history s w
+        → option_map event_of result ≡ rechecked on (P.content policy.now) w (option_map event_of event.entry) }
+{
+    if on && !is_authorized(policy, &watching.identity, &watching.attributes) {
+        Some(Event::Refused)
+    } else {
+        event
     }
 }
 
@@ -113,10 +144,40 @@ fn event_chunk(alloc: Global, kind: &str, object: &[u8]) -> Result<Vec<u8>, Memo
     write_chunk(alloc, &line)
 }
 
-/// What a watch sends that cannot go on.
-fn end_reply(alloc: Global, store: &Store, watching: &Watching) -> Result<EventReply, Memory>
+/// What a watch sends at its end.
+fn end_reply(
+    alloc: Global,
+    store: &Store,
+    watching: &Watching,
+    event: &Event<'_>,
+) -> Result<EventReply, Memory>
     ensures { (history : List PlainChange) (s : Plain) (w : PlainWatching) → StandsFor store.now history s → StandsForWatching watching.now history s w
-        → IfOk result (λ r. r ≡ ending_of s w) }
+        → None ≡ object_text_of (event_of event.now) → IfOk result (λ r. r ≡ event_reply_of s w (event_of event.now)) }
+{
+    match event {
+        Event::Refused => refused_reply(alloc, watching),
+        _other => expired_reply(alloc, store, watching),
+    }
+}
+
+/// What a watch sends whose rights were taken away.
+fn refused_reply(alloc: Global, watching: &Watching) -> Result<EventReply, Memory>
+    ensures { (history : List PlainChange) (s : Plain) (w : PlainWatching) → StandsForWatching watching.now history s w
+        → IfOk result (λ r. r ≡ ending_of w.close (refused_status w)) }
+{
+    let asked = Asked {
+        user: watching.identity.user.as_str(),
+        method: Method::Get,
+        attributes: &watching.attributes,
+    };
+    let status = refusal_text(alloc, asked, &Refused::asked_for(Refusal::Forbidden))?;
+    ended_reply(alloc, &status, watching.close)
+}
+
+/// What a watch sends that cannot go on.
+fn expired_reply(alloc: Global, store: &Store, watching: &Watching) -> Result<EventReply, Memory>
+    ensures { (history : List PlainChange) (s : Plain) (w : PlainWatching) → StandsFor store.now history s → StandsForWatching watching.now history s w
+        → IfOk result (λ r. r ≡ ending_of w.close (expired_status s w.watch)) }
 {
     let scope = watching.watch.scope();
     let subject = Subject {
@@ -129,11 +190,18 @@ fn end_reply(alloc: Global, store: &Store, watching: &Watching) -> Result<EventR
         begins: store.window_start(),
     };
     let status = expired_text(alloc, subject, old)?;
-    let mut bytes = event_chunk(alloc, "ERROR", &status)?;
+    ended_reply(alloc, &status, watching.close)
+}
+
+/// The last event of a watch, with the text of the Status object that tells why, and the end of the body.
+fn ended_reply(alloc: Global, status: &[u8], close: bool) -> Result<EventReply, Memory>
+    ensures { (d : Data) → status.now ≡ compact_text d → IfOk result (λ r. r ≡ ending_of close d) }
+{
+    let mut bytes = event_chunk(alloc, "ERROR", status)?;
     bytes.extend_from_slice(&write_end(alloc)?)?;
     Ok(EventReply {
         bytes: Sequence::new(bytes),
-        after: after_end(watching.close),
+        after: after_end(close),
     })
 }
 

@@ -21,7 +21,6 @@ use Rattle.kapi_answer.specs.Watch.{PlainWatching, event_reply_of}
 use Rattle.kapi_answer.specs.declared.watch.After.{After}
 use Rattle.kapi_answer.specs.declared.watch.After.TheVariants as becomes
 use Rattle.kapi_answer.specs.declared.watch.EventReply.{EventReply}
-use Rattle.kapi_watch.specs.Watches.{pumped}
 use Rattle.kapi_gains.proofs.Elements.{has_either}
 use Rattle.kapi_gains.proofs.Entries.{delete_has, found_in, put_has}
 use Rattle.kapi_aggregation.specs.Members.{Has}
@@ -31,7 +30,7 @@ use Rattle.kapi_core.specs.declared.event.Event.{Event}
 use Rattle.kapi_core.specs.declared.event.Event.TheVariants as event
 use Rattle.kapi_core.specs.declared.machine.TheConstants.{LAST_CONNECTION, OPEN_CONNECTIONS}
 use Rattle.kapi_core.specs.Gains.{IsConnected, IsServed, acting_by, acting_in, identity_on}
-use Rattle.kapi_core.specs.Machine.{Link, Machine, after_event, after_serve, after_turn, changed, ended_if, feed_step, link_at, new_link, open_step, policy_of, pump_shown, pump_step, pump_watch, serve_beside, serve_item, serve_step, step, turn_step, turned_by, unserved, watched_on, with_link}
+use Rattle.kapi_core.specs.Machine.{Link, Machine, after_event, after_serve, after_turn, changed, ended_if, feed_step, link_at, new_link, open_step, policy_of, pump_shown, pump_step, pump_watch, serve_beside, serve_item, serve_step, shown_next, step, turn_step, turned_by, unserved, watched_on, with_link}
 
 -- a connection of the number was there for the identity
 abbrev WasThere : List (ℕ × Link) → ℕ → Identity → Type 0
@@ -144,7 +143,7 @@ shown_goes m e conn l w (Some r) at = event_passed m e conn l w r.after at
 watch_goes : (m : Machine) (e : Event) (conn : ℕ) (l : Link) (w : Option PlainWatching) → link_at conn m ≡ Some l → Goes m e (pump_watch conn l w m).1.links
 unfolding pump_watch
 watch_goes m e conn l None at = kept m e
-watch_goes m e conn l (Some w) at = shown_goes m e conn l w (option_map (event_reply_of m.store w) (pumped m.changes m.store w.watch)) at
+watch_goes m e conn l (Some w) at = shown_goes m e conn l w (option_map (event_reply_of m.store w) (shown_next m w)) at
 
 pump_goes : (m : Machine) (e : Event) (conn : ℕ) (o : Option Link) → link_at conn m ≡ o → Goes m e (pump_step conn o m).1.links
 unfolding pump_step

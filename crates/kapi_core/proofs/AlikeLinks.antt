@@ -145,7 +145,7 @@ module _ (history changes : List PlainChange) (state : Plain) (follow : Follow (
   watching_written None None h = h
   watching_written None (Some w) h = absurd h
   watching_written (Some r) None h = absurd h
-  watching_written (Some r) (Some w) h = (stays r.watch history state w.watch changes follow h.0, h.1)
+  watching_written (Some r) (Some w) h = (stays r.watch history state w.watch changes follow h.0, h.1, h.2, h.3)
 
   pub link_written : (c : Connection) (l : Link) → IsLink history state c l → IsLink (history ++ changes) (written changes state) c l
   link_written c l h = record { identity = h.identity; kept = h.kept; goes_on = h.goes_on; watching = watching_written c.watching l.watching h.watching }

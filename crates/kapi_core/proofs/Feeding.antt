@@ -24,24 +24,24 @@ use Rattle.kapi_http.specs.declared.inbox.TheConstants.{KEPT_LIMIT}
 pub taken_in : (old : Running) (links : List (ℕ × Connection)) (conn : ConnId) (piece : List ℕ) (r : Result (Unit {0}) FeedError)
     → Feeds old.connections links conn.0 piece r → TakesIn old (record old { connections = links }) conn piece r
 taken_in old links conn piece (Ok done) f = λ m h.
-    made_for old.store old.policy old.marks old.connections old.next_id m old.store old.policy old.marks links old.next_id (event.Feed conn piece) told.Done h
-    (fed old.store old.policy old.marks old.connections links old.next_id conn piece f.0 f.1 f.2 f.3)
+    made_for old.store old.policy old.marks old.connections old.next_id old.rechecks m old.store old.policy old.marks links old.next_id old.rechecks (event.Feed conn piece) told.Done h
+    (fed old.store old.policy old.marks old.connections links old.next_id old.rechecks conn piece f.0 f.1 f.2 f.3)
 taken_in old links conn piece (Err Full) f = λ m h. rw f.3
-    (made_for old.store old.policy old.marks old.connections old.next_id m old.store old.policy old.marks old.connections old.next_id (event.Feed conn piece) told.Full h
-    (fed_full old.store old.policy old.marks old.connections old.next_id conn piece f.0 f.1 f.2))
+    (made_for old.store old.policy old.marks old.connections old.next_id old.rechecks m old.store old.policy old.marks old.connections old.next_id old.rechecks (event.Feed conn piece) told.Full h
+    (fed_full old.store old.policy old.marks old.connections old.next_id old.rechecks conn piece f.0 f.1 f.2))
 taken_in old links conn piece (Err Ended) f = λ m h. rw f.1
-    (made_for old.store old.policy old.marks old.connections old.next_id m old.store old.policy old.marks old.connections old.next_id (event.Feed conn piece) told.Ended h
+    (made_for old.store old.policy old.marks old.connections old.next_id old.rechecks m old.store old.policy old.marks old.connections old.next_id old.rechecks (event.Feed conn piece) told.Ended h
     (λ cs k p v ps l. elim f.0 [
-      | inl none ↦ fed_nowhere old.store old.policy old.marks old.connections old.next_id conn piece none cs k p v ps l
+      | inl none ↦ fed_nowhere old.store old.policy old.marks old.connections old.next_id old.rechecks conn piece none cs k p v ps l
       | inr c ↦ let there = link_there cs (plain_of old.store) (is_at (nat_cmp conn.0)) old.connections ps c.0 l c.1 in
           absurd (let both : true ≡ false = sym c.2 ∙ there.2.goes_on in cc both)
     ]))
 taken_in old links conn piece (Err Memory) f = λ m h. (
   rw f.3 h,
-  not_early old.store old.policy old.marks old.connections old.next_id m (event.Feed conn piece) h
-      (λ cs k p v ps l. told_late (machine_of old.store cs old.next_id ps) (event.Feed conn piece) told.Done
+  not_early old.store old.policy old.marks old.connections old.next_id old.rechecks m (event.Feed conn piece) h
+      (λ cs k p v ps l. told_late (machine_of old.store cs old.next_id old.rechecks ps) (event.Feed conn piece) told.Done
       (fed old.store old.policy old.marks old.connections (set_value (is_at (nat_cmp conn.0)) old.connections (record f.0 { inbox = record { kept = f.0.inbox.kept ++ piece; ended = false } }))
-      old.next_id conn piece f.0 f.1 f.2 refl cs k p v ps l).0 refl),
+      old.next_id old.rechecks conn piece f.0 f.1 f.2 refl cs k p v ps l).0 refl),
 )
 
 -- an inbox that did not change leaves the connections as they were

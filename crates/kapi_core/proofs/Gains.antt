@@ -26,7 +26,6 @@ use Rattle.kapi_answer.specs.Watch.{PlainWatching, event_reply_of}
 use Rattle.kapi_answer.specs.declared.watch.After.{After}
 use Rattle.kapi_answer.specs.declared.watch.After.TheVariants as becomes
 use Rattle.kapi_answer.specs.declared.watch.EventReply.{EventReply}
-use Rattle.kapi_watch.specs.Watches.{pumped}
 use Rattle.kapi_gains.proofs.Impersonating.{acts_as}
 use Rattle.kapi_policy_runs.proofs.Reached.{objects_give_nothing, reaches_both, reaches_itself}
 use Rattle.kapi_policy_runs.proofs.Turns.{turn_runs}
@@ -39,7 +38,7 @@ use Rattle.kapi_core.specs.declared.event.Event.{Event}
 use Rattle.kapi_core.specs.declared.event.Event.TheVariants as event
 use Rattle.kapi_core.specs.declared.machine.TheConstants.{LAST_CONNECTION, OPEN_CONNECTIONS}
 use Rattle.kapi_core.specs.Gains.{NobodyGains, acting_by, acting_in, identity_on}
-use Rattle.kapi_core.specs.Machine.{Link, Machine, after, after_event, after_serve, after_turn, changed, ended_if, feed_step, link_at, open_step, policy_of, pump_shown, pump_step, pump_watch, serve_beside, serve_item, serve_step, step, turn_step, turned_by, unserved, with_link}
+use Rattle.kapi_core.specs.Machine.{Link, Machine, after, after_event, after_serve, after_turn, changed, ended_if, feed_step, link_at, open_step, policy_of, pump_shown, pump_step, pump_watch, serve_beside, serve_item, serve_step, shown_next, step, turn_step, turned_by, unserved, with_link}
 use Rattle.kapi_core.specs.Opening.{OpeningObject, cluster_key, created_if, empty, opening, opening_objects, with_opening, written_if}
 use Rattle.kapi_core.specs.Running.{Running}
 use Rattle.kapi_core.specs.Stands.{Stands}
@@ -130,7 +129,7 @@ shown_keeps id l w (Some r) m = passed_keeps r.after id l w m
 watch_keeps : (id : ℕ) (l : Link) (w : Option PlainWatching) (m : Machine) → (pump_watch id l w m).1.store ≡ m.store
 unfolding pump_watch
 watch_keeps id l None m = refl
-watch_keeps id l (Some w) m = shown_keeps id l w (option_map (event_reply_of m.store w) (pumped m.changes m.store w.watch)) m
+watch_keeps id l (Some w) m = shown_keeps id l w (option_map (event_reply_of m.store w) (shown_next m w)) m
 
 pub pump_keeps : (id : ℕ) (o : Option Link) (m : Machine) → (pump_step id o m).1.store ≡ m.store
 unfolding pump_step

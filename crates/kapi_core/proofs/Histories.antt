@@ -43,11 +43,10 @@ use Rattle.kapi_watch.proofs.Lists.{Keeps, history_keeps, standing_is_named}
 use Rattle.kapi_watch.proofs.Named.{in_object}
 use Rattle.kapi_watch.specs.Histories.{IsHistory, IsNamedBy, IsReplacement}
 use Rattle.kapi_watch.specs.Lists.{objects_after}
-use Rattle.kapi_watch.specs.Watches.{pumped}
 use Rattle.kapi_core.proofs.Gains.{ended_keeps, feed_keeps, open_keeps, pump_keeps}
 use Rattle.kapi_core.proofs.Opened.{opened_tree, tree_in}
 use Rattle.kapi_core.specs.Histories.{EventsGoOn, LoadsGoOn, ServedIsAHistory, TurnsReplace, loaded, loaded_if, served}
-use Rattle.kapi_core.specs.Machine.{Link, Machine, after, after_event, after_serve, after_turn, changed, ended_if, feed_step, link_at, open_step, policy_of, pump_shown, pump_step, pump_watch, serve_beside, serve_item, serve_step, step, turn_step, turned_by, unserved, with_link}
+use Rattle.kapi_core.specs.Machine.{Link, Machine, after, after_event, after_serve, after_turn, changed, ended_if, feed_step, link_at, open_step, policy_of, pump_shown, pump_step, pump_watch, serve_beside, serve_item, serve_step, shown_next, step, turn_step, turned_by, unserved, with_link, with_rechecks}
 use Rattle.kapi_core.specs.Opening.{OpeningObject, basic_user, basic_user_binding, cluster_admin, cluster_admin_binding, cluster_key, created_if, default_namespace, empty, opening, opening_objects, with_opening, written_if}
 use Rattle.kapi_core.specs.Running.{Running}
 use Rattle.kapi_core.specs.Stands.{Stands}
@@ -162,7 +161,7 @@ shown_tells id l w (Some r) m = passed_tells r.after id l w m
 watch_tells : (id : ℕ) (l : Link) (w : Option PlainWatching) (m : Machine) → (pump_watch id l w m).1.changes ≡ m.changes
 unfolding pump_watch
 watch_tells id l None m = refl
-watch_tells id l (Some w) m = shown_tells id l w (option_map (event_reply_of m.store w) (pumped m.changes m.store w.watch)) m
+watch_tells id l (Some w) m = shown_tells id l w (option_map (event_reply_of m.store w) (shown_next m w)) m
 
 pump_tells : (id : ℕ) (o : Option Link) (m : Machine) → (pump_step id o m).1.changes ≡ m.changes
 unfolding pump_step
@@ -326,11 +325,17 @@ opening_has table first = openings_go_on first opening_objects (empty table firs
 
 -- ---- all of them
 
-pub served_has : (table : List ResourceRow) (first : ℕ) (texts : List (List ℕ)) (events : List Event) → HasHistory first (served table first texts events)
-served_has table first texts events = events_go_on first (loaded (opening table first) texts) events (loads_go_on first (opening table first) texts (opening_has table first))
+-- the switch leaves the history as it is
+switched_has : (first : ℕ) (on : Bool) (m : Machine) → HasHistory first m → HasHistory first (with_rechecks on m)
+switched_has first on m h = record { begins = h.begins; objects = h.objects; counted = h.counted; history = h.history }
+
+pub served_has : (on : Bool) (table : List ResourceRow) (first : ℕ) (texts : List (List ℕ)) (events : List Event) → HasHistory first (served on table first texts events)
+served_has on table first texts events =
+    let m : Machine = loaded (opening table first) texts in
+    events_go_on first (with_rechecks on m) events (switched_has first on m (loads_go_on first (opening table first) texts (opening_has table first)))
 
 pub served_is_a_history : ServedIsAHistory
-served_is_a_history table first texts events = (served_has table first texts events).history
+served_is_a_history on table first texts events = (served_has on table first texts events).history
 
 -- a machine that a running one stands for has the history that its changes are
 stands_has : (core : Running) (m : Machine) → Stands core m → IsHistory m.store.first m.changes → HasHistory m.store.first m

@@ -20,3 +20,4 @@ pub mod Histories
 mod Listed
 mod Numbered
 mod Pumps
+mod Rechecking

@@ -1,5 +1,5 @@
 -- What a watch of the machine shows makes its list.
-use Rattle.std.proofs.Common.{◌≡◌, ℕ, List, [], ◌++◌, sym, ap, ◌∙◌, subst}
+use Rattle.std.proofs.Common.{◌≡◌, ℕ, Bool, List, [], ◌++◌, sym, ap, ◌∙◌, subst}
 use Rattle.kapi_names.specs.declared.row.ResourceRow.{ResourceRow}
 use Rattle.kapi_store.specs.Plain.{PlainChange}
 use Rattle.kapi_watch.proofs.Lists.{counted_first_is_the_list, counted_first_shown, counted_showed, due_is_the_list, shown_is_the_list}
@@ -22,9 +22,9 @@ own_history : (first : ℕ) (m : Machine) → HasHistory first m → HasHistory 
 own_history first m h = let P : ℕ → Type 0 = λ f. HasHistory f m in subst P (sym h.begins) h
 
 pub due_is_listed : DueIsListed
-due_is_listed table first texts events scope revision =
-    let m : Machine = served table first texts events in
-    let h : HasHistory first m = served_has table first texts events in
+due_is_listed on table first texts events scope revision =
+    let m : Machine = served on table first texts events in
+    let h : HasHistory first m = served_has on table first texts events in
     due_is_the_list first m.changes scope revision h.history ∙ now_is_listed first m scope h
 
 module _ (m : Machine) (events : List Event) (h : HasHistory m.store.first m) where
@@ -72,19 +72,19 @@ module _ (m : Machine) (events : List Event) (h : HasHistory m.store.first m) wh
         subst Q between (counted_first_shown ts m.changes m.store scope h.objects h.counted between_history holds (subst P (sym between) none)) ∙ now_is_listed m.store.first n scope goes
 
 -- the machine that has begun, loaded and made some events
-served_own : (table : List ResourceRow) (first : ℕ) (texts : List (List ℕ)) (before : List Event) → HasHistory (served table first texts before).store.first (served table first texts before)
-served_own table first texts before = own_history first (served table first texts before) (served_has table first texts before)
+served_own : (on : Bool) (table : List ResourceRow) (first : ℕ) (texts : List (List ℕ)) (before : List Event) → HasHistory (served on table first texts before).store.first (served on table first texts before)
+served_own on table first texts before = own_history first (served on table first texts before) (served_has on table first texts before)
 
 pub listed_then : ListedThen
-listed_then table first texts before events scope = then_listed (served table first texts before) events (served_own table first texts before) scope
+listed_then on table first texts before events scope = then_listed (served on table first texts before) events (served_own on table first texts before) scope
 
 pub first_is_listed : FirstIsListed
-first_is_listed table first texts before events scope = first_listed (served table first texts before) events (served_own table first texts before) scope
+first_is_listed on table first texts before events scope = first_listed (served on table first texts before) events (served_own on table first texts before) scope
 
 pub shown_is_listed : ShownIsListed
-shown_is_listed table first texts before events ts scope revision between holds none =
-    shown_listed (served table first texts before) events (served_own table first texts before) ts between scope revision holds none
+shown_is_listed on table first texts before events ts scope revision between holds none =
+    shown_listed (served on table first texts before) events (served_own on table first texts before) ts between scope revision holds none
 
 pub first_shown_is_listed : FirstShownIsListed
-first_shown_is_listed table first texts before events ts scope between holds none =
-    first_shown_listed (served table first texts before) events (served_own table first texts before) ts between scope holds none
+first_shown_is_listed on table first texts before events ts scope between holds none =
+    first_shown_listed (served on table first texts before) events (served_own on table first texts before) ts between scope holds none

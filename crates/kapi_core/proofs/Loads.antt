@@ -28,11 +28,12 @@ loaded old t u ns text (Ok made) (changes, is, told, writes) = λ m h.
         policy_is = after.1;
         covers = after.2;
         next_id = h.next_id;
+        rechecks = h.rechecks;
         links = links_written m.changes changes m.store follow old.connections m.links h.links;
       },
     )
 loaded old t u ns text (Err e) (fails, same, kept, marks) = λ m h.
     let P : Plain → Type 0 = λ p. Fails (fault_told e) (loads p text) in (
       subst P h.store.plain fails,
-      record { store = same_stands _ _ same m.changes m.store h.store; policy_is = kept ∙ h.policy_is; covers = marks _ h.covers; next_id = h.next_id; links = h.links },
+      record { store = same_stands _ _ same m.changes m.store h.store; policy_is = kept ∙ h.policy_is; covers = marks _ h.covers; next_id = h.next_id; rechecks = h.rechecks; links = h.links },
     )

@@ -31,10 +31,9 @@ use Rattle.kapi_policy.proofs.Sets.{delete_keeps, delete_sets, put_keeps, put_se
 use Rattle.kapi_rbac_types.specs.declared.identity.Identity.{Identity}
 use Rattle.kapi_store.specs.Faults.{StoreFault}
 use Rattle.kapi_store.specs.Plain.{PlainChange, creation}
-use Rattle.kapi_watch.specs.Watches.{pumped}
 use Rattle.kapi_core.proofs.Acting.{nat_exact}
 use Rattle.kapi_core.specs.Histories.{loaded, loaded_if, served}
-use Rattle.kapi_core.specs.Machine.{Link, Machine, after, after_event, after_serve, after_turn, changed, ended_if, feed_step, link_at, new_link, open_step, policy_of, pump_shown, pump_step, pump_watch, serve_beside, serve_item, serve_step, step, turn_step, turned_by, unserved, watched_on, with_link, with_new_link, without_link}
+use Rattle.kapi_core.specs.Machine.{Link, Machine, after, after_event, after_serve, after_turn, changed, ended_if, feed_step, link_at, new_link, open_step, policy_of, pump_shown, pump_step, pump_watch, serve_beside, serve_item, serve_step, shown_next, step, turn_step, turned_by, unserved, watched_on, with_link, with_new_link, without_link, with_rechecks}
 use Rattle.kapi_core.specs.Opening.{OpeningObject, cluster_key, created_if, empty, opening, opening_objects, with_opening, written_if}
 use Rattle.kapi_core.specs.declared.event.Answer.{Answer}
 use Rattle.kapi_core.specs.declared.event.Event.{Event}
@@ -164,7 +163,7 @@ shown_touches id l w (Some r) m at k = passed_touches r.after id l w m at k
 watch_touches : (id : ℕ) (l : Link) (w : Option PlainWatching) (m : Machine) → link_at id m ≡ Some l → AreNumbered m → Touches id m (pump_watch id l w m).1
 unfolding pump_watch
 watch_touches id l None m at k = untouched id m m refl k
-watch_touches id l (Some w) m at k = shown_touches id l w (option_map (event_reply_of m.store w) (pumped m.changes m.store w.watch)) m at k
+watch_touches id l (Some w) m at k = shown_touches id l w (option_map (event_reply_of m.store w) (shown_next m w)) m at k
 
 pump_touches : (id : ℕ) (o : Option Link) (m : Machine) → link_at id m ≡ o → AreNumbered m → Touches id m (pump_step id o m).1
 unfolding pump_step
@@ -236,7 +235,7 @@ opening_numbered table first =
     let P : List (ℕ × Link) → Type 0 = λ es. IsStrictlySortedBy nat_cmp (keys_of es) in
     subst P (sym (openings_links opening_objects (empty table first))) tt
 
-pub served_numbered : (table : List ResourceRow) (first : ℕ) (texts : List (List ℕ)) (events : List Event) → AreNumbered (served table first texts events)
-served_numbered table first texts events =
+pub served_numbered : (on : Bool) (table : List ResourceRow) (first : ℕ) (texts : List (List ℕ)) (events : List Event) → AreNumbered (served on table first texts events)
+served_numbered on table first texts events =
     let P : List (ℕ × Link) → Type 0 = λ es. IsStrictlySortedBy nat_cmp (keys_of es) in
-    events_numbered (loaded (opening table first) texts) events (subst P (sym (loaded_links (opening table first) texts)) (opening_numbered table first))
+    events_numbered (with_rechecks on (loaded (opening table first) texts)) events (subst P (sym (loaded_links (opening table first) texts)) (opening_numbered table first))

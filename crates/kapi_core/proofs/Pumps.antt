@@ -1,5 +1,5 @@
 -- Events over which a connection shows a watch are a run of it.
-use Rattle.std.proofs.Common.{◌≡◌, ℕ, ◌+◌, ◌==◌, List, [], ◌∷◌, ◌++◌, length, drop, nat_lt, nat_le, Bool, true, false, ◌&&◌, if◌then◌else◌, Option, Some, None, option_map, slice_get, refl, sym, ap, ◌∙◌, subst, append-nil}
+use Rattle.std.proofs.Common.{◌≡◌, ℕ, ◌+◌, ◌==◌, List, [], ◌∷◌, ◌++◌, length, drop, nat_lt, nat_le, Bool, true, false, ◌&&◌, if◌then◌else◌, Option, Some, None, option_map, slice_get, refl, sym, ap, ◌∙◌, subst, append-nil, ◌⊎◌, inl, inr, not}
 use Rattle.std.specs.Prelude.{IsSome}
 use Rattle.std.specs.BTreeMap.{is_at}
 use Rattle.std.specs.List.{cons_option}
@@ -8,19 +8,19 @@ use Rattle.std.specs.Ordering.{nat_cmp}
 use Rattle.std.specs.Option.{option_and_then}
 use Rattle.std.proofs.lemmas.Bool.{eqb-false, eqb-true}
 use Rattle.std.proofs.lemmas.List.{drop_at}
-use Rattle.kapi_answer.specs.Watch.{PlainWatching, after_end, event_reply_of}
+use Rattle.kapi_answer.specs.Watch.{PlainWatching, after_end, event_reply_of, may_go_on, rechecked}
 use Rattle.kapi_http.specs.declared.inbox.TheConstants.{KEPT_LIMIT}
 use Rattle.kapi_rbac_types.specs.declared.identity.Identity.{Identity}
 use Rattle.kapi_store.specs.Plain.{Plain, PlainChange, written}
 use Rattle.kapi_watch.specs.Lists.{all_on_top, list_at}
 use Rattle.kapi_watch.specs.Runs.{HoldsOn, Made, Pump, Step, history_after, shown_over, still_due, watch_after}
-use Rattle.kapi_watch.specs.Shown.{Added, Deleted, Expired, Modified, Shown}
+use Rattle.kapi_watch.specs.Shown.{Added, Deleted, Expired, Modified, Refused, Shown}
 use Rattle.kapi_watch.specs.Watches.{PlainWatch, after_pump, due, is_expired, pumped, started_at, started_now}
 use Rattle.kapi_core.proofs.Histories.{HasHistory, Writes, are_named, event_writes, served_has, writes_go_on}
 use Rattle.kapi_core.proofs.Listed.{first_shown_is_listed, shown_is_listed}
 use Rattle.kapi_core.proofs.Numbered.{AreNumbered, Touches, event_touches, found_gone, found_new, found_own, served_numbered, there, turn_links}
 use Rattle.kapi_core.specs.Histories.{list_of, served}
-use Rattle.kapi_core.specs.Machine.{Link, Machine, after, after_event, feed_step, link_at, new_link, open_step, pump_shown, pump_step, pump_watch, serve_beside, serve_step, step, unserved, watched_on, with_new_link, without_link}
+use Rattle.kapi_core.specs.Machine.{Link, Machine, after, after_event, feed_step, link_at, new_link, open_step, policy_of, pump_shown, pump_step, pump_watch, serve_beside, serve_step, shown_next, step, unserved, watched_on, with_new_link, without_link}
 use Rattle.kapi_core.specs.Pumps.{EventsAreARun, FirstSentIsListed, IsRun, SentIsListed, WatchesOn, bytes_of, line_of, lines_of, made_by, moment_of, run_on, sent_by, sent_on, watch_on}
 use Rattle.kapi_core.specs.declared.event.Answer.{Answer}
 use Rattle.kapi_core.specs.declared.event.Answer.TheVariants as told
@@ -94,8 +94,8 @@ serve_silent id m w (Some l) at is = ap (λ x. serve_beside id l x m) (ap watch_
 
 -- ---- a pump
 
-pump_is : (id : ℕ) (m : Machine) (w : PlainWatching) (o : Option Link) → link_at id m ≡ o → watch_on id m ≡ Some w
-    → (l : Link) × (link_at id m ≡ Some l) × (pump_step id o m ≡ pump_shown id l w (option_map (event_reply_of m.store w) (pumped m.changes m.store w.watch)) m)
+pub pump_is : (id : ℕ) (m : Machine) (w : PlainWatching) (o : Option Link) → link_at id m ≡ o → watch_on id m ≡ Some w
+    → (l : Link) × (link_at id m ≡ Some l) × (pump_step id o m ≡ pump_shown id l w (option_map (event_reply_of m.store w) (shown_next m w)) m)
 unfolding pump_step pump_watch
 pump_is id m w None at is = absurd (cc (ap watch_of (sym at) ∙ is))
 pump_is id m w (Some l) at is = (l, at, ap (λ x. pump_watch id l x m) (ap watch_of (sym at) ∙ is))
@@ -127,6 +127,23 @@ passes_shown id m l w at k (Some (Modified tree)) is some =
 passes_shown id m l w at k (Some (Deleted tree)) is some =
     (refl, refl, goes_on m w (λ bad. cc (sym is ∙ bad)), ap watch_of (found_own id (watched_on l w m) m (there id m l at)), sym (append-nil (line_of (Deleted tree))) ∙ ap (λ q. lines_of (cons_option q [])) (sym is))
 passes_shown id m l w at k (Some Expired) is some = no_watch id (after_event (after_end w.close) id l w m) (ended id m l w at k w.close) some
+passes_shown id m l w at k (Some Refused) is some = no_watch id (after_event (after_end w.close) id l w m) (ended id m l w at k w.close) some
+
+-- that rights were taken away ends the watch
+refused_ends : (id : ℕ) (m : Machine) (l : Link) (w : PlainWatching) → link_at id m ≡ Some l → AreNumbered m
+    → IsSome (watch_on id (pump_shown id l w (option_map (event_reply_of m.store w) (Some Refused)) m).1)
+    → Passes id m (pump_shown id l w (option_map (event_reply_of m.store w) (Some Refused)) m).1 (bytes_of (pump_shown id l w (option_map (event_reply_of m.store w) (Some Refused)) m).0) w Pump
+unfolding Passes pump_shown after_event event_reply_of
+refused_ends id m l w at k some = no_watch id (after_event (after_end w.close) id l w m) (ended id m l w at k w.close) some
+
+-- what is shown next is that, or what a pump shows
+pub shown_or : (m : Machine) (w : PlainWatching) → (shown_next m w ≡ Some Refused) ⊎ (shown_next m w ≡ pumped m.changes m.store w.watch)
+unfolding rechecked
+shown_or m w = by_test (m.rechecks && not (may_go_on (policy_of m) w))
+  where
+    by_test : (b : Bool) → ((if b then Some Refused else pumped m.changes m.store w.watch) ≡ Some Refused) ⊎ ((if b then Some Refused else pumped m.changes m.store w.watch) ≡ pumped m.changes m.store w.watch)
+    by_test true = inl refl
+    by_test false = inr refl
 
 passes_pump : (id : ℕ) (m : Machine) (w : PlainWatching) → AreNumbered m → watch_on id m ≡ Some w → IsSome (watch_on id (pump_step id (link_at id m) m).1)
     → Passes id m (pump_step id (link_at id m) m).1 (bytes_of (pump_step id (link_at id m) m).0) w Pump
@@ -134,7 +151,12 @@ passes_pump id m w k is some =
     let p = pump_is id m w (link_at id m) refl is in
     let P : Answer × Machine → Type 0 = λ x. IsSome (watch_on id x.1) in
     let Q : Answer × Machine → Type 0 = λ x. Passes id m x.1 (bytes_of x.0) w Pump in
-    subst Q (sym p.2) (passes_shown id m p.0 w p.1 k (pumped m.changes m.store w.watch) refl (subst P p.2 some))
+    let next : Option Shown → Answer × Machine = λ q. pump_shown id p.0 w (option_map (event_reply_of m.store w) q) m in
+    let R : Option Shown → Type 0 = λ q. P (next q) → Q (next q) in
+    subst Q (sym p.2) (elim (shown_or m w) [
+      | inl refused ↦ subst R (sym refused) (refused_ends id m p.0 w p.1 k) (subst P p.2 some)
+      | inr same ↦ subst R (sym same) (passes_shown id m p.0 w p.1 k (pumped m.changes m.store w.watch) refl) (subst P p.2 some)
+    ])
 
 -- ---- each event
 
@@ -255,9 +277,9 @@ events_run first id m (e ∷ es) w h k is on =
 -- ---- the machines that there are
 
 pub events_are_a_run : EventsAreARun
-events_are_a_run table first texts before events id w is on =
-    let m : Machine = served table first texts before in
-    let r = events_run first id m events w (served_has table first texts before) (served_numbered table first texts before) is on in
+events_are_a_run on table first texts before events id w is shows =
+    let m : Machine = served on table first texts before in
+    let r = events_run first id m events w (served_has on table first texts before) (served_numbered on table first texts before) is shows in
     record { between = r.between; holds = r.holds; still = r.still; sent = r.told }
 
 -- what the run of a watch has shown, where nothing is due any more
@@ -271,29 +293,29 @@ still_none id m events w v began r is now none =
     one is = cc
 
 pub sent_is_listed : SentIsListed
-sent_is_listed table first texts before events id w v scope revision is began on now none =
-    let m : Machine = served table first texts before in
+sent_is_listed on table first texts before events id w v scope revision is began shows now none =
+    let m : Machine = served on table first texts before in
     let n : Machine = after m events in
     let ts = run_on id m events in
-    let r = events_are_a_run table first texts before events id w is on in
+    let r = events_are_a_run on table first texts before events id w is shows in
     let P : PlainWatch → Type 0 = HoldsOn ts m.changes m.store in
     let Q : PlainWatch → Type 0 = λ x. all_on_top scope (list_at scope revision n.changes) (shown_over ts m.changes m.store x) ≡ list_of scope n in (
       shown_over ts m.changes m.store w.watch,
       r.sent,
       subst Q (sym began)
-          (shown_is_listed table first texts before events ts scope revision r.between (subst P began r.holds) (still_none id m events w v (started_at scope revision) r began now none)),
+          (shown_is_listed on table first texts before events ts scope revision r.between (subst P began r.holds) (still_none id m events w v (started_at scope revision) r began now none)),
     )
 
 pub first_sent_is_listed : FirstSentIsListed
-first_sent_is_listed table first texts before events id w v scope is began on now none =
-    let m : Machine = served table first texts before in
+first_sent_is_listed on table first texts before events id w v scope is began shows now none =
+    let m : Machine = served on table first texts before in
     let n : Machine = after m events in
     let ts = run_on id m events in
-    let r = events_are_a_run table first texts before events id w is on in
+    let r = events_are_a_run on table first texts before events id w is shows in
     let P : PlainWatch → Type 0 = HoldsOn ts m.changes m.store in
     let Q : PlainWatch → Type 0 = λ x. all_on_top scope [] (shown_over ts m.changes m.store x) ≡ list_of scope n in (
       shown_over ts m.changes m.store w.watch,
       r.sent,
       subst Q (sym began)
-          (first_shown_is_listed table first texts before events ts scope r.between (subst P began r.holds) (still_none id m events w v (started_now m.store scope) r began now none)),
+          (first_shown_is_listed on table first texts before events ts scope r.between (subst P began r.holds) (still_none id m events w v (started_now m.store scope) r began now none)),
     )

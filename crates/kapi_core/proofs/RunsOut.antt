@@ -1,5 +1,5 @@
 -- Where memory runs out in a step, no answer was due that is told before any memory is taken.
-use Rattle.std.proofs.Common.{◌≡◌, ℕ, nat_lt, nat_le, ◌&&◌, true, false, List, length, Option, Result, Ok, Err, IsErr, refl}
+use Rattle.std.proofs.Common.{◌≡◌, ℕ, nat_lt, nat_le, ◌&&◌, true, false, List, length, Option, Result, Ok, Err, IsErr, refl, Bool}
 use Rattle.std.specs.BTreeMap.{insert_entry}
 use Rattle.std.specs.Ordering.{nat_cmp}
 use Rattle.std.specs.declared.alloc.AllocError.{AllocError}
@@ -35,9 +35,9 @@ turns_err old new (Ok turned) h out = absurd (cc h)
 turns_err old new (Err error) h out = out
 
 -- where there is room for a connection, it is opened
-pub room_is_late : (s : State) (o : PolicyObjects) (ms : List (List ℕ)) (es : List (ℕ × Connection)) (n : ℕ) (m : Machine) (identity : Identity) → (nat_lt (length es) OPEN_CONNECTIONS && nat_le n LAST_CONNECTION) ≡ true
-    → StandsFor s o ms es n m → is_early (step m (event.Open identity)).0 ≡ false
-room_is_late s o ms es n m identity room h =
-    not_early s o ms es n m (event.Open identity) h
-    (λ cs k p v ps l. told_late (machine_of s cs n ps) (event.Open identity) (told.Opened (record { 0 = n }))
-    (opened s o ms es (insert_entry nat_cmp es n (new_connection identity)) n identity room refl cs k p v ps l).0 refl)
+pub room_is_late : (s : State) (o : PolicyObjects) (ms : List (List ℕ)) (es : List (ℕ × Connection)) (n : ℕ) (on : Bool) (m : Machine) (identity : Identity) → (nat_lt (length es) OPEN_CONNECTIONS && nat_le n LAST_CONNECTION) ≡ true
+    → StandsFor s o ms es n on m → is_early (step m (event.Open identity)).0 ≡ false
+room_is_late s o ms es n on m identity room h =
+    not_early s o ms es n on m (event.Open identity) h
+    (λ cs k p v ps l. told_late (machine_of s cs n on ps) (event.Open identity) (told.Opened (record { 0 = n }))
+    (opened s o ms es (insert_entry nat_cmp es n (new_connection identity)) n on identity room refl cs k p v ps l).0 refl)

@@ -17,13 +17,12 @@ use Rattle.kapi_store.specs.Faults.{StoreFault}
 use Rattle.kapi_store.specs.Plain.{Plain, PlainChange, written}
 use Rattle.kapi_stored_policy.proofs.Writes.{policy_after, stands_in_order}
 use Rattle.kapi_stored_policy.specs.Reading.{after_changes, policy_changes, policy_objects}
-use Rattle.kapi_watch.specs.Watches.{pumped}
 use Rattle.kapi_core.proofs.Gains.{ended_keeps, event_goes, feed_keeps, open_keeps, pump_keeps}
 use Rattle.kapi_core.specs.declared.event.Answer.{Answer}
 use Rattle.kapi_core.specs.declared.event.Event.{Event}
 use Rattle.kapi_core.specs.declared.event.Event.TheVariants as event
 use Rattle.kapi_core.specs.declared.machine.TheConstants.{LAST_CONNECTION, OPEN_CONNECTIONS}
-use Rattle.kapi_core.specs.Machine.{Link, Machine, after, after_serve, after_turn, answers, changed, feed_step, link_at, open_step, policy_of, pump_shown, pump_step, pump_watch, serve_beside, serve_item, serve_step, step, turn_step, turned_by, unserved, with_link}
+use Rattle.kapi_core.specs.Machine.{Link, Machine, after, after_serve, after_turn, answers, changed, feed_step, link_at, open_step, policy_of, pump_shown, pump_step, pump_watch, serve_beside, serve_item, serve_step, shown_next, step, turn_step, turned_by, unserved, with_link}
 use Rattle.kapi_core.specs.Running.{Running}
 use Rattle.kapi_core.specs.Stands.{Stands}
 use Rattle.kapi_core.specs.Telling.{changes_told, policy_told}
@@ -84,7 +83,7 @@ shown_none id l w (Some r) m = refl
 watch_none : (id : ℕ) (l : Link) (w : Option PlainWatching) (m : Machine) → changes_told (pump_watch id l w m).0 ≡ []
 unfolding pump_watch
 watch_none id l None m = refl
-watch_none id l (Some w) m = shown_none id l w (option_map (event_reply_of m.store w) (pumped m.changes m.store w.watch)) m
+watch_none id l (Some w) m = shown_none id l w (option_map (event_reply_of m.store w) (shown_next m w)) m
 
 pump_none : (id : ℕ) (o : Option Link) (m : Machine) → changes_told (pump_step id o m).0 ≡ []
 unfolding pump_step

@@ -1,5 +1,5 @@
 -- Histories of machines: all the changes ever of a machine, and the lists that they make.
-use Rattle.std.specs.Prelude.{◌≡◌, ℕ, List, [], ◌∷◌, Result, Ok, Err}
+use Rattle.std.specs.Prelude.{◌≡◌, ℕ, Bool, List, [], ◌∷◌, Result, Ok, Err}
 use Rattle.serde_json.specs.Data.{Data}
 use Rattle.kapi_aggregation.specs.Rewriting.{rewriting}
 use Rattle.kapi_aggregation.specs.declared.turn.Turn.{Turn}
@@ -13,7 +13,7 @@ use Rattle.kapi_watch.specs.Lists.{all_on_top, list_at, listed}
 use Rattle.kapi_watch.specs.Runs.{HoldsOn, Step, history_after, shown_over, still_due, watch_after}
 use Rattle.kapi_watch.specs.Watches.{started_at, started_now}
 use Rattle.kapi_watch.specs.declared.scope.Scope.{Scope}
-use Rattle.kapi_core.specs.Machine.{Machine, after, changed}
+use Rattle.kapi_core.specs.Machine.{Machine, after, changed, with_rechecks}
 use Rattle.kapi_core.specs.Opening.{opening}
 use Rattle.kapi_core.specs.Running.{Running}
 use Rattle.kapi_core.specs.Stands.{Stands}
@@ -29,13 +29,13 @@ unfoldable pub loaded : Machine → List (List ℕ) → Machine
 loaded m [] = m
 loaded m (text ∷ texts) = loaded (loaded_if m (loads m.store text)) texts
 
--- the machine that has begun, loaded some objects, and made some events
-abbrev pub served : List ResourceRow → ℕ → List (List ℕ) → List Event → Machine
-served table first texts events = after (loaded (opening table first) texts) events
+-- the machine that has begun, loaded some objects, was told whether the rights of watches are looked at anew, and made some events
+abbrev pub served : Bool → List ResourceRow → ℕ → List (List ℕ) → List Event → Machine
+served on table first texts events = after (with_rechecks on (loaded (opening table first) texts)) events
 
 -- all the changes ever of such a machine are a history
 abbrev pub ServedIsAHistory : Type 0
-ServedIsAHistory = (table : List ResourceRow) (first : ℕ) (texts : List (List ℕ)) (events : List Event) → IsHistory first (served table first texts events).changes
+ServedIsAHistory = (on : Bool) (table : List ResourceRow) (first : ℕ) (texts : List (List ℕ)) (events : List Event) → IsHistory first (served on table first texts events).changes
 
 -- a turn changes what a replacement makes
 abbrev pub TurnsReplace : Type 0
@@ -58,20 +58,20 @@ list_of scope m = listed scope m.store.objects
 
 -- the list at the revision of a machine is what it listed then, whatever events came after
 abbrev pub ListedThen : Type 0
-ListedThen = (table : List ResourceRow) (first : ℕ) (texts : List (List ℕ)) (before events : List Event) (scope : Scope) →
-    let m : Machine = served table first texts before in
+ListedThen = (on : Bool) (table : List ResourceRow) (first : ℕ) (texts : List (List ℕ)) (before events : List Event) (scope : Scope) →
+    let m : Machine = served on table first texts before in
     list_at scope m.store.revision (after m events).changes ≡ list_of scope m
 
 -- what is due to a watch from a revision on, on top of the list at that revision, is what is listed now
 abbrev pub DueIsListed : Type 0
-DueIsListed = (table : List ResourceRow) (first : ℕ) (texts : List (List ℕ)) (events : List Event) (scope : Scope) (revision : ℕ) →
-    let m : Machine = served table first texts events in
+DueIsListed = (on : Bool) (table : List ResourceRow) (first : ℕ) (texts : List (List ℕ)) (events : List Event) (scope : Scope) (revision : ℕ) →
+    let m : Machine = served on table first texts events in
     all_on_top scope (list_at scope revision m.changes) (still_due m.changes (started_at scope revision)) ≡ list_of scope m
 
 -- and so is what is due to a watch that shows first what was listed when it started, on top of nothing
 abbrev pub FirstIsListed : Type 0
-FirstIsListed = (table : List ResourceRow) (first : ℕ) (texts : List (List ℕ)) (before events : List Event) (scope : Scope) →
-    let m : Machine = served table first texts before in
+FirstIsListed = (on : Bool) (table : List ResourceRow) (first : ℕ) (texts : List (List ℕ)) (before events : List Event) (scope : Scope) →
+    let m : Machine = served on table first texts before in
     let n : Machine = after m events in
     all_on_top scope [] (still_due n.changes (started_now m.store scope)) ≡ list_of scope n
 
@@ -82,16 +82,16 @@ IsBetween ts m n = history_after ts m.changes ≡ n.changes
 -- what a watch from a revision on has shown while the window holds, on top of the list at that revision, is what is listed now, once
 -- nothing is due any more
 abbrev pub ShownIsListed : Type 0
-ShownIsListed = (table : List ResourceRow) (first : ℕ) (texts : List (List ℕ)) (before events : List Event) (ts : List Step) (scope : Scope) (revision : ℕ) →
-    let m : Machine = served table first texts before in
+ShownIsListed = (on : Bool) (table : List ResourceRow) (first : ℕ) (texts : List (List ℕ)) (before events : List Event) (ts : List Step) (scope : Scope) (revision : ℕ) →
+    let m : Machine = served on table first texts before in
     let n : Machine = after m events in
     IsBetween ts m n → HoldsOn ts m.changes m.store (started_at scope revision) → still_due n.changes (watch_after ts m.changes m.store (started_at scope revision)) ≡ []
     → all_on_top scope (list_at scope revision n.changes) (shown_over ts m.changes m.store (started_at scope revision)) ≡ list_of scope n
 
 -- and the same of a watch that shows what is listed first
 abbrev pub FirstShownIsListed : Type 0
-FirstShownIsListed = (table : List ResourceRow) (first : ℕ) (texts : List (List ℕ)) (before events : List Event) (ts : List Step) (scope : Scope) →
-    let m : Machine = served table first texts before in
+FirstShownIsListed = (on : Bool) (table : List ResourceRow) (first : ℕ) (texts : List (List ℕ)) (before events : List Event) (ts : List Step) (scope : Scope) →
+    let m : Machine = served on table first texts before in
     let n : Machine = after m events in
     IsBetween ts m n → HoldsOn ts m.changes m.store (started_now m.store scope) → still_due n.changes (watch_after ts m.changes m.store (started_now m.store scope)) ≡ []
     → all_on_top scope [] (shown_over ts m.changes m.store (started_now m.store scope)) ≡ list_of scope n

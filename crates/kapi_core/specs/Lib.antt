@@ -11,3 +11,4 @@ pub mod Telling
 pub mod OpeningPolicy
 pub mod Histories
 pub mod Pumps
+pub mod Rechecks

@@ -8,7 +8,7 @@ use Rattle.kapi_aggregation.specs.Roles.{roles_in}
 use Rattle.kapi_aggregation.specs.Turns.{next}
 use Rattle.kapi_aggregation.specs.declared.turn.Turn.{Turn}
 use Rattle.kapi_answer.specs.Answer.{answer, Answered}
-use Rattle.kapi_answer.specs.Watch.{PlainWatching, event_reply_of}
+use Rattle.kapi_answer.specs.Watch.{PlainWatching, event_reply_of, rechecked}
 use Rattle.kapi_answer.specs.declared.watch.After.{After}
 use Rattle.kapi_answer.specs.declared.watch.After.TheVariants as becomes
 use Rattle.kapi_answer.specs.declared.watch.EventReply.{EventReply}
@@ -19,6 +19,7 @@ use Rattle.kapi_rbac_types.specs.declared.identity.Identity.{Identity}
 use Rattle.kapi_policy.specs.Objects.{PolicyObjects}
 use Rattle.kapi_store.specs.Faults.{StoreFault}
 use Rattle.kapi_store.specs.Plain.{Plain, PlainChange, written}
+use Rattle.kapi_watch.specs.Shown.{Shown}
 use Rattle.kapi_watch.specs.Watches.{after_pump, pumped}
 use Rattle.kapi_stored_policy.specs.Reading.{policy_changes, policy_objects}
 use Rattle.kapi_core.specs.declared.event.Event.{Event}
@@ -40,13 +41,14 @@ pub record Link : Type 0 where
 abbrev pub new_link : Identity → Link
 new_link identity = record { identity = identity; sent = []; served = 0; watching = None }
 
--- the objects, all changes that ever made them, the next number, and the open connections by number; one that was closed or has ended
--- is not among them
+-- the objects, all changes that ever made them, the next number, the open connections by number, and whether the rights of a watch are
+-- looked at anew at each of its events; a connection that was closed or has ended is not among the open ones
 pub record Machine : Type 0 where
   pub store : Plain
   pub changes : List PlainChange
   pub next_id : ℕ
   pub links : List (ℕ × Link)
+  pub rechecks : Bool
 
 -- its policy: the roles and bindings among its objects
 abbrev pub policy_of : Machine → PolicyObjects
@@ -65,6 +67,10 @@ with_link id l m = record m { links = set_value (is_at (nat_cmp id)) m.links l }
 -- the machine with one connection more
 abbrev pub with_new_link : ℕ → Link → Machine → Machine
 with_new_link id l m = record m { links = insert_entry nat_cmp m.links id l; next_id = id + 1 }
+
+-- the machine whose watches' rights are looked at anew, or are not
+abbrev pub with_rechecks : Bool → Machine → Machine
+with_rechecks on m = record m { rechecks = on }
 
 -- the machine without the connection of a number
 abbrev pub without_link : ℕ → Machine → Machine
@@ -161,10 +167,14 @@ unfoldable pub pump_shown : ℕ → Link → PlainWatching → Option EventReply
 pump_shown id l w None m = (told.Nothing, with_link id (watched_on l w m) m)
 pump_shown id l w (Some r) m = (told.Sent (event_output r), after_event r.after id l w m)
 
+-- what a watch shows next: where rights are looked at anew, first that the roles and bindings there are do not allow it any more
+abbrev pub shown_next : Machine → PlainWatching → Option Shown
+shown_next m w = rechecked m.rechecks (policy_of m) w (pumped m.changes m.store w.watch)
+
 -- the next event of a watch, if there is one
 unfoldable pub pump_watch : ℕ → Link → Option PlainWatching → Machine → Answer × Machine
 pump_watch id l None m = (told.Nothing, m)
-pump_watch id l (Some w) m = pump_shown id l w (option_map (event_reply_of m.store w) (pumped m.changes m.store w.watch)) m
+pump_watch id l (Some w) m = pump_shown id l w (option_map (event_reply_of m.store w) (shown_next m w)) m
 
 -- the next event of a connection's watch
 unfoldable pub pump_step : ℕ → Option Link → Machine → Answer × Machine

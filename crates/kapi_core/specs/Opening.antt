@@ -1,5 +1,5 @@
 -- The machine as it begins: with the opening objects, each made by the creation that makes all others, and no connection.
-use Rattle.std.specs.Prelude.{◌≡◌, ℕ, ◌+◌, List, [], ◌∷◌, codes, Result, Ok, Err}
+use Rattle.std.specs.Prelude.{◌≡◌, ℕ, ◌+◌, false, List, [], ◌∷◌, codes, Result, Ok, Err}
 use Rattle.std.specs.List.{fold}
 use Rattle.std.specs.Map.{keys_of}
 use Rattle.serde_json.specs.Data.{Data}
@@ -75,9 +75,9 @@ basic_user_binding = record {
 unfoldable pub opening_objects : List OpeningObject
 opening_objects = default_namespace ∷ cluster_admin ∷ basic_user ∷ cluster_admin_binding ∷ basic_user_binding ∷ []
 
--- a machine without objects and connections
+-- a machine without objects and connections, which looks at the rights of a watch at its start alone
 abbrev pub empty : List ResourceRow → ℕ → Machine
-empty table first = record { store = opened table first; changes = []; next_id = 0; links = [] }
+empty table first = record { store = opened table first; changes = []; next_id = 0; links = []; rechecks = false }
 
 -- the machine as it begins: the opening objects, at the five revisions after the first, and no connection
 unfoldable pub opening : List ResourceRow → ℕ → Machine

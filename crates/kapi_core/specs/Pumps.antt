@@ -6,7 +6,7 @@ use Rattle.kapi_names.specs.declared.row.ResourceRow.{ResourceRow}
 use Rattle.kapi_store.specs.Plain.{PlainChange}
 use Rattle.kapi_watch.specs.Lists.{all_on_top, list_at}
 use Rattle.kapi_watch.specs.Runs.{HoldsOn, Made, Pump, Step, shown_over, still_due, watch_after}
-use Rattle.kapi_watch.specs.Shown.{Added, Deleted, Expired, Modified, Shown}
+use Rattle.kapi_watch.specs.Shown.{Added, Deleted, Expired, Modified, Refused, Shown}
 use Rattle.kapi_watch.specs.Text.{type_of}
 use Rattle.kapi_watch.specs.Watches.{started_at, started_now}
 use Rattle.kapi_watch.specs.declared.scope.Scope.{Scope}
@@ -74,6 +74,7 @@ line_of (Added tree) = event_chunk (type_of (Added tree)) tree
 line_of (Modified tree) = event_chunk (type_of (Modified tree)) tree
 line_of (Deleted tree) = event_chunk (type_of (Deleted tree)) tree
 line_of Expired = []
+line_of Refused = []
 
 -- what is sent of objects, one after the other
 unfoldable pub lines_of : List Shown → List ℕ
@@ -92,23 +93,23 @@ pub record IsRun (id : ℕ) (m : Machine) (events : List Event) (w : PlainWatchi
 
 -- events over which a connection shows a watch are a run of it
 abbrev pub EventsAreARun : Type 0
-EventsAreARun = (table : List ResourceRow) (first : ℕ) (texts : List (List ℕ)) (before events : List Event) (id : ℕ) (w : PlainWatching) →
-    let m : Machine = served table first texts before in
+EventsAreARun = (on : Bool) (table : List ResourceRow) (first : ℕ) (texts : List (List ℕ)) (before events : List Event) (id : ℕ) (w : PlainWatching) →
+    let m : Machine = served on table first texts before in
     watch_on id m ≡ Some w → WatchesOn id m events → IsRun id m events w
 
 -- what was sent of a watch that began at a revision, on top of the list at that revision, is what is listed now, once nothing is due
 -- any more
 abbrev pub SentIsListed : Type 0
-SentIsListed = (table : List ResourceRow) (first : ℕ) (texts : List (List ℕ)) (before events : List Event) (id : ℕ) (w v : PlainWatching) (scope : Scope) (revision : ℕ) →
-    let m : Machine = served table first texts before in
+SentIsListed = (on : Bool) (table : List ResourceRow) (first : ℕ) (texts : List (List ℕ)) (before events : List Event) (id : ℕ) (w v : PlainWatching) (scope : Scope) (revision : ℕ) →
+    let m : Machine = served on table first texts before in
     let n : Machine = after m events in
     watch_on id m ≡ Some w → w.watch ≡ started_at scope revision → WatchesOn id m events → watch_on id n ≡ Some v → still_due n.changes v.watch ≡ []
     → (shown : List Shown) × (sent_on id m events ≡ lines_of shown) × (all_on_top scope (list_at scope revision n.changes) shown ≡ list_of scope n)
 
 -- and the same of a watch that shows first what is listed, on top of nothing
 abbrev pub FirstSentIsListed : Type 0
-FirstSentIsListed = (table : List ResourceRow) (first : ℕ) (texts : List (List ℕ)) (before events : List Event) (id : ℕ) (w v : PlainWatching) (scope : Scope) →
-    let m : Machine = served table first texts before in
+FirstSentIsListed = (on : Bool) (table : List ResourceRow) (first : ℕ) (texts : List (List ℕ)) (before events : List Event) (id : ℕ) (w v : PlainWatching) (scope : Scope) →
+    let m : Machine = served on table first texts before in
     let n : Machine = after m events in
     watch_on id m ≡ Some w → w.watch ≡ started_now m.store scope → WatchesOn id m events → watch_on id n ≡ Some v → still_due n.changes v.watch ≡ []
     → (shown : List Shown) × (sent_on id m events ≡ lines_of shown) × (all_on_top scope [] shown ≡ list_of scope n)

@@ -59,18 +59,19 @@ AreLinks history s [] (p ∷ ps) = ⊥
 AreLinks history s (e ∷ es) [] = ⊥
 AreLinks history s (e ∷ es) (p ∷ ps) = (e.0 ≡ p.0) × IsLink history s e.1 p.1 × AreLinks history s es ps
 
--- the store with its window, the policy, the connections and the next number of a machine that is data; each of its aggregated cluster
--- roles that differs from its union is marked
-pub record StandsFor (kept : State) (policy : PolicyObjects) (marks : List (List ℕ)) (es : List (ℕ × Connection)) (next : ℕ) (m : Machine) : Type 0 where
+-- the store with its window, the policy, the connections, the next number and the switch of a machine that is data; each of its
+-- aggregated cluster roles that differs from its union is marked
+pub record StandsFor (kept : State) (policy : PolicyObjects) (marks : List (List ℕ)) (es : List (ℕ × Connection)) (next : ℕ) (on : Bool) (m : Machine) : Type 0 where
   pub store : StoreStands kept m.changes m.store
   pub policy_is : policy ≡ policy_of m
   pub covers : Covers marks (roles_in m.store.objects)
   pub next_id : next ≡ m.next_id
+  pub rechecks : on ≡ m.rechecks
   pub links : AreLinks m.changes m.store es m.links
 
 -- the running machine stands for the one that is data
 abbrev pub Stands : Running → Machine → Type 0
-Stands core m = StandsFor core.store core.policy core.marks core.connections core.next_id m
+Stands core m = StandsFor core.store core.policy core.marks core.connections core.next_id core.rechecks m
 
 -- a step as the machine makes it, for every machine that was stood for
 abbrev pub Makes : Running → Running → Event → Answer → Type 0

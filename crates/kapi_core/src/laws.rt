@@ -13,6 +13,7 @@ ghost use Rattle.kapi_core.specs.Machine.{Machine, after, answers, policy_of};
 ghost use Rattle.kapi_core.specs.Opening.{opening};
 ghost use Rattle.kapi_core.specs.OpeningPolicy.{opening_policy};
 ghost use Rattle.kapi_core.specs.Pumps.{EventsAreARun, FirstSentIsListed, SentIsListed};
+ghost use Rattle.kapi_core.specs.Rechecks.{ShowsWhatIsDue, StaysSwitched};
 ghost use Rattle.kapi_core.specs.Running.{Running};
 ghost use Rattle.kapi_core.specs.Stands.{Stands};
 ghost use Rattle.kapi_core.specs.Table.{fits};
@@ -75,4 +76,11 @@ pub fn what_is_sent_of_a_watch_makes_its_list()
     ensures run { EventsAreARun }
     ensures sent { SentIsListed }
     ensures first { FirstSentIsListed }
+{}
+
+/// No event turns the switch by which the rights of watches are looked at anew. Where it is off a watch shows what is due to it, or that
+/// it cannot go on, and nothing else.
+pub fn the_switch_of_watches_stays()
+    ensures stays { StaysSwitched }
+    ensures off { ShowsWhatIsDue }
 {}

@@ -2,7 +2,7 @@ ghost use Rattle.std.specs.Prelude.{true, ◌≡◌, ◌≤◌, ◌&&◌, ◌++�
 ghost use Rattle.std.specs.BTreeMap.{is_at};
 ghost use Rattle.std.specs.Map.{remove_entry};
 ghost use Rattle.std.specs.Ordering.{nat_cmp};
-ghost use Rattle.kapi_core.specs.Machine.{is_last};
+ghost use Rattle.kapi_core.specs.Machine.{Machine, is_last, with_rechecks};
 ghost use Rattle.kapi_core.specs.Running.{watches};
 ghost use Rattle.kapi_core.specs.Opening.{opening};
 ghost use Rattle.kapi_core.specs.Table.{fits};
@@ -18,7 +18,7 @@ use crate::links::{done_at, feed_at, pass_event};
 use crate::opening::{LAST_FIRST, open_objects};
 use crate::write::{load_object, make_turn, make_write};
 use kapi_aggregation::Tracker;
-use kapi_answer::{After, LoadError, Prepared, answer, event_reply};
+use kapi_answer::{After, LoadError, Prepared, answer, event_reply, recheck};
 use kapi_http::{FeedError, Inbox};
 use kapi_names::ResourceRow;
 use kapi_policy::{Policy, PolicyChange};
@@ -45,6 +45,8 @@ pub struct Core<P: Policy + Drop> {
     tracker: Tracker,
     connections: BTreeMap<u64, Connection>,
     next_id: u64,
+    /// The rights of each watch are looked at anew at each of its events.
+    rechecks: bool,
 }
 
 // It is written out, so that a caller does not prove again how each part is dropped.
@@ -57,6 +59,7 @@ impl<P: Policy + Drop> Drop for Core<P> {
             tracker: _,
             connections: _,
             next_id: _,
+            rechecks: _,
         } = self;
     }
 }
@@ -71,7 +74,7 @@ impl<P: Policy + Drop> Model for Core<P> {
 
     ghost coded = { Prim.hlevel (codes, held.the_row.coded, changed.the_row.coded) };
 
-    ghost view = { λ c. record { store = c.store; policy = P.content c.policy; marks = c.tracker; connections = c.connections.entries; next_id = c.next_id } };
+    ghost view = { λ c. record { store = c.store; policy = P.content c.policy; marks = c.tracker; connections = c.connections.entries; next_id = c.next_id; rechecks = c.rechecks } };
 }
 
 impl<P: Policy + Drop> Core<P> {
@@ -87,6 +90,7 @@ impl<P: Policy + Drop> Core<P> {
         requires empty { P.content policy ≡ no_objects }
         ensures stands { IfOk result (λ core. Stands core (opening table first)) }
         ensures opened { IfOk result (λ core. HasOpened core first) }
+        ensures unopened { IfOk result (λ core. core.next_id ≡ 0) }
     {
         let mut policy = policy;
         let mut tracker = Tracker::new(alloc);
@@ -98,6 +102,7 @@ impl<P: Policy + Drop> Core<P> {
             tracker,
             connections: BTreeMap::new(alloc),
             next_id: 0,
+            rechecks: false,
         })
     }
 
@@ -118,6 +123,17 @@ impl<P: Policy + Drop> Core<P> {
             &mut self.store,
             text,
         )
+    }
+
+    /// Whether the rights of each watch are looked at anew at each of its events: where the roles and bindings of that moment do not
+    /// allow it any more, the watch ends with that event. To be called before the first connection is opened; off at first. Takes no
+    /// memory.
+    pub fn recheck_watches(&mut self, on: bool)
+        requires { self.old.next_id ≡ 0 }
+        ensures switched { self.new ≡ record self.old { rechecks = on } }
+        ensures stands { (m : Machine) → Stands self.old m → Stands self.new (with_rechecks on m) }
+    {
+        self.rechecks = on;
     }
 
     /// The roles and bindings among the objects, as a policy that decides. Takes no memory.
@@ -217,7 +233,8 @@ impl<P: Policy + Drop> Core<P> {
     }
 
     /// Shows the next event of a connection's watch; none where it has no watch, and where nothing is to be shown. A watch that cannot
-    /// go on is at its end with that event, and with it the connection, where its request asked for that.
+    /// go on, or whose rights were taken away where those are looked at, is at its end with that event, and with it the connection, where
+    /// its request asked for that.
     pub fn pump(&mut self, conn: ConnId) -> Result<Option<Output>, Memory>
         ensures { Sends self.old self.new (Event.Pump conn) result }
     {
@@ -228,6 +245,7 @@ impl<P: Policy + Drop> Core<P> {
             return Ok(None);
         };
         let Next { event, place } = watching.watch.next(&self.store);
+        let event = recheck(&self.policy, self.rechecks, watching, event);
         let Some(event) = event else {
             pass_event(&mut self.connections, conn.0, After::Watches, place);
             return Ok(None);

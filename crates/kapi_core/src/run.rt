@@ -2,6 +2,7 @@ ghost use Rattle.std.specs.Prelude.{◌≡◌, length, take, OnOk, OnErr, IsNone
 ghost use Rattle.kapi_aggregation.specs.Roles.{roles_in};
 ghost use Rattle.kapi_core.specs.Gains.{NobodyGains, acting_in};
 ghost use Rattle.kapi_core.specs.Machine.{Machine, answers as answers_of, after};
+ghost use Rattle.kapi_core.specs.Rechecks.{RechecksWatches};
 ghost use Rattle.kapi_core.specs.Stands.{Keeps, Pushes, Stands, Steps, sent_if, turned_if};
 ghost use Rattle.kapi_core.specs.declared.event.Event.TheVariants as Events;
 
@@ -61,11 +62,15 @@ impl<P: Policy + Drop> Core<P> {
     /// Nobody gains by them what no actor held: where the aggregated cluster roles have their unions, and all on whose connections
     /// requests are served are harmless by the policy as it is before, the policy as it is then allows nobody anything that it allowed
     /// before neither to him nor to one of them.
+    ///
+    /// Where the rights of watches are looked at anew, whatever is sent on a watch is sent while the roles and bindings of that moment
+    /// allow its identity to start it, or is the refusal that ends it.
     pub fn run(&mut self, events: &[Event]) -> Outputs
         ensures answers { (m : Machine) → Stands self.old m → result.answers ≡ answers_of m (take (length result.answers) events.now) }
         ensures state { (m : Machine) → Stands self.old m → Stands self.new (after m (take (length result.answers) events.now)) }
         ensures gains { (m : Machine) → Stands self.old m
             → NobodyGains (roles_in m.store.objects) (acting_in m (take (length result.answers) events.now)) self.old.policy self.new.policy }
+        ensures rechecked { (m : Machine) → Stands self.old m → RechecksWatches m (take (length result.answers) events.now) }
         ensures all { IsNone result.stopped → length result.answers ≡ length events.now }
     {
         let mut answers = Vec::new(self.allocator());

@@ -145,3 +145,14 @@ fn a_watch_moves_on_past_changes_of_other_resources(rt: HostRuntime) -> Result<(
     pump(&rt, &store, &mut watch, "ERROR");
     Ok(())
 }
+
+#[test]
+fn a_stopped_watch_shows_nothing_any_more(rt: HostRuntime) -> Result<(), Fail> {
+    let alloc = rt.alloc();
+    let store = updated(alloc, 0)?;
+    let mut watch = watch_all(alloc, &store, None)??;
+    pump(&rt, &store, &mut watch, "ADDED");
+    is_text(&rt, watch.stop().kind(), "ERROR");
+    pump(&rt, &store, &mut watch, "nothing");
+    Ok(())
+}

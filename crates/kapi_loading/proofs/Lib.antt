@@ -1,4 +1,4 @@
 pub mod Published
 pub mod Loaded
 pub mod Begun
-mod Served
+pub mod Served

@@ -1,16 +1,24 @@
--- The machine that a file makes has begun, loaded the file's objects, and made turns.
-use Rattle.std.proofs.Common.{◌≡◌, ℕ, zero, suc, List, [], ◌∷◌, map, Result, Ok, Err, sym, ap, ◌∙◌, refl}
+-- The machine that a file makes has begun, loaded the file's objects, and made turns, and no connection was opened on it.
+use Rattle.std.proofs.Common.{◌≡◌, ℕ, zero, suc, Bool, false, List, [], ◌∷◌, map, Option, None, Some, Result, Ok, Err, sym, ap, ◌∙◌, refl, subst}
 use Rattle.std.specs.Prelude.{replicate}
 use Rattle.kapi_text.specs.Gives.{◌>>=◌}
+use Rattle.kapi_aggregation.specs.Rewriting.{rewriting}
+use Rattle.kapi_aggregation.specs.Roles.{roles_in}
+use Rattle.kapi_aggregation.specs.Turns.{next}
+use Rattle.kapi_aggregation.specs.declared.turn.Turn.{Turn}
 use Rattle.kapi_answer.specs.Load.{LoadFault, loads}
+use Rattle.kapi_store.specs.Faults.{StoreFault}
 use Rattle.kapi_store.specs.Plain.{PlainChange}
 use Rattle.kapi_core.specs.Histories.{loaded as has_loaded, loaded_if}
-use Rattle.kapi_core.specs.Machine.{Machine, after, changed, step}
+use Rattle.kapi_core.specs.Machine.{Machine, after, after_turn, changed, step, turn_step, turned_by, with_rechecks}
+use Rattle.kapi_core.specs.Opening.{empty, opening, opening_objects}
+use Rattle.kapi_core.proofs.Openings.{openings_same}
 use Rattle.kapi_core.specs.declared.event.Event.TheVariants as event
 use Rattle.kapi_loading.specs.Faults.{FileFault}
-use Rattle.kapi_loading.specs.Laws.{FileIsServed}
+use Rattle.kapi_loading.specs.Laws.{FileIsServed, FileIsUnopened}
 use Rattle.kapi_lines.specs.Lines.{NumberedLine, lines_of}
 use Rattle.kapi_loading.specs.Loading.{loaded, machine_of, made_by, turned}
+use Rattle.kapi_script.specs.ProgramTable.{program_rows}
 use Rattle.kapi_script.specs.Scripts.{start}
 
 -- the texts of lines
@@ -37,10 +45,72 @@ unfolding turned after
 turned_is zero m = refl
 turned_is (suc k) m = turned_is k (step m event.Turn).1
 
-pub file_is_served : FileIsServed
+-- a turn leaves the switch, and does not look at it
+turn_switched : (on : Bool) (m : Machine) → (step (with_rechecks on m) event.Turn).1 ≡ with_rechecks on (step m event.Turn).1
+unfolding step turn_step
+turn_switched on m = by_due (next (roles_in m.store.objects))
+  where
+    by_write : (name : List ℕ) (r : Result (List PlainChange) StoreFault) → (after_turn name r (with_rechecks on m)).1 ≡ with_rechecks on (after_turn name r m).1
+    by_write name (Ok changes) = refl
+    by_write name (Err fault) = refl
+
+    by_due : (due : Option Turn) → (turned_by due (with_rechecks on m)).1 ≡ with_rechecks on (turned_by due m).1
+    by_due None = refl
+    by_due (Some turn) = by_write turn.name (rewriting turn m.store)
+
+turns_switched : (on : Bool) (k : ℕ) (m : Machine) → with_rechecks on (after m (replicate k event.Turn)) ≡ after (with_rechecks on m) (replicate k event.Turn)
+unfolding after
+turns_switched on zero m = refl
+turns_switched on (suc k) m =
+    turns_switched on k (step m event.Turn).1 ∙ ap (λ n. after n (replicate k event.Turn)) (sym (turn_switched on m))
+
+-- no connection was opened, and the switch is off
+abbrev IsNew : Machine → Type 0
+IsNew m = (m.next_id ≡ 0) × (m.rechecks ≡ false)
+
+turn_new : (m : Machine) → IsNew m → IsNew (step m event.Turn).1
+unfolding step turn_step
+turn_new m new = by_due (next (roles_in m.store.objects))
+  where
+    by_write : (name : List ℕ) (r : Result (List PlainChange) StoreFault) → IsNew (after_turn name r m).1
+    by_write name (Ok changes) = new
+    by_write name (Err fault) = new
+
+    by_due : (due : Option Turn) → IsNew (turned_by due m).1
+    by_due None = new
+    by_due (Some turn) = by_write turn.name (rewriting turn m.store)
+
+turns_new : (k : ℕ) (m : Machine) → IsNew m → IsNew (after m (replicate k event.Turn))
+unfolding after
+turns_new zero m new = new
+turns_new (suc k) m new = turns_new k (step m event.Turn).1 (turn_new m new)
+
+load_new : (m : Machine) (r : Result (List PlainChange) LoadFault) → IsNew m → IsNew (loaded_if m r)
+load_new m (Ok changes) new = new
+load_new m (Err fault) new = new
+
+loads_new : (given : List (List ℕ)) (m : Machine) → IsNew m → IsNew (has_loaded m given)
+unfolding has_loaded
+loads_new [] m new = new
+loads_new (t ∷ ts) m new = loads_new ts (loaded_if m (loads m.store t)) (load_new m (loads m.store t) new)
+
+start_new : IsNew start
+unfolding opening
+start_new =
+    let same = openings_same opening_objects (empty program_rows 0) in
+    (same.next_id, same.rechecks)
+
+made_is : (file : List ℕ) (m : Machine) → machine_of file ≡ Ok m → m ≡ after (has_loaded start (texts (lines_of file))) (replicate 64 event.Turn)
 unfolding machine_of
-file_is_served file m is = by_load (loaded start (lines_of file)) refl is
+made_is file m is = by_load (loaded start (lines_of file)) refl is
   where
     by_load : (r : Result Machine FileFault) → loaded start (lines_of file) ≡ r → (r >>= λ k. Ok (turned 64 k)) ≡ Ok m → m ≡ after (has_loaded start (texts (lines_of file))) (replicate 64 event.Turn)
     by_load (Ok k) at made = same (turned 64 k) m made ∙ turned_is 64 k ∙ ap (λ n. after n (replicate 64 event.Turn)) (loaded_is (lines_of file) start k at)
     by_load (Err fault) at made = absurd (cc made)
+
+pub file_is_served : FileIsServed
+file_is_served on file m is = ap (with_rechecks on) (made_is file m is) ∙ turns_switched on 64 (has_loaded start (texts (lines_of file)))
+
+pub file_is_unopened : FileIsUnopened
+file_is_unopened file m is =
+    subst IsNew (sym (made_is file m is)) (turns_new 64 (has_loaded start (texts (lines_of file))) (loads_new (texts (lines_of file)) start start_new))

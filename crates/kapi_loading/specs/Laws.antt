@@ -1,7 +1,7 @@
 -- The machine that a file makes is one that the laws of machines speak of.
-use Rattle.std.specs.Prelude.{◌≡◌, ℕ, List, map, replicate, Ok}
+use Rattle.std.specs.Prelude.{◌≡◌, ℕ, Bool, false, List, map, replicate, Ok}
 use Rattle.kapi_core.specs.Histories.{served}
-use Rattle.kapi_core.specs.Machine.{Machine}
+use Rattle.kapi_core.specs.Machine.{Machine, with_rechecks}
 use Rattle.kapi_core.specs.declared.event.Event.TheVariants as event
 use Rattle.kapi_lines.specs.Lines.{lines_of}
 use Rattle.kapi_loading.specs.Loading.{machine_of}
@@ -11,6 +11,10 @@ use Rattle.kapi_script.specs.ProgramTable.{program_rows}
 abbrev pub objects_in : List ℕ → List (List ℕ)
 objects_in file = map (λ l. l.text) (lines_of file)
 
--- it has begun, loaded the objects of the file, and made turns
+-- it has begun, loaded the objects of the file, and made turns, whether the rights of watches are looked at anew or not
 abbrev pub FileIsServed : Type 0
-FileIsServed = (file : List ℕ) (m : Machine) → machine_of file ≡ Ok m → m ≡ served program_rows 0 (objects_in file) (replicate 64 event.Turn)
+FileIsServed = (on : Bool) (file : List ℕ) (m : Machine) → machine_of file ≡ Ok m → with_rechecks on m ≡ served on program_rows 0 (objects_in file) (replicate 64 event.Turn)
+
+-- no connection was opened on it, and it looks at the rights of a watch at its start alone
+abbrev pub FileIsUnopened : Type 0
+FileIsUnopened = (file : List ℕ) (m : Machine) → machine_of file ≡ Ok m → (m.next_id ≡ 0) × (m.rechecks ≡ false)

@@ -33,6 +33,7 @@ pub fn start<R: Wait>(
 ) -> Result<Started, StartError>
     requires { (1 ≤ seats) × (seats ≤ 16) }
     ensures machine { Starts result (machine_of objects.now) }
+    ensures unopened { IfOk result (λ s. s.core.next_id ≡ 0) }
     ensures waiting { IfOk result (λ s. s.desk.waiting ≡ []) }
     ensures seats { IfOk result (λ s. s.seats.items ≡ replicate seats (fresh s.desk.opening)) }
 {

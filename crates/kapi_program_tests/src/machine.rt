@@ -1,5 +1,5 @@
 //! A machine in tests, and requests of a master on its connection 0.
-ghost use Rattle.std.specs.Prelude.{◌≤◌};
+ghost use Rattle.std.specs.Prelude.{◌≡◌, ◌≤◌, IfOk};
 
 use kapi_core::{Answer, ConnId, Core, Event, LAST_FIRST};
 use kapi_index::IndexedPolicy;
@@ -13,6 +13,7 @@ pub const MAPS: &str = "/api/v1/namespaces/default/configmaps";
 /// A machine as `kapi script` makes it, which begins at a revision.
 pub fn core_at(alloc: Global, first: u64) -> Result<Core<IndexedPolicy>, Memory>
     requires { first ≤ LAST_FIRST }
+    ensures { IfOk result (λ core. core.next_id ≡ 0) }
 {
     Core::new(
         alloc,

@@ -1,5 +1,7 @@
 //! Watches over the 1,024 changes that are kept, and one change more.
-use crate::machine::{MAPS, exchange, feed, has_code, holds, open_root, opened_at, request, sent};
+use crate::machine::{
+    MAPS, core_at, exchange, feed, has_code, holds, open_root, opened_at, request, sent,
+};
 use kapi_core::{Answer, ConnId, Core, Event};
 use kapi_index::IndexedPolicy;
 use kapi_text::Memory;
@@ -118,5 +120,60 @@ fn shows_the_whole_window_and_ends_below_it(rt: HostRuntime) -> Result<(), Fail>
     let found = sent(alloc, &mut core, &Event::Serve(ConnId(1)))?;
     assert!(rt; has_code(found.as_slice(), "200"));
     assert!(rt; matches!(core.step(&feed(alloc, 2, b"")?)?, Answer::Ended));
+    Ok(())
+}
+
+const ROLES: &str = "/apis/rbac.authorization.k8s.io/v1/namespaces/default/roles";
+
+const BINDINGS: &str = "/apis/rbac.authorization.k8s.io/v1/namespaces/default/rolebindings";
+
+/// A role by which config maps may be watched.
+const ROLE: &str =
+    r#"{"metadata":{"name":"r"},"rules":[{"apiGroups":[""],"resources":["configmaps"],"verbs":["watch"]}]}"#;
+
+/// Its binding to ann.
+const BINDING: &str =
+    r#"{"metadata":{"name":"b"},"roleRef":{"kind":"Role","name":"r"},"subjects":[{"kind":"User","name":"ann"}]}"#;
+
+/// A watch that is asked for as ann.
+const AS_ANN: &[u8] =
+    b"GET /api/v1/namespaces/default/configmaps?watch=1&resourceVersion=8 HTTP/1.1\r\nHost: a\r\nImpersonate-User: ann\r\n\r\n";
+
+/// A machine that looks at the rights of watches anew, with two connections, an object at revision 6, and what ann may watch by.
+fn rechecking(alloc: Global) -> Result<Core<IndexedPolicy>, Memory> {
+    let mut core = core_at(alloc, 0)?;
+    core.recheck_watches(true);
+    for _ in 0..2 {
+        core.step(&open_root(alloc)?)?;
+    }
+    for (target, body) in [
+        (MAPS, r#"{"metadata":{"name":"b"}}"#),
+        (ROLES, ROLE),
+        (BINDINGS, BINDING),
+    ] {
+        let create = request(alloc, "POST", target, body)?;
+        exchange(alloc, &mut core, 0, create.as_bytes())?;
+    }
+    Ok(core)
+}
+
+/// A watch that is below the window and whose rights were taken away is told that it is refused.
+#[test]
+fn a_watch_at_its_end_is_refused_first(rt: HostRuntime) -> Result<(), Fail> {
+    let alloc = rt.alloc();
+    let mut core = rechecking(alloc)?;
+    let head = exchange(alloc, &mut core, 1, AS_ANN)?;
+    assert!(rt; has_code(head.as_slice(), "200"));
+    update(alloc, &mut core, 1_025)?;
+    let target = format!(in alloc; "{BINDINGS}/b")?;
+    let delete = request(alloc, "DELETE", target.as_str(), "")?;
+    exchange(alloc, &mut core, 0, delete.as_bytes())?;
+    let event = sent(alloc, &mut core, &Event::Pump(ConnId(1)))?;
+    assert!(rt; holds(event.as_slice(), "\"reason\":\"Forbidden\""));
+    assert!(rt;
+        event
+            .as_slice()
+            .ends_with(b"\"type\":\"ERROR\"}\n\r\n0\r\n\r\n")
+    );
     Ok(())
 }

@@ -1,7 +1,7 @@
 -- What a script's answers say of its case.
 use Rattle.std.proofs.Common.{◌≡◌, ℕ, Bool, true, false, ◌&&◌, List, [], ◌∷◌, ◌++◌, Option, Some, None, Result, Ok, Err, IfOk, refl, sym, ap, subst, ◌∙◌, length, append-nil, append_assoc}
 use Rattle.std.specs.Io.KnownBytes.{Appends}
-use Rattle.kapi_core.specs.Machine.{Machine}
+use Rattle.kapi_core.specs.Machine.{Machine, with_rechecks}
 use Rattle.kapi_lines.proofs.Appending.{appends_nothing}
 use Rattle.kapi_replay.specs.Failures.{Fails, FailsBy, FailsOn, bad_line, differences, failures_by, failures_on, script_text}
 use Rattle.kapi_replay.specs.Outcomes.{AreFailures, IsReplayed, IsReported}
@@ -34,7 +34,7 @@ refused items (Err x) m c n text contents is h e = tt
 
 -- the machine is the one that a file makes
 pub loaded : {V E : Type 0} (items : V → List Failure) (r : Result V E) (m : Machine) (c : Case) (load : Loaded) (given : Result Machine FileFault) → given ≡ Ok m
-    → IfOk r (λ v. FailsOn m c (items v)) → IfOk r (λ v. FailsBy c load given (items v))
+    → IfOk r (λ v. FailsOn (with_rechecks c.rechecks m) c (items v)) → IfOk r (λ v. FailsBy c load given (items v))
 loaded items r m c load given is h = subst (λ x. IfOk r (λ v. FailsBy c load x (items v))) (sym is) h
 
 -- nothing is left

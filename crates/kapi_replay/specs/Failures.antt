@@ -2,7 +2,7 @@
 use Rattle.std.specs.Prelude.{◌≡◌, ℕ, Bool, if◌then◌else◌, List, [], ◌∷◌, ◌++◌, Option, Some, None, option_map, Result, Ok, Err}
 use Rattle.std.specs.List.{find, flat_map}
 use Rattle.std.specs.Str.{bytes_eq}
-use Rattle.kapi_core.specs.Machine.{Machine}
+use Rattle.kapi_core.specs.Machine.{Machine, with_rechecks}
 use Rattle.kapi_loading.specs.Faults.{FileFault}
 use Rattle.kapi_loading.specs.Faults as file_fault
 use Rattle.kapi_lines.specs.Lines.{parts_of}
@@ -65,7 +65,7 @@ FailsOn m c failures = (refused : List Bool) × (failures ≡ failures_on m c re
 
 -- the failures on the machine that a file makes, or the line of it that is not loaded
 abbrev pub FailsBy : Case → Loaded → Result Machine FileFault → List Failure → Type 0
-FailsBy c load (Ok m) failures = FailsOn m c failures
+FailsBy c load (Ok m) failures = FailsOn (with_rechecks c.rechecks m) c failures
 FailsBy c load (Err (file_fault.bad_line n)) failures = failures ≡ failure.NotLoaded load.number n ∷ []
 
 abbrev pub FailsLoaded : Case → Loaded → List ℕ → List Failure → Type 0
@@ -80,9 +80,10 @@ abbrev pub FailsWith : Case → Loaded → Option (List ℕ) → List Failure �
 FailsWith c load (Some objects) failures = FailsLoaded c load objects failures
 FailsWith c load None failures = failures ≡ failure.NoFile load.number ∷ []
 
--- the failures of a case on the machine that begins as every one, or on the one that a file makes
+-- the failures of a case on the machine that begins as every one, or on the one that a file makes, whose watches' rights are looked at
+-- anew where the case has it so
 abbrev pub FailsFrom : List NamedFile → Case → Option Loaded → List Failure → Type 0
-FailsFrom files c None failures = FailsOn start c failures
+FailsFrom files c None failures = FailsOn (with_rechecks c.rechecks start) c failures
 FailsFrom files c (Some load) failures = FailsWith c load (file_named files load.name) failures
 
 abbrev pub Fails : List NamedFile → Case → List Failure → Type 0

@@ -1,6 +1,6 @@
 //! A case, played.
 ghost use Rattle.std.specs.Prelude.{◌≡◌, ◌++◌, ◌∷◌, [], IfOk, OnOk, option_map};
-ghost use Rattle.kapi_core.specs.Machine.{Machine};
+ghost use Rattle.kapi_core.specs.Machine.{Machine, with_rechecks};
 ghost use Rattle.kapi_core.specs.Stands.{Stands};
 ghost use Rattle.kapi_script.specs.Scripts.{start as begun};
 ghost use Rattle.kapi_replay.specs.Reports.{line_at};
@@ -117,14 +117,16 @@ fn bad_line(alloc: Global, case: &Case, number: u64) -> Result<Vec<Failure>, Mem
     }
 }
 
-/// Plays a case on a machine, and compares its answers with those that are wanted.
+/// Plays a case on a machine on which no connection was opened, and compares its answers with those that are wanted.
 fn play_on(
     alloc: Global,
     core: &mut Core<IndexedPolicy>,
     case: &Case,
 ) -> Result<Vec<Failure>, Memory>
-    ensures { (m : Machine) → Stands core.old m → IfOk result (λ v. fails.FailsOn m case.now v.items) }
+    requires { core.old.next_id ≡ 0 }
+    ensures { (m : Machine) → Stands core.old m → IfOk result (λ v. fails.FailsOn (with_rechecks case.now.rechecks m) case.now v.items) }
 {
+    core.recheck_watches(case.rechecks);
     let script = script_text(alloc, case.script.as_slice())?;
     let mut reader = script.as_slice();
     let mut answers = Vec::new(alloc);
@@ -176,7 +178,7 @@ fn play_loaded<R: Wait>(
 
 /// Plays a case on the machine that begins as every one.
 fn play_begun(alloc: Global, case: &Case) -> Result<Vec<Failure>, Memory>
-    ensures { IfOk result (λ v. fails.FailsOn begun case.now v.items) }
+    ensures { IfOk result (λ v. fails.FailsOn (with_rechecks case.now.rechecks begun) case.now v.items) }
 {
     let mut core = Core::new(alloc, program_table(alloc)?, IndexedPolicy::new(alloc), 0)?;
     play_on(alloc, &mut core, case)

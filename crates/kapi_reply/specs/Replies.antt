@@ -1,5 +1,6 @@
 -- Replies with JSON bodies, and what refused requests are sent.
 use Rattle.std.specs.Prelude.{ℕ, Bool, true, false, if◌then◌else◌, List, [], Option, Some, None}
+use Rattle.serde_json.specs.Data.{Data}
 use Rattle.serde_json.specs.Written.{compact_text}
 use Rattle.kapi_http.specs.Reply.{text}
 use Rattle.kapi_http.specs.declared.message.HttpFault.{HttpFault}
@@ -41,6 +42,10 @@ watch_reply close = record { bytes = text (record (json_reply status.Ok [] close
 -- a reply that tells a failure and whom it is about
 abbrev pub failure_reply : Option Subject → Bool → Failed → WrittenReply
 failure_reply subject close f = sent (json_reply f.code f.allow close (Some (compact_text (status_of subject f))))
+
+-- what a request that was refused is told, as a Status object
+abbrev pub refusal_status : Asked → Refused → Data
+refusal_status asked r = status_of (subject_of asked.attributes.point (name_in asked r)) (failure_of asked (name_in asked r) r.why)
 
 -- what a request that was refused is sent
 abbrev pub refusal_reply : Asked → Bool → Refused → WrittenReply

@@ -11,6 +11,6 @@ pub use refusal::{
 };
 pub use reply::{
     Asked, Content, WrittenReply, content_reply, deletion_text, expired_text, fault_reply,
-    refusal_reply, target_reply, watch_reply,
+    refusal_reply, refusal_text, target_reply, watch_reply,
 };
 pub use status::Subject;

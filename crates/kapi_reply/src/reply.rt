@@ -139,6 +139,15 @@ pub fn refusal_reply(
     )
 }
 
+/// What a request that was refused is told, as JSON text.
+pub fn refusal_text(alloc: Global, asked: Asked<'_>, refused: &Refused) -> Result<Vec<u8>, Memory>
+    ensures { IfOk result (λ b. b.items ≡ compact_text (replies.refusal_status (asked_data asked.entry) refused.now)) }
+{
+    let name = name_in(asked, refused);
+    let failure = failure_of(alloc, asked, name, &refused.why)?;
+    status_text(alloc, subject_of(&asked.attributes.point, name), failure)
+}
+
 /// The name of the object that a refusal is about.
 fn name_in<'a>(asked: Asked<'a>, refused: &'a Refused) -> &'a str
     ensures { result.now ≡ table.name_in (asked_data asked.entry) refused.entry.now }

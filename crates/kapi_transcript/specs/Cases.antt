@@ -1,5 +1,5 @@
 -- The cases of a transcript: what each line adds to the script of its case.
-use Rattle.std.specs.Prelude.{ℕ, Bool, true, false, if◌then◌else◌, List, [], ◌∷◌, ◌++◌, length, drop, codes, Option, Some, None}
+use Rattle.std.specs.Prelude.{ℕ, ◌==◌, Bool, true, false, if◌then◌else◌, List, [], ◌∷◌, ◌++◌, length, drop, codes, Option, Some, None}
 use Rattle.std.specs.List.{position}
 use Rattle.std.specs.Str.{bytes_eq}
 use Rattle.kapi_lines.specs.Lines.{NumberedLine}
@@ -16,10 +16,11 @@ use Rattle.kapi_transcript.specs.declared.request.Request.{Request}
 use Rattle.kapi_transcript.specs.declared.wanted.Wanted.{Wanted}
 use Rattle.kapi_lines.specs.Words.{begins}
 
--- a case that is being read: its file, its script and wants so far, for whom its connections were opened in their order, the connection
+-- a case that is being read: its file, whether rights are looked at anew, its script and wants so far, for whom its connections were opened in their order, the connection
 -- that was taken last, and whether a header field may follow
 pub record PlainDraft : Type 0 where
   pub load : Option Loaded
+  pub rechecks : Bool
   pub script : List Event
   pub wants : List Want
   pub opened : List (List ℕ)
@@ -29,15 +30,15 @@ pub record PlainDraft : Type 0 where
 -- a draft, as lists
 abbrev pub draft_of : Draft → PlainDraft
 draft_of d =
-    record { load = d.load; script = d.script.items; wants = d.wants.items; opened = d.opened.items; taken = d.taken; fields = d.fields }
+    record { load = d.load; rechecks = d.rechecks; script = d.script.items; wants = d.wants.items; opened = d.opened.items; taken = d.taken; fields = d.fields }
 
 -- a case without lines
 abbrev pub fresh : Option Loaded → PlainDraft
-fresh load = record { load = load; script = []; wants = []; opened = []; taken = None; fields = false }
+fresh load = record { load = load; rechecks = false; script = []; wants = []; opened = []; taken = None; fields = false }
 
 -- the case that was read
 abbrev pub case_of : PlainDraft → Case
-case_of d = record { load = d.load; script = d.script; wants = d.wants }
+case_of d = record { load = d.load; rechecks = d.rechecks; script = d.script; wants = d.wants }
 
 -- ---- what a line adds
 
@@ -91,6 +92,10 @@ pumped_on d l (Some k) = event d l.number (number_line (codes "pump ") k)
 abbrev pub pumped : PlainDraft → NumberedLine → PlainDraft
 pumped d l = pumped_on d l d.taken
 
+-- the rights of watches are looked at anew, where no event stands before the line
+abbrev pub rechecked : PlainDraft → NumberedLine → PlainDraft
+rechecked d l = if length d.script == 0 then record d { rechecks = true; fields = false } else raw d l.number l.text
+
 -- something is wanted of the last answer
 abbrev pub wants : PlainDraft → ℕ → Wanted → PlainDraft
 wants d n wanted = record d { wants = d.wants ++ record { number = n; events = length d.script; wanted = wanted } ∷ []; fields = false }
@@ -105,6 +110,7 @@ drafted d l (form.Actor names) later = acted d l.number names
 drafted d l (form.Request r) later = asked d l r later
 drafted d l form.Field later = field d l
 drafted d l form.Pump later = pumped d l
+drafted d l form.Recheck later = rechecked d l
 drafted d l (form.Want wanted) later = wants d l.number wanted
 drafted d l f later = raw d l.number l.text
 

@@ -32,5 +32,6 @@ unfoldable pub form_of : List ℕ → Form
 form_of line =
     if bytes_eq line (codes "begin") then form.Begin
     else (if bytes_eq line (codes "pump") then form.Pump
+    else (if bytes_eq line (codes "recheck") then form.Recheck
     else (if begins line (codes "load ") then form.Load (drop 5 line)
-    else (if begins line (codes "as ") then form.Actor (drop 3 line) else want_form line (wanted_of line))))
+    else (if begins line (codes "as ") then form.Actor (drop 3 line) else want_form line (wanted_of line)))))

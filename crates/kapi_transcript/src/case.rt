@@ -27,6 +27,8 @@ pub struct Want {
 #[derive(Drop)]
 pub struct Case {
     pub load: Option<Loaded>,
+    /// The rights of watches are looked at anew at each of their events.
+    pub rechecks: bool,
     pub script: Sequence<Event>,
     pub wants: Sequence<Want>,
 }

@@ -17,6 +17,7 @@ use std::mem;
 #[derive(Drop)]
 pub struct Draft {
     load: Option<Loaded>,
+    rechecks: bool,
     script: Vec<Event>,
     wants: Vec<Want>,
     /// The names that the connections were opened for, in their order.
@@ -34,6 +35,7 @@ impl Draft {
     {
         Draft {
             load,
+            rechecks: false,
             script: Vec::new(alloc),
             wants: Vec::new(alloc),
             opened: Vec::new(alloc),
@@ -48,6 +50,7 @@ impl Draft {
     {
         Case {
             load: self.load,
+            rechecks: self.rechecks,
             script: Sequence::new(self.script),
             wants: Sequence::new(self.wants),
         }
@@ -128,6 +131,18 @@ impl Draft {
         self.push_event(line.number, word_line(alloc, b"pump ", connection)?)
     }
 
+    /// Has the rights of watches looked at anew; behind an event it is a line of the script.
+    fn push_recheck(&mut self, alloc: Global, line: &Line<'_>) -> Result<(), Memory>
+        ensures { OnOk result (draft_of self.new ≡ cased.rechecked (draft_of self.old) (line_of line.now)) }
+    {
+        if !self.script.is_empty() {
+            return self.push_line(alloc, line.number, line.text);
+        }
+        self.rechecks = true;
+        self.fields = false;
+        Ok(())
+    }
+
     /// Adds what is wanted of the last answer.
     fn push_want(&mut self, number: usize, wanted: Wanted) -> Result<(), Memory>
         ensures { OnOk result (draft_of self.new ≡ cased.wants (draft_of self.old) number wanted) }
@@ -167,6 +182,7 @@ impl Draft {
             Form::Request(request) => self.push_request(alloc, line, &request, later),
             Form::Field => self.push_field(alloc, line),
             Form::Pump => self.push_pump(alloc, line),
+            Form::Recheck => self.push_recheck(alloc, line),
             Form::Want(wanted) => self.push_want(line.number, wanted),
             Form::Begin | Form::Load(_) | Form::Event => {
                 self.push_line(alloc, line.number, line.text)

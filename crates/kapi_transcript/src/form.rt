@@ -25,6 +25,8 @@ pub enum Form {
     Field,
     /// `pump`: the next event of the connection's watch.
     Pump,
+    /// `recheck`: the rights of watches are looked at anew in this case.
+    Recheck,
     /// What is wanted of the last answer.
     Want(Wanted),
     /// A line of a script.
@@ -41,6 +43,9 @@ pub fn parse_form(alloc: Global, line: &[u8]) -> Result<Form, Memory>
     }
     if line == b"pump".as_slice() {
         return Ok(Form::Pump);
+    }
+    if line == b"recheck".as_slice() {
+        return Ok(Form::Recheck);
     }
     if line.starts_with(b"load ") {
         return Ok(Form::Load(copy_of(alloc, &line[5..])?));

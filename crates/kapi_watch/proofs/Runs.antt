@@ -51,6 +51,7 @@ stays r h s w cs next k =
       within = omega arith;
       known = omega arith;
       stood = omega arith;
+      runs = k.runs;
     }
 
 slice_more : {X : Type 0} (xs ys : List X) (n : ℕ) (x : X) → slice_get xs n ≡ Some x → slice_get (xs ++ ys) n ≡ Some x

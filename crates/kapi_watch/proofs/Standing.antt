@@ -102,6 +102,7 @@ module _ (r : Watch) (h : List PlainChange) (s : Plain) (w : PlainWatch) (k : St
         within = omega arith;
         known = k.known;
         stood = k.known;
+        runs = k.runs;
       }
 
   first_after : (o : Object) → slice_get r.first r.told ≡ Some o → StandsForWatch (record r { told = r.told + 1 }) h s (after_pump h s w)
@@ -140,6 +141,7 @@ module _ (r : Watch) (h : List PlainChange) (s : Plain) (w : PlainWatch) (k : St
           within = within;
           known = k.known;
           stood = le;
+          runs = k.runs;
         }
 
     by_gone : (b : Bool) → is_gone s w.position ≡ b → shown_in (first_in w.scope (changes_after h s w.position)) ≡ pumped h s w
@@ -184,7 +186,7 @@ module _ (r : Watch) (h : List PlainChange) (s : Plain) (w : PlainWatch) (k : St
 -- a watch that was just started
 pub starts : (r : Watch) (h : List PlainChange) (s : Plain) → IsFresh s r → StandsForWatch r h s (watch_data r)
 unfolding due
-starts r h s (none, reached) =
+starts r h s (none, reached, runs) =
     let len : length (map tree_of r.first) ≡ length r.first = length-map r.first tree_of in
     record {
       scope = refl;
@@ -196,6 +198,7 @@ starts r h s (none, reached) =
       within = omega arith;
       known = reached;
       stood = reached;
+      runs = runs;
     }
 
 -- the trees of a list are those of its objects

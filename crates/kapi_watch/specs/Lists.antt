@@ -10,7 +10,7 @@ use Rattle.kapi_store.specs.State.{State}
 use Rattle.kapi_store.specs.declared.key.Key.{Key}
 use Rattle.kapi_watch.specs.declared.scope.Scope.{Scope}
 use Rattle.kapi_watch.specs.Histories.{IsHistory}
-use Rattle.kapi_watch.specs.Shown.{Shown, Added, Modified, Deleted, Expired}
+use Rattle.kapi_watch.specs.Shown.{Shown, Added, Modified, Deleted, Expired, Refused}
 use Rattle.kapi_watch.specs.Watches.{started_at, started_now}
 use Rattle.kapi_watch.specs.Runs.{Step, HoldsOn, history_after, watch_after, shown_over, still_due}
 
@@ -49,6 +49,7 @@ on_top scope list (Added tree) = placed (place_in scope tree) (Some tree) list
 on_top scope list (Modified tree) = placed (place_in scope tree) (Some tree) list
 on_top scope list (Deleted tree) = placed (place_in scope tree) None list
 on_top scope list Expired = list
+on_top scope list Refused = list
 
 -- events on top of a list, one after the other
 abbrev pub all_on_top : Scope → List (Key × Data) → List Shown → List (Key × Data)

@@ -1,5 +1,5 @@
 -- When a running watch stands for one that is data.
-use Rattle.std.specs.Prelude.{◌≡◌, ◌≤◌, ◌<◌, List, ◌++◌, map, length, drop}
+use Rattle.std.specs.Prelude.{◌≡◌, ◌≤◌, ◌<◌, false, List, ◌++◌, map, length, drop}
 use Rattle.kapi_object.specs.Object.{tree_of}
 use Rattle.kapi_store.specs.Plain.{Plain, PlainChange}
 use Rattle.kapi_watch.specs.declared.watch.Place.{Place}
@@ -7,8 +7,8 @@ use Rattle.kapi_watch.specs.declared.watch.Watch.{Watch}
 use Rattle.kapi_watch.specs.Shown.{Added}
 use Rattle.kapi_watch.specs.Watches.{PlainWatch, shown_all, later, due}
 
--- a running watch, which has shown so many of the objects that are shown first, stands for one that is data: what is due
--- to that one and was not shown is the rest of those objects, and what the changes after the position show
+-- a running watch, which has shown so many of the objects that are shown first and was not stopped, stands for one that is data: what
+-- is due to that one and was not shown is the rest of those objects, and what the changes after the position show
 pub record StandsForWatch (r : Watch) (history : List PlainChange) (s : Plain) (w : PlainWatch) : Type 0 where
   pub scope : w.scope ≡ r.scope
   pub position : w.position ≡ r.position
@@ -19,6 +19,7 @@ pub record StandsForWatch (r : Watch) (history : List PlainChange) (s : Plain) (
   pub within : w.shown ≤ length (due history w)
   pub known : w.start ≤ s.revision
   pub stood : w.position ≤ s.revision
+  pub runs : r.stopped ≡ false
 
 -- a running watch that was moved to a place
 abbrev pub at_place : Watch → Place → Watch
@@ -28,9 +29,9 @@ at_place r place = record r { told = place.told; position = place.position }
 abbrev pub watch_data : Watch → PlainWatch
 watch_data r = record { scope = r.scope; first = map tree_of r.first; start = r.position; shown = r.told; position = r.position }
 
--- a running watch has shown nothing, and stands at a revision that was reached
+-- a running watch has shown nothing, stands at a revision that was reached, and was not stopped
 abbrev pub IsFresh : Plain → Watch → Type 0
-IsFresh s r = (r.told ≡ 0) × (r.position ≤ s.revision)
+IsFresh s r = (r.told ≡ 0) × (r.position ≤ s.revision) × (r.stopped ≡ false)
 
 -- such a one stands for what it is as data
 abbrev pub StandsAtFirst : Type 0

@@ -12,12 +12,13 @@ use Rattle.kapi_watch.specs.declared.scope.Found.{Found}
 use Rattle.kapi_watch.specs.declared.scope.Scope.{Scope}
 
 -- what a watch shows: an object as it was created, or came to be selected; as it was changed; as it last stood; or that
--- the watch is at its end, since changes that it did not show may be kept no longer
+-- the watch is at its end, since changes that it did not show may be kept no longer, or since whoever watches may not any more
 pub data Shown : Type 0 where
   Added : Data → Shown
   Modified : Data → Shown
   Deleted : Data → Shown
   Expired : Shown
+  Refused : Shown
 
 -- members whose value at this key is another
 abbrev pub changed_at : List ℕ → (Data → Data) → Members → Members
@@ -56,6 +57,7 @@ event_of (event.Added o) = Added (tree_of o.now)
 event_of (event.Modified o) = Modified (tree_of o.now)
 event_of (event.Deleted o revision) = Deleted (at_version revision (tree_of o.now))
 event_of event.Expired = Expired
+event_of event.Refused = Refused
 
 -- the same with its revision
 abbrev pub found_of : Found → ℕ × Shown

@@ -11,4 +11,6 @@ pub enum Event<'a> {
     Deleted(&'a Object, u64),
     /// Changes that were not shown may be kept no longer: the watch is at its end.
     Expired,
+    /// Whoever watches may not any more: the watch is at its end.
+    Refused,
 }

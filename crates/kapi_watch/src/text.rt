@@ -29,7 +29,7 @@ impl Event<'_> {
             Event::Added(_object) => "ADDED",
             Event::Modified(_object) => "MODIFIED",
             Event::Deleted(_object, _revision) => "DELETED",
-            Event::Expired => "ERROR",
+            Event::Expired | Event::Refused => "ERROR",
         }
     }
 
@@ -43,7 +43,7 @@ impl Event<'_> {
             Event::Deleted(object, revision) => {
                 Ok(Some(deleted_text(alloc, object, *revision)?))
             }
-            Event::Expired => Ok(None),
+            Event::Expired | Event::Refused => Ok(None),
         }
     }
 }

@@ -1,11 +1,12 @@
 //! Watches of a store's changes.
-ghost use Rattle.std.specs.Prelude.{◌≡◌, List, IfOk, map, option_map, unwrap_or};
+ghost use Rattle.std.specs.Prelude.{◌≡◌, true, false, List, IfOk, None, map, option_map, unwrap_or};
 ghost use Rattle.kapi_object.specs.Object.{tree_of};
 ghost use Rattle.kapi_store.specs.Listing.{shown as listed_of};
 ghost use Rattle.kapi_text.specs.Gives.{Gives};
 ghost use Rattle.kapi_store.specs.Plain.{Plain, PlainChange, StandsFor, changes_after, plain_of};
 ghost use Rattle.kapi_watch.specs.Shown.{event_of};
 ghost use Rattle.kapi_watch.specs.Looked.{looked, first_in, shown_in};
+ghost use Rattle.kapi_watch.specs.declared.event.Event.TheVariants as EventValue;
 
 use crate::error::WatchError;
 use crate::event::Event;
@@ -24,6 +25,8 @@ pub struct Watch {
     told: usize,
     /// The revision up to which all changes were shown.
     position: u64,
+    /// It was stopped, and shows nothing any more.
+    stopped: bool,
 }
 
 /// Where a watch stands: how many of the first objects it has shown, and the revision up to which it has shown all changes.
@@ -127,6 +130,7 @@ impl Watch {
     fn from_now(alloc: Global, store: &Store, scope: Scope) -> Result<Watch, Memory>
         ensures gives { IfOk result (λ r. watch_data r ≡ started_now (plain_of store.now) scope) }
         ensures told { IfOk result (λ r. r.told ≡ 0) }
+        ensures runs { IfOk result (λ r. r.stopped ≡ false) }
     {
         let (namespace, name) = (scope.namespace.as_str(), scope.name.as_str());
         let listed = store.list(&scope.row, namespace, &scope.selector, name)?;
@@ -136,6 +140,7 @@ impl Watch {
             first,
             told: 0,
             position: store.revision(),
+            stopped: false,
         })
     }
 
@@ -143,12 +148,14 @@ impl Watch {
     fn from_revision(alloc: Global, scope: Scope, revision: u64) -> Watch
         ensures gives { watch_data result ≡ started_at scope revision }
         ensures told { result.told ≡ 0 }
+        ensures runs { result.stopped ≡ false }
     {
         Watch {
             scope,
             first: Sequence::new(Vec::new(alloc)),
             told: 0,
             position: revision,
+            stopped: false,
         }
     }
 
@@ -171,8 +178,27 @@ impl Watch {
     /// the watch on.
     ///
     /// First the objects that were there at its start. Then, where changes after its position may be kept no longer, that it is at
-    /// its end; else the first that these changes show. Each is looked at once, and nothing else of the store is.
+    /// its end; else the first that these changes show. Each is looked at once, and nothing else of the store is. A watch that was
+    /// stopped shows nothing.
     pub fn next<'a>(&'a self, store: &'a Store) -> Next<'a>
+        ensures event { (history : List PlainChange) (s : Plain) (w : PlainWatch) → StandsFor store.now history s
+            → StandsForWatch self.now history s w → option_map event_of result.event ≡ pumped history s w }
+        ensures place { (history : List PlainChange) (s : Plain) (w : PlainWatch) → StandsFor store.now history s
+            → StandsForWatch self.now history s w → StandsForWatch (at_place self.now result.place) history s (after_pump history s w) }
+        ensures stopped { self.now.stopped ≡ true → result.event ≡ None }
+    {
+        if self.stopped {
+            let place = Place {
+                told: self.told,
+                position: self.position,
+            };
+            return Next { event: None, place };
+        }
+        self.next_of_running(store)
+    }
+
+    /// What a watch that was not stopped shows next, and where it stands then.
+    fn next_of_running<'a>(&'a self, store: &'a Store) -> Next<'a>
         ensures event { (history : List PlainChange) (s : Plain) (w : PlainWatch) → StandsFor store.now history s
             → StandsForWatch self.now history s w → option_map event_of result.event ≡ pumped history s w }
         ensures place { (history : List PlainChange) (s : Plain) (w : PlainWatch) → StandsFor store.now history s
@@ -225,5 +251,14 @@ impl Watch {
     {
         self.told = place.told;
         self.position = place.position;
+    }
+
+    /// Stops the watch, since whoever watches may not any more: `next` shows nothing of it from now on. Takes no memory.
+    pub fn stop(&mut self) -> Event<'static>
+        ensures told { result ≡ EventValue.Refused }
+        ensures stops { self.new ≡ record self.old { stopped = true } }
+    {
+        self.stopped = true;
+        Event::Refused
     }
 }

@@ -3,14 +3,17 @@ use Rattle.std.proofs.Common.{rules, ap₂, codes, false, ◌≡◌, ◌∙◌, 
 use Rattle.std.proofs.lemmas.Result.{IfOk-weaker}
 use Rattle.clap.specs.Simple.{App, app_of, new_app, with_rule}
 use Rattle.clap.specs.declared.builder.command.Command.TheViews.{out-Command}
-use Rattle.kapi.specs.CommandLine.{option, readers}
+use Rattle.kapi.specs.CommandLine.{flag, option, readers}
 use Rattle.kapi.proofs.arguments.serve.Goals as goal
 
 abbrev loading : App
 loading = with_rule (new_app (codes "serve")) (option (codes "load"))
 
+abbrev looking : App
+looking = with_rule loading (flag (codes "recheck-watches"))
+
 abbrev answering : App
-answering = with_rule loading (option (codes "answer"))
+answering = with_rule looking (option (codes "answer"))
 
 pub returns : goal.returns
 returns c =
@@ -18,11 +21,13 @@ returns c =
     let local : (out-Command c.after_help.result).has_globals ≡ false = search rules in
     let first : app_of c.in_ok-arg.field-0 ≡ loading = c.in_ok-arg.ensures.shape c.option.ensures.local ∙ ap₂ with_rule named c.option.ensures.rule in
     let first_local : (out-Command c.in_ok-arg.field-0).has_globals ≡ false = c.in_ok-arg.ensures.globals ∙ ap₂ ◌||◌ local c.option.ensures.local in
-    let second : app_of c.in_ok-arg-2.field-0 ≡ answering = c.in_ok-arg-2.ensures.shape c.option-2.ensures.local ∙ ap₂ with_rule first c.option-2.ensures.rule in
-    let second_local : (out-Command c.in_ok-arg-2.field-0).has_globals ≡ false = c.in_ok-arg-2.ensures.globals ∙ ap₂ ◌||◌ first_local c.option-2.ensures.local in
-    let third : app_of c.in_ok-arg-3.field-0 ≡ with_rule answering readers = c.in_ok-arg-3.ensures.shape c.readers.ensures.local ∙ ap₂ with_rule second c.readers.ensures.rule in
-    let third_local : (out-Command c.in_ok-arg-3.field-0).has_globals ≡ false = c.in_ok-arg-3.ensures.globals ∙ ap₂ ◌||◌ second_local c.readers.ensures.local in
-    IfOk-weaker c.arg-4.result _ _ (λ m h. (
-      h.shape c.ports.ensures.local ∙ ap₂ with_rule third c.ports.ensures.rule,
-      h.globals ∙ ap₂ ◌||◌ third_local c.ports.ensures.local,
-    )) c.arg-4.ensures
+    let second : app_of c.in_ok-arg-2.field-0 ≡ looking = c.in_ok-arg-2.ensures.shape c.flag.ensures.local ∙ ap₂ with_rule first c.flag.ensures.rule in
+    let second_local : (out-Command c.in_ok-arg-2.field-0).has_globals ≡ false = c.in_ok-arg-2.ensures.globals ∙ ap₂ ◌||◌ first_local c.flag.ensures.local in
+    let third : app_of c.in_ok-arg-3.field-0 ≡ answering = c.in_ok-arg-3.ensures.shape c.option-2.ensures.local ∙ ap₂ with_rule second c.option-2.ensures.rule in
+    let third_local : (out-Command c.in_ok-arg-3.field-0).has_globals ≡ false = c.in_ok-arg-3.ensures.globals ∙ ap₂ ◌||◌ second_local c.option-2.ensures.local in
+    let fourth : app_of c.in_ok-arg-4.field-0 ≡ with_rule answering readers = c.in_ok-arg-4.ensures.shape c.readers.ensures.local ∙ ap₂ with_rule third c.readers.ensures.rule in
+    let fourth_local : (out-Command c.in_ok-arg-4.field-0).has_globals ≡ false = c.in_ok-arg-4.ensures.globals ∙ ap₂ ◌||◌ third_local c.readers.ensures.local in
+    IfOk-weaker c.arg-5.result _ _ (λ m h. (
+      h.shape c.ports.ensures.local ∙ ap₂ with_rule fourth c.ports.ensures.rule,
+      h.globals ∙ ap₂ ◌||◌ fourth_local c.ports.ensures.local,
+    )) c.arg-5.ensures

@@ -1,43 +1,14 @@
-use Rattle.std.proofs.Common.{◌≡◌, ℕ, List, ◌++◌, codes, Some, ap, sym, ◌∙◌}
-use Rattle.serde_json.specs.Data.{Data}
-use Rattle.kapi_http.specs.ChunkText.{last_chunk}
-use Rattle.kapi_reply.specs.Refusals.{expired}
-use Rattle.kapi_reply.specs.Status.{status_of}
-use Rattle.kapi_store.specs.Plain.{window_start}
-use Rattle.kapi_watch.specs.declared.scope.Scope.{Scope}
-use Rattle.kapi_answer.specs.Watch.{after_end, event_chunk, expired_status}
-use Rattle.kapi_answer.specs.declared.watch.After.{After}
+use Rattle.std.proofs.Common.{◌≡◌, IfOk, subst}
 use Rattle.kapi_answer.specs.declared.watch.EventReply.{EventReply}
+use Rattle.kapi_answer.proofs.Watched.{end_expired, end_refused}
 use Rattle.kapi_answer.proofs.watch.end_reply.Goals as goal
 
--- the Status object by its parts
-abbrev told_by : List ℕ → List ℕ → List ℕ → ℕ → ℕ → Data
-told_by group resource name asked begins =
-    status_of (Some (record { group = group; resource = resource; name = name })) (expired (record { asked = asked; begins = begins }))
+pub returns-in-Refused : goal.returns-in-Refused
+returns-in-Refused c = λ history s w stands is none.
+    let P : EventReply → Type 0 = λ reply. IfOk c.refused_reply.result (λ r. r ≡ reply) in
+    subst P (end_refused s w c.args.event.now c.in-Refused.is) (c.refused_reply.ensures history s w is)
 
-abbrev reply_of : List ℕ → After → EventReply
-reply_of bytes after = record { bytes = bytes; after = after }
-
-pub returns : goal.returns
-returns c = λ history s w stands is.
-    let scope : c.scope-scope.result.now ≡ w.watch.scope = c.scope-scope.ensures ∙ sym is.0.scope in
-    let group = c.as_str.ensures ∙ ap (λ (x : Scope). x.row.group) scope in
-    let resource = c.as_str-2.ensures ∙ ap (λ (x : Scope). x.row.plural) scope in
-    let name = c.as_str-3.ensures ∙ ap (λ (x : Scope). x.name) scope in
-    let asked = c.position.ensures history s w.watch is.0 in
-    let begins = c.window_start.ensures ∙ ap window_start stands.plain in
-    let d = told_by c.as_str.result.now c.as_str-2.result.now c.as_str-3.result.now c.position.result c.window_start.result in
-    let same : d ≡ expired_status s w.watch =
-    ap (λ g. told_by g c.as_str-2.result.now c.as_str-3.result.now c.position.result c.window_start.result) group
-    ∙ ap (λ r. told_by w.watch.scope.row.group r c.as_str-3.result.now c.position.result c.window_start.result) resource
-    ∙ ap (λ n. told_by w.watch.scope.row.group w.watch.scope.row.plural n c.position.result c.window_start.result) name
-    ∙ ap (λ a. told_by w.watch.scope.row.group w.watch.scope.row.plural w.watch.scope.name a c.window_start.result) asked
-    ∙ ap (λ b. told_by w.watch.scope.row.group w.watch.scope.row.plural w.watch.scope.name w.watch.position b) begins in
-    let bytes = c.in_ok-bytes.ensures d (c.deref.ensures.value ∙ c.in_ok-status.ensures) in
-    let all : c.new.result ≡ event_chunk (codes "ERROR") (expired_status s w.watch) ++ last_chunk =
-    c.new.ensures ∙ c.in_ok-extend_from_slice.ensures.items
-    ∙ ap (λ b. b ++ c.deref-2.result.now) bytes
-    ∙ ap (λ t. event_chunk (codes "ERROR") d ++ t) (c.deref-2.ensures.value ∙ c.in_ok-write_end.ensures)
-    ∙ ap (λ x. event_chunk (codes "ERROR") x ++ last_chunk) same in
-    ap (λ b. reply_of b c.after_end.result) all
-    ∙ ap (λ a. reply_of (event_chunk (codes "ERROR") (expired_status s w.watch) ++ last_chunk) a) (c.after_end.ensures ∙ ap after_end is.1)
+pub returns-in_default : goal.returns-in_default
+returns-in_default c = λ history s w stands is none.
+    let P : EventReply → Type 0 = λ reply. IfOk c.expired_reply.result (λ r. r ≡ reply) in
+    subst P (end_expired s w c.args.event.now c.in_default.not-Refused none) (c.expired_reply.ensures history s w stands is)

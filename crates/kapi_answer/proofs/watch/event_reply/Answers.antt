@@ -1,8 +1,7 @@
-use Rattle.std.proofs.Common.{◌≡◌, IfOk, option_map, ap, sym, subst, ◌∙◌}
+use Rattle.std.proofs.Common.{option_map, ap, sym, ◌∙◌}
 use Rattle.kapi_watch.specs.Shown.{event_of}
 use Rattle.kapi_answer.specs.Watch.{event_chunk}
-use Rattle.kapi_answer.specs.declared.watch.EventReply.{EventReply}
-use Rattle.kapi_answer.proofs.Watched.{end_told, object_told}
+use Rattle.kapi_answer.proofs.Watched.{object_told}
 use Rattle.kapi_answer.proofs.watch.event_reply.Goals as goal
 
 pub returns-in_ok-event_chunk-in-Some : goal.returns-in_ok-event_chunk-in-Some
@@ -16,7 +15,4 @@ returns-in_ok-event_chunk-in-Some c = λ history s w stands is.
 
 pub returns-in-None : goal.returns-in-None
 returns-in-None c = λ history s w stands is.
-    let e = event_of c.args.event.now in
-    let text = ap (option_map (λ b. b.items)) (sym c.in-None.is) ∙ c.in_ok-object.ensures in
-    let P : EventReply → Type 0 = λ reply. IfOk c.end_reply.result (λ r. r ≡ reply) in
-    subst P (end_told s w e text) (c.end_reply.ensures history s w stands is)
+    c.end_reply.ensures history s w stands is (ap (option_map (λ b. b.items)) (sym c.in-None.is) ∙ c.in_ok-object.ensures)

@@ -18,6 +18,7 @@ returns-clause-stands g c =
       policy_is = c.in_ok-store.ensures.1;
       covers = c.in_ok-store.ensures.2;
       next_id = sym same.next_id;
+      rechecks = sym same.rechecks;
       links = subst (λ (ps : List (ℕ × Link)). AreLinks m.changes m.store c.new.result.entries ps) (sym same.links) (links_none m.changes m.store c.new.result.entries c.new.ensures.len);
     }
 

@@ -2,7 +2,7 @@ use Rattle.std.proofs.Common.{◌≡◌, Bool, List, [], Some, None, option_map,
 use Rattle.std.specs.BTreeMap.{is_at}
 use Rattle.std.specs.Map.{lookup}
 use Rattle.std.specs.Ordering.{nat_cmp}
-use Rattle.kapi_answer.specs.Watch.{event_reply_of}
+use Rattle.kapi_answer.specs.Watch.{event_reply_of, rechecked}
 use Rattle.kapi_watch.specs.Shown.{event_of}
 use Rattle.kapi_policy.specs.declared.change.PolicyChange.{PolicyChange}
 use Rattle.kapi_core.specs.Running.{Running}
@@ -18,29 +18,30 @@ pub returns-in_default : goal.returns-in_default
 returns-in_default g c = λ m h.
     let old = c.args.self.now in
     let P : Running → Type 0 = λ r. lookup (is_at (nat_cmp c.args.conn.0)) r.connections ≡ None in
-    made_for old.store old.policy old.marks old.connections old.next_id m old.store old.policy old.marks old.connections old.next_id (event.Pump c.args.conn) told.Nothing h
-    (pumped_nowhere old.store old.policy old.marks old.connections old.next_id c.args.conn (subst P c.self.view_is (sym c.in_default.ensures.value)))
+    made_for old.store old.policy old.marks old.connections old.next_id old.rechecks m old.store old.policy old.marks old.connections old.next_id old.rechecks (event.Pump c.args.conn) told.Nothing h
+    (pumped_nowhere old.store old.policy old.marks old.connections old.next_id old.rechecks c.args.conn (subst P c.self.view_is (sym c.in_default.ensures.value)))
 
 pub returns-in_default-watching : goal.returns-in_default-watching
 returns-in_default-watching g c = λ m h.
     let old = c.args.self.now in
     let P : Running → Type 0 = λ r. lookup (is_at (nat_cmp c.args.conn.0)) r.connections ≡ Some c.in-Some.connection.now in
-    made_for old.store old.policy old.marks old.connections old.next_id m old.store old.policy old.marks old.connections old.next_id (event.Pump c.args.conn) told.Nothing h
-    (pumped_idle old.store old.policy old.marks old.connections old.next_id c.args.conn c.in-Some.connection.now (subst P c.self.view_is (sym c.in-Some.ensures.value))
+    made_for old.store old.policy old.marks old.connections old.next_id old.rechecks m old.store old.policy old.marks old.connections old.next_id old.rechecks (event.Pump c.args.conn) told.Nothing h
+    (pumped_idle old.store old.policy old.marks old.connections old.next_id old.rechecks c.args.conn c.in-Some.connection.now (subst P c.self.view_is (sym c.in-Some.ensures.value))
     c.in_default-watching.is)
 
 pub returns-in_default-event : goal.returns-in_default-event
 returns-in_default-event g c =
-    let old : Running = record { store = c.self.inside.store; policy = g.P.Policy.content c.self.inside.policy; marks = c.self.inside.tracker; connections = c.self.inside.connections.entries; next_id = c.self.inside.next_id } in
+    let old : Running = record { store = c.self.inside.store; policy = g.P.Policy.content c.self.inside.policy; marks = c.self.inside.tracker; connections = c.self.inside.connections.entries; next_id = c.self.inside.next_id; rechecks = c.self.inside.rechecks } in
     let linked = c.in-Some.connection.now in
     let watching = c.in-Some-watching.watching in
     let there = sym c.in-Some.ensures.value in
     let P : Running → Type 0 = λ r. Makes r (record old { connections = c.pass_event.new.links.entries }) (event.Pump c.args.conn) told.Nothing in
     subst P c.self.view_is
-    (λ m h. made_for old.store old.policy old.marks old.connections old.next_id m old.store old.policy old.marks c.pass_event.new.links.entries old.next_id (event.Pump c.args.conn) told.Nothing h
-    (pumped_nothing old.store old.policy old.marks old.connections c.pass_event.new.links.entries old.next_id c.args.conn linked watching c.next.result.place there c.in-Some-watching.is
-    (λ cs p w stands is. ap (option_map (event_reply_of p w)) (ap (option_map event_of) (sym c.in_default-event.is) ∙ c.next.ensures.event cs p w.watch stands is.0))
-    (λ cs p w stands is. (c.next.ensures.place cs p w.watch stands is.0, is.1)) (c.pass_event.ensures linked watching there c.in-Some-watching.is)))
+    (λ m h. made_for old.store old.policy old.marks old.connections old.next_id old.rechecks m old.store old.policy old.marks c.pass_event.new.links.entries old.next_id old.rechecks (event.Pump c.args.conn) told.Nothing h
+    (pumped_nothing old.store old.policy old.marks old.connections c.pass_event.new.links.entries old.next_id old.rechecks c.args.conn linked watching c.next.result.place there c.in-Some-watching.is
+    (λ cs p w stands is. ap (option_map (event_reply_of p w)) (ap (option_map event_of) (sym c.in_default-event.is) ∙ c.recheck-event.ensures cs p w is
+    ∙ ap (rechecked old.rechecks old.policy w) (c.next.ensures.event cs p w.watch stands is.0)))
+    (λ cs p w stands is. (c.next.ensures.place cs p w.watch stands is.0, is.1, is.2, is.3)) (c.pass_event.ensures linked watching there c.in-Some-watching.is)))
 
 pub returns-in_err-reply : goal.returns-in_err-reply
 returns-in_err-reply g c =
@@ -49,7 +50,7 @@ returns-in_err-reply g c =
 
 pub returns : goal.returns
 returns g c =
-    let old : Running = record { store = c.self.inside.store; policy = g.P.Policy.content c.self.inside.policy; marks = c.self.inside.tracker; connections = c.self.inside.connections.entries; next_id = c.self.inside.next_id } in
+    let old : Running = record { store = c.self.inside.store; policy = g.P.Policy.content c.self.inside.policy; marks = c.self.inside.tracker; connections = c.self.inside.connections.entries; next_id = c.self.inside.next_id; rechecks = c.self.inside.rechecks } in
     let links = c.pass_event-2.new.links.entries in
     let linked = c.in-Some.connection.now in
     let watching = c.in-Some-watching.watching in
@@ -62,8 +63,9 @@ returns g c =
     subst P c.self.view_is
     (subst Q (sym (c.new-2.ensures ∙ c.new.ensures.items))
     (subst R (sym c.closes.ensures)
-    (λ m h. made_for old.store old.policy old.marks old.connections old.next_id m old.store old.policy old.marks links old.next_id (event.Pump c.args.conn) _ h
-    (pumped_event old.store old.policy old.marks old.connections links old.next_id c.args.conn linked watching reply c.next.result.place there c.in-Some-watching.is
+    (λ m h. made_for old.store old.policy old.marks old.connections old.next_id old.rechecks m old.store old.policy old.marks links old.next_id old.rechecks (event.Pump c.args.conn) _ h
+    (pumped_event old.store old.policy old.marks old.connections links old.next_id old.rechecks c.args.conn linked watching reply c.next.result.place there c.in-Some-watching.is
     (λ cs p w stands is. ap Some (c.in_ok-reply.ensures cs p w stands is)
-    ∙ ap (option_map (event_reply_of p w)) (ap (option_map event_of) (sym c.in-Some-event.is) ∙ c.next.ensures.event cs p w.watch stands is.0))
-    (λ cs p w stands is. (c.next.ensures.place cs p w.watch stands is.0, is.1)) (c.pass_event-2.ensures linked watching there c.in-Some-watching.is)))))
+    ∙ ap (option_map (event_reply_of p w)) (ap (option_map event_of) (sym c.in-Some-event.is) ∙ c.recheck-event.ensures cs p w is
+    ∙ ap (rechecked old.rechecks old.policy w) (c.next.ensures.event cs p w.watch stands is.0)))
+    (λ cs p w stands is. (c.next.ensures.place cs p w.watch stands is.0, is.1, is.2, is.3)) (c.pass_event-2.ensures linked watching there c.in-Some-watching.is)))))

@@ -3,6 +3,7 @@ use Rattle.std.proofs.lemmas.List.{take_more}
 use Rattle.kapi_core.specs.declared.event.Answer.{Answer}
 use Rattle.kapi_core.specs.declared.event.Event.{Event}
 use Rattle.kapi_core.proofs.Gains.{ran_gains}
+use Rattle.kapi_core.proofs.Rechecking.{rechecks_watches}
 use Rattle.kapi_core.proofs.Runs.{Ran, ran_kept, ran_nothing, ran_push}
 use Rattle.kapi_core.proofs.machine.Core.run.Goals as goal
 
@@ -35,3 +36,9 @@ pub returns-clause-gains : goal.returns-clause-gains
 returns-clause-gains g c =
     ran_gains c.args.self.now c.loop-event.self c.loop-event.answers.items c.new-2.result c.loop-event.event-index c.args.events.now c.loop-event.invariant
     c.new-2.ensures
+
+pub returns-in-Err-clause-rechecked : goal.returns-in-Err-clause-rechecked
+returns-in-Err-clause-rechecked g c = λ m h. rechecks_watches m _
+
+pub returns-clause-rechecked : goal.returns-clause-rechecked
+returns-clause-rechecked g c = λ m h. rechecks_watches m _

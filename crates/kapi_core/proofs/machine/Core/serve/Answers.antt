@@ -20,29 +20,29 @@ pub returns-in_default : goal.returns-in_default
 returns-in_default g c = λ m h.
     let old = c.args.self.now in
     let P : Running → Type 0 = λ r. lookup (is_at (nat_cmp c.args.conn.0)) r.connections ≡ None in
-    made_for old.store old.policy old.marks old.connections old.next_id m old.store old.policy old.marks old.connections old.next_id (event.Serve c.args.conn) told.Nothing h
-    (served_nowhere old.store old.policy old.marks old.connections old.next_id c.args.conn (subst P c.self.view_is (sym c.in_default.ensures.value)))
+    made_for old.store old.policy old.marks old.connections old.next_id old.rechecks m old.store old.policy old.marks old.connections old.next_id old.rechecks (event.Serve c.args.conn) told.Nothing h
+    (served_nowhere old.store old.policy old.marks old.connections old.next_id old.rechecks c.args.conn (subst P c.self.view_is (sym c.in_default.ensures.value)))
 
 pub returns-then-is_some : goal.returns-then-is_some
 returns-then-is_some g c = λ m h.
     let old = c.args.self.now in
     let runs = is_watching c.in-Some.connection.now.watching (sym c.is_some.ensures ∙ c.if-is_some.true) in
     let P : Running → Type 0 = λ r. lookup (is_at (nat_cmp c.args.conn.0)) r.connections ≡ Some c.in-Some.connection.now in
-    made_for old.store old.policy old.marks old.connections old.next_id m old.store old.policy old.marks old.connections old.next_id (event.Serve c.args.conn) told.Nothing h
-    (served_beside old.store old.policy old.marks old.connections old.next_id c.args.conn c.in-Some.connection.now runs.0 (subst P c.self.view_is (sym c.in-Some.ensures.value)) runs.1)
+    made_for old.store old.policy old.marks old.connections old.next_id old.rechecks m old.store old.policy old.marks old.connections old.next_id old.rechecks (event.Serve c.args.conn) told.Nothing h
+    (served_beside old.store old.policy old.marks old.connections old.next_id old.rechecks c.args.conn c.in-Some.connection.now runs.0 (subst P c.self.view_is (sym c.in-Some.ensures.value)) runs.1)
 
 pub returns-in_default-2 : goal.returns-in_default-2
 returns-in_default-2 g c = λ m h.
     let old = c.args.self.now in
     let P : Running → Type 0 = λ r. lookup (is_at (nat_cmp c.args.conn.0)) r.connections ≡ Some c.in-Some.connection.now in
-    made_for old.store old.policy old.marks old.connections old.next_id m old.store old.policy old.marks old.connections old.next_id (event.Serve c.args.conn) told.Nothing h
-    (served_nothing old.store old.policy old.marks old.connections old.next_id c.args.conn c.in-Some.connection.now (subst P c.self.view_is (sym c.in-Some.ensures.value))
+    made_for old.store old.policy old.marks old.connections old.next_id old.rechecks m old.store old.policy old.marks old.connections old.next_id old.rechecks (event.Serve c.args.conn) told.Nothing h
+    (served_nothing old.store old.policy old.marks old.connections old.next_id old.rechecks c.args.conn c.in-Some.connection.now (subst P c.self.view_is (sym c.in-Some.ensures.value))
     (is_idle c.in-Some.connection.now.watching (sym c.is_some.ensures ∙ c.if-is_some.false))
     (sym c.in_ok-item.ensures ∙ c.in_default-2.is))
 
 pub returns : goal.returns
 returns g c =
-    let old : Running = record { store = c.self.inside.store; policy = g.P.Policy.content c.self.inside.policy; marks = c.self.inside.tracker; connections = c.self.inside.connections.entries; next_id = c.self.inside.next_id } in
+    let old : Running = record { store = c.self.inside.store; policy = g.P.Policy.content c.self.inside.policy; marks = c.self.inside.tracker; connections = c.self.inside.connections.entries; next_id = c.self.inside.next_id; rechecks = c.self.inside.rechecks } in
     let next : Running = record old { store = c.make_write.new.store; policy = g.P.Policy.content c.make_write.new.policy; marks = c.make_write.new.tracker; connections = c.close_if.new.links.entries } in
     let there = sym c.in-Some.ensures.value in
     let out = c.in_ok-reply.field-0 in
@@ -52,8 +52,8 @@ returns g c =
     let P : Running → Type 0 = λ r. Told r c.new.result in
     let Q : List PolicyChange → Type 0 = Told old in
     subst P c.self.view_is (subst Q (sym (c.new.ensures ∙ c.in_ok-changes.ensures.made))
-    (λ m h. made_for old.store old.policy old.marks old.connections old.next_id m next.store next.policy next.marks next.connections next.next_id (event.Serve c.args.conn) _ h
-    (served old.store next.store old.policy next.policy old.marks next.marks old.connections next.connections old.next_id c.args.conn c.in-Some.connection.now c.in-Some-2.item
+    (λ m h. made_for old.store old.policy old.marks old.connections old.next_id old.rechecks m next.store next.policy next.marks next.connections next.next_id next.rechecks (event.Serve c.args.conn) _ h
+    (served old.store next.store old.policy next.policy old.marks next.marks old.connections next.connections old.next_id old.rechecks c.args.conn c.in-Some.connection.now c.in-Some-2.item
     out.watch (answered_data out) there (is_idle c.in-Some.connection.now.watching (sym c.is_some.ensures ∙ c.if-is_some.false))
     (sym c.in_ok-item.ensures ∙ c.in-Some-2.is) c.in_ok-reply.ensures.gives
     (λ cs. watching_fresh cs (plain_of old.store) out.watch c.in_ok-reply.ensures.fresh)
@@ -66,16 +66,16 @@ returns-in_err-item g c =
 
 pub returns-in_err-reply : goal.returns-in_err-reply
 returns-in_err-reply g c =
-    let old : Running = record { store = c.self.inside.store; policy = g.P.Policy.content c.self.inside.policy; marks = c.self.inside.tracker; connections = c.self.inside.connections.entries; next_id = c.self.inside.next_id } in
+    let old : Running = record { store = c.self.inside.store; policy = g.P.Policy.content c.self.inside.policy; marks = c.self.inside.tracker; connections = c.self.inside.connections.entries; next_id = c.self.inside.next_id; rechecks = c.self.inside.rechecks } in
     let next : Running = record old { store = c.answer.new.store } in
     let P : Running → Type 0 = λ r. Sends r next (event.Serve c.args.conn) c.from_residual-in_err-reply.result in
     subst P c.self.view_is
     (sends_err old next (event.Serve c.args.conn) c.from_residual-in_err-reply.result c.from_residual-in_err-reply.ensures.0
-    (λ m h. (record { store = same_stands _ _ c.in_err-reply.ensures.same m.changes m.store h.store; policy_is = h.policy_is; covers = h.covers; next_id = h.next_id; links = h.links }, served_late m c.args.conn)))
+    (λ m h. (record { store = same_stands _ _ c.in_err-reply.ensures.same m.changes m.store h.store; policy_is = h.policy_is; covers = h.covers; next_id = h.next_id; rechecks = h.rechecks; links = h.links }, served_late m c.args.conn)))
 
 pub returns-in_err-changes : goal.returns-in_err-changes
 returns-in_err-changes g c =
-    let old : Running = record { store = c.self.inside.store; policy = g.P.Policy.content c.self.inside.policy; marks = c.self.inside.tracker; connections = c.self.inside.connections.entries; next_id = c.self.inside.next_id } in
+    let old : Running = record { store = c.self.inside.store; policy = g.P.Policy.content c.self.inside.policy; marks = c.self.inside.tracker; connections = c.self.inside.connections.entries; next_id = c.self.inside.next_id; rechecks = c.self.inside.rechecks } in
     let next : Running = record old { store = c.make_write.new.store; policy = g.P.Policy.content c.make_write.new.policy; marks = c.make_write.new.tracker } in
     let P : Running → Type 0 = λ r. Sends r next (event.Serve c.args.conn) c.from_residual-in_err-changes.result in
     let Kept : Machine → State → Type 0 = λ m s. StandsFor s m.changes m.store in
@@ -87,6 +87,7 @@ returns-in_err-changes g c =
         policy_is = c.in_err-changes.ensures.same_policy ∙ h.policy_is;
         covers = c.in_err-changes.ensures.covers _ h.covers;
         next_id = h.next_id;
+        rechecks = h.rechecks;
         links = h.links;
       },
       served_late m c.args.conn,

@@ -7,4 +7,4 @@ pub returns-else-revision-eq0-clause-fresh : goal.returns-else-revision-eq0-clau
 returns-else-revision-eq0-clause-fresh c =
     let s = plain_of c.args.store.now in
     let P : ℕ → Type 0 = λ n. n ≤ s.revision in
-    (c.from_revision.ensures.told, subst P (sym (ap (λ w. w.position) c.from_revision.ensures.gives)) (reached s c.args.revision c.requires))
+    (c.from_revision.ensures.told, subst P (sym (ap (λ w. w.position) c.from_revision.ensures.gives)) (reached s c.args.revision c.requires), c.from_revision.ensures.runs)

@@ -7,7 +7,7 @@ use Rattle.kapi_watch.specs.Running.{StandsForWatch}
 use Rattle.kapi_watch.specs.Shown.{Added}
 use Rattle.kapi_watch.specs.Watches.{after_pump}
 use Rattle.kapi_watch.proofs.Standing.{first_after_one, first_pumped, rest_after, rest_pumped}
-use Rattle.kapi_watch.proofs.watch.Watch.next.Goals as goal
+use Rattle.kapi_watch.proofs.watch.Watch.next_of_running.Goals as goal
 
 pub returns-in-Some-clause-event : goal.returns-in-Some-clause-event
 returns-in-Some-clause-event c = λ history s w stands is.
