@@ -7,6 +7,7 @@
 # make growths   plays each script of the folder SCRIPTS, or each case of a transcript of that name, with every growth of memory refused in turn (wants cc and python3)
 # make live      changes the policy of a server while two clients ask what it allows, and looks at what they are told (wants python3)
 # make hostile   attacks a server as a client without rights may, and prints what each attack costs the others (wants python3)
+# make rechecks  takes rights away from clients who watch, over sockets (wants python3)
 # make statuses  the program's exit statuses, and what it writes on standard error
 # make edits     tries the edits of crates/NAME/edits, which the gate does not, of all crates or of those that CRATES names; takes hours for all
 # make audit-demo  answers a stored file of questions by a stored policy; it proves nothing
@@ -16,7 +17,7 @@
 SCRIPTS ?= scripts
 PROGRAM = crates/kapi/out/kapi
 
-.PHONY: audit-demo demo replay test kapi serve serve-demo edits growths live hostile statuses bench load
+.PHONY: audit-demo demo replay test kapi serve serve-demo edits growths live rechecks hostile statuses bench load
 
 demo:
 	@answers=$$(mktemp) && (cd crates/kapi && rt try -- script < ../../scripts/demo.txt) > $$answers && python3 tools/transcript.py scripts/demo.txt $$answers; status=$$?; rm -f $$answers; exit $$status
@@ -50,6 +51,9 @@ live: kapi
 
 hostile: kapi
 	@python3 tools/hostile.py $(PROGRAM)
+
+rechecks: kapi
+	@python3 tools/rechecks.py $(PROGRAM)
 
 statuses: kapi
 	@sh tools/statuses.sh $(PROGRAM)

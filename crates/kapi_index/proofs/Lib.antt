@@ -9,3 +9,4 @@ pub mod Placed
 pub mod Walks
 pub mod Copied
 pub mod Alone
+pub mod EachBinding

@@ -1,5 +1,5 @@
 -- The policy objects that an indexed policy holds, by namespaces.
-use Rattle.std.specs.Prelude.{◌≡◌, ℕ, List, [], ◌∷◌, map, Option, Some, None, string_bytes}
+use Rattle.std.specs.Prelude.{◌≡◌, ◌==◌, ℕ, List, [], ◌∷◌, if◌then◌else◌, length, map, Option, Some, None, string_bytes}
 use Rattle.std.specs.List.{flat_map, position}
 use Rattle.std.specs.List.Sorted.{IsStrictlySortedBy}
 use Rattle.std.specs.Map.{keys_of}
@@ -12,6 +12,7 @@ use Rattle.kapi_rules.specs.Rules.{allows}
 use Rattle.kapi_rules.specs.declared.point.Point.{Point}
 use Rattle.kapi_policy.specs.declared.change.NamespacedName.{NamespacedName}
 use Rattle.kapi_policy.specs.declared.decision.BindingKind.{BindingKind}
+use Rattle.kapi_policy.specs.declared.decision.BindingKind.TheVariants as kind
 use Rattle.kapi_policy.specs.Decided.{Binding, Granted, granted_at, rules_of}
 use Rattle.kapi_policy.specs.Objects.{PolicyObjects, name_cmp}
 use Rattle.kapi_index.specs.Scopes.{Scoped}
@@ -81,3 +82,7 @@ grant_of objects point b = granted_at b (position (λ rule. allows rule point) (
 pub record IsWhole (cluster : Scoped) (spaces : List (List ℕ × Namespace)) : Type 0 where
   pub cluster_wide : cluster.namespace ≡ []
   pub spread : AreSpread spaces
+
+-- the bindings of a namespace that count somewhere: all, unless its name is empty
+unfoldable pub bindings_of_space : List ℕ → Namespace → List Binding
+bindings_of_space namespace space = if length namespace == 0 then [] else map (binding_at kind.RoleBinding namespace) space.bound.bindings

@@ -1,10 +1,13 @@
 ghost use Rattle.std.specs.Prelude.{◌≡◌, [], map, IfOk, IsOk, MatchOption, OnErr, OnOk, option_copied};
 ghost use Rattle.std.specs.Map.{lookup};
 ghost use Rattle.std.specs.Str.{bytes_eq};
+ghost use Rattle.kapi_policy.specs.All.{all_bindings};
+ghost use Rattle.kapi_policy.specs.Views.{binding_of};
 ghost use Rattle.kapi_policy.specs.Decided.{bindings_of, cluster_binding, cluster_rules_in, is_place, rules_in};
 ghost use Rattle.kapi_policy.specs.Objects.{no_objects, with_object, without_object};
 ghost use Rattle.kapi_index.specs.Contents.{binding_at};
 
+use crate::all::{cluster_bindings, push_spaces};
 use crate::roles::{PreparedClusterRole, PreparedRole};
 use crate::scope::Scope;
 use crate::spaces::{
@@ -12,7 +15,9 @@ use crate::spaces::{
 };
 use crate::walk;
 use kapi_compiled_rules::CompiledRules;
-use kapi_policy::{BindingKind, Decision, Policy, PolicyChange, PolicyKey, PolicyPut, copy_map};
+use kapi_policy::{
+    Binding, BindingKind, Decision, Policy, PolicyChange, PolicyKey, PolicyPut, copy_map,
+};
 use kapi_rbac_types::{Identity, PolicyRule, RoleBinding, RoleRef};
 use kapi_rules::Point;
 use kapi_text::{Memory, Text, TryCopy};
@@ -69,6 +74,16 @@ impl IndexedPolicy {
             cluster,
             spaces,
         })
+    }
+
+    /// The bindings that count somewhere, in the order in which they are looked at: the cluster-wide ones, then those of
+    /// namespaces.
+    pub fn bindings(&self) -> Result<Vec<Binding<'_>>, Memory>
+        ensures { IfOk result (λ v. map binding_of v.items ≡ all_bindings self.now) }
+    {
+        let mut list = cluster_bindings(self.alloc, &self.cluster)?;
+        push_spaces(&mut list, &self.spaces)?;
+        Ok(list)
     }
 
     /// The rules of the role of a name in a namespace, if it is there.

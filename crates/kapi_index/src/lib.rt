@@ -1,6 +1,7 @@
 //! A policy whose decisions do not grow with the number of bindings: they are found by user, group and service account.
 #![tactic(auto)]
 
+mod all;
 mod indexed;
 mod keys;
 mod name_tree;

@@ -2,3 +2,4 @@ pub mod Objects
 pub mod Decided
 pub mod Views
 pub mod Laws
+pub mod All

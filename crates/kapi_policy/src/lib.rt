@@ -1,6 +1,7 @@
 //! Role-based access control: the policy objects, who is allowed what by them, and the rules that an identity holds.
 #![tactic(auto)]
 
+mod all;
 mod binding;
 mod change;
 mod copies;

@@ -1,11 +1,14 @@
-ghost use Rattle.std.specs.Prelude.{◌≡◌, IfOk, IsOk, OnErr, OnOk};
+ghost use Rattle.std.specs.Prelude.{◌≡◌, map, IfOk, IsOk, OnErr, OnOk};
+ghost use Rattle.kapi_policy.specs.All.{all_bindings};
+ghost use Rattle.kapi_policy.specs.Views.{binding_of};
 ghost use Rattle.kapi_policy.specs.Objects.{PolicyObjects, no_objects, with_object, without_object};
 
+use crate::binding::Binding;
 use crate::change::{NamespacedName, PolicyChange, PolicyKey, PolicyPut};
 use crate::copies::copy_map;
 use crate::decision::Decision;
 use crate::policy::Policy;
-use crate::walk;
+use crate::{all, walk};
 use kapi_rbac_types::{
     ClusterRole, ClusterRoleBinding, Identity, PolicyRule, Role, RoleBinding, RoleRef,
 };
@@ -59,6 +62,14 @@ impl PlainPolicy {
             role_bindings: copy_map(alloc, &self.role_bindings)?,
             cluster_role_bindings: copy_map(alloc, &self.cluster_role_bindings)?,
         })
+    }
+
+    /// The bindings that count somewhere, in the order in which they are looked at: the cluster-wide ones, then those of
+    /// namespaces.
+    pub fn bindings(&self) -> Result<Vec<Binding<'_>>, Memory>
+        ensures { IfOk result (λ v. map binding_of v.items ≡ all_bindings self.now) }
+    {
+        all::bindings(self.alloc, self)
     }
 
     /// Puts the object at its place. Want of memory changes nothing.

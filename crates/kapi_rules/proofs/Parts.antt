@@ -29,20 +29,20 @@ any_flat_map p f [] = refl
 any_flat_map p f (x ∷ xs) =
     list_any-append p (f x) (flat_map f xs) ∙ ap (λ t. list_any p (f x) || t) (any_flat_map p f xs)
 
-any_map : {X Y : Type 0} (p : Y → Bool) (f : X → Y) (xs : List X) → list_any p (map f xs) ≡ list_any (λ x. p (f x)) xs
+pub any_map : {X Y : Type 0} (p : Y → Bool) (f : X → Y) (xs : List X) → list_any p (map f xs) ≡ list_any (λ x. p (f x)) xs
 any_map p f [] = refl
 any_map p f (x ∷ xs) = ap (λ t. p (f x) || t) (any_map p f xs)
 
-any_never : {X : Type 0} (xs : List X) → list_any (λ x. false) xs ≡ false
+pub any_never : {X : Type 0} (xs : List X) → list_any (λ x. false) xs ≡ false
 any_never [] = refl
 any_never (x ∷ xs) = any_never xs
 
 -- a factor that is the same at each element
-any_after : {X : Type 0} (c : Bool) (p : X → Bool) (xs : List X) → list_any (λ x. c && p x) xs ≡ (c && list_any p xs)
+pub any_after : {X : Type 0} (c : Bool) (p : X → Bool) (xs : List X) → list_any (λ x. c && p x) xs ≡ (c && list_any p xs)
 any_after true p xs = refl
 any_after false p xs = any_never xs
 
-any_before : {X : Type 0} (c : Bool) (p : X → Bool) (xs : List X) → list_any (λ x. p x && c) xs ≡ (list_any p xs && c)
+pub any_before : {X : Type 0} (c : Bool) (p : X → Bool) (xs : List X) → list_any (λ x. p x && c) xs ≡ (list_any p xs && c)
 any_before c p [] = refl
 any_before c p (x ∷ xs) = ap (λ t. (p x && c) || t) (any_before c p xs) ∙ cases (p x) (list_any p xs) c
   where
@@ -55,11 +55,11 @@ any_before c p (x ∷ xs) = ap (λ t. (p x && c) || t) (any_before c p xs) ∙ c
 
 -- ---- tests of the parts of an atom
 
-abbrev of_resource : (List ℕ → Bool) → (List ℕ → Bool) → (List ℕ → Bool) → (Names → Bool) → Atom → Bool
+abbrev pub of_resource : (List ℕ → Bool) → (List ℕ → Bool) → (List ℕ → Bool) → (Names → Bool) → Atom → Bool
 of_resource v g r n (atom.Resource a) = v a.verb && (g a.group && (r a.resource && n a.names))
 of_resource v g r n (atom.Url a) = false
 
-abbrev of_url : (List ℕ → Bool) → (List ℕ → Bool) → Atom → Bool
+abbrev pub of_url : (List ℕ → Bool) → (List ℕ → Bool) → Atom → Bool
 of_url v u (atom.Resource a) = false
 of_url v u (atom.Url a) = v a.verb && u a.url
 
@@ -106,7 +106,7 @@ module _ (v g r : List ℕ → Bool) (n : Names → Bool) (rule : PolicyRule) wh
       ∙ any_never rule.non_resource_urls
 
   -- an atom on a resource passes just where each list has an entry that does
-  resource_part : list_any (of_resource v g r n) (atoms rule)
+  pub resource_part : list_any (of_resource v g r n) (atoms rule)
       ≡ (list_any v rule.verbs && (list_any g rule.api_groups && (list_any r rule.resources && list_any n (names_of rule.resource_names))))
   unfolding atoms
   resource_part =
@@ -137,7 +137,7 @@ module _ (v u : List ℕ → Bool) (rule : PolicyRule) where
       ∙ any_after (list_any v rule.verbs) u rule.non_resource_urls
 
   -- an atom on a URL passes just where each list has an entry that does
-  url_part : list_any (of_url v u) (atoms rule) ≡ (list_any v rule.verbs && list_any u rule.non_resource_urls)
+  pub url_part : list_any (of_url v u) (atoms rule) ≡ (list_any v rule.verbs && list_any u rule.non_resource_urls)
   unfolding atoms
   url_part =
       list_any-append (of_url v u) (flat_map (group_atoms rule) rule.api_groups) (flat_map (url_atoms rule) rule.non_resource_urls)

@@ -1,16 +1,15 @@
-//! Points, and what rules say of them: which they allow, the atoms that they are made of, and what one lacks of another.
+//! Points, and what rules say of them: which they allow, and the atoms that they are made of.
 #![tactic(auto)]
 
 mod atom;
 mod covering;
 mod entries;
 pub mod laws;
-mod missing_atoms;
 mod point;
 mod rule;
 
 pub use atom::{Atom, Names, ResourceAtom, UrlAtom, atoms};
-pub use covering::implies;
-pub use missing_atoms::missing;
+pub use covering::{implies, resource_covers, some_name_covers, some_resource_covers};
+pub use entries::{is_listed, some_url_matches, some_word_matches, url_matches, word_matches};
 pub use point::{Point, ResourcePoint, UrlPoint};
 pub use rule::allows;

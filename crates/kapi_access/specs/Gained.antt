@@ -1,0 +1,85 @@
+-- What one policy gives that another did not.
+use Rattle.std.specs.Prelude.{◌≡◌, ◌⊎◌, ℕ, List, [], ◌∷◌, Bool, true, false, not, if◌then◌else◌, map, Option, Some, None}
+use Rattle.std.specs.List.{enumerate_from, filter, flat_map}
+use Rattle.kapi_names.specs.declared.policy_rule.PolicyRule.{PolicyRule}
+use Rattle.kapi_rbac_types.specs.declared.identity.Identity.{Identity}
+use Rattle.kapi_rbac_types.specs.Identities.{is_master}
+use Rattle.kapi_rules.specs.Atoms.{after_slash, atom_allows}
+use Rattle.kapi_rules.specs.Missing.{missing}
+use Rattle.kapi_rules.specs.Points.{HasPlainResource}
+use Rattle.kapi_rules.specs.declared.atom.Atom.{Atom}
+use Rattle.kapi_rules.specs.declared.atom.Atom.TheVariants as atom
+use Rattle.kapi_rules.specs.declared.point.Point.{Point}
+use Rattle.kapi_policy.specs.All.{all_bindings}
+use Rattle.kapi_policy.specs.Decided.{Binding, held}
+use Rattle.kapi_policy.specs.Objects.{PolicyObjects}
+use Rattle.kapi_aggregation.specs.Members.{Has}
+use Rattle.kapi_gains.specs.Access.{may}
+use Rattle.kapi_access.specs.declared.grantee.Grantee.{Grantee}
+use Rattle.kapi_access.specs.Grantees.{alone, grantees, matches, role_of, stranger}
+
+-- a user or group that gains an atom, with the binding and the index of its role's rule that give it
+pub record Gained : Type 0 where
+  pub to : Grantee
+  pub binding : Binding
+  pub rule : ℕ
+  pub gain : Atom
+
+-- the text is there and empty
+abbrev pub is_nothing : Option (List ℕ) → Bool
+is_nothing None = false
+is_nothing (Some []) = true
+is_nothing (Some (b ∷ text)) = false
+
+-- some request matches the atom: the first slash of its resource is not its last byte, as in `pods/`
+abbrev pub can_match : Atom → Bool
+can_match (atom.Resource a) = not (is_nothing (after_slash a.resource))
+can_match (atom.Url a) = true
+
+-- the atoms of the rule that one lacks who holds those rules
+unfoldable pub new_atoms : List PolicyRule → PolicyRule → List Atom
+new_atoms own rule = filter can_match (missing own (rule ∷ []))
+
+-- a line for each atom of the rule that the grantee lacks
+abbrev pub lines_by : List PolicyRule → Grantee → Binding → ℕ × PolicyRule → List Gained
+lines_by own to b numbered =
+    map (λ a. record { to = to; binding = b; rule = numbered.0; gain = a }) (new_atoms own numbered.1)
+
+-- a line for each atom of the rules that the grantee lacks
+abbrev pub lines_of : List PolicyRule → Grantee → Binding → List PolicyRule → List Gained
+lines_of own to b rules = flat_map (lines_by own to b) (enumerate_from 0 rules)
+
+-- what the identity gains by the binding for the grantee whose own it is; masters may do everything before and after
+abbrev pub gained_as : PolicyObjects → Identity → Grantee → Binding → List PolicyRule → List Gained
+gained_as before own to b rules =
+    if is_master own then [] else lines_of (held before own b.namespace) to b rules
+
+-- what the grantee gains by the binding
+abbrev pub gained_by : PolicyObjects → PolicyObjects → Binding → Grantee → List Gained
+gained_by before after b to = gained_as before (alone (stranger before) to) to b (role_of after b)
+
+-- what the grantees of a binding gain by it
+unfoldable pub gained_from : PolicyObjects → PolicyObjects → Binding → List Gained
+gained_from before after b = flat_map (gained_by before after b) (grantees b)
+
+-- what anybody gains by a binding of the policy after
+unfoldable pub gained : PolicyObjects → PolicyObjects → List Gained
+gained before after = flat_map (gained_from before after) (all_bindings after)
+
+-- a line of the report covers the request
+pub record IsReported (list : List Gained) (identity : Identity) (namespace : List ℕ) (p : Point) : Type 0 where
+  pub line : Gained
+  pub listed : Has list line
+  pub meant : matches line.to identity ≡ true
+  pub there : (line.binding.namespace ≡ []) ⊎ (line.binding.namespace ≡ namespace)
+  pub allowed : atom_allows line.gain p ≡ true
+
+-- somebody whom the line names may make a request that its atom allows, where its binding counts, and could not before
+pub record IsGained (before after : PolicyObjects) (line : Gained) : Type 0 where
+  pub identity : Identity
+  pub request : Point
+  pub plain : HasPlainResource request
+  pub meant : matches line.to identity ≡ true
+  pub by_atom : atom_allows line.gain request ≡ true
+  pub now : may after identity line.binding.namespace request ≡ true
+  pub not_before : may before identity line.binding.namespace request ≡ false

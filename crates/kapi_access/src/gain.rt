@@ -1,0 +1,287 @@
+//! What one policy gives that another did not.
+ghost use Rattle.std.specs.Prelude.{◌≡◌, ◌∷◌, ◌++◌, map, string_bytes, IfOk, OnOk, Some};
+ghost use Rattle.std.specs.List.{flat_map};
+ghost use Rattle.kapi_rules.specs.Atoms.{after_slash};
+ghost use Rattle.kapi_policy.specs.All.{all_bindings};
+ghost use Rattle.kapi_policy.specs.Views.{binding_of};
+ghost use Rattle.kapi_access.specs.Gained.{can_match as can_match_of, gained, gained_as, gained_from, is_nothing, lines_by, lines_of};
+ghost use Rattle.kapi_access.specs.Grantees.{alone as alone_of, grantees as grantees_of, stranger as stranger_of, user_in};
+ghost use Rattle.kapi_access.specs.Views.{gain_of, line_for};
+
+use crate::grantee::{Grantee, alone, grantees};
+use crate::way::{again, rules_by};
+use kapi_missing::missing;
+use kapi_policy::{Binding, Policy};
+use kapi_rbac_types::{Identity, PolicyRule, Subject};
+use kapi_rules::Atom;
+use kapi_text::{Memory, Text, TryCopy};
+use std::alloc::Global;
+
+/// A user or group that gains an atom, with the binding and the index of its role's rule that give it.
+#[derive(Drop)]
+pub struct Gain<'a> {
+    pub to: Grantee,
+    pub binding: Binding<'a>,
+    /// The index of the rule among the role's own, from 0.
+    pub rule: usize,
+    pub gain: Atom,
+}
+
+// ---- atoms that requests match
+
+fn is_end(rest: &[u8]) -> bool
+    ensures { result ≡ is_nothing (Some rest.now) }
+{
+    match rest {
+        [] => true,
+        _ => false,
+    }
+}
+
+// The first slash of the text is its last byte.
+fn ends_at_slash(text: &[u8]) -> bool
+    ensures { result ≡ is_nothing (after_slash text.now) }
+{
+    let mut rest = text;
+    while let [first, after @ ..] = rest {
+        if *first == b'/' {
+            return is_end(after);
+        }
+        rest = after;
+    }
+    false
+}
+
+fn can_match(atom: &Atom) -> bool
+    ensures { result ≡ can_match_of atom.now }
+{
+    match atom {
+        Atom::Resource(resource) => !ends_at_slash(resource.resource.as_str().as_bytes()),
+        Atom::Url(_) => true,
+    }
+}
+
+// ---- a user whom no binding names
+
+fn push_user(text: &mut String, subject: &Subject) -> Result<(), Memory>
+    ensures { OnOk result (string_bytes text.new ≡ string_bytes text.old ++ user_in subject.now) }
+{
+    match subject {
+        Subject::User(name) => {
+            text.push_str(name.as_str())?;
+            Ok(())
+        }
+        Subject::Group(_) => Ok(()),
+        Subject::ServiceAccount(_) => Ok(()),
+    }
+}
+
+fn push_users(text: &mut String, subjects: &[Subject]) -> Result<(), Memory>
+    ensures { OnOk result (string_bytes text.new ≡ string_bytes text.old ++ flat_map user_in subjects.now) }
+{
+    for subject in subjects {
+        push_user(text, subject)?;
+    }
+    Ok(())
+}
+
+fn longest(alloc: Global, bindings: &[Binding<'_>]) -> Result<Text, Memory>
+    ensures { IfOk result (λ t. t ≡ 120 ∷ flat_map (λ b. flat_map user_in (binding_of b).subjects) bindings.now) }
+{
+    let mut text = String::from_str(alloc, "x")?;
+    for binding in bindings {
+        push_users(&mut text, binding.subjects)?;
+    }
+    Ok(Text::new(text))
+}
+
+// ---- lines
+
+#[tactic(auto, unfolding(crate::specs::Views::line_for))]
+fn push_atom<'a>(
+    alloc: Global,
+    list: &mut Vec<Gain<'a>>,
+    to: &Grantee,
+    binding: &Binding<'a>,
+    rule: usize,
+    atom: &Atom,
+) -> Result<(), Memory>
+    ensures { OnOk result (map gain_of list.new.items ≡ map gain_of list.old.items ++ line_for to.now (binding_of binding.now) rule atom.now) }
+{
+    if can_match(atom) {
+        list.push(Gain {
+            to: to.copy(alloc)?,
+            binding: again(binding),
+            rule,
+            gain: atom.copy(alloc)?,
+        })?;
+    }
+    Ok(())
+}
+
+fn push_atoms<'a>(
+    alloc: Global,
+    list: &mut Vec<Gain<'a>>,
+    to: &Grantee,
+    binding: &Binding<'a>,
+    rule: usize,
+    atoms: &[Atom],
+) -> Result<(), Memory>
+    ensures { OnOk result (map gain_of list.new.items ≡ map gain_of list.old.items ++ flat_map (line_for to.now (binding_of binding.now) rule) atoms.now) }
+{
+    for atom in atoms {
+        push_atom(alloc, list, to, binding, rule, atom)?;
+    }
+    Ok(())
+}
+
+#[tactic(auto, unfolding(crate::specs::Gained::new_atoms), using(crate::proofs::Walks::lines_alike))]
+fn push_rule<'a>(
+    alloc: Global,
+    list: &mut Vec<Gain<'a>>,
+    own: &[PolicyRule],
+    to: &Grantee,
+    binding: &Binding<'a>,
+    index: usize,
+    rule: &PolicyRule,
+) -> Result<(), Memory>
+    ensures { OnOk result (map gain_of list.new.items ≡ map gain_of list.old.items ++ lines_by own.now to.now (binding_of binding.now) (index, rule.now)) }
+{
+    let atoms = missing(alloc, own, std::slice::from_ref(rule))?;
+    push_atoms(alloc, list, to, binding, index, atoms.as_slice())
+}
+
+fn push_rules<'a>(
+    alloc: Global,
+    list: &mut Vec<Gain<'a>>,
+    own: &[PolicyRule],
+    to: &Grantee,
+    binding: &Binding<'a>,
+    rules: &[PolicyRule],
+) -> Result<(), Memory>
+    ensures { OnOk result (map gain_of list.new.items ≡ map gain_of list.old.items ++ lines_of own.now to.now (binding_of binding.now) rules.now) }
+{
+    for (index, rule) in rules.iter().enumerate() {
+        push_rule(alloc, list, own, to, binding, index, rule)?;
+    }
+    Ok(())
+}
+
+fn push_gained_as<'a, P: Policy>(
+    alloc: Global,
+    list: &mut Vec<Gain<'a>>,
+    before: &P,
+    own: &Identity,
+    to: &Grantee,
+    binding: &Binding<'a>,
+    rules: &[PolicyRule],
+) -> Result<(), Memory>
+    ensures { OnOk result (map gain_of list.new.items ≡ map gain_of list.old.items ++ gained_as (P.content before.now) own.now to.now (binding_of binding.now) rules.now) }
+{
+    if own.is_master() {
+        return Ok(());
+    }
+    let held = before.held(own, binding.namespace)?;
+    push_rules(alloc, list, held.as_slice(), to, binding, rules)
+}
+
+fn push_gained_by<'a, P: Policy>(
+    alloc: Global,
+    list: &mut Vec<Gain<'a>>,
+    before: &P,
+    other: &Text,
+    to: &Grantee,
+    binding: &Binding<'a>,
+    rules: &[PolicyRule],
+) -> Result<(), Memory>
+    ensures { OnOk result (map gain_of list.new.items ≡ map gain_of list.old.items ++ gained_as (P.content before.now) (alone_of other.now to.now) to.now (binding_of binding.now) rules.now) }
+{
+    let own = alone(alloc, other, to)?;
+    push_gained_as(alloc, list, before, &own, to, binding, rules)
+}
+
+fn push_grantees<'a, P: Policy>(
+    alloc: Global,
+    list: &mut Vec<Gain<'a>>,
+    before: &P,
+    other: &Text,
+    grantees: &[Grantee],
+    binding: &Binding<'a>,
+    rules: &[PolicyRule],
+) -> Result<(), Memory>
+    ensures { OnOk result (map gain_of list.new.items ≡ map gain_of list.old.items ++ flat_map (λ to. gained_as (P.content before.now) (alone_of other.now to) to (binding_of binding.now) rules.now) grantees.now) }
+{
+    for to in grantees {
+        push_gained_by(alloc, list, before, other, to, binding, rules)?;
+    }
+    Ok(())
+}
+
+#[tactic(auto, unfolding(crate::specs::Gained::gained_from))]
+fn push_gained_from<'a, P: Policy, Q: Policy>(
+    alloc: Global,
+    list: &mut Vec<Gain<'a>>,
+    before: &P,
+    other: &Text,
+    after: &Q,
+    binding: &Binding<'a>,
+) -> Result<(), Memory>
+    requires { other.now ≡ stranger_of (P.content before.now) }
+    ensures { OnOk result (map gain_of list.new.items ≡ map gain_of list.old.items ++ gained_from (P.content before.now) (Q.content after.now) (binding_of binding.now)) }
+{
+    let grantees = grantees(alloc, binding)?;
+    let rules = rules_by(after, binding);
+    push_grantees(
+        alloc,
+        list,
+        before,
+        other,
+        grantees.as_slice(),
+        binding,
+        rules,
+    )
+}
+
+fn gains<'a, P: Policy, Q: Policy>(
+    alloc: Global,
+    before: &P,
+    other: &Text,
+    after: &Q,
+    bindings: &[Binding<'a>],
+) -> Result<Vec<Gain<'a>>, Memory>
+    requires { other.now ≡ stranger_of (P.content before.now) }
+    ensures { IfOk result (λ v. map gain_of v.items ≡ flat_map (λ b. gained_from (P.content before.now) (Q.content after.now) (binding_of b)) bindings.now) }
+{
+    let mut list = Vec::new(alloc);
+    for binding in bindings {
+        push_gained_from(alloc, &mut list, before, other, after, binding)?;
+    }
+    Ok(list)
+}
+
+// A user whom no binding names, given all bindings of the policy.
+fn stranger<P: Policy>(alloc: Global, policy: &P, bindings: &[Binding<'_>]) -> Result<Text, Memory>
+    requires { map binding_of bindings.now ≡ all_bindings (P.content policy.now) }
+    ensures { IfOk result (λ t. t ≡ stranger_of (P.content policy.now)) }
+{
+    let text = longest(alloc, bindings)?;
+    Ok(text)
+}
+
+/// What the policy after gives that the policy before did not, given all bindings of both: a line for each user and group, each
+/// binding and each atom of its role's rules that it lacked.
+pub fn compare<'a, P: Policy, Q: Policy>(
+    alloc: Global,
+    before: &P,
+    stood: &[Binding<'_>],
+    after: &Q,
+    bindings: &[Binding<'a>],
+) -> Result<Vec<Gain<'a>>, Memory>
+    requires before { map binding_of stood.now ≡ all_bindings (P.content before.now) }
+    requires after { map binding_of bindings.now ≡ all_bindings (Q.content after.now) }
+    ensures { IfOk result (λ v. map gain_of v.items ≡ gained (P.content before.now) (Q.content after.now)) }
+{
+    let other = stranger(alloc, before, stood)?;
+    let list = gains(alloc, before, &other, after, bindings)?;
+    Ok(list)
+}

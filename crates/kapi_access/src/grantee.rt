@@ -1,0 +1,130 @@
+//! Whom a binding gives its role.
+ghost use Rattle.std.specs.Prelude.{◌≡◌, ◌∷◌, ◌++◌, IfOk, OnOk};
+ghost use Rattle.std.specs.List.{flat_map};
+ghost use Rattle.kapi_rbac_types.specs.Subjects.{namespace_of as namespace_of_account};
+ghost use Rattle.kapi_policy.specs.Views.{binding_of};
+ghost use Rattle.kapi_access.specs.Grantees.{account as account_of, alone as alone_of, grantees as grantees_of, whom};
+
+use kapi_policy::Binding;
+use kapi_rbac_types::{Identity, ServiceAccount, Subject};
+use kapi_text::{Memory, Sequence, Text, TryCopy};
+use std::alloc::{AllocError, Global};
+
+/// A user or a group to whom a binding gives its role. A service account is the user that it is.
+#[derive(Debug, Drop)]
+pub enum Grantee {
+    User(Text),
+    Group(Text),
+}
+
+impl TryCopy for Grantee {
+    fn copy(&self, alloc: Global) -> Result<Grantee, AllocError> {
+        match self {
+            Grantee::User(name) => Ok(Grantee::User(name.copy(alloc)?)),
+            Grantee::Group(name) => Ok(Grantee::Group(name.copy(alloc)?)),
+        }
+    }
+}
+
+/// The identity that is that user and in no group, or is another user and in that group alone.
+pub fn alone(alloc: Global, other: &Text, to: &Grantee) -> Result<Identity, Memory>
+    ensures { IfOk result (λ i. i ≡ alone_of other.now to.now) }
+{
+    match to {
+        Grantee::User(name) => Ok(Identity {
+            user: name.copy(alloc)?,
+            groups: Sequence::new(Vec::new(alloc)),
+        }),
+        Grantee::Group(name) => {
+            let mut groups = Vec::new(alloc);
+            groups.push(name.copy(alloc)?)?;
+            Ok(Identity {
+                user: other.copy(alloc)?,
+                groups: Sequence::new(groups),
+            })
+        }
+    }
+}
+
+// The prefix, the first one, a colon, and the name.
+fn prefixed(alloc: Global, prefix: &str, first: &str, name: &str) -> Result<Text, Memory>
+    ensures { IfOk result (λ t. t ≡ prefix.now ++ (first.now ++ 58 ∷ name.now)) }
+{
+    let mut text = String::from_str(alloc, prefix)?;
+    text.push_str(first)?;
+    text.push_str(":")?;
+    text.push_str(name)?;
+    Ok(Text::new(text))
+}
+
+// The namespace of a service account, or where it has none the binding's.
+fn namespace_of<'a>(account: &'a ServiceAccount, binding_namespace: &'a str) -> &'a str
+    ensures { result.now ≡ namespace_of_account account.now binding_namespace.now }
+{
+    if account.namespace.as_str().is_empty() {
+        binding_namespace
+    } else {
+        account.namespace.as_str()
+    }
+}
+
+fn push_account(
+    alloc: Global,
+    list: &mut Vec<Grantee>,
+    namespace: &str,
+    name: &str,
+) -> Result<(), Memory>
+    ensures { OnOk result (list.new.items ≡ list.old.items ++ account_of namespace.now name.now) }
+{
+    if namespace.is_empty() {
+        return Ok(());
+    }
+    let user = prefixed(alloc, "system:serviceaccount:", namespace, name)?;
+    list.push(Grantee::User(user))?;
+    Ok(())
+}
+
+fn push_whom(
+    alloc: Global,
+    list: &mut Vec<Grantee>,
+    namespace: &str,
+    subject: &Subject,
+) -> Result<(), Memory>
+    ensures { OnOk result (list.new.items ≡ list.old.items ++ whom namespace.now subject.now) }
+{
+    match subject {
+        Subject::User(name) => {
+            list.push(Grantee::User(name.copy(alloc)?))?;
+            Ok(())
+        }
+        Subject::Group(name) => {
+            list.push(Grantee::Group(name.copy(alloc)?))?;
+            Ok(())
+        }
+        Subject::ServiceAccount(account) => {
+            push_account(
+                alloc,
+                list,
+                namespace_of(account, namespace),
+                account.name.as_str(),
+            )
+        }
+    }
+}
+
+fn grantees_in(alloc: Global, namespace: &str, subjects: &[Subject]) -> Result<Vec<Grantee>, Memory>
+    ensures { IfOk result (λ v. v.items ≡ flat_map (whom namespace.now) subjects.now) }
+{
+    let mut list = Vec::new(alloc);
+    for subject in subjects {
+        push_whom(alloc, &mut list, namespace, subject)?;
+    }
+    Ok(list)
+}
+
+/// The users and groups to whom a binding gives its role.
+pub fn grantees(alloc: Global, binding: &Binding<'_>) -> Result<Vec<Grantee>, Memory>
+    ensures { IfOk result (λ v. v.items ≡ grantees_of (binding_of binding.now)) }
+{
+    grantees_in(alloc, binding.namespace, binding.subjects)
+}

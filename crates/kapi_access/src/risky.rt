@@ -1,0 +1,103 @@
+//! Who may gain more than a policy gives.
+ghost use Rattle.std.specs.Prelude.{◌≡◌, ◌++◌, ◌||◌, codes, map, IfOk, OnOk};
+ghost use Rattle.std.specs.List.{flat_map, position};
+ghost use Rattle.kapi_rules.specs.Entries.{word_matches};
+ghost use Rattle.kapi_policy.specs.All.{all_bindings};
+ghost use Rattle.kapi_policy.specs.Views.{binding_of};
+ghost use Rattle.kapi_access.specs.Risks.{has_some as has_some_of, has_word as has_word_of, is_risky as is_risky_rule, lets_impersonate as lets_act, lets_on_roles as lets_role, risks as risks_of};
+ghost use Rattle.kapi_access.specs.Views.{way_of};
+ghost use Rattle.kapi_access.specs.Who.{ways_of};
+
+use crate::way::{Way, push_ways, rules_by};
+use kapi_policy::{Binding, Policy};
+use kapi_rbac_types::PolicyRule;
+use kapi_text::{Memory, Text};
+use std::alloc::Global;
+
+fn is_word(entry: &str, word: &str) -> bool
+    ensures { result ≡ word_matches entry.now word.now }
+{
+    entry == "*" || entry == word
+}
+
+fn has_word(entries: &[Text], word: &str) -> bool
+    ensures { result ≡ has_word_of entries.now word.now }
+{
+    entries.iter().any(|entry| is_word(entry.as_str(), word))
+}
+
+fn lets_impersonate(rule: &PolicyRule) -> bool
+    ensures { result ≡ lets_act rule.now }
+{
+    has_word(rule.verbs.as_slice(), "impersonate")
+        && ((!rule.api_groups.as_slice().is_empty() && !rule.resources.as_slice().is_empty())
+            || !rule.non_resource_urls.as_slice().is_empty())
+}
+
+fn has_roles(resources: &[Text]) -> bool
+    ensures { result ≡ (has_word_of resources.now (codes "roles") || has_word_of resources.now (codes "clusterroles")) }
+{
+    has_word(resources, "roles") || has_word(resources, "clusterroles")
+}
+
+fn lets_on_roles(verb: &str, rule: &PolicyRule) -> bool
+    ensures { result ≡ lets_role verb.now rule.now }
+{
+    has_word(rule.verbs.as_slice(), verb)
+        && has_word(rule.api_groups.as_slice(), "rbac.authorization.k8s.io")
+        && has_roles(rule.resources.as_slice())
+}
+
+/// Whether the rule lets one act as somebody else, or write or bind roles whose rules one does not hold.
+#[tactic(auto, unfolding(crate::specs::Risks::is_risky))]
+fn is_risky(rule: &PolicyRule) -> bool
+    ensures { result ≡ is_risky_rule rule.now }
+{
+    lets_impersonate(rule) || lets_on_roles("escalate", rule) || lets_on_roles("bind", rule)
+}
+
+// The index of the first rule that is risky.
+fn first_risky(rules: &[PolicyRule]) -> Option<usize>
+    ensures { result ≡ position is_risky_rule rules.now }
+{
+    rules.iter().position(|rule| is_risky(rule))
+}
+
+fn push_risks<'a, P: Policy>(
+    alloc: Global,
+    list: &mut Vec<Way<'a>>,
+    policy: &P,
+    binding: &Binding<'a>,
+) -> Result<(), Memory>
+    ensures { OnOk result (map way_of list.new.items ≡ map way_of list.old.items ++ ways_of (P.content policy.now) is_risky_rule (binding_of binding.now)) }
+{
+    push_ways(alloc, list, binding, first_risky(rules_by(policy, binding)))
+}
+
+fn ways<'a, P: Policy>(
+    alloc: Global,
+    policy: &P,
+    bindings: &[Binding<'a>],
+) -> Result<Vec<Way<'a>>, Memory>
+    ensures { IfOk result (λ v. map way_of v.items ≡ flat_map (λ b. ways_of (P.content policy.now) is_risky_rule (binding_of b)) bindings.now) }
+{
+    let mut list = Vec::new(alloc);
+    for binding in bindings {
+        push_risks(alloc, &mut list, policy, binding)?;
+    }
+    Ok(list)
+}
+
+/// Who may write or bind roles whose rules he does not hold, or act as somebody else, anywhere, given all bindings of the policy: a
+/// line for each user and group and each binding by which it may, with the first such rule of its role.
+pub fn risks<'a, P: Policy>(
+    alloc: Global,
+    policy: &P,
+    bindings: &[Binding<'a>],
+) -> Result<Vec<Way<'a>>, Memory>
+    requires { map binding_of bindings.now ≡ all_bindings (P.content policy.now) }
+    ensures { IfOk result (λ v. map way_of v.items ≡ risks_of (P.content policy.now)) }
+{
+    let list = ways(alloc, policy, bindings)?;
+    Ok(list)
+}

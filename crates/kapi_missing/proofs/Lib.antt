@@ -1,0 +1,4 @@
+pub mod Pieces
+pub mod Each
+pub mod Repeats
+pub mod Lefts

@@ -1,0 +1,4 @@
+pub mod Once
+pub mod Marks
+pub mod Bars
+pub mod Left

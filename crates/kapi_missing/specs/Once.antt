@@ -1,0 +1,23 @@
+-- Rules without repeats.
+use Rattle.std.specs.Prelude.{ℕ, if◌then◌else◌, List, [], ◌∷◌, ◌++◌}
+use Rattle.std.specs.List.{fold, list_any}
+use Rattle.std.specs.Str.{bytes_eq}
+use Rattle.kapi_names.specs.declared.policy_rule.PolicyRule.{PolicyRule}
+
+-- the list with that word at its end, unless it stands in it
+abbrev pub with_word : List (List ℕ) → List ℕ → List (List ℕ)
+with_word found word = if list_any (bytes_eq word) found then found else found ++ word ∷ []
+
+-- each word once, where it stands first
+unfoldable pub once_each : List (List ℕ) → List (List ℕ)
+once_each words = fold with_word [] words
+
+-- the rule with each entry of each list once
+abbrev pub once : PolicyRule → PolicyRule
+once rule = record {
+  verbs = once_each rule.verbs;
+  api_groups = once_each rule.api_groups;
+  resources = once_each rule.resources;
+  resource_names = once_each rule.resource_names;
+  non_resource_urls = once_each rule.non_resource_urls;
+}
