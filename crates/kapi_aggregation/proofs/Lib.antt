@@ -1,5 +1,6 @@
 pub mod Lists
 pub mod Equal
+pub mod Keyed
 pub mod Named
 pub mod Read
 pub mod Placed

@@ -1,6 +1,7 @@
 pub mod Members
 pub mod Roles
 pub mod Unions
+pub mod Keyed
 pub mod Turns
 pub mod Marks
 pub mod Views

@@ -2,6 +2,7 @@
 //! Authorization', 'Aggregated ClusterRoles').
 #![tactic(auto)]
 
+mod found;
 pub mod laws;
 mod roles;
 mod same;

@@ -1,15 +1,15 @@
 //! What an aggregated cluster role takes from the others.
-ghost use Rattle.std.specs.Prelude.{◌≡◌, [], map, if◌then◌else◌, IfOk, OnOk, option_copied};
-ghost use Rattle.std.specs.List.{find, flat_map, fold, list_any};
+ghost use Rattle.std.specs.Prelude.{◌≡◌, [], map, IfOk, OnOk, option_copied};
+ghost use Rattle.std.specs.List.{find, flat_map, fold};
 ghost use Rattle.std.specs.Str.{bytes_eq};
-ghost use Rattle.kapi_aggregation.specs.Unions.{is_meant as is_meant_by, rules_meant, same_rule as same_rule_as, union, union_for as union_for_role, with_rule};
+ghost use Rattle.kapi_aggregation.specs.Unions.{is_meant as is_meant_by, rules_meant, union, union_for as union_for_role, with_rule};
 ghost use Rattle.kapi_aggregation.specs.Lent.{roles_of};
 ghost use Rattle.kapi_aggregation.specs.Views.{labelled};
 
+use crate::found::FoundRules;
 use crate::roles::{ClusterRoles, NamedRole};
-use crate::same::same_rule;
 use kapi_names::{PolicyRule, Selector};
-use kapi_text::{Memory, TryCopy};
+use kapi_text::Memory;
 use std::alloc::Global;
 
 /// The union of the cluster role of the name: the rules of the cluster roles that its selectors mean, by the selectors in their order,
@@ -45,26 +45,26 @@ pub(crate) fn union_for(
 ) -> Result<Vec<PolicyRule>, Memory>
     ensures { IfOk result (λ v. v.items ≡ union_for_role (map labelled roles.now) (labelled role.now)) }
 {
-    let mut rules = Vec::new(alloc);
+    let mut rules = FoundRules::new(alloc);
     for selector in role.selectors() {
         add_meant(alloc, &mut rules, roles, role.name.as_str(), selector)?;
     }
-    Ok(rules)
+    Ok(rules.into_vec())
 }
 
 /// Adds the rules of the roles that the selector means, but for the role of that name.
 fn add_meant(
     alloc: Global,
-    rules: &mut Vec<PolicyRule>,
+    rules: &mut FoundRules,
     roles: &[NamedRole<'_>],
     name: &str,
     selector: &Selector,
 ) -> Result<(), Memory>
-    ensures { OnOk result (rules.new.items ≡ fold with_rule rules.old.items (rules_meant (map labelled roles.now) name.now selector.now)) }
+    ensures { OnOk result (rules.new ≡ fold with_rule rules.old (rules_meant (map labelled roles.now) name.now selector.now)) }
 {
     for role in roles {
         if is_meant(role, name, selector) {
-            add_rules(alloc, rules, role.rules(alloc)?.as_slice())?;
+            add_rules(alloc, rules, role.rules(alloc)?.into_vec())?;
         }
     }
     Ok(())
@@ -77,31 +77,12 @@ fn is_meant(role: &NamedRole<'_>, name: &str, selector: &Selector) -> bool
     role.name.as_str() != name && selector.matches(&role.labels)
 }
 
-fn add_rules(
-    alloc: Global,
-    rules: &mut Vec<PolicyRule>,
-    others: &[PolicyRule],
-) -> Result<(), Memory>
-    ensures { OnOk result (rules.new.items ≡ fold with_rule rules.old.items others.now) }
+/// Adds the rules at the end, each unless it is there already.
+fn add_rules(alloc: Global, rules: &mut FoundRules, others: Vec<PolicyRule>) -> Result<(), Memory>
+    ensures { OnOk result (rules.new ≡ fold with_rule rules.old others.items) }
 {
     for other in others {
-        add_rule(alloc, rules, other)?;
+        rules.add(alloc, other)?;
     }
     Ok(())
-}
-
-/// Adds the rule at the end, unless it is there already.
-fn add_rule(alloc: Global, rules: &mut Vec<PolicyRule>, rule: &PolicyRule) -> Result<(), Memory>
-    ensures { OnOk result (rules.new.items ≡ with_rule rules.old.items rule.now) }
-{
-    if !is_among(rules.as_slice(), rule) {
-        rules.push(rule.copy(alloc)?)?;
-    }
-    Ok(())
-}
-
-fn is_among(rules: &[PolicyRule], rule: &PolicyRule) -> bool
-    ensures { result ≡ list_any (λ f. same_rule_as f rule.now) rules.now }
-{
-    rules.iter().any(|found| same_rule(found, rule))
 }

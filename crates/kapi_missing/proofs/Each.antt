@@ -1,13 +1,12 @@
 -- What is made of each element and its position.
-use Rattle.std.proofs.Common.{◌≡◌, ℕ, suc, ◌+◌, ◌==◌, Bool, true, false, if◌then◌else◌, List, [], ◌∷◌, ◌++◌, length, map, refl, ap, sym, ◌∙◌, append_assoc, append-nil, arith}
+use Rattle.std.proofs.Common.{◌≡◌, ℕ, suc, ◌+◌, ◌==◌, true, false, List, [], ◌∷◌, ◌++◌, length, map, refl, ap, sym, ◌∙◌, append_assoc, append-nil, arith}
 use Rattle.std.proofs.Math.Dec.{eqb-suc-zero}
 use denote.Ref.{Bor}
 use Rattle.kapi_names.specs.declared.policy_rule.PolicyRule.{PolicyRule}
 use Rattle.kapi_rules.specs.Atoms.{names_of}
 use Rattle.kapi_rules.specs.declared.atom.Atom.{Atom}
-use Rattle.kapi_rules.specs.declared.atom.Names.{Names}
 use Rattle.kapi_rules.specs.declared.atom.Names.TheVariants as names
-use Rattle.kapi_missing.specs.Left.{each, left_group, left_name, left_one_name, left_resource, left_url, left_verb, marked, parts_at}
+use Rattle.kapi_missing.specs.Left.{each, left_group, left_name, left_one_name, left_resource, left_url, left_verb, parts_at}
 use Rattle.kapi_missing.specs.declared.marks.Marks.{Marks}
 
 -- one element more

@@ -14,12 +14,11 @@ use Rattle.kapi_rules.specs.declared.atom.Atom.TheVariants as atom
 use Rattle.kapi_rules.specs.declared.atom.Names.{Names}
 use Rattle.kapi_rules.specs.declared.atom.Names.TheVariants as names
 use Rattle.kapi_missing.proofs.Repeats.{either_way, filter_append, has_atom, is_stopped, missing_more}
-use Rattle.kapi_missing.specs.Bars.{barred, meets, name_marks, wanted_at, whole_name_marks}
-use Rattle.kapi_missing.specs.Left.{each, left, left_group, left_name, left_resource, left_url, left_url_verb, left_urls, left_verb, marked, url_marked}
-use Rattle.kapi_missing.specs.Marks.{at, has, some_has}
+use Rattle.kapi_missing.specs.Bars.{AreLeft, barred, meets, name_marks, whole_name_marks}
+use Rattle.kapi_missing.specs.Left.{each, left, left_urls, marked, url_marked}
+use Rattle.kapi_missing.specs.Marks.{at}
 use Rattle.kapi_missing.specs.Once.{once}
 use Rattle.kapi_missing.specs.declared.bars.Dimension.TheVariants as dimension
-use Rattle.kapi_missing.specs.declared.bars.Sort.{Sort}
 use Rattle.kapi_missing.specs.declared.bars.Sort.TheVariants as sort
 use Rattle.kapi_missing.specs.declared.left.Level.TheVariants as level
 use Rattle.kapi_missing.specs.declared.marks.Marks.{Marks}
@@ -160,11 +159,6 @@ module _ (b : PolicyRule) where
         split (atom.Url a) = refl
 
 -- ---- what is left
-
--- the parts have what is wanted and neither held nor wanted before
-abbrev pub AreLeft : List PolicyRule → List PolicyRule → Sort → PolicyRule → List Marks → Type 0
-AreLeft held earlier which w parts = (i j k l : ℕ) → some_has parts i j k l
-    ≡ ((wanted_at which w i j k l && not (list_any (λ b. barred true which b w i j k l) held)) && not (list_any (λ b. barred false which b w i j k l) earlier))
 
 whole_name_at : (listed : List (List ℕ)) (l : ℕ) (n : Names) → IsAt (names_of listed) l n → at (whole_name_marks listed) l ≡ true
 whole_name_at [] zero n is = refl

@@ -1,4 +1,9 @@
+pub mod Stars
+pub mod Seen
 pub mod Pieces
 pub mod Each
 pub mod Repeats
+pub mod Placed
+pub mod Adding
+pub mod Both
 pub mod Lefts

@@ -1,15 +1,27 @@
 -- What stops an atom of a wanted rule from being missing.
-use Rattle.std.specs.Prelude.{ℕ, ◌==◌, Bool, true, false, ◌&&◌, ◌||◌, if◌then◌else◌, List, [], ◌∷◌, length, map}
+use Rattle.std.specs.Prelude.{◌≡◌, ℕ, ◌==◌, Bool, true, false, not, ◌&&◌, ◌||◌, if◌then◌else◌, List, [], ◌∷◌, length, map}
 use Rattle.std.specs.List.{list_any}
 use Rattle.std.specs.Str.{bytes_eq}
 use Rattle.kapi_names.specs.declared.policy_rule.PolicyRule.{PolicyRule}
 use Rattle.kapi_rules.specs.Atoms.{resource_covers}
 use Rattle.kapi_rules.specs.Entries.{url_matches, word_matches}
-use Rattle.kapi_missing.specs.Marks.{at}
+use Rattle.kapi_missing.specs.Marks.{at, some_has}
+use Rattle.kapi_missing.specs.declared.bars.Bar.{Bar}
 use Rattle.kapi_missing.specs.declared.bars.Dimension.{Dimension}
 use Rattle.kapi_missing.specs.declared.bars.Dimension.TheVariants as dimension
 use Rattle.kapi_missing.specs.declared.bars.Sort.{Sort}
 use Rattle.kapi_missing.specs.declared.bars.Sort.TheVariants as sort
+use Rattle.kapi_missing.specs.declared.marks.Marks.{Marks}
+
+-- the rule whose lists those are
+abbrev pub rule_in : Bar → PolicyRule
+rule_in bar = record {
+  verbs = bar.verbs.all.now;
+  api_groups = bar.groups.all.now;
+  resources = bar.resources.all.now;
+  resource_names = bar.names.all.now;
+  non_resource_urls = bar.urls.all.now;
+}
 
 -- one of the lists of a rule
 abbrev pub entries_in : Dimension → PolicyRule → List (List ℕ)
@@ -19,13 +31,17 @@ entries_in dimension.Resources rule = rule.resources
 entries_in dimension.Names rule = rule.resource_names
 entries_in dimension.Urls rule = rule.non_resource_urls
 
+-- an entry of that list covers the other
+abbrev pub entry_covers : Dimension → List ℕ → List ℕ → Bool
+entry_covers dimension.Verbs entry other = word_matches entry other
+entry_covers dimension.Groups entry other = word_matches entry other
+entry_covers dimension.Resources entry other = resource_covers entry other
+entry_covers dimension.Names entry other = bytes_eq entry other
+entry_covers dimension.Urls entry other = url_matches entry other
+
 -- some entry of that list covers the other
 abbrev pub some_covers : Dimension → List (List ℕ) → List ℕ → Bool
-some_covers dimension.Verbs entries entry = list_any (λ e. word_matches e entry) entries
-some_covers dimension.Groups entries entry = list_any (λ e. word_matches e entry) entries
-some_covers dimension.Resources entries entry = list_any (λ e. resource_covers e entry) entries
-some_covers dimension.Names entries entry = list_any (λ e. bytes_eq e entry) entries
-some_covers dimension.Urls entries entry = list_any (λ e. url_matches e entry) entries
+some_covers dimension entries other = list_any (λ e. entry_covers dimension e other) entries
 
 -- a held rule meets what its entries cover, an earlier one what it lists
 abbrev pub meets : Bool → Dimension → PolicyRule → List ℕ → Bool
@@ -76,3 +92,8 @@ is_near_to held sort.Resources rule wanted =
     && (list_any (meets held dimension.Verbs rule) wanted.verbs && list_any (meets held dimension.Groups rule) wanted.api_groups))
 is_near_to held sort.Urls rule wanted =
     list_any (meets held dimension.Urls rule) wanted.non_resource_urls && list_any (meets held dimension.Verbs rule) wanted.verbs
+
+-- the parts have what is wanted and neither held nor wanted before
+abbrev pub AreLeft : List PolicyRule → List PolicyRule → Sort → PolicyRule → List Marks → Type 0
+AreLeft held earlier which wanted parts = (i j k l : ℕ) → some_has parts i j k l
+    ≡ ((wanted_at which wanted i j k l && not (list_any (λ b. barred true which b wanted i j k l) held)) && not (list_any (λ b. barred false which b wanted i j k l) earlier))

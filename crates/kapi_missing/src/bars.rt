@@ -1,12 +1,14 @@
 //! What stops an atom of a wanted rule from being missing: a held rule that implies it, or an earlier wanted rule that has it.
 ghost use Rattle.std.specs.Prelude.{◌≡◌, ◌∷◌, [], ℕ, true, map, IfOk};
-ghost use Rattle.kapi_missing.specs.Bars.{barred, entries_in, is_near_to, meets, name_marks, some_covers, some_name_met, wanted_at, whole_name_marks};
+ghost use Rattle.kapi_missing.specs.Bars.{barred, entries_in, entry_covers as covers_entry, is_near_to, meets, name_marks, rule_in, some_covers, some_name_met, wanted_at, whole_name_marks};
 ghost use Rattle.kapi_missing.specs.Marks.{has};
+ghost use Rattle.kapi_missing.specs.Words.{texts_at};
 ghost use Rattle.std.specs.List.{list_any};
 
+use crate::entries::{Entries, lists, made_ready};
 use crate::marks::Marks;
 use kapi_names::PolicyRule;
-use kapi_rules::{is_listed, some_resource_covers, some_url_matches, some_word_matches};
+use kapi_rules::{resource_covers, url_matches, word_matches};
 use kapi_text::{Memory, Text};
 use std::alloc::Global;
 
@@ -40,39 +42,92 @@ pub fn entries_of(rule: &PolicyRule, dimension: Dimension) -> &[Text]
     }
 }
 
-// Some entry of a held rule covers that one.
-fn is_covered(entries: &[Text], dimension: Dimension, entry: &str) -> bool
-    ensures { result ≡ some_covers dimension entries.now entry.now }
+/// A rule that may stop atoms, by its lists.
+#[derive(Drop)]
+pub struct Bar<'a> {
+    pub verbs: Entries<'a>,
+    pub groups: Entries<'a>,
+    pub resources: Entries<'a>,
+    pub names: Entries<'a>,
+    pub urls: Entries<'a>,
+}
+
+/// The rule, made ready to be asked.
+pub fn bar_of<'a>(alloc: Global, rule: &'a PolicyRule) -> Result<Bar<'a>, Memory>
+    ensures { IfOk result (λ b. rule_in b ≡ rule.now) }
+{
+    Ok(Bar {
+        verbs: made_ready(alloc, rule.verbs.as_slice())?,
+        groups: made_ready(alloc, rule.api_groups.as_slice())?,
+        resources: made_ready(alloc, rule.resources.as_slice())?,
+        names: made_ready(alloc, rule.resource_names.as_slice())?,
+        urls: made_ready(alloc, rule.non_resource_urls.as_slice())?,
+    })
+}
+
+fn list_of<'b, 'a>(bar: &'b Bar<'a>, dimension: Dimension) -> &'b Entries<'a>
+    ensures { result.now.all.now ≡ entries_in dimension (rule_in bar.now) }
 {
     match dimension {
-        Dimension::Verbs | Dimension::Groups => some_word_matches(entries, entry),
-        Dimension::Resources => some_resource_covers(entries, entry),
-        Dimension::Names => is_listed(entries, entry),
-        Dimension::Urls => some_url_matches(entries, entry),
+        Dimension::Verbs => &bar.verbs,
+        Dimension::Groups => &bar.groups,
+        Dimension::Resources => &bar.resources,
+        Dimension::Names => &bar.names,
+        Dimension::Urls => &bar.urls,
     }
 }
 
-// Some entry of a held rule covers that one, or an earlier rule lists it.
-fn is_met(bar: &PolicyRule, is_held: bool, dimension: Dimension, entry: &str) -> bool
-    ensures { result ≡ meets is_held dimension bar.now entry.now }
+fn entry_covers(dimension: Dimension, entry: &str, other: &str) -> bool
+    ensures { result ≡ covers_entry dimension entry.now other.now }
 {
-    let entries = entries_of(bar, dimension);
+    match dimension {
+        Dimension::Verbs | Dimension::Groups => word_matches(entry, other),
+        Dimension::Resources => resource_covers(entry, other),
+        Dimension::Names => entry == other,
+        Dimension::Urls => url_matches(entry, other),
+    }
+}
+
+fn some_starred_covers(starred: &[&Text], dimension: Dimension, other: &str) -> bool
+    ensures { result ≡ some_covers dimension (texts_at starred.now) other.now }
+{
+    for entry in starred {
+        if entry_covers(dimension, entry.as_str(), other) {
+            return true;
+        }
+    }
+    false
+}
+
+// Some entry of a held rule covers that one. An entry without a star covers itself alone.
+#[tactic(auto, using(crate::proofs::Stars::some_split))]
+fn is_covered(entries: &Entries<'_>, dimension: Dimension, other: &str) -> bool
+    ensures { result ≡ some_covers dimension entries.now.all.now other.now }
+{
+    lists(entries, other) || some_starred_covers(entries.starred.as_slice(), dimension, other)
+}
+
+// Some entry of a held rule covers that one, or an earlier rule lists it.
+fn is_met(bar: &Bar<'_>, is_held: bool, dimension: Dimension, entry: &str) -> bool
+    ensures { result ≡ meets is_held dimension (rule_in bar.now) entry.now }
+{
+    let entries = list_of(bar, dimension);
     if is_held {
         is_covered(entries, dimension, entry)
     } else {
-        is_listed(entries, entry)
+        lists(entries, entry)
     }
 }
 
 // The entries that the bar meets.
 fn marks_in(
     alloc: Global,
-    bar: &PolicyRule,
+    bar: &Bar<'_>,
     is_held: bool,
     dimension: Dimension,
     entries: &[Text],
 ) -> Result<Vec<bool>, Memory>
-    ensures { IfOk result (λ v. v.items ≡ map (meets is_held dimension bar.now) entries.now) }
+    ensures { IfOk result (λ v. v.items ≡ map (meets is_held dimension (rule_in bar.now)) entries.now) }
 {
     let mut list = Vec::with_capacity(alloc, entries.len())?;
     for entry in entries {
@@ -93,13 +148,13 @@ fn one_mark(alloc: Global, mark: bool) -> Result<Vec<bool>, Memory>
 // An empty list of names is one entry, all names.
 fn marks_in_names(
     alloc: Global,
-    bar: &PolicyRule,
+    bar: &Bar<'_>,
     is_held: bool,
     names: &[Text],
 ) -> Result<Vec<bool>, Memory>
-    ensures { IfOk result (λ v. v.items ≡ name_marks is_held bar.now names.now) }
+    ensures { IfOk result (λ v. v.items ≡ name_marks is_held (rule_in bar.now) names.now) }
 {
-    let is_all = bar.resource_names.as_slice().is_empty();
+    let is_all = bar.names.all.is_empty();
     if names.is_empty() {
         return one_mark(alloc, is_all);
     }
@@ -123,12 +178,12 @@ fn all_marks(alloc: Global, entries: &[Text]) -> Result<Vec<bool>, Memory>
 /// Which entries of the wanted rule the bar meets.
 pub fn barred_part(
     alloc: Global,
-    bar: &PolicyRule,
+    bar: &Bar<'_>,
     is_held: bool,
     sort: Sort,
     rule: &PolicyRule,
 ) -> Result<Marks, Memory>
-    ensures { IfOk result (λ m. (i j k l : ℕ) → has m i j k l ≡ barred is_held sort bar.now rule.now i j k l) }
+    ensures { IfOk result (λ m. (i j k l : ℕ) → has m i j k l ≡ barred is_held sort (rule_in bar.now) rule.now i j k l) }
 {
     let verbs = marks_in(alloc, bar, is_held, Dimension::Verbs, rule.verbs.as_slice())?;
     match sort {
@@ -198,18 +253,18 @@ pub fn whole_part(alloc: Global, sort: Sort, rule: &PolicyRule) -> Result<Marks,
 }
 
 // The bar meets some entry.
-fn is_some_met(bar: &PolicyRule, is_held: bool, dimension: Dimension, entries: &[Text]) -> bool
-    ensures { result ≡ list_any (meets is_held dimension bar.now) entries.now }
+fn is_some_met(bar: &Bar<'_>, is_held: bool, dimension: Dimension, entries: &[Text]) -> bool
+    ensures { result ≡ list_any (meets is_held dimension (rule_in bar.now)) entries.now }
 {
     entries
         .iter()
         .any(|entry| is_met(bar, is_held, dimension, entry.as_str()))
 }
 
-fn is_some_name_met(bar: &PolicyRule, is_held: bool, names: &[Text]) -> bool
-    ensures { result ≡ some_name_met is_held bar.now names.now }
+fn is_some_name_met(bar: &Bar<'_>, is_held: bool, names: &[Text]) -> bool
+    ensures { result ≡ some_name_met is_held (rule_in bar.now) names.now }
 {
-    let is_all = bar.resource_names.as_slice().is_empty();
+    let is_all = bar.names.all.is_empty();
     if names.is_empty() {
         is_all
     } else {
@@ -218,8 +273,8 @@ fn is_some_name_met(bar: &PolicyRule, is_held: bool, names: &[Text]) -> bool
 }
 
 /// Whether the bar meets an entry of each list of the wanted rule. It takes no memory.
-pub fn is_near(bar: &PolicyRule, is_held: bool, sort: Sort, rule: &PolicyRule) -> bool
-    ensures { result ≡ is_near_to is_held sort bar.now rule.now }
+pub fn is_near(bar: &Bar<'_>, is_held: bool, sort: Sort, rule: &PolicyRule) -> bool
+    ensures { result ≡ is_near_to is_held sort (rule_in bar.now) rule.now }
 {
     match sort {
         Sort::Resources => is_near_resources(bar, is_held, rule),
@@ -227,8 +282,8 @@ pub fn is_near(bar: &PolicyRule, is_held: bool, sort: Sort, rule: &PolicyRule) -
     }
 }
 
-fn is_near_resources(bar: &PolicyRule, is_held: bool, rule: &PolicyRule) -> bool
-    ensures { result ≡ is_near_to is_held Sort.Resources bar.now rule.now }
+fn is_near_resources(bar: &Bar<'_>, is_held: bool, rule: &PolicyRule) -> bool
+    ensures { result ≡ is_near_to is_held Sort.Resources (rule_in bar.now) rule.now }
 {
     is_some_met(
         bar,
@@ -240,8 +295,8 @@ fn is_near_resources(bar: &PolicyRule, is_held: bool, rule: &PolicyRule) -> bool
             && is_some_met(bar, is_held, Dimension::Groups, rule.api_groups.as_slice())))
 }
 
-fn is_near_urls(bar: &PolicyRule, is_held: bool, rule: &PolicyRule) -> bool
-    ensures { result ≡ is_near_to is_held Sort.Urls bar.now rule.now }
+fn is_near_urls(bar: &Bar<'_>, is_held: bool, rule: &PolicyRule) -> bool
+    ensures { result ≡ is_near_to is_held Sort.Urls (rule_in bar.now) rule.now }
 {
     is_some_met(
         bar,

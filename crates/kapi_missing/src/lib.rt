@@ -2,10 +2,13 @@
 #![tactic(auto)]
 
 mod bars;
+mod entries;
+mod index;
 mod left;
 mod marks;
 mod missing_atoms;
 mod once;
 mod plans;
+mod words;
 
 pub use missing_atoms::missing;

@@ -1,12 +1,12 @@
 //! Rules with each entry once.
 ghost use Rattle.std.specs.Prelude.{◌≡◌, IfOk, OnOk};
-ghost use Rattle.std.specs.List.{list_any};
-ghost use Rattle.std.specs.Str.{bytes_eq};
-ghost use Rattle.kapi_missing.specs.Once.{once, once_each, with_word};
+ghost use Rattle.kapi_missing.specs.Once.{HasThose, once, once_each, with_word};
 
+use crate::words::{add_word, has_word};
 use kapi_names::PolicyRule;
 use kapi_text::{Memory, Sequence, Text, TryCopy};
 use std::alloc::Global;
+use std::collections::BTreeSet;
 
 /// The rule with each entry of each list once, where it stands first.
 pub fn once_rule(alloc: Global, rule: &PolicyRule) -> Result<PolicyRule, Memory>
@@ -26,23 +26,25 @@ fn once_words(alloc: Global, words: &[Text]) -> Result<Sequence<Text>, Memory>
     ensures { IfOk result (λ s. s ≡ once_each words.now) }
 {
     let mut list = Vec::new(alloc);
+    let mut seen = BTreeSet::new(alloc);
     for word in words {
-        add_word(alloc, &mut list, word)?;
+        push_new(alloc, &mut list, &mut seen, word)?;
     }
     Ok(Sequence::new(list))
 }
 
-fn add_word(alloc: Global, list: &mut Vec<Text>, word: &Text) -> Result<(), Memory>
-    ensures { OnOk result (list.new.items ≡ with_word list.old.items word.now) }
+// The set has the words of the list.
+fn push_new<'a>(
+    alloc: Global,
+    list: &mut Vec<Text>,
+    seen: &mut BTreeSet<&'a str>,
+    word: &'a Text,
+) -> Result<(), Memory>
+    ensures { OnOk result (HasThose seen.old list.old.items → (list.new.items ≡ with_word list.old.items word.now) × HasThose seen.new list.new.items) }
 {
-    if !is_there(list.as_slice(), word) {
+    if !has_word(seen, word.as_str()) {
+        add_word(seen, word.as_str())?;
         list.push(word.copy(alloc)?)?;
     }
     Ok(())
-}
-
-fn is_there(list: &[Text], word: &Text) -> bool
-    ensures { result ≡ list_any (bytes_eq word.now) list.now }
-{
-    list.iter().any(|other| word.as_str() == other.as_str())
 }

@@ -1,12 +1,15 @@
 //! What is missing of each wanted rule, before any atom is made.
-ghost use Rattle.std.specs.Prelude.{◌≡◌, ◌∷◌, [], ◌++◌, ◌&&◌, ℕ, not, true, false, IfOk};
+ghost use Rattle.std.specs.Prelude.{◌≡◌, ◌∷◌, [], ◌++◌, ◌&&◌, ℕ, List, map, not, true, false, IfOk};
 ghost use Rattle.std.specs.List.{flat_map, list_any};
 ghost use Rattle.kapi_rules.specs.Missing.{missing as missing_of};
-ghost use Rattle.kapi_missing.specs.Bars.{barred, wanted_at};
+ghost use Rattle.kapi_names.specs.declared.policy_rule.PolicyRule.{PolicyRule as PolicyRuleValue};
+ghost use Rattle.kapi_missing.specs.Bars.{AreLeft, barred, rule_in};
+ghost use Rattle.kapi_missing.specs.Index.{AreAllPlaced, AreBars, rules_in};
 ghost use Rattle.kapi_missing.specs.Left.{left_of};
-ghost use Rattle.kapi_missing.specs.Marks.{some_has};
+ghost use Rattle.kapi_missing.specs.Marks.{at, some_has};
 
-use crate::bars::{Sort, barred_part, is_near, whole_part};
+use crate::bars::{Bar, Sort, barred_part, is_near, whole_part};
+use crate::index::{Bars, add_bar, held_bars, near_numbers, no_bars};
 use crate::marks::{Marks, without};
 use crate::once::once_rule;
 use kapi_names::PolicyRule;
@@ -25,12 +28,12 @@ pub struct Plan {
 fn without_bar(
     alloc: Global,
     parts: Vec<Marks>,
-    bar: &PolicyRule,
+    bar: &Bar<'_>,
     is_held: bool,
     sort: Sort,
     rule: &PolicyRule,
 ) -> Result<Vec<Marks>, Memory>
-    ensures { IfOk result (λ v. (i j k l : ℕ) → some_has v.items i j k l ≡ (some_has parts.items i j k l && not (barred is_held sort bar.now rule.now i j k l))) }
+    ensures { IfOk result (λ v. (i j k l : ℕ) → some_has v.items i j k l ≡ (some_has parts.items i j k l && not (barred is_held sort (rule_in bar.now) rule.now i j k l))) }
 {
     if parts.is_empty() || !is_near(bar, is_held, sort, rule) {
         return Ok(parts);
@@ -39,48 +42,65 @@ fn without_bar(
     without(alloc, parts, &part)
 }
 
-fn without_bars(
+fn without_at(
     alloc: Global,
     parts: Vec<Marks>,
-    bars: &[PolicyRule],
-    is_held: bool,
+    bars: &Bars<'_>,
+    number: usize,
     sort: Sort,
     rule: &PolicyRule,
 ) -> Result<Vec<Marks>, Memory>
-    ensures { IfOk result (λ v. (i j k l : ℕ) → some_has v.items i j k l ≡ (some_has parts.items i j k l && not (list_any (λ b. barred is_held sort b rule.now i j k l) bars.now))) }
+    ensures { IfOk result (λ v. (i j k l : ℕ) → some_has v.items i j k l
+        ≡ (some_has parts.items i j k l && not (at (map (λ b. barred bars.now.is_held sort b rule.now i j k l) (rules_in bars.now)) number))) }
 {
+    match bars.rules.get(number) {
+        Some(bar) => Ok(without_bar(alloc, parts, bar, bars.is_held, sort, rule)?),
+        None => Ok(parts),
+    }
+}
+
+fn without_bars(
+    alloc: Global,
+    parts: Vec<Marks>,
+    bars: &Bars<'_>,
+    sort: Sort,
+    rule: &PolicyRule,
+) -> Result<Vec<Marks>, Memory>
+    ensures { IfOk result (λ v. AreAllPlaced bars.now → (i j k l : ℕ) → some_has v.items i j k l
+        ≡ (some_has parts.items i j k l && not (list_any (λ b. barred bars.now.is_held sort b rule.now i j k l) (rules_in bars.now)))) }
+{
+    let near = near_numbers(alloc, bars, sort, rule)?;
     let mut left = parts;
-    for bar in bars {
-        left = without_bar(alloc, left, bar, is_held, sort, rule)?;
+    for number in near.as_slice() {
+        left = without_at(alloc, left, bars, *number, sort, rule)?;
     }
     Ok(left)
 }
 
 fn left_parts(
     alloc: Global,
-    held: &[PolicyRule],
-    earlier: &[PolicyRule],
+    held: &Bars<'_>,
+    earlier: &Bars<'_>,
     sort: Sort,
     rule: &PolicyRule,
 ) -> Result<Vec<Marks>, Memory>
-    ensures { IfOk result (λ v. (i j k l : ℕ) → some_has v.items i j k l
-        ≡ ((wanted_at sort rule.now i j k l && not (list_any (λ b. barred true sort b rule.now i j k l) held.now))
-        && not (list_any (λ b. barred false sort b rule.now i j k l) earlier.now))) }
+    ensures { IfOk result (λ v. (hs es : List PolicyRuleValue) → AreBars true hs held.now → AreBars false es earlier.now → AreLeft hs es sort rule.now v.items) }
 {
     let mut whole = Vec::new(alloc);
     whole.push(whole_part(alloc, sort, rule)?)?;
-    let parts = without_bars(alloc, whole, held, true, sort, rule)?;
-    without_bars(alloc, parts, earlier, false, sort, rule)
+    let parts = without_bars(alloc, whole, held, sort, rule)?;
+    let left = without_bars(alloc, parts, earlier, sort, rule)?;
+    Ok(left)
 }
 
-#[tactic(auto, using(crate::proofs::Lefts::planned_is_missing))]
 fn planned(
     alloc: Global,
-    held: &[PolicyRule],
-    earlier: &[PolicyRule],
+    held: &Bars<'_>,
+    earlier: &Bars<'_>,
     wanted: &PolicyRule,
 ) -> Result<Plan, Memory>
-    ensures { IfOk result (λ p. missing_of held.now (earlier.now ++ wanted.now ∷ []) ≡ missing_of held.now earlier.now ++ left_of p) }
+    ensures { IfOk result (λ p. (hs es : List PolicyRuleValue) → AreBars true hs held.now → AreBars false es earlier.now
+        → missing_of hs (es ++ wanted.now ∷ []) ≡ missing_of hs es ++ left_of p) }
 {
     let rule = once_rule(alloc, wanted)?;
     let resources = left_parts(alloc, held, earlier, Sort::Resources, &rule)?;
@@ -97,10 +117,12 @@ fn planned(
 pub fn plans(alloc: Global, held: &[PolicyRule], wanted: &[PolicyRule]) -> Result<Vec<Plan>, Memory>
     ensures { IfOk result (λ v. flat_map left_of v.items ≡ missing_of held.now wanted.now) }
 {
+    let held = held_bars(alloc, held)?;
+    let mut earlier = no_bars(alloc, false, wanted)?;
     let mut list = Vec::new(alloc);
-    for (index, rule) in wanted.iter().enumerate() {
-        let (earlier, _) = wanted.split_at(index);
-        list.push(planned(alloc, held, earlier, rule)?)?;
+    for rule in wanted {
+        list.push(planned(alloc, &held, &earlier, rule)?)?;
+        add_bar(alloc, &mut earlier, rule)?;
     }
     Ok(list)
 }

@@ -5,4 +5,4 @@ use Rattle.kapi_aggregation.specs.Views.{labelled}
 use Rattle.kapi_aggregation.proofs.union.add_meant.Given as goal
 
 abbrev pub invariant-loop-role : goal.invariant-loop-role
-invariant-loop-role l = l.rules.items ≡ fold with_rule l.initial.rules.items (rules_meant (map labelled (take l.role-index l.roles)) l.name l.selector)
+invariant-loop-role l = l.rules ≡ fold with_rule l.initial.rules (rules_meant (map labelled (take l.role-index l.roles)) l.name l.selector)

@@ -5,4 +5,4 @@ use Rattle.kapi_aggregation.specs.Views.{labelled}
 use Rattle.kapi_aggregation.proofs.union.union_for.Given as goal
 
 abbrev pub invariant-loop-selector : goal.invariant-loop-selector
-invariant-loop-selector l = l.rules.items ≡ fold with_rule [] (flat_map (rules_meant (map labelled l.roles) l.role.name.now) (take l.selector-index l.selector-items))
+invariant-loop-selector l = l.rules ≡ fold with_rule [] (flat_map (rules_meant (map labelled l.roles) l.role.name.now) (take l.selector-index l.selector-items))

@@ -1,0 +1,33 @@
+-- Rules that are found, as the keys of a set.
+use Rattle.std.specs.Prelude.{◌≡◌, List}
+use Rattle.std.specs.BTreeMap.{is_at}
+use Rattle.std.specs.Cmp.Lexicographic.{slice_cmp}
+use Rattle.std.specs.List.{list_any}
+use Rattle.std.specs.Ordering.{nat_cmp, ordering_then}
+use Rattle.std.specs.declared.cmp.Ordering.{Ordering}
+use Rattle.kapi_names.specs.declared.policy_rule.PolicyRule.{PolicyRule}
+use Rattle.kapi_aggregation.specs.Unions.{same_rule}
+use Rattle.kapi_aggregation.specs.declared.found.RuleKey.{RuleKey}
+
+-- the rule that a key is of
+abbrev pub rule_of_key : RuleKey → PolicyRule
+rule_of_key k = record {
+  verbs = k.verbs.items;
+  api_groups = k.api_groups.items;
+  resources = k.resources.items;
+  resource_names = k.resource_names.items;
+  non_resource_urls = k.non_resource_urls.items;
+}
+
+-- keys are in order of their lists, in turn, and lists of their texts
+abbrev pub rule_cmp : RuleKey → RuleKey → Ordering
+rule_cmp a b =
+    ordering_then (slice_cmp (slice_cmp nat_cmp) a.verbs.items b.verbs.items)
+    (ordering_then (slice_cmp (slice_cmp nat_cmp) a.api_groups.items b.api_groups.items)
+    (ordering_then (slice_cmp (slice_cmp nat_cmp) a.resources.items b.resources.items)
+    (ordering_then (slice_cmp (slice_cmp nat_cmp) a.resource_names.items b.resource_names.items)
+    (slice_cmp (slice_cmp nat_cmp) a.non_resource_urls.items b.non_resource_urls.items))))
+
+-- the keys are those of the rules
+abbrev pub HaveRules : List RuleKey → List PolicyRule → Type 0
+HaveRules keys rules = (k : RuleKey) → list_any (is_at (rule_cmp k)) keys ≡ list_any (λ f. same_rule f (rule_of_key k)) rules

@@ -1,0 +1,4 @@
+pub mod Parted
+pub mod Texts
+pub mod Behind
+pub mod Walked

@@ -1,0 +1,6 @@
+pub mod Tables
+pub mod Cells
+pub mod Members
+pub mod Questions
+pub mod Answers
+pub mod Lines

@@ -1,0 +1,34 @@
+-- Tables whose columns are as wide as their longest cells.
+use Rattle.std.specs.Prelude.{ℕ, ◌-◌, max, List, [], ◌∷◌, ◌++◌, length, replicate}
+use Rattle.std.specs.List.{flat_map}
+use Rattle.kapi_questions.specs.declared.table.Row.{Row}
+use Rattle.kapi_questions.specs.declared.table.Widths.{Widths}
+
+-- a cell with spaces up to the width of its column, and two more
+abbrev pub padded : ℕ → List ℕ → List ℕ
+padded width cell = cell ++ (replicate (width - length cell) 32 ++ 32 ∷ 32 ∷ [])
+
+-- the line of a row; nothing stands behind its last cell
+abbrev pub row_line : Widths → Row → List ℕ
+row_line w r = padded w.subject r.subject ++ (padded w.namespace r.namespace ++ (padded w.what r.what ++ (r.by ++ 10 ∷ [])))
+
+-- the widths, and more where the cells of a row are longer
+abbrev pub wider : Widths → Row → Widths
+wider w r = record {
+  subject = max w.subject (length r.subject);
+  namespace = max w.namespace (length r.namespace);
+  what = max w.what (length r.what);
+}
+
+-- the widths that some rows need besides
+abbrev pub widened : Widths → List Row → Widths
+widened w [] = w
+widened w (r ∷ rows) = widened (wider w r) rows
+
+-- the widths of the columns but the last
+abbrev pub widths_of : List Row → Widths
+widths_of rows = widened (record { subject = 0; namespace = 0; what = 0 }) rows
+
+-- the lines of the rows
+unfoldable pub table : List Row → List ℕ
+table rows = flat_map (row_line (widths_of rows)) rows

@@ -1,0 +1,210 @@
+//! The cells of a line, in printable ASCII.
+ghost use Rattle.std.specs.Prelude.{◌≡◌, ◌++◌, IfOk, OnOk, codes, decimal, string_bytes};
+ghost use Rattle.serde_json.specs.View.{view};
+ghost use Rattle.serde_json.specs.Written.{compact_text};
+ghost use Rattle.kapi_access.specs.Views.{gain_of, way_of};
+ghost use Rattle.kapi_lines.specs.Escapes.{escaped};
+ghost use Rattle.kapi_policy.specs.Views.{binding_of};
+ghost use Rattle.kapi_reply.specs.Status.{atom_list as listed};
+ghost use Rattle.kapi_questions.specs.Cells as cells;
+
+use crate::table::Row;
+use kapi_access::{Gain, Grantee, Way};
+use kapi_lines::{copy_of, write_escaped};
+use kapi_policy::{Binding, BindingKind};
+use kapi_rbac_types::RoleRef;
+use kapi_rules::{Atom, Names, ResourceAtom};
+use kapi_text::{Memory, Sequence};
+use serde_json::{Value, json};
+use std::alloc::{AllocError, Global};
+
+fn escape(alloc: Global, bytes: &[u8]) -> Result<Sequence<u8>, Memory>
+    ensures { IfOk result (λ s. s ≡ escaped bytes.now) }
+{
+    let mut text = Vec::new(alloc);
+    match write_escaped(&mut text, bytes) {
+        Ok(()) => Ok(Sequence::new(text)),
+        Err(_refused) => Err(AllocError),
+    }
+}
+
+/// `User` or `Group`.
+pub fn subject_kind(to: &Grantee) -> &'static str
+    ensures { result.now ≡ cells.subject_kind to.now }
+{
+    match to {
+        Grantee::User(_) => "User",
+        Grantee::Group(_) => "Group",
+    }
+}
+
+/// The name of the user or group.
+pub fn subject_name(to: &Grantee) -> &str
+    ensures { result.now ≡ cells.subject_name to.now }
+{
+    match to {
+        Grantee::User(name) => name.as_str(),
+        Grantee::Group(name) => name.as_str(),
+    }
+}
+
+/// The kind of a binding as objects tell it.
+pub fn binding_kind(kind: BindingKind) -> &'static str
+    ensures { result.now ≡ cells.binding_kind kind }
+{
+    match kind {
+        BindingKind::RoleBinding => "RoleBinding",
+        BindingKind::ClusterRoleBinding => "ClusterRoleBinding",
+    }
+}
+
+fn joined(alloc: Global, kind: &str, name: &str) -> Result<String, Memory>
+    ensures { IfOk result (λ s. string_bytes s ≡ cells.joined kind.now name.now) }
+{
+    let mut text = String::from_str(alloc, kind)?;
+    text.push_str(" ")?;
+    text.push_str(name)?;
+    Ok(text)
+}
+
+fn subject_cell(alloc: Global, to: &Grantee) -> Result<Sequence<u8>, Memory>
+    ensures { IfOk result (λ s. s ≡ cells.subject_cell to.now) }
+{
+    let text = joined(alloc, subject_kind(to), subject_name(to))?;
+    escape(alloc, text.as_bytes())
+}
+
+fn namespace_cell(alloc: Global, namespace: &str) -> Result<Sequence<u8>, Memory>
+    ensures { IfOk result (λ s. s ≡ cells.namespace_cell namespace.now) }
+{
+    if namespace.is_empty() {
+        return escape(alloc, b"*");
+    }
+    escape(alloc, namespace.as_bytes())
+}
+
+fn binding_text(alloc: Global, binding: &Binding<'_>) -> Result<String, Memory>
+    ensures { IfOk result (λ s. string_bytes s ≡ cells.binding_text (binding_of binding.now)) }
+{
+    joined(alloc, binding_kind(binding.kind), binding.name)
+}
+
+fn rule_text(alloc: Global, role: &RoleRef, rule: usize) -> Result<String, Memory>
+    ensures { IfOk result (λ s. string_bytes s ≡ cells.rule_text role.now rule) }
+{
+    let number = format!(in alloc; "{rule}")?;
+    let mut text = joined(alloc, role.kind.as_str(), role.name.as_str())?;
+    text.push_str(", rule ")?;
+    text.push_str(number.as_str())?;
+    Ok(text)
+}
+
+fn by_text(alloc: Global, binding: &Binding<'_>, rule: usize) -> Result<String, Memory>
+    ensures { IfOk result (λ s. string_bytes s ≡ cells.by_text (binding_of binding.now) rule) }
+{
+    let role = rule_text(alloc, binding.role, rule)?;
+    let mut text = binding_text(alloc, binding)?;
+    text.push_str(", ")?;
+    text.push_str(role.as_str())?;
+    Ok(text)
+}
+
+/// The parts of an atom as a JSON list: its name is left out where it speaks of all names.
+pub fn atom_list(alloc: Global, atom: &Atom) -> Result<Value, Memory>
+    ensures { IfOk result (λ v. view v ≡ listed atom.now) }
+{
+    match atom {
+        Atom::Resource(atom) => resource_atom_list(alloc, atom),
+        Atom::Url(atom) => json!(in alloc; [(atom.verb.as_str()), (atom.url.as_str())]),
+    }
+}
+
+fn resource_atom_list(alloc: Global, atom: &ResourceAtom) -> Result<Value, Memory>
+    ensures { IfOk result (λ v. view v ≡ listed (Atom.Resource atom.now)) }
+{
+    match &atom.names {
+        Names::All => json!(in alloc; [
+            (atom.verb.as_str()),
+            (atom.group.as_str()),
+            (atom.resource.as_str())
+        ]),
+        Names::One(name) => json!(in alloc; [
+            (atom.verb.as_str()),
+            (atom.group.as_str()),
+            (atom.resource.as_str()),
+            (name.as_str())
+        ]),
+    }
+}
+
+fn atom_cell(alloc: Global, atom: &Atom) -> Result<Sequence<u8>, Memory>
+    ensures { IfOk result (λ s. s ≡ cells.atom_cell atom.now) }
+{
+    let text = atom_list(alloc, atom)?.to_string(alloc)?;
+    escape(alloc, text.as_bytes())
+}
+
+/// The cells of a gain.
+pub fn gain_row(alloc: Global, gain: &Gain<'_>) -> Result<Row, Memory>
+    ensures { IfOk result (λ r. r ≡ cells.gain_row (gain_of gain.now)) }
+{
+    let by = by_text(alloc, &gain.binding, gain.rule)?;
+    Ok(Row {
+        subject: subject_cell(alloc, &gain.to)?,
+        namespace: namespace_cell(alloc, gain.binding.namespace)?,
+        what: atom_cell(alloc, &gain.gain)?,
+        by: escape(alloc, by.as_bytes())?,
+    })
+}
+
+/// The cells of a way.
+pub fn way_row(alloc: Global, way: &Way<'_>) -> Result<Row, Memory>
+    ensures { IfOk result (λ r. r ≡ cells.way_row (way_of way.now)) }
+{
+    let binding = binding_text(alloc, &way.binding)?;
+    let rule = rule_text(alloc, way.binding.role, way.rule)?;
+    Ok(Row {
+        subject: subject_cell(alloc, &way.to)?,
+        namespace: namespace_cell(alloc, way.binding.namespace)?,
+        what: escape(alloc, binding.as_bytes())?,
+        by: escape(alloc, rule.as_bytes())?,
+    })
+}
+
+fn words(
+    alloc: Global,
+    subject: &[u8],
+    namespace: &[u8],
+    what: &[u8],
+    by: &[u8],
+) -> Result<Row, Memory>
+    ensures { IfOk result (λ r. r ≡ record { subject = subject.now; namespace = namespace.now; what = what.now; by = by.now }) }
+{
+    Ok(Row {
+        subject: copy_of(alloc, subject)?,
+        namespace: copy_of(alloc, namespace)?,
+        what: copy_of(alloc, what)?,
+        by: copy_of(alloc, by)?,
+    })
+}
+
+/// The heads of the columns of gains.
+pub fn gains_head(alloc: Global) -> Result<Row, Memory>
+    ensures { IfOk result (λ r. r ≡ cells.gains_head) }
+{
+    words(alloc, b"SUBJECT", b"NAMESPACE", b"GAINS", b"BY")
+}
+
+/// The heads of the columns of ways.
+pub fn ways_head(alloc: Global) -> Result<Row, Memory>
+    ensures { IfOk result (λ r. r ≡ cells.ways_head) }
+{
+    words(alloc, b"SUBJECT", b"NAMESPACE", b"BINDING", b"RULE")
+}
+
+/// The cells of the group whose members may do everything.
+pub fn masters_row(alloc: Global) -> Result<Row, Memory>
+    ensures { IfOk result (λ r. r ≡ cells.masters_row) }
+{
+    words(alloc, b"Group system:masters", b"*", b"-", b"everything")
+}
