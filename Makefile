@@ -2,22 +2,27 @@
 # make replay    plays the stored transcript of a policy; it proves nothing
 # make test      the gate: every proof from nothing, the must-fail edits, the tests and the program's stored run
 # make kapi      proves and builds the program, and says where it lies
+# make install   proves and builds the program and copies it to PREFIX/bin, which is /usr/local/bin if PREFIX is not named
 # make serve     proves and builds the program, and starts it as a server on 127.0.0.1: port 8001 for root, port 8002 for ann
 # make serve-demo starts the same server for ten minutes and proves nothing first
 # make growths   plays each script of the folder SCRIPTS, or each case of a transcript of that name, with every growth of memory refused in turn (wants cc and python3)
 # make live      changes the policy of a server while two clients ask what it allows, and looks at what they are told (wants python3)
 # make hostile   attacks a server as a client without rights may, and prints what each attack costs the others (wants python3)
+# make missing    compares the permissions that a refusal tells with those that the rule says, for 100,000 random roles (wants python3)
 # make rechecks  takes rights away from clients who watch, over sockets (wants python3)
-# make statuses  the program's exit statuses, and what it writes on standard error
+# make kubectl-demo  starts a server and the door for kubectl before it, and runs the commands of docs/USING.md (wants kubectl and python3)
+# make statuses  the program's exit statuses, what it writes on standard error, and that it serves the kinds of tools/kinds.txt (wants python3)
 # make edits     tries the edits of crates/NAME/edits, which the gate does not, of all crates or of those that CRATES names; takes hours for all
 # make audit-demo  answers a stored file of questions by a stored policy; it proves nothing
 # make load      proves and builds the program, and prints what a server does under load (wants cc, python3 and wrk)
 # make bench     proves and builds the program, and prints what its events and questions cost (wants python3)
 
 SCRIPTS ?= scripts
+PREFIX ?= /usr/local
+KUBECTL ?= kubectl
 PROGRAM = crates/kapi/out/kapi
 
-.PHONY: audit-demo demo replay test kapi serve serve-demo edits growths live rechecks hostile statuses bench load
+.PHONY: audit-demo demo replay test kapi install serve serve-demo edits growths live missing rechecks hostile kubectl-demo statuses bench load
 
 demo:
 	@answers=$$(mktemp) && (cd crates/kapi && rt try -- script < ../../scripts/demo.txt) > $$answers && python3 tools/transcript.py scripts/demo.txt $$answers; status=$$?; rm -f $$answers; exit $$status
@@ -31,6 +36,9 @@ test:
 kapi:
 	@cd crates/kapi && rt run -- script < /dev/null > /dev/null
 	@ls -l $(PROGRAM)
+
+install: kapi
+	@install -D $(PROGRAM) $(PREFIX)/bin/kapi
 
 edits:
 	@sh tools/edits.sh $(CRATES)
@@ -52,11 +60,17 @@ live: kapi
 hostile: kapi
 	@python3 tools/hostile.py $(PROGRAM)
 
+missing: kapi
+	@python3 tools/missing.py $(PROGRAM) 100000
+
 rechecks: kapi
 	@python3 tools/rechecks.py $(PROGRAM)
 
+kubectl-demo: kapi
+	@sh tools/kubectl.sh $(PROGRAM) $(KUBECTL)
+
 statuses: kapi
-	@sh tools/statuses.sh $(PROGRAM)
+	@sh tools/statuses.sh $(PROGRAM) && python3 tools/kinds.py $(PROGRAM)
 
 audit-demo:
 	@cd crates/kapi && rt try --data policy.jsonl=../../scripts/audit/policy.jsonl --data questions.jsonl=../../scripts/audit/questions.jsonl -- audit policy.jsonl questions.jsonl

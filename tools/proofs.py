@@ -1,0 +1,104 @@
+#!/usr/bin/env python3
+"""Writes docs/PROOFS.md: each public call of each crate with the clauses that are proved of it and what it does, read from the sources.
+
+usage: proofs.py [--check]     with --check the page is compared and not written; the exit status is 1 where it differs
+"""
+import pathlib
+import re
+import sys
+import textwrap
+
+ROOT = pathlib.Path(__file__).parent.parent
+PAGE = ROOT / "docs/PROOFS.md"
+HEAD = """# What is proved of each public call
+
+Every function of every crate is proved to meet its contract. This page lists the public ones: a call, the names of
+its clauses (`ensures NAME {..}` in the source; `result` is a clause without a name) and the first sentence of its
+comment. A call without a clause is proved safe and total alone. A call of a module `laws` does nothing: its clauses
+are statements about definitions. The page is written by `tools/proofs.py`; README says which of these properties
+users rely on.
+"""
+
+
+def exported(crate):
+    """The names that the crate's root exports, and its public modules."""
+    root = next(it for it in (crate / "src/lib.rt", crate / "src/main.rt") if it.is_file()).read_text()
+    uses = re.findall(r"^pub use \w+(?:::\w+)*::(?:\{([^}]*)\}|(\w+))", root, re.M)
+    names = {name.strip().split(" as ")[0] for many, one in uses for name in (many or one).split(",")}
+    return names - {""}, set(re.findall(r"^pub mod (\w+);", root, re.M)), re.findall(r"^//! ?(.*)", root, re.M)
+
+
+def sentence(comments):
+    """The first sentence of a comment."""
+    text = " ".join(comments)
+    end = re.search(r"\.(?= [A-Z`]|$)", text)
+    return (text[: end.end()] if end else text).replace("|", "\\|")
+
+
+def calls(text):
+    """Each public function of a source with the type or trait that it stands in, its comment and its clauses."""
+    owner, comments, found = "", [], None
+    for line in text.splitlines():
+        if re.match(r"(impl|pub trait)\b", line):
+            owner = owner_of(line)
+        elif line.startswith("}"):
+            owner = ""
+        comment = re.match(r"\s*/// ?(.*)", line)
+        named = re.match(r"( *)(pub )?fn (\w+)", line)
+        if comment:
+            comments.append(comment[1])
+        elif named and (named[2] or owner.startswith("trait ")) and len(named[1]) == (4 if owner else 0):
+            found = [owner.removeprefix("trait "), named[3], sentence(paragraph(comments)), []]
+            yield found
+            comments = []
+        elif found and (clause := re.match(r"\s*ensures (?:(\w+) )?\{", line)):
+            found[3].append(clause[1] or "result")
+        elif not line.strip().startswith("#["):
+            comments = []
+        if line.strip() in ("{", "{}") or line.rstrip().endswith((");", "{}")) or line in ("    }", "}"):
+            found = None if line.strip() in ("{", "{}", "}") else found
+
+
+def paragraph(comments):
+    """The lines before the first empty one."""
+    return comments[: comments.index("")] if "" in comments else comments
+
+
+def owner_of(line):
+    """The type of an inherent `impl`, `trait NAME` of a public trait, or a mark that names nothing for an impl of a trait."""
+    trait = re.match(r"pub trait (\w+)", line)
+    if trait:
+        return f"trait {trait[1]}"
+    inherent = re.match(r"impl(?:<.*?>+)? (\w+)(?:<[^{]*>)? \{", line)
+    return inherent[1] if inherent and " for " not in line else "-"
+
+
+def section(crate):
+    names, modules, about = exported(crate)
+    rows = []
+    for file in sorted((crate / "src").rglob("*.rt")):
+        module = file.stem
+        for owner, name, said, clauses in list(calls(file.read_text())):
+            is_public = owner in names if owner else name in names or module in modules
+            if is_public and "tests" not in file.parts and module != "tests":
+                call = f"{owner}::{name}" if owner else (f"{module}::{name}" if name not in names else name)
+                rows.append(f"| `{call}` | {', '.join(clauses)} | {said} |")
+    title = f"\n## {crate.name}\n\n{textwrap.fill(sentence(paragraph(about)), 120)}\n"
+    return title + ("\n| Call | Clauses | What it does |\n|---|---|---|\n" + "\n".join(rows) + "\n" if rows else "")
+
+
+def page():
+    names = re.findall(r"^(\w+):", (ROOT / "crates.txt").read_text(), re.M)
+    return HEAD + "".join(section(ROOT / "crates" / name) for name in names if not name.endswith("_tests"))
+
+
+def main(words):
+    text = page()
+    if words == ["--check"]:
+        return int(not PAGE.is_file() or PAGE.read_text() != text)
+    PAGE.write_text(text)
+    return 0
+
+
+if __name__ == "__main__":
+    sys.exit(main(sys.argv[1:]))
