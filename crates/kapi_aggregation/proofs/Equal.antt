@@ -1,12 +1,8 @@
 -- Rules that are the same entry by entry are equal; so are lists of rules.
-use Rattle.std.proofs.Common.{◌≡◌, ℕ, List, [], ◌∷◌, Bool, true, false, not, refl, ap, ◌∙◌, Decides}
-use Rattle.std.specs.List.{AllByRecursion}
+use Rattle.std.proofs.Common.{◌≡◌, ℕ, List, [], ◌∷◌, true, refl, ap, ◌∙◌, Decides}
 use Rattle.std.specs.Str.{bytes_eq}
 use Rattle.kapi_names.specs.declared.policy_rule.PolicyRule.{PolicyRule}
-use Rattle.kapi_aggregation.specs.Roles.{Labelled, is_aggregated}
-use Rattle.kapi_aggregation.specs.Unions.{IsSettled, IsUnion, same_rule, same_rules, same_texts, union_for}
-use Rattle.kapi_aggregation.specs.Turns.{differs}
-use Rattle.kapi_aggregation.specs.Marks.{Covers, IsCovered}
+use Rattle.kapi_aggregation.specs.Unions.{same_rule, same_rules, same_texts}
 use Rattle.kapi_aggregation.proofs.Lists.{and_true, both_true, itself, same_text}
 
 same_texts_are : (xs ys : List (List ℕ)) → same_texts xs ys ≡ true → xs ≡ ys
@@ -54,29 +50,3 @@ same_rules_are (x ∷ xs) [] h = absurd (cc h)
 same_rules_are (x ∷ xs) (y ∷ ys) h =
     let parts = and_true (same_rule x y) (same_rules xs ys) h in
     ap (λ (z : PolicyRule). z ∷ xs) (same_rule_is x y parts.0) ∙ ap (λ (zs : List PolicyRule). y ∷ zs) (same_rules_are xs ys parts.1)
-
-pub same_rules_itself : (xs : List PolicyRule) → same_rules xs xs ≡ true
-same_rules_itself [] = refl
-same_rules_itself (x ∷ xs) = both_true (same_rule x x) (same_rules xs xs) (same_rule_itself x) (same_rules_itself xs)
-
--- ---- settled roles
-
-contradicts : (b : Bool) → b ≡ true → not b ≡ true → ⊥
-contradicts true h k = absurd (cc k)
-contradicts false h k = absurd (cc h)
-
--- a role whose rules are its union does not differ
-union_is_same : (roles : List Labelled) (r : Labelled) → IsUnion roles r → differs roles r ≡ true → ⊥
-union_is_same roles r is h =
-    let parts = and_true (is_aggregated r) (not (same_rules r.role.rules (union_for roles r))) h in
-    let equal : r.role.rules ≡ union_for roles r = is parts.0 in
-    let same : same_rules r.role.rules (union_for roles r) ≡ true = rw (← equal) (same_rules_itself r.role.rules) in
-    contradicts (same_rules r.role.rules (union_for roles r)) same parts.1
-
-settled_among : (marks : List (List ℕ)) (roles rs : List Labelled) → AllByRecursion (IsUnion roles) rs → AllByRecursion (IsCovered marks roles) rs
-settled_among marks roles [] h = tt
-settled_among marks roles (r ∷ rs) h = (λ d. absurd (union_is_same roles r h.0 d), settled_among marks roles rs h.1)
-
--- any marks cover settled roles
-pub settled_covers : (marks : List (List ℕ)) (roles : List Labelled) → IsSettled roles → Covers marks roles
-settled_covers marks roles h = settled_among marks roles roles h

@@ -1,18 +1,20 @@
--- What marks a note makes, and that it keeps those that are there.
+-- What names a note puts in, and that it keeps those that are there.
 use Rattle.std.proofs.Common.{◌≡◌, inl, inr, ℕ, List, [], ◌∷◌, Bool, true, false, cond, ◌&&◌, ◌||◌, Option, Some, None, refl, ap, ◌∙◌}
 use Rattle.std.proofs.lemmas.Map.Text.{is_eq-slice_cmp}
 use Rattle.std.specs.BTreeSet.{insert_key}
 use Rattle.std.specs.Cmp.Lexicographic.{slice_cmp}
 use Rattle.std.specs.List.{fold, list_any}
 use Rattle.std.specs.Ordering.{is_eq, match_ordering, nat_cmp}
-use Rattle.std.specs.Str.{bytes_eq}
 use Rattle.std.specs.declared.cmp.Ordering.{Ordering}
 use Rattle.std.specs.declared.cmp.Ordering.TheVariants.{Less, Equal, Greater}
 use Rattle.serde_json.specs.Data.{Data}
+use Rattle.std.specs.Map.{lookup}
+use Rattle.kapi_store.specs.Keys.{is_key}
 use Rattle.kapi_store.specs.Plain.{PlainChange}
-use Rattle.kapi_aggregation.specs.Roles.{Labelled, is_cluster_role, labels_in, takes_from}
-use Rattle.kapi_aggregation.specs.Marks.{Keeps, is_marked, mark_by_name, mark_change, mark_changed, mark_new, mark_old, mark_taker, mark_takers, noted, with_mark}
-use Rattle.kapi_aggregation.proofs.Lists.{itself, same_text}
+use Rattle.kapi_store.specs.declared.key.Key.{Key}
+use Rattle.kapi_aggregation.specs.Roles.{Labelled, is_aggregated, is_cluster_role, labels_in, takes_from}
+use Rattle.kapi_aggregation.specs.Marks.{Keeps, KeepsBoth, Tracked, is_marked, is_taker, learn, learned, mark_all, mark_change, mark_changed, mark_object, mark_taker, mark_takers, noted, takers_in, with_mark, with_taker}
+use Rattle.kapi_aggregation.proofs.Lists.{itself}
 use Rattle.kapi_aggregation.specs.Members.{Has}
 
 or_first : (a b : Bool) → a ≡ true → (a || b) ≡ true
@@ -91,143 +93,130 @@ module _ (labels : Option Data) where
       takers_keep (mark_taker labels ms y) rs r.name (rw same (taker_marks ms r takes))
   takers_mark ms (y ∷ rs) r (inr has) takes = takers_mark (mark_taker labels ms y) rs r has takes
 
--- ---- those that take rules from the one of a name
+-- ---- those that take rules from an object
 
-module _ (roles : List Labelled) (name : List ℕ) where
-  old_keeps : (ms : List (List ℕ)) (o : Labelled) → Keeps ms (mark_old roles name ms o)
-  unfolding mark_takers
-  old_keeps ms o n h = by_case (bytes_eq o.name name)
-    where
-      by_case : (b : Bool) → is_marked (cond b (mark_takers roles ms o.labels) ms) n ≡ true
-      by_case true = takers_keep o.labels ms roles n h
-      by_case false = h
+-- whether the role takes rules from an object, if there is one
+abbrev pub takes_object : Labelled → Option Data → Bool
+takes_object r None = false
+takes_object r (Some tree) = takes_from r (labels_in tree)
 
-  old_marks : (ms : List (List ℕ)) (o r : Labelled) → bytes_eq o.name name ≡ true → Has roles r → takes_from r o.labels ≡ true → is_marked (mark_old roles name ms o) r.name ≡ true
-  unfolding mark_takers
-  old_marks ms o r named has takes = by_case (bytes_eq o.name name) named
-    where
-      by_case : (b : Bool) → b ≡ true → is_marked (cond b (mark_takers roles ms o.labels) ms) r.name ≡ true
-      by_case true h = takers_mark o.labels ms roles r has takes
-      by_case false h = absurd (cc h)
-
-  pub olds_keep : (ms : List (List ℕ)) (rs : List Labelled) → Keeps ms (fold (mark_old roles name) ms rs)
-  olds_keep ms [] n h = h
-  olds_keep ms (r ∷ rs) n h = olds_keep (mark_old roles name ms r) rs n (old_keeps ms r n h)
-
-  olds_mark : (ms : List (List ℕ)) (rs : List Labelled) (o r : Labelled) → Has rs o → bytes_eq o.name name ≡ true → Has roles r → takes_from r o.labels ≡ true
-      → is_marked (fold (mark_old roles name) ms rs) r.name ≡ true
-  olds_mark ms [] o r there named has takes = absurd there
-  olds_mark ms (y ∷ rs) o r (inl same) named has takes =
-      olds_keep (mark_old roles name ms y) rs r.name (rw same (old_marks ms o r named has takes))
-  olds_mark ms (y ∷ rs) o r (inr there) named has takes = olds_mark (mark_old roles name ms y) rs o r there named has takes
-
--- ---- one change
-
--- whether the role takes rules from what a change leaves
-abbrev pub takes_new : Labelled → Option Data → Bool
-takes_new r None = false
-takes_new r (Some tree) = takes_from r (labels_in tree)
-
--- whether a change is of the cluster role of the name
-abbrev pub is_own : List ℕ → PlainChange → Bool
-is_own name c = is_cluster_role c.key && bytes_eq name c.key.name
-
--- whether the role takes rules from the one of that name
-abbrev pub takes_old : Labelled → List ℕ → Labelled → Bool
-takes_old r name o = bytes_eq o.name name && takes_from r o.labels
-
--- whether the role takes rules from one that is changed, as it stood or as it is left
-abbrev pub is_moved : List Labelled → Labelled → PlainChange → Bool
-is_moved roles r c = is_cluster_role c.key && (takes_new r c.new || list_any (takes_old r c.key.name) roles)
+-- whether the role takes rules from one that is changed, as it stands or as it is left
+abbrev pub is_moved : List (Key × Data) → Labelled → PlainChange → Bool
+is_moved os r c = is_cluster_role c.key && (takes_object r (lookup (is_key c.key) os) || takes_object r c.new)
 
 module _ (roles : List Labelled) where
-  pub new_keeps : (ms : List (List ℕ)) (d : Option Data) → Keeps ms (mark_new roles ms d)
+  object_keeps : (ms : List (List ℕ)) (d : Option Data) → Keeps ms (mark_object roles ms d)
   unfolding mark_takers
-  new_keeps ms None n h = h
-  new_keeps ms (Some tree) n h = takers_keep (labels_in tree) ms roles n h
+  object_keeps ms None n h = h
+  object_keeps ms (Some tree) n h = takers_keep (labels_in tree) ms roles n h
 
-  pub changed_keeps : (ms : List (List ℕ)) (c : PlainChange) → Keeps ms (mark_changed roles ms c)
-  unfolding mark_changed mark_by_name
-  changed_keeps ms c n h =
-      new_keeps (mark_by_name roles (with_mark ms c.key.name) c.key.name) c.new n
-      (olds_keep roles c.key.name (with_mark ms c.key.name) roles n (with_mark_keeps ms c.key.name n h))
-
-  changed_itself : (ms : List (List ℕ)) (c : PlainChange) → is_marked (mark_changed roles ms c) c.key.name ≡ true
-  unfolding mark_changed mark_by_name
-  changed_itself ms c =
-      new_keeps (mark_by_name roles (with_mark ms c.key.name) c.key.name) c.new c.key.name
-      (olds_keep roles c.key.name (with_mark ms c.key.name) roles c.key.name (with_mark_marks ms c.key.name))
-
-  changed_old : (ms : List (List ℕ)) (c : PlainChange) (o r : Labelled) → Has roles o → bytes_eq o.name c.key.name ≡ true → Has roles r → takes_from r o.labels ≡ true
-      → is_marked (mark_changed roles ms c) r.name ≡ true
-  unfolding mark_changed mark_by_name
-  changed_old ms c o r there named has takes =
-      new_keeps (mark_by_name roles (with_mark ms c.key.name) c.key.name) c.new r.name
-      (olds_mark roles c.key.name (with_mark ms c.key.name) roles o r there named has takes)
-
-  new_marks : (ms : List (List ℕ)) (d : Option Data) (r : Labelled) → Has roles r → takes_new r d ≡ true → is_marked (mark_new roles ms d) r.name ≡ true
+  object_marks : (ms : List (List ℕ)) (d : Option Data) (r : Labelled) → Has roles r → takes_object r d ≡ true → is_marked (mark_object roles ms d) r.name ≡ true
   unfolding mark_takers
-  new_marks ms None r has takes = absurd (cc takes)
-  new_marks ms (Some tree) r has takes = takers_mark (labels_in tree) ms roles r has takes
+  object_marks ms None r has takes = absurd (cc takes)
+  object_marks ms (Some tree) r has takes = takers_mark (labels_in tree) ms roles r has takes
 
-  changed_new : (ms : List (List ℕ)) (c : PlainChange) (r : Labelled) → Has roles r → takes_new r c.new ≡ true → is_marked (mark_changed roles ms c) r.name ≡ true
-  unfolding mark_changed mark_by_name
-  changed_new ms c r has takes = new_marks (mark_by_name roles (with_mark ms c.key.name) c.key.name) c.new r has takes
+module _ (os : List (Key × Data)) (roles : List Labelled) where
+  changed_keeps : (ms : List (List ℕ)) (c : PlainChange) → Keeps ms (mark_changed os roles ms c)
+  unfolding mark_changed
+  changed_keeps ms c n h = object_keeps roles (mark_object roles ms (lookup (is_key c.key) os)) c.new n (object_keeps roles ms (lookup (is_key c.key) os) n h)
 
-  pub change_keeps : (ms : List (List ℕ)) (c : PlainChange) → Keeps ms (mark_change roles ms c)
+  change_keeps : (ms : List (List ℕ)) (c : PlainChange) → Keeps ms (mark_change os roles ms c)
   change_keeps ms c n h = by_case (is_cluster_role c.key)
     where
-      by_case : (b : Bool) → is_marked (cond b (mark_changed roles ms c) ms) n ≡ true
+      by_case : (b : Bool) → is_marked (cond b (mark_changed os roles ms c) ms) n ≡ true
       by_case true = changed_keeps ms c n h
       by_case false = h
 
-  pub noted_keeps : (ms : List (List ℕ)) (cs : List PlainChange) → Keeps ms (noted roles ms cs)
-  noted_keeps ms [] n h = h
-  noted_keeps ms (c ∷ cs) n h = noted_keeps (mark_change roles ms c) cs n (change_keeps ms c n h)
+  pub all_keep : (ms : List (List ℕ)) (cs : List PlainChange) → Keeps ms (mark_all os roles ms cs)
+  all_keep ms [] n h = h
+  all_keep ms (c ∷ cs) n h = all_keep (mark_change os roles ms c) cs n (change_keeps ms c n h)
 
-  own_marked : (ms : List (List ℕ)) (c : PlainChange) (name : List ℕ) → is_own name c ≡ true → is_marked (mark_change roles ms c) name ≡ true
-  own_marked ms c name h = by_case (is_cluster_role c.key) h
+  changed_marks : (ms : List (List ℕ)) (c : PlainChange) (r : Labelled) → Has roles r → (a b : Bool) → takes_object r (lookup (is_key c.key) os) ≡ a → takes_object r c.new ≡ b
+      → (a || b) ≡ true → is_marked (mark_changed os roles ms c) r.name ≡ true
+  unfolding mark_changed
+  changed_marks ms c r has true b old new h =
+      object_keeps roles (mark_object roles ms (lookup (is_key c.key) os)) c.new r.name (object_marks roles ms (lookup (is_key c.key) os) r has old)
+  changed_marks ms c r has false true old new h = object_marks roles (mark_object roles ms (lookup (is_key c.key) os)) c.new r has new
+  changed_marks ms c r has false false old new h = absurd (cc h)
+
+  change_marks : (ms : List (List ℕ)) (c : PlainChange) (r : Labelled) → Has roles r → is_moved os r c ≡ true → is_marked (mark_change os roles ms c) r.name ≡ true
+  change_marks ms c r has h = by_case (is_cluster_role c.key) h
     where
-      by_case : (b : Bool) → (b && bytes_eq name c.key.name) ≡ true → is_marked (cond b (mark_changed roles ms c) ms) name ≡ true
-      by_case true same = rw (same_text name c.key.name same) (changed_itself ms c)
-      by_case false same = absurd (cc same)
-
-  old_moved : (ms : List (List ℕ)) (c : PlainChange) (r : Labelled) → Has roles r → (os : List Labelled) → ((o : Labelled) → Has os o → Has roles o)
-      → list_any (takes_old r c.key.name) os ≡ true → is_marked (mark_changed roles ms c) r.name ≡ true
-  old_moved ms c r has [] within h = absurd (cc h)
-  old_moved ms c r has (o ∷ os) within h = by_name (bytes_eq o.name c.key.name) (takes_from r o.labels) refl refl (old_moved ms c r has os (λ x there. within x (inr there))) h
-    where
-      by_name : (a b : Bool) → bytes_eq o.name c.key.name ≡ a → takes_from r o.labels ≡ b → (list_any (takes_old r c.key.name) os ≡ true → is_marked (mark_changed roles ms c) r.name ≡ true) → ((a && b) || list_any (takes_old r c.key.name) os) ≡ true → is_marked (mark_changed roles ms c) r.name ≡ true
-      by_name true true named takes rest k = changed_old ms c o r (within o (inl refl)) named has takes
-      by_name true false named takes rest k = rest k
-      by_name false b named takes rest k = rest k
-
-  change_moves : (ms : List (List ℕ)) (c : PlainChange) (r : Labelled) → Has roles r → is_moved roles r c ≡ true → is_marked (mark_change roles ms c) r.name ≡ true
-  change_moves ms c r has h = by_case (is_cluster_role c.key) h
-    where
-      by_part : (a b : Bool) → takes_new r c.new ≡ a → list_any (takes_old r c.key.name) roles ≡ b → (a || b) ≡ true → is_marked (mark_changed roles ms c) r.name ≡ true
-      by_part true b new old k = changed_new ms c r has new
-      by_part false true new old k = old_moved ms c r has roles (λ o there. there) old
-      by_part false false new old k = absurd (cc k)
-
-      by_case : (b : Bool) → (b && (takes_new r c.new || list_any (takes_old r c.key.name) roles)) ≡ true → is_marked (cond b (mark_changed roles ms c) ms) r.name ≡ true
-      by_case true k = by_part (takes_new r c.new) (list_any (takes_old r c.key.name) roles) refl refl k
+      by_case : (b : Bool) → (b && (takes_object r (lookup (is_key c.key) os) || takes_object r c.new)) ≡ true → is_marked (cond b (mark_changed os roles ms c) ms) r.name ≡ true
+      by_case true k = changed_marks ms c r has (takes_object r (lookup (is_key c.key) os)) (takes_object r c.new) refl refl k
       by_case false k = absurd (cc k)
 
-  -- the cluster role of a name is marked, where a change is of it
-  pub noted_own : (ms : List (List ℕ)) (cs : List PlainChange) (name : List ℕ) → list_any (is_own name) cs ≡ true → is_marked (noted roles ms cs) name ≡ true
-  noted_own ms [] name h = absurd (cc h)
-  noted_own ms (c ∷ cs) name h = by_case (is_own name c) refl (noted_own (mark_change roles ms c) cs name) h
+  -- a role that is looked at is marked, where it takes rules from one that is changed
+  pub all_mark : (ms : List (List ℕ)) (cs : List PlainChange) (r : Labelled) → Has roles r → list_any (is_moved os r) cs ≡ true → is_marked (mark_all os roles ms cs) r.name ≡ true
+  all_mark ms [] r has h = absurd (cc h)
+  all_mark ms (c ∷ cs) r has h = by_case (is_moved os r c) refl (all_mark (mark_change os roles ms c) cs r has) h
     where
-      by_case : (b : Bool) → is_own name c ≡ b → (list_any (is_own name) cs ≡ true → is_marked (noted roles (mark_change roles ms c) cs) name ≡ true) → (b || list_any (is_own name) cs) ≡ true → is_marked (noted roles (mark_change roles ms c) cs) name ≡ true
-      by_case true own rest k = noted_keeps (mark_change roles ms c) cs name (own_marked ms c name own)
-      by_case false own rest k = rest k
-
-  -- a role is marked, where it takes rules from one that is changed
-  pub noted_moved : (ms : List (List ℕ)) (cs : List PlainChange) (r : Labelled) → Has roles r → list_any (is_moved roles r) cs ≡ true → is_marked (noted roles ms cs) r.name ≡ true
-  noted_moved ms [] r has h = absurd (cc h)
-  noted_moved ms (c ∷ cs) r has h = by_case (is_moved roles r c) refl (noted_moved (mark_change roles ms c) cs r has) h
-    where
-      by_case : (b : Bool) → is_moved roles r c ≡ b → (list_any (is_moved roles r) cs ≡ true → is_marked (noted roles (mark_change roles ms c) cs) r.name ≡ true) → (b || list_any (is_moved roles r) cs) ≡ true → is_marked (noted roles (mark_change roles ms c) cs) r.name ≡ true
-      by_case true moved rest k = noted_keeps (mark_change roles ms c) cs r.name (change_moves ms c r has moved)
+      by_case : (b : Bool) → is_moved os r c ≡ b → (list_any (is_moved os r) cs ≡ true → is_marked (mark_all os roles (mark_change os roles ms c) cs) r.name ≡ true) → (b || list_any (is_moved os r) cs) ≡ true
+          → is_marked (mark_all os roles (mark_change os roles ms c) cs) r.name ≡ true
+      by_case true moved rest k = all_keep (mark_change os roles ms c) cs r.name (change_marks ms c r has moved)
       by_case false moved rest k = rest k
+
+-- ---- the aggregated cluster roles that changes leave
+
+learn_keeps : (t : Tracked) (c : PlainChange) → KeepsBoth t (learn t c)
+learn_keeps t c = by_case (is_taker c)
+  where
+    by_case : (b : Bool) → KeepsBoth t (cond b (record { marks = with_mark t.marks c.key.name; takers = with_mark t.takers c.key.name }) t)
+    by_case true = (with_mark_keeps t.marks c.key.name, with_mark_keeps t.takers c.key.name)
+    by_case false = ((λ n h. h), (λ n h. h))
+
+pub learned_keeps : (t : Tracked) (cs : List PlainChange) → KeepsBoth t (learned t cs)
+learned_keeps t [] = ((λ n h. h), (λ n h. h))
+learned_keeps t (c ∷ cs) =
+    let first = learn_keeps t c in
+    let rest = learned_keeps (learn t c) cs in
+    ((λ n h. rest.0 n (first.0 n h)), (λ n h. rest.1 n (first.1 n h)))
+
+-- the name is kept, and marked
+abbrev pub IsBoth : Tracked → List ℕ → Type 0
+IsBoth t name = (is_marked t.marks name ≡ true) × (is_marked t.takers name ≡ true)
+
+learns : (t : Tracked) (c : PlainChange) → is_taker c ≡ true → IsBoth (learn t c) c.key.name
+learns t c h = by_case (is_taker c) h
+  where
+    by_case : (b : Bool) → b ≡ true → IsBoth (cond b (record { marks = with_mark t.marks c.key.name; takers = with_mark t.takers c.key.name }) t) c.key.name
+    by_case true k = (with_mark_marks t.marks c.key.name, with_mark_marks t.takers c.key.name)
+    by_case false k = absurd (cc k)
+
+pub learned_has : (t : Tracked) (cs : List PlainChange) (c : PlainChange) → Has cs c → is_taker c ≡ true → IsBoth (learned t cs) c.key.name
+learned_has t [] c has h = absurd has
+learned_has t (d ∷ cs) c (inl same) h =
+    let first = learns t c h in
+    let rest = learned_keeps (learn t c) cs in
+    rw (same) (rest.0 c.key.name first.0, rest.1 c.key.name first.1)
+learned_has t (d ∷ cs) c (inr has) h = learned_has (learn t d) cs c has h
+
+-- a note keeps the names that are there
+pub noted_keeps : (os : List (Key × Data)) (t : Tracked) (cs : List PlainChange) → KeepsBoth t (noted os t cs)
+unfolding noted
+noted_keeps os t cs =
+    let after = learned_keeps t cs in
+    ((λ n h. all_keep os (takers_in os (learned t cs).takers) (learned t cs).marks cs n (after.0 n h)), after.1)
+
+-- ---- the names of aggregated cluster roles
+
+taker_keeps_names : (names : List (List ℕ)) (r : Labelled) → Keeps names (with_taker names r)
+taker_keeps_names names r n h = by_case (is_aggregated r)
+  where
+    by_case : (b : Bool) → is_marked (cond b (with_mark names r.name) names) n ≡ true
+    by_case true = with_mark_keeps names r.name n h
+    by_case false = h
+
+takers_keep_names : (names : List (List ℕ)) (rs : List Labelled) → Keeps names (fold with_taker names rs)
+takers_keep_names names [] n h = h
+takers_keep_names names (r ∷ rs) n h = takers_keep_names (with_taker names r) rs n (taker_keeps_names names r n h)
+
+-- the name of an aggregated one is there
+pub takers_named : (names : List (List ℕ)) (rs : List Labelled) (r : Labelled) → Has rs r → is_aggregated r ≡ true → is_marked (fold with_taker names rs) r.name ≡ true
+takers_named names [] r has is = absurd has
+takers_named names (y ∷ rs) r (inl same) is = takers_keep_names (with_taker names y) rs r.name (rw same (by_case (is_aggregated r) is))
+  where
+    by_case : (b : Bool) → b ≡ true → is_marked (cond b (with_mark names r.name) names) r.name ≡ true
+    by_case true k = with_mark_marks names r.name
+    by_case false k = absurd (cc k)
+takers_named names (y ∷ rs) r (inr has) is = takers_named (with_taker names y) rs r has is

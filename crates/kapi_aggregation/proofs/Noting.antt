@@ -1,60 +1,103 @@
--- After a note every cluster role that differs is marked.
-use Rattle.std.proofs.Common.{◌≡◌, ◌⊎◌, inl, inr, ℕ, List, [], ◌∷◌, Bool, true, false, not, ◌&&◌, Option, Some, refl, sym, ap, ◌∙◌, map}
+-- After a note every aggregated cluster role is known, and marked if it differs.
+use Rattle.std.proofs.Common.{◌≡◌, ◌⊎◌, inl, inr, ℕ, List, [], ◌∷◌, ◌++◌, Bool, true, false, cond, not, ◌&&◌, ◌||◌, Option, None, Some, option_map, codes, refl, sym, ap, ◌∙◌, subst, map}
+use Rattle.std.proofs.lemmas.Cmp.{tied_itself}
+use Rattle.std.proofs.lemmas.Map.Text.{is_eq-slice_cmp}
+use Rattle.std.specs.Cmp.Lexicographic.{slice_cmp}
 use Rattle.std.specs.List.{filter, flat_map, fold, list_any}
+use Rattle.std.specs.List.Sorted.{IsStrictlySortedBy}
+use Rattle.std.specs.Map.{keys_of, lookup}
+use Rattle.std.specs.Ordering.{is_eq, nat_cmp}
 use Rattle.std.specs.Str.{bytes_eq}
+use Rattle.std.specs.declared.cmp.Ordering.TheVariants.{Less, Equal}
 use Rattle.serde_json.specs.Data.{Data}
+use Rattle.kapi_names.specs.Kinds.{rbac_group}
 use Rattle.kapi_names.specs.Selector.{matches}
 use Rattle.kapi_names.specs.declared.policy_rule.PolicyRule.{PolicyRule}
 use Rattle.kapi_names.specs.declared.selector.Selector.{Selector}
+use Rattle.kapi_store.proofs.Keys.{key_total}
 use Rattle.kapi_store.specs.Changes.{placed_all}
-use Rattle.kapi_store.specs.Plain.{PlainChange, trees_left_by}
+use Rattle.kapi_store.specs.Keys.{is_key, key_cmp}
+use Rattle.kapi_store.specs.Plain.{PlainChange, plain_of, trees_left_by}
+use Rattle.kapi_store.specs.State.{IsStore, State, objects}
 use Rattle.kapi_store.specs.declared.key.Key.{Key}
-use Rattle.kapi_aggregation.specs.Roles.{Labelled, is_aggregated, is_cluster_role, labelled_tree, labels_in, roles_in, selectors_of, takes_from}
+use Rattle.kapi_aggregation.specs.Rewriting.{role_key}
+use Rattle.kapi_aggregation.specs.Roles.{Labelled, is_aggregated, is_cluster_role, labelled_at, labelled_tree, labels_in, roles_in, selectors_of, takes_from}
 use Rattle.kapi_aggregation.specs.Unions.{is_meant, rules_meant, same_rules, union_for, with_rule}
 use Rattle.kapi_aggregation.specs.Turns.{differs}
-use Rattle.kapi_aggregation.specs.Marks.{Covers, IsCovered, Keeps, is_marked, noted}
-use Rattle.kapi_aggregation.proofs.Lists.{all_at, all_from, and_fails, filter_mapped, filter_twice, has_kept, has_mapped, itself, kept_of, mapped_of, none_at, or_false, then_false}
+use Rattle.kapi_aggregation.specs.Marks.{Covers, IsCovered, KeepsBoth, Tracked, has_rule, is_marked, is_taker, learned, listed_if, mark_all, noted, role_at, takers_in}
+use Rattle.kapi_aggregation.proofs.Lists.{all_at, all_from, and_fails, and_true, both_true, filter_mapped, filter_twice, has_kept, has_mapped, kept_of, mapped_of, none_at, or_false, same_text, then_false}
 use Rattle.kapi_aggregation.specs.Members.{Has}
-use Rattle.kapi_aggregation.proofs.Marking.{is_moved, is_own, noted_keeps, noted_moved, noted_own, takes_new, takes_old}
-use Rattle.kapi_aggregation.proofs.Placed.{placed_all_filter, placed_all_has}
+use Rattle.kapi_aggregation.proofs.Marking.{all_keep, all_mark, is_moved, learned_has, learned_keeps, takes_object}
+use Rattle.kapi_aggregation.proofs.Placed.{key_is, placed_all_filter, placed_all_has}
+use Rattle.kapi_aggregation.proofs.Read.{empty_is, keys_of_trees}
 
 -- lists that are made alike of each item are the same
 flat_map_alike : {X Y : Type 0} (f g : X → List Y) (xs : List X) → ((x : X) → Has xs x → f x ≡ g x) → flat_map f xs ≡ flat_map g xs
 flat_map_alike f g [] same = refl
 flat_map_alike f g (x ∷ xs) same = rw (same x (inl refl), flat_map_alike f g xs (λ y has. same y (inr has))) refl
 
-module _ (os : List (Key × Data)) (cs : List PlainChange) where
-  -- a role that no change is of was there
-  old_role : (r : Labelled) → Has (roles_in (placed_all (trees_left_by cs) os)) r → list_any (is_own r.name) cs ≡ false → Has (roles_in os) r
-  old_role r has own = from_entry (mapped_of labelled_tree (filter (λ e. is_cluster_role e.0) (placed_all (trees_left_by cs) os)) r has)
-    where
-      put : (e : Key × Data) (c : PlainChange) (x : Data) → Has cs c → is_cluster_role e.0 ≡ true → labelled_tree e ≡ r → e ≡ (c.key, x) → ⊥
-      put e c x there is same at =
-          let key : c.key ≡ e.0 = sym (ap (λ (q : Key × Data). q.0) at) in
-          let cluster : is_cluster_role c.key ≡ true = rw key is in
-          let name : r.name ≡ c.key.name = ap (λ (q : Labelled). q.name) (sym same) ∙ ap (λ (k : Key). k.name) (sym key) in
-          let equal : bytes_eq r.name c.key.name ≡ true = rw name (itself c.key.name) in
-          let fails = none_at (is_own r.name) cs c own there in
-          let never = then_false (is_cluster_role c.key) (bytes_eq r.name c.key.name) cluster fails in
-          cc (equal, never)
+-- ---- what stands at a place
 
-      from_change : (e : Key × Data) (w : Key × Option Data) → Has (trees_left_by cs) w → (x : Data) → is_cluster_role e.0 ≡ true → labelled_tree e ≡ r → e ≡ (w.0, x) → ⊥
-      from_change e w there x is same at =
-          let made = mapped_of (λ (c : PlainChange). let q : Key × Option Data = (c.key, c.new) in q) cs w there in
-          put e made.0 x made.1.0 is same (at ∙ ap (λ (q : Key × Option Data). let z : Key × Data = (q.0, x) in z) (sym made.1.1))
+key_itself : (k : Key) → key_cmp k k ≡ Equal
+key_itself k = tied_itself key_total k
 
-      from_place : (e : Key × Data) → is_cluster_role e.0 ≡ true → labelled_tree e ≡ r
-          → Has os e ⊎ ((w : Key × Option Data) × (Has (trees_left_by cs) w × ((x : Data) × ((w.1 ≡ Some x) × (e ≡ (w.0, x)))))) → Has (roles_in os) r
-      from_place e is same (inl there) =
-          rw (← same) (has_mapped labelled_tree (filter (λ e. is_cluster_role e.0) os) e (has_kept (λ e. is_cluster_role e.0) os e there is))
-      from_place e is same (inr new) = absurd (from_change e new.0 new.1.0 new.1.1.0 is same new.1.1.1.1)
+not_itself : (k l : Key) → l ≡ k → key_cmp k l ≡ Less → ⊥
+not_itself k l same less = let equal : key_cmp k l ≡ Equal = rw same (key_itself k) in cc (equal, less)
 
-      from_entry : (e : Key × Data) × (Has (filter (λ e. is_cluster_role e.0) (placed_all (trees_left_by cs) os)) e × (labelled_tree e ≡ r)) → Has (roles_in os) r
-      from_entry found =
-          let kept = kept_of (λ (e : Key × Data). is_cluster_role e.0) (placed_all (trees_left_by cs) os) found.0 found.1.0 in
-          from_place found.0 kept.1 found.1.1 (placed_all_has (trees_left_by cs) os found.0 kept.0)
+-- what stands behind what is listed
+listed_before : (o : Option Labelled) (rs : List Labelled) (r : Labelled) → Has rs r → Has (listed_if o ++ rs) r
+listed_before None rs r has = has
+listed_before (Some q) rs r has = inr has
 
-  module _ (r : Labelled) (still : list_any (is_moved (roles_in os) r) cs ≡ false) where
+-- in the order of keys, what is looked up at the place of an entry is that entry's
+entry_found : (os : List (Key × Data)) → IsStrictlySortedBy key_cmp (keys_of os) → (e : Key × Data) → Has os e → lookup (is_key e.0) os ≡ Some e.1
+unfolding IsStrictlySortedBy
+entry_found [] sorted e has = absurd has
+entry_found (y ∷ os) sorted e (inl same) =
+    let P : Key × Data → Type 0 = λ q. lookup (is_key q.0) (y ∷ os) ≡ Some q.1 in
+    subst P same (ap (λ b. cond b (Some y.1) (lookup (is_key y.0) os)) (ap is_eq (key_itself y.0)))
+entry_found (y ∷ os) sorted e (inr has) = by_test (is_key e.0 y.0) refl (entry_found os sorted.1 e has)
+  where
+    by_test : (b : Bool) → is_key e.0 y.0 ≡ b → lookup (is_key e.0) os ≡ Some e.1 → cond b (Some y.1) (lookup (is_key e.0) os) ≡ Some e.1
+    by_test true at rest = absurd (not_itself y.0 e.0 (key_is e.0 y.0 at) (all_at (λ (k : Key). key_cmp y.0 k ≡ Less) (keys_of os) e.0 sorted.0 (has_mapped (λ (x : Key × Data). x.0) os e has)))
+    by_test false at rest = rest
+
+-- ---- the cluster roles that are looked at
+
+-- the place of a cluster role is that of its name
+place_is : (k : Key) → is_cluster_role k ≡ true → role_key k.name ≡ k
+unfolding is_cluster_role
+place_is k is =
+    let parts = and_true (bytes_eq k.group rbac_group) _ is in
+    let others = and_true (bytes_eq k.resource (codes "clusterroles")) _ parts.1 in
+    λ i. record {
+      group = sym (same_text k.group rbac_group parts.0) i;
+      resource = sym (same_text k.resource (codes "clusterroles") others.0) i;
+      namespace = sym (empty_is k.namespace others.1) i;
+      name = k.name;
+    }
+
+-- a cluster role that stands is the one of its name
+role_found : (os : List (Key × Data)) → IsStrictlySortedBy key_cmp (keys_of os) → (e : Key × Data) → Has os e → is_cluster_role e.0 ≡ true → role_at os e.0.name ≡ Some (labelled_tree e)
+role_found os sorted e has is =
+    ap (λ (k : Key). option_map (labelled_at e.0.name) (lookup (is_key k) os)) (place_is e.0 is) ∙ ap (option_map (labelled_at e.0.name)) (entry_found os sorted e has)
+
+-- it is looked at where its name is kept
+taker_has : (os : List (Key × Data)) (names : List (List ℕ)) (name : List ℕ) (r : Labelled) → role_at os name ≡ Some r → is_marked names name ≡ true → Has (takers_in os names) r
+taker_has os [] name r found kept = absurd (cc kept)
+taker_has os (n ∷ names) name r found kept = by_name (is_eq (slice_cmp nat_cmp name n)) refl (taker_has os names name r found) kept
+  where
+    by_name : (b : Bool) → is_eq (slice_cmp nat_cmp name n) ≡ b → (is_marked names name ≡ true → Has (takers_in os names) r) → (b || is_marked names name) ≡ true → Has (listed_if (role_at os n) ++ takers_in os names) r
+    by_name true same rest k =
+        let P : Option Labelled → Type 0 = λ o. Has (listed_if o ++ takers_in os names) r in
+        let at : name ≡ n = same_text name n (sym (is_eq-slice_cmp name n) ∙ same) in
+        subst P (sym found ∙ ap (role_at os) at) (inl refl)
+    by_name false same rest k = listed_before (role_at os n) (takers_in os names) r (rest k)
+
+-- ---- what a note leaves
+
+module _ (os : List (Key × Data)) (cs : List PlainChange) (sorted : IsStrictlySortedBy key_cmp (keys_of os)) where
+  module _ (r : Labelled) (still : list_any (is_moved os r) cs ≡ false) where
     -- a selector of the role means what is at an entry
     meant : Selector → Key × Data → Bool
     meant s e = is_cluster_role e.0 && is_meant r.name s (labelled_tree e)
@@ -62,18 +105,18 @@ module _ (os : List (Key × Data)) (cs : List PlainChange) where
     not_meant : (s : Selector) → Has (selectors_of r) s → (e : Key × Data) → takes_from r (labels_in e.1) ≡ false → is_meant r.name s (labelled_tree e) ≡ false
     not_meant s has e takes = and_fails (not (bytes_eq e.0.name r.name)) (matches s (labels_in e.1)) (none_at (λ (s : Selector). matches s (labels_in e.1)) (selectors_of r) s takes has)
 
-    quiet : (c : PlainChange) → Has cs c → is_cluster_role c.key ≡ true → (takes_new r c.new ≡ false) × (list_any (takes_old r c.key.name) (roles_in os) ≡ false)
-    quiet c there is = or_false _ _ (then_false (is_cluster_role c.key) _ is (none_at (is_moved (roles_in os) r) cs c still there))
+    quiet : (c : PlainChange) → Has cs c → is_cluster_role c.key ≡ true → (takes_object r (lookup (is_key c.key) os) ≡ false) × (takes_object r c.new ≡ false)
+    quiet c there is = or_false _ _ (then_false (is_cluster_role c.key) _ is (none_at (is_moved os r) cs c still there))
 
-    new_takes : (c : PlainChange) (x : Data) → c.new ≡ Some x → takes_new r c.new ≡ false → takes_from r (labels_in x) ≡ false
-    new_takes c x is h = ap (takes_new r) (sym is) ∙ h
+    new_takes : (d : Option Data) (x : Data) → d ≡ Some x → takes_object r d ≡ false → takes_from r (labels_in x) ≡ false
+    new_takes d x is h = ap (takes_object r) (sym is) ∙ h
 
     fails_new : (s : Selector) → Has (selectors_of r) s → (c : PlainChange) → Has cs c → (x : Data) → c.new ≡ Some x → meant s (c.key, x) ≡ false
     unfolding meant
     fails_new s has c there x is = by_case (is_cluster_role c.key) refl
       where
         by_case : (b : Bool) → is_cluster_role c.key ≡ b → (b && is_meant r.name s (labelled_tree (c.key, x))) ≡ false
-        by_case true cluster = not_meant s has (c.key, x) (new_takes c x is (quiet c there cluster).0)
+        by_case true cluster = not_meant s has (c.key, x) (new_takes c.new x is (quiet c there cluster).1)
         by_case false cluster = refl
 
     fails_old : (s : Selector) → Has (selectors_of r) s → (c : PlainChange) → Has cs c → (e : Key × Data) → Has os e → e.0 ≡ c.key → meant s e ≡ false
@@ -83,10 +126,8 @@ module _ (os : List (Key × Data)) (cs : List PlainChange) where
         by_case : (b : Bool) → is_cluster_role e.0 ≡ b → (b && is_meant r.name s (labelled_tree e)) ≡ false
         by_case true cluster =
             let changed : is_cluster_role c.key ≡ true = rw (← at) cluster in
-            let role : Has (roles_in os) (labelled_tree e) = has_mapped labelled_tree (filter (λ e. is_cluster_role e.0) os) e (has_kept (λ (e : Key × Data). is_cluster_role e.0) os e stood cluster) in
-            let none = none_at (takes_old r c.key.name) (roles_in os) (labelled_tree e) (quiet c there changed).1 role in
-            let named : bytes_eq e.0.name c.key.name ≡ true = rw (← at) (itself e.0.name) in
-            not_meant s has e (then_false (bytes_eq e.0.name c.key.name) (takes_from r (labels_in e.1)) named none)
+            let found : lookup (is_key c.key) os ≡ Some e.1 = ap (λ (k : Key). lookup (is_key k) os) (sym at) ∙ entry_found os sorted e stood in
+            not_meant s has e (new_takes (lookup (is_key c.key) os) e.1 found (quiet c there changed).0)
         by_case false cluster = refl
 
     fails_new_at : (s : Selector) → Has (selectors_of r) s → (w : Key × Option Data) → Has (trees_left_by cs) w → (x : Data) → w.1 ≡ Some x → meant s (w.0, x) ≡ false
@@ -120,28 +161,78 @@ module _ (os : List (Key × Data)) (cs : List PlainChange) where
     same_differs : differs (roles_in (placed_all (trees_left_by cs) os)) r ≡ differs (roles_in os) r
     same_differs = ap (λ (u : List PolicyRule). is_aggregated r && not (same_rules r.role.rules u)) same_union
 
-  pub covers_noted : (marks : List (List ℕ)) → Covers marks (roles_in os) → Covers (noted (roles_in os) marks cs) (roles_in (placed_all (trees_left_by cs) os))
-  covers_noted marks covers =
-      all_from (IsCovered (noted (roles_in os) marks cs) (roles_in (placed_all (trees_left_by cs) os))) (roles_in (placed_all (trees_left_by cs) os))
-      (λ r has d. by_own r has d (list_any (is_own r.name) cs) refl)
-    where
-      by_moved : (r : Labelled) → Has (roles_in os) r → differs (roles_in (placed_all (trees_left_by cs) os)) r ≡ true → (b : Bool) → list_any (is_moved (roles_in os) r) cs ≡ b
-          → is_marked (noted (roles_in os) marks cs) r.name ≡ true
-      by_moved r there d true is = noted_moved (roles_in os) marks cs r there is
-      by_moved r there d false is =
-          noted_keeps (roles_in os) marks cs r.name (all_at (IsCovered marks (roles_in os)) (roles_in os) r covers there (sym (same_differs r is) ∙ d))
+  module _ (t : Tracked) (covers : Covers t (roles_in os)) where
+    abbrev after : List (Key × Data)
+    after = placed_all (trees_left_by cs) os
 
-      by_own : (r : Labelled) → Has (roles_in (placed_all (trees_left_by cs) os)) r → differs (roles_in (placed_all (trees_left_by cs) os)) r ≡ true → (b : Bool) → list_any (is_own r.name) cs ≡ b
-          → is_marked (noted (roles_in os) marks cs) r.name ≡ true
-      by_own r has d true is = noted_own (roles_in os) marks cs r.name is
-      by_own r has d false is = by_moved r (old_role r has is) d (list_any (is_moved (roles_in os) r) cs) refl
+    -- a role that stood is known, and marked if it differs
+    module _ (e : Key × Data) (there : Has os e) (is : is_cluster_role e.0 ≡ true) where
+      covered : IsCovered t (roles_in os) (labelled_tree e)
+      covered = all_at (IsCovered t (roles_in os)) (roles_in os) (labelled_tree e) covers (has_mapped labelled_tree (filter (λ e. is_cluster_role e.0) os) e (has_kept (λ (e : Key × Data). is_cluster_role e.0) os e there is))
 
--- the same of roles that are those of the objects
-pub note_covers : (roles : List Labelled) (os : List (Key × Data)) (cs : List PlainChange) (old new : List (List ℕ))
-    → new ≡ noted roles old cs → roles ≡ roles_in os → Covers old (roles_in os) → Covers new (roles_in (placed_all (trees_left_by cs) os))
-note_covers roles os cs old new made are covers = rw (made, are) (covers_noted os cs old covers)
+      known : is_aggregated (labelled_tree e) ≡ true → is_marked (learned t cs).takers e.0.name ≡ true
+      known aggregated = (learned_keeps t cs).1 e.0.name (covered.0 aggregated)
 
--- marks that are more cover as well
-pub keeps_covers : (old new : List (List ℕ)) (roles : List Labelled) → Keeps old new → Covers old roles → Covers new roles
+      marked : (b : Bool) → list_any (is_moved os (labelled_tree e)) cs ≡ b → differs (roles_in after) (labelled_tree e) ≡ true
+          → is_marked (mark_all os (takers_in os (learned t cs).takers) (learned t cs).marks cs) e.0.name ≡ true
+      marked true moved d =
+          let aggregated = (and_true (is_aggregated (labelled_tree e)) _ d).0 in
+          all_mark os (takers_in os (learned t cs).takers) (learned t cs).marks cs (labelled_tree e)
+          (taker_has os (learned t cs).takers e.0.name (labelled_tree e) (role_found os sorted e there is) (known aggregated)) moved
+      marked false still d =
+          let before : differs (roles_in os) (labelled_tree e) ≡ true = sym (same_differs (labelled_tree e) still) ∙ d in
+          all_keep os (takers_in os (learned t cs).takers) (learned t cs).marks cs e.0.name ((learned_keeps t cs).0 e.0.name (covered.1 before))
+
+      stood : IsCovered (noted os t cs) (roles_in after) (labelled_tree e)
+      unfolding noted
+      stood = (known, marked (list_any (is_moved os (labelled_tree e)) cs) refl)
+
+    leaves_rule : (c : PlainChange) (x : Data) → c.new ≡ Some x → is_aggregated (labelled_at c.key.name x) ≡ true → has_rule c.new ≡ true
+    leaves_rule c x puts is = rw puts is
+
+    -- so is one that a change leaves
+    left : (c : PlainChange) (x : Data) → Has cs c → c.new ≡ Some x → is_cluster_role c.key ≡ true → IsCovered (noted os t cs) (roles_in after) (labelled_at c.key.name x)
+    unfolding noted
+    left c x there puts is =
+        let taker : is_aggregated (labelled_at c.key.name x) ≡ true → is_taker c ≡ true = λ aggregated. both_true (is_cluster_role c.key) (has_rule c.new) is (leaves_rule c x puts aggregated) in (
+          λ aggregated. (learned_has t cs c there (taker aggregated)).1,
+          λ d. all_keep os (takers_in os (learned t cs).takers) (learned t cs).marks cs c.key.name (learned_has t cs c there (taker (and_true (is_aggregated (labelled_at c.key.name x)) _ d).0)).0,
+        )
+
+    Covered : Labelled → Type 0
+    Covered r = IsCovered (noted os t cs) (roles_in after) r
+
+    left_at : (e : Key × Data) (w : Key × Option Data) → Has (trees_left_by cs) w → (x : Data) → w.1 ≡ Some x → e ≡ (w.0, x) → is_cluster_role e.0 ≡ true → Covered (labelled_tree e)
+    unfolding Covered
+    left_at e w there x puts at is =
+        let made = mapped_of (λ (c : PlainChange). let q : Key × Option Data = (c.key, c.new) in q) cs w there in
+        let key : e.0 ≡ made.0.key = ap (λ (q : Key × Data). q.0) at ∙ sym (ap (λ (q : Key × Option Data). q.0) made.1.1) in
+        let new : made.0.new ≡ Some x = ap (λ (q : Key × Option Data). q.1) made.1.1 ∙ puts in
+        let tree : e.1 ≡ x = ap (λ (q : Key × Data). q.1) at in
+        rw (key, tree) (left made.0 x made.1.0 new (rw (← key) is))
+
+    by_place : (e : Key × Data) → is_cluster_role e.0 ≡ true
+        → Has os e ⊎ ((w : Key × Option Data) × (Has (trees_left_by cs) w × ((x : Data) × ((w.1 ≡ Some x) × (e ≡ (w.0, x)))))) → Covered (labelled_tree e)
+    unfolding Covered
+    by_place e is (inl there) = stood e there is
+    by_place e is (inr new) = left_at e new.0 new.1.0 new.1.1.0 new.1.1.1.0 new.1.1.1.1 is
+
+    by_entry : (r : Labelled) → (e : Key × Data) × (Has (filter (λ e. is_cluster_role e.0) after) e × (labelled_tree e ≡ r)) → Covered r
+    by_entry r found =
+        let kept = kept_of (λ (e : Key × Data). is_cluster_role e.0) after found.0 found.1.0 in
+        subst Covered found.1.1 (by_place found.0 kept.1 (placed_all_has (trees_left_by cs) os found.0 kept.0))
+
+    pub covers_noted : Covers (noted os t cs) (roles_in after)
+    unfolding Covered
+    covers_noted = all_from (IsCovered (noted os t cs) (roles_in after)) (roles_in after) (λ r has. by_entry r (mapped_of labelled_tree (filter (λ e. is_cluster_role e.0) after) r has))
+
+-- the same of a store
+pub note_covers : (s : State) (cs : List PlainChange) (old new : Tracked) → IsStore s → new ≡ noted (plain_of s).objects old cs → Covers old (roles_in (plain_of s).objects)
+    → Covers new (roles_in (placed_all (trees_left_by cs) (plain_of s).objects))
+note_covers s cs old new is made covers = rw made (covers_noted (plain_of s).objects cs (rw (keys_of_trees (objects s)) is.ordered) old covers)
+
+-- names that are more cover as well
+pub keeps_covers : (old new : Tracked) (roles : List Labelled) → KeepsBoth old new → Covers old roles → Covers new roles
 keeps_covers old new roles keeps covers =
-    all_from (IsCovered new roles) roles (λ r has d. keeps r.name (all_at (IsCovered old roles) roles r covers has d))
+    all_from (IsCovered new roles) roles
+    (λ r has. let covered = all_at (IsCovered old roles) roles r covers has in ((λ is. keeps.1 r.name (covered.0 is)), (λ d. keeps.0 r.name (covered.1 d))))

@@ -17,7 +17,7 @@ is_equal Less h = absurd (cc h)
 is_equal Equal h = refl
 is_equal Greater h = absurd (cc h)
 
-key_is : (k l : Key) → is_key k l ≡ true → k ≡ l
+pub key_is : (k l : Key) → is_key k l ≡ true → k ≡ l
 key_is k l h = key_same k l (is_equal (key_cmp k l) h)
 
 module _ {X : Type 0} where

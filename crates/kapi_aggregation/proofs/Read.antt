@@ -76,7 +76,7 @@ is_equal Greater h = absurd (cc h)
 compares : (a b : List ℕ) → a ≡ b → slice_cmp nat_cmp a b ≡ Equal
 compares a b same = is_equal (slice_cmp nat_cmp a b) (is_eq-slice_cmp a b ∙ ap (λ (s : List ℕ). bytes_eq s b) same ∙ itself b)
 
-empty_is : (xs : List ℕ) → (length xs == 0) ≡ true → xs ≡ []
+pub empty_is : (xs : List ℕ) → (length xs == 0) ≡ true → xs ≡ []
 empty_is [] h = refl
 empty_is (x ∷ xs) h =
     let P : Bool → Type 0 = λ b. b ≡ true in
@@ -117,7 +117,7 @@ roles_ordered (e ∷ es) h = by_case (is_cluster_role e.0) refl (roles_ordered e
     by_case true is rest = (all_names e.0 is es h.0, rest)
     by_case false is rest = rest
 
-keys_of_trees : (os : List (Key × Object)) → keys_of (trees os) ≡ keys_of os
+pub keys_of_trees : (os : List (Key × Object)) → keys_of (trees os) ≡ keys_of os
 keys_of_trees [] = refl
 keys_of_trees (o ∷ os) = ap (λ (ks : List Key). o.0 ∷ ks) (keys_of_trees os)
 

@@ -1,4 +1,4 @@
--- The next turn, found among the marked roles, and the marks that it leaves.
+-- The next turn, found among the marked roles, and the names that it leaves.
 use Rattle.std.proofs.Common.{◌≡◌, inl, inr, ℕ, List, [], ◌∷◌, Bool, true, false, cond, ◌||◌, Option, Some, None, refl, sym, ap, ◌∙◌}
 use Rattle.std.proofs.lemmas.Map.Text.{is_eq-slice_cmp}
 use Rattle.std.specs.Cmp.Lexicographic.{slice_cmp}
@@ -10,30 +10,31 @@ use Rattle.std.specs.declared.cmp.Ordering.{Ordering}
 use Rattle.std.specs.declared.cmp.Ordering.TheVariants.{Less, Equal, Greater}
 use Rattle.kapi_aggregation.specs.Roles.{IsInNameOrder, Labelled, names_of}
 use Rattle.kapi_aggregation.specs.Turns.{differs, first_some, next, turn_at, turn_of}
-use Rattle.kapi_aggregation.specs.Marks.{Covers, IsCovered, is_marked, marks_after, marks_from, turn_if_marked}
+use Rattle.kapi_aggregation.specs.Marks.{Covers, IsCovered, Tracked, is_marked, left_by, marks_after, marks_from, names_of_takers, turn_if_marked}
 use Rattle.kapi_aggregation.specs.declared.turn.Turn.{Turn}
 use Rattle.kapi_aggregation.proofs.Lists.{all_at, all_from, itself, same_text}
+use Rattle.kapi_aggregation.proofs.Marking.{takers_named}
 use Rattle.kapi_aggregation.specs.Members.{Has}
 
 -- ---- the first marked one is the first one
 
-found_among : (marks : List (List ℕ)) (roles rs : List Labelled) → AllByRecursion (IsCovered marks roles) rs
-    → first_some (turn_if_marked marks roles) rs ≡ first_some (turn_at roles) rs
-found_among marks roles [] covers = refl
-found_among marks roles (r ∷ rs) covers = ap (λ (o : Option Turn). option_or o (first_some (turn_if_marked marks roles) rs)) here ∙ ap (option_or (turn_at roles r)) (found_among marks roles rs covers.1)
+found_among : (t : Tracked) (roles rs : List Labelled) → AllByRecursion (IsCovered t roles) rs
+    → first_some (turn_if_marked t.marks roles) rs ≡ first_some (turn_at roles) rs
+found_among t roles [] covers = refl
+found_among t roles (r ∷ rs) covers = ap (λ (o : Option Turn). option_or o (first_some (turn_if_marked t.marks roles) rs)) here ∙ ap (option_or (turn_at roles r)) (found_among t roles rs covers.1)
   where
-    by_case : (d m : Bool) → differs roles r ≡ d → is_marked marks r.name ≡ m
+    by_case : (d m : Bool) → differs roles r ≡ d → is_marked t.marks r.name ≡ m
         → cond m (cond d (Some (turn_of roles r)) None) None ≡ cond d (Some (turn_of roles r)) None
     by_case true true is marked = refl
-    by_case true false is marked = absurd (let never = covers.0 is in cc)
+    by_case true false is marked = absurd (let never = covers.0.1 is in cc)
     by_case false true is marked = refl
     by_case false false is marked = refl
 
-    here : turn_if_marked marks roles r ≡ turn_at roles r
-    here = by_case (differs roles r) (is_marked marks r.name) refl refl
+    here : turn_if_marked t.marks roles r ≡ turn_at roles r
+    here = by_case (differs roles r) (is_marked t.marks r.name) refl refl
 
-pub found_where_covered : (marks : List (List ℕ)) (roles : List Labelled) → Covers marks roles → first_some (turn_if_marked marks roles) roles ≡ next roles
-found_where_covered marks roles covers = found_among marks roles roles covers
+pub found_where_covered : (t : Tracked) (roles : List Labelled) → Covers t roles → first_some (turn_if_marked t.marks roles) roles ≡ next roles
+found_where_covered t roles covers = found_among t roles roles covers
 
 -- without a mark none is found
 pub none_unmarked : (roles rs : List Labelled) → first_some (turn_if_marked [] roles) rs ≡ None
@@ -68,15 +69,16 @@ from_keeps (m ∷ ms) name n on h = by_case (is_eq (slice_cmp nat_cmp n m)) (is_
     by_case false true same kept rest g = rw same (rest g)
     by_case false false same kept rest g = rest g
 
--- where no role differs, no mark is needed
-none_differs : (roles rs : List Labelled) → first_some (turn_at roles) rs ≡ None → AllByRecursion (IsCovered [] roles) rs
-none_differs roles [] h = tt
-none_differs roles (r ∷ rs) h = by_case (differs roles r) refl (none_differs roles rs) h
+-- where none is to be turned, no role differs
+none_differs : (roles rs : List Labelled) → first_some (turn_at roles) rs ≡ None → (r : Labelled) → Has rs r → differs roles r ≡ true → ⊥
+none_differs roles [] h r has d = absurd has
+none_differs roles (y ∷ rs) h r has d = by_case (differs roles y) refl (none_differs roles rs) h has
   where
-    by_case : (d : Bool) → differs roles r ≡ d → (first_some (turn_at roles) rs ≡ None → AllByRecursion (IsCovered [] roles) rs) → option_or (cond d (Some (turn_of roles r)) None) (first_some (turn_at roles) rs) ≡ None
-        → AllByRecursion (IsCovered [] roles) (r ∷ rs)
-    by_case true is rest none = absurd (cc none)
-    by_case false is rest none = ((λ d. absurd (cc (d, is))), rest none)
+    by_case : (b : Bool) → differs roles y ≡ b → (first_some (turn_at roles) rs ≡ None → (q : Labelled) → Has rs q → differs roles q ≡ true → ⊥)
+        → option_or (cond b (Some (turn_of roles y)) None) (first_some (turn_at roles) rs) ≡ None → Has (y ∷ rs) r → ⊥
+    by_case true is rest none there = cc none
+    by_case false is rest none (inl same) = let never : differs roles r ≡ false = rw (← same) is in cc (never, d)
+    by_case false is rest none (inr there) = rest none r there d
 
 -- the names of the others are above the first
 above : (name : List ℕ) (rs : List Labelled) → AllByRecursion (λ m. slice_cmp nat_cmp name m ≡ Less) (names_of rs) → (r : Labelled) → Has rs r → is_le (slice_cmp nat_cmp name r.name) ≡ true
@@ -105,17 +107,22 @@ on_from roles (y ∷ rs) turn sorted is r has d = by_case (differs roles y) refl
     by_case false here rest found (inl same) = absurd (let never : differs roles r ≡ false = rw (← same) here in cc)
     by_case false here rest found (inr there) = rest found there
 
--- the marks that stay after the turn cover the roles as well
-pub turn_covers : (marks : List (List ℕ)) (roles : List Labelled) → IsInNameOrder roles → Covers marks roles → (turn : Option Turn) → turn ≡ next roles
-    → Covers (marks_after marks turn) roles
-turn_covers marks roles sorted covers None is = none_differs roles roles (sym is)
-turn_covers marks roles sorted covers (Some turn) is =
-    all_from (IsCovered (marks_from marks turn.name) roles) roles
-    (λ r has d. from_keeps marks turn.name r.name (on_from roles roles turn sorted (sym is) r has d) (all_at (IsCovered marks roles) roles r covers has d))
+-- the marks that stay after the turn are of all that differ
+marks_stay : (t : Tracked) (roles : List Labelled) → IsInNameOrder roles → Covers t roles → (turn : Option Turn) → turn ≡ next roles
+    → (r : Labelled) → Has roles r → differs roles r ≡ true → is_marked (marks_after t.marks turn) r.name ≡ true
+marks_stay t roles sorted covers None is r has d = absurd (none_differs roles roles (sym is) r has d)
+marks_stay t roles sorted covers (Some turn) is r has d =
+    let marked = all_at (IsCovered t roles) roles r covers has in from_keeps t.marks turn.name r.name (on_from roles roles turn sorted (sym is) r has d) (marked.1 d)
+
+-- what is kept after the turn covers the roles as well
+pub turn_covers : (t : Tracked) (roles : List Labelled) → IsInNameOrder roles → Covers t roles → (turn : Option Turn) → turn ≡ next roles → Covers (left_by t roles turn) roles
+turn_covers t roles sorted covers turn is =
+    all_from (IsCovered (left_by t roles turn) roles) roles (λ r has. ((λ aggregated. takers_named [] roles r has aggregated), marks_stay t roles sorted covers turn is r has))
 
 -- the same, as a call makes it
-pub next_covers : (old new : List (List ℕ)) (slice roles : List Labelled) (turn : Option Turn) → slice ≡ roles → IsInNameOrder roles
-    → turn ≡ first_some (turn_if_marked old slice) slice → new ≡ marks_after old turn → Covers old roles → Covers new roles
-next_covers old new slice roles turn same order is left covers =
-    rw (left) (turn_covers old roles order covers turn
-    (is ∙ ap (λ (rs : List Labelled). first_some (turn_if_marked old rs) rs) same ∙ found_where_covered old roles covers))
+pub next_covers : (old new : Tracked) (slice roles : List Labelled) (turn : Option Turn) → slice ≡ roles → IsInNameOrder roles
+    → turn ≡ first_some (turn_if_marked old.marks slice) slice → new.marks ≡ marks_after old.marks turn → new.takers ≡ names_of_takers roles → Covers old roles → Covers new roles
+next_covers old new slice roles turn same order is marks takers covers =
+    let left : new ≡ left_by old roles turn = λ i. record { marks = marks i; takers = takers i } in
+    rw left (turn_covers old roles order covers turn
+    (is ∙ ap (λ (rs : List Labelled). first_some (turn_if_marked old.marks rs) rs) same ∙ found_where_covered old roles covers))

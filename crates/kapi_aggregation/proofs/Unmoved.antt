@@ -1,4 +1,4 @@
--- Changes that are of no cluster role leave the cluster roles as they are; and no marks, where no role differs, are enough.
+-- Changes that are of no cluster role leave the cluster roles as they are; and no names, where no role is aggregated, are enough.
 use Rattle.std.proofs.Common.{◌≡◌, ◌==◌, ℕ, List, [], ◌∷◌, Bool, true, false, not, ◌||◌, length, Option, None, refl, sym, ap, ◌∙◌, map}
 use Rattle.std.proofs.Math.Dec.{eqb-suc-zero}
 use Rattle.std.specs.List.{list_any}
@@ -7,10 +7,11 @@ use Rattle.kapi_store.specs.Changes.{placed_all}
 use Rattle.kapi_store.specs.Plain.{PlainChange, plain_change, trees_left_by}
 use Rattle.kapi_store.specs.declared.change.Change.{Change}
 use Rattle.kapi_store.specs.declared.key.Key.{Key}
-use Rattle.kapi_aggregation.specs.Roles.{Labelled, is_cluster_role, labelled_tree, roles_in}
-use Rattle.kapi_aggregation.specs.Turns.{next}
-use Rattle.kapi_aggregation.specs.Marks.{Covers}
-use Rattle.kapi_aggregation.proofs.Lists.{mapped_of, none_at}
+use Rattle.kapi_aggregation.specs.Roles.{Labelled, is_aggregated, is_cluster_role, labelled_tree, roles_in}
+use Rattle.kapi_aggregation.specs.Turns.{differs, first_some, next}
+use Rattle.kapi_aggregation.specs.Unions.{same_rules, union_for}
+use Rattle.kapi_aggregation.specs.Marks.{Covers, IsCovered, NoneAggregated, Tracked, turn_if_marked}
+use Rattle.kapi_aggregation.proofs.Lists.{all_at, all_from, and_true, mapped_of, none_at}
 use Rattle.kapi_aggregation.specs.Members.{Has}
 use Rattle.kapi_aggregation.proofs.Placed.{placed_all_filter}
 use Rattle.kapi_aggregation.proofs.Turning.{found_where_covered, none_unmarked}
@@ -39,11 +40,26 @@ unmoved cs os none =
     (λ w there e stood at. ap is_cluster_role at ∙ elsewhere cs none w there))
 
 -- so marks that cover them cover them still
-pub unmoved_covers : (marks : List (List ℕ)) (cs : List Change) (os : List (Key × Data)) → list_any (λ c. is_cluster_role c.key) cs ≡ false
-    → Covers marks (roles_in os) → Covers marks (roles_in (placed_all (trees_left_by (map plain_change cs)) os))
-unmoved_covers marks cs os none covers = rw (unmoved (map plain_change cs) os (as_data cs ∙ none)) covers
+pub unmoved_covers : (t : Tracked) (cs : List Change) (os : List (Key × Data)) → list_any (λ c. is_cluster_role c.key) cs ≡ false
+    → Covers t (roles_in os) → Covers t (roles_in (placed_all (trees_left_by (map plain_change cs)) os))
+unmoved_covers t cs os none covers = rw (unmoved (map plain_change cs) os (as_data cs ∙ none)) covers
 
 -- where no marks are enough, no turn is due
-pub none_due : (marks : List (List ℕ)) (roles : List Labelled) → not (length marks == 0) ≡ false → Covers marks roles → None ≡ next roles
-none_due [] roles empty covers = sym (none_unmarked roles roles) ∙ found_where_covered [] roles covers
-none_due (m ∷ ms) roles some covers = absurd (let is : not (length (m ∷ ms) == 0) ≡ true = ap not (eqb-suc-zero (length ms)) in cc (some, is))
+pub none_due : (t : Tracked) (roles : List Labelled) → not (length t.marks == 0) ≡ false → Covers t roles → None ≡ next roles
+none_due t roles none covers = by_marks t.marks refl none
+  where
+    by_marks : (ms : List (List ℕ)) → t.marks ≡ ms → not (length ms == 0) ≡ false → None ≡ next roles
+    by_marks [] is empty = sym (none_unmarked roles roles) ∙ ap (λ (ms : List (List ℕ)). first_some (turn_if_marked ms roles) roles) (sym is) ∙ found_where_covered t roles covers
+    by_marks (m ∷ ms) is some = absurd (let never : not (length (m ∷ ms) == 0) ≡ true = ap not (eqb-suc-zero (length ms)) in cc (some, never))
+
+-- ---- cluster roles of which none is aggregated
+
+none_differ : (roles : List Labelled) (r : Labelled) → is_aggregated r ≡ false → differs roles r ≡ true → ⊥
+none_differ roles r none d =
+    let parts = and_true (is_aggregated r) (not (same_rules r.role.rules (union_for roles r))) d in cc (none, parts.0)
+
+-- any names cover them
+pub none_covered : (t : Tracked) (roles : List Labelled) → NoneAggregated roles → Covers t roles
+none_covered t roles none =
+    all_from (IsCovered t roles) roles
+    (λ r has. let fails = all_at (λ (q : Labelled). is_aggregated q ≡ false) roles r none has in ((λ is. absurd (cc (fails, is))), (λ d. absurd (none_differ roles r fails d))))

@@ -29,9 +29,13 @@ is_cluster_role k = bytes_eq k.group rbac_group && (bytes_eq k.resource (codes "
 abbrev pub labels_in : Data → Option Data
 labels_in tree = in_metadata (codes "labels") tree
 
+-- the cluster role of a name that an object is
+abbrev pub labelled_at : List ℕ → Data → Labelled
+labelled_at name tree = record { name = name; labels = labels_in tree; role = cluster_role_of tree }
+
 -- the cluster role that the object at a key is
 abbrev pub labelled_tree : Key × Data → Labelled
-labelled_tree e = record { name = e.0.name; labels = labels_in e.1; role = cluster_role_of e.1 }
+labelled_tree e = labelled_at e.0.name e.1
 
 -- the cluster roles among some objects, in the order of their keys
 abbrev pub roles_in : List (Key × Data) → List Labelled

@@ -1,21 +1,26 @@
 //! The cluster roles of a store.
-ghost use Rattle.std.specs.Prelude.{◌≡◌, [], codes, map, IfOk};
+ghost use Rattle.std.specs.Prelude.{◌≡◌, [], codes, is_some, map, option_map, IfOk};
 ghost use Rattle.std.proofs.Props.{props};
 ghost use Rattle.kapi_names.specs.Kinds.{rbac_group};
 ghost use Rattle.kapi_names.specs.Selector.{labels_of};
 ghost use Rattle.kapi_object.specs.Object.{tree_of};
 ghost use Rattle.kapi_store.specs.Plain.{plain_of, trees};
 ghost use Rattle.kapi_store.specs.Listing.{shown};
-ghost use Rattle.kapi_aggregation.specs.Roles.{IsInNameOrder, is_aggregated as is_aggregated_of, is_cluster_role as is_cluster_role_key, labelled_tree, roles_in, selectors_of};
+ghost use Rattle.kapi_rbac_types.specs.Trees.{cluster_role_of};
+ghost use Rattle.kapi_aggregation.specs.Marks.{role_at, takers_in};
+ghost use Rattle.kapi_aggregation.specs.Rewriting.{role_key as role_key_of};
+ghost use Rattle.kapi_aggregation.specs.Roles.{IsInNameOrder, is_aggregated as is_aggregated_of, is_cluster_role as is_cluster_role_key, labelled_at, labelled_tree, roles_in, selectors_of};
 ghost use Rattle.kapi_aggregation.specs.Views.{labelled};
 
 use kapi_names::{AggregationRule, Labels, PolicyRule, RBAC_GROUP, ResourceRow, Schema, Selector};
+use kapi_object::Object;
 use kapi_object::rules_form::read_rules;
 use kapi_object::selector_form::read_aggregation;
 use kapi_store::{Key, Listed, Store};
-use kapi_text::{Memory, Sequence, Text};
+use kapi_text::{Memory, Sequence, Text, TryCopy};
 use serde_json::Value;
 use std::alloc::Global;
+use std::collections::BTreeSet;
 
 /// A cluster role with its name and its labels. Its rules are read where they are asked for, since a write looks at selectors and
 /// labels alone.
@@ -96,17 +101,73 @@ fn everything(alloc: Global) -> Selector
     }
 }
 
-/// The cluster role that a listed object is.
-fn named_role<'a>(alloc: Global, listed: &Listed<'a>) -> Result<NamedRole<'a>, Memory>
-    ensures { IfOk result (λ r. labelled r ≡ labelled_tree (listed.now.key.now, tree_of listed.now.object.now)) }
+/// The place of the cluster role of a name.
+pub(crate) fn role_key(alloc: Global, name: &Text) -> Result<Key, Memory>
+    ensures { IfOk result (λ k. k ≡ role_key_of name.now) }
 {
-    let object = listed.object.get();
+    Ok(Key {
+        group: Text::copy_of(alloc, RBAC_GROUP)?,
+        resource: Text::copy_of(alloc, "clusterroles")?,
+        namespace: Text::copy_of(alloc, "")?,
+        name: name.copy(alloc)?,
+    })
+}
+
+/// Whether the object has an aggregation rule.
+pub(crate) fn is_aggregated(alloc: Global, object: &Object) -> Result<bool, Memory>
+    ensures { IfOk result (λ b. b ≡ is_some (cluster_role_of (tree_of object.now)).aggregation_rule) }
+{
+    Ok(read_aggregation(alloc, object.as_tree())?.is_some())
+}
+
+/// The cluster role of the name that the object is.
+fn role_of<'a>(alloc: Global, name: &'a Text, object: &'a Object) -> Result<NamedRole<'a>, Memory>
+    ensures { IfOk result (λ r. labelled r ≡ labelled_at name.now (tree_of object.now)) }
+{
     Ok(NamedRole {
-        name: &listed.key.name,
+        name,
         labels: object.labels(),
         aggregation_rule: read_aggregation(alloc, object.as_tree())?,
         tree: object.as_tree(),
     })
+}
+
+/// The cluster role that a listed object is.
+fn named_role<'a>(alloc: Global, listed: &Listed<'a>) -> Result<NamedRole<'a>, Memory>
+    ensures { IfOk result (λ r. labelled r ≡ labelled_tree (listed.now.key.now, tree_of listed.now.object.now)) }
+{
+    role_of(alloc, &listed.key.name, listed.object.get())
+}
+
+/// The cluster role of the name that stands in the store, if it is there.
+fn role_named<'a>(
+    alloc: Global,
+    store: &'a Store,
+    name: &'a Text,
+) -> Result<Option<NamedRole<'a>>, Memory>
+    ensures { IfOk result (λ o. option_map labelled o ≡ role_at (plain_of store.now).objects name.now) }
+{
+    match store.get(&role_key(alloc, name)?) {
+        Some(object) => Ok(Some(role_of(alloc, name, object)?)),
+        None => Ok(None),
+    }
+}
+
+/// The cluster roles of the names that stand in the store. It looks at no others.
+pub(crate) fn roles_named<'a>(
+    alloc: Global,
+    store: &'a Store,
+    names: &'a BTreeSet<Text>,
+) -> Result<Vec<NamedRole<'a>>, Memory>
+    ensures { IfOk result (λ v. map labelled v.items ≡ takers_in (plain_of store.now).objects names.now.keys) }
+{
+    let mut roles = Vec::with_capacity(alloc, names.len())?;
+    for name in names {
+        if let Some(role) = role_named(alloc, store, name)? {
+            roles.push(role)?;
+        }
+    }
+    Ok(roles)
 }
 
 /// The cluster roles among some objects of a list, in its order.

@@ -1,35 +1,53 @@
 //! Which aggregated cluster roles may differ from their unions.
-ghost use Rattle.std.specs.Prelude.{◌≡◌, map, IfOk};
+ghost use Rattle.std.specs.Prelude.{◌≡◌, map, IfOk, OnOk, option_map};
 ghost use Rattle.std.specs.Cmp.Lexicographic.{slice_cmp};
 ghost use Rattle.std.specs.List.{list_any};
 ghost use Rattle.std.specs.Ordering.{is_le, nat_cmp};
 ghost use Rattle.kapi_names.specs.Selector.{labels_of};
-ghost use Rattle.kapi_aggregation.specs.Marks.{marks_from};
+ghost use Rattle.kapi_object.specs.Object.{tree_of};
+ghost use Rattle.kapi_store.specs.Plain.{plain_change, plain_of};
+ghost use Rattle.kapi_aggregation.specs.Marks.{Keeps, is_taker as is_taker_change, mark_all, mark_change, mark_changed, mark_object, mark_takers, marks_from, names_of_takers, with_mark};
 ghost use Rattle.kapi_aggregation.specs.Roles.{is_cluster_role as is_cluster_role_key, takes_from as takes_from_labels};
 ghost use Rattle.kapi_aggregation.specs.Views.{labelled};
 
-use crate::roles::{ClusterRoles, NamedRole, is_cluster_role};
+use crate::roles::{ClusterRoles, NamedRole, is_aggregated, is_cluster_role, roles_named};
 use crate::turn::{Turn, turn_at};
 use kapi_names::Labels;
+use kapi_object::Object;
 use kapi_store::{Change, Store};
 use kapi_text::{Memory, Text, TryCopy};
 use std::alloc::Global;
 use std::collections::BTreeSet;
 use std::marker::Model;
 
-/// The names of the cluster roles that may differ from their unions: those that are marked.
+/// The names of the cluster roles that may differ from their unions, and of those that take rules from others, so that a write looks at
+/// these alone.
 #[derive(Debug, Drop)]
 pub struct Tracker {
     alloc: Global,
     marks: BTreeSet<Text>,
+    /// The aggregated cluster roles, and maybe some that were.
+    takers: BTreeSet<Text>,
 }
 
 impl Model for Tracker {
-    ghost use Rattle.std.specs.Prelude.{List, ℕ};
+    ghost use Rattle.kapi_aggregation.specs.Marks.{Tracked};
 
-    ghost Value = { List (List ℕ) };
+    ghost Value = { Tracked };
 
-    ghost view = { λ t. t.marks.keys };
+    ghost view = { λ t. record { marks = t.marks.keys; takers = t.takers.keys } };
+}
+
+/// Puts the name among the others.
+#[tactic(auto, using(crate::proofs::Marking::with_mark_keeps))]
+fn put_name(alloc: Global, names: &mut BTreeSet<Text>, name: &Text) -> Result<(), Memory>
+    ensures put { OnOk result (names.new.keys ≡ with_mark names.old.keys name.now) }
+    ensures kept { Keeps names.old.keys names.new.keys }
+{
+    if !names.contains(name) {
+        names.insert(name.copy(alloc)?)?;
+    }
+    Ok(())
 }
 
 /// Whether the role takes rules from one with these labels.
@@ -62,52 +80,153 @@ fn are_of_roles(changes: &[Change]) -> bool
     changes.iter().any(|change| is_cluster_role(&change.key))
 }
 
+/// Whether the change leaves an aggregated cluster role.
+fn is_taker(alloc: Global, change: &Change) -> Result<bool, Memory>
+    ensures { IfOk result (λ b. b ≡ is_taker_change (plain_change change.now)) }
+{
+    match &change.new {
+        Some(object) => Ok(is_cluster_role(&change.key) && is_aggregated(alloc, object.get())?),
+        None => Ok(false),
+    }
+}
+
+/// The names of the aggregated ones among the roles.
+fn taker_names(alloc: Global, roles: &[NamedRole<'_>]) -> Result<BTreeSet<Text>, Memory>
+    ensures { IfOk result (λ s. s.keys ≡ names_of_takers (map labelled roles.now)) }
+{
+    let mut names = BTreeSet::new(alloc);
+    for role in roles {
+        if role.is_aggregated() {
+            put_name(alloc, &mut names, role.name)?;
+        }
+    }
+    Ok(names)
+}
+
+/// Marks the roles that take rules from one with these labels.
+#[tactic(auto, unfolding(crate::specs::Marks::mark_takers))]
+fn mark_by_labels(
+    alloc: Global,
+    marks: &mut BTreeSet<Text>,
+    roles: &[NamedRole<'_>],
+    labels: &Labels<'_>,
+) -> Result<(), Memory>
+    ensures marked { OnOk result (marks.new.keys ≡ mark_takers (map labelled roles.now) marks.old.keys (labels_of labels.now)) }
+    ensures kept { Keeps marks.old.keys marks.new.keys }
+{
+    for role in roles {
+        if takes_from(role, labels) {
+            put_name(alloc, marks, role.name)?;
+        }
+    }
+    Ok(())
+}
+
+/// Marks the roles that take rules from the object, if there is one.
+fn mark_by_object(
+    alloc: Global,
+    marks: &mut BTreeSet<Text>,
+    roles: &[NamedRole<'_>],
+    object: Option<&Object>,
+) -> Result<(), Memory>
+    ensures marked { OnOk result (marks.new.keys ≡ mark_object (map labelled roles.now) marks.old.keys (option_map (λ o. tree_of o.now) object.entry)) }
+    ensures kept { Keeps marks.old.keys marks.new.keys }
+{
+    match object {
+        Some(object) => mark_by_labels(alloc, marks, roles, &object.labels()),
+        None => Ok(()),
+    }
+}
+
+/// What a change leaves, if anything.
+fn left_object(change: &Change) -> Option<&Object>
+    ensures { option_map (λ o. tree_of o.now) result ≡ (plain_change change.now).new }
+{
+    match &change.new {
+        Some(object) => Some(object.get()),
+        None => None,
+    }
+}
+
+/// Marks the roles that take rules from a changed one, as it stands in the store or as the change leaves it.
+#[tactic(auto, unfolding(crate::specs::Marks::mark_changed))]
+fn mark_by_change(
+    alloc: Global,
+    marks: &mut BTreeSet<Text>,
+    roles: &[NamedRole<'_>],
+    store: &Store,
+    change: &Change,
+) -> Result<(), Memory>
+    ensures marked { OnOk result (marks.new.keys ≡ mark_changed (plain_of store.now).objects (map labelled roles.now) marks.old.keys (plain_change change.now)) }
+    ensures kept { Keeps marks.old.keys marks.new.keys }
+{
+    mark_by_object(alloc, marks, roles, store.get(&change.key))?;
+    mark_by_object(alloc, marks, roles, left_object(change))
+}
+
+/// The same of a change of a cluster role; one of anything else concerns none.
+fn mark_if_role(
+    alloc: Global,
+    marks: &mut BTreeSet<Text>,
+    roles: &[NamedRole<'_>],
+    store: &Store,
+    change: &Change,
+) -> Result<(), Memory>
+    ensures marked { OnOk result (marks.new.keys ≡ mark_change (plain_of store.now).objects (map labelled roles.now) marks.old.keys (plain_change change.now)) }
+    ensures kept { Keeps marks.old.keys marks.new.keys }
+{
+    if is_cluster_role(&change.key) {
+        mark_by_change(alloc, marks, roles, store, change)
+    } else {
+        Ok(())
+    }
+}
+
+/// The same of each change.
+fn mark_by_changes(
+    alloc: Global,
+    marks: &mut BTreeSet<Text>,
+    roles: &[NamedRole<'_>],
+    store: &Store,
+    changes: &[Change],
+) -> Result<(), Memory>
+    ensures marked { OnOk result (marks.new.keys ≡ mark_all (plain_of store.now).objects (map labelled roles.now) marks.old.keys (map plain_change changes.now)) }
+    ensures kept { Keeps marks.old.keys marks.new.keys }
+{
+    for change in changes {
+        mark_if_role(alloc, marks, roles, store, change)?;
+    }
+    Ok(())
+}
+
 impl Tracker {
-    ghost use Rattle.std.specs.Prelude.{◌≡◌, ◌==◌, List, [], length, map, not, None, option_map, IfOk, OnOk, OnErr};
-    ghost use Rattle.serde_json.specs.Data.{Data};
-    ghost use Rattle.kapi_object.specs.Object.{tree_of};
-    ghost use Rattle.kapi_names.specs.Selector.{labels_of};
+    ghost use Rattle.std.specs.Prelude.{◌≡◌, ◌==◌, List, [], length, map, not, None, IfOk, OnOk, OnErr};
     ghost use Rattle.kapi_store.specs.Changes.{placed_all};
     ghost use Rattle.kapi_store.specs.Plain.{plain_change, plain_of, trees_left_by};
-    ghost use Rattle.kapi_store.specs.declared.key.Key.{Key as StoreKey};
     ghost use Rattle.kapi_aggregation.specs.Roles.{Labelled, roles_in};
-    ghost use Rattle.kapi_aggregation.specs.Unions.{IsSettled};
     ghost use Rattle.kapi_aggregation.specs.Turns.{first_some, next as next_of};
-    ghost use Rattle.kapi_aggregation.specs.Marks.{Covers, CoversAsMuch, Keeps, mark_by_name, mark_change, mark_changed, mark_old, mark_takers, marks_after, marks_from, noted, turn_if_marked as turn_of_marked, with_mark};
+    ghost use Rattle.kapi_aggregation.specs.Marks.{Covers, CoversAsMuch, KeepsBoth, NoneAggregated, learn, learned, left_by, marks_after, noted, turn_if_marked as turn_of_marked};
     ghost use Rattle.kapi_aggregation.specs.Lent.{roles_of};
     ghost use Rattle.kapi_aggregation.specs.Views.{labelled};
 
-    /// No mark: as for cluster roles that all equal their unions.
-    #[tactic(auto, using(crate::proofs::Equal::settled_covers))]
+    /// No name: as for a store without aggregated cluster roles.
+    #[tactic(auto, using(crate::proofs::Unmoved::none_covered))]
     pub fn new(alloc: Global) -> Tracker
-        ensures empty { result ≡ [] }
-        ensures covers { (roles : List Labelled) → IsSettled roles → Covers result roles }
+        ensures no_marks { result.marks ≡ [] }
+        ensures no_takers { result.takers ≡ [] }
+        ensures covers { (roles : List Labelled) → NoneAggregated roles → Covers result roles }
     {
         Tracker {
             alloc,
             marks: BTreeSet::new(alloc),
+            takers: BTreeSet::new(alloc),
         }
     }
 
-    /// Marks the cluster roles that may differ from their unions after some changes, given the roles before them: those that
-    /// are changed, and the aggregated ones that take rules from them, as they stood or as they are left.
+    /// Marks what some changes of the store concern, before they are made: the aggregated cluster roles that they leave, and those that
+    /// take rules from a changed one, as it stands or as it is left. Where none of them is of a cluster role, nothing is read.
     ///
-    /// Marks that stand are kept, so that changes which are then not made do no harm; so are they where memory runs out.
-    #[tactic(auto, using(crate::proofs::Noting::note_covers, crate::proofs::Noting::keeps_covers))]
-    pub fn note(&mut self, roles: &ClusterRoles<'_>, changes: &[Change]) -> Result<(), Memory>
-        ensures noted { OnOk result (self.new ≡ noted (roles_of roles.now) self.old (map plain_change changes.now)) }
-        ensures kept { Keeps self.old self.new }
-
-        // what was covered is covered still, and so are the roles after the changes
-        ensures covers { CoversAsMuch self.old self.new }
-        ensures covers_after { OnOk result ((os : List (StoreKey × Data)) → roles_of roles.now ≡ roles_in os → Covers self.old (roles_in os)
-            → Covers self.new (roles_in (placed_all (trees_left_by (map plain_change changes.now)) os))) }
-    {
-        self.note_all(roles.as_slice(), changes)?;
-        Ok(())
-    }
-
-    /// Marks what some changes of the store concern, before they are made. Where none of them is of a cluster role, nothing is read.
+    /// Names that are kept stay, so that changes which are then not made do no harm; so do they where memory runs out.
     pub fn note_write(&mut self, store: &Store, changes: &[Change]) -> Result<(), Memory>
         // what was covered is covered still, and so are the roles after the changes
         ensures covers { CoversAsMuch self.old self.new }
@@ -117,96 +236,46 @@ impl Tracker {
         if !are_of_roles(changes) {
             return Ok(());
         }
-        let roles = ClusterRoles::read(self.alloc, store)?;
-        self.note(&roles, changes)
+        let _revision = store.revision();
+        self.note(store, changes)?;
+        Ok(())
     }
 
-    fn note_all(&mut self, roles: &[NamedRole<'_>], changes: &[Change]) -> Result<(), Memory>
-        ensures noted { OnOk result (self.new ≡ noted (map labelled roles.now) self.old (map plain_change changes.now)) }
-        ensures kept { Keeps self.old self.new }
+    /// The same of changes among which some are of cluster roles.
+    #[tactic(auto, unfolding(crate::specs::Marks::noted))]
+    fn note(&mut self, store: &Store, changes: &[Change]) -> Result<(), Memory>
+        ensures noted { OnOk result (self.new ≡ noted (plain_of store.now).objects self.old (map plain_change changes.now)) }
+        ensures kept { KeepsBoth self.old self.new }
+    {
+        self.learn_all(changes)?;
+        let roles = roles_named(self.alloc, store, &self.takers)?;
+        mark_by_changes(
+            self.alloc,
+            &mut self.marks,
+            roles.as_slice(),
+            store,
+            changes,
+        )
+    }
+
+    /// Keeps and marks the aggregated cluster roles that the changes leave.
+    fn learn_all(&mut self, changes: &[Change]) -> Result<(), Memory>
+        ensures learned { OnOk result (self.new ≡ learned self.old (map plain_change changes.now)) }
+        ensures kept { KeepsBoth self.old self.new }
     {
         for change in changes {
-            self.note_if_role(roles, change)?;
+            self.learn(change)?;
         }
         Ok(())
     }
 
-    /// Marks what a change concerns; a change of anything but a cluster role concerns none.
-    fn note_if_role(&mut self, roles: &[NamedRole<'_>], change: &Change) -> Result<(), Memory>
-        ensures noted { OnOk result (self.new ≡ mark_change (map labelled roles.now) self.old (plain_change change.now)) }
-        ensures kept { Keeps self.old self.new }
+    fn learn(&mut self, change: &Change) -> Result<(), Memory>
+        ensures learned { OnOk result (self.new ≡ learn self.old (plain_change change.now)) }
+        ensures kept { KeepsBoth self.old self.new }
     {
-        if is_cluster_role(&change.key) {
-            self.note_change(roles, change)
-        } else {
-            Ok(())
-        }
-    }
-
-    /// Marks what one change of a cluster role concerns.
-    #[tactic(auto, unfolding(crate::specs::Marks::mark_changed))]
-    fn note_change(&mut self, roles: &[NamedRole<'_>], change: &Change) -> Result<(), Memory>
-        ensures noted { OnOk result (self.new ≡ mark_changed (map labelled roles.now) self.old (plain_change change.now)) }
-        ensures kept { Keeps self.old self.new }
-    {
-        self.mark(&change.key.name)?;
-        self.note_old(roles, &change.key.name)?;
-        match &change.new {
-            Some(object) => self.note_labels(roles, &object.get().labels()),
-            None => Ok(()),
-        }
-    }
-
-    /// Marks the roles that take rules from the one of the name.
-    #[tactic(auto, unfolding(crate::specs::Marks::mark_by_name))]
-    fn note_old(&mut self, roles: &[NamedRole<'_>], name: &Text) -> Result<(), Memory>
-        ensures noted { OnOk result (self.new ≡ mark_by_name (map labelled roles.now) self.old name.now) }
-        ensures kept { Keeps self.old self.new }
-    {
-        for role in roles {
-            self.note_if_named(roles, role, name)?;
-        }
-        Ok(())
-    }
-
-    /// Marks the roles that take rules from this one, if it has the name.
-    fn note_if_named(
-        &mut self,
-        roles: &[NamedRole<'_>],
-        role: &NamedRole<'_>,
-        name: &Text,
-    ) -> Result<(), Memory>
-        ensures noted { OnOk result (self.new ≡ mark_old (map labelled roles.now) name.now self.old (labelled role.now)) }
-        ensures kept { Keeps self.old self.new }
-    {
-        if role.name.as_str() == name.as_str() {
-            self.note_labels(roles, &role.labels)
-        } else {
-            Ok(())
-        }
-    }
-
-    /// Marks the roles that take rules from one with these labels.
-    #[tactic(auto, unfolding(crate::specs::Marks::mark_takers))]
-    fn note_labels(&mut self, roles: &[NamedRole<'_>], labels: &Labels<'_>) -> Result<(), Memory>
-        ensures noted { OnOk result (self.new ≡ mark_takers (map labelled roles.now) self.old (labels_of labels.now)) }
-        ensures kept { Keeps self.old self.new }
-    {
-        for role in roles {
-            if takes_from(role, labels) {
-                self.mark(role.name)?;
-            }
-        }
-        Ok(())
-    }
-
-    #[tactic(auto, using(crate::proofs::Marking::with_mark_keeps))]
-    fn mark(&mut self, name: &Text) -> Result<(), Memory>
-        ensures marked { OnOk result (self.new ≡ with_mark self.old name.now) }
-        ensures kept { Keeps self.old self.new }
-    {
-        if !self.marks.contains(name) {
-            self.marks.insert(name.copy(self.alloc)?)?;
+        if is_taker(self.alloc, change)? {
+            put_name(self.alloc, &mut self.takers, &change.key.name)?;
+            put_name(self.alloc, &mut self.marks, &change.key.name)?;
         }
         Ok(())
     }
@@ -214,19 +283,20 @@ impl Tracker {
     /// The aggregated cluster role of least name that differs from its union, with its union; none where there is none.
     ///
     /// Looks at marked roles alone, in the order of their names. The marks before the one that it answers are dropped, and all where
-    /// it answers none; where memory runs out none is.
+    /// it answers none; the names of roles that are not aggregated any more are dropped. Where memory runs out none is.
     #[tactic(auto, using(crate::proofs::Turning::found_where_covered, crate::proofs::Turning::none_unmarked, crate::proofs::Turning::next_covers))]
     pub fn next(&mut self, roles: &ClusterRoles<'_>) -> Result<Option<Turn>, Memory>
-        ensures turn { IfOk result (λ t. t ≡ first_some (turn_of_marked self.old (roles_of roles.now)) (roles_of roles.now)) }
-        ensures marks { IfOk result (λ t. self.new ≡ marks_after self.old t) }
+        ensures turn { IfOk result (λ t. t ≡ first_some (turn_of_marked self.old.marks (roles_of roles.now)) (roles_of roles.now)) }
+        ensures left { IfOk result (λ t. self.new ≡ left_by self.old (roles_of roles.now) t) }
         ensures refused { OnErr result (self.new ≡ self.old) }
 
         // what is answered is due, and nothing else that is due is forgotten
         ensures exact { IfOk result (λ t. Covers self.old (roles_of roles.now) → t ≡ next_of (roles_of roles.now)) }
         ensures covers { Covers self.old (roles_of roles.now) → Covers self.new (roles_of roles.now) }
-        ensures unmarked { IfOk result (λ t. self.old ≡ [] → t ≡ None) }
+        ensures unmarked { IfOk result (λ t. self.old.marks ≡ [] → t ≡ None) }
     {
         let turn = self.first_turn(roles.as_slice())?;
+        self.takers = taker_names(self.alloc, roles.as_slice())?;
         self.keep_marks_after(&turn);
         Ok(turn)
     }
@@ -245,14 +315,14 @@ impl Tracker {
 
     /// Whether some cluster role is marked.
     pub fn has_marks(&self) -> bool
-        ensures { result ≡ not (length self.now == 0) }
+        ensures { result ≡ not (length self.now.marks == 0) }
     {
         !self.marks.is_empty()
     }
 
     /// What the first marked role that differs from its union is to become.
     fn first_turn(&self, roles: &[NamedRole<'_>]) -> Result<Option<Turn>, Memory>
-        ensures { IfOk result (λ t. t ≡ first_some (turn_of_marked self.now (map labelled roles.now)) (map labelled roles.now)) }
+        ensures { IfOk result (λ t. t ≡ first_some (turn_of_marked self.now.marks (map labelled roles.now)) (map labelled roles.now)) }
     {
         for role in roles {
             let turn = self.turn_if_marked(roles, role)?;
@@ -268,7 +338,7 @@ impl Tracker {
         roles: &[NamedRole<'_>],
         role: &NamedRole<'_>,
     ) -> Result<Option<Turn>, Memory>
-        ensures { IfOk result (λ t. t ≡ turn_of_marked self.now (map labelled roles.now) (labelled role.now)) }
+        ensures { IfOk result (λ t. t ≡ turn_of_marked self.now.marks (map labelled roles.now) (labelled role.now)) }
     {
         if self.marks.contains(role.name) {
             turn_at(self.alloc, roles, role)
@@ -279,7 +349,8 @@ impl Tracker {
 
     /// Keeps the marks that are needed after a turn.
     fn keep_marks_after(&mut self, turn: &Option<Turn>)
-        ensures { self.new ≡ marks_after self.old turn.now }
+        ensures marks { self.new.marks ≡ marks_after self.old.marks turn.now }
+        ensures takers { self.new.takers ≡ self.old.takers }
     {
         match turn {
             Some(turn) => drop_before(&mut self.marks, &turn.name),

@@ -6,18 +6,18 @@ ghost use Rattle.kapi_store.specs.Faults.{fault_of};
 ghost use Rattle.kapi_store.specs.Plain.{plain_change, plain_of};
 ghost use Rattle.kapi_store.specs.State.{Fits};
 ghost use Rattle.kapi_text.specs.Gives.{Gives};
-ghost use Rattle.kapi_aggregation.specs.Rewriting.{rewriting, role_key as role_key_of, with_rules as with_rules_of};
+ghost use Rattle.kapi_aggregation.specs.Rewriting.{rewriting, with_rules as with_rules_of};
 ghost use Rattle.kapi_aggregation.specs.Turns.{turn_at as turn_of};
 ghost use Rattle.kapi_aggregation.specs.Views.{labelled};
 
-use crate::roles::NamedRole;
+use crate::roles::{NamedRole, role_key};
 use crate::same::same_rules;
 use crate::union::union_for;
-use kapi_names::{PolicyRule, RBAC_GROUP};
+use kapi_names::PolicyRule;
 use kapi_object::Object;
 use kapi_object::tree::into_members;
 use kapi_object::tree_form::write_items;
-use kapi_store::{Key, Ready, Store, StoreError};
+use kapi_store::{Ready, Store, StoreError};
 use kapi_text::{Memory, Sequence, Text, TryCopy};
 use serde_json::{Value, put};
 use std::alloc::Global;
@@ -64,18 +64,6 @@ pub fn rewrite(alloc: Global, store: &Store, turn: &Turn) -> Result<Ready, Store
         Some(old) => store.replace(key, with_rules(alloc, old, &turn.rules)?),
         None => Err(StoreError::Missing),
     }
-}
-
-/// The place of the cluster role of a name.
-fn role_key(alloc: Global, name: &Text) -> Result<Key, Memory>
-    ensures { IfOk result (λ k. k ≡ role_key_of name.now) }
-{
-    Ok(Key {
-        group: Text::copy_of(alloc, RBAC_GROUP)?,
-        resource: Text::copy_of(alloc, "clusterroles")?,
-        namespace: Text::copy_of(alloc, "")?,
-        name: name.copy(alloc)?,
-    })
 }
 
 /// A cluster role with other rules; all else of it stays.

@@ -1,5 +1,6 @@
 -- The loading of an object, of the store and the policy and of the whole machine.
 use Rattle.std.proofs.Common.{◌≡◌, ℕ, List, Result, Ok, Err, subst, ◌∙◌}
+use Rattle.kapi_aggregation.specs.Marks.{Tracked}
 use Rattle.kapi_text.specs.Gives.{Fails}
 use Rattle.kapi_answer.specs.Load.{fault_told, loads}
 use Rattle.kapi_answer.specs.declared.loading.LoadError.{LoadError}
@@ -14,7 +15,7 @@ use Rattle.kapi_core.specs.Writes.{LoadsInto}
 use Rattle.kapi_core.proofs.AlikeLinks.{changes_follow, links_written}
 
 -- what was loaded into the store and the policy was loaded into the machine
-pub loaded : (old : Running) (t : State) (u : PolicyObjects) (ns : List (List ℕ)) (text : List ℕ) (result : Result (List PolicyChange) LoadError)
+pub loaded : (old : Running) (t : State) (u : PolicyObjects) (ns : Tracked) (text : List ℕ) (result : Result (List PolicyChange) LoadError)
     → LoadsInto old.store old.policy old.marks t u ns text result → Loads old (record old { store = t; policy = u; marks = ns }) text result
 loaded old t u ns text (Ok made) (changes, is, told, writes) = λ m h.
     let after = writes m.changes m.store h.store h.policy_is h.covers in

@@ -3,6 +3,7 @@ use Rattle.std.proofs.Common.{◌≡◌, ℕ, Bool, false, List, Option, Some, N
 use Rattle.std.specs.BTreeMap.{is_at}
 use Rattle.std.specs.Map.{lookup}
 use Rattle.std.specs.Ordering.{nat_cmp}
+use Rattle.kapi_aggregation.specs.Marks.{Tracked}
 use Rattle.kapi_answer.specs.Watch.{PlainWatching, StandsForWatching, event_reply_of, rechecked}
 use Rattle.kapi_answer.specs.declared.watch.After.{After}
 use Rattle.kapi_answer.specs.declared.watch.After.TheVariants as becomes
@@ -43,14 +44,14 @@ pumped_late m conn = by_link (link_at conn.0 m)
     by_link (Some l) = by_watch l l.watching
 
 -- there is no connection
-pub pumped_nowhere : (s : State) (o : PolicyObjects) (ms : List (List ℕ)) (es : List (ℕ × Connection)) (n : ℕ) (on : Bool) (conn : ConnId) → lookup (is_at (nat_cmp conn.0)) es ≡ None
+pub pumped_nowhere : (s : State) (o : PolicyObjects) (ms : Tracked) (es : List (ℕ × Connection)) (n : ℕ) (on : Bool) (conn : ConnId) → lookup (is_at (nat_cmp conn.0)) es ≡ None
     → (cs : List PlainChange) → HasHistory s cs → HasPolicy s o → HasMarks s ms → (ps : List (ℕ × Link)) → AreLinks cs (plain_of s) es ps → Made s o ms es n on (machine_of s cs n on ps) (event.Pump conn) told.Nothing
 unfolding step pump_step
 pumped_nowhere s o ms es n on conn missing cs k p v ps h =
     rw (link_missing cs (plain_of s) (is_at (nat_cmp conn.0)) es ps h missing) (refl, record { store = k; policy_is = p; covers = v; next_id = refl; rechecks = refl; links = h })
 
 -- the connection has no watch
-pub pumped_idle : (s : State) (o : PolicyObjects) (ms : List (List ℕ)) (es : List (ℕ × Connection)) (n : ℕ) (on : Bool) (conn : ConnId) (c : Connection) → lookup (is_at (nat_cmp conn.0)) es ≡ Some c → c.watching ≡ None
+pub pumped_idle : (s : State) (o : PolicyObjects) (ms : Tracked) (es : List (ℕ × Connection)) (n : ℕ) (on : Bool) (conn : ConnId) (c : Connection) → lookup (is_at (nat_cmp conn.0)) es ≡ Some c → c.watching ≡ None
     → (cs : List PlainChange) → HasHistory s cs → HasPolicy s o → HasMarks s ms → (ps : List (ℕ × Link)) → AreLinks cs (plain_of s) es ps → Made s o ms es n on (machine_of s cs n on ps) (event.Pump conn) told.Nothing
 unfolding step pump_step pump_watch
 pumped_idle s o ms es n on conn c there idle cs k p v ps h =
@@ -85,7 +86,7 @@ links_passed s es fs id n on c r becomes.Serves place cs ps l w known h k stands
 links_passed s es fs id n on c r becomes.Closes place cs ps l w known h k stands moves is = rw is (links_removed cs (plain_of s) (is_at (nat_cmp id)) es ps h)
 
 -- the machine after an event
-event_stands : (s : State) (o : PolicyObjects) (ms : List (List ℕ)) (fs : List (ℕ × Connection)) (n id : ℕ) (on : Bool) (a : After) (cs : List PlainChange) (ps : List (ℕ × Link)) (l : Link) (w : PlainWatching)
+event_stands : (s : State) (o : PolicyObjects) (ms : Tracked) (fs : List (ℕ × Connection)) (n id : ℕ) (on : Bool) (a : After) (cs : List PlainChange) (ps : List (ℕ × Link)) (l : Link) (w : PlainWatching)
     → HasHistory s cs → HasPolicy s o → HasMarks s ms → AreLinks cs (plain_of s) fs (after_event a id l w (machine_of s cs n on ps)).links
     → StandsFor s o ms fs n on (after_event a id l w (machine_of s cs n on ps))
 unfolding after_event
@@ -94,7 +95,7 @@ event_stands s o ms fs n id on becomes.Serves cs ps l w k p v h = record { store
 event_stands s o ms fs n id on becomes.Closes cs ps l w k p v h = record { store = k; policy_is = p; covers = v; next_id = refl; rechecks = refl; links = h }
 
 -- an event goes out
-pub pumped_event : (s : State) (o : PolicyObjects) (ms : List (List ℕ)) (es fs : List (ℕ × Connection)) (n : ℕ) (on : Bool) (conn : ConnId) (c : Connection) (r : Watching) (reply : EventReply) (place : Place)
+pub pumped_event : (s : State) (o : PolicyObjects) (ms : Tracked) (es fs : List (ℕ × Connection)) (n : ℕ) (on : Bool) (conn : ConnId) (c : Connection) (r : Watching) (reply : EventReply) (place : Place)
     → lookup (is_at (nat_cmp conn.0)) es ≡ Some c → c.watching ≡ Some r → SendsNext s o on r (Some reply) → MovesOn s r place → fs ≡ passed es conn.0 c r reply.after place
     → (cs : List PlainChange) → HasHistory s cs → HasPolicy s o → HasMarks s ms → (ps : List (ℕ × Link)) → AreLinks cs (plain_of s) es ps
     → Made s o ms fs n on (machine_of s cs n on ps) (event.Pump conn) (told.Sent (event_output reply))
@@ -108,7 +109,7 @@ pumped_event s o ms es fs n on conn c r reply place there runs sends moves passe
     )
 
 -- nothing is to be shown, and the watch moves on
-pub pumped_nothing : (s : State) (o : PolicyObjects) (ms : List (List ℕ)) (es fs : List (ℕ × Connection)) (n : ℕ) (on : Bool) (conn : ConnId) (c : Connection) (r : Watching) (place : Place)
+pub pumped_nothing : (s : State) (o : PolicyObjects) (ms : Tracked) (es fs : List (ℕ × Connection)) (n : ℕ) (on : Bool) (conn : ConnId) (c : Connection) (r : Watching) (place : Place)
     → lookup (is_at (nat_cmp conn.0)) es ≡ Some c → c.watching ≡ Some r → SendsNext s o on r None → MovesOn s r place → fs ≡ passed es conn.0 c r becomes.Watches place
     → (cs : List PlainChange) → HasHistory s cs → HasPolicy s o → HasMarks s ms → (ps : List (ℕ × Link)) → AreLinks cs (plain_of s) es ps
     → Made s o ms fs n on (machine_of s cs n on ps) (event.Pump conn) told.Nothing

@@ -3,6 +3,7 @@ use Rattle.std.proofs.Common.{◌≡◌, ℕ, nat_lt, nat_le, ◌&&◌, true, fa
 use Rattle.std.specs.BTreeMap.{insert_entry}
 use Rattle.std.specs.Ordering.{nat_cmp}
 use Rattle.std.specs.declared.alloc.AllocError.{AllocError}
+use Rattle.kapi_aggregation.specs.Marks.{Tracked}
 use Rattle.kapi_rbac_types.specs.declared.identity.Identity.{Identity}
 use Rattle.kapi_policy.specs.Objects.{PolicyObjects}
 use Rattle.kapi_store.specs.State.{State}
@@ -35,7 +36,7 @@ turns_err old new (Ok turned) h out = absurd (cc h)
 turns_err old new (Err error) h out = out
 
 -- where there is room for a connection, it is opened
-pub room_is_late : (s : State) (o : PolicyObjects) (ms : List (List ℕ)) (es : List (ℕ × Connection)) (n : ℕ) (on : Bool) (m : Machine) (identity : Identity) → (nat_lt (length es) OPEN_CONNECTIONS && nat_le n LAST_CONNECTION) ≡ true
+pub room_is_late : (s : State) (o : PolicyObjects) (ms : Tracked) (es : List (ℕ × Connection)) (n : ℕ) (on : Bool) (m : Machine) (identity : Identity) → (nat_lt (length es) OPEN_CONNECTIONS && nat_le n LAST_CONNECTION) ≡ true
     → StandsFor s o ms es n on m → is_early (step m (event.Open identity)).0 ≡ false
 room_is_late s o ms es n on m identity room h =
     not_early s o ms es n on m (event.Open identity) h

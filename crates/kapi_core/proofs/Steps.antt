@@ -4,7 +4,7 @@ use Rattle.std.proofs.lemmas.Bool.{le-leb, lt-leb}
 use Rattle.std.specs.Map.{lookup, set_value, remove_entry}
 use Rattle.std.specs.Ordering.{nat_cmp}
 use Rattle.std.specs.BTreeMap.{insert_entry, is_at}
-use Rattle.kapi_aggregation.specs.Marks.{Covers}
+use Rattle.kapi_aggregation.specs.Marks.{Covers, Tracked}
 use Rattle.kapi_aggregation.specs.Roles.{roles_in}
 use Rattle.kapi_answer.specs.Answer.{answer, Answered}
 use Rattle.kapi_reply.specs.Replies.{fault_reply}
@@ -43,11 +43,11 @@ machine_of s cs n on ps = record { store = plain_of s; changes = cs; next_id = n
 abbrev pub HasHistory : State → List PlainChange → Type 0
 HasHistory s cs = StoreStands s cs (plain_of s)
 
-pub machine_is : (s : State) (o : PolicyObjects) (ms : List (List ℕ)) (es : List (ℕ × Connection)) (n : ℕ) (on : Bool) (m : Machine) → StandsFor s o ms es n on m → machine_of s m.changes n on m.links ≡ m
+pub machine_is : (s : State) (o : PolicyObjects) (ms : Tracked) (es : List (ℕ × Connection)) (n : ℕ) (on : Bool) (m : Machine) → StandsFor s o ms es n on m → machine_of s m.changes n on m.links ≡ m
 machine_is s o ms es n on m h = rw (h.store.plain, h.next_id, h.rechecks) refl
 
 -- the history of the machine that is stood for
-pub history_is : (s : State) (o : PolicyObjects) (ms : List (List ℕ)) (es : List (ℕ × Connection)) (n : ℕ) (on : Bool) (m : Machine) → StandsFor s o ms es n on m → HasHistory s m.changes
+pub history_is : (s : State) (o : PolicyObjects) (ms : Tracked) (es : List (ℕ × Connection)) (n : ℕ) (on : Bool) (m : Machine) → StandsFor s o ms es n on m → HasHistory s m.changes
 history_is s o ms es n on m h = let P : Plain → Type 0 = λ p. StoreStands s m.changes p in subst P (sym h.store.plain) h.store
 
 -- a policy is the roles and bindings of a store
@@ -55,33 +55,33 @@ abbrev pub HasPolicy : State → PolicyObjects → Type 0
 HasPolicy s o = o ≡ policy_objects (plain_of s).objects
 
 -- the policy of the machine that is stood for
-pub policy_known : (s : State) (o : PolicyObjects) (ms : List (List ℕ)) (es : List (ℕ × Connection)) (n : ℕ) (on : Bool) (m : Machine) → StandsFor s o ms es n on m → HasPolicy s o
+pub policy_known : (s : State) (o : PolicyObjects) (ms : Tracked) (es : List (ℕ × Connection)) (n : ℕ) (on : Bool) (m : Machine) → StandsFor s o ms es n on m → HasPolicy s o
 policy_known s o ms es n on m h = h.policy_is ∙ ap (λ (p : Plain). policy_objects p.objects) (sym h.store.plain)
 
 -- marks cover the cluster roles of a store
-abbrev pub HasMarks : State → List (List ℕ) → Type 0
+abbrev pub HasMarks : State → Tracked → Type 0
 HasMarks s ms = Covers ms (roles_in (plain_of s).objects)
 
 -- the cluster roles of the machine that is stood for are covered
-pub covers_known : (s : State) (o : PolicyObjects) (ms : List (List ℕ)) (es : List (ℕ × Connection)) (n : ℕ) (on : Bool) (m : Machine) → StandsFor s o ms es n on m → HasMarks s ms
+pub covers_known : (s : State) (o : PolicyObjects) (ms : Tracked) (es : List (ℕ × Connection)) (n : ℕ) (on : Bool) (m : Machine) → StandsFor s o ms es n on m → HasMarks s ms
 covers_known s o ms es n on m h = let P : Plain → Type 0 = λ p. Covers ms (roles_in p.objects) in subst P (sym h.store.plain) h.covers
 
 -- the connections of the machine that is stood for
-pub links_known : (s : State) (o : PolicyObjects) (ms : List (List ℕ)) (es : List (ℕ × Connection)) (n : ℕ) (on : Bool) (m : Machine) → StandsFor s o ms es n on m → AreLinks m.changes (plain_of s) es m.links
+pub links_known : (s : State) (o : PolicyObjects) (ms : Tracked) (es : List (ℕ × Connection)) (n : ℕ) (on : Bool) (m : Machine) → StandsFor s o ms es n on m → AreLinks m.changes (plain_of s) es m.links
 links_known s o ms es n on m h = let P : Plain → Type 0 = λ p. AreLinks m.changes p es m.links in subst P (sym h.store.plain) h.links
 
 -- what is made of a step, by its answer, its store, policy, marks, connections, number and switch
-abbrev pub Made : State → PolicyObjects → List (List ℕ) → List (ℕ × Connection) → ℕ → Bool → Machine → Event → Answer → Type 0
+abbrev pub Made : State → PolicyObjects → Tracked → List (ℕ × Connection) → ℕ → Bool → Machine → Event → Answer → Type 0
 Made s o ms es n on m event answer = (answer ≡ (step m event).0) × StandsFor s o ms es n on (step m event).1
 
 -- a step from the machine that is stood for
-pub made_for : (s : State) (o : PolicyObjects) (ms : List (List ℕ)) (es : List (ℕ × Connection)) (n : ℕ) (on : Bool) (m : Machine) (t : State) (u : PolicyObjects) (ns : List (List ℕ)) (fs : List (ℕ × Connection)) (k : ℕ) (now : Bool) (e : Event) (a : Answer)
+pub made_for : (s : State) (o : PolicyObjects) (ms : Tracked) (es : List (ℕ × Connection)) (n : ℕ) (on : Bool) (m : Machine) (t : State) (u : PolicyObjects) (ns : Tracked) (fs : List (ℕ × Connection)) (k : ℕ) (now : Bool) (e : Event) (a : Answer)
     → StandsFor s o ms es n on m → ((cs : List PlainChange) → HasHistory s cs → HasPolicy s o → HasMarks s ms → (ps : List (ℕ × Link)) → AreLinks cs (plain_of s) es ps → Made t u ns fs k now (machine_of s cs n on ps) e a) → Made t u ns fs k now m e a
 made_for s o ms es n on m t u ns fs k now e a h f =
     let P : Machine → Type 0 = λ m. Made t u ns fs k now m e a in subst P (machine_is s o ms es n on m h) (f m.changes (history_is s o ms es n on m h) (policy_known s o ms es n on m h) (covers_known s o ms es n on m h) m.links (links_known s o ms es n on m h))
 
 -- what the machine that is stood for answers is not early
-pub not_early : (s : State) (o : PolicyObjects) (ms : List (List ℕ)) (es : List (ℕ × Connection)) (n : ℕ) (on : Bool) (m : Machine) (e : Event) → StandsFor s o ms es n on m
+pub not_early : (s : State) (o : PolicyObjects) (ms : Tracked) (es : List (ℕ × Connection)) (n : ℕ) (on : Bool) (m : Machine) (e : Event) → StandsFor s o ms es n on m
     → ((cs : List PlainChange) → HasHistory s cs → HasPolicy s o → HasMarks s ms → (ps : List (ℕ × Link)) → AreLinks cs (plain_of s) es ps → is_early (step (machine_of s cs n on ps) e).0 ≡ false) → is_early (step m e).0 ≡ false
 not_early s o ms es n on m e h f = let P : Machine → Type 0 = λ m. is_early (step m e).0 ≡ false in subst P (machine_is s o ms es n on m h) (f m.changes (history_is s o ms es n on m h) (policy_known s o ms es n on m h) (covers_known s o ms es n on m h) m.links (links_known s o ms es n on m h))
 
@@ -146,7 +146,7 @@ unfolding Serves
 is_new history p identity = record { identity = refl; kept = refl; goes_on = refl; watching = tt }
 
 -- a connection that was opened
-pub opened : (s : State) (o : PolicyObjects) (ms : List (List ℕ)) (es fs : List (ℕ × Connection)) (n : ℕ) (on : Bool) (identity : Identity) → (nat_lt (length es) OPEN_CONNECTIONS && nat_le n LAST_CONNECTION) ≡ true
+pub opened : (s : State) (o : PolicyObjects) (ms : Tracked) (es fs : List (ℕ × Connection)) (n : ℕ) (on : Bool) (identity : Identity) → (nat_lt (length es) OPEN_CONNECTIONS && nat_le n LAST_CONNECTION) ≡ true
     → fs ≡ insert_entry nat_cmp es n (new_connection identity)
     → (cs : List PlainChange) → HasHistory s cs → HasPolicy s o → HasMarks s ms → (ps : List (ℕ × Link)) → AreLinks cs (plain_of s) es ps → Made s o ms fs (n + 1) on (machine_of s cs n on ps) (event.Open identity) (told.Opened (record { 0 = n }))
 unfolding step open_step
@@ -165,7 +165,7 @@ opened s o ms es fs n on identity room is cs k p v ps h =
     )
 
 -- no connection is opened: too many are open, or the numbers are used up
-pub not_opened : (s : State) (o : PolicyObjects) (ms : List (List ℕ)) (es : List (ℕ × Connection)) (n : ℕ) (on : Bool) (identity : Identity) → (nat_lt (length es) OPEN_CONNECTIONS && nat_le n LAST_CONNECTION) ≡ false
+pub not_opened : (s : State) (o : PolicyObjects) (ms : Tracked) (es : List (ℕ × Connection)) (n : ℕ) (on : Bool) (identity : Identity) → (nat_lt (length es) OPEN_CONNECTIONS && nat_le n LAST_CONNECTION) ≡ false
     → (cs : List PlainChange) → HasHistory s cs → HasPolicy s o → HasMarks s ms → (ps : List (ℕ × Link)) → AreLinks cs (plain_of s) es ps → Made s o ms es n on (machine_of s cs n on ps) (event.Open identity) told.TooMany
 unfolding step open_step
 not_opened s o ms es n on identity many cs k p v ps h =
@@ -173,7 +173,7 @@ not_opened s o ms es n on identity many cs k p v ps h =
     rw test (refl, record { store = k; policy_is = p; covers = v; next_id = refl; rechecks = refl; links = h })
 
 -- bytes that were taken in
-pub fed : (s : State) (o : PolicyObjects) (ms : List (List ℕ)) (es fs : List (ℕ × Connection)) (n : ℕ) (on : Bool) (conn : ConnId) (piece : List ℕ) (c : Connection)
+pub fed : (s : State) (o : PolicyObjects) (ms : Tracked) (es fs : List (ℕ × Connection)) (n : ℕ) (on : Bool) (conn : ConnId) (piece : List ℕ) (c : Connection)
     → lookup (is_at (nat_cmp conn.0)) es ≡ Some c → length c.inbox.kept + length piece ≤ KEPT_LIMIT
     → fs ≡ set_value (is_at (nat_cmp conn.0)) es (record c { inbox = record { kept = c.inbox.kept ++ piece; ended = false } })
     → (cs : List PlainChange) → HasHistory s cs → HasPolicy s o → HasMarks s ms → (ps : List (ℕ × Link)) → AreLinks cs (plain_of s) es ps → Made s o ms fs n on (machine_of s cs n on ps) (event.Feed conn piece) told.Done
@@ -195,7 +195,7 @@ fed s o ms es fs n on conn piece c there fits is cs k p v ps h =
     )
 
 -- bytes that were too many
-pub fed_full : (s : State) (o : PolicyObjects) (ms : List (List ℕ)) (es : List (ℕ × Connection)) (n : ℕ) (on : Bool) (conn : ConnId) (piece : List ℕ) (c : Connection)
+pub fed_full : (s : State) (o : PolicyObjects) (ms : Tracked) (es : List (ℕ × Connection)) (n : ℕ) (on : Bool) (conn : ConnId) (piece : List ℕ) (c : Connection)
     → lookup (is_at (nat_cmp conn.0)) es ≡ Some c → KEPT_LIMIT < length c.inbox.kept + length piece
     → (cs : List PlainChange) → HasHistory s cs → HasPolicy s o → HasMarks s ms → (ps : List (ℕ × Link)) → AreLinks cs (plain_of s) es ps → Made s o ms es n on (machine_of s cs n on ps) (event.Feed conn piece) told.Full
 unfolding step feed_step
@@ -205,7 +205,7 @@ fed_full s o ms es n on conn piece c there many cs k p v ps h =
     rw (l.1, rest, lt-leb (length c.inbox.kept + length piece) KEPT_LIMIT many) (refl, record { store = k; policy_is = p; covers = v; next_id = refl; rechecks = refl; links = h })
 
 -- bytes on no connection
-pub fed_nowhere : (s : State) (o : PolicyObjects) (ms : List (List ℕ)) (es : List (ℕ × Connection)) (n : ℕ) (on : Bool) (conn : ConnId) (piece : List ℕ)
+pub fed_nowhere : (s : State) (o : PolicyObjects) (ms : Tracked) (es : List (ℕ × Connection)) (n : ℕ) (on : Bool) (conn : ConnId) (piece : List ℕ)
     → lookup (is_at (nat_cmp conn.0)) es ≡ None
     → (cs : List PlainChange) → HasHistory s cs → HasPolicy s o → HasMarks s ms → (ps : List (ℕ × Link)) → AreLinks cs (plain_of s) es ps → Made s o ms es n on (machine_of s cs n on ps) (event.Feed conn piece) told.Ended
 unfolding step feed_step
@@ -213,13 +213,13 @@ fed_nowhere s o ms es n on conn piece missing cs k p v ps h =
     rw (link_missing cs (plain_of s) (is_at (nat_cmp conn.0)) es ps h missing) (refl, record { store = k; policy_is = p; covers = v; next_id = refl; rechecks = refl; links = h })
 
 -- a connection that was closed, or was none
-pub closed : (s : State) (o : PolicyObjects) (ms : List (List ℕ)) (es fs : List (ℕ × Connection)) (n : ℕ) (on : Bool) (conn : ConnId) → fs ≡ remove_entry (is_at (nat_cmp conn.0)) es
+pub closed : (s : State) (o : PolicyObjects) (ms : Tracked) (es fs : List (ℕ × Connection)) (n : ℕ) (on : Bool) (conn : ConnId) → fs ≡ remove_entry (is_at (nat_cmp conn.0)) es
     → (cs : List PlainChange) → HasHistory s cs → HasPolicy s o → HasMarks s ms → (ps : List (ℕ × Link)) → AreLinks cs (plain_of s) es ps → Made s o ms fs n on (machine_of s cs n on ps) (event.Close conn) told.Done
 unfolding step
 closed s o ms es fs n on conn is cs k p v ps h = rw is (refl, record { store = k; policy_is = p; covers = v; next_id = refl; rechecks = refl; links = links_removed cs (plain_of s) (is_at (nat_cmp conn.0)) es ps h })
 
 -- nothing to serve, for there is no connection
-pub served_nowhere : (s : State) (o : PolicyObjects) (ms : List (List ℕ)) (es : List (ℕ × Connection)) (n : ℕ) (on : Bool) (conn : ConnId)
+pub served_nowhere : (s : State) (o : PolicyObjects) (ms : Tracked) (es : List (ℕ × Connection)) (n : ℕ) (on : Bool) (conn : ConnId)
     → lookup (is_at (nat_cmp conn.0)) es ≡ None
     → (cs : List PlainChange) → HasHistory s cs → HasPolicy s o → HasMarks s ms → (ps : List (ℕ × Link)) → AreLinks cs (plain_of s) es ps → Made s o ms es n on (machine_of s cs n on ps) (event.Serve conn) told.Nothing
 unfolding step serve_step
@@ -227,7 +227,7 @@ served_nowhere s o ms es n on conn missing cs k p v ps h =
     rw (link_missing cs (plain_of s) (is_at (nat_cmp conn.0)) es ps h missing) (refl, record { store = k; policy_is = p; covers = v; next_id = refl; rechecks = refl; links = h })
 
 -- nothing to serve, while a watch runs
-pub served_beside : (s : State) (o : PolicyObjects) (ms : List (List ℕ)) (es : List (ℕ × Connection)) (n : ℕ) (on : Bool) (conn : ConnId) (c : Connection) (r : Watching)
+pub served_beside : (s : State) (o : PolicyObjects) (ms : Tracked) (es : List (ℕ × Connection)) (n : ℕ) (on : Bool) (conn : ConnId) (c : Connection) (r : Watching)
     → lookup (is_at (nat_cmp conn.0)) es ≡ Some c → c.watching ≡ Some r
     → (cs : List PlainChange) → HasHistory s cs → HasPolicy s o → HasMarks s ms → (ps : List (ℕ × Link)) → AreLinks cs (plain_of s) es ps → Made s o ms es n on (machine_of s cs n on ps) (event.Serve conn) told.Nothing
 unfolding step serve_step serve_beside
@@ -237,7 +237,7 @@ served_beside s o ms es n on conn c r there runs cs k p v ps h =
     rw (l.1, w.1) (refl, record { store = k; policy_is = p; covers = v; next_id = refl; rechecks = refl; links = h })
 
 -- nothing to serve, for nothing is whole
-pub served_nothing : (s : State) (o : PolicyObjects) (ms : List (List ℕ)) (es : List (ℕ × Connection)) (n : ℕ) (on : Bool) (conn : ConnId) (c : Connection)
+pub served_nothing : (s : State) (o : PolicyObjects) (ms : Tracked) (es : List (ℕ × Connection)) (n : ℕ) (on : Bool) (conn : ConnId) (c : Connection)
     → lookup (is_at (nat_cmp conn.0)) es ≡ Some c → c.watching ≡ None → next_of c.inbox ≡ None
     → (cs : List PlainChange) → HasHistory s cs → HasPolicy s o → HasMarks s ms → (ps : List (ℕ × Link)) → AreLinks cs (plain_of s) es ps → Made s o ms es n on (machine_of s cs n on ps) (event.Serve conn) told.Nothing
 unfolding step serve_step serve_beside serve_item
@@ -283,7 +283,7 @@ links_served false history plain objects id n on c l item r w es ps h k watch e 
     links_set history plain (is_at (nat_cmp id)) es ps (connection_after c item r) (link_after l w) h (goes_on history objects plain c.identity c l item r w k watch e close)
 
 -- the machine after a request was served
-after_served : (close : Bool) (s t : State) (o u : PolicyObjects) (ms ns : List (List ℕ)) (cs : List PlainChange) (n id : ℕ) (on : Bool) (c : Connection) (l : Link) (item : Result HttpRequest HttpFault) (r : Option Watching) (w : Option PlainWatching) (changes : List PlainChange) (es : List (ℕ × Connection)) (ps : List (ℕ × Link))
+after_served : (close : Bool) (s t : State) (o u : PolicyObjects) (ms ns : Tracked) (cs : List PlainChange) (n id : ℕ) (on : Bool) (c : Connection) (l : Link) (item : Result HttpRequest HttpFault) (r : Option Watching) (w : Option PlainWatching) (changes : List PlainChange) (es : List (ℕ × Connection)) (ps : List (ℕ × Link))
     → HasHistory s cs → HasPolicy s o → HasMarks s ms → AreLinks cs (plain_of s) es ps → IsLink cs (plain_of s) c l → AreWatching cs (plain_of s) r w → first c.inbox.kept ≡ Some item → (answer o (plain_of s) c.identity item).reply.close ≡ close → Writes s o ms t u ns changes
     → StandsFor t u ns (connections_after close id c item r es) n on (ended_if close id (changed changes (with_link id (link_after l w) (machine_of s cs n on ps))))
 after_served close s t o u ms ns cs n id on c l item r w changes es ps known policy covers h k watch e closes follows =
@@ -299,7 +299,7 @@ after_served close s t o u ms ns cs n id on c l item r w changes es ps known pol
     by_close false store policy covers links = record { store = store; policy_is = policy; covers = covers; next_id = refl; rechecks = refl; links = links }
 
 -- a request that was served
-pub served : (s t : State) (o u : PolicyObjects) (ms ns : List (List ℕ)) (es fs : List (ℕ × Connection)) (n : ℕ) (on : Bool) (conn : ConnId) (c : Connection) (item : Result HttpRequest HttpFault) (r : Option Watching) (answered : Answered)
+pub served : (s t : State) (o u : PolicyObjects) (ms ns : Tracked) (es fs : List (ℕ × Connection)) (n : ℕ) (on : Bool) (conn : ConnId) (c : Connection) (item : Result HttpRequest HttpFault) (r : Option Watching) (answered : Answered)
     → lookup (is_at (nat_cmp conn.0)) es ≡ Some c → c.watching ≡ None → next_of c.inbox ≡ Some item → answered ≡ answer o (plain_of s) c.identity item
     → ((cs : List PlainChange) → AreWatching cs (plain_of s) r answered.watch)
     → Writes s o ms t u ns answered.changes → fs ≡ connections_after answered.reply.close conn.0 c item r es

@@ -1,7 +1,7 @@
 -- A turn of the running machine is that of the machine that is data.
 use Rattle.std.proofs.Common.{◌≡◌, ℕ, false, List, [], Option, None, Some, Result, Ok, Err, refl, sym, ap, ◌∙◌, subst, Bool}
 use Rattle.std.specs.declared.alloc.AllocError.{AllocError}
-use Rattle.kapi_aggregation.specs.Marks.{Covers}
+use Rattle.kapi_aggregation.specs.Marks.{Covers, Tracked}
 use Rattle.kapi_aggregation.specs.Rewriting.{rewriting}
 use Rattle.kapi_aggregation.specs.Roles.{Labelled, roles_in}
 use Rattle.kapi_aggregation.specs.Turns.{next}
@@ -39,15 +39,15 @@ abbrev pub roles_at : State → List Labelled
 roles_at s = roles_in (plain_of s).objects
 
 -- this is what is due, if the marks cover the cluster roles of the store
-abbrev pub IsDue : State → List (List ℕ) → Option Turn → Type 0
+abbrev pub IsDue : State → Tracked → Option Turn → Type 0
 IsDue s ms due = Covers ms (roles_at s) → due ≡ next (roles_at s)
 
 -- marks that cover the cluster roles of the store, if the others do
-abbrev pub StillCovers : State → List (List ℕ) → List (List ℕ) → Type 0
+abbrev pub StillCovers : State → Tracked → Tracked → Type 0
 StillCovers s ms ns = Covers ms (roles_at s) → Covers ns (roles_at s)
 
 -- no turn is due
-not_turned : (s : State) (o : PolicyObjects) (ms ns : List (List ℕ)) (es : List (ℕ × Connection)) (n : ℕ) (on : Bool) → IsDue s ms None → StillCovers s ms ns
+not_turned : (s : State) (o : PolicyObjects) (ms ns : Tracked) (es : List (ℕ × Connection)) (n : ℕ) (on : Bool) → IsDue s ms None → StillCovers s ms ns
     → (cs : List PlainChange) → HasHistory s cs → HasPolicy s o → HasMarks s ms → (ps : List (ℕ × Link)) → AreLinks cs (plain_of s) es ps → Made s o ns es n on (machine_of s cs n on ps) event.Turn told.Nothing
 unfolding step turn_step
 not_turned s o ms ns es n on due still cs k p v ps h =
@@ -55,19 +55,19 @@ not_turned s o ms ns es n on due still cs k p v ps h =
     let P : Option Turn → Type 0 = λ d. (told.Nothing ≡ (turned_by d m).0) × StandsFor s o ns es n on (turned_by d m).1 in
     subst P (due v) (refl, record { store = k; policy_is = p; covers = still v; next_id = refl; rechecks = refl; links = h })
 
-pub nothing_turned : (old : Running) (ns : List (List ℕ)) → IsDue old.store old.marks None → StillCovers old.store old.marks ns → Turns old (record old { marks = ns }) (Ok None)
+pub nothing_turned : (old : Running) (ns : Tracked) → IsDue old.store old.marks None → StillCovers old.store old.marks ns → Turns old (record old { marks = ns }) (Ok None)
 nothing_turned old ns due still = λ m h.
     made_for old.store old.policy old.marks old.connections old.next_id old.rechecks m old.store old.policy ns old.connections old.next_id old.rechecks event.Turn told.Nothing h
     (not_turned old.store old.policy old.marks ns old.connections old.next_id old.rechecks due still)
 
 -- memory ran out before a turn was due
-pub kept_due : (old : Running) (ns : List (List ℕ)) → StillCovers old.store old.marks ns → RunsOut old (record old { marks = ns }) event.Turn
+pub kept_due : (old : Running) (ns : Tracked) → StillCovers old.store old.marks ns → RunsOut old (record old { marks = ns }) event.Turn
 kept_due old ns still = λ m h.
     let P : Plain → Type 0 = λ p. Covers old.marks (roles_in p.objects) → Covers ns (roles_in p.objects) in
     (record { store = h.store; policy_is = h.policy_is; covers = subst P h.store.plain still h.covers; next_id = h.next_id; rechecks = h.rechecks; links = h.links }, turned_late m)
 
 -- a turn that was written
-turn_written : (s t : State) (o u : PolicyObjects) (ms ls ns : List (List ℕ)) (es : List (ℕ × Connection)) (n : ℕ) (on : Bool) (turn : Turn) (changes : List PlainChange) (turned : Turned)
+turn_written : (s t : State) (o u : PolicyObjects) (ms ls ns : Tracked) (es : List (ℕ × Connection)) (n : ℕ) (on : Bool) (turn : Turn) (changes : List PlainChange) (turned : Turned)
     → IsDue s ms (Some turn) → StillCovers s ms ls → rewriting turn (plain_of s) ≡ Ok changes → told.Turned turned ≡ (after_turn turn.name (Ok changes) (machine_of s [] n on [])).0 → Writes s o ls t u ns changes
     → (cs : List PlainChange) → HasHistory s cs → HasPolicy s o → HasMarks s ms → (ps : List (ℕ × Link)) → AreLinks cs (plain_of s) es ps → Made t u ns es n on (machine_of s cs n on ps) event.Turn (told.Turned turned)
 unfolding step turn_step
@@ -80,7 +80,7 @@ turn_written s t o u ms ls ns es n on turn changes turned due still is tells wri
     subst P (due v) (subst Q (sym is) (tells, record { store = after.0; policy_is = after.1; covers = after.2; next_id = refl; rechecks = refl; links = links }))
 
 -- a turn that was refused
-turn_refused : (s t : State) (o u : PolicyObjects) (ms ls ns : List (List ℕ)) (es : List (ℕ × Connection)) (n : ℕ) (on : Bool) (turn : Turn) (fault : StoreFault)
+turn_refused : (s t : State) (o u : PolicyObjects) (ms ls ns : Tracked) (es : List (ℕ × Connection)) (n : ℕ) (on : Bool) (turn : Turn) (fault : StoreFault)
     → IsDue s ms (Some turn) → StillCovers s ms ls → rewriting turn (plain_of s) ≡ Err fault → t ≡ s → u ≡ o → StillCovers s ls ns
     → (cs : List PlainChange) → HasHistory s cs → HasPolicy s o → HasMarks s ms → (ps : List (ℕ × Link)) → AreLinks cs (plain_of s) es ps → Made t u ns es n on (machine_of s cs n on ps) event.Turn told.Nothing
 unfolding step turn_step
@@ -91,7 +91,7 @@ turn_refused s t o u ms ls ns es n on turn fault due still is same kept goes cs 
     rw (same, kept) (subst P (due v) (subst Q (sym is) (refl, record { store = k; policy_is = p; covers = goes (still v); next_id = refl; rechecks = refl; links = h })))
 
 -- what became of the store, the policy and the marks became of the machine
-pub turned_into : (old : Running) (ls : List (List ℕ)) (t : State) (u : PolicyObjects) (ns : List (List ℕ)) (turn : Turn) (result : Result (Option Turned) AllocError)
+pub turned_into : (old : Running) (ls : Tracked) (t : State) (u : PolicyObjects) (ns : Tracked) (turn : Turn) (result : Result (Option Turned) AllocError)
     → IsDue old.store old.marks (Some turn) → StillCovers old.store old.marks ls → TurnsInto old.store old.policy ls t u ns turn result
     → Turns old (record old { store = t; policy = u; marks = ns }) result
 turned_into old ls t u ns turn (Ok (Some turned)) due still (changes, is, tells, writes) = λ m h.

@@ -1,6 +1,6 @@
 -- A write of no change.
-use Rattle.std.proofs.Common.{◌≡◌, List, [], ℕ, ◌++◌, refl, ap, subst, ◌∙◌, append-nil, add-zero}
-use Rattle.kapi_aggregation.specs.Marks.{Covers}
+use Rattle.std.proofs.Common.{◌≡◌, List, [], ◌++◌, refl, ap, subst, ◌∙◌, append-nil, add-zero}
+use Rattle.kapi_aggregation.specs.Marks.{Covers, Tracked}
 use Rattle.kapi_aggregation.specs.Roles.{roles_in}
 use Rattle.kapi_store.specs.Changes.{placed_all}
 use Rattle.kapi_store.specs.Plain.{Plain, PlainChange, StandsFor, plain_of, trees_left_by, written}
@@ -15,7 +15,7 @@ unfolding placed_all
 nothing_written s = rw (add-zero) refl
 
 -- a store, a policy and marks go on to stand for what they stood for
-pub nothing_writes : (s : State) (o : PolicyObjects) (ms : List (List ℕ)) → Writes s o ms s o ms []
+pub nothing_writes : (s : State) (o : PolicyObjects) (ms : Tracked) → Writes s o ms s o ms []
 nothing_writes s o ms cs p stands is covers =
     let P : Plain → Type 0 = λ q. Covers ms (roles_in q.objects) in (
       rw (append-nil, ← nothing_written p) stands,
@@ -24,11 +24,11 @@ nothing_writes s o ms cs p stands is covers =
     )
 
 -- the marks cover what the changes make of the store
-abbrev pub CoversWritten : State → List (List ℕ) → List (List ℕ) → List PlainChange → Type 0
+abbrev pub CoversWritten : State → Tracked → Tracked → List PlainChange → Type 0
 CoversWritten s ms ns changes = Covers ms (roles_in (plain_of s).objects) → Covers ns (roles_in (placed_all (trees_left_by changes) (plain_of s).objects))
 
 -- a write that the policy follows, and that was noted
-pub writes : (s t : State) (o u : PolicyObjects) (ms ns : List (List ℕ)) (changes : List PlainChange)
+pub writes : (s t : State) (o u : PolicyObjects) (ms ns : Tracked) (changes : List PlainChange)
     → ((cs : List PlainChange) (p : Plain) → StandsFor s cs p → StandsFor t (cs ++ changes) (written changes p))
     → u ≡ after_changes (policy_changes changes) o → CoversWritten s ms ns changes → Writes s o ms t u ns changes
 writes s t o u ms ns changes stands made noted cs p before is covers =

@@ -1,6 +1,6 @@
 -- Opening objects as data, and the store that a machine has.
-use Rattle.std.specs.Prelude.{◌≡◌, ℕ, List}
-use Rattle.kapi_aggregation.specs.Marks.{Covers}
+use Rattle.std.specs.Prelude.{◌≡◌}
+use Rattle.kapi_aggregation.specs.Marks.{Covers, Tracked}
 use Rattle.kapi_aggregation.specs.Roles.{roles_in}
 use Rattle.kapi_policy.specs.Objects.{PolicyObjects}
 use Rattle.kapi_store.specs.Plain.{StandsFor}
@@ -15,5 +15,5 @@ abbrev pub opening_data : Declared → OpeningObject
 opening_data o = record { row = row_of o.resource; name = o.name.now; body = o.body.now }
 
 -- the store and the policy are the machine's, with its history, and the marks cover its cluster roles
-abbrev pub Holds : State → PolicyObjects → List (List ℕ) → Machine → Type 0
+abbrev pub Holds : State → PolicyObjects → Tracked → Machine → Type 0
 Holds s objects marks m = StandsFor s m.changes m.store × (objects ≡ policy_of m) × Covers marks (roles_in m.store.objects)

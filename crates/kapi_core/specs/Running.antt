@@ -3,17 +3,18 @@ use Rattle.std.specs.Prelude.{ℕ, List, Bool, Option, Some, None, is_some}
 use Rattle.std.specs.Map.{lookup}
 use Rattle.std.specs.Ordering.{nat_cmp}
 use Rattle.std.specs.BTreeMap.{is_at}
+use Rattle.kapi_aggregation.specs.Marks.{Tracked}
 use Rattle.kapi_answer.specs.declared.watch.Watching.{Watching}
 use Rattle.kapi_policy.specs.Objects.{PolicyObjects}
 use Rattle.kapi_store.specs.State.{State}
 use Rattle.kapi_core.specs.declared.connection.Connection.{Connection}
 
--- its store, the roles and bindings of its policy, the names of the cluster roles that are marked, its open connections by number, the
+-- its store, the roles and bindings of its policy, the names that are kept of its cluster roles, its open connections by number, the
 -- next number, and whether the rights of watches are looked at anew
 pub record Running : Type 0 where
   pub store : State
   pub policy : PolicyObjects
-  pub marks : List (List ℕ)
+  pub marks : Tracked
   pub connections : List (ℕ × Connection)
   pub next_id : ℕ
   pub rechecks : Bool

@@ -7,7 +7,7 @@ use Rattle.kapi_http.specs.declared.inbox.FeedError.{FeedError}
 use Rattle.kapi_http.specs.declared.inbox.FeedError.TheVariants as fed
 use Rattle.kapi_rbac_types.specs.declared.identity.Identity.{Identity}
 use Rattle.kapi_text.specs.Gives.{Fails}
-use Rattle.kapi_aggregation.specs.Marks.{Covers}
+use Rattle.kapi_aggregation.specs.Marks.{Covers, Tracked}
 use Rattle.kapi_aggregation.specs.Roles.{roles_in}
 use Rattle.kapi_answer.specs.Load.{fault_told, loads}
 use Rattle.kapi_answer.specs.Watch.{PlainWatching, StandsForWatching}
@@ -60,8 +60,8 @@ AreLinks history s (e ∷ es) [] = ⊥
 AreLinks history s (e ∷ es) (p ∷ ps) = (e.0 ≡ p.0) × IsLink history s e.1 p.1 × AreLinks history s es ps
 
 -- the store with its window, the policy, the connections, the next number and the switch of a machine that is data; each of its
--- aggregated cluster roles that differs from its union is marked
-pub record StandsFor (kept : State) (policy : PolicyObjects) (marks : List (List ℕ)) (es : List (ℕ × Connection)) (next : ℕ) (on : Bool) (m : Machine) : Type 0 where
+-- aggregated cluster roles is known, and marked if it differs from its union
+pub record StandsFor (kept : State) (policy : PolicyObjects) (marks : Tracked) (es : List (ℕ × Connection)) (next : ℕ) (on : Bool) (m : Machine) : Type 0 where
   pub store : StoreStands kept m.changes m.store
   pub policy_is : policy ≡ policy_of m
   pub covers : Covers marks (roles_in m.store.objects)
