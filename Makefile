@@ -10,19 +10,23 @@
 # make hostile   attacks a server as a client without rights may, and prints what each attack costs the others (wants python3)
 # make missing    compares the permissions that a refusal tells with those that the rule says, for 100,000 random roles (wants python3)
 # make rechecks  takes rights away from clients who watch, over sockets (wants python3)
+# make restart   kills a server behind a running informer and starts it again (wants python3 with the package kubernetes, which PYTHON may name)
 # make kubectl-demo  starts a server and the door for kubectl before it, and runs the commands of docs/USING.md (wants kubectl and python3)
 # make statuses  the program's exit statuses, what it writes on standard error, and that it serves the kinds of tools/kinds.txt (wants python3)
 # make edits     tries the edits of crates/NAME/edits, which the gate does not, of all crates or of those that CRATES names; takes hours for all
 # make audit-demo  answers a stored file of questions by a stored policy; it proves nothing
+# make compare-demo  compares two stored policies, and asks of one who may read secrets and who could become anybody; it proves nothing
+# make compare-random  compares random pairs of policies with a plain search (wants python3)
 # make load      proves and builds the program, and prints what a server does under load (wants cc, python3 and wrk)
 # make bench     proves and builds the program, and prints what its events and questions cost (wants python3)
 
 SCRIPTS ?= scripts
 PREFIX ?= /usr/local
+PYTHON ?= python3
 KUBECTL ?= kubectl
 PROGRAM = crates/kapi/out/kapi
 
-.PHONY: audit-demo demo replay test kapi install serve serve-demo edits growths live missing rechecks hostile kubectl-demo statuses bench load
+.PHONY: audit-demo compare-demo compare-random demo replay test kapi install serve serve-demo edits growths live missing rechecks hostile restart kubectl-demo statuses bench load
 
 demo:
 	@answers=$$(mktemp) && (cd crates/kapi && rt try -- script < ../../scripts/demo.txt) > $$answers && python3 tools/transcript.py scripts/demo.txt $$answers; status=$$?; rm -f $$answers; exit $$status
@@ -44,11 +48,11 @@ edits:
 	@sh tools/edits.sh $(CRATES)
 
 serve: kapi
-	@$(PROGRAM) serve --load scripts/serve/objects.jsonl 8001=root,system:masters 8002=ann,system:authenticated
+	@$(PROGRAM) serve --load scripts/serve/objects.jsonl --first-revision clock 8001=root,system:masters 8002=ann,system:authenticated
 
 serve-demo:
 	@echo 'In about two minutes, and for ten: 127.0.0.1:8001 is for root, 127.0.0.1:8002 for ann. Ctrl-C ends it.'
-	@cd crates/kapi && rt try --seconds 600 --data objects.jsonl=../../scripts/serve/objects.jsonl -- serve --load objects.jsonl 8001=root,system:masters 8002=ann,system:authenticated > /dev/null 2>&1; true
+	@cd crates/kapi && rt try --seconds 600 --data objects.jsonl=../../scripts/serve/objects.jsonl -- serve --load objects.jsonl --first-revision clock 8001=root,system:masters 8002=ann,system:authenticated > /dev/null 2>&1; true
 
 growths: kapi
 	@cc -shared -fPIC -O2 -o crates/kapi/out/refuse.so tools/refuse.c -ldl
@@ -66,6 +70,9 @@ missing: kapi
 rechecks: kapi
 	@python3 tools/rechecks.py $(PROGRAM)
 
+restart: kapi
+	@$(PYTHON) tools/restart.py $(PROGRAM)
+
 kubectl-demo: kapi
 	@sh tools/kubectl.sh $(PROGRAM) $(KUBECTL)
 
@@ -74,6 +81,12 @@ statuses: kapi
 
 audit-demo:
 	@cd crates/kapi && rt try --data policy.jsonl=../../scripts/audit/policy.jsonl --data questions.jsonl=../../scripts/audit/questions.jsonl -- audit policy.jsonl questions.jsonl
+
+compare-demo:
+	@cd crates/kapi && for words in 'compare before.jsonl after.jsonl' 'who after.jsonl get secrets --namespace shop' 'risks after.jsonl'; do echo "kapi $$words"; rt try --data before.jsonl=../../scripts/compare/before.jsonl --data after.jsonl=../../scripts/compare/after.jsonl -- $$words; echo "status $$?"; done
+
+compare-random: kapi
+	@python3 tools/compare.py $(PROGRAM)
 
 bench: kapi
 	@python3 tools/bench.py $(PROGRAM)

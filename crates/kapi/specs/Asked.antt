@@ -1,5 +1,5 @@
 -- What the words of a command line ask for.
-use Rattle.std.specs.Prelude.{◌≡◌, ◌⊎◌, ℕ, ◌==◌, not, if◌then◌else◌, Bool, true, false, List, [], length, codes, map, string_bytes, Option, Some, None, option_map, Result, Ok, Err}
+use Rattle.std.specs.Prelude.{◌≡◌, ◌⊎◌, ℕ, ◌==◌, ◌||◌, not, if◌then◌else◌, Bool, true, false, List, [], length, codes, map, string_bytes, Option, Some, None, option_map, is_some, unwrap_or, Result, Ok, Err}
 use Rattle.std.specs.List.{list_any}
 use Rattle.std.specs.Str.{bytes_eq}
 use Rattle.clap.specs.Kinds.{IsAmong}
@@ -8,11 +8,17 @@ use Rattle.clap.specs.declared.error.kind.ErrorKind.{ErrorKind}
 use Rattle.clap.specs.declared.error.kind.ErrorKind.TheVariants.{DisplayHelp, DisplayVersion}
 use Rattle.kapi.specs.CommandLine.{kapi}
 use Rattle.kapi.specs.Listens.{◌>>=◌, few, listens_of}
-use Rattle.kapi.specs.Numbers.{port_of, readers_of}
+use Rattle.kapi.specs.Numbers.{port_of, readers_of, revision_of}
 use Rattle.kapi.specs.declared.program.AuditFiles.{AuditFiles}
 use Rattle.kapi.specs.declared.program.Command.{Command}
 use Rattle.kapi.specs.declared.program.Command.TheVariants as command
 use Rattle.kapi.specs.declared.program.CommandFault.{CommandFault}
+use Rattle.kapi.specs.declared.program.CompareFiles.{CompareFiles}
+use Rattle.kapi.specs.declared.program.RisksFile.{RisksFile}
+use Rattle.kapi.specs.declared.program.WhoQuestion.{WhoQuestion}
+use Rattle.kapi.specs.declared.program.WhoQuestion.TheVariants as who_question
+use Rattle.kapi.specs.declared.program.WhoWanted.{WhoWanted}
+use Rattle.kapi.specs.declared.program.WhoWords.{WhoWords}
 use Rattle.kapi.specs.declared.program.CommandFault.TheVariants as fault
 use Rattle.kapi.specs.declared.program.Listen.{Listen}
 use Rattle.kapi.specs.declared.program.ReplayOptions.{ReplayOptions}
@@ -24,10 +30,11 @@ pub record Files : Type 0 where
   pub questions : Text
   pub readers : ℕ
 
--- the file that a server loads, whether the rights of watches are looked at anew, the ports that it serves, the one on which questions
--- are answered, and by how many threads
+-- the file that a server loads, the revision after which its own begin (none: the clock gives it), whether the rights of watches are looked
+-- at anew, the ports that it serves, the one on which questions are answered, and by how many threads
 pub record Options : Type 0 where
   pub load : Option Text
+  pub first : Option ℕ
   pub recheck : Bool
   pub listens : List Listen
   pub answer : Option ℕ
@@ -38,12 +45,44 @@ pub record Transcripts : Type 0 where
   pub files : List Text
   pub write : Bool
 
+-- the policies that are compared, by the names of their files, and whether JSON is printed
+pub record Policies : Type 0 where
+  pub before : Text
+  pub after : Text
+  pub json : Bool
+
+-- the words of a question; the namespace and the name are empty where they are left out
+pub record QuestionWords : Type 0 where
+  pub verb : Text
+  pub resource : Text
+  pub namespace : Text
+  pub name : Text
+
+-- the words of a question, or the name of a file of questions
+pub data Question : Type 0 where
+  Words : QuestionWords → Question
+  File : Text → Question
+
+-- the policy that is asked who may do something, by the name of its file, the question, and whether JSON is printed
+pub record Who : Type 0 where
+  pub policy : Text
+  pub question : Question
+  pub json : Bool
+
+-- the policy that is asked who may gain more than it gives, by the name of its file, and whether JSON is printed
+pub record Risks : Type 0 where
+  pub policy : Text
+  pub json : Bool
+
 -- one of the programs with what it is given, or a text of that kind
 pub data Asked : Type 0 where
   Script : Asked
   Audit : Files → Asked
   Serve : Options → Asked
   Replay : Transcripts → Asked
+  Compare : Policies → Asked
+  AskWho : Who → Asked
+  AskRisks : Risks → Asked
   Show : ErrorKind → Asked
 
 -- ---- of the matches behind a subcommand
@@ -65,6 +104,11 @@ abbrev pub answer_of : Option Text → Option (Option ℕ)
 answer_of None = Some None
 answer_of (Some digits) = option_map (λ port. Some port) (port_of digits)
 
+-- the revision after which those of a server begin: 0 where none is told, none where the clock gives it; nothing where the word is neither
+abbrev pub first_of_word : Option Text → Option (Option ℕ)
+first_of_word None = Some (Some 0)
+first_of_word (Some word) = if bytes_eq word (codes "clock") then Some None else option_map (λ n. Some n) (revision_of word)
+
 -- the ports and who their clients are, in the order of the words, 1 to 16
 abbrev pub listens_in : List Row → Option (List Listen)
 listens_in rows = do
@@ -82,9 +126,11 @@ abbrev pub options_in : List Row → Option Options
 options_in rows = do
   answer ← answer_of (first_of (codes "answer") rows)
   readers ← readers_in rows
+  first ← first_of_word (first_of (codes "first-revision") rows)
   listens ← listens_in rows
   Some (record {
     load = first_of (codes "load") rows;
+    first = first;
     recheck = is_true (first_of (codes "recheck-watches") rows);
     listens = listens;
     answer = answer;
@@ -97,13 +143,65 @@ transcripts_in rows = do
   files ← all_of (codes "FILE") rows
   Some (record { files = files; write = is_true (first_of (codes "write") rows) })
 
+-- the comparison that they ask for
+abbrev pub compare_in : List Row → Option Policies
+compare_in rows = do
+  before ← first_of (codes "BEFORE") rows
+  after ← first_of (codes "AFTER") rows
+  Some (record { before = before; after = after; json = is_true (first_of (codes "json") rows) })
+
+-- the risks that they ask for
+abbrev pub risks_in : List Row → Option Risks
+risks_in rows = do
+  policy ← first_of (codes "POLICY") rows
+  Some (record { policy = policy; json = is_true (first_of (codes "json") rows) })
+
+-- the question that they tell in words
+abbrev pub wanted_in : List Row → Option QuestionWords
+wanted_in rows = do
+  verb ← first_of (codes "VERB") rows
+  resource ← first_of (codes "RESOURCE") rows
+  Some (record {
+    verb = verb;
+    resource = resource;
+    namespace = unwrap_or (first_of (codes "namespace") rows) [];
+    name = unwrap_or (first_of (codes "name") rows) [];
+  })
+
+-- some word of a question is there
+abbrev pub has_words : List Row → Bool
+has_words rows = is_some (first_of (codes "VERB") rows) || (is_some (first_of (codes "namespace") rows) || is_some (first_of (codes "name") rows))
+
+-- a file of questions, with no word of a question beside it
+abbrev pub file_alone : Text → List Row → Option Question
+file_alone file rows = if has_words rows then None else Some (File file)
+
+-- the file of questions, or else the words of one
+abbrev pub question_by : Option Text → List Row → Option Question
+question_by (Some file) rows = file_alone file rows
+question_by None rows = option_map Words (wanted_in rows)
+
+-- the question that they ask
+abbrev pub question_in : List Row → Option Question
+question_in rows = question_by (first_of (codes "questions") rows) rows
+
+-- the question and its policy
+abbrev pub who_in : List Row → Option Who
+who_in rows = do
+  policy ← first_of (codes "POLICY") rows
+  question ← question_in rows
+  Some (record { policy = policy; question = question; json = is_true (first_of (codes "json") rows) })
+
 -- what the subcommand of that name asks for
 abbrev pub asked_by : Text → List Row → Option Asked
 asked_by name rows =
     if bytes_eq name (codes "script") then Some Script
     else (if bytes_eq name (codes "audit") then option_map Audit (files_in rows)
     else (if bytes_eq name (codes "serve") then option_map Serve (options_in rows)
-    else (if bytes_eq name (codes "replay") then option_map Replay (transcripts_in rows) else None)))
+    else (if bytes_eq name (codes "replay") then option_map Replay (transcripts_in rows)
+    else (if bytes_eq name (codes "compare") then option_map Compare (compare_in rows)
+    else (if bytes_eq name (codes "who") then option_map AskWho (who_in rows)
+    else (if bytes_eq name (codes "risks") then option_map AskRisks (risks_in rows) else None))))))
 
 -- ---- of the words
 
@@ -137,6 +235,7 @@ files_told f = record { policy = string_bytes f.policy; questions = string_bytes
 abbrev pub options_told : ServeOptions → Options
 options_told o = record {
   load = option_map (λ s. string_bytes s) o.load;
+  first = o.first_revision;
   recheck = o.recheck;
   listens = o.listens.items;
   answer = o.answer;
@@ -147,12 +246,41 @@ options_told o = record {
 abbrev pub transcripts_told : ReplayOptions → Transcripts
 transcripts_told o = record { files = map string_bytes o.files.items; write = o.write }
 
+-- the fields of a comparison
+abbrev pub compare_told : CompareFiles → Policies
+compare_told f = record { before = string_bytes f.before; after = string_bytes f.after; json = f.json }
+
+-- the fields of risks
+abbrev pub risks_told : RisksFile → Risks
+risks_told f = record { policy = string_bytes f.policy; json = f.json }
+
+-- the words of a question
+abbrev pub wanted_told : WhoWanted → QuestionWords
+wanted_told w = record {
+  verb = string_bytes w.verb;
+  resource = string_bytes w.resource;
+  namespace = string_bytes w.namespace;
+  name = string_bytes w.name;
+}
+
+-- a question
+abbrev pub question_told : WhoQuestion → Question
+question_told (who_question.Words w) = Words (wanted_told w)
+question_told (who_question.File f) = File (string_bytes f)
+
+-- the fields of a question and its policy
+abbrev pub who_told : WhoWords → Who
+who_told w = record { policy = string_bytes w.policy; question = question_told w.question; json = w.json }
+
 -- a command with its fields
 abbrev pub told : Command → Asked
 told command.Script = Script
 told (command.Audit files) = Audit (files_told files)
 told (command.Serve options) = Serve (options_told options)
 told (command.Replay options) = Replay (transcripts_told options)
+told (command.Compare files) = Compare (compare_told files)
+told (command.Who words) = AskWho (who_told words)
+told (command.Risks file) = AskRisks (risks_told file)
 told (command.Show text) = Show (kind_of text)
 
 -- the words ask for that command

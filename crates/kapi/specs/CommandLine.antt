@@ -3,7 +3,6 @@ use Rattle.std.specs.Prelude.{Some, [], ◌∷◌, codes, true}
 use Rattle.clap.specs.Words.{App, Rule, Text, new_app, new_rule, with_rule, with_subcommand}
 use Rattle.clap.specs.Simple.{on_top}
 use Rattle.clap.specs.declared.builder.action.ArgAction.TheVariants.{SetTrue}
-use Rattle.clap.specs.declared.builder.value_parser.ValueParser.TheVariants.{Unsigned}
 
 -- a file that must be named
 abbrev pub file : Text → Rule
@@ -13,12 +12,9 @@ file name = record (new_rule name) { required = true }
 abbrev pub option : Text → Rule
 option name = record (new_rule name) { long = Some name; value_names = 1 }
 
--- `--readers N`, where N is a number of 64 bits, and 2 where it is left out
+-- `--readers N`, where N is 2 where it is left out
 abbrev pub readers : Rule
-readers = record (option (codes "readers")) {
-  parser = Some (Unsigned 0 18446744073709551615);
-  defaults = codes "2" ∷ [];
-}
+readers = record (option (codes "readers")) { defaults = codes "2" ∷ [] }
 
 -- the words of the ports, 1 to 16
 abbrev pub listen : Rule
@@ -44,7 +40,11 @@ flag name = record (new_rule name) { long = Some name; action = Some SetTrue }
 abbrev pub serve : App
 serve =
     with_rule
-    (with_rule (with_rule (with_rule (with_rule (new_app (codes "serve")) (option (codes "load"))) (flag (codes "recheck-watches"))) (option (codes "answer"))) readers)
+    (with_rule
+    (with_rule
+    (with_rule (with_rule (with_rule (new_app (codes "serve")) (option (codes "load"))) (option (codes "first-revision"))) (flag (codes "recheck-watches")))
+    (option (codes "answer")))
+    readers)
     listen
 
 -- the names of the transcripts, one or more
@@ -58,7 +58,39 @@ transcripts = record (new_rule (codes "FILE")) {
 abbrev pub replay : App
 replay = with_rule (with_rule (new_app (codes "replay")) (flag (codes "write"))) transcripts
 
--- `kapi`, which has a version and needs one of its four subcommands
-abbrev pub kapi : App
-kapi =
+-- a word that may be left out
+abbrev pub word : Text → Rule
+word name = new_rule name
+
+-- `--json`
+abbrev pub json : Rule
+json = flag (codes "json")
+
+-- `kapi compare`, its flag before its files
+abbrev pub compare : App
+compare = with_rule (with_rule (with_rule (new_app (codes "compare")) json) (file (codes "BEFORE"))) (file (codes "AFTER"))
+
+-- how and where `kapi who` asks
+abbrev pub who_flags : App
+who_flags = with_rule (with_rule (with_rule (new_app (codes "who")) json) (option (codes "namespace"))) (option (codes "name"))
+
+-- the options of `kapi who`, and its file behind them
+abbrev pub who_options : App
+who_options = with_rule (with_rule who_flags (option (codes "questions"))) (file (codes "POLICY"))
+
+-- `kapi who`, its words behind its file
+abbrev pub who : App
+who = with_rule (with_rule who_options (word (codes "VERB"))) (word (codes "RESOURCE"))
+
+-- `kapi risks`, its flag before its file
+abbrev pub risks : App
+risks = with_rule (with_rule (new_app (codes "risks")) json) (file (codes "POLICY"))
+
+-- the subcommands that run a machine
+abbrev pub machines : App
+machines =
     with_subcommand (with_subcommand (with_subcommand (with_subcommand (on_top (λ s. record s { has_version = true; subcommand_required = true }) (new_app (codes "kapi"))) script.top) audit.top) serve.top) replay.top
+
+-- `kapi`, which has a version and needs one of its seven subcommands
+abbrev pub kapi : App
+kapi = with_subcommand (with_subcommand (with_subcommand machines compare.top) who.top) risks.top

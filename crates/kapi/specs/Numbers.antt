@@ -1,26 +1,28 @@
 -- The numbers that words of a command line tell.
-use Rattle.std.specs.Prelude.{ℕ, ◌&&◌, nat_le, nat_lt, if◌then◌else◌, List, length, Option, Some, None, option_and_then}
+use Rattle.std.specs.Prelude.{ℕ, ◌*◌, ◌&&◌, nat_le, if◌then◌else◌, List, length, Option, Some, None}
 use Rattle.std.specs.Char.{is_ascii_digit}
 use Rattle.std.specs.List.{list_all}
-use Rattle.std.specs.Str.Parse.{digits_value, without_leading_plus}
-use Rattle.clap.specs.ValueTests.{is_numeral}
+use Rattle.std.specs.Str.Parse.{digits_value}
 
--- the port that 1 to 5 decimal digits tell, from 1 to 65,535
-unfoldable pub port_of : List ℕ → Option ℕ
-port_of s =
-    if nat_le (length s) 5 && (list_all is_ascii_digit s && (nat_le 1 (digits_value 10 s) && nat_le (digits_value 10 s) 65535)) then Some (digits_value 10 s)
+-- the number that 1 to so many decimal digits tell, and nothing else, where it is within bounds
+unfoldable pub number_of : ℕ → ℕ → ℕ → List ℕ → Option ℕ
+number_of places least largest s =
+    if nat_le 1 (length s) && (nat_le (length s) places && (list_all is_ascii_digit s && (nat_le least (digits_value 10 s) && nat_le (digits_value 10 s) largest)))
+    then Some (digits_value 10 s)
     else None
 
--- the number below 2^64 that decimal digits tell, a plus before them or not
-unfoldable pub number_of : List ℕ → Option ℕ
-number_of s =
-    let digits = without_leading_plus s in
-    if is_numeral digits && nat_lt (digits_value 10 digits) 18446744073709551616 then Some (digits_value 10 digits) else None
+-- a port, from 1 to 65,535
+abbrev pub port_of : List ℕ → Option ℕ
+port_of s = number_of 5 1 65535 s
 
--- a number that is 1 to 16
-abbrev pub one_to_16 : ℕ → Option ℕ
-one_to_16 n = if nat_le 1 n && nat_le n 16 then Some n else None
-
--- the number of readers that digits tell, 1 to 16
+-- a number of readers, from 1 to 16
 abbrev pub readers_of : List ℕ → Option ℕ
-readers_of s = option_and_then one_to_16 (number_of s)
+readers_of s = number_of 2 1 16 s
+
+-- the revision after which those of a server begin, up to the largest after which the objects of the opening can be created
+abbrev pub revision_of : List ℕ → Option ℕ
+revision_of s = number_of 15 0 281474976710650 s
+
+-- the same by the clock: 100,000 for each second since the start of 1970, where that is such a revision
+abbrev pub clock_revision : ℕ → Option ℕ
+clock_revision seconds = if nat_le (seconds * 100000) 281474976710650 then Some (seconds * 100000) else None

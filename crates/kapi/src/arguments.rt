@@ -1,11 +1,11 @@
-ghost use Rattle.std.specs.Prelude.{◌≡◌, IfOk, false};
-ghost use Rattle.clap.specs.Simple.{app_of};
+ghost use Rattle.std.specs.Prelude.{◌≡◌, IfOk, codes, false};
+ghost use Rattle.clap.specs.Simple.{app_of, new_app};
 ghost use Rattle.clap.specs.Walk.{rule_of};
 ghost use Rattle.clap.specs.declared.builder.command.Command.TheViews.{out-Command};
-ghost use Rattle.kapi.specs.CommandLine.{kapi, audit as audit_app, replay as replay_app, serve as serve_app, script as script_app, file as file_rule, option as option_rule, readers as readers_rule, listen as listen_rule, transcripts as transcripts_rule, flag as flag_rule};
+ghost use Rattle.kapi.specs.CommandLine.{kapi, audit as audit_app, compare as compare_app, replay as replay_app, risks as risks_app, serve as serve_app, script as script_app, who as who_app, who_flags as who_flags_app, who_options as who_options_app, word as word_rule, file as file_rule, json as json_rule, machines as machines_app, option as option_rule, readers as readers_rule, listen as listen_rule, transcripts as transcripts_rule, flag as flag_rule};
 
 use crate::command_line::PORTS;
-use clap::{Arg, ArgAction, Command, value_parser};
+use clap::{Arg, ArgAction, Command};
 use kapi_text::Memory;
 use std::alloc::Global;
 
@@ -15,6 +15,16 @@ const VERSION: &str = "0.1.0";
 /// The command line that `kapi` takes.
 pub fn program<'a>(alloc: Global) -> Result<Command<'a>, Memory>
     ensures { IfOk result (λ c. app_of c ≡ kapi) }
+{
+    machines(alloc)?
+        .subcommand(compare(alloc)?)?
+        .subcommand(who(alloc)?)?
+        .subcommand(risks(alloc)?)
+}
+
+/// The program with the subcommands that run a machine.
+fn machines<'a>(alloc: Global) -> Result<Command<'a>, Memory>
+    ensures { IfOk result (λ c. app_of c ≡ machines_app) }
 {
     Command::new(alloc, "kapi")
         .about("An API server for declared objects with role-based access control")
@@ -67,22 +77,39 @@ FILE has one JSON object a line, namespaces first; empty lines and lines that be
 With --recheck-watches a watch ends with a 403 once the roles and bindings do not allow it any more; else its rights are looked at when
 it starts, and then no more.
 
+With --first-revision N the revisions begin after N, at most 281474976710650; with 'clock' after 100000 for each second since 1970, which
+is above every revision of an earlier start, so clients that watched before a restart list anew instead of waiting or missing changes.
+
 With --answer, N threads answer questions while the server goes on, those of one client after the other: each line the spec of a
 SubjectAccessReview, as for kapi audit, and each answer behind the number of changes of the policy that it follows.
 
 Example:
-  kapi serve --load objects.jsonl 8001=root,system:masters 8002=ann,dev
+  kapi serve --load objects.jsonl --first-revision clock 8001=root,system:masters 8002=ann,dev
   curl -s 127.0.0.1:8001/api/v1/namespaces/default/configmaps -H 'Content-Type: application/json' \
     -d '{"apiVersion":"v1","kind":"ConfigMap","metadata":{"name":"a"},"data":{"k":"v"}}'
   curl -s 127.0.0.1:8001/api/v1/namespaces/default/configmaps/a"#;
 
-fn serve<'a>(alloc: Global) -> Result<Command<'a>, Memory>
-    ensures { IfOk result (λ c. (app_of c ≡ serve_app) × ((out-Command c).has_globals ≡ false)) }
+/// `kapi serve` without its arguments.
+fn bare_serve<'a>(alloc: Global) -> Command<'a>
+    ensures app { app_of result ≡ new_app (codes "serve") }
+    ensures local { (out-Command result).has_globals ≡ false }
 {
     Command::new(alloc, "serve")
         .about("Serves requests on ports of this machine")
         .after_help(SERVE_FORMS)
+}
+
+fn serve<'a>(alloc: Global) -> Result<Command<'a>, Memory>
+    ensures { IfOk result (λ c. (app_of c ≡ serve_app) × ((out-Command c).has_globals ≡ false)) }
+{
+    bare_serve(alloc)
         .arg(option(alloc, "load", "FILE", "The objects that stand at first"))?
+        .arg(option(
+            alloc,
+            "first-revision",
+            "N|clock",
+            "The revision after which the server's begin; 0 where it is left out",
+        ))?
         .arg(flag(
             alloc,
             "recheck-watches",
@@ -138,6 +165,129 @@ fn replay<'a>(alloc: Global) -> Result<Command<'a>, Memory>
         .arg(transcripts(alloc))
 }
 
+/// What `kapi compare --help` shows below the arguments.
+const COMPARE_FORMS: &str =
+    r#"Each file has one JSON object a line, as a cluster gives them, namespaces first; empty lines and lines that begin with # are skipped.
+
+Each line tells a user or group that gains, the namespace (* is all of them), what it gains, and the binding, role and rule that give it.
+
+Example:
+  kapi compare before.jsonl after.jsonl
+  SUBJECT   NAMESPACE  GAINS                 BY
+  User ann  shop       ["get","","secrets"]  RoleBinding readers, Role reader, rule 0
+
+Status 0 where nobody gains, 3 where somebody does, and 1 where a file is not loaded."#;
+
+fn compare<'a>(alloc: Global) -> Result<Command<'a>, Memory>
+    ensures { IfOk result (λ c. (app_of c ≡ compare_app) × ((out-Command c).has_globals ≡ false)) }
+{
+    Command::new(alloc, "compare")
+        .about("Tells what a policy allows to whom that another did not")
+        .after_help(COMPARE_FORMS)
+        .arg(json(alloc))?
+        .arg(file(alloc, "BEFORE", "The objects of the policy that was"))?
+        .arg(file(alloc, "AFTER", "The objects of the policy that is to be"))
+}
+
+/// What `kapi who --help` shows below the arguments.
+const WHO_FORMS: &str =
+    r#"POLICY has one JSON object a line, as a cluster gives them, namespaces first; empty lines and lines that begin with # are skipped.
+
+RESOURCE: pods, pods/log, deployments.apps, or a path that begins with a slash, which is asked about cluster-wide.
+
+--questions: a file of questions, each a line VERB RESOURCE [NAMESPACE [NAME]], where the namespace * asks cluster-wide.
+
+Example:
+  kapi who policy.jsonl get secrets --namespace shop
+  SUBJECT               NAMESPACE  BINDING              RULE
+  Group system:masters  *          -                    everything
+  User ann              shop       RoleBinding readers  Role reader, rule 0"#;
+
+fn who<'a>(alloc: Global) -> Result<Command<'a>, Memory>
+    ensures { IfOk result (λ c. (app_of c ≡ who_app) × ((out-Command c).has_globals ≡ false)) }
+{
+    who_options(alloc)?
+        .arg(word(alloc, "VERB", "The verb that is asked about, as get"))?
+        .arg(word(
+            alloc,
+            "RESOURCE",
+            "The resource that is asked about, as pods",
+        ))
+}
+
+/// `kapi who` without its words.
+fn who_options<'a>(alloc: Global) -> Result<Command<'a>, Memory>
+    ensures { IfOk result (λ c. (app_of c ≡ who_options_app) × ((out-Command c).has_globals ≡ false)) }
+{
+    who_flags(alloc)?
+        .arg(option(
+            alloc,
+            "questions",
+            "FILE",
+            "Questions, in place of VERB and RESOURCE",
+        ))?
+        .arg(file(alloc, "POLICY", "The objects of the policy"))
+}
+
+/// `kapi who` with what tells how and where it is asked.
+fn who_flags<'a>(alloc: Global) -> Result<Command<'a>, Memory>
+    ensures { IfOk result (λ c. (app_of c ≡ who_flags_app) × ((out-Command c).has_globals ≡ false)) }
+{
+    Command::new(alloc, "who")
+        .about("Tells who may do something by a policy")
+        .after_help(WHO_FORMS)
+        .arg(json(alloc))?
+        .arg(option(
+            alloc,
+            "namespace",
+            "NS",
+            "The namespace that is asked about; all of them where it is left out",
+        ))?
+        .arg(option(
+            alloc,
+            "name",
+            "NAME",
+            "The name of the object that is asked about",
+        ))
+}
+
+/// What `kapi risks --help` shows below the arguments.
+const RISKS_FORMS: &str =
+    r#"POLICY has one JSON object a line, as a cluster gives them, namespaces first; empty lines and lines that begin with # are skipped.
+
+Each line tells a user or group that may escalate or bind roles or impersonate, the namespace (* is all of them), and the binding, role and
+rule that let it. The last line tells what holds of all others.
+
+Example:
+  kapi risks policy.jsonl
+  SUBJECT               NAMESPACE  BINDING                    RULE
+  Group system:masters  *          -                          everything
+  User olga             *          ClusterRoleBinding admins  ClusterRole admin, rule 2"#;
+
+fn risks<'a>(alloc: Global) -> Result<Command<'a>, Memory>
+    ensures { IfOk result (λ c. (app_of c ≡ risks_app) × ((out-Command c).has_globals ≡ false)) }
+{
+    Command::new(alloc, "risks")
+        .about("Tells who may come to more than a policy gives")
+        .after_help(RISKS_FORMS)
+        .arg(json(alloc))?
+        .arg(file(alloc, "POLICY", "The objects of the policy"))
+}
+
+fn json<'a>(alloc: Global) -> Arg<'a>
+    ensures rule { rule_of result ≡ json_rule }
+    ensures local { result.global ≡ false }
+{
+    flag(alloc, "json", "Prints a JSON object a line")
+}
+
+fn word<'a>(alloc: Global, name: &'a str, help: &'a str) -> Arg<'a>
+    ensures rule { rule_of result ≡ word_rule name.entry.now }
+    ensures local { result.global ≡ false }
+{
+    Arg::new(alloc, name).help(help)
+}
+
 fn flag<'a>(alloc: Global, name: &'a str, help: &'a str) -> Arg<'a>
     ensures rule { rule_of result ≡ flag_rule name.entry.now }
     ensures local { result.global ≡ false }
@@ -185,7 +335,6 @@ fn readers<'a>(alloc: Global) -> Arg<'a>
         "N",
         "How many threads answer, from 1 to 16",
     )
-    .value_parser(value_parser!(usize))
     .default_value("2")
 }
 

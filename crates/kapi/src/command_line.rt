@@ -1,18 +1,20 @@
-ghost use Rattle.std.specs.Prelude.{◌≡◌, ◌≤◌, ℕ, List, IfOk, IsErrOf, codes, map, option_and_then, option_map, string_bytes, vec_len};
+ghost use Rattle.std.specs.Prelude.{◌≡◌, ◌≤◌, ℕ, List, IfOk, IfSome, IsErrOf, codes, map, option_and_then, option_map, string_bytes, vec_len};
 ghost use Rattle.clap.specs.Matches.{found_of};
 ghost use Rattle.clap.specs.Simple.{subcommand_rows_of};
 ghost use Rattle.clap.specs.Walk.{all_of, first_of, rows_of};
-ghost use Rattle.kapi.specs.Asked.{AreWrong, Names, Reads, answer_of, asked_by, files_in, files_told, is_true, listens_in, options_in, options_told, readers_in, told, transcripts_in, transcripts_told};
+ghost use Rattle.kapi.specs.Asked.{AreWrong, Names, Reads, answer_of, asked_by, compare_in, compare_told, file_alone, has_words, question_in, question_told, risks_in, risks_told, wanted_in, wanted_told, who_in, who_told, files_in, files_told, first_of_word, is_true, listens_in, options_in, options_told, readers_in, told, transcripts_in, transcripts_told};
 ghost use Rattle.kapi.specs.Listens.{listen_of, listens_of, parted as parted_of};
-ghost use Rattle.kapi.specs.Numbers.{number_of, port_of, readers_of};
 
 use crate::arguments::program;
-use crate::program::{AuditFiles, Command, CommandFault, Listen, ReplayOptions, ServeOptions};
+use crate::numbers::{first_revision, number_of_readers, port};
+use crate::program::{
+    AuditFiles, Command, CommandFault, CompareFiles, Listen, ReplayOptions, RisksFile,
+    ServeOptions, WhoQuestion, WhoWanted, WhoWords,
+};
 use clap::ArgMatches;
 use clap::error::ErrorKind;
-use kapi_audit::READERS;
 use kapi_script::read_identity;
-use kapi_text::{Memory, are_digits, number};
+use kapi_text::Memory;
 use std::alloc::Global;
 
 /// Reads the command line; the first word is the program's name.
@@ -50,6 +52,9 @@ fn named(alloc: Global, name: &str, words: &ArgMatches<'_>) -> Result<Command, C
         "audit" => Ok(Command::Audit(audit_files(alloc, words)?)),
         "serve" => Ok(Command::Serve(serve_options(alloc, words)?)),
         "replay" => Ok(Command::Replay(replay_options(alloc, words)?)),
+        "compare" => Ok(Command::Compare(compare_files(alloc, words)?)),
+        "who" => Ok(Command::Who(who_words(alloc, words)?)),
+        "risks" => Ok(Command::Risks(risks_file(alloc, words)?)),
         _ => Err(CommandFault::Words),
     }
 }
@@ -60,7 +65,7 @@ fn audit_files(alloc: Global, words: &ArgMatches<'_>) -> Result<AuditFiles, Comm
 {
     let policy = value(words, "POLICY").ok_or(CommandFault::Words)?;
     let questions = value(words, "QUESTIONS").ok_or(CommandFault::Words)?;
-    let readers = number_of_readers(words).ok_or(CommandFault::Words)?;
+    let readers = readers(words).ok_or(CommandFault::Words)?;
     Ok(AuditFiles {
         policy: String::from_str(alloc, policy)?,
         questions: String::from_str(alloc, questions)?,
@@ -76,6 +81,96 @@ fn replay_options(alloc: Global, words: &ArgMatches<'_>) -> Result<ReplayOptions
     Ok(ReplayOptions {
         files,
         write: is_given(words, "write"),
+    })
+}
+
+/// The value of that name, copied.
+fn needed(alloc: Global, words: &ArgMatches<'_>, name: &str) -> Result<String, CommandFault>
+    ensures { Reads (λ s. string_bytes s) result (first_of name.now (rows_of (found_of words.now))) }
+{
+    let value = value(words, name).ok_or(CommandFault::Words)?;
+    Ok(String::from_str(alloc, value)?)
+}
+
+/// The files that the words behind `compare` tell.
+fn compare_files(alloc: Global, words: &ArgMatches<'_>) -> Result<CompareFiles, CommandFault>
+    ensures { Reads compare_told result (compare_in (rows_of (found_of words.now))) }
+{
+    let before = needed(alloc, words, "BEFORE")?;
+    let after = needed(alloc, words, "AFTER")?;
+    Ok(CompareFiles {
+        before,
+        after,
+        json: is_given(words, "json"),
+    })
+}
+
+/// The file that the words behind `risks` tell.
+fn risks_file(alloc: Global, words: &ArgMatches<'_>) -> Result<RisksFile, CommandFault>
+    ensures { Reads risks_told result (risks_in (rows_of (found_of words.now))) }
+{
+    let policy = needed(alloc, words, "POLICY")?;
+    Ok(RisksFile {
+        policy,
+        json: is_given(words, "json"),
+    })
+}
+
+/// The file and the question that the words behind `who` tell.
+fn who_words(alloc: Global, words: &ArgMatches<'_>) -> Result<WhoWords, CommandFault>
+    ensures { Reads who_told result (who_in (rows_of (found_of words.now))) }
+{
+    let policy = needed(alloc, words, "POLICY")?;
+    let question = who_question(alloc, words)?;
+    Ok(WhoWords {
+        policy,
+        question,
+        json: is_given(words, "json"),
+    })
+}
+
+/// The question that the words behind `who` tell: a file of questions, or a verb and a resource, and not both.
+fn who_question(alloc: Global, words: &ArgMatches<'_>) -> Result<WhoQuestion, CommandFault>
+    ensures { Reads question_told result (question_in (rows_of (found_of words.now))) }
+{
+    match value(words, "questions") {
+        Some(file) => who_file(alloc, words, file),
+        None => Ok(WhoQuestion::Words(who_wanted(alloc, words)?)),
+    }
+}
+
+/// The file of questions, where no word of a question stands beside it.
+fn who_file(alloc: Global, words: &ArgMatches<'_>, file: &str) -> Result<WhoQuestion, CommandFault>
+    ensures { Reads question_told result (file_alone file.now (rows_of (found_of words.now))) }
+{
+    if has_question(words) {
+        return Err(CommandFault::Words);
+    }
+    Ok(WhoQuestion::File(String::from_str(alloc, file)?))
+}
+
+/// Whether some word of a question is given.
+fn has_question(words: &ArgMatches<'_>) -> bool
+    ensures { result ≡ has_words (rows_of (found_of words.now)) }
+{
+    value(words, "VERB").is_some()
+        || value(words, "namespace").is_some()
+        || value(words, "name").is_some()
+}
+
+/// The words of a question.
+fn who_wanted(alloc: Global, words: &ArgMatches<'_>) -> Result<WhoWanted, CommandFault>
+    ensures { Reads wanted_told result (wanted_in (rows_of (found_of words.now))) }
+{
+    let verb = needed(alloc, words, "VERB")?;
+    let resource = needed(alloc, words, "RESOURCE")?;
+    let namespace = String::from_str(alloc, value(words, "namespace").unwrap_or(""))?;
+    let name = String::from_str(alloc, value(words, "name").unwrap_or(""))?;
+    Ok(WhoWanted {
+        verb,
+        resource,
+        namespace,
+        name,
     })
 }
 
@@ -120,46 +215,31 @@ fn value<'a>(words: &ArgMatches<'a>, name: &str) -> Option<&'a str>
 }
 
 /// The number behind `--readers`, where it is 1 to 16.
-fn number_of_readers(words: &ArgMatches<'_>) -> Option<usize>
-    ensures { result ≡ readers_in (rows_of (found_of words.now)) }
+fn readers(words: &ArgMatches<'_>) -> Option<usize>
+    ensures told { result ≡ readers_in (rows_of (found_of words.now)) }
+    ensures few { IfSome result (λ n. (1 ≤ n) × (n ≤ 16)) }
 {
     match value(words, "readers") {
-        Some(digits) => few_readers(digits),
+        Some(digits) => number_of_readers(digits),
         None => None,
     }
-}
-
-/// The number that the digits tell, where it is 1 to 16.
-fn few_readers(digits: &str) -> Option<usize>
-    ensures { result ≡ readers_of digits.now }
-{
-    match whole_number(digits) {
-        Some(readers) if 1 <= readers && readers <= READERS => Some(readers),
-        _ => None,
-    }
-}
-
-/// The number that the digits tell, a plus before them or not.
-#[tactic(auto, using(crate::proofs::Reading::number_read))]
-fn whole_number(digits: &str) -> Option<usize>
-    ensures { result ≡ number_of digits.now }
-{
-    digits.parse().ok()
 }
 
 /// So many ports are served at most.
 pub const PORTS: usize = 16;
 
-/// The file, the switch, the ports and the number of readers that the words behind `serve` tell.
+/// The file, the first revision, the switch, the ports and the number of readers that the words behind `serve` tell.
 fn serve_options(alloc: Global, words: &ArgMatches<'_>) -> Result<ServeOptions, CommandFault>
     ensures { Reads options_told result (options_in (rows_of (found_of words.now))) }
 {
     let answer = answer(words).ok_or(CommandFault::Words)?;
-    let readers = number_of_readers(words).ok_or(CommandFault::Words)?;
+    let readers = readers(words).ok_or(CommandFault::Words)?;
+    let first_revision = first(words).ok_or(CommandFault::Words)?;
     let listens = listens(alloc, words)?;
     let load = copied(alloc, value(words, "load"))?;
     Ok(ServeOptions {
         load,
+        first_revision,
         recheck: is_given(words, "recheck-watches"),
         listens,
         answer,
@@ -174,6 +254,21 @@ fn answer(words: &ArgMatches<'_>) -> Option<Option<u16>>
     match value(words, "answer") {
         Some(digits) => port(digits).map(Some),
         None => Some(None),
+    }
+}
+
+/// The first revision that is told, 0 where none is, and none where it is the clock's.
+fn first(words: &ArgMatches<'_>) -> Option<Option<u64>>
+    ensures told { result ≡ first_of_word (first_of (codes "first-revision") (rows_of (found_of words.now))) }
+    ensures small { IfSome result (λ first. IfSome first (λ n. n ≤ 281474976710650)) }
+{
+    match value(words, "first-revision") {
+        Some("clock") => Some(None),
+        Some(digits) => match first_revision(digits) {
+            Some(first) => Some(Some(first)),
+            None => None,
+        },
+        None => Some(Some(0)),
     }
 }
 
@@ -227,21 +322,4 @@ fn parted(word: &str) -> Option<(&str, &str)>
     ensures { option_map {U = List ℕ × List ℕ} (λ p. (p.0.now, p.1.now)) result ≡ parted_of word.now }
 {
     word.split_once('=')
-}
-
-/// A port is a decimal number of so many digits at most.
-const PORT_DIGITS: usize = 5;
-
-/// The port that the digits tell, from 1 to 65,535.
-#[tactic(auto, unfolding(crate::specs::Numbers::port_of))]
-fn port(digits: &str) -> Option<u16>
-    ensures { result ≡ port_of digits.now }
-{
-    if digits.len() > PORT_DIGITS || !are_digits(digits.as_bytes()) {
-        return None;
-    }
-    match u16::try_from(number(digits.as_bytes())) {
-        Ok(0) | Err(_) => None,
-        Ok(port) => Some(port),
-    }
 }

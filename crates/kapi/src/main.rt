@@ -1,19 +1,23 @@
 //! The programs of Kapi. `kapi script` plays events from standard input and prints the answers; `kapi audit` answers questions by the
-//! policy of a file; `kapi serve` serves requests on ports of this machine; `kapi replay` plays transcripts.
+//! policy of a file; `kapi serve` serves requests on ports of this machine; `kapi replay` plays transcripts; `kapi compare`,
+//! `kapi who` and `kapi risks` answer questions about the policies of files.
 #![tactic(auto)]
 
 ghost use Rattle.std.specs.Prelude.{◌≤◌};
 
 mod answering;
 mod arguments;
+mod asking;
+mod beginning;
 mod bounded_lines;
 mod command_line;
+mod numbers;
+mod policies;
 mod program;
 mod replaying;
 mod serving;
-#[cfg(test)]
-mod tests;
 
+use asking::{run_compare, run_risks, run_who};
 use command_line::command;
 use kapi_audit::{AuditFault, NoGate, audit_run};
 use kapi_index::IndexedPolicy;
@@ -34,6 +38,9 @@ fn main(rt: HostRuntime) -> io::Result<ExitCode> {
         Ok(Command::Audit(files)) => run_audit(&rt, &files),
         Ok(Command::Serve(options)) => run_serve(&rt, &options),
         Ok(Command::Replay(options)) => run_replay(&rt, &options),
+        Ok(Command::Compare(files)) => run_compare(&rt, &files),
+        Ok(Command::Who(words)) => run_who(&rt, &words),
+        Ok(Command::Risks(file)) => run_risks(&rt, &file),
         Ok(Command::Show(text)) => {
             text.print(&rt)?;
             Ok(ExitCode::SUCCESS)

@@ -1,4 +1,5 @@
-ghost use Rattle.std.specs.Prelude.{◌≡◌, ◌≤◌, vec_len};
+ghost use Rattle.std.specs.Prelude.{◌≡◌, ◌≤◌, IfSome, vec_len};
+ghost use Rattle.std.proofs.Props.{props};
 ghost use Rattle.kapi.specs.declared.program.CommandFault.TheVariants.{Memory as NoMemory};
 
 use clap::Error as Shown;
@@ -18,8 +19,57 @@ pub enum Command {
     Serve(ServeOptions),
     /// `kapi replay`: transcripts, whose answers are compared with those that are wanted.
     Replay(ReplayOptions),
+    /// `kapi compare`: what a policy gives that another did not.
+    Compare(CompareFiles),
+    /// `kapi who`: who may do something by a policy.
+    Who(WhoWords),
+    /// `kapi risks`: who may gain more than a policy gives.
+    Risks(RisksFile),
     /// `--help`, `help` or `--version`: the text that is asked for.
     Show(Shown),
+}
+
+/// The policies that are compared, by the names of their files.
+#[derive(Debug, Drop)]
+pub struct CompareFiles {
+    pub before: String,
+    pub after: String,
+    /// Whether JSON is printed.
+    pub json: bool,
+}
+
+/// What is asked of a policy.
+#[derive(Debug, Drop)]
+pub enum WhoQuestion {
+    Words(WhoWanted),
+    /// A file of questions, by its name.
+    File(String),
+}
+
+/// The words of a question; the namespace and the name are empty where they are left out.
+#[derive(Debug, Drop)]
+pub struct WhoWanted {
+    pub verb: String,
+    pub resource: String,
+    pub namespace: String,
+    pub name: String,
+}
+
+/// The policy that is asked who may do something, by the name of its file.
+#[derive(Debug, Drop)]
+pub struct WhoWords {
+    pub policy: String,
+    pub question: WhoQuestion,
+    /// Whether JSON is printed.
+    pub json: bool,
+}
+
+/// The policy that is asked who may gain more than it gives, by the name of its file.
+#[derive(Debug, Drop)]
+pub struct RisksFile {
+    pub policy: String,
+    /// Whether JSON is printed.
+    pub json: bool,
 }
 
 /// The files of an audit, by their names, and how many threads answer.
@@ -45,6 +95,8 @@ pub struct ReplayOptions {
 pub struct ServeOptions {
     /// The file of the objects that stand at first, by its name.
     pub load: Option<String>,
+    /// The revision after which the server's begin, at most 281,474,976,710,650; none where the clock gives it.
+    pub first_revision: Option<u64>,
     /// The rights of a watch are looked at anew at each of its events.
     pub recheck: bool,
     /// 1 to 16, in the order of the words.
@@ -53,6 +105,7 @@ pub struct ServeOptions {
     pub answer: Option<u16>,
     /// The number of threads that answer them.
     pub readers: usize,
+    ghost first: { IfSome first_revision (λ n. n ≤ 281474976710650) } by { Prim.hlevel props },
     ghost few: { (1 ≤ vec_len listens) × (vec_len listens ≤ 16) },
     ghost threads: { (1 ≤ readers) × (readers ≤ 16) },
 }
@@ -68,7 +121,7 @@ pub struct Listen {
 /// Why a command line was not understood.
 #[derive(Clone, Copy, Debug, PartialEq, Eq, Error)]
 pub enum CommandFault {
-    #[error("usage: kapi script, kapi audit POLICY QUESTIONS [--readers N], N from 1 to 16, kapi replay [--write] FILE.., or kapi serve [--load FILE] [--recheck-watches] [--answer PORT] [--readers N] PORT=USER[,GROUP..]..")]
+    #[error("usage: kapi script, kapi audit POLICY QUESTIONS [--readers N], N from 1 to 16, kapi replay [--write] FILE.., kapi compare [--json] BEFORE AFTER, kapi who [--json] POLICY VERB RESOURCE [--namespace NS] [--name NAME], kapi who [--json] POLICY --questions FILE, kapi risks [--json] POLICY, or kapi serve [--load FILE] [--first-revision N|clock] [--recheck-watches] [--answer PORT] [--readers N] PORT=USER[,GROUP..]..")]
     Words,
     #[error("out of memory")]
     Memory,

@@ -1,9 +1,12 @@
-ghost use Rattle.std.specs.Prelude.{◌≡◌, ◌≤◌, []};
+ghost use Rattle.std.specs.Prelude.{◌≡◌, ◌≤◌, [], IfOk};
+ghost use Rattle.kapi.specs.Doors.{doors_of};
+ghost use Rattle.kapi_serve.specs.Listening.{doors};
 
 use crate::answering::start_readers;
+use crate::beginning::begin;
 use crate::program::{Listen, ServeOptions};
 use kapi_desk::Seat;
-use kapi_loading::{Started, start};
+use kapi_loading::Started;
 use kapi_serve::{Sockets, serve_loop};
 use kapi_text::TryCopy;
 use std::fs::{self, Files};
@@ -14,16 +17,12 @@ use std::sync::Wait;
 use std::thread::Threads;
 use std::time::Clock;
 
-/// What came of listening.
-#[derive(Drop)]
-enum Listening<C: Clock + Drop> {
-    On(Sockets<C>),
-    /// This port cannot be listened on.
-    Refused(u16),
-}
+/// The port that cannot be listened on.
+#[derive(Clone, Copy, Debug)]
+struct Refused(u16);
 
-/// Serves the ports for as long as clients can be waited for. Status 1 where the file cannot be loaded, 3 where a port cannot be
-/// listened on, 4 where the wait fails.
+/// Serves the ports for as long as clients can be waited for. Status 1 where the file cannot be loaded or the clock gives no first revision,
+/// 3 where a port cannot be listened on, 4 where the wait fails.
 pub fn run_serve<
     R: Files
         + Print
@@ -52,7 +51,12 @@ pub fn run_serve<
         Some(_port) => options.readers,
         None => 1,
     };
-    match start(rt.alloc(), rt, objects.as_slice(), seats) {
+    let first = options.first_revision;
+    let seconds = match first {
+        Some(_told) => 0,
+        None => rt.since_1970()?.as_secs(),
+    };
+    match begin(rt.alloc(), rt, objects.as_slice(), first, seconds, seats) {
         Ok(started) => serve_ports(rt, started, options),
         Err(fault) => {
             eprintln!(rt; "{fault}")?;
@@ -85,11 +89,11 @@ fn serve_ports<
     } = started;
     core.recheck_watches(options.recheck);
     let status = match listen_all(rt, options, seats) {
-        Ok(Listening::On(mut sockets)) => {
+        Ok(Ok(mut sockets)) => {
             serve_loop(rt, &mut core, &mut desk, &mut sockets);
             Ok(ExitCode::from(4))
         }
-        Ok(Listening::Refused(port)) => refuse(rt, port),
+        Ok(Err(refused)) => refuse(rt, refused),
         Err(error) => Err(error),
     };
     drop(desk.close(rt));
@@ -107,21 +111,23 @@ fn listen_all<
         + Send
         + Net<Listener = TcpListener, Stream = TcpStream>
         + 'static,
->(rt: &R, options: &ServeOptions, seats: Vec<Seat>) -> io::Result<Listening<R>> {
+>(rt: &R, options: &ServeOptions, seats: Vec<Seat>) -> io::Result<Result<Sockets<R>, Refused>>
+    ensures { IfOk result (λ served. IfOk served (λ s. doors s.listeners.items ≡ doors_of options.now.listens.items)) }
+{
     let sockets = match listen(rt, options.listens.as_slice())? {
-        Listening::On(sockets) => sockets,
-        Listening::Refused(port) => return Ok(Listening::Refused(port)),
+        Ok(sockets) => sockets,
+        Err(refused) => return Ok(Err(refused)),
     };
     let Some(port) = options.answer else {
-        return Ok(Listening::On(sockets));
+        return Ok(Ok(sockets));
     };
     match TcpListener::bind(rt, SocketAddr::from((Ipv4Addr::LOCALHOST, port))) {
         Ok(listener) => {
             start_readers(rt, rt.alloc(), &listener, seats)?;
             println!(rt; "listening {port}")?;
-            Ok(Listening::On(sockets))
+            Ok(Ok(sockets))
         }
-        Err(_error) => Ok(Listening::Refused(port)),
+        Err(_error) => Ok(Err(Refused(port))),
     }
 }
 
@@ -129,20 +135,23 @@ fn listen_all<
 fn listen<R: Print + AllocGlobal + Clock + Clone + Drop + Net>(
     rt: &R,
     listens: &[Listen],
-) -> io::Result<Listening<R>> {
+) -> io::Result<Result<Sockets<R>, Refused>>
+    ensures { IfOk result (λ served. IfOk served (λ s. doors s.listeners.items ≡ doors_of listens.now)) }
+{
     let mut sockets = Sockets::new(rt.alloc(), rt, rt.clone()?)?;
     for listen in listens {
         let identity = listen.identity.copy(rt.alloc())?;
         match sockets.listen(rt, listen.port, identity) {
             Ok(port) => println!(rt; "listening {port}")?,
-            Err(_error) => return Ok(Listening::Refused(listen.port)),
+            Err(_error) => return Ok(Err(Refused(listen.port))),
         }
     }
-    Ok(Listening::On(sockets))
+    Ok(Ok(sockets))
 }
 
 /// A port that cannot be listened on: status 3.
-fn refuse(rt: &impl Eprint, port: u16) -> io::Result<ExitCode> {
+fn refuse(rt: &impl Eprint, refused: Refused) -> io::Result<ExitCode> {
+    let port = refused.0;
     eprintln!(rt; "cannot listen {port}")?;
     Ok(ExitCode::from(3))
 }

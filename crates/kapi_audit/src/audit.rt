@@ -121,7 +121,7 @@ pub fn audit_run<R: Threads + Wait + Sync, G: Gate + Sync>(
     ensures { Gives fault_told (λ v. v.items) result (answers policy.now questions.now) }
 {
     let asked = numbered_lines(alloc, questions)?;
-    let started = start(alloc, rt, policy, readers)?;
+    let started = start(alloc, rt, policy, 0, readers)?;
     let Started {
         core,
         mut desk,

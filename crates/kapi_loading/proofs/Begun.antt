@@ -8,9 +8,8 @@ use Rattle.kapi_desk.specs.Boards.{Board}
 use Rattle.kapi_desk.specs.Steps.{after}
 use Rattle.kapi_names.specs.declared.row.ResourceRow.{ResourceRow}
 use Rattle.kapi_script.specs.ProgramTable.{program_rows}
-use Rattle.kapi_script.specs.Scripts.{start}
 use Rattle.kapi_lines.specs.Lines.{NumberedLine, lines_of}
-use Rattle.kapi_loading.specs.Loading.{Publishes, Reaches, machine_of, made_of}
+use Rattle.kapi_loading.specs.Loading.{Publishes, Reaches, machine_from, made_of}
 use Rattle.kapi_loading.specs.declared.fault.StartError.{StartError}
 
 -- a desk over the policy of a core has published it
@@ -19,16 +18,16 @@ unfolding after
 published_first core desk m stands opening none =
     (stands, (λ i. after (opening i) (none i)) ∙ stands.policy_is)
 
--- what the lines of a file reach, from the machine that begins as every one
-pub reached : (core : Running) (desk : Board) (result : Result (Unit {0}) StartError) (lines : List NumberedLine) (objects : List ℕ) → lines ≡ lines_of objects
-    → Reaches core desk result (made_of start lines) → Reaches core desk result (machine_of objects)
-unfolding machine_of
-reached core desk result lines objects is h = subst (λ ls. Reaches core desk result (made_of start ls)) is h
+-- what the lines of a file reach, from the opening machine
+pub reached : (core : Running) (desk : Board) (result : Result (Unit {0}) StartError) (first : ℕ) (lines : List NumberedLine) (objects : List ℕ) → lines ≡ lines_of objects
+    → Reaches core desk result (made_of (opening program_rows first) lines) → Reaches core desk result (machine_from first objects)
+unfolding machine_from
+reached core desk result first lines objects is h = subst (λ ls. Reaches core desk result (made_of (opening program_rows first) ls)) is h
 
 -- the same of a core and a desk over its policy
-pub begun : (core next : Running) (desk board : Board) (result : Result (Unit {0}) StartError) (rows : List ResourceRow) (lines : List NumberedLine) (objects : List ℕ) → Stands core (opening rows 0)
+pub begun : (core next : Running) (desk board : Board) (result : Result (Unit {0}) StartError) (first : ℕ) (rows : List ResourceRow) (lines : List NumberedLine) (objects : List ℕ) → Stands core (opening rows first)
     → rows ≡ program_rows → desk.opening ≡ core.policy → desk.list ≡ [] → lines ≡ lines_of objects
-    → ((m : Machine) → Publishes core desk m → Reaches next board result (made_of m lines)) → Reaches next board result (machine_of objects)
-begun core next desk board result rows lines objects stands is policy none same reaches =
-    let from : Stands core start = subst (λ r. Stands core (opening r 0)) is stands in
-    reached next board result lines objects same (reaches start (published_first core desk start from policy none))
+    → ((m : Machine) → Publishes core desk m → Reaches next board result (made_of m lines)) → Reaches next board result (machine_from first objects)
+begun core next desk board result first rows lines objects stands is policy none same reaches =
+    let from : Stands core (opening program_rows first) = subst (λ r. Stands core (opening r first)) is stands in
+    reached next board result first lines objects same (reaches (opening program_rows first) (published_first core desk (opening program_rows first) from policy none))

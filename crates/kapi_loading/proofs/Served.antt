@@ -17,9 +17,8 @@ use Rattle.kapi_core.specs.declared.event.Event.TheVariants as event
 use Rattle.kapi_loading.specs.Faults.{FileFault}
 use Rattle.kapi_loading.specs.Laws.{FileIsServed, FileIsUnopened}
 use Rattle.kapi_lines.specs.Lines.{NumberedLine, lines_of}
-use Rattle.kapi_loading.specs.Loading.{loaded, machine_of, made_by, turned}
+use Rattle.kapi_loading.specs.Loading.{loaded, machine_from, made_by, turned}
 use Rattle.kapi_script.specs.ProgramTable.{program_rows}
-use Rattle.kapi_script.specs.Scripts.{start}
 
 -- the texts of lines
 abbrev texts : List NumberedLine → List (List ℕ)
@@ -94,23 +93,31 @@ unfolding has_loaded
 loads_new [] m new = new
 loads_new (t ∷ ts) m new = loads_new ts (loaded_if m (loads m.store t)) (load_new m (loads m.store t) new)
 
-start_new : IsNew start
+opening_new : (first : ℕ) → IsNew (opening program_rows first)
 unfolding opening
-start_new =
-    let same = openings_same opening_objects (empty program_rows 0) in
+opening_new first =
+    let same = openings_same opening_objects (empty program_rows first) in
     (same.next_id, same.rechecks)
 
-made_is : (file : List ℕ) (m : Machine) → machine_of file ≡ Ok m → m ≡ after (has_loaded start (texts (lines_of file))) (replicate 64 event.Turn)
-unfolding machine_of
-made_is file m is = by_load (loaded start (lines_of file)) refl is
+-- the opening machine after the objects of a file
+abbrev with_objects : ℕ → List ℕ → Machine
+with_objects first file = has_loaded (opening program_rows first) (texts (lines_of file))
+
+made_is : (first : ℕ) (file : List ℕ) (m : Machine) → machine_from first file ≡ Ok m → m ≡ after (with_objects first file) (replicate 64 event.Turn)
+unfolding machine_from
+made_is first file m is = by_load (loaded (opening program_rows first) (lines_of file)) refl is
   where
-    by_load : (r : Result Machine FileFault) → loaded start (lines_of file) ≡ r → (r >>= λ k. Ok (turned 64 k)) ≡ Ok m → m ≡ after (has_loaded start (texts (lines_of file))) (replicate 64 event.Turn)
-    by_load (Ok k) at made = same (turned 64 k) m made ∙ turned_is 64 k ∙ ap (λ n. after n (replicate 64 event.Turn)) (loaded_is (lines_of file) start k at)
+    by_load : (r : Result Machine FileFault) → loaded (opening program_rows first) (lines_of file) ≡ r → (r >>= λ k. Ok (turned 64 k)) ≡ Ok m
+        → m ≡ after (with_objects first file) (replicate 64 event.Turn)
+    by_load (Ok k) at made =
+        same (turned 64 k) m made ∙ turned_is 64 k
+        ∙ ap (λ n. after n (replicate 64 event.Turn)) (loaded_is (lines_of file) (opening program_rows first) k at)
     by_load (Err fault) at made = absurd (cc made)
 
 pub file_is_served : FileIsServed
-file_is_served on file m is = ap (with_rechecks on) (made_is file m is) ∙ turns_switched on 64 (has_loaded start (texts (lines_of file)))
+file_is_served on first file m is = ap (with_rechecks on) (made_is first file m is) ∙ turns_switched on 64 (with_objects first file)
 
 pub file_is_unopened : FileIsUnopened
-file_is_unopened file m is =
-    subst IsNew (sym (made_is file m is)) (turns_new 64 (has_loaded start (texts (lines_of file))) (loads_new (texts (lines_of file)) start start_new))
+file_is_unopened first file m is =
+    let new = loads_new (texts (lines_of file)) (opening program_rows first) (opening_new first) in
+    subst IsNew (sym (made_is first file m is)) (turns_new 64 (with_objects first file) new)

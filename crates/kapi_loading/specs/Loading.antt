@@ -6,13 +6,14 @@ use Rattle.kapi_answer.specs.declared.loading.LoadError.{LoadError}
 use Rattle.kapi_answer.specs.declared.loading.LoadError.TheVariants as error
 use Rattle.kapi_store.specs.Plain.{PlainChange}
 use Rattle.kapi_core.specs.Machine.{Machine, changed, policy_of, step}
+use Rattle.kapi_core.specs.Opening.{opening}
 use Rattle.kapi_core.specs.Running.{Running}
 use Rattle.kapi_core.specs.Stands.{Stands}
 use Rattle.kapi_core.specs.declared.event.Event.TheVariants as event
 use Rattle.kapi_desk.specs.Boards.{Board}
 use Rattle.kapi_desk.specs.Steps.{after}
 use Rattle.kapi_loading.specs.Faults.{FileFault, bad_line, fault_told}
-use Rattle.kapi_script.specs.Scripts.{start}
+use Rattle.kapi_script.specs.ProgramTable.{program_rows}
 use Rattle.kapi_lines.specs.Lines.{NumberedLine, lines_of}
 use Rattle.kapi_loading.specs.declared.fault.StartError.{StartError}
 use Rattle.kapi_loading.specs.declared.fault.StartError.TheVariants as fault
@@ -41,9 +42,13 @@ turned (suc k) m = turned k (step m event.Turn).1
 abbrev pub made_of : Machine → List NumberedLine → Result Machine FileFault
 made_of m lines = loaded m lines >>= λ k. Ok (turned 64 k)
 
--- the machine that begins as every one, and that a file of objects makes, or the first line that is not loaded
-unfoldable pub machine_of : List ℕ → Result Machine FileFault
-machine_of objects = made_of start (lines_of objects)
+-- the machine that a file of objects makes of the opening one whose revisions stand after `first`, or the first line that is not loaded
+unfoldable pub machine_from : ℕ → List ℕ → Result Machine FileFault
+machine_from first objects = made_of (opening program_rows first) (lines_of objects)
+
+-- the same of the machine that begins as every one, at revision 0
+abbrev pub machine_of : List ℕ → Result Machine FileFault
+machine_of objects = machine_from 0 objects
 
 -- the core stands for a machine, and the desk has published its policy
 abbrev pub Publishes : Running → Board → Machine → Type 0

@@ -1,6 +1,6 @@
 ghost use Rattle.std.specs.Prelude.{◌≡◌, ◌≤◌, [], IfOk, replicate};
 ghost use Rattle.kapi_desk.specs.Boards.{fresh};
-ghost use Rattle.kapi_loading.specs.Loading.{machine_of};
+ghost use Rattle.kapi_loading.specs.Loading.{machine_from};
 ghost use Rattle.kapi_loading.specs.Starting.{Starts};
 
 use crate::fault::StartError;
@@ -20,8 +20,8 @@ pub struct Started {
     pub seats: Vec<Seat>,
 }
 
-/// A machine with the objects of a file, a JSON object a line, whose policy is published to so many seats. The turns that follow the
-/// objects are made, 64 at most.
+/// A machine whose revisions begin after `first`, with the objects of a file, a JSON object a line, whose policy is published to so many
+/// seats. The turns that follow the objects are made, 64 at most.
 ///
 /// # Errors
 /// `Line` at the first line that cannot be loaded, `Memory` where memory runs out.
@@ -29,16 +29,23 @@ pub fn start<R: Wait>(
     alloc: Global,
     rt: &R,
     objects: &[u8],
+    first: u64,
     seats: usize,
 ) -> Result<Started, StartError>
-    requires { (1 ≤ seats) × (seats ≤ 16) }
-    ensures machine { Starts result (machine_of objects.now) }
+    requires first { first ≤ 281474976710650 }
+    requires seats { (1 ≤ seats) × (seats ≤ 16) }
+    ensures machine { Starts result (machine_from first objects.now) }
     ensures unopened { IfOk result (λ s. s.core.next_id ≡ 0) }
     ensures waiting { IfOk result (λ s. s.desk.waiting ≡ []) }
     ensures seats { IfOk result (λ s. s.seats.items ≡ replicate seats (fresh s.desk.opening)) }
 {
     let lines = numbered_lines(alloc, objects)?;
-    let mut core = Core::new(alloc, program_table(alloc)?, IndexedPolicy::new(alloc), 0)?;
+    let mut core = Core::new(
+        alloc,
+        program_table(alloc)?,
+        IndexedPolicy::new(alloc),
+        first,
+    )?;
     let opening = core.policy().copy()?;
     let (mut desk, seats) = Desk::new(alloc, rt, opening, seats)?;
     match publish_policy(rt, &mut core, &mut desk, lines.as_slice()) {

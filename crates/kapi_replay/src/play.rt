@@ -160,7 +160,7 @@ fn play_loaded<R: Wait>(
 ) -> Result<Vec<Failure>, Memory>
     ensures { IfOk result (λ v. fails.FailsLoaded case.now load.now objects.now v.items) }
 {
-    match start(alloc, rt, objects, 1) {
+    match start(alloc, rt, objects, 0, 1) {
         Ok(started) => {
             let Started {
                 mut core,

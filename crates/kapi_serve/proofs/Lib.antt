@@ -9,3 +9,4 @@ pub mod Fares
 pub mod Accounting
 pub mod Policies
 pub mod Going
+pub mod Listening

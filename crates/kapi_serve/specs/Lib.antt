@@ -7,3 +7,4 @@ pub mod Account
 pub mod Acts
 pub mod Clients
 pub mod Turns
+pub mod Listening

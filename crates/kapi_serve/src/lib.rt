@@ -8,6 +8,7 @@
 mod awake;
 mod client;
 mod clients;
+mod listener;
 mod pending;
 mod port;
 mod publishing;

@@ -1,7 +1,9 @@
-ghost use Rattle.std.specs.Prelude.{◌≡◌, ◌<◌, ◌≤◌, HoldsAt, IfOk, IfSome, None, Some, vec_len};
+ghost use Rattle.std.specs.Prelude.{◌≡◌, ◌<◌, ◌≤◌, ◌++◌, ◌∷◌, [], HoldsAt, IfOk, IfSome, None, OnOk, Some, vec_len};
+ghost use Rattle.kapi_serve.specs.Listening.{CameByDoor, doors};
 ghost use Rattle.kapi_serve.specs.declared.port.PortEvent.TheVariants as event;
 ghost use Rattle.kapi_serve.specs.declared.port.PortFault.TheVariants as fault;
 
+use crate::listener::Listener;
 use crate::port::{PortEvent, PortFault, Ports};
 use crate::stream::Stream;
 use kapi_rbac_types::Identity;
@@ -26,18 +28,6 @@ const MOST_OPEN: usize = 320;
 /// So many clients are taken in before the open ones have their turn again.
 const MOST_ACCEPTED: usize = 16;
 
-/// A port that is listened on, and the identity that each of its connections has.
-#[derive(Drop)]
-struct Listener {
-    socket: TcpListener,
-    identity: Identity,
-    /// A client may wait to be accepted.
-    waiting: bool,
-    /// So many clients may still be taken in in this round.
-    left: usize,
-    ghost few: { left ≤ 16 },
-}
-
 /// Ports over sockets of this machine. They go in rounds: each slot that is ready has one turn, and then a few clients are taken in.
 #[derive(Drop)]
 pub struct Sockets<C: Clock + Drop> {
@@ -57,7 +47,9 @@ pub struct Sockets<C: Clock + Drop> {
 
 impl<C: Clock + Drop> Sockets<C> {
     /// Ports with no listener.
-    pub fn new<N: Net>(alloc: Global, net: &N, clock: C) -> io::Result<Sockets<C>> {
+    pub fn new<N: Net>(alloc: Global, net: &N, clock: C) -> io::Result<Sockets<C>>
+        ensures { IfOk result (λ s. doors s.listeners.items ≡ []) }
+    {
         Ok(Sockets {
             alloc,
             clock,
@@ -73,9 +65,11 @@ impl<C: Clock + Drop> Sockets<C> {
 
     /// Listens on a port of 127.0.0.1 for clients of this identity, and answers the port. A free one is taken for 0. All listeners are
     /// made before the first client is waited for.
-    pub fn listen<N: Net>(&mut self, net: &N, port: u16, identity: Identity) -> io::Result<u16> {
+    pub fn listen<N: Net>(&mut self, net: &N, port: u16, identity: Identity) -> io::Result<u16>
+        ensures { OnOk result (doors self.new.listeners.items ≡ doors self.old.listeners.items ++ (port, identity) ∷ []) }
+    {
         let mut socket = TcpListener::bind(net, SocketAddr::from((Ipv4Addr::LOCALHOST, port)))?;
-        let port = socket.local_addr()?.port();
+        let listened = socket.local_addr()?.port();
         self.poll.registry().register(
             &mut socket,
             Token(self.listeners.len()),
@@ -83,11 +77,12 @@ impl<C: Clock + Drop> Sockets<C> {
         )?;
         self.listeners.push(Listener {
             socket,
+            port,
             identity,
             waiting: false,
             left: 0,
         })?;
-        Ok(port)
+        Ok(listened)
     }
 
     /// A slot that no stream has, if there is one.
@@ -110,22 +105,39 @@ impl<C: Clock + Drop> Sockets<C> {
     }
 
     /// Takes one client in, if one waits and a slot is free. Where none is, a client that takes nothing loses its own.
-    fn accept(&mut self) -> Option<PortEvent> {
-        for _ in 0..self.listeners.len() {
-            let index = self
-                .listeners
-                .iter()
-                .position(|listener| listener.waiting && listener.left > 0)?;
-            let Some(slot) = self.free_slot() else {
-                self.break_stuck();
-                return None;
-            };
-            match self.accept_at(index, slot) {
-                Ok(event) => return Some(event),
-                Err(error) => self.listeners[index].pause(error.kind()),
+    fn accept(&mut self) -> Option<PortEvent>
+        ensures doors { doors self.new.listeners.items ≡ doors self.old.listeners.items }
+        ensures identity { CameByDoor self.old.listeners.items result }
+    {
+        for index in 0..self.listeners.len() {
+            if self.listeners[index].has_turn() {
+                let Some(slot) = self.free_slot() else {
+                    self.break_stuck();
+                    return None;
+                };
+                if let Some(event) = self.accept_or_pause(index, slot) {
+                    return Some(event);
+                }
             }
         }
         None
+    }
+
+    /// Takes a client of this listener in; where none comes, the listener has no more of this round.
+    fn accept_or_pause(&mut self, index: usize, slot: usize) -> Option<PortEvent>
+        requires listener { index < vec_len self.old.listeners }
+        requires slot { slot < vec_len self.old.streams }
+        ensures same { vec_len self.new.listeners ≡ vec_len self.old.listeners }
+        ensures doors { doors self.new.listeners.items ≡ doors self.old.listeners.items }
+        ensures identity { CameByDoor self.old.listeners.items result }
+    {
+        match self.accept_at(index, slot) {
+            Ok(event) => Some(event),
+            Err(error) => {
+                self.listeners[index].pause(error.kind());
+                None
+            }
+        }
     }
 
     fn accept_at(&mut self, index: usize, slot: usize) -> io::Result<PortEvent>
@@ -133,6 +145,7 @@ impl<C: Clock + Drop> Sockets<C> {
         requires slot { slot < vec_len self.old.streams }
         ensures identity { HoldsAt (λ listener. IfOk result (λ opened. opened ≡ event.Opened slot listener.identity)) self.old.listeners.items index }
         ensures same { vec_len self.new.listeners ≡ vec_len self.old.listeners }
+        ensures doors { doors self.new.listeners.items ≡ doors self.old.listeners.items }
     {
         let listener = &mut self.listeners[index];
         listener.left = listener.left.saturating_sub(1);
@@ -149,7 +162,9 @@ impl<C: Clock + Drop> Sockets<C> {
     }
 
     /// Breaks the first of the streams that have taken nothing for too long.
-    fn break_stuck(&mut self) {
+    fn break_stuck(&mut self)
+        ensures { self.new.listeners ≡ self.old.listeners }
+    {
         let now = self.now;
         for stream in self.streams.iter_mut().flatten() {
             if stream.is_stuck(now) {
@@ -160,7 +175,9 @@ impl<C: Clock + Drop> Sockets<C> {
 
     /// The next turn of this round.
     fn take_turn(&mut self) -> Option<PortEvent>
-        ensures { IfSome result (λ event. self.old.turn < self.new.turn) }
+        ensures turn { IfSome result (λ event. self.old.turn < self.new.turn) }
+        ensures same { self.new.listeners ≡ self.old.listeners }
+        ensures identity { CameByDoor self.old.listeners.items result }
     {
         for slot in self.turn..self.streams.len() {
             self.turn = slot + 1;
@@ -174,7 +191,10 @@ impl<C: Clock + Drop> Sockets<C> {
     }
 
     /// What is left to be told in this round.
-    fn go_on(&mut self) -> Option<PortEvent> {
+    fn go_on(&mut self) -> Option<PortEvent>
+        ensures doors { doors self.new.listeners.items ≡ doors self.old.listeners.items }
+        ensures identity { CameByDoor self.old.listeners.items result }
+    {
         match self.take_turn() {
             Some(event) => Some(event),
             None => self.accept(),
@@ -182,13 +202,13 @@ impl<C: Clock + Drop> Sockets<C> {
     }
 
     /// Begins a round, after so many milliseconds at most. None where the wait fails.
-    fn begin_round(&mut self, most: u64) -> Option<()> {
+    fn begin_round(&mut self, most: u64) -> Option<()>
+        ensures { doors self.new.listeners.items ≡ doors self.old.listeners.items }
+    {
         self.poll
             .poll(&mut self.events, Some(Duration::from_millis(most)))
             .ok()?;
-        for event in &self.events {
-            note(&mut self.listeners, &mut self.streams, event);
-        }
+        note_all(&mut self.listeners, &mut self.streams, &self.events);
         self.allow();
         self.now = self.clock.monotonic().unwrap_or(self.now);
         self.turn = 0;
@@ -196,10 +216,12 @@ impl<C: Clock + Drop> Sockets<C> {
     }
 
     /// Each listener may take in as many clients as any other.
-    fn allow(&mut self) {
+    fn allow(&mut self)
+        ensures { doors self.new.listeners.items ≡ doors self.old.listeners.items }
+    {
         let share = MOST_ACCEPTED / self.listeners.len().max(1);
-        for listener in &mut self.listeners {
-            listener.left = share.max(1);
+        for index in 0..self.listeners.len() {
+            self.listeners[index].left = share.max(1);
         }
     }
 
@@ -220,16 +242,19 @@ impl<C: Clock + Drop> Sockets<C> {
     }
 }
 
-impl Listener {
-    /// No client is taken in in this round any more.
-    fn pause(&mut self, error: ErrorKind) {
-        self.left = 0;
-        self.waiting = error != ErrorKind::WouldBlock;
+/// Notes what events tell.
+fn note_all(listeners: &mut Vec<Listener>, streams: &mut Vec<Option<Stream>>, events: &Events)
+    ensures { doors listeners.new.items ≡ doors listeners.old.items }
+{
+    for event in events {
+        note(listeners, streams, event);
     }
 }
 
 /// Notes what an event tells.
-fn note(listeners: &mut Vec<Listener>, streams: &mut Vec<Option<Stream>>, event: &Event) {
+fn note(listeners: &mut Vec<Listener>, streams: &mut Vec<Option<Stream>>, event: &Event)
+    ensures { doors listeners.new.items ≡ doors listeners.old.items }
+{
     let token = event.token().0;
     if token < listeners.len() {
         listeners[token].waiting = true;
@@ -247,7 +272,10 @@ impl<C: Clock + Drop> Ports for Sockets<C> {
 
     ghost failures = { λ s. s.failures };
 
-    fn next(&mut self) -> Option<PortEvent> {
+    fn next(&mut self) -> Option<PortEvent>
+        ensures doors { doors self.new.listeners.items ≡ doors self.old.listeners.items }
+        ensures identity { CameByDoor self.old.listeners.items result }
+    {
         if let Some(event) = self.go_on() {
             return Some(event);
         }

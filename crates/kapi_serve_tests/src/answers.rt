@@ -99,7 +99,7 @@ fn questions_are_answered_by_what_is_published_then(rt: HostRuntime) -> Result<(
         core,
         mut desk,
         mut seats,
-    } = start(alloc, &rt, OBJECTS.as_bytes(), 1)?;
+    } = start(alloc, &rt, OBJECTS.as_bytes(), 0, 1)?;
     drop(core);
     let said = match seats.get_mut(0) {
         Some(seat) => told_twice(&rt, alloc, &mut desk, seat),
@@ -120,7 +120,7 @@ fn a_client_that_breaks_is_told(rt: HostRuntime) -> Result<(), Fail> {
         core,
         desk,
         mut seats,
-    } = start(alloc, &rt, b"", 1)?;
+    } = start(alloc, &rt, b"", 0, 1)?;
     drop(core);
     drop(desk.close(&rt));
     let Some(seat) = seats.get_mut(0) else {

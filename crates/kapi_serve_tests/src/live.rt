@@ -214,7 +214,7 @@ fn seats_answer_while_a_client_of_127_0_0_1_changes_the_policy(
         mut core,
         mut desk,
         seats,
-    } = start(alloc, &rt, b"", 2)?;
+    } = start(alloc, &rt, b"", 0, 2)?;
     let right = serve_and_ask(&rt, alloc, &mut core, &mut desk, seats);
     drop(desk.close(&rt));
     assert_eq!(rt; right?, 2);

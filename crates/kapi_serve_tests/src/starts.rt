@@ -13,7 +13,7 @@ const FAULTY: &[u8] =
 
 /// How many seats a start with one gives.
 fn seats<R: Wait>(alloc: Global, rt: &R, objects: &[u8]) -> Result<usize, StartError> {
-    let Started { core, desk, seats } = start(alloc, rt, objects, 1)?;
+    let Started { core, desk, seats } = start(alloc, rt, objects, 0, 1)?;
     let count = seats.len();
     drop(seats);
     drop(core);

@@ -1,6 +1,6 @@
 -- What clap says of a parse of Kapi's command line, at each way out.
 use Rattle.std.proofs.Common.{inl, inr, refl}
-use Rattle.kapi.proofs.Asking.{asked_of, faultless, names_of, shown_at, wrong_at, wrong_of}
+use Rattle.kapi.proofs.Parsed.{asked_of, faultless, names_of, shown_at, wrong_at, wrong_of}
 use Rattle.kapi.proofs.command_line.command.Goals as goal
 
 pub returns-in-Ok-clause-named : goal.returns-in-Ok-clause-named

@@ -12,8 +12,8 @@ use Rattle.clap.specs.declared.error.kind.ErrorKind.{ErrorKind}
 use Rattle.clap.specs.declared.error.kind.ErrorKind.TheVariants.{DisplayHelp, DisplayVersion, OutOfMemory}
 use Rattle.clap.specs.declared.parser.matches.ArgMatches.{ArgMatches}
 use Rattle.clap.proofs.OnLiterals.{clap_on_literals}
-use Rattle.kapi.specs.Asked.{AreWrong, Asked, Files, Names, Options, Reads, Shows, Transcripts, asked, asked_by, files_in, is_shown, options_in, told, transcripts_in}
-use Rattle.kapi.specs.Asked.{Audit, Replay, Script, Serve, Show}
+use Rattle.kapi.specs.Asked.{AreWrong, Asked, Files, Names, Options, Policies, Reads, Risks, Shows, Transcripts, Who, asked, asked_by, compare_in, files_in, is_shown, options_in, risks_in, told, transcripts_in, who_in}
+use Rattle.kapi.specs.Asked.{AskRisks, AskWho, Audit, Compare, Replay, Script, Serve, Show}
 use Rattle.kapi.specs.CommandLine.{kapi}
 use Rattle.kapi.specs.declared.program.Command.{Command}
 use Rattle.kapi.specs.declared.program.Command.TheVariants as command
@@ -43,30 +43,24 @@ asked_of a words m e none rows =
     let same : subcommand_rows_of m ≡ subcommand_of kapi words = (rows (ap is_simple e ∙ kapi_is_simple)).1 ∙ ap (λ x. subcommand_of x words) e in
     rw (faultless a words e none, same) refl
 
-never_audit : (o : Option Files) (k : ErrorKind) → option_map Audit o ≡ Some (Show k) → ⊥
-never_audit None k e = cc
-never_audit (Some f) k e = cc
+never_some : {X : Type 0} (f : X → Asked) → ((x : X) (k : ErrorKind) → f x ≡ Show k → ⊥) → (o : Option X) (k : ErrorKind) → option_map f o ≡ Some (Show k) → ⊥
+never_some f never None k e = cc
+never_some f never (Some x) k e = never x k (cc e)
 
-never_serve : (o : Option Options) (k : ErrorKind) → option_map Serve o ≡ Some (Show k) → ⊥
-never_serve None k e = cc
-never_serve (Some f) k e = cc
-
-never_replay : (o : Option Transcripts) (k : ErrorKind) → option_map Replay o ≡ Some (Show k) → ⊥
-never_replay None k e = cc
-never_replay (Some t) k e = cc
-
-never_of : (a b c d : Bool) (x y z : Option Asked) (k : ErrorKind) → (x ≡ Some (Show k) → ⊥) → (y ≡ Some (Show k) → ⊥) → (z ≡ Some (Show k) → ⊥)
-    → (if a then Some Script else (if b then x else (if c then y else (if d then z else None)))) ≡ Some (Show k) → ⊥
-never_of true b c d x y z k p q r e = cc
-never_of false true c d x y z k p q r e = p e
-never_of false false true d x y z k p q r e = q e
-never_of false false false true x y z k p q r e = r e
-never_of false false false false x y z k p q r e = cc
+-- a choice is no text to be shown where neither side is
+one_of : (b : Bool) (x y : Option Asked) (k : ErrorKind) → (x ≡ Some (Show k) → ⊥) → (y ≡ Some (Show k) → ⊥) → (if b then x else y) ≡ Some (Show k) → ⊥
+one_of true x y k p q e = p e
+one_of false x y k p q e = q e
 
 never_by : (name : Text) (rows : List Row) (k : ErrorKind) → asked_by name rows ≡ Some (Show k) → ⊥
 never_by name rows k =
-    never_of (bytes_eq name (codes "script")) (bytes_eq name (codes "audit")) (bytes_eq name (codes "serve")) (bytes_eq name (codes "replay")) _ _ _ k
-    (never_audit (files_in rows) k) (never_serve (options_in rows) k) (never_replay (transcripts_in rows) k)
+    one_of (bytes_eq name (codes "script")) _ _ k (λ e. cc e)
+    (one_of (bytes_eq name (codes "audit")) _ _ k (never_some Audit (λ x k e. cc e) (files_in rows) k)
+    (one_of (bytes_eq name (codes "serve")) _ _ k (never_some Serve (λ x k e. cc e) (options_in rows) k)
+    (one_of (bytes_eq name (codes "replay")) _ _ k (never_some Replay (λ x k e. cc e) (transcripts_in rows) k)
+    (one_of (bytes_eq name (codes "compare")) _ _ k (never_some Compare (λ x k e. cc e) (compare_in rows) k)
+    (one_of (bytes_eq name (codes "who")) _ _ k (never_some AskWho (λ x k e. cc e) (who_in rows) k)
+    (one_of (bytes_eq name (codes "risks")) _ _ k (never_some AskRisks (λ x k e. cc e) (risks_in rows) k) (λ e. cc e)))))))
 
 never_shown : (o : Option (Text × List Row)) (k : ErrorKind) → option_and_then (λ p. asked_by p.0 p.1) o ≡ Some (Show k) → ⊥
 never_shown None k e = cc
@@ -77,6 +71,9 @@ names_of words m (Ok command.Script) e h = e ∙ h
 names_of words m (Ok (command.Audit f)) e h = e ∙ h
 names_of words m (Ok (command.Serve o)) e h = e ∙ h
 names_of words m (Ok (command.Replay o)) e h = e ∙ h
+names_of words m (Ok (command.Compare o)) e h = e ∙ h
+names_of words m (Ok (command.Who o)) e h = e ∙ h
+names_of words m (Ok (command.Risks o)) e h = e ∙ h
 names_of words m (Ok (command.Show x)) e h = absurd (never_shown (subcommand_rows_of m) _ h)
 names_of words m (Err x) e h = tt
 

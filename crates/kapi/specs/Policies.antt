@@ -1,0 +1,153 @@
+-- Answers about the policies of files.
+use Rattle.std.specs.Prelude.{◌≡◌, ℕ, ◌==◌, not, Bool, true, false, List, ◌++◌, length, Option, Some, None, Result, Ok, Err}
+use Rattle.kapi_text.specs.Gives.{Fails, ◌>>=◌}
+use Rattle.kapi_lines.specs.Lines.{NumberedLine, lines_of}
+use Rattle.kapi_core.specs.Machine.{Machine, policy_of, step}
+use Rattle.kapi_core.specs.Running.{Running}
+use Rattle.kapi_core.specs.Stands.{Stands}
+use Rattle.kapi_core.specs.declared.event.Answer.{Answer}
+use Rattle.kapi_core.specs.declared.event.Answer.TheVariants as told
+use Rattle.kapi_core.specs.declared.event.Event.TheVariants as event
+use Rattle.kapi_loading.specs.Faults.{FileFault, bad_line}
+use Rattle.kapi_loading.specs.Loading.{machine_of}
+use Rattle.kapi_access.specs.Gained.{gained}
+use Rattle.kapi_access.specs.Risks.{risks}
+use Rattle.kapi_questions.specs.Answers.{gains_text, settled_line, ways_text, who_text}
+use Rattle.kapi_questions.specs.Lines.{LineError, answered_lines, no_question}
+use Rattle.kapi_questions.specs.declared.answer.Form.{Form}
+use Rattle.kapi_questions.specs.declared.question.Wanted.{Wanted}
+use Rattle.kapi.specs.declared.policies.Answered.{Answered}
+use Rattle.kapi.specs.declared.policies.Compared.{Compared}
+use Rattle.kapi.specs.declared.policies.FilesFault.{FilesFault}
+use Rattle.kapi.specs.declared.policies.FilesFault.TheVariants as fault
+use Rattle.kapi_loading.specs.declared.fault.StartError.{StartError}
+use Rattle.kapi_loading.specs.declared.fault.StartError.TheVariants as start
+use Rattle.kapi_questions.specs.declared.lines.LineFault.{LineFault}
+use Rattle.kapi_questions.specs.declared.lines.LineFault.TheVariants as lined
+
+-- the line at fault: of the first policy, of the second, or of the questions
+pub data FilesError : Type 0 where
+  first_line : ℕ → FilesError
+  second_line : ℕ → FilesError
+  question_line : ℕ → FilesError
+
+-- what a fault tells: nothing where memory ran out
+abbrev pub fault_told : FilesFault → Option FilesError
+fault_told (fault.First n) = Some (first_line n)
+fault_told (fault.Second n) = Some (second_line n)
+fault_told (fault.Question n) = Some (question_line n)
+fault_told fault.Memory = None
+
+-- the fault where the first policy is not loaded
+abbrev pub first_fault : StartError → FilesFault
+first_fault (start.Line n) = fault.First n
+first_fault start.Memory = fault.Memory
+
+-- the fault where the second policy is not loaded
+abbrev pub second_fault : StartError → FilesFault
+second_fault (start.Line n) = fault.Second n
+second_fault start.Memory = fault.Memory
+
+-- the fault where a line is no question
+abbrev pub question_fault : LineFault → FilesFault
+question_fault (lined.Question n) = fault.Question n
+question_fault lined.Memory = fault.Memory
+
+-- ---- machines
+
+-- a core stands for the machine that is given, or that fault is why there is none
+abbrev pub Holds : {E F : Type 0} → (E → Option F) → Result Running E → Result Machine F → Type 0
+Holds told (Ok core) given = (m : Machine) × (given ≡ Ok m) × Stands core m
+Holds told (Err e) given = Fails (told e) given
+
+-- the machine of the first file
+abbrev pub as_first : Result Machine FileFault → Result Machine FilesError
+as_first (Ok m) = Ok m
+as_first (Err (bad_line n)) = Err (first_line n)
+
+-- the machine of the second file
+abbrev pub as_second : Result Machine FileFault → Result Machine FilesError
+as_second (Ok m) = Ok m
+as_second (Err (bad_line n)) = Err (second_line n)
+
+-- nothing is done
+abbrev pub is_nothing : Answer → Bool
+is_nothing told.Nothing = true
+is_nothing _ = false
+
+-- no turn is left
+abbrev pub is_settled : Machine → Bool
+is_settled m = is_nothing (step m event.Turn).0
+
+-- ---- answers
+
+-- what is printed of a comparison, whether anybody gains, and whether the roles of each policy are settled
+pub record Comparison : Type 0 where
+  pub text : List ℕ
+  pub gains : Bool
+  pub before_settled : Bool
+  pub after_settled : Bool
+
+-- what the policy of a machine gives that another's did not
+abbrev pub comparison : Form → Machine → Machine → Comparison
+comparison f b a = record {
+  text = gains_text f (gained (policy_of b) (policy_of a));
+  gains = not (length (gained (policy_of b) (policy_of a)) == 0);
+  before_settled = is_settled b;
+  after_settled = is_settled a;
+}
+
+-- the same of the policy that a file is
+abbrev pub compared_with : Form → Machine → List ℕ → Result Comparison FilesError
+compared_with f b after = as_second (machine_of after) >>= λ a. Ok (comparison f b a)
+
+-- the same of the policies that two files are
+unfoldable pub compare_files : Form → List ℕ → List ℕ → Result Comparison FilesError
+compare_files f before after = as_first (machine_of before) >>= λ b. compared_with f b after
+
+-- the fields of a comparison
+abbrev pub compared_told : Compared → Comparison
+compared_told c = record {
+  text = c.text.items;
+  gains = c.gains;
+  before_settled = c.before_settled;
+  after_settled = c.after_settled;
+}
+
+-- what is printed of an answer, and whether the roles of the policy are settled
+pub record Reply : Type 0 where
+  pub text : List ℕ
+  pub settled : Bool
+
+-- the fields of an answer
+abbrev pub answered_told : Answered → Reply
+answered_told a = record { text = a.text.items; settled = a.settled }
+
+-- who may do what is asked, by the policy of a machine
+abbrev pub who_on : Form → Wanted → Machine → Reply
+who_on f w m = record { text = who_text f (policy_of m) w; settled = is_settled m }
+
+-- the same by the policy that a file is
+unfoldable pub who_wanted : Form → List ℕ → Wanted → Result Reply FilesError
+who_wanted f objects w = as_first (machine_of objects) >>= λ m. Ok (who_on f w m)
+
+-- the line that is no question
+abbrev pub as_question : Result (List ℕ) LineError → Result (List ℕ) FilesError
+as_question (Ok text) = Ok text
+as_question (Err (no_question n)) = Err (question_line n)
+
+-- who may do what each line asks, by the policy of a machine
+abbrev pub lines_on : Form → List NumberedLine → Machine → Result Reply FilesError
+lines_on f lines m = as_question (answered_lines f (policy_of m) lines) >>= λ text. Ok (record { text = text; settled = is_settled m })
+
+-- the same of the lines of a file, by the policy that another is
+unfoldable pub who_file : Form → List ℕ → List ℕ → Result Reply FilesError
+who_file f objects questions = as_first (machine_of objects) >>= λ m. lines_on f (lines_of questions) m
+
+-- who may gain more than a policy gives, and what holds of all others
+abbrev pub risks_on : Form → Machine → List ℕ
+risks_on f m = ways_text f (risks (policy_of m)) ++ settled_line f (is_settled m)
+
+-- the same of the policy that a file is
+unfoldable pub risks_file : Form → List ℕ → Result (List ℕ) FilesError
+risks_file f objects = as_first (machine_of objects) >>= λ m. Ok (risks_on f m)

@@ -1,0 +1,44 @@
+//! The machine that a server begins with.
+ghost use Rattle.std.specs.Prelude.{◌≡◌, ◌≤◌, [], IfOk, IfSome};
+ghost use Rattle.kapi.specs.Beginning.{Begins, first_given};
+
+use crate::numbers::clock_revision;
+use kapi_loading::{StartError, Started, start};
+use std::alloc::Global;
+use std::sync::Wait;
+use thiserror::Error;
+
+/// Why a server does not begin.
+#[derive(Clone, Copy, Debug, PartialEq, Eq, Error)]
+pub enum BeginError {
+    #[error("{0}")]
+    Start(StartError),
+    #[error("the clock gives no first revision")]
+    Clock,
+}
+
+/// The machine that a file of objects makes, whose revisions begin after `first`, or after the one that the clock gives so many seconds after
+/// the start of 1970.
+pub fn begin<R: Wait>(
+    alloc: Global,
+    rt: &R,
+    objects: &[u8],
+    first: Option<u64>,
+    seconds: u64,
+    seats: usize,
+) -> Result<Started, BeginError>
+    requires first { IfSome first (λ n. n ≤ 281474976710650) }
+    requires seats { (1 ≤ seats) × (seats ≤ 16) }
+    ensures machine { Begins result (first_given first seconds) objects.now }
+    ensures unopened { IfOk result (λ s. s.core.next_id ≡ 0) }
+    ensures waiting { IfOk result (λ s. s.desk.waiting ≡ []) }
+{
+    let first = match first {
+        Some(first) => first,
+        None => clock_revision(seconds).ok_or(BeginError::Clock)?,
+    };
+    match start(alloc, rt, objects, first, seats) {
+        Ok(started) => Ok(started),
+        Err(error) => Err(BeginError::Start(error)),
+    }
+}

@@ -1,0 +1,378 @@
+//! Answers about the policies of files.
+ghost use Rattle.std.specs.Prelude.{◌≡◌, ◌==◌, not, length, map, IfOk};
+ghost use Rattle.kapi_text.specs.Gives.{Gives};
+ghost use Rattle.kapi_lines.specs.Lines.{line_of};
+ghost use Rattle.kapi_core.specs.Machine.{Machine};
+ghost use Rattle.kapi_core.specs.Stands.{Stands};
+ghost use Rattle.kapi_loading.specs.Faults as loading;
+ghost use Rattle.kapi_loading.specs.Loading.{machine_of};
+ghost use Rattle.kapi_access.specs.Gained.{gained};
+ghost use Rattle.kapi_access.specs.Risks.{risks};
+ghost use Rattle.kapi_questions.specs.Answers.{gains_text, ways_text, who_text};
+ghost use Rattle.kapi_questions.specs.Lines as lined;
+ghost use Rattle.kapi_questions.specs.Lines.{answered_lines};
+ghost use Rattle.kapi.specs.Policies as files;
+ghost use Rattle.kapi.specs.Policies.{Holds, answered_told, as_first, as_second, compared_told, compared_with, comparison, fault_told, lines_on, risks_on, who_on};
+
+use kapi_core::Core;
+use kapi_index::IndexedPolicy;
+use kapi_lines::{Line, numbered_lines};
+use kapi_loading::{StartError, Started, start};
+use kapi_questions::{
+    Form, LineFault, Wanted, answer_compare, answer_lines, answer_risks, answer_who, settled_line,
+};
+use kapi_text::Memory;
+use std::alloc::Global;
+use std::sync::Wait;
+
+/// What is printed of a comparison, whether anybody gains, and whether the roles of each policy are settled.
+#[derive(Drop)]
+pub struct Compared {
+    pub text: Vec<u8>,
+    pub gains: bool,
+    pub before_settled: bool,
+    pub after_settled: bool,
+}
+
+/// What is printed of an answer, and whether the roles of the policy are settled.
+#[derive(Drop)]
+pub struct Answered {
+    pub text: Vec<u8>,
+    pub settled: bool,
+}
+
+/// Why there is no answer.
+#[derive(Clone, Copy, Debug, PartialEq, Eq)]
+pub enum FilesFault {
+    /// The line of this number of the first policy is not loaded; the first line of a file is 1.
+    First(usize),
+    /// The same of the second policy.
+    Second(usize),
+    /// The line of this number is no question.
+    Question(usize),
+    Memory,
+}
+
+impl From<Memory> for FilesFault {
+    ghost use Rattle.std.specs.Prelude.{◌≡◌};
+    ghost use Rattle.kapi.specs.declared.policies.FilesFault.TheVariants.{Memory as NoMemory};
+
+    ghost from_gives = { λ _ e. e ≡ NoMemory };
+
+    fn from(_refused: Memory) -> FilesFault {
+        FilesFault::Memory
+    }
+}
+
+/// The machine that a file of objects makes, with its turns.
+fn loaded<R: Wait>(alloc: Global, rt: &R, objects: &[u8]) -> Result<Core<IndexedPolicy>, StartError>
+    ensures { Holds loading.fault_told result (machine_of objects.now) }
+{
+    match start(alloc, rt, objects, 0, 1) {
+        Ok(started) => {
+            let Started {
+                core,
+                desk,
+                seats: _seats,
+            } = started;
+            drop(desk.close(rt));
+            Ok(core)
+        }
+        Err(error) => Err(error),
+    }
+}
+
+/// The fault of a first policy that is not loaded.
+fn first_fault(error: StartError) -> FilesFault
+    ensures { result ≡ files.first_fault error }
+{
+    match error {
+        StartError::Line(number) => FilesFault::First(number),
+        StartError::Memory => FilesFault::Memory,
+    }
+}
+
+/// The fault of a second policy that is not loaded.
+fn second_fault(error: StartError) -> FilesFault
+    ensures { result ≡ files.second_fault error }
+{
+    match error {
+        StartError::Line(number) => FilesFault::Second(number),
+        StartError::Memory => FilesFault::Memory,
+    }
+}
+
+fn loaded_first<R: Wait>(
+    alloc: Global,
+    rt: &R,
+    objects: &[u8],
+) -> Result<Core<IndexedPolicy>, FilesFault>
+    ensures { Holds fault_told result (as_first (machine_of objects.now)) }
+{
+    match loaded(alloc, rt, objects) {
+        Ok(core) => Ok(core),
+        Err(error) => Err(first_fault(error)),
+    }
+}
+
+fn loaded_second<R: Wait>(
+    alloc: Global,
+    rt: &R,
+    objects: &[u8],
+) -> Result<Core<IndexedPolicy>, FilesFault>
+    ensures { Holds fault_told result (as_second (machine_of objects.now)) }
+{
+    match loaded(alloc, rt, objects) {
+        Ok(core) => Ok(core),
+        Err(error) => Err(second_fault(error)),
+    }
+}
+
+/// Whether no turn is left.
+fn is_settled(core: &mut Core<IndexedPolicy>) -> Result<bool, Memory>
+    ensures { (m : Machine) → Stands core.old m → IfOk result (λ b. b ≡ files.is_settled m) }
+{
+    let turned = core.turn()?;
+    match turned {
+        Some(_turned) => Ok(false),
+        None => Ok(true),
+    }
+}
+
+// ---- comparisons
+
+/// What the policy after gives that the policy before did not.
+fn compare_cores(
+    alloc: Global,
+    form: Form,
+    before: &Core<IndexedPolicy>,
+    after: &Core<IndexedPolicy>,
+) -> Result<kapi_questions::Compared, Memory>
+    ensures text { IfOk result (λ c. c.text.items ≡ gains_text form (gained before.now.policy after.now.policy)) }
+    ensures gains { IfOk result (λ c. c.gains ≡ not (length (gained before.now.policy after.now.policy) == 0)) }
+{
+    let stood = before.policy().bindings()?;
+    let bindings = after.policy().bindings()?;
+    answer_compare(
+        alloc,
+        form,
+        before.policy(),
+        stood.as_slice(),
+        after.policy(),
+        bindings.as_slice(),
+    )
+}
+
+fn compare_machines(
+    alloc: Global,
+    form: Form,
+    before: &mut Core<IndexedPolicy>,
+    after: &mut Core<IndexedPolicy>,
+) -> Result<Compared, Memory>
+    ensures { (b a : Machine) → Stands before.old b → Stands after.old a → IfOk result (λ c. compared_told c ≡ comparison form b a) }
+{
+    let compared = compare_cores(alloc, form, before, after)?;
+    let before_settled = is_settled(before)?;
+    let after_settled = is_settled(after)?;
+    Ok(Compared {
+        text: compared.text,
+        gains: compared.gains,
+        before_settled,
+        after_settled,
+    })
+}
+
+fn compare_after<R: Wait>(
+    alloc: Global,
+    rt: &R,
+    form: Form,
+    before: &mut Core<IndexedPolicy>,
+    after: &[u8],
+) -> Result<Compared, FilesFault>
+    ensures { (b : Machine) → Stands before.old b
+        → Gives fault_told compared_told result (compared_with form b after.now) }
+{
+    match loaded_second(alloc, rt, after) {
+        Ok(core) => {
+            let mut core = core;
+            Ok(compare_machines(alloc, form, before, &mut core)?)
+        }
+        Err(fault) => Err(fault),
+    }
+}
+
+/// What the policy that a file is gives that the policy of another did not.
+///
+/// # Errors
+/// `First` and `Second` at the first line of a file that is not loaded, `Memory` where memory runs out.
+pub fn compare_files<R: Wait>(
+    alloc: Global,
+    rt: &R,
+    form: Form,
+    before: &[u8],
+    after: &[u8],
+) -> Result<Compared, FilesFault>
+    ensures { Gives fault_told compared_told result (files.compare_files form before.now after.now) }
+{
+    match loaded_first(alloc, rt, before) {
+        Ok(core) => {
+            let mut core = core;
+            compare_after(alloc, rt, form, &mut core, after)
+        }
+        Err(fault) => Err(fault),
+    }
+}
+
+// ---- who may do something
+
+fn who_core(
+    alloc: Global,
+    form: Form,
+    core: &Core<IndexedPolicy>,
+    wanted: &Wanted,
+) -> Result<Vec<u8>, Memory>
+    ensures { IfOk result (λ v. v.items ≡ who_text form core.now.policy wanted.now) }
+{
+    let bindings = core.policy().bindings()?;
+    answer_who(alloc, form, core.policy(), bindings.as_slice(), wanted)
+}
+
+fn who_machine(
+    alloc: Global,
+    form: Form,
+    core: &mut Core<IndexedPolicy>,
+    wanted: &Wanted,
+) -> Result<Answered, Memory>
+    ensures { (m : Machine) → Stands core.old m → IfOk result (λ a. answered_told a ≡ who_on form wanted.now m) }
+{
+    let text = who_core(alloc, form, core, wanted)?;
+    let settled = is_settled(core)?;
+    Ok(Answered { text, settled })
+}
+
+/// Who may do what the words ask, by the policy that a file is.
+///
+/// # Errors
+/// `First` at the first line that is not loaded, `Memory` where memory runs out.
+pub fn who_wanted<R: Wait>(
+    alloc: Global,
+    rt: &R,
+    form: Form,
+    objects: &[u8],
+    wanted: &Wanted,
+) -> Result<Answered, FilesFault>
+    ensures { Gives fault_told answered_told result (files.who_wanted form objects.now wanted.now) }
+{
+    match loaded_first(alloc, rt, objects) {
+        Ok(core) => {
+            let mut core = core;
+            Ok(who_machine(alloc, form, &mut core, wanted)?)
+        }
+        Err(fault) => Err(fault),
+    }
+}
+
+fn lines_core(
+    alloc: Global,
+    form: Form,
+    core: &Core<IndexedPolicy>,
+    lines: &[Line<'_>],
+) -> Result<Vec<u8>, LineFault>
+    ensures { Gives lined.fault_told (λ v. v.items) result (answered_lines form core.now.policy (map line_of lines.now)) }
+{
+    let bindings = core.policy().bindings()?;
+    answer_lines(alloc, form, core.policy(), bindings.as_slice(), lines)
+}
+
+/// The fault of a line that is no question.
+fn question_fault(fault: LineFault) -> FilesFault
+    ensures { result ≡ files.question_fault fault }
+{
+    match fault {
+        LineFault::Question(number) => FilesFault::Question(number),
+        LineFault::Memory => FilesFault::Memory,
+    }
+}
+
+fn lines_machine(
+    alloc: Global,
+    form: Form,
+    core: &mut Core<IndexedPolicy>,
+    lines: &[Line<'_>],
+) -> Result<Answered, FilesFault>
+    ensures { (m : Machine) → Stands core.old m → Gives fault_told answered_told result (lines_on form (map line_of lines.now) m) }
+{
+    match lines_core(alloc, form, core, lines) {
+        Ok(text) => {
+            let settled = is_settled(core)?;
+            Ok(Answered { text, settled })
+        }
+        Err(fault) => Err(question_fault(fault)),
+    }
+}
+
+/// Who may do what each line of a file asks, by the policy that another is.
+///
+/// # Errors
+/// `First` at the first line that is not loaded, else `Question` at the first that is no question, `Memory` where memory runs out.
+pub fn who_file<R: Wait>(
+    alloc: Global,
+    rt: &R,
+    form: Form,
+    objects: &[u8],
+    questions: &[u8],
+) -> Result<Answered, FilesFault>
+    ensures { Gives fault_told answered_told result (files.who_file form objects.now questions.now) }
+{
+    let lines = numbered_lines(alloc, questions)?;
+    match loaded_first(alloc, rt, objects) {
+        Ok(core) => {
+            let mut core = core;
+            lines_machine(alloc, form, &mut core, lines.as_slice())
+        }
+        Err(fault) => Err(fault),
+    }
+}
+
+// ---- risks
+
+fn risks_core(alloc: Global, form: Form, core: &Core<IndexedPolicy>) -> Result<Vec<u8>, Memory>
+    ensures { IfOk result (λ v. v.items ≡ ways_text form (risks core.now.policy)) }
+{
+    let bindings = core.policy().bindings()?;
+    answer_risks(alloc, form, core.policy(), bindings.as_slice())
+}
+
+fn risks_machine(
+    alloc: Global,
+    form: Form,
+    core: &mut Core<IndexedPolicy>,
+) -> Result<Vec<u8>, Memory>
+    ensures { (m : Machine) → Stands core.old m → IfOk result (λ v. v.items ≡ risks_on form m) }
+{
+    let mut text = risks_core(alloc, form, core)?;
+    let settled = is_settled(core)?;
+    text.extend_from_slice(settled_line(form, settled))?;
+    Ok(text)
+}
+
+/// Who may gain more than the policy gives that a file is, and what holds of all others.
+///
+/// # Errors
+/// `First` at the first line that is not loaded, `Memory` where memory runs out.
+pub fn risks_file<R: Wait>(
+    alloc: Global,
+    rt: &R,
+    form: Form,
+    objects: &[u8],
+) -> Result<Vec<u8>, FilesFault>
+    ensures { Gives fault_told (λ v. v.items) result (files.risks_file form objects.now) }
+{
+    match loaded_first(alloc, rt, objects) {
+        Ok(core) => {
+            let mut core = core;
+            Ok(risks_machine(alloc, form, &mut core)?)
+        }
+        Err(fault) => Err(fault),
+    }
+}

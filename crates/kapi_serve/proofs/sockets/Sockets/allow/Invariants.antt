@@ -1,0 +1,8 @@
+use Rattle.std.proofs.Common.{◌≡◌}
+use Rattle.std.specs.Prelude.{vec_len}
+use Rattle.kapi_serve.specs.Listening.{doors}
+use Rattle.kapi_serve.proofs.sockets.Sockets.allow.Given as goal
+
+-- the ports stay
+abbrev pub invariant-loop-index : goal.invariant-loop-index
+invariant-loop-index g l = (vec_len l.self.listeners ≡ vec_len l.fn.self.listeners) × (doors l.self.listeners.items ≡ doors l.fn.self.listeners.items)

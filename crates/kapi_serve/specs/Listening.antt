@@ -1,0 +1,15 @@
+-- The ports that sockets listen on, and who their clients are.
+use Rattle.std.specs.Prelude.{◌≡◌, ℕ, List, map, Option, Some}
+use Rattle.kapi_aggregation.specs.Members.{Has}
+use Rattle.kapi_rbac_types.specs.declared.identity.Identity.{Identity}
+use Rattle.kapi_serve.specs.declared.port.PortEvent.{PortEvent}
+use Rattle.kapi_serve.specs.declared.port.PortEvent.TheVariants as event
+use Rattle.kapi_serve.specs.declared.listener.Listener.{Listener}
+
+-- the port that was asked for and the identity of its clients, of each listener in the order in which they began
+abbrev pub doors : List Listener → List (ℕ × Identity)
+doors listeners = map (λ l. (l.port, l.identity)) listeners
+
+-- a client who has connected is the identity of one of the ports
+abbrev pub CameByDoor : List Listener → Option PortEvent → Type 0
+CameByDoor listeners happened = (slot : ℕ) (identity : Identity) → happened ≡ Some (event.Opened slot identity) → (port : ℕ) × Has (doors listeners) (port, identity)

@@ -1,0 +1,34 @@
+ghost use Rattle.std.specs.Prelude.{◌≡◌, ◌≤◌};
+
+use kapi_rbac_types::Identity;
+use mio::net::TcpListener;
+use std::io::ErrorKind;
+
+/// A port that is listened on, and the identity that each of its connections has.
+#[derive(Drop)]
+pub(crate) struct Listener {
+    pub(crate) socket: TcpListener,
+    /// The port that was asked for, which is 0 where any was.
+    pub(crate) port: u16,
+    pub(crate) identity: Identity,
+    /// A client may wait to be accepted.
+    pub(crate) waiting: bool,
+    /// So many clients may still be taken in in this round.
+    pub(crate) left: usize,
+    ghost few: { left ≤ 16 },
+}
+
+impl Listener {
+    /// A client may be taken in now.
+    pub(crate) fn has_turn(&self) -> bool {
+        self.waiting && self.left > 0
+    }
+
+    /// No client is taken in in this round any more.
+    pub(crate) fn pause(&mut self, error: ErrorKind)
+        ensures { (self.new.port ≡ self.old.port) × (self.new.identity ≡ self.old.identity) }
+    {
+        self.left = 0;
+        self.waiting = error != ErrorKind::WouldBlock;
+    }
+}

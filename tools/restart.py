@@ -1,0 +1,111 @@
+#!/usr/bin/env python3
+"""Kills a server behind a running informer and starts it again, with fewer and with more objects, and looks at the informer's cache.
+
+usage: restart.py KAPI     KAPI is the built program; wants the package kubernetes of Python, and stands its door (door.py) before the server
+
+The informer lists, watches from the list's revision, goes on from the last revision that it saw where its connection breaks, and lists anew
+where it is told 410, as client-go's does. The exit status is 1 where its cache is not the server's list within 10 s.
+"""
+import json
+import pathlib
+import subprocess
+import sys
+import tempfile
+import threading
+import time
+
+import urllib3
+from kubernetes import client, watch
+
+SERVED, DOOR = 18021, 18022
+SECONDS = 10
+
+
+def objects(number):
+    return [{"apiVersion": "v1", "kind": "ConfigMap", "metadata": {"name": f"c{it}", "namespace": "default"}, "data": {"of": str(number)}} for it in range(number)]
+
+
+def start(program, number):
+    """A server with so many ConfigMaps, whose revisions the clock gives."""
+    with tempfile.NamedTemporaryFile("w", suffix=".jsonl", delete=False) as file:
+        file.writelines(json.dumps(it) + "\n" for it in objects(number))
+    words = [program, "serve", "--load", file.name, "--first-revision", "clock", f"{SERVED}=root,system:masters"]
+    process = subprocess.Popen(words, stdout=subprocess.PIPE)
+    process.stdout.readline()
+    pathlib.Path(file.name).unlink()
+    return process
+
+
+class Informer(threading.Thread):
+    """A cache of the ConfigMaps of `default`, by name: the data of each."""
+
+    def __init__(self):
+        super().__init__(daemon=True)
+        configuration = client.Configuration()
+        configuration.host = f"http://127.0.0.1:{DOOR}"
+        self.api = client.CoreV1Api(client.ApiClient(configuration))
+        self.cache, self.revision, self.lists = {}, None, 0
+
+    def run(self):
+        while True:
+            try:
+                if self.revision is None:
+                    self.list()
+                self.watch()
+            except client.ApiException as error:
+                self.revision = None if error.status == 410 else self.revision
+                time.sleep(0.2)
+            except (urllib3.exceptions.HTTPError, ConnectionError):
+                time.sleep(0.2)
+
+    def list(self):
+        found = self.api.list_namespaced_config_map("default")
+        self.cache = {it.metadata.name: it.data for it in found.items}
+        self.revision, self.lists = found.metadata.resource_version, self.lists + 1
+
+    def watch(self):
+        stream = watch.Watch().stream(self.api.list_namespaced_config_map, "default", resource_version=self.revision, timeout_seconds=SECONDS)
+        for event in stream:
+            item = event["object"]
+            self.revision = item.metadata.resource_version
+            if event["type"] == "DELETED":
+                self.cache.pop(item.metadata.name, None)
+            else:
+                self.cache[item.metadata.name] = item.data
+
+
+def is_right_after(informer, number):
+    """The seconds until the cache is that of so many objects, or nothing."""
+    wanted, begun = {it["metadata"]["name"]: it["data"] for it in objects(number)}, time.monotonic()
+    while time.monotonic() - begun < SECONDS:
+        if informer.cache == wanted:
+            return time.monotonic() - begun
+        time.sleep(0.02)
+    return None
+
+
+def main(program):
+    door = subprocess.Popen([sys.executable, pathlib.Path(__file__).with_name("door.py"), str(DOOR), str(SERVED)], stdout=subprocess.PIPE)
+    door.stdout.readline()
+    informer, server, wrong = Informer(), None, 0
+    for number in (40, 20, 80, 0):
+        if server:
+            server.kill()
+            server.wait()
+            time.sleep(1)
+        server = start(program, number)
+        if not informer.is_alive():
+            informer.start()
+        seconds = is_right_after(informer, number)
+        wrong += seconds is None
+        said = "its cache is wrong" if seconds is None else f"its cache is right after {seconds:.1f} s"
+        print(f"{number} objects: {said}, {informer.lists} lists so far")
+    server.kill()
+    door.kill()
+    return 1 if wrong else 0
+
+
+if __name__ == "__main__":
+    if len(sys.argv) != 2:
+        sys.exit(__doc__)
+    sys.exit(main(sys.argv[1]))
