@@ -7,6 +7,7 @@ It answers GET of /api, /apis, /api/v1, /apis/GROUP/v1 and /version by tools/kin
 it, as `watch=true`. Requests, answers and watches pass unchanged otherwise, whoever asks: the port behind it says who that is.
 """
 import asyncio
+import contextlib
 import json
 import pathlib
 import re
@@ -101,9 +102,10 @@ async def hand_on_body(head, reader, writer):
 
 async def hand_back(reader, writer):
     """Answers and watches, as they come."""
-    while data := await reader.read(HEAD_BYTES):
-        writer.write(data)
-        await writer.drain()
+    with contextlib.suppress(ConnectionError):
+        while data := await reader.read(HEAD_BYTES):
+            writer.write(data)
+            await writer.drain()
     writer.close()
 
 
@@ -122,16 +124,15 @@ async def hand_on(reader, client, writer):
 
 
 async def meet(served, reader, client):
-    behind, writer = await asyncio.open_connection("127.0.0.1", served, limit=HEAD_BYTES)
-    back = asyncio.create_task(hand_back(behind, client))
-    try:
-        await hand_on(reader, client, writer)
-    except (asyncio.IncompleteReadError, asyncio.LimitOverrunError, ConnectionError, ValueError):
-        pass
-    finally:
-        writer.close()
-        back.cancel()
-        client.close()
+    with contextlib.suppress(asyncio.IncompleteReadError, asyncio.LimitOverrunError, ConnectionError, ValueError):
+        behind, writer = await asyncio.open_connection("127.0.0.1", served, limit=HEAD_BYTES)
+        back = asyncio.create_task(hand_back(behind, client))
+        try:
+            await hand_on(reader, client, writer)
+        finally:
+            writer.close()
+            back.cancel()
+    client.close()
 
 
 async def main(port, served):

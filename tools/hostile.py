@@ -27,11 +27,11 @@ LINE_BYTES = 64_000_000
 
 
 class Server:
-    """A server of root's and ann's port, and one for questions; so many descriptors, if any number is named."""
+    """A server of root's and ann's port, and one for questions; so many descriptors, and the objects of a file, if they are named."""
 
-    def __init__(self, program, descriptors=None):
+    def __init__(self, program, descriptors=None, load=None):
         limit = (lambda: resource.setrlimit(resource.RLIMIT_NOFILE, (descriptors, descriptors))) if descriptors else None
-        words = [program, "serve", "--answer", str(ANSWER), "--readers", "2", f"{ROOT}=root,system:masters", f"{ANN}=ann"]
+        words = [program, "serve", "--answer", str(ANSWER), "--readers", "2", *(["--load", load] if load else []), f"{ROOT}=root,system:masters", f"{ANN}=ann"]
         self.process = subprocess.Popen(words, stdout=subprocess.PIPE, preexec_fn=limit)
         for _port in (ROOT, ANN, ANSWER):
             self.process.stdout.readline()

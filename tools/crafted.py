@@ -1,0 +1,179 @@
+#!/usr/bin/env python3
+"""Sends a server on 127.0.0.1 policies that are made to be costly, and prints the processor time that each costs it.
+
+usage: crafted.py KAPI [KAPI]     KAPI is the built program; a second one is measured beside it, and the ratio is told
+
+Ann may bind cluster roles whose rules she holds, and holds what each line says. The exit status is 1 where the first program is above a bound.
+"""
+import contextlib
+import http.client
+import itertools
+import json
+import pathlib
+import sys
+import tempfile
+import time
+
+from hostile import ANN, ROOT, Server
+
+RBAC = "/apis/rbac.authorization.k8s.io/v1"
+RULES, WRITES, SECONDS = 15_000, 4_000, 120
+
+
+def rule(verbs, groups, resources, names=()):
+    return {"verbs": list(verbs), "apiGroups": list(groups), "resources": list(resources), "resourceNames": list(names)}
+
+
+def entries(count, letter="e"):
+    return [f"{letter}{it}" for it in range(count)]
+
+
+def square(count):
+    """A rule of four lists of so many entries."""
+    return rule(*[entries(count, letter) for letter in "vgrn"])
+
+
+def halves(count):
+    """The same in two halves of its verbs."""
+    whole = square(count)
+    return [{**whole, "verbs": whole["verbs"][it::2]} for it in (0, 1)]
+
+
+def resources():
+    """Rules of one permission each, which differ in the resource."""
+    return [rule(["get"], [""], [it]) for it in entries(RULES)]
+
+
+def names():
+    return [rule(["get"], [""], ["pods"], [it]) for it in entries(RULES)]
+
+
+def paths():
+    return [{"verbs": ["get"], "nonResourceURLs": [f"/{it}"]} for it in entries(RULES)]
+
+
+def elevens():
+    """Rules of one permission each, of eleven values of each part."""
+    return [rule(*[[it] for it in parts]) for parts in itertools.product(*[entries(11, letter) for letter in "vgrn"])]
+
+
+class Client:
+    """Requests over one connection, and what each costs the server in seconds of processor time."""
+
+    def __init__(self, server, port):
+        self.server, self.port = server, port
+        self.connection = http.client.HTTPConnection("127.0.0.1", port, timeout=SECONDS)
+
+    def send(self, method, target, body=None, wanted=(200, 201)):
+        text, before = json.dumps(body, separators=(",", ":")) if body else None, self.server.precise()
+        media = {"Content-Type": "application/merge-patch+json"} if method == "PATCH" else {}
+        self.connection.request(method, target, text, media)
+        answer = self.connection.getresponse()
+        told = answer.read()
+        if answer.status not in wanted:
+            sys.exit(f"{method} {target}: {answer.status} {told[:200]}")
+        return self.server.precise() - before
+
+    def ask_without_answer(self, target, body, seconds=1):
+        """The cost of a request whose answer is not had for want of memory."""
+        before = self.server.precise()
+        self.connection.request("POST", target, json.dumps(body))
+        time.sleep(seconds)
+        self.connection.close()
+        return self.server.precise() - before
+
+
+class Measured(Server):
+    def precise(self):
+        """Processor time of all threads, in seconds."""
+        tasks = pathlib.Path(f"/proc/{self.process.pid}/task")
+        return sum(int((it / "schedstat").read_text().split()[0]) for it in tasks.iterdir()) / 1e9
+
+
+def role(name, rules, **metadata):
+    return {"apiVersion": "rbac.authorization.k8s.io/v1", "kind": "ClusterRole", "metadata": {"name": name, **metadata}, "rules": rules}
+
+
+def binding(name):
+    """Gives ann the role of that name."""
+    reference, subject = {"kind": "ClusterRole", "name": name}, {"kind": "User", "name": "ann"}
+    return {"apiVersion": "rbac.authorization.k8s.io/v1", "kind": "ClusterRoleBinding", "metadata": {"name": name}, "roleRef": reference, "subjects": [subject]}
+
+
+BINDER = role("binder", [rule(["create"], ["rbac.authorization.k8s.io"], ["clusterrolebindings"])])
+
+
+@contextlib.contextmanager
+def loaded(program, *objects):
+    with tempfile.NamedTemporaryFile("w", suffix=".jsonl") as file:
+        file.writelines(json.dumps(it) + "\n" for it in objects)
+        file.flush()
+        with Measured(program, load=file.name) as server:
+            yield server
+
+
+def check(program, held, wanted, is_held):
+    """The cost of the check of a binding that ann writes to a role, who holds the first rules."""
+    with loaded(program, BINDER, binding("binder"), role("held", held), binding("held"), role("new", wanted)) as server:
+        return Client(server, ANN).send("POST", f"{RBAC}/clusterrolebindings", binding("new"), (201,) if is_held else (403,))
+
+
+def refused(program):
+    with loaded(program, BINDER, binding("binder"), role("new", [square(320)])) as server:
+        return Client(server, ANN).ask_without_answer(f"{RBAC}/clusterrolebindings", binding("new"))
+
+
+def turn(program):
+    """A turn that takes many rules into a cluster role, and one that finds them there."""
+    with Measured(program) as server:
+        root = Client(server, ROOT)
+        aggregation = {"clusterRoleSelectors": [{"matchLabels": {"fills": "all"}}]}
+        root.send("POST", f"{RBAC}/clusterroles", role("source", resources(), labels={"fills": "all"}))
+        first = root.send("POST", f"{RBAC}/clusterroles", {**role("all", []), "aggregationRule": aggregation})
+        before = server.precise()
+        time.sleep(1)
+        return first + server.precise() - before
+
+
+def writes(program, target):
+    with Measured(program) as server:
+        root = Client(server, ROOT)
+        return sum(root.send("POST", target, {"metadata": {"name": it}, "rules": [rule(["get"], [""], ["pods"])]}) for it in entries(WRITES))
+
+
+CASES = (
+    ("four lists of 8 entries, none held: 4,096 causes", 0.05, lambda it: check(it, [], [square(8)], False)),
+    ("four lists of 16 entries, none held: 65,536 causes", 0.2, lambda it: check(it, [], [square(16)], False)),
+    ("four lists of 56 entries, held in two halves", 0.01, lambda it: check(it, halves(56), [square(56)], True)),
+    ("four lists of 320 entries, none held: refused for want of memory", 0.01, refused),
+    (f"{RULES:,} rules against as many, by resource", 0.5, lambda it: check(it, resources(), resources(), True)),
+    (f"{RULES:,} rules against as many, by name", 0.5, lambda it: check(it, names(), names(), True)),
+    (f"{RULES:,} rules against as many, by path", 0.5, lambda it: check(it, paths(), paths(), True)),
+    ("14,641 rules against as many, eleven of each part", 0.5, lambda it: check(it, elevens(), elevens(), True)),
+    (f"{RULES:,} names against as many rules", 0.5, lambda it: check(it, names(), [rule(["get"], [""], ["pods"], entries(RULES))], True)),
+    (f"{RULES:,} rules against one with as many names", 0.5, lambda it: check(it, [rule(["get"], [""], ["pods"], entries(RULES))], names(), True)),
+    (f"a turn of {RULES:,} rules", 0.2, turn),
+    (f"{WRITES:,} roles", None, lambda it: writes(it, f"{RBAC}/namespaces/default/roles")),
+    (f"{WRITES:,} cluster roles", None, lambda it: writes(it, f"{RBAC}/clusterroles")),
+)
+
+
+def main(program, other=None):
+    figures, well = {}, True
+    for what, most, measure in CASES:
+        used = figures[what] = measure(program)
+        within = most is None or used <= most
+        well &= within
+        bound = "" if most is None else f" (at most {most})"
+        beside = ""
+        if other:
+            old = measure(other)
+            beside = f"; the other program {old:.3f} s, {old / used:.1f} times that"
+        print(f"{what}: {used:.3f} s{bound}{'' if within else ': ABOVE ITS BOUND'}{beside}", flush=True)
+    ratio = figures[f"{WRITES:,} cluster roles"] / figures[f"{WRITES:,} roles"]
+    print(f"a cluster role takes {ratio:.1f} times a role (at most 2){'' if ratio <= 2 else ': ABOVE ITS BOUND'}")
+    return 0 if well and ratio <= 2 else 1
+
+
+if __name__ == "__main__":
+    sys.exit(main(*sys.argv[1:]))
