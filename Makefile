@@ -4,15 +4,16 @@
 # make kapi      proves and builds the program, and says where it lies
 # make install   proves and builds the program and copies it to PREFIX/bin, which is /usr/local/bin if PREFIX is not named
 # make serve     proves and builds the program, and starts it as a server on 127.0.0.1: port 8001 for root, port 8002 for ann
-# make serve-demo starts the same server for ten minutes and proves nothing first
+# make serve-demo starts the same server for ten minutes, says when it is up, and proves nothing first (wants curl)
 # make growths   plays each script of the folder SCRIPTS, or each case of a transcript of that name, with every growth of memory refused in turn (wants cc and python3)
 # make live      changes the policy of a server while two clients ask what it allows, and looks at what they are told (wants python3)
-# make hostile   attacks a server as a client without rights may, and prints what each attack costs the others (wants python3)
+# make hostile   attacks a server as a client without rights may, sends it policies that are made to be costly, and prints what each costs (wants python3)
 # make missing    compares the permissions that a refusal tells with those that the rule says, for 100,000 random roles (wants python3)
 # make rechecks  takes rights away from clients who watch, over sockets (wants python3)
 # make restart   kills a server behind a running informer and starts it again (wants python3 with the package kubernetes, which PYTHON may name)
 # make kubectl-demo  starts a server and the door for kubectl before it, and runs the commands of docs/USING.md (wants kubectl and python3)
 # make statuses  the program's exit statuses, what it writes on standard error, and that it serves the kinds of tools/kinds.txt (wants python3)
+# make pages     runs the commands of docs/USING.md and docs/COMPARE.md, and looks whether they print what the pages show (wants curl and python3)
 # make edits     tries the edits of crates/NAME/edits, which the gate does not, of all crates or of those that CRATES names; takes hours for all
 # make audit-demo  answers a stored file of questions by a stored policy; it proves nothing
 # make compare-demo  compares two stored policies, and asks of one who may read secrets and who could become anybody; it proves nothing
@@ -26,9 +27,10 @@ PYTHON ?= python3
 KUBECTL ?= kubectl
 PROGRAM = crates/kapi/out/kapi
 
-.PHONY: audit-demo compare-demo compare-random demo replay test kapi install serve serve-demo edits growths live missing rechecks hostile restart kubectl-demo statuses bench load
+.PHONY: pages audit-demo compare-demo compare-random demo replay test kapi install serve serve-demo edits growths live missing rechecks hostile restart kubectl-demo statuses bench load
 
 demo:
+	@echo 'Compiles the program without proofs, about a minute, and plays scripts/demo.txt.'
 	@answers=$$(mktemp) && (cd crates/kapi && rt try -- script < ../../scripts/demo.txt) > $$answers && python3 tools/transcript.py scripts/demo.txt $$answers; status=$$?; rm -f $$answers; exit $$status
 
 replay:
@@ -51,8 +53,7 @@ serve: kapi
 	@$(PROGRAM) serve --load scripts/serve/objects.jsonl --first-revision clock 8001=root,system:masters 8002=ann,system:authenticated
 
 serve-demo:
-	@echo 'In about two minutes, and for ten: 127.0.0.1:8001 is for root, 127.0.0.1:8002 for ann. Ctrl-C ends it.'
-	@cd crates/kapi && rt try --seconds 600 --data objects.jsonl=../../scripts/serve/objects.jsonl -- serve --load objects.jsonl --first-revision clock 8001=root,system:masters 8002=ann,system:authenticated > /dev/null 2>&1; true
+	@sh tools/serve_demo.sh
 
 growths: kapi
 	@cc -shared -fPIC -O2 -o crates/kapi/out/refuse.so tools/refuse.c -ldl
@@ -62,7 +63,7 @@ live: kapi
 	@python3 tools/live.py $(PROGRAM)
 
 hostile: kapi
-	@python3 tools/hostile.py $(PROGRAM)
+	@python3 tools/hostile.py $(PROGRAM) && python3 tools/crafted.py $(PROGRAM)
 
 missing: kapi
 	@python3 tools/missing.py $(PROGRAM) 100000
@@ -75,6 +76,9 @@ restart: kapi
 
 kubectl-demo: kapi
 	@sh tools/kubectl.sh $(PROGRAM) $(KUBECTL)
+
+pages: kapi
+	@$(PYTHON) tools/pages.py $(PROGRAM)
 
 statuses: kapi
 	@sh tools/statuses.sh $(PROGRAM) && python3 tools/kinds.py $(PROGRAM)
@@ -89,7 +93,7 @@ compare-random: kapi
 	@python3 tools/compare.py $(PROGRAM)
 
 bench: kapi
-	@python3 tools/bench.py $(PROGRAM)
+	@python3 tools/bench.py $(PROGRAM) && python3 tools/policies.py $(PROGRAM)
 
 load: kapi
 	@cc -O2 -o crates/kapi/out/echo tools/echo.c

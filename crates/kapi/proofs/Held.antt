@@ -1,10 +1,10 @@
--- What is answered of machines is answered of their files.
+-- An answer about machines is an answer about the files that make them.
 use Rattle.std.proofs.Common.{◌≡◌, ℕ, ◌==◌, not, Bool, List, length, Option, None, Some, Result, Ok, Err, IfOk, refl, sym, ap, ap₂, ◌∙◌, subst}
 use Rattle.std.specs.declared.alloc.AllocError.{AllocError}
 use Rattle.kapi_text.specs.Gives.{Fails, Gives, ◌>>=◌}
 use Rattle.kapi_core.specs.Machine.{Machine, policy_of}
 use Rattle.kapi_core.specs.Running.{Running}
-use Rattle.kapi_core.specs.Stands.{Stands}
+use Rattle.kapi_core.specs.Refines.{Refines}
 use Rattle.kapi_loading.specs.Faults as loading
 use Rattle.kapi_loading.specs.Faults.{FileFault, bad_line}
 use Rattle.kapi_loading.specs.declared.fault.StartError.{StartError}
@@ -12,6 +12,7 @@ use Rattle.kapi_loading.specs.declared.fault.StartError.TheVariants as start
 use Rattle.kapi_lines.specs.Lines.{NumberedLine}
 use Rattle.kapi_policy.specs.Objects.{PolicyObjects}
 use Rattle.kapi_access.specs.Gained.{gained}
+use Rattle.kapi_access.specs.declared.identities.Identities.{Identities}
 use Rattle.kapi_questions.specs.Answers.{gains_text}
 use Rattle.kapi_questions.specs.Lines as lined
 use Rattle.kapi_questions.specs.Lines.{LineError, answered_lines, no_question}
@@ -21,7 +22,7 @@ use Rattle.kapi_questions.specs.declared.lines.LineFault.TheVariants as line_fau
 use Rattle.kapi.specs.Policies.{Comparison, FilesError, Holds, Reply, as_first, as_question, as_second, comparison, fault_told, first_fault, is_settled, lines_on, question_fault, second_fault}
 use Rattle.kapi.specs.declared.policies.FilesFault.{FilesFault}
 
--- a core that holds the machine of a file holds it as that of the first
+-- a core that refines the machine of a file refines that of the first file
 pub core_first : (core : Running) (given : Result Machine FileFault) → Holds {E = StartError} loading.fault_told (Ok core) given → Holds {E = FilesFault} fault_told (Ok core) (as_first given)
 core_first core given (m, is, stands) = (m, ap as_first is, stands)
 
@@ -45,20 +46,20 @@ pub goes_on : {A B F : Type 0} (o : Option F) (given : Result A F) (k : A → Re
 goes_on None given k h = tt
 goes_on (Some e) given k h = subst (λ r. (r >>= k) ≡ Err e) (sym h) refl
 
--- what is given of a machine is given of the file that makes it
+-- an answer about a machine is an answer about the file that makes it
 pub onward : {X Y A : Type 0} (view : X → Y) (result : Result X FilesFault) (given : Result A FilesError) (k : A → Result Y FilesError) (a : A)
     → given ≡ Ok a → Gives fault_told view result (k a) → Gives fault_told view result (given >>= k)
 onward view result given k a is h = subst (λ r. Gives fault_told view result (r >>= k)) (sym is) h
 
--- the policies are those of the machines
-pub compared : (f : Form) (core_b core_a : Running) (b a : Machine) (text : List ℕ) (gains settled_b settled_a : Bool) → Stands core_b b → Stands core_a a
-    → text ≡ gains_text f (gained core_b.policy core_a.policy) → gains ≡ not (length (gained core_b.policy core_a.policy) == 0)
+-- the policies of a comparison are those of the machines
+pub compared : (f : Form) (who : Identities) (core_b core_a : Running) (b a : Machine) (text : List ℕ) (gains settled_b settled_a : Bool) → Refines core_b b → Refines core_a a
+    → text ≡ gains_text f (gained who core_b.policy core_a.policy) → gains ≡ not (length (gained who core_b.policy core_a.policy) == 0)
     → settled_b ≡ is_settled b → settled_a ≡ is_settled a
-    → record { text = text; gains = gains; before_settled = settled_b; after_settled = settled_a } ≡ comparison f b a
-compared f core_b core_a b a text gains settled_b settled_a hb ha et eg eb ea =
-    let both : gained core_b.policy core_a.policy ≡ gained (policy_of b) (policy_of a) = ap₂ gained hb.policy_is ha.policy_is in
-    let te : text ≡ gains_text f (gained (policy_of b) (policy_of a)) = et ∙ ap (gains_text f) both in
-    let ge : gains ≡ not (length (gained (policy_of b) (policy_of a)) == 0) = eg ∙ ap (λ l. not (length l == 0)) both in
+    → record { text = text; gains = gains; before_settled = settled_b; after_settled = settled_a } ≡ comparison f who b a
+compared f who core_b core_a b a text gains settled_b settled_a hb ha et eg eb ea =
+    let both : gained who core_b.policy core_a.policy ≡ gained who (policy_of b) (policy_of a) = ap₂ (gained who) hb.policy_is ha.policy_is in
+    let te : text ≡ gains_text f (gained who (policy_of b) (policy_of a)) = et ∙ ap (gains_text f) both in
+    let ge : gains ≡ not (length (gained who (policy_of b) (policy_of a)) == 0) = eg ∙ ap (λ l. not (length l == 0)) both in
     λ i. record { text = te i; gains = ge i; before_settled = eb i; after_settled = ea i }
 
 -- an answer of a text, by a policy that is settled or not
@@ -70,14 +71,14 @@ pub replied : (t text : List ℕ) (s settled : Bool) → t ≡ text → s ≡ se
 replied t text s settled e f = λ i. record { text = e i; settled = f i }
 
 -- lines that are answered by the policy of a machine
-pub lines_given : (f : Form) (core : Running) (m : Machine) (lines : List NumberedLine) (text : List ℕ) (settled : Bool) → Stands core m
+pub lines_given : (f : Form) (core : Running) (m : Machine) (lines : List NumberedLine) (text : List ℕ) (settled : Bool) → Refines core m
     → answered_lines f core.policy lines ≡ Ok text → settled ≡ is_settled m → lines_on f lines m ≡ Ok (reply text settled)
 lines_given f core m lines text settled stands h e =
     let on : answered_lines f (policy_of m) lines ≡ Ok text = ap (λ p. answered_lines f p lines) (sym stands.policy_is) ∙ h in
     ap (λ r. as_question r >>= λ t. Ok (reply t (is_settled m))) on ∙ ap (λ s. Ok (reply text s)) (sym e)
 
--- a line that is not
-pub lines_fail : (f : Form) (core : Running) (m : Machine) (lines : List NumberedLine) (e : LineFault) → Stands core m
+-- a line that is not answered by the policy of a machine
+pub lines_fail : (f : Form) (core : Running) (m : Machine) (lines : List NumberedLine) (e : LineFault) → Refines core m
     → Fails (lined.fault_told e) (answered_lines f core.policy lines) → Fails (fault_told (question_fault e)) (lines_on f lines m)
 lines_fail f core m lines e stands h =
     goes_on (fault_told (question_fault e)) (as_question (answered_lines f (policy_of m) lines)) _

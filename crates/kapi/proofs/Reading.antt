@@ -1,4 +1,4 @@
--- What the words' values tell.
+-- The values of a command line's words.
 use Rattle.std.proofs.Common.{◌≡◌, ℕ, ◌&&◌, Bool, true, false, List, [], ◌∷◌, ◌++◌, length, Option, Some, None, option_map, Result, Ok, Err, nat_lt, refl, ap, lt-ltb, ltb-true}
 use Rattle.std.specs.Char.{digit_value}
 use Rattle.std.specs.List.{list_all}
@@ -19,6 +19,6 @@ raw_values_rows f id = raw_values-rows f id
 
 -- ---- the words of the ports, one after the other
 
--- some that are told, and then those of further words
+-- the ports of some words, and then those of further words
 abbrev pub after : List Listen → Option (List Listen) → Option (List Listen)
 after done rest = option_map (λ more. done ++ more) rest

@@ -30,8 +30,8 @@ pub record Files : Type 0 where
   pub questions : Text
   pub readers : ℕ
 
--- the file that a server loads, the revision after which its own begin (none: the clock gives it), whether the rights of watches are looked
--- at anew, the ports that it serves, the one on which questions are answered, and by how many threads
+-- the file that a server loads, the revision after which its own begin (none: the clock gives it), whether the rights
+-- of watches are rechecked, the ports that it serves, the port on which questions are answered, and by how many threads
 pub record Options : Type 0 where
   pub load : Option Text
   pub first : Option ℕ
@@ -45,10 +45,11 @@ pub record Transcripts : Type 0 where
   pub files : List Text
   pub write : Bool
 
--- the policies that are compared, by the names of their files, and whether JSON is printed
+-- the policies that are compared, by the names of their files, whether for identities with their usual groups, and whether JSON is printed
 pub record Policies : Type 0 where
   pub before : Text
   pub after : Text
+  pub usual_groups : Bool
   pub json : Bool
 
 -- the words of a question; the namespace and the name are empty where they are left out
@@ -69,12 +70,12 @@ pub record Who : Type 0 where
   pub question : Question
   pub json : Bool
 
--- the policy that is asked who may gain more than it gives, by the name of its file, and whether JSON is printed
+-- the policy that is asked who may gain more than it grants, by the name of its file, and whether JSON is printed
 pub record Risks : Type 0 where
   pub policy : Text
   pub json : Bool
 
--- one of the programs with what it is given, or a text of that kind
+-- one of the programs with its arguments, or a text of that kind
 pub data Asked : Type 0 where
   Script : Asked
   Audit : Files → Asked
@@ -91,7 +92,7 @@ pub data Asked : Type 0 where
 abbrev pub readers_in : List Row → Option ℕ
 readers_in rows = first_of (codes "readers") rows >>= readers_of
 
--- the audit that they ask for
+-- the audit that parsed rows ask for
 abbrev pub files_in : List Row → Option Files
 files_in rows = do
   policy ← first_of (codes "POLICY") rows
@@ -99,17 +100,17 @@ files_in rows = do
   readers ← readers_in rows
   Some (record { policy = policy; questions = questions; readers = readers })
 
--- the port for questions, where one is told; nothing where the word tells no port
+-- the port for questions, where one is named; nothing where the word is no port
 abbrev pub answer_of : Option Text → Option (Option ℕ)
 answer_of None = Some None
 answer_of (Some digits) = option_map (λ port. Some port) (port_of digits)
 
--- the revision after which those of a server begin: 0 where none is told, none where the clock gives it; nothing where the word is neither
+-- a server's first revision: 0 where none is named, none where the clock gives it; nothing where the word is neither
 abbrev pub first_of_word : Option Text → Option (Option ℕ)
 first_of_word None = Some (Some 0)
 first_of_word (Some word) = if bytes_eq word (codes "clock") then Some None else option_map (λ n. Some n) (revision_of word)
 
--- the ports and who their clients are, in the order of the words, 1 to 16
+-- the ports and the identities of their clients, in the order of the words, 1 to 16
 abbrev pub listens_in : List Row → Option (List Listen)
 listens_in rows = do
   words ← all_of (codes "LISTEN") rows
@@ -121,7 +122,7 @@ abbrev pub is_true : Option Text → Bool
 is_true None = false
 is_true (Some value) = bytes_eq value (codes "true")
 
--- the server that they ask for
+-- the server that parsed rows ask for
 abbrev pub options_in : List Row → Option Options
 options_in rows = do
   answer ← answer_of (first_of (codes "answer") rows)
@@ -137,26 +138,26 @@ options_in rows = do
     readers = readers;
   })
 
--- the transcripts that they ask for
+-- the transcripts that parsed rows ask for
 abbrev pub transcripts_in : List Row → Option Transcripts
 transcripts_in rows = do
   files ← all_of (codes "FILE") rows
   Some (record { files = files; write = is_true (first_of (codes "write") rows) })
 
--- the comparison that they ask for
+-- the comparison that parsed rows ask for
 abbrev pub compare_in : List Row → Option Policies
 compare_in rows = do
   before ← first_of (codes "BEFORE") rows
   after ← first_of (codes "AFTER") rows
-  Some (record { before = before; after = after; json = is_true (first_of (codes "json") rows) })
+  Some (record { before = before; after = after; usual_groups = is_true (first_of (codes "usual-groups") rows); json = is_true (first_of (codes "json") rows) })
 
--- the risks that they ask for
+-- the risks that parsed rows ask for
 abbrev pub risks_in : List Row → Option Risks
 risks_in rows = do
   policy ← first_of (codes "POLICY") rows
   Some (record { policy = policy; json = is_true (first_of (codes "json") rows) })
 
--- the question that they tell in words
+-- the question that parsed rows specify in words
 abbrev pub wanted_in : List Row → Option QuestionWords
 wanted_in rows = do
   verb ← first_of (codes "VERB") rows
@@ -181,11 +182,11 @@ abbrev pub question_by : Option Text → List Row → Option Question
 question_by (Some file) rows = file_alone file rows
 question_by None rows = option_map Words (wanted_in rows)
 
--- the question that they ask
+-- the question that parsed rows ask
 abbrev pub question_in : List Row → Option Question
 question_in rows = question_by (first_of (codes "questions") rows) rows
 
--- the question and its policy
+-- the question of `kapi who` and its policy
 abbrev pub who_in : List Row → Option Who
 who_in rows = do
   policy ← first_of (codes "POLICY") rows
@@ -227,11 +228,11 @@ AreWrong words =
 
 -- ---- what a command is
 
--- the fields of an audit
+-- an audit's files and readers, as data
 abbrev pub files_told : AuditFiles → Files
 files_told f = record { policy = string_bytes f.policy; questions = string_bytes f.questions; readers = f.readers }
 
--- the fields of a server
+-- a server's options, as data
 abbrev pub options_told : ServeOptions → Options
 options_told o = record {
   load = option_map (λ s. string_bytes s) o.load;
@@ -242,19 +243,19 @@ options_told o = record {
   readers = o.readers;
 }
 
--- the fields of a replay
+-- a replay's transcripts, as data
 abbrev pub transcripts_told : ReplayOptions → Transcripts
 transcripts_told o = record { files = map string_bytes o.files.items; write = o.write }
 
--- the fields of a comparison
+-- a comparison's policies, as data
 abbrev pub compare_told : CompareFiles → Policies
-compare_told f = record { before = string_bytes f.before; after = string_bytes f.after; json = f.json }
+compare_told f = record { before = string_bytes f.before; after = string_bytes f.after; usual_groups = f.usual_groups; json = f.json }
 
--- the fields of risks
+-- the policy whose risks are asked for, as data
 abbrev pub risks_told : RisksFile → Risks
 risks_told f = record { policy = string_bytes f.policy; json = f.json }
 
--- the words of a question
+-- the words of a question, as data
 abbrev pub wanted_told : WhoWanted → QuestionWords
 wanted_told w = record {
   verb = string_bytes w.verb;
@@ -263,16 +264,16 @@ wanted_told w = record {
   name = string_bytes w.name;
 }
 
--- a question
+-- a question, as data
 abbrev pub question_told : WhoQuestion → Question
 question_told (who_question.Words w) = Words (wanted_told w)
 question_told (who_question.File f) = File (string_bytes f)
 
--- the fields of a question and its policy
+-- a question and its policy, as data
 abbrev pub who_told : WhoWords → Who
 who_told w = record { policy = string_bytes w.policy; question = question_told w.question; json = w.json }
 
--- a command with its fields
+-- a command, as data
 abbrev pub told : Command → Asked
 told command.Script = Script
 told (command.Audit files) = Audit (files_told files)
@@ -288,7 +289,7 @@ abbrev pub Names : List Text → Command → Type 0
 Names words (command.Show text) = Shows words (kind_of text)
 Names words c = asked words ≡ Some (told c)
 
--- what was read is what is given, under its view, and the words are wrong where nothing is; of want of memory nothing is said
+-- what was read is what is given, under its view, and the words are wrong where nothing is; out of memory says nothing
 abbrev pub Reads : {X Y : Type 0} → (X → Y) → Result X CommandFault → Option Y → Type 0
 Reads view (Ok x) given = given ≡ Some (view x)
 Reads view (Err fault.Words) given = given ≡ None

@@ -66,9 +66,13 @@ word name = new_rule name
 abbrev pub json : Rule
 json = flag (codes "json")
 
--- `kapi compare`, its flag before its files
+-- the options of `kapi compare`
+abbrev pub compare_options : App
+compare_options = with_rule (with_rule (new_app (codes "compare")) json) (flag (codes "usual-groups"))
+
+-- `kapi compare`, its flags before its files
 abbrev pub compare : App
-compare = with_rule (with_rule (with_rule (new_app (codes "compare")) json) (file (codes "BEFORE"))) (file (codes "AFTER"))
+compare = with_rule (with_rule compare_options (file (codes "BEFORE"))) (file (codes "AFTER"))
 
 -- how and where `kapi who` asks
 abbrev pub who_flags : App

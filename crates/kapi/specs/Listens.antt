@@ -1,7 +1,7 @@
--- The ports that words of a command line tell, and who their clients are.
+-- The ports that words of a command line specify, and the identities of their clients.
 use Rattle.std.specs.Prelude.{ℕ, ◌==◌, ◌&&◌, nat_le, nat_lt, if◌then◌else◌, List, [], ◌∷◌, length, Option, Some, None, option_and_then}
 use Rattle.std.specs.List.{position_or_len, before_first, after_first}
-use Rattle.kapi_script.specs.Events.{named_identity}
+use Rattle.kapi_lines.specs.Identities.{named_identity}
 use Rattle.kapi.specs.Numbers.{port_of}
 use Rattle.kapi.specs.declared.program.Listen.{Listen}
 
@@ -16,7 +16,7 @@ parted word =
     if nat_lt (position_or_len (λ b. b == 61) word) (length word) then Some (before_first (λ b. b == 61) word, after_first (λ b. b == 61) word)
     else None
 
--- the port and the identity that a word tells, as `PORT=USER,GROUP,..`
+-- the port and the identity that a word specifies, as `PORT=USER,GROUP,..`
 unfoldable pub listen_of : List ℕ → Option Listen
 listen_of word = do
   parts ← parted word
@@ -24,7 +24,7 @@ listen_of word = do
   identity ← named_identity parts.1
   Some (record { port = port; identity = identity })
 
--- what each word tells, in their order; none where one of them tells nothing
+-- what each word specifies, in the order of the words; none where one of the words specifies nothing
 abbrev pub listens_of : List (List ℕ) → Option (List Listen)
 listens_of [] = Some []
 listens_of (word ∷ words) = do

@@ -1,10 +1,10 @@
--- The numbers that words of a command line tell.
+-- The numbers that words of a command line specify.
 use Rattle.std.specs.Prelude.{ℕ, ◌*◌, ◌&&◌, nat_le, if◌then◌else◌, List, length, Option, Some, None}
 use Rattle.std.specs.Char.{is_ascii_digit}
 use Rattle.std.specs.List.{list_all}
 use Rattle.std.specs.Str.Parse.{digits_value}
 
--- the number that 1 to so many decimal digits tell, and nothing else, where it is within bounds
+-- the number that 1 to so many decimal digits write, and nothing else, where it is within bounds
 unfoldable pub number_of : ℕ → ℕ → ℕ → List ℕ → Option ℕ
 number_of places least largest s =
     if nat_le 1 (length s) && (nat_le (length s) places && (list_all is_ascii_digit s && (nat_le least (digits_value 10 s) && nat_le (digits_value 10 s) largest)))
@@ -19,10 +19,10 @@ port_of s = number_of 5 1 65535 s
 abbrev pub readers_of : List ℕ → Option ℕ
 readers_of s = number_of 2 1 16 s
 
--- the revision after which those of a server begin, up to the largest after which the objects of the opening can be created
+-- the revision after which a server's begin, up to the largest after which the opening objects can be created
 abbrev pub revision_of : List ℕ → Option ℕ
 revision_of s = number_of 15 0 281474976710650 s
 
--- the same by the clock: 100,000 for each second since the start of 1970, where that is such a revision
+-- the first revision by the clock: 100,000 for each second since the start of 1970, where that is such a revision
 abbrev pub clock_revision : ℕ → Option ℕ
 clock_revision seconds = if nat_le (seconds * 100000) 281474976710650 then Some (seconds * 100000) else None

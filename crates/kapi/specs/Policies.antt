@@ -4,13 +4,14 @@ use Rattle.kapi_text.specs.Gives.{Fails, ◌>>=◌}
 use Rattle.kapi_lines.specs.Lines.{NumberedLine, lines_of}
 use Rattle.kapi_core.specs.Machine.{Machine, policy_of, step}
 use Rattle.kapi_core.specs.Running.{Running}
-use Rattle.kapi_core.specs.Stands.{Stands}
+use Rattle.kapi_core.specs.Refines.{Refines}
 use Rattle.kapi_core.specs.declared.event.Answer.{Answer}
 use Rattle.kapi_core.specs.declared.event.Answer.TheVariants as told
 use Rattle.kapi_core.specs.declared.event.Event.TheVariants as event
 use Rattle.kapi_loading.specs.Faults.{FileFault, bad_line}
 use Rattle.kapi_loading.specs.Loading.{machine_of}
 use Rattle.kapi_access.specs.Gained.{gained}
+use Rattle.kapi_access.specs.declared.identities.Identities.{Identities}
 use Rattle.kapi_access.specs.Risks.{risks}
 use Rattle.kapi_questions.specs.Answers.{gains_text, settled_line, ways_text, who_text}
 use Rattle.kapi_questions.specs.Lines.{LineError, answered_lines, no_question}
@@ -31,7 +32,7 @@ pub data FilesError : Type 0 where
   second_line : ℕ → FilesError
   question_line : ℕ → FilesError
 
--- what a fault tells: nothing where memory ran out
+-- the line that a fault reports: nothing where it is out of memory
 abbrev pub fault_told : FilesFault → Option FilesError
 fault_told (fault.First n) = Some (first_line n)
 fault_told (fault.Second n) = Some (second_line n)
@@ -55,9 +56,9 @@ question_fault lined.Memory = fault.Memory
 
 -- ---- machines
 
--- a core stands for the machine that is given, or that fault is why there is none
+-- a core refines the machine that is given, or that fault is why there is none
 abbrev pub Holds : {E F : Type 0} → (E → Option F) → Result Running E → Result Machine F → Type 0
-Holds told (Ok core) given = (m : Machine) × (given ≡ Ok m) × Stands core m
+Holds told (Ok core) given = (m : Machine) × (given ≡ Ok m) × Refines core m
 Holds told (Err e) given = Fails (told e) given
 
 -- the machine of the first file
@@ -70,12 +71,12 @@ abbrev pub as_second : Result Machine FileFault → Result Machine FilesError
 as_second (Ok m) = Ok m
 as_second (Err (bad_line n)) = Err (second_line n)
 
--- nothing is done
+-- an answer says that nothing was done
 abbrev pub is_nothing : Answer → Bool
 is_nothing told.Nothing = true
 is_nothing _ = false
 
--- no turn is left
+-- no turn of a machine is due
 abbrev pub is_settled : Machine → Bool
 is_settled m = is_nothing (step m event.Turn).0
 
@@ -88,24 +89,24 @@ pub record Comparison : Type 0 where
   pub before_settled : Bool
   pub after_settled : Bool
 
--- what the policy of a machine gives that another's did not
-abbrev pub comparison : Form → Machine → Machine → Comparison
-comparison f b a = record {
-  text = gains_text f (gained (policy_of b) (policy_of a));
-  gains = not (length (gained (policy_of b) (policy_of a)) == 0);
+-- what the policy of one machine allows those identities that another's did not
+abbrev pub comparison : Form → Identities → Machine → Machine → Comparison
+comparison f who b a = record {
+  text = gains_text f (gained who (policy_of b) (policy_of a));
+  gains = not (length (gained who (policy_of b) (policy_of a)) == 0);
   before_settled = is_settled b;
   after_settled = is_settled a;
 }
 
--- the same of the policy that a file is
-abbrev pub compared_with : Form → Machine → List ℕ → Result Comparison FilesError
-compared_with f b after = as_second (machine_of after) >>= λ a. Ok (comparison f b a)
+-- the comparison of a machine's policy with the policy that a file is
+abbrev pub compared_with : Form → Identities → Machine → List ℕ → Result Comparison FilesError
+compared_with f who b after = as_second (machine_of after) >>= λ a. Ok (comparison f who b a)
 
--- the same of the policies that two files are
-unfoldable pub compare_files : Form → List ℕ → List ℕ → Result Comparison FilesError
-compare_files f before after = as_first (machine_of before) >>= λ b. compared_with f b after
+-- the comparison of the policies that two files are
+unfoldable pub compare_files : Form → Identities → List ℕ → List ℕ → Result Comparison FilesError
+compare_files f who before after = as_first (machine_of before) >>= λ b. compared_with f who b after
 
--- the fields of a comparison
+-- a comparison, as data
 abbrev pub compared_told : Compared → Comparison
 compared_told c = record {
   text = c.text.items;
@@ -119,7 +120,7 @@ pub record Reply : Type 0 where
   pub text : List ℕ
   pub settled : Bool
 
--- the fields of an answer
+-- an answer, as data
 abbrev pub answered_told : Answered → Reply
 answered_told a = record { text = a.text.items; settled = a.settled }
 
@@ -127,7 +128,7 @@ answered_told a = record { text = a.text.items; settled = a.settled }
 abbrev pub who_on : Form → Wanted → Machine → Reply
 who_on f w m = record { text = who_text f (policy_of m) w; settled = is_settled m }
 
--- the same by the policy that a file is
+-- who may do what is asked, by the policy that a file is
 unfoldable pub who_wanted : Form → List ℕ → Wanted → Result Reply FilesError
 who_wanted f objects w = as_first (machine_of objects) >>= λ m. Ok (who_on f w m)
 
@@ -140,14 +141,14 @@ as_question (Err (no_question n)) = Err (question_line n)
 abbrev pub lines_on : Form → List NumberedLine → Machine → Result Reply FilesError
 lines_on f lines m = as_question (answered_lines f (policy_of m) lines) >>= λ text. Ok (record { text = text; settled = is_settled m })
 
--- the same of the lines of a file, by the policy that another is
+-- who may do what each line of a file asks, by the policy that another file is
 unfoldable pub who_file : Form → List ℕ → List ℕ → Result Reply FilesError
 who_file f objects questions = as_first (machine_of objects) >>= λ m. lines_on f (lines_of questions) m
 
--- who may gain more than a policy gives, and what holds of all others
+-- who may gain more than a policy grants, and what holds of all others
 abbrev pub risks_on : Form → Machine → List ℕ
 risks_on f m = ways_text f (risks (policy_of m)) ++ settled_line f (is_settled m)
 
--- the same of the policy that a file is
+-- who may gain more than the policy of a file grants, and what holds of all others
 unfoldable pub risks_file : Form → List ℕ → Result (List ℕ) FilesError
 risks_file f objects = as_first (machine_of objects) >>= λ m. Ok (risks_on f m)

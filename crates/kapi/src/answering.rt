@@ -8,11 +8,11 @@ use std::thread;
 use std::thread::Threads;
 use std::time::{Clock, Duration};
 
-/// So many milliseconds pass before a client is waited for again where none could be accepted.
+/// The pause in milliseconds before the listener is waited for again where no client could be accepted.
 const PAUSE: u64 = 100;
 
-/// Starts a thread for each seat. It takes the clients of the listener one after the other and answers their questions; what goes wrong with one
-/// ends that one alone. The threads end with the program.
+/// Starts a thread for each seat. A thread takes the clients of the listener one after the other and answers their
+/// questions; a fault of one client ends that client alone. The threads end with the program.
 pub fn start_readers<R: Threads + Clock + Clone + Drop + Send + 'static>(
     rt: &R,
     alloc: Global,
@@ -42,7 +42,7 @@ fn answer_clients<C: Clock>(clock: &C, alloc: Global, listener: TcpListener, sea
     }
 }
 
-/// Answers a client to the end of its lines, or to one that is too long.
+/// Answers a client to the end of its lines, or to a line that is too long.
 fn answer_client(alloc: Global, seat: &mut Seat, stream: &TcpStream) -> io::Result<()> {
     stream.set_nodelay(true)?;
     let mut reader = BoundedLines::new(stream);

@@ -2,14 +2,14 @@ ghost use Rattle.std.specs.Prelude.{◌≡◌, IfOk, codes, false};
 ghost use Rattle.clap.specs.Simple.{app_of, new_app};
 ghost use Rattle.clap.specs.Walk.{rule_of};
 ghost use Rattle.clap.specs.declared.builder.command.Command.TheViews.{out-Command};
-ghost use Rattle.kapi.specs.CommandLine.{kapi, audit as audit_app, compare as compare_app, replay as replay_app, risks as risks_app, serve as serve_app, script as script_app, who as who_app, who_flags as who_flags_app, who_options as who_options_app, word as word_rule, file as file_rule, json as json_rule, machines as machines_app, option as option_rule, readers as readers_rule, listen as listen_rule, transcripts as transcripts_rule, flag as flag_rule};
+ghost use Rattle.kapi.specs.CommandLine.{kapi, audit as audit_app, compare as compare_app, compare_options as compare_options_app, replay as replay_app, risks as risks_app, serve as serve_app, script as script_app, who as who_app, who_flags as who_flags_app, who_options as who_options_app, word as word_rule, file as file_rule, json as json_rule, machines as machines_app, option as option_rule, readers as readers_rule, listen as listen_rule, transcripts as transcripts_rule, flag as flag_rule};
 
 use crate::command_line::PORTS;
 use clap::{Arg, ArgAction, Command};
 use kapi_text::Memory;
 use std::alloc::Global;
 
-/// The version that `--version` tells.
+/// The version that `--version` prints.
 const VERSION: &str = "0.1.0";
 
 /// The command line that `kapi` takes.
@@ -170,6 +170,8 @@ const COMPARE_FORMS: &str =
     r#"Each file has one JSON object a line, as a cluster gives them, namespaces first; empty lines and lines that begin with # are skipped.
 
 Each line tells a user or group that gains, the namespace (* is all of them), what it gains, and the binding, role and rule that give it.
+A user is looked at without groups, a group by another user in it alone. With --usual-groups all are in system:authenticated, service
+accounts in their two groups besides, and the anonymous user in system:unauthenticated alone.
 
 Example:
   kapi compare before.jsonl after.jsonl
@@ -181,12 +183,24 @@ Status 0 where nobody gains, 3 where somebody does, and 1 where a file is not lo
 fn compare<'a>(alloc: Global) -> Result<Command<'a>, Memory>
     ensures { IfOk result (λ c. (app_of c ≡ compare_app) × ((out-Command c).has_globals ≡ false)) }
 {
+    compare_options(alloc)?
+        .arg(file(alloc, "BEFORE", "The objects of the policy that was"))?
+        .arg(file(alloc, "AFTER", "The objects of the policy that is to be"))
+}
+
+/// `kapi compare` without its files.
+fn compare_options<'a>(alloc: Global) -> Result<Command<'a>, Memory>
+    ensures { IfOk result (λ c. (app_of c ≡ compare_options_app) × ((out-Command c).has_globals ≡ false)) }
+{
     Command::new(alloc, "compare")
         .about("Tells what a policy allows to whom that another did not")
         .after_help(COMPARE_FORMS)
         .arg(json(alloc))?
-        .arg(file(alloc, "BEFORE", "The objects of the policy that was"))?
-        .arg(file(alloc, "AFTER", "The objects of the policy that is to be"))
+        .arg(flag(
+            alloc,
+            "usual-groups",
+            "Asks of each subject with the groups that authentication gives it",
+        ))
 }
 
 /// What `kapi who --help` shows below the arguments.
@@ -229,7 +243,7 @@ fn who_options<'a>(alloc: Global) -> Result<Command<'a>, Memory>
         .arg(file(alloc, "POLICY", "The objects of the policy"))
 }
 
-/// `kapi who` with what tells how and where it is asked.
+/// `kapi who` with the flags that say how and where it asks.
 fn who_flags<'a>(alloc: Global) -> Result<Command<'a>, Memory>
     ensures { IfOk result (λ c. (app_of c ≡ who_flags_app) × ((out-Command c).has_globals ≡ false)) }
 {

@@ -1,14 +1,15 @@
 //! Questions about the policies of files.
 use crate::policies::{Answered, FilesFault, compare_files, risks_file, who_file, who_wanted};
 use crate::program::{CompareFiles, RisksFile, WhoQuestion, WhoWanted, WhoWords};
+use kapi_access::Identities;
 use kapi_questions::{Form, question_of};
 use std::fs::{self, Files};
 use std::io::{self, BufWriter, Write};
 use std::process::ExitCode;
 use std::sync::Wait;
 
-/// Prints what a policy gives that another did not: status 0 where nobody gains, 3 where somebody does, or 1 after a line on standard
-/// error.
+/// Prints what a policy allows that another did not: status 0 where nobody gains, 3 where somebody does, or 1 after a
+/// line on standard error.
 pub fn run_compare<R: Files + Print + Eprint + AllocGlobal + Wait>(
     rt: &R,
     files: &CompareFiles,
@@ -23,6 +24,7 @@ pub fn run_compare<R: Files + Print + Eprint + AllocGlobal + Wait>(
         rt.alloc(),
         rt,
         form(files.json),
+        identities(files.usual_groups),
         before.as_slice(),
         after.as_slice(),
     ) {
@@ -93,7 +95,7 @@ fn tell_who<R: Print + Eprint + AllocGlobal>(
     }
 }
 
-/// Prints who may gain more than a policy gives: status 0, or 1 after a line on standard error.
+/// Prints who may gain more than a policy grants: status 0, or 1 after a line on standard error.
 pub fn run_risks<R: Files + Print + Eprint + AllocGlobal + Wait>(
     rt: &R,
     file: &RisksFile,
@@ -113,6 +115,14 @@ pub fn run_risks<R: Files + Print + Eprint + AllocGlobal + Wait>(
 
 fn form(json: bool) -> Form {
     if json { Form::Json } else { Form::Table }
+}
+
+fn identities(usual: bool) -> Identities {
+    if usual {
+        Identities::Usual
+    } else {
+        Identities::Any
+    }
 }
 
 /// The bytes of a file; none where it cannot be read, after a line on standard error.
@@ -139,7 +149,7 @@ fn tell_unsettled(rt: &impl Eprint, file: &str, settled: bool) -> io::Result<()>
     Ok(())
 }
 
-/// A line of a file is at fault, or memory ran out: status 1.
+/// Reports a line of a file at fault, or that the program is out of memory: status 1.
 fn refuse(rt: &impl Eprint, fault: &FilesFault, first: &str, second: &str) -> io::Result<ExitCode> {
     match fault {
         FilesFault::First(line) => eprintln!(rt; "{first}: policy line {line}")?,

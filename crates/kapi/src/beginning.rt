@@ -17,8 +17,8 @@ pub enum BeginError {
     Clock,
 }
 
-/// The machine that a file of objects makes, whose revisions begin after `first`, or after the one that the clock gives so many seconds after
-/// the start of 1970.
+/// The machine that a file of objects makes, whose revisions begin after `first`, or after the one that the clock gives
+/// so many seconds after the start of 1970.
 pub fn begin<R: Wait>(
     alloc: Global,
     rt: &R,

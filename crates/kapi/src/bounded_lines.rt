@@ -3,7 +3,7 @@ ghost use Rattle.kapi.specs.Lines.{grown, line_length};
 
 use std::io::{self, ErrorKind, Read};
 
-/// So many bytes a line may have.
+/// The largest length of a line, in bytes.
 const LINE_LIMIT: usize = 1_048_576;
 
 /// A reader that fails at a line that is too long, and from then on.

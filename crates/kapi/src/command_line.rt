@@ -13,7 +13,7 @@ use crate::program::{
 };
 use clap::ArgMatches;
 use clap::error::ErrorKind;
-use kapi_script::read_identity;
+use kapi_lines::read_identity;
 use kapi_text::Memory;
 use std::alloc::Global;
 
@@ -59,7 +59,7 @@ fn named(alloc: Global, name: &str, words: &ArgMatches<'_>) -> Result<Command, C
     }
 }
 
-/// The files and the number of readers that the words behind `audit` tell.
+/// The files and the number of readers that the words behind `audit` specify.
 fn audit_files(alloc: Global, words: &ArgMatches<'_>) -> Result<AuditFiles, CommandFault>
     ensures { Reads files_told result (files_in (rows_of (found_of words.now))) }
 {
@@ -73,7 +73,7 @@ fn audit_files(alloc: Global, words: &ArgMatches<'_>) -> Result<AuditFiles, Comm
     })
 }
 
-/// The transcripts that the words behind `replay` tell, and whether they are written.
+/// The transcripts that the words behind `replay` name, and whether they are written.
 fn replay_options(alloc: Global, words: &ArgMatches<'_>) -> Result<ReplayOptions, CommandFault>
     ensures { Reads transcripts_told result (transcripts_in (rows_of (found_of words.now))) }
 {
@@ -92,7 +92,7 @@ fn needed(alloc: Global, words: &ArgMatches<'_>, name: &str) -> Result<String, C
     Ok(String::from_str(alloc, value)?)
 }
 
-/// The files that the words behind `compare` tell.
+/// The files that the words behind `compare` name.
 fn compare_files(alloc: Global, words: &ArgMatches<'_>) -> Result<CompareFiles, CommandFault>
     ensures { Reads compare_told result (compare_in (rows_of (found_of words.now))) }
 {
@@ -101,11 +101,12 @@ fn compare_files(alloc: Global, words: &ArgMatches<'_>) -> Result<CompareFiles, 
     Ok(CompareFiles {
         before,
         after,
+        usual_groups: is_given(words, "usual-groups"),
         json: is_given(words, "json"),
     })
 }
 
-/// The file that the words behind `risks` tell.
+/// The file that the words behind `risks` name.
 fn risks_file(alloc: Global, words: &ArgMatches<'_>) -> Result<RisksFile, CommandFault>
     ensures { Reads risks_told result (risks_in (rows_of (found_of words.now))) }
 {
@@ -116,7 +117,7 @@ fn risks_file(alloc: Global, words: &ArgMatches<'_>) -> Result<RisksFile, Comman
     })
 }
 
-/// The file and the question that the words behind `who` tell.
+/// The file and the question that the words behind `who` specify.
 fn who_words(alloc: Global, words: &ArgMatches<'_>) -> Result<WhoWords, CommandFault>
     ensures { Reads who_told result (who_in (rows_of (found_of words.now))) }
 {
@@ -129,7 +130,7 @@ fn who_words(alloc: Global, words: &ArgMatches<'_>) -> Result<WhoWords, CommandF
     })
 }
 
-/// The question that the words behind `who` tell: a file of questions, or a verb and a resource, and not both.
+/// The question that the words behind `who` specify: a file of questions, or a verb and a resource, and not both.
 fn who_question(alloc: Global, words: &ArgMatches<'_>) -> Result<WhoQuestion, CommandFault>
     ensures { Reads question_told result (question_in (rows_of (found_of words.now))) }
 {
@@ -139,7 +140,7 @@ fn who_question(alloc: Global, words: &ArgMatches<'_>) -> Result<WhoQuestion, Co
     }
 }
 
-/// The file of questions, where no word of a question stands beside it.
+/// The file of questions, where there is no word of a question beside it.
 fn who_file(alloc: Global, words: &ArgMatches<'_>, file: &str) -> Result<WhoQuestion, CommandFault>
     ensures { Reads question_told result (file_alone file.now (rows_of (found_of words.now))) }
 {
@@ -225,10 +226,10 @@ fn readers(words: &ArgMatches<'_>) -> Option<usize>
     }
 }
 
-/// So many ports are served at most.
+/// The largest number of ports that are served.
 pub const PORTS: usize = 16;
 
-/// The file, the first revision, the switch, the ports and the number of readers that the words behind `serve` tell.
+/// The file, the first revision, the switch, the ports and the number of readers that the words behind `serve` specify.
 fn serve_options(alloc: Global, words: &ArgMatches<'_>) -> Result<ServeOptions, CommandFault>
     ensures { Reads options_told result (options_in (rows_of (found_of words.now))) }
 {
@@ -247,7 +248,7 @@ fn serve_options(alloc: Global, words: &ArgMatches<'_>) -> Result<ServeOptions, 
     })
 }
 
-/// The port for questions, where one is told.
+/// The port for questions, where one is specified.
 fn answer(words: &ArgMatches<'_>) -> Option<Option<u16>>
     ensures { result ≡ answer_of (first_of (codes "answer") (rows_of (found_of words.now))) }
 {
@@ -257,7 +258,7 @@ fn answer(words: &ArgMatches<'_>) -> Option<Option<u16>>
     }
 }
 
-/// The first revision that is told, 0 where none is, and none where it is the clock's.
+/// The first revision that is specified, 0 where none is, and none where it is the clock's.
 fn first(words: &ArgMatches<'_>) -> Option<Option<u64>>
     ensures told { result ≡ first_of_word (first_of (codes "first-revision") (rows_of (found_of words.now))) }
     ensures small { IfSome result (λ first. IfSome first (λ n. n ≤ 281474976710650)) }
@@ -281,7 +282,7 @@ fn copied(alloc: Global, text: Option<&str>) -> Result<Option<String>, Memory>
     }
 }
 
-/// The ports and the identities that the words tell, 1 to 16 in their order.
+/// The ports and the identities that the words specify, 1 to 16 in their order.
 #[tactic(auto, using(crate::proofs::Reading::raw_values_rows))]
 fn listens(alloc: Global, words: &ArgMatches<'_>) -> Result<Vec<Listen>, CommandFault>
     ensures few { IfOk result (λ l. (1 ≤ vec_len l) × (vec_len l ≤ 16)) }
@@ -295,7 +296,7 @@ fn listens(alloc: Global, words: &ArgMatches<'_>) -> Result<Vec<Listen>, Command
     Ok(listens)
 }
 
-/// The port and the identity that each word tells.
+/// The port and the identity that each word specifies.
 fn each_listen(alloc: Global, words: &[&str]) -> Result<Vec<Listen>, CommandFault>
     ensures { Reads (λ l. l.items) result (listens_of (map (λ word. word.now) words.now)) }
 {

@@ -1,6 +1,6 @@
-//! The programs of Kapi. `kapi script` plays events from standard input and prints the answers; `kapi audit` answers questions by the
-//! policy of a file; `kapi serve` serves requests on ports of this machine; `kapi replay` plays transcripts; `kapi compare`,
-//! `kapi who` and `kapi risks` answer questions about the policies of files.
+//! The programs of Kapi. `kapi script` plays events from standard input and prints the answers; `kapi audit` answers
+//! questions by the policy of a file; `kapi serve` serves requests on ports of this machine; `kapi replay` plays
+//! transcripts; `kapi compare`, `kapi who` and `kapi risks` answer questions about the policies of files.
 #![tactic(auto)]
 
 ghost use Rattle.std.specs.Prelude.{◌≤◌};

@@ -1,10 +1,10 @@
-//! The numbers that words of a command line tell: decimal digits alone, at most as many as the largest has.
+//! The numbers that words of a command line specify: decimal digits alone, at most as many as the largest has.
 ghost use Rattle.std.specs.Prelude.{◌≡◌, ◌≤◌, IfSome};
 ghost use Rattle.kapi.specs.Numbers.{clock_revision as revision_of_clock, number_of, port_of, readers_of, revision_of};
 
 use kapi_text::{are_digits, number};
 
-/// The number that the digits tell, where it is within bounds.
+/// The number that the digits write, where it is within bounds.
 #[tactic(auto, unfolding(crate::specs::Numbers::number_of))]
 fn number_within(digits: &str, places: usize, least: u64, largest: u64) -> Option<u64>
     requires { places ≤ 18 }
@@ -22,7 +22,7 @@ fn number_within(digits: &str, places: usize, least: u64, largest: u64) -> Optio
     }
 }
 
-/// The port that the digits tell, from 1 to 65,535.
+/// The port that the digits write, from 1 to 65,535.
 pub fn port(digits: &str) -> Option<u16>
     ensures { result ≡ port_of digits.now }
 {
@@ -32,7 +32,7 @@ pub fn port(digits: &str) -> Option<u16>
     }
 }
 
-/// The number of readers that the digits tell, from 1 to 16.
+/// The number of readers that the digits write, from 1 to 16.
 pub fn number_of_readers(digits: &str) -> Option<usize>
     ensures told { result ≡ readers_of digits.now }
     ensures few { IfSome result (λ n. (1 ≤ n) × (n ≤ 16)) }
@@ -43,7 +43,7 @@ pub fn number_of_readers(digits: &str) -> Option<usize>
     }
 }
 
-/// The revision after which those of a server begin, as the digits tell it, up to 281,474,976,710,650.
+/// The revision after which those of a server begin, as the digits write it, up to 281,474,976,710,650.
 pub fn first_revision(digits: &str) -> Option<u64>
     ensures told { result ≡ revision_of digits.now }
     ensures small { IfSome result (λ n. n ≤ 281474976710650) }
@@ -51,8 +51,8 @@ pub fn first_revision(digits: &str) -> Option<u64>
     number_within(digits, 15, 0, 281_474_976_710_650)
 }
 
-/// The revision after which those of a server begin that takes it from the clock, so many seconds after the start of 1970; none from the
-/// year 2059 on.
+/// The revision after which those of a server begin that takes it from the clock, so many seconds after the start of
+/// 1970; none from the year 2059 on.
 pub fn clock_revision(seconds: u64) -> Option<u64>
     ensures { result ≡ revision_of_clock seconds }
 {

@@ -3,7 +3,7 @@ ghost use Rattle.std.specs.Prelude.{◌≡◌, ◌==◌, not, length, map, IfOk}
 ghost use Rattle.kapi_text.specs.Gives.{Gives};
 ghost use Rattle.kapi_lines.specs.Lines.{line_of};
 ghost use Rattle.kapi_core.specs.Machine.{Machine};
-ghost use Rattle.kapi_core.specs.Stands.{Stands};
+ghost use Rattle.kapi_core.specs.Refines.{Refines};
 ghost use Rattle.kapi_loading.specs.Faults as loading;
 ghost use Rattle.kapi_loading.specs.Loading.{machine_of};
 ghost use Rattle.kapi_access.specs.Gained.{gained};
@@ -14,6 +14,7 @@ ghost use Rattle.kapi_questions.specs.Lines.{answered_lines};
 ghost use Rattle.kapi.specs.Policies as files;
 ghost use Rattle.kapi.specs.Policies.{Holds, answered_told, as_first, as_second, compared_told, compared_with, comparison, fault_told, lines_on, risks_on, who_on};
 
+use kapi_access::Identities;
 use kapi_core::Core;
 use kapi_index::IndexedPolicy;
 use kapi_lines::{Line, numbered_lines};
@@ -46,7 +47,7 @@ pub struct Answered {
 pub enum FilesFault {
     /// The line of this number of the first policy is not loaded; the first line of a file is 1.
     First(usize),
-    /// The same of the second policy.
+    /// The line of this number of the second policy is not loaded; the first line of a file is 1.
     Second(usize),
     /// The line of this number is no question.
     Question(usize),
@@ -130,7 +131,7 @@ fn loaded_second<R: Wait>(
 
 /// Whether no turn is left.
 fn is_settled(core: &mut Core<IndexedPolicy>) -> Result<bool, Memory>
-    ensures { (m : Machine) → Stands core.old m → IfOk result (λ b. b ≡ files.is_settled m) }
+    ensures { (m : Machine) → Refines core.old m → IfOk result (λ b. b ≡ files.is_settled m) }
 {
     let turned = core.turn()?;
     match turned {
@@ -141,21 +142,23 @@ fn is_settled(core: &mut Core<IndexedPolicy>) -> Result<bool, Memory>
 
 // ---- comparisons
 
-/// What the policy after gives that the policy before did not.
+/// What the later policy allows that the earlier one did not.
 fn compare_cores(
     alloc: Global,
     form: Form,
+    identities: Identities,
     before: &Core<IndexedPolicy>,
     after: &Core<IndexedPolicy>,
 ) -> Result<kapi_questions::Compared, Memory>
-    ensures text { IfOk result (λ c. c.text.items ≡ gains_text form (gained before.now.policy after.now.policy)) }
-    ensures gains { IfOk result (λ c. c.gains ≡ not (length (gained before.now.policy after.now.policy) == 0)) }
+    ensures text { IfOk result (λ c. c.text.items ≡ gains_text form (gained identities before.now.policy after.now.policy)) }
+    ensures gains { IfOk result (λ c. c.gains ≡ not (length (gained identities before.now.policy after.now.policy) == 0)) }
 {
     let stood = before.policy().bindings()?;
     let bindings = after.policy().bindings()?;
     answer_compare(
         alloc,
         form,
+        identities,
         before.policy(),
         stood.as_slice(),
         after.policy(),
@@ -166,12 +169,13 @@ fn compare_cores(
 fn compare_machines(
     alloc: Global,
     form: Form,
+    identities: Identities,
     before: &mut Core<IndexedPolicy>,
     after: &mut Core<IndexedPolicy>,
 ) -> Result<Compared, Memory>
-    ensures { (b a : Machine) → Stands before.old b → Stands after.old a → IfOk result (λ c. compared_told c ≡ comparison form b a) }
+    ensures { (b a : Machine) → Refines before.old b → Refines after.old a → IfOk result (λ c. compared_told c ≡ comparison form identities b a) }
 {
-    let compared = compare_cores(alloc, form, before, after)?;
+    let compared = compare_cores(alloc, form, identities, before, after)?;
     let before_settled = is_settled(before)?;
     let after_settled = is_settled(after)?;
     Ok(Compared {
@@ -186,38 +190,40 @@ fn compare_after<R: Wait>(
     alloc: Global,
     rt: &R,
     form: Form,
+    identities: Identities,
     before: &mut Core<IndexedPolicy>,
     after: &[u8],
 ) -> Result<Compared, FilesFault>
-    ensures { (b : Machine) → Stands before.old b
-        → Gives fault_told compared_told result (compared_with form b after.now) }
+    ensures { (b : Machine) → Refines before.old b
+        → Gives fault_told compared_told result (compared_with form identities b after.now) }
 {
     match loaded_second(alloc, rt, after) {
         Ok(core) => {
             let mut core = core;
-            Ok(compare_machines(alloc, form, before, &mut core)?)
+            Ok(compare_machines(alloc, form, identities, before, &mut core)?)
         }
         Err(fault) => Err(fault),
     }
 }
 
-/// What the policy that a file is gives that the policy of another did not.
+/// What the policy of one file allows those identities that the policy of another did not.
 ///
 /// # Errors
-/// `First` and `Second` at the first line of a file that is not loaded, `Memory` where memory runs out.
+/// `First` and `Second` at the first line of a file that is not loaded, `Memory` where an allocation fails.
 pub fn compare_files<R: Wait>(
     alloc: Global,
     rt: &R,
     form: Form,
+    identities: Identities,
     before: &[u8],
     after: &[u8],
 ) -> Result<Compared, FilesFault>
-    ensures { Gives fault_told compared_told result (files.compare_files form before.now after.now) }
+    ensures { Gives fault_told compared_told result (files.compare_files form identities before.now after.now) }
 {
     match loaded_first(alloc, rt, before) {
         Ok(core) => {
             let mut core = core;
-            compare_after(alloc, rt, form, &mut core, after)
+            compare_after(alloc, rt, form, identities, &mut core, after)
         }
         Err(fault) => Err(fault),
     }
@@ -243,7 +249,7 @@ fn who_machine(
     core: &mut Core<IndexedPolicy>,
     wanted: &Wanted,
 ) -> Result<Answered, Memory>
-    ensures { (m : Machine) → Stands core.old m → IfOk result (λ a. answered_told a ≡ who_on form wanted.now m) }
+    ensures { (m : Machine) → Refines core.old m → IfOk result (λ a. answered_told a ≡ who_on form wanted.now m) }
 {
     let text = who_core(alloc, form, core, wanted)?;
     let settled = is_settled(core)?;
@@ -253,7 +259,7 @@ fn who_machine(
 /// Who may do what the words ask, by the policy that a file is.
 ///
 /// # Errors
-/// `First` at the first line that is not loaded, `Memory` where memory runs out.
+/// `First` at the first line that is not loaded, `Memory` where an allocation fails.
 pub fn who_wanted<R: Wait>(
     alloc: Global,
     rt: &R,
@@ -300,7 +306,7 @@ fn lines_machine(
     core: &mut Core<IndexedPolicy>,
     lines: &[Line<'_>],
 ) -> Result<Answered, FilesFault>
-    ensures { (m : Machine) → Stands core.old m → Gives fault_told answered_told result (lines_on form (map line_of lines.now) m) }
+    ensures { (m : Machine) → Refines core.old m → Gives fault_told answered_told result (lines_on form (map line_of lines.now) m) }
 {
     match lines_core(alloc, form, core, lines) {
         Ok(text) => {
@@ -314,7 +320,8 @@ fn lines_machine(
 /// Who may do what each line of a file asks, by the policy that another is.
 ///
 /// # Errors
-/// `First` at the first line that is not loaded, else `Question` at the first that is no question, `Memory` where memory runs out.
+/// `First` at the first line that is not loaded, else `Question` at the first that is no question, `Memory` where an
+/// allocation fails.
 pub fn who_file<R: Wait>(
     alloc: Global,
     rt: &R,
@@ -348,7 +355,7 @@ fn risks_machine(
     form: Form,
     core: &mut Core<IndexedPolicy>,
 ) -> Result<Vec<u8>, Memory>
-    ensures { (m : Machine) → Stands core.old m → IfOk result (λ v. v.items ≡ risks_on form m) }
+    ensures { (m : Machine) → Refines core.old m → IfOk result (λ v. v.items ≡ risks_on form m) }
 {
     let mut text = risks_core(alloc, form, core)?;
     let settled = is_settled(core)?;
@@ -356,10 +363,10 @@ fn risks_machine(
     Ok(text)
 }
 
-/// Who may gain more than the policy gives that a file is, and what holds of all others.
+/// Who may gain more than the policy of a file grants, and what holds of all others.
 ///
 /// # Errors
-/// `First` at the first line that is not loaded, `Memory` where memory runs out.
+/// `First` at the first line that is not loaded, `Memory` where an allocation fails.
 pub fn risks_file<R: Wait>(
     alloc: Global,
     rt: &R,

@@ -3,7 +3,7 @@ ghost use Rattle.std.proofs.Props.{props};
 ghost use Rattle.kapi.specs.declared.program.CommandFault.TheVariants.{Memory as NoMemory};
 
 use clap::Error as Shown;
-use kapi_rbac_types::Identity;
+use kapi_model::Identity;
 use std::alloc::{AllocError, AllocFailed};
 use std::io;
 use thiserror::Error;
@@ -17,13 +17,13 @@ pub enum Command {
     Audit(AuditFiles),
     /// `kapi serve`: requests on ports of this machine.
     Serve(ServeOptions),
-    /// `kapi replay`: transcripts, whose answers are compared with those that are wanted.
+    /// `kapi replay`: transcripts, whose answers are compared with the wanted ones.
     Replay(ReplayOptions),
-    /// `kapi compare`: what a policy gives that another did not.
+    /// `kapi compare`: what a policy allows that another did not.
     Compare(CompareFiles),
     /// `kapi who`: who may do something by a policy.
     Who(WhoWords),
-    /// `kapi risks`: who may gain more than a policy gives.
+    /// `kapi risks`: who may gain more than a policy grants.
     Risks(RisksFile),
     /// `--help`, `help` or `--version`: the text that is asked for.
     Show(Shown),
@@ -34,6 +34,8 @@ pub enum Command {
 pub struct CompareFiles {
     pub before: String,
     pub after: String,
+    /// Whether the question is about identities with the groups that authentication gives them.
+    pub usual_groups: bool,
     /// Whether JSON is printed.
     pub json: bool,
 }
@@ -64,7 +66,7 @@ pub struct WhoWords {
     pub json: bool,
 }
 
-/// The policy that is asked who may gain more than it gives, by the name of its file.
+/// The policy that is asked who may gain more than it grants, by the name of its file.
 #[derive(Debug, Drop)]
 pub struct RisksFile {
     pub policy: String,
@@ -77,7 +79,7 @@ pub struct RisksFile {
 pub struct AuditFiles {
     pub policy: String,
     pub questions: String,
-    /// 1 to 16.
+    /// The number of threads, 1 to 16.
     pub readers: usize,
     ghost few: { (1 ≤ readers) × (readers ≤ 16) },
 }
@@ -85,7 +87,7 @@ pub struct AuditFiles {
 /// The transcripts that are played, by their names, and whether they are written with the answers that came.
 #[derive(Drop)]
 pub struct ReplayOptions {
-    /// One or more, in the order of the words.
+    /// The names of the transcripts, one or more, in the order of the words.
     pub files: Vec<String>,
     pub write: bool,
 }
@@ -93,27 +95,27 @@ pub struct ReplayOptions {
 /// What a server loads, and the ports that it serves.
 #[derive(Drop)]
 pub struct ServeOptions {
-    /// The file of the objects that stand at first, by its name.
+    /// The file of the objects that are stored at first, by its name.
     pub load: Option<String>,
     /// The revision after which the server's begin, at most 281,474,976,710,650; none where the clock gives it.
     pub first_revision: Option<u64>,
-    /// The rights of a watch are looked at anew at each of its events.
+    /// The rights of a watch are rechecked at each of its events.
     pub recheck: bool,
-    /// 1 to 16, in the order of the words.
+    /// The ports, 1 to 16, in the order of the words.
     pub listens: Vec<Listen>,
     /// The port on which questions are answered, 1 to 65,535.
     pub answer: Option<u16>,
-    /// The number of threads that answer them.
+    /// The number of threads that answer questions.
     pub readers: usize,
     ghost first: { IfSome first_revision (λ n. n ≤ 281474976710650) } by { Prim.hlevel props },
     ghost few: { (1 ≤ vec_len listens) × (vec_len listens ≤ 16) },
     ghost threads: { (1 ≤ readers) × (readers ≤ 16) },
 }
 
-/// A port of 127.0.0.1, and who each of its clients is.
+/// A port of 127.0.0.1, and the identity of each of its clients.
 #[derive(Debug, Drop)]
 pub struct Listen {
-    /// 1 to 65,535.
+    /// The number of the port, 1 to 65,535.
     pub port: u16,
     pub identity: Identity,
 }
@@ -121,7 +123,7 @@ pub struct Listen {
 /// Why a command line was not understood.
 #[derive(Clone, Copy, Debug, PartialEq, Eq, Error)]
 pub enum CommandFault {
-    #[error("usage: kapi script, kapi audit POLICY QUESTIONS [--readers N], N from 1 to 16, kapi replay [--write] FILE.., kapi compare [--json] BEFORE AFTER, kapi who [--json] POLICY VERB RESOURCE [--namespace NS] [--name NAME], kapi who [--json] POLICY --questions FILE, kapi risks [--json] POLICY, or kapi serve [--load FILE] [--first-revision N|clock] [--recheck-watches] [--answer PORT] [--readers N] PORT=USER[,GROUP..]..")]
+    #[error("usage: kapi script, kapi audit POLICY QUESTIONS [--readers N], N from 1 to 16, kapi replay [--write] FILE.., kapi compare [--json] [--usual-groups] BEFORE AFTER, kapi who [--json] POLICY VERB RESOURCE [--namespace NS] [--name NAME], kapi who [--json] POLICY --questions FILE, kapi risks [--json] POLICY, or kapi serve [--load FILE] [--first-revision N|clock] [--recheck-watches] [--answer PORT] [--readers N] PORT=USER[,GROUP..]..")]
     Words,
     #[error("out of memory")]
     Memory,
@@ -146,7 +148,7 @@ impl<T: Drop> From<AllocFailed<T>> for CommandFault {
     }
 }
 
-/// The words could not be read: one is no UTF-8, or memory ran out.
+/// The words could not be read: one is no UTF-8, or an allocation fails.
 impl From<io::Error> for CommandFault {
     fn from(error: io::Error) -> CommandFault {
         match error.kind() {

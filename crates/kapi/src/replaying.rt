@@ -8,7 +8,7 @@ use std::process::ExitCode;
 use std::str;
 use std::sync::Wait;
 
-/// Plays the transcripts and prints what became of each: status 0 where every answer is as it is wanted, else 1.
+/// Plays the transcripts and prints the outcome of each: status 0 where every answer is as wanted, else 1.
 pub fn run_replay<R: Files + Print + Eprint + AllocGlobal + Wait>(
     rt: &R,
     options: &ReplayOptions,

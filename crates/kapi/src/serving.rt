@@ -21,8 +21,8 @@ use std::time::Clock;
 #[derive(Clone, Copy, Debug)]
 struct Refused(u16);
 
-/// Serves the ports for as long as clients can be waited for. Status 1 where the file cannot be loaded or the clock gives no first revision,
-/// 3 where a port cannot be listened on, 4 where the wait fails.
+/// Serves the ports for as long as clients can be waited for. Status 1 where the file cannot be loaded or the clock
+/// gives no first revision, 3 where a port cannot be listened on, 4 where the wait fails.
 pub fn run_serve<
     R: Files
         + Print
@@ -100,7 +100,7 @@ fn serve_ports<
     status
 }
 
-/// Listens on the ports, and then on the one for questions, which readers answer from the seats.
+/// Listens on the ports, and then on the port for questions, which readers answer from the seats.
 fn listen_all<
     R: Print
         + AllocGlobal
@@ -131,7 +131,7 @@ fn listen_all<
     }
 }
 
-/// Listens on the ports in their order and tells each.
+/// Listens on the ports in their order and prints each.
 fn listen<R: Print + AllocGlobal + Clock + Clone + Drop + Net>(
     rt: &R,
     listens: &[Listen],

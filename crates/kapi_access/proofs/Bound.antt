@@ -1,16 +1,16 @@
 -- Whom a binding gives its role, and what it is to hold a rule.
 use Rattle.std.proofs.Common.{◌≡◌, ◌⊎◌, inl, inr, ℕ, suc, Bool, true, false, cond, not, ◌&&◌, ◌||◌, ◌==◌, if◌then◌else◌, List, [], ◌∷◌, ◌++◌, length, map, nat_lt, Option, Some, None, refl, sym, ap, subst, codes, ◌∙◌, ◌+◌, arith}
 use Rattle.std.proofs.lemmas.Bool.Decides.{nat_tests}
-use Rattle.std.specs.List.{filter, flat_map, list_any, position, position_or_len}
+use Rattle.std.specs.List.{filter, list_any, position, position_or_len}
 use Rattle.std.specs.Option.{is_some, unwrap_or}
 use Rattle.std.specs.Str.{bytes_eq}
-use Rattle.kapi_names.specs.declared.policy_rule.PolicyRule.{PolicyRule}
-use Rattle.kapi_names.specs.declared.subject.Subject.{Subject}
-use Rattle.kapi_names.specs.declared.subject.Subject.TheVariants.{User, Group, ServiceAccount}
-use Rattle.kapi_rbac_types.specs.Identities.{is_in, is_master}
-use Rattle.kapi_rbac_types.specs.Subjects.{colon, names, namespace_of}
-use Rattle.kapi_rbac_types.specs.declared.binding.RoleBinding.{RoleBinding}
-use Rattle.kapi_rbac_types.specs.declared.identity.Identity.{Identity}
+use Rattle.kapi_model.specs.declared.policy_rule.PolicyRule.{PolicyRule}
+use Rattle.kapi_model.specs.declared.subject.Subject.{Subject}
+use Rattle.kapi_model.specs.declared.subject.Subject.TheVariants.{User, Group, ServiceAccount}
+use Rattle.kapi_model.specs.Identities.{is_in, is_master}
+use Rattle.kapi_model.specs.Subjects.{colon, subject_matches, namespace_of}
+use Rattle.kapi_model.specs.declared.binding.RoleBinding.{RoleBinding}
+use Rattle.kapi_model.specs.declared.identity.Identity.{Identity}
 use Rattle.kapi_rules.proofs.Covers.{itself, or_false, same}
 use Rattle.kapi_rules.proofs.Parts.{any_flat_map, any_same}
 use Rattle.kapi_rules.specs.Rules.{allows}
@@ -20,18 +20,19 @@ use Rattle.kapi_policy.specs.All.{all_bindings, bindings_in_namespaces, has_name
 use Rattle.kapi_policy.specs.Decided.{Binding, bindings_in, bindings_of, cluster_binding, given, held, is_in as is_there, namespace_binding, rules_of}
 use Rattle.kapi_policy.specs.Objects.{PolicyObjects}
 use Rattle.kapi_policy.specs.declared.change.NamespacedName.{NamespacedName}
-use Rattle.kapi_aggregation.proofs.Lists.{has_kept, has_mapped, kept_of, mapped_of, some_at}
-use Rattle.kapi_gains.proofs.Elements.{has_either, has_left, has_part, has_right, part_of, passing}
+use Rattle.kapi_aggregation.proofs.Lists.{has_kept, has_mapped, kept_of, mapped_of}
+use Rattle.kapi_gains.proofs.Elements.{has_either, has_left, has_right}
 use Rattle.kapi_gains.specs.Access.{may}
 use Rattle.kapi_aggregation.specs.Members.{Has}
 use Rattle.kapi_access.specs.declared.grantee.Grantee.{Grantee}
 use Rattle.kapi_access.specs.declared.grantee.Grantee.TheVariants as grantee
-use Rattle.kapi_access.specs.Grantees.{account, grantees, matches, role_of, whom}
+use Rattle.kapi_access.specs.Grantees.{grantees, matches, role_of, whom}
 use Rattle.kapi_access.specs.Who.{Way, is_named, ways, ways_by, ways_of, who_may}
+use Rattle.kapi_access.proofs.First.{first_named}
 
 -- ---- grantees
 
-named : (s : Subject) (namespace : List ℕ) (identity : Identity) → list_any (λ g. matches g identity) (whom namespace s) ≡ names s namespace identity
+named : (s : Subject) (namespace : List ℕ) (identity : Identity) → list_any (λ g. matches g identity) (whom namespace s) ≡ subject_matches s namespace identity
 named (User name) namespace identity = or_false (bytes_eq identity.user name)
 named (Group name) namespace identity = or_false (is_in name identity)
 named (ServiceAccount a) namespace identity = by_case (length (namespace_of a namespace) == 0)
@@ -43,7 +44,7 @@ named (ServiceAccount a) namespace identity = by_case (length (namespace_of a na
     by_case true = refl
     by_case false = or_false (bytes_eq identity.user user)
 
-pub bound_by : (b : Binding) (identity : Identity) → list_any (λ g. matches g identity) (grantees b) ≡ list_any (λ s. names s b.namespace identity) b.subjects
+pub bound_by : (b : Binding) (identity : Identity) → list_any (λ g. matches g identity) (grantees b) ≡ list_any (λ s. subject_matches s b.namespace identity) b.subjects
 bound_by b identity =
     any_flat_map (λ g. matches g identity) (whom b.namespace) b.subjects ∙ any_same _ _ b.subjects (λ s. named s b.namespace identity)
 
@@ -99,7 +100,7 @@ module _ (objects : PolicyObjects) (identity : Identity) (test : PolicyRule → 
   pub given_named : (b : Binding) → list_any test (unwrap_or (given objects identity b) []) ≡ is_named (ways_of objects test b) identity
   unfolding given
   given_named b =
-      given_if b (list_any (λ s. names s b.namespace identity) b.subjects)
+      given_if b (list_any (λ s. subject_matches s b.namespace identity) b.subjects)
       ∙ ap (λ t. list_any test (role_of objects b) && t) (sym (bound_by b identity))
       ∙ ap (λ t. t && list_any (λ g. matches g identity) (grantees b)) (sym (is_some_position test (role_of objects b)))
       ∙ sym (named_by b (position test (role_of objects b)))
@@ -117,7 +118,8 @@ pub who_is_exact : (objects : PolicyObjects) (identity : Identity) (namespace : 
 unfolding who_may
 who_is_exact objects identity namespace p =
     allowed_where_held objects identity namespace p
-    ∙ ap (λ t. is_master identity || t) (held_named objects identity (λ rule. allows rule p) namespace)
+    ∙ ap (λ t. is_master identity || t)
+    (held_named objects identity (λ rule. allows rule p) namespace ∙ sym (first_named identity (ways objects (λ rule. allows rule p) (bindings_in objects namespace))))
 
 -- ---- bindings that count
 

@@ -1,12 +1,12 @@
 -- Texts that are longer than others.
-use Rattle.std.proofs.Common.{◌≡◌, ◌⊎◌, inl, inr, ℕ, suc, ◌≤◌, ◌+◌, Bool, true, false, ◌==◌, if◌then◌else◌, List, [], ◌∷◌, ◌++◌, length, refl, sym, ap, subst, codes, ◌∙◌, arith}
+use Rattle.std.proofs.Common.{◌≡◌, inl, inr, ℕ, suc, ◌≤◌, Bool, true, false, ◌==◌, if◌then◌else◌, List, [], ◌∷◌, ◌++◌, length, sym, ap, codes, ◌∙◌, arith}
 use Rattle.std.proofs.lemmas.List.{length-append}
 use Rattle.std.specs.List.{flat_map, list_any}
 use Rattle.std.specs.Str.{bytes_eq}
-use Rattle.kapi_names.specs.declared.policy_rule.PolicyRule.{PolicyRule}
-use Rattle.kapi_names.specs.declared.subject.Subject.{Subject}
-use Rattle.kapi_names.specs.declared.subject.Subject.TheVariants.{User, Group, ServiceAccount}
-use Rattle.kapi_rbac_types.specs.Subjects.{colon, namespace_of}
+use Rattle.kapi_model.specs.declared.policy_rule.PolicyRule.{PolicyRule}
+use Rattle.kapi_model.specs.declared.subject.Subject.{Subject}
+use Rattle.kapi_model.specs.declared.subject.Subject.TheVariants.{User, Group, ServiceAccount}
+use Rattle.kapi_model.specs.Subjects.{colon, namespace_of}
 use Rattle.kapi_rules.proofs.Covers.{same}
 use Rattle.kapi_policy.specs.All.{all_bindings}
 use Rattle.kapi_policy.specs.Decided.{Binding}
@@ -14,9 +14,8 @@ use Rattle.kapi_policy.specs.Objects.{PolicyObjects}
 use Rattle.kapi_aggregation.proofs.Lists.{is_false}
 use Rattle.kapi_gains.proofs.Elements.{part_of, passing}
 use Rattle.kapi_aggregation.specs.Members.{Has}
-use Rattle.kapi_access.specs.declared.grantee.Grantee.{Grantee}
 use Rattle.kapi_access.specs.declared.grantee.Grantee.TheVariants as grantee
-use Rattle.kapi_access.specs.Grantees.{account, grantees, stranger, user_in, users_in, whom}
+use Rattle.kapi_access.specs.Grantees.{grantees, stranger, user_in, users_in, whom}
 
 -- a part is not longer than the whole
 part_fits : {X : Type 0} (f : X → List ℕ) (xs : List X) (x : X) → Has xs x → length (f x) ≤ length (flat_map f xs)

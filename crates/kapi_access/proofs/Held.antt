@@ -1,11 +1,11 @@
 -- What an identity holds, and what that allows.
-use Rattle.std.proofs.Common.{◌≡◌, ◌⊎◌, inl, inr, ℕ, Bool, true, false, ◌||◌, if◌then◌else◌, List, [], Some, None, refl, sym, ◌∙◌}
-use Rattle.std.specs.List.{flat_map, list_any}
+use Rattle.std.proofs.Common.{◌≡◌, ◌⊎◌, ℕ, Bool, true, false, ◌||◌, if◌then◌else◌, List, [], None, refl, sym, ◌∙◌}
+use Rattle.std.specs.List.{list_any}
 use Rattle.std.specs.Option.{unwrap_or}
-use Rattle.kapi_names.specs.declared.policy_rule.PolicyRule.{PolicyRule}
-use Rattle.kapi_rbac_types.specs.Identities.{is_master}
-use Rattle.kapi_rbac_types.specs.Subjects.{names}
-use Rattle.kapi_rbac_types.specs.declared.identity.Identity.{Identity}
+use Rattle.kapi_model.specs.declared.policy_rule.PolicyRule.{PolicyRule}
+use Rattle.kapi_model.specs.Identities.{is_master}
+use Rattle.kapi_model.specs.Subjects.{subject_matches}
+use Rattle.kapi_model.specs.declared.identity.Identity.{Identity}
 use Rattle.kapi_rules.specs.Rules.{allows}
 use Rattle.kapi_rules.specs.declared.point.Point.{Point}
 use Rattle.kapi_policy.proofs.Decisions.{allowed_where_held}
@@ -34,19 +34,19 @@ pub record HoldsBy (objects : PolicyObjects) (identity : Identity) (namespace : 
 module _ (objects : PolicyObjects) (identity : Identity) (namespace : List ℕ) where
   pub holds_by : (rule : PolicyRule) → Has (held objects identity namespace) rule → HoldsBy objects identity namespace rule
   unfolding held given
-  holds_by rule has = by_meant (list_any (λ s. names s b.0.namespace identity) b.0.subjects) refl b.1.1
+  holds_by rule has = by_meant (list_any (λ s. subject_matches s b.0.namespace identity) b.0.subjects) refl b.1.1
     where
       b : (b : Binding) × (Has (bindings_in objects namespace) b × Has (unwrap_or (given objects identity b) []) rule)
       b = part_of (λ b. unwrap_or (given objects identity b) []) (bindings_in objects namespace) rule has
 
-      by_meant : (m : Bool) → list_any (λ s. names s b.0.namespace identity) b.0.subjects ≡ m
+      by_meant : (m : Bool) → list_any (λ s. subject_matches s b.0.namespace identity) b.0.subjects ≡ m
           → Has (unwrap_or (if m then rules_of objects b.0.role b.0.namespace else None) []) rule → HoldsBy objects identity namespace rule
       by_meant false is never = absurd never
       by_meant true is there =
           let to = passing (λ (g : Grantee). matches g identity) (grantees b.0) (bound_by b.0 identity ∙ is) in
           record { by = b.0; stands = counted objects namespace b.0 b.1.0; there = where_bound objects namespace b.0 b.1.0; to = to.0; bound = to.1.0; meant = to.1.1; listed = there }
 
-  given_all : (b : Binding) → list_any (λ s. names s b.namespace identity) b.subjects ≡ true → unwrap_or (given objects identity b) [] ≡ role_of objects b
+  given_all : (b : Binding) → list_any (λ s. subject_matches s b.namespace identity) b.subjects ≡ true → unwrap_or (given objects identity b) [] ≡ role_of objects b
   unfolding given
   given_all b meant = rw meant refl
 

@@ -1,7 +1,11 @@
+pub mod First
+pub mod Noted
 pub mod Bound
 pub mod Held
 pub mod Fresh
 pub mod Points
+pub mod Usual
 pub mod Reported
-pub mod Harmless
+pub mod Alike
+pub mod Unprivileged
 pub mod Walks

@@ -1,16 +1,16 @@
 -- The request that an atom asks for, and what implies the atom.
-use Rattle.std.proofs.Common.{◌≡◌, ◌⊎◌, inl, inr, ℕ, Bool, true, false, not, ◌&&◌, ◌||◌, ◌==◌, if◌then◌else◌, List, [], ◌∷◌, ◌++◌, length, Option, Some, None, refl, sym, ap, ◌∙◌}
+use Rattle.std.proofs.Common.{◌≡◌, ◌⊎◌, inl, inr, ℕ, Bool, true, false, not, ◌||◌, ◌==◌, if◌then◌else◌, List, [], ◌∷◌, ◌++◌, length, Option, Some, None, refl, ap, ◌∙◌}
 use Rattle.std.proofs.Math.Dec.{eqb-suc-zero}
 use Rattle.std.proofs.lemmas.Bool.{and_parts, or_cases}
 use Rattle.std.proofs.lemmas.Bool.Decides.{Decides-eqb}
 use Rattle.std.specs.List.{list_any}
 use Rattle.std.specs.Str.{bytes_eq}
-use Rattle.kapi_names.specs.declared.policy_rule.PolicyRule.{PolicyRule}
-use Rattle.kapi_rules.proofs.Covers.{both, itself, or_false, same}
+use Rattle.kapi_model.specs.declared.policy_rule.PolicyRule.{PolicyRule}
+use Rattle.kapi_rules.proofs.Covers.{both, itself, same}
 use Rattle.kapi_rules.proofs.Law.{any_weaker}
 use Rattle.kapi_rules.proofs.Parts.{rule_implies_resource, rule_implies_url}
-use Rattle.kapi_rules.specs.Atoms.{after_slash, atom_allows, is_any_with, listed_cover, lists_cover, names_allow, resource_covers}
-use Rattle.kapi_rules.specs.Entries.{names_match, resource_matches, star, subresource_matches, url_matches, word_matches}
+use Rattle.kapi_rules.specs.Atoms.{after_slash, atom_allows, is_any_with, listed_cover, names_allow, resource_covers}
+use Rattle.kapi_rules.specs.Entries.{names_match, resource_matches, star, subresource_matches, word_matches}
 use Rattle.kapi_rules.specs.Missing.{rule_implies}
 use Rattle.kapi_rules.specs.Points.{HasPlainResource}
 use Rattle.kapi_rules.specs.Rules.{allows}
@@ -18,7 +18,6 @@ use Rattle.kapi_rules.specs.declared.atom.Atom.{Atom}
 use Rattle.kapi_rules.specs.declared.atom.Atom.TheVariants as atom
 use Rattle.kapi_rules.specs.declared.atom.Names.{Names}
 use Rattle.kapi_rules.specs.declared.atom.Names.TheVariants as names
-use Rattle.kapi_rules.specs.declared.atom.ResourceAtom.{ResourceAtom}
 use Rattle.kapi_rules.specs.declared.point.Point.{Point}
 use Rattle.kapi_rules.specs.declared.point.Point.TheVariants as point
 use Rattle.kapi_access.specs.Gained.{can_match, is_nothing}

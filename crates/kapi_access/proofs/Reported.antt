@@ -1,13 +1,11 @@
 -- Every gain is reported, each line is a gain, and nothing is reported of what stood.
-use Rattle.std.proofs.Common.{◌≡◌, ◌⊎◌, inl, inr, ℕ, ◌+◌, Bool, true, false, not, ◌&&◌, ◌||◌, if◌then◌else◌, List, [], ◌∷◌, ◌++◌, map, refl, sym, ap, subst, codes, ◌∙◌}
+use Rattle.std.proofs.Common.{◌≡◌, ◌⊎◌, inl, inr, ℕ, ◌+◌, Bool, true, false, not, if◌then◌else◌, List, [], ◌∷◌, ◌++◌, refl, sym, ap, subst, codes, ◌∙◌}
 use Rattle.std.proofs.lemmas.Bool.{and_parts}
-use Rattle.std.proofs.lemmas.Grind.{flat_map-append}
-use Rattle.std.specs.List.{enumerate_from, filter, flat_map, list_any}
-use Rattle.std.specs.Str.{bytes_eq}
-use Rattle.kapi_names.specs.declared.policy_rule.PolicyRule.{PolicyRule}
-use Rattle.kapi_rbac_types.specs.Identities.{is_in, is_master}
-use Rattle.kapi_rbac_types.specs.declared.identity.Identity.{Identity}
-use Rattle.kapi_rules.proofs.Covers.{both, implies_allows, implies_itself, itself, or_false, same}
+use Rattle.std.specs.List.{enumerate_from, flat_map, list_any}
+use Rattle.kapi_model.specs.declared.policy_rule.PolicyRule.{PolicyRule}
+use Rattle.kapi_model.specs.Identities.{is_master}
+use Rattle.kapi_model.specs.declared.identity.Identity.{Identity}
+use Rattle.kapi_rules.proofs.Covers.{both, implies_allows, implies_itself, or_false}
 use Rattle.kapi_rules.proofs.Law.{any_weaker}
 use Rattle.kapi_rules.proofs.Listed.{listed_exactly, same_decides}
 use Rattle.kapi_rules.proofs.Parts.{allowed_by_atom}
@@ -20,17 +18,20 @@ use Rattle.kapi_rules.specs.declared.point.Point.{Point}
 use Rattle.kapi_policy.specs.All.{all_bindings}
 use Rattle.kapi_policy.specs.Decided.{Binding, held}
 use Rattle.kapi_policy.specs.Objects.{PolicyObjects}
-use Rattle.kapi_access.proofs.Fresh.{fresh, nobody_is_stranger, none_lists}
+use Rattle.kapi_access.proofs.Fresh.{fresh, none_lists}
 use Rattle.kapi_access.proofs.Held.{HoldsBy, holds, holds_by, masters_may, may_by, rule_of_may}
 use Rattle.kapi_access.proofs.Points.{allows_own, implies_back, matched_can, plain_request, request_of}
-use Rattle.kapi_aggregation.proofs.Lists.{has_kept, has_mapped, is_false, kept_of, mapped_of, none_at, some_at}
-use Rattle.kapi_gains.proofs.Elements.{has_left, has_part, part_of, passing}
-use Rattle.kapi_gains.specs.Access.{GivesNothing, may}
+use Rattle.kapi_aggregation.proofs.Lists.{has_kept, has_mapped, is_false, kept_of, mapped_of, some_at}
+use Rattle.kapi_gains.proofs.Elements.{has_part, part_of, passing}
+use Rattle.kapi_gains.specs.Access.{may}
 use Rattle.kapi_aggregation.specs.Members.{Has}
 use Rattle.kapi_access.specs.declared.grantee.Grantee.{Grantee}
-use Rattle.kapi_access.specs.declared.grantee.Grantee.TheVariants as grantee
-use Rattle.kapi_access.specs.Gained.{Gained, IsGained, IsReported, can_match, gained, gained_as, gained_by, gained_from, lines_by, lines_of, new_atoms}
-use Rattle.kapi_access.specs.Grantees.{alone, grantees, matches, role_of, stranger}
+use Rattle.kapi_access.specs.declared.identities.Identities.{Identities}
+use Rattle.kapi_access.specs.declared.identities.Identities.TheVariants as identities
+use Rattle.kapi_access.specs.Usual.{IsMeant}
+use Rattle.kapi_access.proofs.Usual.{alone_is_meant, alone_matches, in_too, matches_too}
+use Rattle.kapi_access.specs.Gained.{Gained, GivesNothingTo, IsGained, IsReported, can_match, gained, gained_by, gained_from, lines_by, lines_of, new_atoms}
+use Rattle.kapi_access.specs.Grantees.{alone, grantees, matches, role_of, stranger, whom}
 
 -- ---- lists
 
@@ -43,6 +44,10 @@ has_number : (n : ℕ) (rules : List PolicyRule) (rule : PolicyRule) → Has rul
 has_number n [] rule has = absurd has
 has_number n (r ∷ rules) rule (inl is) = (n, inl (ap (λ x. (n, x)) is))
 has_number n (r ∷ rules) rule (inr has) = let rest = has_number (n + 1) rules rule has in (rest.0, inr rest.1)
+
+none_has : {X : Type 0} (list : List X) → ((x : X) → Has list x → ⊥) → list ≡ []
+none_has [] never = refl
+none_has (x ∷ list) never = absurd (never x (inl refl))
 
 -- ---- what is missing
 
@@ -93,23 +98,6 @@ own_is_implied rule a has = some_at (λ x. implies x a) (atoms rule) a has (impl
 
 -- ---- the identity of a grantee alone
 
-alone_matches : (other : List ℕ) (to : Grantee) → matches to (alone other to) ≡ true
-alone_matches other (grantee.User name) = itself name
-alone_matches other (grantee.Group name) = rw (itself name) refl
-
--- it is matched by its own grantee alone, where nobody names the other user
-only_own : (objects : PolicyObjects) (b : Binding) (to own : Grantee) → Has (all_bindings objects) b → Has (grantees b) to → matches to (alone (stranger objects) own) ≡ true → to ≡ own
-only_own objects b (grantee.User n) (grantee.User m) stands bound h = ap grantee.User (sym (same m n h))
-only_own objects b (grantee.User n) (grantee.Group m) stands bound h = absurd (let never = nobody_is_stranger objects b n stands bound in cc)
-only_own objects b (grantee.Group n) (grantee.User m) stands bound h = absurd cc
-only_own objects b (grantee.Group n) (grantee.Group m) stands bound h = ap grantee.Group (sym (same m n (sym (or_false (bytes_eq m n)) ∙ h)))
-
-master_too : (other : List ℕ) (to : Grantee) (identity : Identity) → matches to identity ≡ true → is_master (alone other to) ≡ true → is_master identity ≡ true
-master_too other (grantee.User n) identity meant is = absurd cc
-master_too other (grantee.Group n) identity meant is =
-    let named : n ≡ codes "system:masters" = same n (codes "system:masters") (sym (or_false (bytes_eq n (codes "system:masters"))) ∙ is) in
-    subst (λ g. is_in g identity ≡ true) named meant
-
 -- where one scope is the other's or cluster-wide
 within : (n scope namespace : List ℕ) → (scope ≡ []) ⊎ (scope ≡ namespace) → (n ≡ []) ⊎ (n ≡ scope) → (n ≡ []) ⊎ (n ≡ namespace)
 within n scope namespace there (inl wide) = inl wide
@@ -117,61 +105,69 @@ within n scope namespace (inl wide) (inr one) = inl (one ∙ wide)
 within n scope namespace (inr other) (inr one) = inr (one ∙ other)
 
 -- what the grantee alone holds where a binding counts is held there by each identity that it is
-held_too : (objects : PolicyObjects) (to : Grantee) (identity : Identity) (scope namespace : List ℕ) (rule : PolicyRule) → matches to identity ≡ true → (scope ≡ []) ⊎ (scope ≡ namespace)
-    → Has (held objects (alone (stranger objects) to) scope) rule → Has (held objects identity namespace) rule
-held_too objects to identity scope namespace rule meant there has =
-    let h = holds_by objects (alone (stranger objects) to) scope rule has in
-    let one : h.to ≡ to = only_own objects h.by h.to to h.stands h.bound h.meant in
-    holds objects identity namespace rule (record { by = h.by; stands = h.stands; there = within h.by.namespace scope namespace there h.there; to = h.to; bound = h.bound; meant = rw one meant; listed = h.listed })
+held_too : (who : Identities) (objects : PolicyObjects) (to : Grantee) (identity : Identity) (scope namespace : List ℕ) (rule : PolicyRule) → IsMeant who identity → matches to identity ≡ true
+    → (scope ≡ []) ⊎ (scope ≡ namespace) → Has (held objects (alone who (stranger objects) to) scope) rule → Has (held objects identity namespace) rule
+held_too who objects to identity scope namespace rule among meant there has =
+    let h = holds_by objects (alone who (stranger objects) to) scope rule has in
+    holds objects identity namespace rule
+    (record {
+      by = h.by;
+      stands = h.stands;
+      there = within h.by.namespace scope namespace there h.there;
+      to = h.to;
+      bound = h.bound;
+      meant = matches_too who objects h.by h.to to identity h.stands h.bound among meant h.meant;
+      listed = h.listed;
+    })
 
-module _ (before after : PolicyObjects) where
+module _ (who : Identities) (before after : PolicyObjects) where
   -- ---- lines
 
   line_of : (b : Binding) (to : Grantee) (n : ℕ) (rule : PolicyRule) (a : Atom) → Has (all_bindings after) b → Has (grantees b) to → Has (enumerate_from 0 (role_of after b)) (n, rule)
-      → is_master (alone (stranger before) to) ≡ false → Has (new_atoms (held before (alone (stranger before) to) b.namespace) rule) a
-      → Has (gained before after) (record { to = to; binding = b; rule = n; gain = a })
+      → is_master (alone who (stranger before) to) ≡ false → Has (new_atoms (held before (alone who (stranger before) to) b.namespace) rule) a
+      → Has (gained who before after) (record { to = to; binding = b; rule = n; gain = a })
   unfolding gained gained_from
   line_of b to n rule a stands bound numbered plain new =
-      has_part (gained_from before after) (all_bindings after) b _ stands
-      (has_part (gained_by before after b) (grantees b) to _ bound
-      (rw plain (has_part (lines_by (held before (alone (stranger before) to) b.namespace) to b) (enumerate_from 0 (role_of after b)) (n, rule) _ numbered
-      (has_mapped (λ (a : Atom). record { to = to; binding = b; rule = n; gain = a }) (new_atoms (held before (alone (stranger before) to) b.namespace) rule) a new))))
+      has_part (gained_from who before after) (all_bindings after) b _ stands
+      (has_part (gained_by who before after b) (grantees b) to _ bound
+      (rw plain (has_part (lines_by (held before (alone who (stranger before) to) b.namespace) to b) (enumerate_from 0 (role_of after b)) (n, rule) _ numbered
+      (has_mapped (λ (a : Atom). record { to = to; binding = b; rule = n; gain = a }) (new_atoms (held before (alone who (stranger before) to) b.namespace) rule) a new))))
 
   -- what stands behind a line
   record Behind (line : Gained) : Type 0 where
     pub stands : Has (all_bindings after) line.binding
     pub bound : Has (grantees line.binding) line.to
-    pub plain : is_master (alone (stranger before) line.to) ≡ false
+    pub plain : is_master (alone who (stranger before) line.to) ≡ false
     pub rule : PolicyRule
     pub listed : Has (role_of after line.binding) rule
-    pub new : Has (new_atoms (held before (alone (stranger before) line.to) line.binding.namespace) rule) line.gain
+    pub new : Has (new_atoms (held before (alone who (stranger before) line.to) line.binding.namespace) rule) line.gain
 
-  behind : (line : Gained) → Has (gained before after) line → Behind line
+  behind : (line : Gained) → Has (gained who before after) line → Behind line
   unfolding gained gained_from
-  behind line has = by_master (is_master (alone (stranger before) to.0)) refl to.1.1
+  behind line has = by_master (is_master (alone who (stranger before) to.0)) refl to.1.1
     where
-      b : (b : Binding) × (Has (all_bindings after) b × Has (gained_from before after b) line)
-      b = part_of (gained_from before after) (all_bindings after) line has
+      b : (b : Binding) × (Has (all_bindings after) b × Has (gained_from who before after b) line)
+      b = part_of (gained_from who before after) (all_bindings after) line has
 
-      to : (to : Grantee) × (Has (grantees b.0) to × Has (gained_by before after b.0 to) line)
-      to = part_of (gained_by before after b.0) (grantees b.0) line b.1.1
+      to : (to : Grantee) × (Has (grantees b.0) to × Has (gained_by who before after b.0 to) line)
+      to = part_of (gained_by who before after b.0) (grantees b.0) line b.1.1
 
-      by_master : (m : Bool) → is_master (alone (stranger before) to.0) ≡ m
-          → Has (if m then [] else lines_of (held before (alone (stranger before) to.0) b.0.namespace) to.0 b.0 (role_of after b.0)) line → Behind line
+      by_master : (m : Bool) → is_master (alone who (stranger before) to.0) ≡ m
+          → Has (if m then [] else lines_of (held before (alone who (stranger before) to.0) b.0.namespace) to.0 b.0 (role_of after b.0)) line → Behind line
       by_master true is never = absurd never
       by_master false is there =
-          let numbered = part_of (lines_by (held before (alone (stranger before) to.0) b.0.namespace) to.0 b.0) (enumerate_from 0 (role_of after b.0)) line there in
-          let a = mapped_of (λ (a : Atom). record { to = to.0; binding = b.0; rule = numbered.0.0; gain = a }) (new_atoms (held before (alone (stranger before) to.0) b.0.namespace) numbered.0.1) line numbered.1.1 in
+          let numbered = part_of (lines_by (held before (alone who (stranger before) to.0) b.0.namespace) to.0 b.0) (enumerate_from 0 (role_of after b.0)) line there in
+          let a = mapped_of (λ (a : Atom). record { to = to.0; binding = b.0; rule = numbered.0.0; gain = a }) (new_atoms (held before (alone who (stranger before) to.0) b.0.namespace) numbered.0.1) line numbered.1.1 in
           subst (λ (l : Gained). Behind l) a.1.1 (record { stands = b.1.0; bound = to.1.0; plain = is; rule = numbered.0.1; listed = numbered_of 0 (role_of after b.0) numbered.0 numbered.1.0; new = a.1.0 })
 
   -- ---- every gain is reported
 
-  pub every_gain_is_reported : (identity : Identity) (namespace : List ℕ) (p : Point) → HasPlainResource p → may after identity namespace p ≡ true → may before identity namespace p ≡ false
-      → IsReported (gained before after) identity namespace p
-  every_gain_is_reported identity namespace p plain now not_before =
+  pub every_gain_is_reported : (identity : Identity) (namespace : List ℕ) (p : Point) → IsMeant who identity → HasPlainResource p → may after identity namespace p ≡ true → may before identity namespace p ≡ false
+      → IsReported (gained who before after) identity namespace p
+  every_gain_is_reported identity namespace p among plain now not_before =
       record {
         line = record { to = h.to; binding = h.by; rule = numbered.0; gain = a.0 };
-        listed = line_of h.by h.to numbered.0 r.0 a.0 h.stands h.bound numbered.1 (is_false _ (λ is. absurd (let allowed = masters_may before identity namespace p (master_too (stranger before) h.to identity h.meant is) in cc)))
+        listed = line_of h.by h.to numbered.0 r.0 a.0 h.stands h.bound numbered.1 (is_false _ (λ is. absurd (let allowed = masters_may before identity namespace p (in_too who (stranger before) h.to identity (codes "system:masters") among h.meant is) in cc)))
             (is_new _ r.0 a.0 (matched_can a.0 p plain a.1.1) lacks a.1.0);
         meant = h.meant;
         there = h.there;
@@ -193,33 +189,34 @@ module _ (before after : PolicyObjects) where
       a : (a : Atom) × (Has (atoms r.0) a × (atom_allows a p ≡ true))
       a = passing (λ a. atom_allows a p) (atoms r.0) (allowed_by_atom r.0 p ∙ r.1.1)
 
-      lacks : is_missing (held before (alone (stranger before) h.to) h.by.namespace) a.0 ≡ true
+      lacks : is_missing (held before (alone who (stranger before) h.to) h.by.namespace) a.0 ≡ true
       lacks = not_false _ (λ implied.
-          let own = passing (λ rule. rule_implies rule a.0) (held before (alone (stranger before) h.to) h.by.namespace) implied in
-          absurd (let allowed = may_by before identity namespace p own.0 (held_too before h.to identity h.by.namespace namespace own.0 h.meant h.there own.1.0) (implied_allows own.0 a.0 p plain own.1.1 a.1.1) in cc))
+          let own = passing (λ rule. rule_implies rule a.0) (held before (alone who (stranger before) h.to) h.by.namespace) implied in
+          absurd (let allowed = may_by before identity namespace p own.0 (held_too who before h.to identity h.by.namespace namespace own.0 among h.meant h.there own.1.0) (implied_allows own.0 a.0 p plain own.1.1 a.1.1) in cc))
 
   -- ---- each line is a gain
 
-  pub each_line_is_a_gain : (line : Gained) → Has (gained before after) line → IsGained before after line
+  pub each_line_is_a_gain : (line : Gained) → Has (gained who before after) line → IsGained who before after line
   each_line_is_a_gain line has =
       record {
-        identity = who;
+        identity = own_identity;
+        among = alone_is_meant who before line.to;
         request = request;
         plain = plain_request (fresh own) line.gain;
-        meant = alone_matches (stranger before) line.to;
+        meant = alone_matches who (stranger before) line.to;
         by_atom = by_atom;
         now = now;
-        not_before = is_false _ (λ allowed. never (rule_of_may before who line.binding.namespace request allowed by.plain));
+        not_before = is_false _ (λ allowed. never (rule_of_may before own_identity line.binding.namespace request allowed by.plain));
       }
     where
       by : Behind line
       by = behind line has
 
-      who : Identity
-      who = alone (stranger before) line.to
+      own_identity : Identity
+      own_identity = alone who (stranger before) line.to
 
       own : List PolicyRule
-      own = held before who line.binding.namespace
+      own = held before own_identity line.binding.namespace
 
       request : Point
       request = request_of (fresh own) line.gain
@@ -230,9 +227,9 @@ module _ (before after : PolicyObjects) where
       by_atom : atom_allows line.gain request ≡ true
       by_atom = allows_own (fresh own) line.gain new.0
 
-      now : may after who line.binding.namespace request ≡ true
-      now = may_by after who line.binding.namespace request by.rule
-          (holds after who line.binding.namespace by.rule (record { by = line.binding; stands = by.stands; there = inr refl; to = line.to; bound = by.bound; meant = alone_matches (stranger before) line.to; listed = by.listed }))
+      now : may after own_identity line.binding.namespace request ≡ true
+      now = may_by after own_identity line.binding.namespace request by.rule
+          (holds after own_identity line.binding.namespace by.rule (record { by = line.binding; stands = by.stands; there = inr refl; to = line.to; bound = by.bound; meant = alone_matches who (stranger before) line.to; listed = by.listed }))
           (sym (allowed_by_atom by.rule request) ∙ some_at (λ a. atom_allows a request) (atoms by.rule) line.gain new.1.1 by_atom)
 
       never : ((rule : PolicyRule) × (Has own rule × (allows rule request ≡ true))) → ⊥
@@ -244,47 +241,59 @@ module _ (before after : PolicyObjects) where
   by_list : (list : List Gained) → list ≡ [] → (identity : Identity) (namespace : List ℕ) (p : Point) → IsReported list identity namespace p → ⊥
   by_list list none identity namespace p r = subst (λ l. Has l r.line) none r.listed
 
-  pub nothing_listed : gained before after ≡ [] → GivesNothing [] before after
-  nothing_listed none = λ identity namespace p plain now. by_case identity namespace p plain now (may before identity namespace p) refl
+  -- what one of them may do now it could do before
+  had : gained who before after ≡ [] → (identity : Identity) (namespace : List ℕ) (p : Point) → IsMeant who identity → HasPlainResource p → may after identity namespace p ≡ true → may before identity namespace p ≡ true
+  had none identity namespace p among plain now = by_case (may before identity namespace p) refl
     where
-      by_case : (identity : Identity) (namespace : List ℕ) (p : Point) → HasPlainResource p → may after identity namespace p ≡ true → (m : Bool) → may before identity namespace p ≡ m → (m || false) ≡ true
-      by_case identity namespace p plain now true is = refl
-      by_case identity namespace p plain now false is = absurd (by_list (gained before after) none identity namespace p (every_gain_is_reported identity namespace p plain now is))
+      by_case : (m : Bool) → may before identity namespace p ≡ m → m ≡ true
+      by_case true is = refl
+      by_case false is = absurd (by_list (gained who before after) none identity namespace p (every_gain_is_reported identity namespace p among plain now is))
 
-  pub nobody_gains_anything : GivesNothing [] before after → gained before after ≡ []
-  nobody_gains_anything nothing = by_case (gained before after) each_line_is_a_gain
-    where
-      by_case : (list : List Gained) → ((line : Gained) → Has list line → IsGained before after line) → list ≡ []
-      by_case [] each = refl
-      by_case (line ∷ list) each =
-          let g = each line (inl refl) in
-          absurd (let had = sym (or_false (may before g.identity line.binding.namespace g.request)) ∙ nothing g.identity line.binding.namespace g.request g.plain g.now in let not_had = g.not_before in cc)
+  no_lines : ((line : Gained) → IsGained who before after line → ⊥) → gained who before after ≡ []
+  no_lines never = none_has (gained who before after) (λ line has. never line (each_line_is_a_gain line has))
+
+pub nothing_listed : (who : Identities) (before after : PolicyObjects) → gained who before after ≡ [] → GivesNothingTo who before after
+nothing_listed identities.Any before after none =
+    λ identity namespace p plain now. or_false (may before identity namespace p) ∙ had identities.Any before after none identity namespace p tt plain now
+nothing_listed identities.Usual before after none = had identities.Usual before after none
+
+pub nobody_gains_anything : (who : Identities) (before after : PolicyObjects) → GivesNothingTo who before after → gained who before after ≡ []
+nobody_gains_anything identities.Any before after nothing =
+    no_lines identities.Any before after (λ line g. absurd (let had_it = sym (or_false (may before g.identity line.binding.namespace g.request)) ∙ nothing g.identity line.binding.namespace g.request g.plain g.now in let not_had = g.not_before in cc))
+nobody_gains_anything identities.Usual before after nothing =
+    no_lines identities.Usual before after (λ line g. absurd (let had_it = nothing g.identity line.binding.namespace g.request g.among g.plain g.now in let not_had = g.not_before in cc))
 
 -- ---- what stood
 
-none_has : {X : Type 0} (list : List X) → ((x : X) → Has list x → ⊥) → list ≡ []
-none_has [] never = refl
-none_has (x ∷ list) never = absurd (never x (inl refl))
-
 -- a rule that a binding gives has nothing new for its grantees
-pub rules_that_stood : (before : PolicyObjects) (b : Binding) (to : Grantee) (rule : PolicyRule) → Has (all_bindings before) b → Has (grantees b) to → Has (role_of before b) rule
-    → new_atoms (held before (alone (stranger before) to) b.namespace) rule ≡ []
-rules_that_stood before b to rule stands bound listed = none_has _ (λ a has.
-    let own = holds before (alone (stranger before) to) b.namespace rule (record { by = b; stands = stands; there = inr refl; to = to; bound = bound; meant = alone_matches (stranger before) to; listed = listed }) in
-    let new = new_of (held before (alone (stranger before) to) b.namespace) rule a has in
-    not_true _ new.1.0 (some_at (λ rule. rule_implies rule a) (held before (alone (stranger before) to) b.namespace) rule own (own_is_implied rule a new.1.1)))
+pub rules_that_stood : (who : Identities) (before : PolicyObjects) (b : Binding) (to : Grantee) (rule : PolicyRule) → Has (all_bindings before) b → Has (grantees b) to → Has (role_of before b) rule
+    → new_atoms (held before (alone who (stranger before) to) b.namespace) rule ≡ []
+rules_that_stood who before b to rule stands bound listed = none_has _ (λ a has.
+    let own = holds before (alone who (stranger before) to) b.namespace rule (record { by = b; stands = stands; there = inr refl; to = to; bound = bound; meant = alone_matches who (stranger before) to; listed = listed }) in
+    let new = new_of (held before (alone who (stranger before) to) b.namespace) rule a has in
+    not_true _ new.1.0 (some_at (λ rule. rule_implies rule a) (held before (alone who (stranger before) to) b.namespace) rule own (own_is_implied rule a new.1.1)))
 
--- a binding that stood with its role's rules gives nobody anything new
-pub bindings_that_stood : (before after : PolicyObjects) (b : Binding) → Has (all_bindings before) b → role_of after b ≡ role_of before b → gained_from before after b ≡ []
+-- a binding gives nobody anything new where one that stood gave its subjects its role's rules in its namespace
+pub bindings_alike : (who : Identities) (before after : PolicyObjects) (s b : Binding) → Has (all_bindings before) s → s.namespace ≡ b.namespace → s.subjects ≡ b.subjects → role_of before s ≡ role_of after b
+    → gained_from who before after b ≡ []
 unfolding gained_from
-bindings_that_stood before after b stands same_rules = none_has _ (λ line has.
-    let to = part_of (gained_by before after b) (grantees b) line has in
-    by_master to.0 to.1.0 (is_master (alone (stranger before) to.0)) line to.1.1)
+bindings_alike who before after s b stands same_namespace same_subjects same_rules = none_has _ (λ line has.
+    let to = part_of (gained_by who before after b) (grantees b) line has in
+    by_master to.0 (subst (λ l. Has l to.0) (sym same_grantees) to.1.0) (is_master (alone who (stranger before) to.0)) line to.1.1)
   where
-    by_master : (to : Grantee) → Has (grantees b) to → (m : Bool) (line : Gained) → Has (if m then [] else lines_of (held before (alone (stranger before) to) b.namespace) to b (role_of after b)) line → ⊥
+    same_grantees : grantees s ≡ grantees b
+    same_grantees = ap (λ n. flat_map (whom n) s.subjects) same_namespace ∙ ap (λ l. flat_map (whom b.namespace) l) same_subjects
+
+    by_master : (to : Grantee) → Has (grantees s) to → (m : Bool) (line : Gained) → Has (if m then [] else lines_of (held before (alone who (stranger before) to) b.namespace) to b (role_of after b)) line → ⊥
     by_master to bound true line never = never
     by_master to bound false line there =
-        let numbered = part_of (lines_by (held before (alone (stranger before) to) b.namespace) to b) (enumerate_from 0 (role_of after b)) line there in
-        let none = rules_that_stood before b to numbered.0.1 stands bound (subst (λ l. Has l numbered.0.1) same_rules (numbered_of 0 (role_of after b) numbered.0 numbered.1.0)) in
-        let a = mapped_of (λ (a : Atom). record { to = to; binding = b; rule = numbered.0.0; gain = a }) (new_atoms (held before (alone (stranger before) to) b.namespace) numbered.0.1) line numbered.1.1 in
+        let numbered = part_of (lines_by (held before (alone who (stranger before) to) b.namespace) to b) (enumerate_from 0 (role_of after b)) line there in
+        let listed = subst (λ l. Has l numbered.0.1) (sym same_rules) (numbered_of 0 (role_of after b) numbered.0 numbered.1.0) in
+        let none : new_atoms (held before (alone who (stranger before) to) b.namespace) numbered.0.1 ≡ [] =
+        subst (λ n. new_atoms (held before (alone who (stranger before) to) n) numbered.0.1 ≡ []) same_namespace (rules_that_stood who before s to numbered.0.1 stands bound listed) in
+        let a = mapped_of (λ (a : Atom). record { to = to; binding = b; rule = numbered.0.0; gain = a }) (new_atoms (held before (alone who (stranger before) to) b.namespace) numbered.0.1) line numbered.1.1 in
         subst (λ l. Has l a.0) none a.1.0
+
+-- a binding that stood with its role's rules gives nothing new
+pub bindings_that_stood : (who : Identities) (before after : PolicyObjects) (b : Binding) → Has (all_bindings before) b → role_of after b ≡ role_of before b → gained_from who before after b ≡ []
+bindings_that_stood who before after b stands same_rules = bindings_alike who before after b b stands refl refl (sym same_rules)

@@ -1,12 +1,11 @@
 -- The walks over the bindings of a policy find what its definitions list.
-use Rattle.std.proofs.Common.{◌≡◌, ℕ, Bool, true, false, cond, not, ◌&&◌, ◌||◌, ◌==◌, if◌then◌else◌, List, [], ◌∷◌, ◌++◌, length, map, refl, sym, ap, ◌∙◌}
-use Rattle.std.proofs.Math.Dec.{eqb-suc-zero}
+use Rattle.std.proofs.Common.{◌≡◌, ℕ, Bool, true, false, cond, not, ◌==◌, if◌then◌else◌, List, [], ◌∷◌, ◌++◌, length, map, refl, sym, ap, ◌∙◌}
 use Rattle.std.proofs.lemmas.Grind.{flat_map-append}
 use Rattle.std.specs.List.{filter, flat_map}
 use Rattle.std.specs.Str.{bytes_eq}
-use Rattle.kapi_names.specs.declared.policy_rule.PolicyRule.{PolicyRule}
-use Rattle.kapi_rbac_types.specs.declared.binding.ClusterRoleBinding.{ClusterRoleBinding}
-use Rattle.kapi_rbac_types.specs.declared.binding.RoleBinding.{RoleBinding}
+use Rattle.kapi_model.specs.declared.policy_rule.PolicyRule.{PolicyRule}
+use Rattle.kapi_model.specs.declared.binding.ClusterRoleBinding.{ClusterRoleBinding}
+use Rattle.kapi_model.specs.declared.binding.RoleBinding.{RoleBinding}
 use Rattle.kapi_rules.proofs.Covers.{same}
 use Rattle.kapi_rules.specs.Rules.{allows}
 use Rattle.kapi_rules.specs.declared.point.Point.{Point}
@@ -19,9 +18,10 @@ use Rattle.kapi_policy.specs.declared.change.NamespacedName.{NamespacedName}
 use Rattle.kapi_access.specs.Risks.{is_risky, risks}
 use Rattle.kapi_rules.specs.declared.atom.Atom.{Atom}
 use Rattle.kapi_access.specs.declared.grantee.Grantee.{Grantee}
+use Rattle.kapi_access.specs.declared.identities.Identities.{Identities}
 use Rattle.kapi_access.specs.Gained.{Gained, can_match, gained, gained_from}
-use Rattle.kapi_access.specs.Views.{counts, line_for, ways_there}
-use Rattle.kapi_access.specs.Who.{Way, ways, ways_of, who_may}
+use Rattle.kapi_access.specs.Views.{line_for, ways_there}
+use Rattle.kapi_access.specs.Who.{first_ways, ways, ways_of, who_may}
 
 pub flat_map_map : {X Y Z : Type 0} (f : Y → List Z) (g : X → Y) (xs : List X) → flat_map (λ x. f (g x)) xs ≡ flat_map f (map g xs)
 flat_map_map f g [] = refl
@@ -70,16 +70,17 @@ module _ (objects : PolicyObjects) (test : PolicyRule → Bool) (namespace : Lis
       ∙ sym (flat_map-append (ways_of objects test) (map cluster_binding objects.cluster_role_bindings) (if length namespace == 0 then [] else bindings_of namespace objects.role_bindings))
 
 pub who_by_all : (objects : PolicyObjects) (namespace : List ℕ) (p : Point) (list : List BoundBy) → map binding_of list ≡ all_bindings objects
-    → flat_map (λ b. ways_there objects (λ rule. allows rule p) namespace (binding_of b)) list ≡ who_may objects namespace p
+    → first_ways (flat_map (λ b. ways_there objects (λ rule. allows rule p) namespace (binding_of b)) list) ≡ who_may objects namespace p
 unfolding who_may
 who_by_all objects namespace p list all =
-    flat_map_map (ways_there objects (λ rule. allows rule p) namespace) binding_of list
+    ap first_ways
+    (flat_map_map (ways_there objects (λ rule. allows rule p) namespace) binding_of list
     ∙ ap (λ l. flat_map (ways_there objects (λ rule. allows rule p) namespace) l) all
-    ∙ all_count objects (λ rule. allows rule p) namespace
+    ∙ all_count objects (λ rule. allows rule p) namespace)
 
-pub risks_by_all : (objects : PolicyObjects) (list : List BoundBy) → map binding_of list ≡ all_bindings objects → flat_map (λ b. ways_of objects is_risky (binding_of b)) list ≡ risks objects
+pub risks_by_all : (objects : PolicyObjects) (list : List BoundBy) → map binding_of list ≡ all_bindings objects → first_ways (flat_map (λ b. ways_of objects is_risky (binding_of b)) list) ≡ risks objects
 unfolding risks
-risks_by_all objects list all = flat_map_map (ways_of objects is_risky) binding_of list ∙ ap (λ l. flat_map (ways_of objects is_risky) l) all
+risks_by_all objects list all = ap first_ways (flat_map_map (ways_of objects is_risky) binding_of list ∙ ap (λ l. flat_map (ways_of objects is_risky) l) all)
 
 pub lines_alike : (to : Grantee) (b : Binding) (rule : ℕ) (list : List Atom) → flat_map (line_for to b rule) list ≡ map (λ a. record { to = to; binding = b; rule = rule; gain = a }) (filter can_match list)
 unfolding line_for
@@ -91,6 +92,7 @@ lines_alike to b rule (a ∷ list) =
       | false ↦ lines_alike to b rule list
     ]
 
-pub gained_by_all : (before after : PolicyObjects) (list : List BoundBy) → map binding_of list ≡ all_bindings after → flat_map (λ b. gained_from before after (binding_of b)) list ≡ gained before after
+pub gained_by_all : (who : Identities) (before after : PolicyObjects) (list : List BoundBy) → map binding_of list ≡ all_bindings after
+    → flat_map (λ b. gained_from who before after (binding_of b)) list ≡ gained who before after
 unfolding gained
-gained_by_all before after list all = flat_map_map (gained_from before after) binding_of list ∙ ap (λ l. flat_map (gained_from before after) l) all
+gained_by_all who before after list all = flat_map_map (gained_from who before after) binding_of list ∙ ap (λ l. flat_map (gained_from who before after) l) all

@@ -1,9 +1,9 @@
 -- What one policy gives that another did not.
 use Rattle.std.specs.Prelude.{◌≡◌, ◌⊎◌, ℕ, List, [], ◌∷◌, Bool, true, false, not, if◌then◌else◌, map, Option, Some, None}
 use Rattle.std.specs.List.{enumerate_from, filter, flat_map}
-use Rattle.kapi_names.specs.declared.policy_rule.PolicyRule.{PolicyRule}
-use Rattle.kapi_rbac_types.specs.declared.identity.Identity.{Identity}
-use Rattle.kapi_rbac_types.specs.Identities.{is_master}
+use Rattle.kapi_model.specs.declared.policy_rule.PolicyRule.{PolicyRule}
+use Rattle.kapi_model.specs.declared.identity.Identity.{Identity}
+use Rattle.kapi_model.specs.Identities.{is_master}
 use Rattle.kapi_rules.specs.Atoms.{after_slash, atom_allows}
 use Rattle.kapi_rules.specs.Missing.{missing}
 use Rattle.kapi_rules.specs.Points.{HasPlainResource}
@@ -14,9 +14,12 @@ use Rattle.kapi_policy.specs.All.{all_bindings}
 use Rattle.kapi_policy.specs.Decided.{Binding, held}
 use Rattle.kapi_policy.specs.Objects.{PolicyObjects}
 use Rattle.kapi_aggregation.specs.Members.{Has}
-use Rattle.kapi_gains.specs.Access.{may}
+use Rattle.kapi_gains.specs.Access.{GivesNothing, may}
 use Rattle.kapi_access.specs.declared.grantee.Grantee.{Grantee}
+use Rattle.kapi_access.specs.declared.identities.Identities.{Identities}
+use Rattle.kapi_access.specs.declared.identities.Identities.TheVariants as identities
 use Rattle.kapi_access.specs.Grantees.{alone, grantees, matches, role_of, stranger}
+use Rattle.kapi_access.specs.Usual.{IsMeant, IsUsual}
 
 -- a user or group that gains an atom, with the binding and the index of its role's rule that give it
 pub record Gained : Type 0 where
@@ -55,16 +58,16 @@ gained_as before own to b rules =
     if is_master own then [] else lines_of (held before own b.namespace) to b rules
 
 -- what the grantee gains by the binding
-abbrev pub gained_by : PolicyObjects → PolicyObjects → Binding → Grantee → List Gained
-gained_by before after b to = gained_as before (alone (stranger before) to) to b (role_of after b)
+abbrev pub gained_by : Identities → PolicyObjects → PolicyObjects → Binding → Grantee → List Gained
+gained_by who before after b to = gained_as before (alone who (stranger before) to) to b (role_of after b)
 
 -- what the grantees of a binding gain by it
-unfoldable pub gained_from : PolicyObjects → PolicyObjects → Binding → List Gained
-gained_from before after b = flat_map (gained_by before after b) (grantees b)
+unfoldable pub gained_from : Identities → PolicyObjects → PolicyObjects → Binding → List Gained
+gained_from who before after b = flat_map (gained_by who before after b) (grantees b)
 
--- what anybody gains by a binding of the policy after
-unfoldable pub gained : PolicyObjects → PolicyObjects → List Gained
-gained before after = flat_map (gained_from before after) (all_bindings after)
+-- what anybody of those identities gains by a binding of the policy after
+unfoldable pub gained : Identities → PolicyObjects → PolicyObjects → List Gained
+gained who before after = flat_map (gained_from who before after) (all_bindings after)
 
 -- a line of the report covers the request
 pub record IsReported (list : List Gained) (identity : Identity) (namespace : List ℕ) (p : Point) : Type 0 where
@@ -74,12 +77,20 @@ pub record IsReported (list : List Gained) (identity : Identity) (namespace : Li
   pub there : (line.binding.namespace ≡ []) ⊎ (line.binding.namespace ≡ namespace)
   pub allowed : atom_allows line.gain p ≡ true
 
--- somebody whom the line names may make a request that its atom allows, where its binding counts, and could not before
-pub record IsGained (before after : PolicyObjects) (line : Gained) : Type 0 where
+-- somebody of those identities whom the line names may make a request that its atom allows, where its binding counts, and could not before
+pub record IsGained (who : Identities) (before after : PolicyObjects) (line : Gained) : Type 0 where
   pub identity : Identity
+  pub among : IsMeant who identity
   pub request : Point
   pub plain : HasPlainResource request
   pub meant : matches line.to identity ≡ true
   pub by_atom : atom_allows line.gain request ≡ true
   pub now : may after identity line.binding.namespace request ≡ true
   pub not_before : may before identity line.binding.namespace request ≡ false
+
+-- what is allowed to anybody of those identities now was allowed before, at the same place
+abbrev pub GivesNothingTo : Identities → PolicyObjects → PolicyObjects → Type 0
+GivesNothingTo identities.Any before after = GivesNothing [] before after
+GivesNothingTo identities.Usual before after =
+    (identity : Identity) (namespace : List ℕ) (p : Point) → IsUsual identity → HasPlainResource p
+    → may after identity namespace p ≡ true → may before identity namespace p ≡ true

@@ -3,17 +3,20 @@ use Rattle.std.specs.Prelude.{ℕ, List, [], ◌∷◌, ◌++◌, length, Bool, 
 use Rattle.std.specs.List.{flat_map}
 use Rattle.std.specs.Option.{unwrap_or}
 use Rattle.std.specs.Str.{bytes_eq}
-use Rattle.kapi_names.specs.declared.policy_rule.PolicyRule.{PolicyRule}
-use Rattle.kapi_names.specs.declared.subject.Subject.{Subject}
-use Rattle.kapi_names.specs.declared.subject.Subject.TheVariants.{User, Group, ServiceAccount}
-use Rattle.kapi_rbac_types.specs.declared.identity.Identity.{Identity}
-use Rattle.kapi_rbac_types.specs.Identities.{is_in}
-use Rattle.kapi_rbac_types.specs.Subjects.{colon, namespace_of}
+use Rattle.kapi_model.specs.declared.policy_rule.PolicyRule.{PolicyRule}
+use Rattle.kapi_model.specs.declared.subject.Subject.{Subject}
+use Rattle.kapi_model.specs.declared.subject.Subject.TheVariants.{User, Group, ServiceAccount}
+use Rattle.kapi_model.specs.declared.identity.Identity.{Identity}
+use Rattle.kapi_model.specs.Identities.{is_in}
+use Rattle.kapi_model.specs.Subjects.{colon, namespace_of}
 use Rattle.kapi_policy.specs.All.{all_bindings}
 use Rattle.kapi_policy.specs.Decided.{Binding, rules_of}
 use Rattle.kapi_policy.specs.Objects.{PolicyObjects}
 use Rattle.kapi_access.specs.declared.grantee.Grantee.{Grantee}
 use Rattle.kapi_access.specs.declared.grantee.Grantee.TheVariants as grantee
+use Rattle.kapi_access.specs.declared.identities.Identities.{Identities}
+use Rattle.kapi_access.specs.declared.identities.Identities.TheVariants as identities
+use Rattle.kapi_access.specs.Usual.{authenticated, anonymous, unauthenticated, usual_groups}
 
 -- the user of a service account, `system:serviceaccount:NAMESPACE:NAME`; in no namespace there is none
 abbrev pub account : List ℕ → List ℕ → List Grantee
@@ -49,11 +52,18 @@ user_in (ServiceAccount a) = []
 abbrev pub users_in : List Binding → List ℕ
 users_in bindings = flat_map (λ b. flat_map user_in b.subjects) bindings
 
--- a user whom no binding names: his name is longer than theirs
+-- a user whom no binding names: the name is longer than all of theirs
 abbrev pub stranger : PolicyObjects → List ℕ
 stranger objects = 120 ∷ users_in (all_bindings objects)
 
--- the identity that is that user and in no group, or is another user and in that group alone
-abbrev pub alone : List ℕ → Grantee → Identity
-alone other (grantee.User name) = record { user = name; groups = [] }
-alone other (grantee.Group name) = record { user = other; groups = name ∷ [] }
+-- another user in the group, and in the one of all users with credentials; the group of those without has the anonymous user alone
+abbrev pub usual_member : List ℕ → List ℕ → Identity
+usual_member other group =
+    if bytes_eq group unauthenticated then anonymous else record { user = other; groups = group ∷ authenticated ∷ [] }
+
+-- the identity that is that user, or another user in that group, and in no group more than such an identity must be in
+abbrev pub alone : Identities → List ℕ → Grantee → Identity
+alone identities.Any other (grantee.User name) = record { user = name; groups = [] }
+alone identities.Any other (grantee.Group name) = record { user = other; groups = name ∷ [] }
+alone identities.Usual other (grantee.User name) = record { user = name; groups = usual_groups name }
+alone identities.Usual other (grantee.Group name) = usual_member other name

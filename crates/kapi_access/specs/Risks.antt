@@ -1,12 +1,12 @@
 -- Who may gain more than a policy gives (Kubernetes, 'Role Based Access Control Good Practices', 'Privilege escalation risks').
 use Rattle.std.specs.Prelude.{◌==◌, ℕ, List, length, Bool, not, ◌&&◌, ◌||◌, codes}
 use Rattle.std.specs.List.{list_any}
-use Rattle.kapi_names.specs.Kinds.{rbac_group}
-use Rattle.kapi_names.specs.declared.policy_rule.PolicyRule.{PolicyRule}
-use Rattle.kapi_rules.specs.Entries.{word_matches, resource_matches}
+use Rattle.kapi_model.specs.Kinds.{rbac_group}
+use Rattle.kapi_model.specs.declared.policy_rule.PolicyRule.{PolicyRule}
+use Rattle.kapi_rules.specs.Entries.{word_matches}
 use Rattle.kapi_policy.specs.All.{all_bindings}
 use Rattle.kapi_policy.specs.Objects.{PolicyObjects}
-use Rattle.kapi_access.specs.Who.{Way, ways}
+use Rattle.kapi_access.specs.Who.{Way, first_ways, ways}
 
 -- some entry is `*` or the word
 abbrev pub has_word : List (List ℕ) → List ℕ → Bool
@@ -33,4 +33,4 @@ is_risky rule = lets_impersonate rule || (lets_on_roles (codes "escalate") rule 
 
 -- to whom such a rule is given anywhere, members of `system:masters` apart
 unfoldable pub risks : PolicyObjects → List Way
-risks objects = ways objects is_risky (all_bindings objects)
+risks objects = first_ways (ways objects is_risky (all_bindings objects))

@@ -1,15 +1,16 @@
 //! Who may do something.
-ghost use Rattle.std.specs.Prelude.{◌≡◌, ◌++◌, map, IfOk, OnOk};
-ghost use Rattle.std.specs.List.{flat_map, position};
+ghost use Rattle.std.specs.Prelude.{◌≡◌, map, IfOk, OnOk};
+ghost use Rattle.std.specs.List.{flat_map, fold, position};
 ghost use Rattle.kapi_rules.specs.Rules.{allows as rule_allows};
 ghost use Rattle.kapi_policy.specs.All.{all_bindings};
 ghost use Rattle.kapi_policy.specs.Views.{binding_of};
 ghost use Rattle.kapi_access.specs.Views.{way_of, ways_there};
-ghost use Rattle.kapi_access.specs.Who.{who_may};
+ghost use Rattle.kapi_access.specs.Who.{first_ways, who_may, with_way};
 
+use crate::first_ways::FirstWays;
 use crate::way::{Way, counts, push_ways, rules_by};
+use kapi_model::PolicyRule;
 use kapi_policy::{Binding, Policy};
-use kapi_rbac_types::PolicyRule;
 use kapi_rules::{Point, allows};
 use kapi_text::Memory;
 use std::alloc::Global;
@@ -24,19 +25,19 @@ fn first_allowing(rules: &[PolicyRule], point: &Point) -> Option<usize>
 #[tactic(auto, unfolding(crate::specs::Views::ways_there))]
 fn push_who<'a, P: Policy>(
     alloc: Global,
-    list: &mut Vec<Way<'a>>,
+    found: &mut FirstWays<'a>,
     policy: &P,
     binding: &Binding<'a>,
     namespace: &str,
     point: &Point,
 ) -> Result<(), Memory>
-    ensures { OnOk result (map way_of list.new.items ≡ map way_of list.old.items ++ ways_there (P.content policy.now) (λ rule. rule_allows rule point.now) namespace.now (binding_of binding.now)) }
+    ensures { OnOk result (found.new ≡ fold with_way found.old (ways_there (P.content policy.now) (λ rule. rule_allows rule point.now) namespace.now (binding_of binding.now))) }
 {
     if !counts(binding, namespace) {
         return Ok(());
     }
     let rule = first_allowing(rules_by(policy, binding), point);
-    push_ways(alloc, list, binding, rule)
+    push_ways(alloc, found, binding, rule)
 }
 
 fn ways<'a, P: Policy>(
@@ -46,17 +47,17 @@ fn ways<'a, P: Policy>(
     namespace: &str,
     point: &Point,
 ) -> Result<Vec<Way<'a>>, Memory>
-    ensures { IfOk result (λ v. map way_of v.items ≡ flat_map (λ b. ways_there (P.content policy.now) (λ rule. rule_allows rule point.now) namespace.now (binding_of b)) bindings.now) }
+    ensures { IfOk result (λ v. map way_of v.items ≡ first_ways (flat_map (λ b. ways_there (P.content policy.now) (λ rule. rule_allows rule point.now) namespace.now (binding_of b)) bindings.now)) }
 {
-    let mut list = Vec::new(alloc);
+    let mut found = FirstWays::new(alloc);
     for binding in bindings {
-        push_who(alloc, &mut list, policy, binding, namespace, point)?;
+        push_who(alloc, &mut found, policy, binding, namespace, point)?;
     }
-    Ok(list)
+    Ok(found.into_vec())
 }
 
-/// Who may make the request in the namespace, or cluster-wide where that is empty, given all bindings of the policy: a line for
-/// each user and group and each binding by which it may, with the first rule of its role that allows it. Members of
+/// Who may make the request in the namespace, or cluster-wide where that is empty, given all bindings of the policy: each user
+/// and group once, with the first binding by which it may, and the first rule of its role that allows it. Members of
 /// `system:masters`, who may do everything, are listed only where they are bound.
 pub fn who<'a, P: Policy>(
     alloc: Global,

@@ -1,20 +1,24 @@
 //! What one policy gives that another did not.
-ghost use Rattle.std.specs.Prelude.{◌≡◌, ◌∷◌, ◌++◌, map, string_bytes, IfOk, OnOk, Some};
+ghost use Rattle.std.specs.Prelude.{◌≡◌, ◌++◌, map, IfOk, OnOk, Some};
 ghost use Rattle.std.specs.List.{flat_map};
 ghost use Rattle.kapi_rules.specs.Atoms.{after_slash};
 ghost use Rattle.kapi_policy.specs.All.{all_bindings};
 ghost use Rattle.kapi_policy.specs.Views.{binding_of};
 ghost use Rattle.kapi_access.specs.Gained.{can_match as can_match_of, gained, gained_as, gained_from, is_nothing, lines_by, lines_of};
-ghost use Rattle.kapi_access.specs.Grantees.{alone as alone_of, grantees as grantees_of, stranger as stranger_of, user_in};
+ghost use Rattle.kapi_access.specs.Grantees.{alone as alone_of, grantees as grantees_of, stranger as stranger_of};
+ghost use Rattle.kapi_access.specs.Stood.{AreAmong, bindings_at};
 ghost use Rattle.kapi_access.specs.Views.{gain_of, line_for};
 
-use crate::grantee::{Grantee, alone, grantees};
+use crate::alone::{Alone, stranger};
+use crate::grantee::{Grantee, grantees};
+use crate::identities::Identities;
+use crate::stood::{first_gives_same, from_place};
 use crate::way::{again, rules_by};
 use kapi_missing::missing;
+use kapi_model::{Identity, PolicyRule};
 use kapi_policy::{Binding, Policy};
-use kapi_rbac_types::{Identity, PolicyRule, Subject};
 use kapi_rules::Atom;
-use kapi_text::{Memory, Text, TryCopy};
+use kapi_text::{Memory, TryCopy};
 use std::alloc::Global;
 
 /// A user or group that gains an atom, with the binding and the index of its role's rule that give it.
@@ -59,40 +63,6 @@ fn can_match(atom: &Atom) -> bool
         Atom::Resource(resource) => !ends_at_slash(resource.resource.as_str().as_bytes()),
         Atom::Url(_) => true,
     }
-}
-
-// ---- a user whom no binding names
-
-fn push_user(text: &mut String, subject: &Subject) -> Result<(), Memory>
-    ensures { OnOk result (string_bytes text.new ≡ string_bytes text.old ++ user_in subject.now) }
-{
-    match subject {
-        Subject::User(name) => {
-            text.push_str(name.as_str())?;
-            Ok(())
-        }
-        Subject::Group(_) => Ok(()),
-        Subject::ServiceAccount(_) => Ok(()),
-    }
-}
-
-fn push_users(text: &mut String, subjects: &[Subject]) -> Result<(), Memory>
-    ensures { OnOk result (string_bytes text.new ≡ string_bytes text.old ++ flat_map user_in subjects.now) }
-{
-    for subject in subjects {
-        push_user(text, subject)?;
-    }
-    Ok(())
-}
-
-fn longest(alloc: Global, bindings: &[Binding<'_>]) -> Result<Text, Memory>
-    ensures { IfOk result (λ t. t ≡ 120 ∷ flat_map (λ b. flat_map user_in (binding_of b).subjects) bindings.now) }
-{
-    let mut text = String::from_str(alloc, "x")?;
-    for binding in bindings {
-        push_users(&mut text, binding.subjects)?;
-    }
-    Ok(Text::new(text))
 }
 
 // ---- lines
@@ -189,14 +159,14 @@ fn push_gained_by<'a, P: Policy>(
     alloc: Global,
     list: &mut Vec<Gain<'a>>,
     before: &P,
-    other: &Text,
+    alone: &Alone,
     to: &Grantee,
     binding: &Binding<'a>,
     rules: &[PolicyRule],
 ) -> Result<(), Memory>
-    ensures { OnOk result (map gain_of list.new.items ≡ map gain_of list.old.items ++ gained_as (P.content before.now) (alone_of other.now to.now) to.now (binding_of binding.now) rules.now) }
+    ensures { OnOk result (map gain_of list.new.items ≡ map gain_of list.old.items ++ gained_as (P.content before.now) (alone_of alone.now.identities alone.now.other to.now) to.now (binding_of binding.now) rules.now) }
 {
-    let own = alone(alloc, other, to)?;
+    let own = alone.identity(alloc, to)?;
     push_gained_as(alloc, list, before, &own, to, binding, rules)
 }
 
@@ -204,15 +174,15 @@ fn push_grantees<'a, P: Policy>(
     alloc: Global,
     list: &mut Vec<Gain<'a>>,
     before: &P,
-    other: &Text,
+    alone: &Alone,
     grantees: &[Grantee],
     binding: &Binding<'a>,
     rules: &[PolicyRule],
 ) -> Result<(), Memory>
-    ensures { OnOk result (map gain_of list.new.items ≡ map gain_of list.old.items ++ flat_map (λ to. gained_as (P.content before.now) (alone_of other.now to) to (binding_of binding.now) rules.now) grantees.now) }
+    ensures { OnOk result (map gain_of list.new.items ≡ map gain_of list.old.items ++ flat_map (λ to. gained_as (P.content before.now) (alone_of alone.now.identities alone.now.other to) to (binding_of binding.now) rules.now) grantees.now) }
 {
     for to in grantees {
-        push_gained_by(alloc, list, before, other, to, binding, rules)?;
+        push_gained_by(alloc, list, before, alone, to, binding, rules)?;
     }
     Ok(())
 }
@@ -222,12 +192,12 @@ fn push_gained_from<'a, P: Policy, Q: Policy>(
     alloc: Global,
     list: &mut Vec<Gain<'a>>,
     before: &P,
-    other: &Text,
+    alone: &Alone,
     after: &Q,
     binding: &Binding<'a>,
 ) -> Result<(), Memory>
-    requires { other.now ≡ stranger_of (P.content before.now) }
-    ensures { OnOk result (map gain_of list.new.items ≡ map gain_of list.old.items ++ gained_from (P.content before.now) (Q.content after.now) (binding_of binding.now)) }
+    requires { alone.now.other ≡ stranger_of (P.content before.now) }
+    ensures { OnOk result (map gain_of list.new.items ≡ map gain_of list.old.items ++ gained_from alone.now.identities (P.content before.now) (Q.content after.now) (binding_of binding.now)) }
 {
     let grantees = grantees(alloc, binding)?;
     let rules = rules_by(after, binding);
@@ -235,43 +205,61 @@ fn push_gained_from<'a, P: Policy, Q: Policy>(
         alloc,
         list,
         before,
-        other,
+        alone,
         grantees.as_slice(),
         binding,
         rules,
     )
 }
 
+// By a binding that gave the same before nobody gains.
+fn push_unless_stood<'a, P: Policy, Q: Policy>(
+    alloc: Global,
+    list: &mut Vec<Gain<'a>>,
+    before: &P,
+    alone: &Alone,
+    stood: &[Binding<'_>],
+    after: &Q,
+    binding: &Binding<'a>,
+) -> Result<(), Memory>
+    requires stranger { alone.now.other ≡ stranger_of (P.content before.now) }
+    requires stood { AreAmong (bindings_at stood.now) (all_bindings (P.content before.now)) }
+    ensures { OnOk result (map gain_of list.new.items ≡ map gain_of list.old.items ++ gained_from alone.now.identities (P.content before.now) (Q.content after.now) (binding_of binding.now)) }
+{
+    if first_gives_same(before, stood, after, binding) {
+        return Ok(());
+    }
+    push_gained_from(alloc, list, before, alone, after, binding)
+}
+
+// Both lists are in their policies' order, so one walk over each finds what stood.
 fn gains<'a, P: Policy, Q: Policy>(
     alloc: Global,
     before: &P,
-    other: &Text,
+    alone: &Alone,
+    stood: &[Binding<'_>],
     after: &Q,
     bindings: &[Binding<'a>],
 ) -> Result<Vec<Gain<'a>>, Memory>
-    requires { other.now ≡ stranger_of (P.content before.now) }
-    ensures { IfOk result (λ v. map gain_of v.items ≡ flat_map (λ b. gained_from (P.content before.now) (Q.content after.now) (binding_of b)) bindings.now) }
+    requires stranger { alone.now.other ≡ stranger_of (P.content before.now) }
+    requires stood { bindings_at stood.now ≡ all_bindings (P.content before.now) }
+    ensures { IfOk result (λ v. map gain_of v.items ≡ flat_map (λ b. gained_from alone.now.identities (P.content before.now) (Q.content after.now) (binding_of b)) bindings.now) }
 {
     let mut list = Vec::new(alloc);
+    let mut rest = stood;
     for binding in bindings {
-        push_gained_from(alloc, &mut list, before, other, after, binding)?;
+        rest = from_place(rest, binding);
+        push_unless_stood(alloc, &mut list, before, alone, rest, after, binding)?;
     }
     Ok(list)
 }
 
-// A user whom no binding names, given all bindings of the policy.
-fn stranger<P: Policy>(alloc: Global, policy: &P, bindings: &[Binding<'_>]) -> Result<Text, Memory>
-    requires { map binding_of bindings.now ≡ all_bindings (P.content policy.now) }
-    ensures { IfOk result (λ t. t ≡ stranger_of (P.content policy.now)) }
-{
-    let text = longest(alloc, bindings)?;
-    Ok(text)
-}
-
-/// What the policy after gives that the policy before did not, given all bindings of both: a line for each user and group, each
-/// binding and each atom of its role's rules that it lacked.
+/// What the policy after gives those identities that the policy before did not, given all bindings of both: a line for each user
+/// and group, each binding and each atom of its role's rules that it lacked. What a binding gave before costs no more than to see
+/// that it did.
 pub fn compare<'a, P: Policy, Q: Policy>(
     alloc: Global,
+    identities: Identities,
     before: &P,
     stood: &[Binding<'_>],
     after: &Q,
@@ -279,9 +267,10 @@ pub fn compare<'a, P: Policy, Q: Policy>(
 ) -> Result<Vec<Gain<'a>>, Memory>
     requires before { map binding_of stood.now ≡ all_bindings (P.content before.now) }
     requires after { map binding_of bindings.now ≡ all_bindings (Q.content after.now) }
-    ensures { IfOk result (λ v. map gain_of v.items ≡ gained (P.content before.now) (Q.content after.now)) }
+    ensures { IfOk result (λ v. map gain_of v.items ≡ gained identities (P.content before.now) (Q.content after.now)) }
 {
     let other = stranger(alloc, before, stood)?;
-    let list = gains(alloc, before, &other, after, bindings)?;
+    let alone = Alone { identities, other };
+    let list = gains(alloc, before, &alone, stood, after, bindings)?;
     Ok(list)
 }

@@ -1,13 +1,13 @@
 //! Whom a binding gives its role.
 ghost use Rattle.std.specs.Prelude.{◌≡◌, ◌∷◌, ◌++◌, IfOk, OnOk};
 ghost use Rattle.std.specs.List.{flat_map};
-ghost use Rattle.kapi_rbac_types.specs.Subjects.{namespace_of as namespace_of_account};
+ghost use Rattle.kapi_model.specs.Subjects.{namespace_of as namespace_of_account};
 ghost use Rattle.kapi_policy.specs.Views.{binding_of};
-ghost use Rattle.kapi_access.specs.Grantees.{account as account_of, alone as alone_of, grantees as grantees_of, whom};
+ghost use Rattle.kapi_access.specs.Grantees.{account as account_of, grantees as grantees_of, whom};
 
+use kapi_model::{ServiceAccount, Subject};
 use kapi_policy::Binding;
-use kapi_rbac_types::{Identity, ServiceAccount, Subject};
-use kapi_text::{Memory, Sequence, Text, TryCopy};
+use kapi_text::{Memory, Text, TryCopy};
 use std::alloc::{AllocError, Global};
 
 /// A user or a group to whom a binding gives its role. A service account is the user that it is.
@@ -22,26 +22,6 @@ impl TryCopy for Grantee {
         match self {
             Grantee::User(name) => Ok(Grantee::User(name.copy(alloc)?)),
             Grantee::Group(name) => Ok(Grantee::Group(name.copy(alloc)?)),
-        }
-    }
-}
-
-/// The identity that is that user and in no group, or is another user and in that group alone.
-pub fn alone(alloc: Global, other: &Text, to: &Grantee) -> Result<Identity, Memory>
-    ensures { IfOk result (λ i. i ≡ alone_of other.now to.now) }
-{
-    match to {
-        Grantee::User(name) => Ok(Identity {
-            user: name.copy(alloc)?,
-            groups: Sequence::new(Vec::new(alloc)),
-        }),
-        Grantee::Group(name) => {
-            let mut groups = Vec::new(alloc);
-            groups.push(name.copy(alloc)?)?;
-            Ok(Identity {
-                user: other.copy(alloc)?,
-                groups: Sequence::new(groups),
-            })
         }
     }
 }

@@ -1,16 +1,17 @@
 //! Who may gain more than a policy gives.
-ghost use Rattle.std.specs.Prelude.{◌≡◌, ◌++◌, ◌||◌, codes, map, IfOk, OnOk};
-ghost use Rattle.std.specs.List.{flat_map, position};
+ghost use Rattle.std.specs.Prelude.{◌≡◌, ◌||◌, codes, map, IfOk, OnOk};
+ghost use Rattle.std.specs.List.{flat_map, fold, position};
 ghost use Rattle.kapi_rules.specs.Entries.{word_matches};
 ghost use Rattle.kapi_policy.specs.All.{all_bindings};
 ghost use Rattle.kapi_policy.specs.Views.{binding_of};
 ghost use Rattle.kapi_access.specs.Risks.{has_some as has_some_of, has_word as has_word_of, is_risky as is_risky_rule, lets_impersonate as lets_act, lets_on_roles as lets_role, risks as risks_of};
 ghost use Rattle.kapi_access.specs.Views.{way_of};
-ghost use Rattle.kapi_access.specs.Who.{ways_of};
+ghost use Rattle.kapi_access.specs.Who.{first_ways, ways_of, with_way};
 
+use crate::first_ways::FirstWays;
 use crate::way::{Way, push_ways, rules_by};
+use kapi_model::PolicyRule;
 use kapi_policy::{Binding, Policy};
-use kapi_rbac_types::PolicyRule;
 use kapi_text::{Memory, Text};
 use std::alloc::Global;
 
@@ -65,13 +66,18 @@ fn first_risky(rules: &[PolicyRule]) -> Option<usize>
 
 fn push_risks<'a, P: Policy>(
     alloc: Global,
-    list: &mut Vec<Way<'a>>,
+    found: &mut FirstWays<'a>,
     policy: &P,
     binding: &Binding<'a>,
 ) -> Result<(), Memory>
-    ensures { OnOk result (map way_of list.new.items ≡ map way_of list.old.items ++ ways_of (P.content policy.now) is_risky_rule (binding_of binding.now)) }
+    ensures { OnOk result (found.new ≡ fold with_way found.old (ways_of (P.content policy.now) is_risky_rule (binding_of binding.now))) }
 {
-    push_ways(alloc, list, binding, first_risky(rules_by(policy, binding)))
+    push_ways(
+        alloc,
+        found,
+        binding,
+        first_risky(rules_by(policy, binding)),
+    )
 }
 
 fn ways<'a, P: Policy>(
@@ -79,17 +85,17 @@ fn ways<'a, P: Policy>(
     policy: &P,
     bindings: &[Binding<'a>],
 ) -> Result<Vec<Way<'a>>, Memory>
-    ensures { IfOk result (λ v. map way_of v.items ≡ flat_map (λ b. ways_of (P.content policy.now) is_risky_rule (binding_of b)) bindings.now) }
+    ensures { IfOk result (λ v. map way_of v.items ≡ first_ways (flat_map (λ b. ways_of (P.content policy.now) is_risky_rule (binding_of b)) bindings.now)) }
 {
-    let mut list = Vec::new(alloc);
+    let mut found = FirstWays::new(alloc);
     for binding in bindings {
-        push_risks(alloc, &mut list, policy, binding)?;
+        push_risks(alloc, &mut found, policy, binding)?;
     }
-    Ok(list)
+    Ok(found.into_vec())
 }
 
-/// Who may write or bind roles whose rules he does not hold, or act as somebody else, anywhere, given all bindings of the policy: a
-/// line for each user and group and each binding by which it may, with the first such rule of its role.
+/// Who may write or bind roles whose rules one does not hold, or act as somebody else, anywhere, given all bindings of the policy:
+/// each user and group once, with the first binding by which it may, and the first such rule of its role.
 pub fn risks<'a, P: Policy>(
     alloc: Global,
     policy: &P,

@@ -1,15 +1,16 @@
 //! By what a user or group may do something.
-ghost use Rattle.std.specs.Prelude.{◌≡◌, ◌||◌, ◌++◌, map, OnOk};
-ghost use Rattle.std.specs.List.{position};
+ghost use Rattle.std.specs.Prelude.{◌≡◌, ◌||◌, map, OnOk};
+ghost use Rattle.std.specs.List.{fold};
 ghost use Rattle.std.specs.Option.{unwrap_or};
 ghost use Rattle.kapi_policy.specs.Views.{binding_of};
 ghost use Rattle.kapi_access.specs.Grantees.{role_of};
-ghost use Rattle.kapi_access.specs.Views.{counts as counts_there, way_of};
-ghost use Rattle.kapi_access.specs.Who.{ways_by};
+ghost use Rattle.kapi_access.specs.Views.{counts as counts_there};
+ghost use Rattle.kapi_access.specs.Who.{ways_by, with_way};
 
+use crate::first_ways::FirstWays;
 use crate::grantee::{Grantee, grantees};
+use kapi_model::PolicyRule;
 use kapi_policy::{Binding, Policy};
-use kapi_rbac_types::PolicyRule;
 use kapi_text::{Memory, TryCopy};
 use std::alloc::Global;
 
@@ -54,36 +55,40 @@ pub fn counts(binding: &Binding<'_>, namespace: &str) -> bool
 
 fn push_each<'a>(
     alloc: Global,
-    list: &mut Vec<Way<'a>>,
+    found: &mut FirstWays<'a>,
     binding: &Binding<'a>,
     rule: usize,
     to: &[Grantee],
 ) -> Result<(), Memory>
-    ensures { OnOk result (map way_of list.new.items ≡ map way_of list.old.items ++ map (λ g. record { to = g; binding = binding_of binding.now; rule = rule }) to.now) }
+    ensures { OnOk result (found.new ≡ fold with_way found.old (map (λ g. record { to = g; binding = binding_of binding.now; rule = rule }) to.now)) }
 {
     for grantee in to {
-        list.push(Way {
-            to: grantee.copy(alloc)?,
-            binding: again(binding),
-            rule,
-        })?;
+        let to = grantee.copy(alloc)?;
+        found.add(
+            alloc,
+            Way {
+                to,
+                binding: again(binding),
+                rule,
+            },
+        )?;
     }
     Ok(())
 }
 
-/// Puts the grantees of the binding by that rule, if there is one, at the end of the list.
+/// Puts the grantees of the binding by that rule, if there is one, at the end of what was found.
 pub fn push_ways<'a>(
     alloc: Global,
-    list: &mut Vec<Way<'a>>,
+    found: &mut FirstWays<'a>,
     binding: &Binding<'a>,
     rule: Option<usize>,
 ) -> Result<(), Memory>
-    ensures { OnOk result (map way_of list.new.items ≡ map way_of list.old.items ++ ways_by (binding_of binding.now) rule) }
+    ensures { OnOk result (found.new ≡ fold with_way found.old (ways_by (binding_of binding.now) rule)) }
 {
     match rule {
         Some(rule) => push_each(
             alloc,
-            list,
+            found,
             binding,
             rule,
             grantees(alloc, binding)?.as_slice(),

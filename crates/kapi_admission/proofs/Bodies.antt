@@ -5,7 +5,7 @@ use Rattle.std.proofs.lemmas.Str.{IsUtf8-from_is_utf8, is_utf8-from_IsUtf8}
 use Rattle.serde_json.specs.Data.{Data, null, boolean, number, string, array, object}
 use Rattle.serde_json.specs.Find.{as_object}
 use Rattle.serde_json.specs.Read.{read}
-use Rattle.kapi_object.specs.Tree.{json_object}
+use Rattle.kapi_tree.specs.Tree.{json_object}
 use Rattle.std.specs.Option.{option_map, option_and_then}
 
 object_only : (d : Data) → is_some (as_object d) ≡ true → option_map object (as_object d) ≡ Some d

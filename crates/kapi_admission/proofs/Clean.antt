@@ -1,16 +1,16 @@
--- What was admitted has no fault: the tree that a row keeps of a body without faults has none.
+-- What was admitted has no fault: the tree that a resource type keeps of a body without faults has no faults.
 use Rattle.std.proofs.Common.{◌≡◌, ◌∙◌, ℕ, List, [], ◌∷◌, ◌++◌, true, false, Option, Some, None, refl, sym, ap, codes, bytes_eq, length, ◌==◌, true≢false}
 use Rattle.std.proofs.Math.Dec.{eqb-suc-zero}
 use Rattle.std.specs.Option.{option_and_then}
 use Rattle.serde_json.proofs.Views.{get_member-put}
 use Rattle.serde_json.specs.Data.{Data, null, boolean, number, string, array, object, Members, no_members, member, put}
 use Rattle.serde_json.specs.Find.{get, get_member}
-use Rattle.kapi_names.specs.declared.row.ResourceRow.{ResourceRow}
-use Rattle.kapi_names.specs.declared.row.Schema.{Schema}
-use Rattle.kapi_names.specs.declared.row.Schema.TheVariants.{Open, Role, ClusterRole, RoleBinding, ClusterRoleBinding}
-use Rattle.kapi_object.proofs.Puts.{put_other}
-use Rattle.kapi_object.specs.Contents.{content_of}
-use Rattle.kapi_object.specs.Tree.{member_of, members_or_none, metadata_member, unless_null}
+use Rattle.kapi_model.specs.declared.row.ResourceRow.{ResourceRow}
+use Rattle.kapi_model.specs.declared.row.Schema.{Schema}
+use Rattle.kapi_model.specs.declared.row.Schema.TheVariants.{Open, Role, ClusterRole, RoleBinding, ClusterRoleBinding}
+use Rattle.kapi_tree.proofs.Puts.{put_other}
+use Rattle.kapi_tree.specs.Contents.{content_of}
+use Rattle.kapi_tree.specs.Tree.{member_of, members_or_none, metadata_member, unless_null}
 use Rattle.kapi_admission.proofs.CleanKinds.{Has, kept_of, is_object, found, role_found, cluster_role_found, binding_found}
 use Rattle.kapi_admission.proofs.CleanLists.{parts, both}
 use Rattle.kapi_admission.proofs.CleanTables.{level_clean, table_clean, Found}

@@ -1,13 +1,13 @@
--- What is kept by a table of a tree without faults has none.
+-- What a table keeps of a tree without faults has no faults.
 use Rattle.std.proofs.Common.{◌≡◌, ◌∙◌, ℕ, zero, suc, List, [], ◌∷◌, Bool, true, false, not, ◌&&◌, Option, Some, None, refl, sym, ap, is_some, bytes_eq, true≢false}
 use Rattle.std.proofs.lemmas.Slice.Eq.{bytes_eq-Decides}
 use Rattle.std.specs.Cmp.{first_so, second_so}
 use Rattle.std.specs.Option.{option_and_then}
 use Rattle.serde_json.specs.Data.{Data, null, boolean, number, string, array, object, Items, Members, no_members}
 use Rattle.serde_json.specs.Find.{as_object, get_member}
-use Rattle.kapi_object.proofs.Puts.{put_if_other, put_if_here, text_there, list_there, members_there}
-use Rattle.kapi_object.specs.Contents.{text_if, text_of, items_if, labels_in, put_labels, read_items, write_items}
-use Rattle.kapi_object.specs.Tree.{member_of, members_or_none, put_if, unless_null}
+use Rattle.kapi_tree.proofs.Puts.{put_if_other, put_if_here, text_there, list_there, members_there}
+use Rattle.kapi_tree.specs.Contents.{text_if, text_of, items_if, labels_in, put_labels, read_items, write_items}
+use Rattle.kapi_tree.specs.Tree.{member_of, members_or_none, put_if, unless_null}
 use Rattle.kapi_admission.proofs.CleanTables.{Found, level_clean, table_clean}
 use Rattle.kapi_admission.specs.Shapes.{Keeps, chosen, filled, part_value, row_value, rows_kept, table_faults, table_kept}
 use Rattle.kapi_admission.specs.Tables.{rows_of, word_text}
@@ -43,7 +43,7 @@ turned q k h =
       | false ↦ λ i. refl
     ] refl
 
--- nothing stands at the keys of the rows
+-- the keys of the rows have no values
 abbrev AreFree : List Row → Members → Type 0
 AreFree [] ms = Unit {0}
 AreFree (r ∷ rs) ms = (get_member (word_text r.0) ms ≡ None) × AreFree rs ms

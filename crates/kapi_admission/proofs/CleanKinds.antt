@@ -5,19 +5,19 @@ use Rattle.std.proofs.lemmas.Slice.Eq.{bytes_eq-Decides}
 use Rattle.std.specs.Option.{option_and_then, option_map, unwrap_or}
 use Rattle.serde_json.specs.Data.{Data, null, boolean, number, string, array, object, Items, no_items, item, Members, no_members, put}
 use Rattle.serde_json.specs.Find.{as_object, get_member}
-use Rattle.kapi_names.specs.Cause.{fault}
-use Rattle.kapi_names.specs.Kinds.{operator_of, operator_text, rbac_group, role_kind, role_kind_text, subject_kind, subject_kind_text}
-use Rattle.kapi_names.specs.declared.fault.Cause.TheVariants.{Required, BadValue}
-use Rattle.kapi_names.specs.declared.fault.FieldFault.{FieldFault}
-use Rattle.kapi_names.specs.declared.kinds.RoleKind.TheVariants as role_kinds
-use Rattle.kapi_names.specs.declared.kinds.SubjectKind.{SubjectKind}
-use Rattle.kapi_names.specs.declared.kinds.SubjectKind.TheVariants.{User, Group, ServiceAccount}
-use Rattle.kapi_names.specs.declared.row.Schema.TheVariants as schema
-use Rattle.kapi_names.specs.declared.selector.Operator.TheVariants.{In, NotIn, Exists, DoesNotExist}
-use Rattle.kapi_object.proofs.Fields.{verbs_at, groups_at, resources_at, names_at, urls_at, key_at, operator_here, values_at, labels_at, expressions_at, account_kind_at, account_name_at, account_group_at, account_namespace_at}
-use Rattle.kapi_object.proofs.Puts.{put_if_other, put_if_here, list_there, written_at_once}
-use Rattle.kapi_object.specs.Contents.{text_if, text_at, text_of, text_value, items_if, items_at, list_value, read_items, write_items, rule_of, rule_tree, rules_of, requirement_of, requirement_tree, selector_of, selector_tree, aggregation_of, aggregation_tree, aggregation_in, subject_from, subject_of, subject_tree, subject_kind_at, subjects_of, role_kind_at, role_ref_if, role_ref_of, role_ref_tree, role_content, cluster_role_content, binding_content, content_of}
-use Rattle.kapi_object.specs.Tree.{is_empty, member_of, unless_null}
+use Rattle.kapi_model.specs.FaultKind.{fault}
+use Rattle.kapi_model.specs.Kinds.{operator_of, operator_text, rbac_group, role_kind, role_kind_text, subject_kind, subject_kind_text}
+use Rattle.kapi_model.specs.declared.fault.FaultKind.TheVariants.{Required, BadValue}
+use Rattle.kapi_model.specs.declared.fault.FieldFault.{FieldFault}
+use Rattle.kapi_model.specs.declared.kinds.RoleKind.TheVariants as role_kinds
+use Rattle.kapi_model.specs.declared.kinds.SubjectKind.{SubjectKind}
+use Rattle.kapi_model.specs.declared.kinds.SubjectKind.TheVariants.{User, Group, ServiceAccount}
+use Rattle.kapi_model.specs.declared.row.Schema.TheVariants as schema
+use Rattle.kapi_model.specs.declared.selector.Operator.TheVariants.{In, NotIn, Exists, DoesNotExist}
+use Rattle.kapi_tree.proofs.Fields.{verbs_at, groups_at, resources_at, names_at, urls_at, key_at, operator_here, values_at, labels_at, expressions_at, account_kind_at, account_name_at, account_group_at, account_namespace_at}
+use Rattle.kapi_tree.proofs.Puts.{put_if_other, put_if_here, list_there, written_at_once}
+use Rattle.kapi_tree.specs.Contents.{text_if, text_at, text_of, text_value, items_if, items_at, list_value, read_items, write_items, rule_of, rule_tree, rules_of, requirement_of, requirement_tree, selector_of, selector_tree, aggregation_of, aggregation_tree, aggregation_in, subject_from, subject_of, subject_tree, subject_kind_at, subjects_of, role_kind_at, role_ref_if, role_ref_of, role_ref_tree, role_content, cluster_role_content, binding_content, content_of}
+use Rattle.kapi_tree.specs.Tree.{is_empty, member_of, unless_null}
 use Rattle.kapi_admission.proofs.CleanLists.{parts, list_parts}
 use Rattle.kapi_admission.proofs.CleanTables.{Found, text_written}
 use Rattle.kapi_admission.specs.Shapes.{Says, Keeps, passes, chosen, element_faults, part_faults, row_faults, rows_faults, filled, part_value}
@@ -75,7 +75,7 @@ right_if true b f g h = absurd (cc h)
 right_if false true f g h = refl
 right_if false false f g h = absurd (cc h)
 
--- it stands there
+-- a required text is there
 there : (r : TextRule) (p : List ℕ) (o : Option Data) → is_required r ≡ true → text_faults r p o ≡ [] → Some (string (text_if o)) ≡ text_value (text_if o)
 unfolding text_faults
 there r p None e h = absurd (not_absent (is_required r) (fault p Required) e h)
@@ -83,14 +83,14 @@ there r p (Some (string [])) e h = absurd (not_empty (is_required r) (is_right r
 there r p (Some (string (x ∷ s))) e h = sym (text_written x s)
 there r p (Some _) e h = absurd (cc h)
 
--- and is right
+-- a required text that is there obeys its rule
 right : (r : TextRule) (p : List ℕ) (o : Option Data) → is_required r ≡ true → text_faults r p o ≡ [] → is_right r (text_if o) ≡ true
 unfolding text_faults
 right r p None e h = absurd (not_absent (is_required r) (fault p Required) e h)
 right r p (Some (string s)) e h = right_if (is_required r && (length s == 0)) (is_right r s) (fault p Required) (fault p BadValue) h
 right r p (Some _) e h = absurd (cc h)
 
--- ---- kinds that are told are written as they were told
+-- ---- kinds are written as they were read
 
 one : {X : Type 0} (text : X → List ℕ) (x e : X) (rest : Option X) (s : List ℕ) → (is_some rest ≡ true → text (unwrap_or rest e) ≡ s)
     → is_some (if bytes_eq s (text x) then Some x else rest) ≡ true → text (unwrap_or (if bytes_eq s (text x) then Some x else rest) e) ≡ s

@@ -7,9 +7,9 @@ use Rattle.std.specs.Ordering.{nat_cmp, match_ordering, is_eq}
 use Rattle.std.specs.declared.cmp.Ordering.{Ordering}
 use Rattle.std.specs.declared.cmp.Ordering.TheVariants.{Less, Equal, Greater}
 use Rattle.serde_json.specs.Data.{Data, null, boolean, number, string, array, object, Members, no_members, member, put}
-use Rattle.kapi_names.specs.declared.selector.Label.{Label}
-use Rattle.kapi_object.specs.Contents.{text_of, labels_in, put_labels, members_value}
-use Rattle.kapi_object.specs.Tree.{members_or_none}
+use Rattle.kapi_model.specs.declared.selector.Label.{Label}
+use Rattle.kapi_tree.specs.Contents.{text_of, labels_in, put_labels, members_value}
+use Rattle.kapi_tree.specs.Tree.{members_or_none}
 use Rattle.kapi_admission.proofs.CleanLists.{parts, both}
 use Rattle.kapi_admission.specs.Faults.{entry_faults, members_faults, entries_faults}
 use Rattle.kapi_admission.specs.declared.metadata.Entries.TheVariants.{Labels}

@@ -1,10 +1,10 @@
 -- Lists and texts without faults have none as they are kept.
 use Rattle.std.proofs.Common.{◌≡◌, ℕ, ◌+◌, List, [], ◌∷◌, ◌++◌, false, Option, Some, None, refl, ap}
 use Rattle.serde_json.specs.Data.{Data, null, boolean, number, string, array, object, Items, no_items, item}
-use Rattle.kapi_object.specs.Contents.{items_if, list_value, read_items, write_items, text_of}
+use Rattle.kapi_tree.specs.Contents.{items_if, list_value, read_items, write_items, text_of}
 use Rattle.kapi_admission.specs.Typed.{need_faults, is_given, items_faults, list_faults, text_faults, text_item_faults, item_path}
-use Rattle.kapi_object.specs.Tree.{is_empty}
-use Rattle.kapi_names.specs.declared.fault.FieldFault.{FieldFault}
+use Rattle.kapi_tree.specs.Tree.{is_empty}
+use Rattle.kapi_model.specs.declared.fault.FieldFault.{FieldFault}
 use Rattle.kapi_admission.specs.declared.text_rule.TextRule.{TextRule}
 use Rattle.kapi_admission.specs.declared.typed_list.Need.{Need as ListNeed}
 

@@ -1,16 +1,16 @@
--- An object that has, by its table, what is kept of another has no fault where that has none.
+-- An object that has, by its table, what is kept of another has no fault where the other has none.
 use Rattle.std.proofs.Common.{◌≡◌, ◌∙◌, ℕ, suc, zero, List, [], ◌∷◌, ◌++◌, Bool, true, false, not, ◌&&◌, ◌||◌, Option, Some, None, refl, sym, ap, subst, is_some, if◌then◌else◌, length, ◌==◌, bytes_eq}
 use Rattle.std.proofs.Math.Dec.{eqb-suc-zero}
 use Rattle.std.proofs.lemmas.Slice.Eq.{bytes_eq-Decides}
 use Rattle.std.specs.Cmp.{first_so, second_so}
 use Rattle.serde_json.specs.Data.{Data, null, boolean, number, string, array, object, Items}
 use Rattle.serde_json.specs.Find.{as_object}
-use Rattle.kapi_names.specs.Cause.{fault}
-use Rattle.kapi_names.specs.declared.fault.Cause.TheVariants.{Required, BadValue}
-use Rattle.kapi_names.specs.declared.fault.FieldFault.{FieldFault}
-use Rattle.kapi_object.proofs.Puts.{text_round}
-use Rattle.kapi_object.specs.Contents.{text_value, text_if, text_at, text_of, items_if, read_items, write_items}
-use Rattle.kapi_object.specs.Tree.{is_empty, member_of}
+use Rattle.kapi_model.specs.FaultKind.{fault}
+use Rattle.kapi_model.specs.declared.fault.FaultKind.TheVariants.{Required, BadValue}
+use Rattle.kapi_model.specs.declared.fault.FieldFault.{FieldFault}
+use Rattle.kapi_tree.proofs.Puts.{text_round}
+use Rattle.kapi_tree.specs.Contents.{text_value, text_if, text_at, text_of, items_if, read_items, write_items}
+use Rattle.kapi_tree.specs.Tree.{is_empty, member_of}
 use Rattle.kapi_admission.proofs.CleanLabels.{labels_part}
 use Rattle.kapi_admission.proofs.CleanLists.{parts, both, listed_clean, array_clean, kept_clean, given_same, text_clean}
 use Rattle.kapi_admission.specs.Shapes.{Says, Keeps, passes, chosen, element_faults, part_faults, row_faults, rows_faults, table_faults, filled, written_value, part_value, row_value}
@@ -92,7 +92,7 @@ when_key (when.Filled key) = key
 when_key (when.Says key one other) = key
 when_key (when.Keeps key rule) = key
 
--- what is kept of the part tells the same
+-- a condition holds alike of what is kept of the part
 abbrev fits : When → Part → Bool
 fits (when.Given key) (part.Texts n r) = true
 fits (when.Given key) (part.Object n t) = true
@@ -109,13 +109,13 @@ abbrev is_told : When → List Row → Bool
 is_told w [] = false
 is_told w (r ∷ rs) = (bytes_eq (word_text r.0) (word_text (when_key w)) && fits_row w r.1) || is_told w rs
 
--- so for each condition of a choice
+-- each condition of a choice has a row of its key that fits
 abbrev tells : Choice → List Row → Bool
 tells (One q) rows = true
 tells (Two w q r) rows = is_told w rows
 tells (Three w q v r s) rows = is_told w rows && is_told v rows
 
--- and of each row
+-- each row's choice has rows of its keys that fit
 abbrev are_told : List Row → List Row → Bool
 are_told [] rows = true
 are_told (r ∷ rs) rows = tells r.1 rows && are_told rs rows

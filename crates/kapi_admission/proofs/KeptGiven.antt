@@ -1,14 +1,14 @@
--- What the kept tree gives is what the body gives.
+-- The kept tree specifies what the body specifies.
 use Rattle.std.proofs.Common.{◌≡◌, ◌∙◌, ℕ, List, Bool, true, false, if◌then◌else◌, Option, Some, None, refl, ap, codes, bytes_eq}
 use Rattle.std.specs.Option.{option_and_then}
 use Rattle.serde_json.proofs.Views.{get_member-put}
 use Rattle.serde_json.specs.Data.{Data, object, Members, no_members, put}
 use Rattle.serde_json.specs.Find.{get, get_member}
-use Rattle.kapi_names.specs.declared.row.ResourceRow.{ResourceRow}
-use Rattle.kapi_object.proofs.Puts.{put_other, put_if_other, put_if_here, there_once}
-use Rattle.kapi_object.specs.Given.{text_given, given_of, given_on}
-use Rattle.kapi_object.specs.Tree.{is_empty_object, members_or_none, in_metadata, metadata_member, put_if, unless_null}
-use Rattle.kapi_object.specs.declared.given.GivenText.TheVariants.{Absent}
+use Rattle.kapi_model.specs.declared.row.ResourceRow.{ResourceRow}
+use Rattle.kapi_tree.proofs.Puts.{put_other, put_if_other, put_if_here, there_once}
+use Rattle.kapi_tree.specs.Given.{text_given, given_of, given_on}
+use Rattle.kapi_tree.specs.Tree.{is_empty_object, members_or_none, in_metadata, metadata_member, put_if, unless_null}
+use Rattle.kapi_tree.specs.declared.given.GivenText.TheVariants.{Absent}
 use Rattle.kapi_admission.specs.Admission.{put_entries, kept_entries, kept_names, kept_place, kept_metadata, filled, kept_tree}
 
 put_unless_other : (b : Bool) (q k : List ℕ) (d : Data) (ms : Members) → bytes_eq q k ≡ false → get_member q (if b then ms else put k d ms) ≡ get_member q ms
@@ -63,11 +63,11 @@ in_kept : (q : List ℕ) (row : ResourceRow) (tree : Data) → in_metadata q (ke
 unfolding kept_tree
 in_kept q row tree = ap (option_and_then (get q)) (get_member-put (codes "metadata") (object (kept_metadata row tree)) (members_or_none (Some (filled row tree))))
 
--- a member of the kept metadata, from what stands there
+-- a member of the kept metadata, from the members of the metadata
 pub metadata_kept : (q : List ℕ) (row : ResourceRow) (tree : Data) (o : Option Data) → get_member q (kept_metadata row tree) ≡ o → metadata_member q (kept_tree row tree) ≡ option_and_then unless_null o
 metadata_kept q row tree o e = ap (option_and_then unless_null) (in_kept q row tree ∙ e)
 
--- labels and annotations, as they stand in the kept metadata
+-- labels and annotations, as they are in the kept metadata
 pub kept_in_entries : (q : List ℕ) (row : ResourceRow) (tree : Data) → bytes_eq q (codes "resourceVersion") ≡ false → bytes_eq q (codes "namespace") ≡ false → bytes_eq q (codes "name") ≡ false
     → get_member q (kept_metadata row tree) ≡ get_member q (kept_entries tree)
 kept_in_entries q row tree hv hp hn =

@@ -1,10 +1,10 @@
--- What holds of texts, and of all lists and objects that are made of what it holds of, holds of what a row keeps of a body.
+-- What holds of texts, and of lists and objects of such parts, holds of what a resource type keeps of a body.
 use Rattle.std.proofs.Common.{ℕ, List, Bool, true, false, if◌then◌else◌, Option, Some, None, codes}
 use Rattle.serde_json.specs.Data.{Data, string, object, Items, Members, no_members, put}
-use Rattle.kapi_names.specs.declared.row.ResourceRow.{ResourceRow}
-use Rattle.kapi_object.proofs.Closed.{Closed, IfThere, in_metadata_holds, present_holds, put_if_holds, content_holds}
-use Rattle.kapi_object.specs.Contents.{content_of}
-use Rattle.kapi_object.specs.Tree.{is_empty_object, members_or_none, in_metadata, metadata_member, put_if}
+use Rattle.kapi_model.specs.declared.row.ResourceRow.{ResourceRow}
+use Rattle.kapi_tree.proofs.Closed.{Closed, IfThere, in_metadata_holds, present_holds, put_if_holds, content_holds}
+use Rattle.kapi_tree.specs.Contents.{content_of}
+use Rattle.kapi_tree.specs.Tree.{is_empty_object, members_or_none, in_metadata, metadata_member, put_if}
 use Rattle.kapi_admission.specs.Admission.{put_entries, kept_entries, kept_names, kept_place, kept_metadata, filled, kept_tree, version_of}
 
 module _ {P : Data → Type 0} {I : Items → Type 0} {M : Members → Type 0} (c : Closed P I M) where

@@ -3,10 +3,10 @@ use Rattle.std.specs.Prelude.{⊤}
 use Rattle.std.specs.Fmt.{digits}
 use Rattle.std.specs.Str.{is_utf8}
 use Rattle.serde_json.proofs.OnLiterals.{serde_json_on_literals}
-use Rattle.kapi_names.specs.Names.{is_dns_part, is_dns_label, is_dns_subdomain, is_path_segment, is_label_name, is_label_key, is_label_value, is_name_on}
-use Rattle.kapi_object.specs.Contents.{rule_tree, requirement_tree, selector_tree, aggregation_tree, subject_tree, role_ref_tree, content_of}
-use Rattle.kapi_object.specs.Given.{given_on}
-use Rattle.kapi_object.specs.Tree.{json_object, with_content}
+use Rattle.kapi_model.specs.Names.{is_dns_part, is_dns_label, is_dns_subdomain, is_path_segment, is_label_name, is_label_key, is_label_value, is_name_on}
+use Rattle.kapi_tree.specs.Contents.{rule_tree, requirement_tree, selector_tree, aggregation_tree, subject_tree, role_ref_tree, content_of}
+use Rattle.kapi_tree.specs.Given.{given_on}
+use Rattle.kapi_tree.specs.Tree.{json_object, with_content}
 use Rattle.kapi_admission.specs.Admission.{kept_metadata, kept_tree, faults_on, admitted, read_as}
 use Rattle.kapi_admission.specs.Faults.{entry_faults, members_faults, entries_faults, faults_of}
 use Rattle.kapi_admission.specs.Shapes.{part_faults, rows_faults, rows_kept}

@@ -3,11 +3,11 @@ use Rattle.std.specs.Prelude.{ℕ, List, [], ◌∷◌, ◌++◌, Bool, ◌&&◌
 use Rattle.serde_json.specs.Data.{Data, string, object, Members, no_members, member}
 use Rattle.kapi_admission.specs.declared.metadata.Entries.{Entries}
 use Rattle.kapi_admission.specs.declared.metadata.Entries.TheVariants.{Labels, Annotations}
-use Rattle.kapi_names.specs.declared.fault.Cause.TheVariants.{WrongType, BadValue}
-use Rattle.kapi_names.specs.declared.fault.FieldFault.{FieldFault}
-use Rattle.kapi_names.specs.Names.{is_label_key, is_label_value}
-use Rattle.kapi_names.specs.Cause.{fault}
-use Rattle.kapi_object.specs.Tree.{member_of, metadata_member}
+use Rattle.kapi_model.specs.declared.fault.FaultKind.TheVariants.{WrongType, BadValue}
+use Rattle.kapi_model.specs.declared.fault.FieldFault.{FieldFault}
+use Rattle.kapi_model.specs.Names.{is_label_key, is_label_value}
+use Rattle.kapi_model.specs.FaultKind.{fault}
+use Rattle.kapi_tree.specs.Tree.{member_of, metadata_member}
 
 -- metadata is an object, if there is one
 abbrev pub metadata_faults : Option Data → List FieldFault
@@ -15,22 +15,23 @@ metadata_faults None = []
 metadata_faults (Some (object ms)) = []
 metadata_faults (Some _) = fault (codes "metadata") WrongType ∷ []
 
--- where labels and annotations stand
+-- the key of labels and of annotations in metadata
 abbrev pub key_of : Entries → List ℕ
 key_of Labels = codes "labels"
 key_of Annotations = codes "annotations"
 
--- how their faults are told
+-- the field at which faults of labels and annotations are reported
 abbrev pub field_of : Entries → List ℕ
 field_of Labels = codes "metadata.labels"
 field_of Annotations = codes "metadata.annotations"
 
--- a label has a label's key and value; an annotation has a label's key and any text (Kubernetes, 'Labels and Selectors', 'Annotations')
+-- a label has a label's key and value; an annotation has a label's key and any text (Kubernetes, 'Labels and
+-- Selectors', 'Annotations')
 abbrev pub is_entry : Entries → List ℕ → List ℕ → Bool
 is_entry Labels key value = is_label_key key && is_label_value value
 is_entry Annotations key value = is_label_key key
 
--- what is wrong with one entry, told at the field
+-- what is wrong with one entry, reported at the field
 unfoldable pub entry_faults : Entries → List ℕ → List ℕ → Data → List FieldFault
 entry_faults sort field key (string value) = if is_entry sort key value then [] else fault field BadValue ∷ []
 entry_faults sort field key _ = fault field WrongType ∷ []

@@ -2,14 +2,14 @@
 use Rattle.std.specs.Prelude.{ℕ, zero, suc, List, [], ◌∷◌, ◌++◌, length, Bool, true, false, not, ◌||◌, ◌==◌, if◌then◌else◌, Option, Some, None, option_map, codes}
 use Rattle.std.specs.Str.{bytes_eq}
 use Rattle.serde_json.specs.Data.{Data, string, array, object, Items, Members, no_members}
-use Rattle.kapi_names.specs.declared.fault.FieldFault.{FieldFault}
-use Rattle.kapi_names.specs.declared.fault.Cause.TheVariants.{NotAllowedHere}
-use Rattle.kapi_names.specs.declared.row.Schema.{Schema}
-use Rattle.kapi_names.specs.declared.row.Schema.TheVariants as schema
-use Rattle.kapi_names.specs.Cause.{fault}
-use Rattle.kapi_names.specs.Kinds.{rbac_group}
-use Rattle.kapi_object.specs.Contents.{text_if, text_at, text_of, items_if, read_items, write_items, labels_in, put_labels, text_value, list_value, members_value}
-use Rattle.kapi_object.specs.Tree.{is_empty, is_empty_object, member_of, members_or_none, put_if}
+use Rattle.kapi_model.specs.declared.fault.FieldFault.{FieldFault}
+use Rattle.kapi_model.specs.declared.fault.FaultKind.TheVariants.{NotAllowedHere}
+use Rattle.kapi_model.specs.declared.row.Schema.{Schema}
+use Rattle.kapi_model.specs.declared.row.Schema.TheVariants as schema
+use Rattle.kapi_model.specs.FaultKind.{fault}
+use Rattle.kapi_model.specs.Kinds.{rbac_group}
+use Rattle.kapi_tree.specs.Contents.{text_if, text_at, text_of, items_if, read_items, write_items, labels_in, put_labels, text_value, list_value, members_value}
+use Rattle.kapi_tree.specs.Tree.{is_empty, is_empty_object, member_of, members_or_none, put_if}
 use Rattle.kapi_admission.specs.declared.metadata.Entries.TheVariants.{Labels}
 use Rattle.kapi_admission.specs.declared.table.Choice.{Choice}
 use Rattle.kapi_admission.specs.declared.table.Choice.TheVariants.{One, Two, Three}
@@ -36,7 +36,7 @@ passes (when.Filled key) d = not (length (text_at (word_text key) d) == 0)
 passes (when.Says key one other) d = bytes_eq (text_at (word_text key) d) (word_text one) || bytes_eq (text_at (word_text key) d) (word_text other)
 passes (when.Keeps key rule) d = is_right rule (text_at (word_text key) d)
 
--- the part that is chosen: that of the first condition that holds, else the last
+-- the part that is chosen: the part of the first condition that holds, else the last
 abbrev pub chosen : Choice → Data → Part
 chosen (One p) d = p
 chosen (Two w p q) d = if passes w d then p else q
@@ -44,21 +44,21 @@ chosen (Three w p v q r) d = if passes w d then p else (if passes v d then q els
 
 -- ---- what is wrong
 
--- what says of the objects of each table what is wrong with their members
+-- a function from tables to what is wrong with the members of an object
 abbrev pub Says : Type 0
 Says = Table → List ℕ → Data → List FieldFault
 
--- where nothing may stand
+-- what is wrong with a value where none may be
 abbrev pub forbidden_faults : List ℕ → Option Data → List FieldFault
 forbidden_faults path None = []
 forbidden_faults path (Some d) = fault path NotAllowedHere ∷ []
 
--- where an element may stand
+-- what is wrong with an element where one may be
 abbrev pub element_faults : (List ℕ → Data → List FieldFault) → Need → List ℕ → Option Data → List FieldFault
 element_faults f n path None = need_faults n true path
 element_faults f n path (Some d) = f path d
 
--- what is wrong with what stands at a key
+-- what is wrong with the value at a key
 unfoldable pub part_faults : Says → Part → List ℕ → Option Data → List FieldFault
 part_faults f part.Dropped path o = []
 part_faults f part.Forbidden path o = forbidden_faults path o
@@ -72,12 +72,12 @@ part_faults f (part.Objects n w t) path o = list_faults (object_faults (f t)) n 
 abbrev pub row_faults : Says → Row → List ℕ → Data → List FieldFault
 row_faults f r path d = part_faults f (chosen r.1 d) (member_path path (word_text r.0)) (member_of (word_text r.0) d)
 
--- by all rows, in order
+-- what is wrong with an object by all rows, in order
 unfoldable pub rows_faults : Says → List Row → List ℕ → Data → List FieldFault
 rows_faults f [] path d = []
 rows_faults f (r ∷ rs) path d = row_faults f r path d ++ rows_faults f rs path d
 
--- by a table, so many levels of objects in objects deep
+-- what is wrong with an object by a table, so many levels of objects in objects deep
 abbrev pub table_faults : ℕ → Says
 table_faults zero table path d = []
 table_faults (suc n) table path d = rows_faults (table_faults n) (rows_of table) path d
@@ -86,7 +86,7 @@ table_faults (suc n) table path d = rows_faults (table_faults n) (rows_of table)
 abbrev pub levels : ℕ
 levels = 4
 
--- what is wrong with the members of a tree beside its metadata, by the row's schema
+-- what is wrong with the members of a tree beside its metadata, by the resource type's schema
 abbrev pub typed_faults : Schema → Data → List FieldFault
 typed_faults schema.Open tree = []
 typed_faults schema.Role tree = table_faults levels table.Role [] tree
@@ -111,7 +111,7 @@ abbrev pub written_value : Written → Items → Option Data
 written_value written.Always ds = Some (array ds)
 written_value written.NotEmpty ds = list_value ds
 
--- what is kept of what stands at a key
+-- what is kept of the value at a key
 abbrev pub part_value : Keeps → Part → Option Data → Option Data
 part_value g part.Dropped o = None
 part_value g part.Forbidden o = None
@@ -130,7 +130,7 @@ unfoldable pub rows_kept : Keeps → List Row → Data → Members → Members
 rows_kept g [] d ms = ms
 rows_kept g (r ∷ rs) d ms = rows_kept g rs d (put_if (word_text r.0) (row_value g r d) ms)
 
--- by a table, so many levels of objects in objects deep; nothing is kept of what lies deeper
+-- what is kept of an object by a table, so many levels of objects in objects deep; nothing is kept of what lies deeper
 abbrev pub table_kept : ℕ → Keeps
 table_kept zero table d = object no_members
 table_kept (suc n) table d = object (rows_kept (table_kept n) (rows_of table) d no_members)

@@ -1,4 +1,4 @@
--- The tables of roles, bindings and their parts: which members an object has, and what may stand there (Kubernetes API,
+-- The tables of roles, bindings and their parts: the members of an object and their values (Kubernetes API,
 -- rbac.authorization.k8s.io/v1, and `LabelSelector` of meta/v1). Each row is a key and the part for it.
 use Rattle.std.specs.Prelude.{ℕ, List, [], ◌∷◌, codes}
 use Rattle.kapi_admission.specs.declared.table.Choice.{Choice}
@@ -43,23 +43,23 @@ word_text word.ServiceAccount = codes "ServiceAccount"
 
 -- ---- conditions
 
--- a rule of URLs
+-- the condition of a rule of URLs
 abbrev pub urls : When
 urls = when.Given word.NonResourceUrls
 
--- operators that compare with values
+-- the condition of operators that compare with values
 abbrev pub listing : When
 listing = when.Says word.Operator word.In word.NotIn
 
--- any other operator
+-- the condition of any other operator
 abbrev pub told_operator : When
 told_operator = when.Keeps word.Operator rule.Operator
 
--- a service account
+-- the condition of a service account
 abbrev pub account : When
 account = when.Says word.Kind word.ServiceAccount word.ServiceAccount
 
--- any other kind of subjects
+-- the condition of any other kind of subjects
 abbrev pub told_kind : When
 told_kind = when.Keeps word.Kind rule.SubjectKind
 
@@ -89,29 +89,29 @@ no_values = part.Texts need.Forbidden rule.LabelValue
 abbrev pub any_values : Part
 any_values = part.Texts need.Optional rule.LabelValue
 
--- a row
+-- a row of a table: a key and the part for it
 abbrev pub row : Word → Choice → Row
 row key choice = record { 0 = key; 1 = choice }
 
 -- ---- the tables
 
--- `Role`
+-- the rows of a `Role`
 abbrev pub role_rows : List Row
 role_rows = row word.Rules (One (part.Objects need.Optional written.Always table.RoleRule)) ∷ []
 
--- `ClusterRole`
+-- the rows of a `ClusterRole`
 abbrev pub cluster_role_rows : List Row
 cluster_role_rows =
     row word.Rules (One (part.Objects need.Optional written.Always table.ClusterRoleRule)) ∷
     row word.AggregationRule (One (part.Object need.Optional table.AggregationRule)) ∷ []
 
--- `RoleBinding`
+-- the rows of a `RoleBinding`
 abbrev pub role_binding_rows : List Row
 role_binding_rows =
     row word.RoleRef (One (part.Object need.Required table.RoleRef)) ∷
     row word.Subjects (One (part.Objects need.Optional written.NotEmpty table.Subject)) ∷ []
 
--- `ClusterRoleBinding`
+-- the rows of a `ClusterRoleBinding`
 abbrev pub cluster_role_binding_rows : List Row
 cluster_role_binding_rows =
     row word.RoleRef (One (part.Object need.Required table.ClusterRoleRef)) ∷
@@ -135,11 +135,11 @@ cluster_role_rule_rows =
     row word.ResourceNames (Two urls no_texts any_texts) ∷
     row word.NonResourceUrls (One any_texts) ∷ []
 
--- `AggregationRule`
+-- the rows of an `AggregationRule`
 abbrev pub aggregation_rule_rows : List Row
 aggregation_rule_rows = row word.ClusterRoleSelectors (One (part.Objects need.Required written.Always table.Selector)) ∷ []
 
--- `LabelSelector`
+-- the rows of a `LabelSelector`
 abbrev pub selector_rows : List Row
 selector_rows =
     row word.MatchLabels (One part.Labels) ∷
@@ -152,7 +152,8 @@ requirement_rows =
     row word.Operator (One (part.Text rule.Operator)) ∷
     row word.Values (Three listing some_values told_operator no_values any_values) ∷ []
 
--- `Subject` in a namespace: only service accounts have a namespace; users and groups are of the API group of roles, which is filled in
+-- `Subject` in a namespace: only service accounts have a namespace; users and groups are of the API group of roles,
+-- which is filled in
 abbrev pub subject_rows : List Row
 subject_rows =
     row word.Kind (One (part.Text rule.SubjectKind)) ∷
@@ -160,7 +161,7 @@ subject_rows =
     row word.ApiGroup (Three account (part.Text rule.Empty) told_kind (part.Text rule.RbacGroup) (part.Text rule.Any)) ∷
     row word.Namespace (Two account (part.Text rule.Any) part.Dropped) ∷ []
 
--- `Subject` cluster-wide: a service account tells its namespace
+-- `Subject` cluster-wide: a service account specifies its namespace
 abbrev pub cluster_subject_rows : List Row
 cluster_subject_rows =
     row word.Kind (One (part.Text rule.SubjectKind)) ∷
@@ -168,7 +169,7 @@ cluster_subject_rows =
     row word.ApiGroup (Three account (part.Text rule.Empty) told_kind (part.Text rule.RbacGroup) (part.Text rule.Any)) ∷
     row word.Namespace (Two account (part.Text rule.NotEmpty) part.Dropped) ∷ []
 
--- `RoleRef` in a namespace
+-- the rows of a `RoleRef` in a namespace
 abbrev pub role_ref_rows : List Row
 role_ref_rows =
     row word.ApiGroup (One (part.Text rule.RbacGroupOrEmpty)) ∷

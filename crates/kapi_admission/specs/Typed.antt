@@ -1,28 +1,28 @@
--- What is wrong with texts, lists and objects that stand as members, and where it is told (Kubernetes, 'API Conventions',
+-- What is wrong with texts, lists and objects as members, and where it is reported (Kubernetes, 'API Conventions',
 -- 'Typical status codes', for the fields).
 use Rattle.std.specs.Prelude.{ℕ, ◌+◌, List, [], ◌∷◌, ◌++◌, length, Bool, true, false, ◌&&◌, ◌||◌, ◌==◌, if◌then◌else◌, Option, Some, None, is_some, option_and_then, codes, decimal}
 use Rattle.std.specs.Str.{bytes_eq}
 use Rattle.serde_json.specs.Data.{Data, null, string, array, Items, no_items, item}
 use Rattle.serde_json.specs.Find.{get, as_object, as_str}
-use Rattle.kapi_names.specs.declared.fault.Cause.TheVariants.{Required, NotAllowedHere, WrongType, BadValue}
-use Rattle.kapi_names.specs.declared.fault.FieldFault.{FieldFault}
+use Rattle.kapi_model.specs.declared.fault.FaultKind.TheVariants.{Required, NotAllowedHere, WrongType, BadValue}
+use Rattle.kapi_model.specs.declared.fault.FieldFault.{FieldFault}
 use Rattle.kapi_admission.specs.declared.typed_list.Need.{Need}
 use Rattle.kapi_admission.specs.declared.typed_list.Need.TheVariants as need
 use Rattle.kapi_admission.specs.declared.text_rule.TextRule.{TextRule}
 use Rattle.kapi_admission.specs.declared.text_rule.TextRule.TheVariants as rule
-use Rattle.kapi_names.specs.Cause.{fault}
-use Rattle.kapi_object.specs.Tree.{is_empty, member_of}
+use Rattle.kapi_model.specs.FaultKind.{fault}
+use Rattle.kapi_tree.specs.Tree.{is_empty, member_of}
 use Rattle.kapi_admission.specs.Faults.{entries_faults}
-use Rattle.kapi_names.specs.Kinds.{operator_of, rbac_group, role_kind, subject_kind}
-use Rattle.kapi_names.specs.Names.{is_dns_subdomain, is_path_segment, is_label_key, is_label_value}
+use Rattle.kapi_model.specs.Kinds.{operator_of, rbac_group, role_kind, subject_kind}
+use Rattle.kapi_model.specs.Names.{is_dns_subdomain, is_path_segment, is_label_key, is_label_value}
 
--- ---- members, and where their faults are told
+-- ---- members, and where their faults are reported
 
--- `rules`, or `rules[0].verbs`
+-- the path of a member, as `rules` or `rules[0].verbs`
 abbrev pub member_path : List ℕ → List ℕ → List ℕ
 member_path path key = if length path == 0 then key else path ++ codes "." ++ key
 
--- `rules[0]`
+-- the path of an element, as `rules[0]`
 abbrev pub item_path : List ℕ → ℕ → List ℕ
 item_path path index = path ++ codes "[" ++ decimal index ++ codes "]"
 
@@ -63,17 +63,17 @@ given_text_faults r path s =
     if is_required r && length s == 0 then fault path Required ∷ []
     else (if is_right r s then [] else fault path BadValue ∷ [])
 
--- what is wrong with a value where a text ought to stand
+-- what is wrong with a value where a text is expected
 unfoldable pub text_faults : TextRule → List ℕ → Option Data → List FieldFault
 text_faults r path None = absent_text_faults r path
 text_faults r path (Some (string s)) = given_text_faults r path s
 text_faults r path (Some _) = fault path WrongType ∷ []
 
--- the same at a member
+-- what is wrong with a text at a member
 abbrev pub text_faults_at : TextRule → List ℕ → List ℕ → Data → List FieldFault
 text_faults_at r path key d = text_faults r (member_path path key) (member_of key d)
 
--- the same at an element, where null is a value
+-- what is wrong with a text at an element, where null is a value
 abbrev pub text_item_faults : TextRule → List ℕ → Data → List FieldFault
 text_item_faults r path d = text_faults r path (Some d)
 
@@ -90,17 +90,17 @@ unfoldable pub items_faults : (List ℕ → Data → List FieldFault) → List �
 items_faults f path index no_items = []
 items_faults f path index (item d ds) = f (item_path path index) d ++ items_faults f path (index + 1) ds
 
--- what is wrong with a value where a list ought to stand: first with the list, then with its elements
+-- what is wrong with a value where a list is expected: first with the list, then with its elements
 unfoldable pub list_faults : (List ℕ → Data → List FieldFault) → Need → List ℕ → Option Data → List FieldFault
 list_faults f n path None = need_faults n true path
 list_faults f n path (Some (array ds)) = need_faults n (is_empty ds) path ++ items_faults f path 0 ds
 list_faults f n path (Some _) = fault path WrongType ∷ []
 
--- the same at a member
+-- what is wrong with a list at a member
 abbrev pub list_faults_at : (List ℕ → Data → List FieldFault) → Need → List ℕ → List ℕ → Data → List FieldFault
 list_faults_at f n path key d = list_faults f n (member_path path key) (member_of key d)
 
--- something stands where a list may, but an empty list
+-- the value is anything but an empty list
 abbrev pub is_given : Option Data → Bool
 is_given None = false
 is_given (Some (array ds)) = if is_empty ds then false else true

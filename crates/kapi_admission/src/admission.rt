@@ -7,24 +7,24 @@ ghost use Rattle.kapi_text.specs.Gives.{Gives};
 ghost use Rattle.kapi_admission.specs.Admission.{is_other, not_json, object_of, read_as, told};
 ghost use Rattle.kapi_admission.specs.Admission as admission;
 ghost use Rattle.kapi_admission.specs.Admission.{put_entries, version_of, admitted, faults_on};
-ghost use Rattle.kapi_object.specs.Tree.{metadata_member, put_if};
-ghost use Rattle.kapi_object.specs.Given.{given_of};
-ghost use Rattle.kapi_object.specs.Given as gives;
-ghost use Rattle.kapi_object.specs.Object.{tree_of};
-ghost use Rattle.kapi_object.specs.Order.{is_ordered};
-ghost use Rattle.kapi_object.specs.Tree.{json_object};
-ghost use Rattle.kapi_object.specs.Tree as trees;
+ghost use Rattle.kapi_tree.specs.Tree.{metadata_member, put_if};
+ghost use Rattle.kapi_tree.specs.Given.{given_of};
+ghost use Rattle.kapi_tree.specs.Given as gives;
+ghost use Rattle.kapi_tree.specs.Object.{tree_of};
+ghost use Rattle.kapi_tree.specs.Order.{is_ordered};
+ghost use Rattle.kapi_tree.specs.Tree.{json_object};
+ghost use Rattle.kapi_tree.specs.Tree as trees;
 
 use crate::float::has_float;
 use crate::metadata::collect_metadata_faults;
 use crate::object_error::ObjectError;
 use crate::table_faults::push_typed_faults;
-use kapi_names::{FieldFault, ResourceRow, Schema};
-use kapi_object::Object;
-use kapi_object::contents::content;
-use kapi_object::given::{Given, GivenText, given_in};
-use kapi_object::tree::{has_no_members, member_of_metadata};
+use kapi_model::{FieldFault, ResourceRow, Schema};
 use kapi_text::{Memory, Sequence};
+use kapi_tree::Object;
+use kapi_tree::contents::content;
+use kapi_tree::given::{Given, GivenText, given_in};
+use kapi_tree::tree::{has_no_members, member_of_metadata};
 use serde_json::{Map, Value, put};
 use std::alloc::Global;
 
@@ -87,7 +87,7 @@ fn kept_metadata(
     Ok(kept)
 }
 
-/// The tree as the row keeps it; `version` is the row's.
+/// The tree as the resource type keeps it; `version` is the resource type's.
 #[tactic(auto, unfolding(crate::specs::Admission::kept_tree))]
 fn kept_tree(alloc: Global, row: &ResourceRow, version: &str, tree: Value) -> Result<Value, Memory>
     requires { version.now ≡ version_of row.now }
@@ -103,8 +103,8 @@ fn kept_tree(alloc: Global, row: &ResourceRow, version: &str, tree: Value) -> Re
     Ok(Value::Object(members))
 }
 
-/// What the body's metadata gives, on the row.
-#[tactic(auto, unfolding(kapi_object::specs::Given::given_on))]
+/// What the body's metadata specifies, for the resource type.
+#[tactic(auto, unfolding(kapi_tree::specs::Given::given_on))]
 fn given_on(alloc: Global, row: &ResourceRow, tree: &Value) -> Result<Given, Memory>
     ensures { IfOk result (λ g. g ≡ gives.given_on row.now (view tree.now)) }
 {
@@ -120,7 +120,7 @@ fn given_on(alloc: Global, row: &ResourceRow, tree: &Value) -> Result<Given, Mem
     }
 }
 
-/// What objects of the row tell as their version: with the group before it, where that has a name.
+/// The `apiVersion` of the resource type's objects: with the group before the version, where the group has a name.
 fn api_version(alloc: Global, row: &ResourceRow) -> Result<String, Memory>
     ensures { IfOk result (λ s. string_bytes s ≡ version_of row.now) }
 {
@@ -133,7 +133,7 @@ fn api_version(alloc: Global, row: &ResourceRow) -> Result<String, Memory>
     Ok(version)
 }
 
-/// Whether something else than the text stands at the key.
+/// Whether the key has another value than the text.
 fn has_other(tree: &Value, key: &str, text: &str) -> bool
     ensures { result ≡ is_other text.now (get key.now (view tree.now)) }
 {
@@ -145,7 +145,7 @@ fn has_other(tree: &Value, key: &str, text: &str) -> bool
 }
 
 /// The JSON object that the bytes are (RFC 8259).
-#[tactic(auto, unfolding(kapi_object::specs::Tree::json_object))]
+#[tactic(auto, unfolding(kapi_tree::specs::Tree::json_object))]
 pub fn read_tree(alloc: Global, bytes: &[u8]) -> Result<Value, ObjectError>
     ensures object { Gives told view result (ok_or (json_object bytes.now) not_json) }
     ensures ordered { IfOk result (λ v. is_ordered (view v) ≡ true) }
@@ -168,7 +168,7 @@ pub fn read_tree(alloc: Global, bytes: &[u8]) -> Result<Value, ObjectError>
     }
 }
 
-/// What is wrong with a tree on a row of the schema, in order.
+/// What is wrong with a tree of a resource type with this schema, in order.
 #[tactic(auto, unfolding(crate::specs::Admission::faults_on))]
 pub fn collect_faults(
     alloc: Global,
@@ -182,7 +182,7 @@ pub fn collect_faults(
     Ok(faults)
 }
 
-/// The tree as its row keeps it, or the list of its faults.
+/// The tree as its resource type keeps it, or the list of its faults.
 #[tactic(auto, unfolding(crate::specs::Admission::admitted))]
 fn admit(
     alloc: Global,
@@ -205,20 +205,21 @@ fn admit(
     Ok(Object::new(kept_tree(alloc, row, version, tree)?))
 }
 
-/// The object of a row that a JSON object is, as the row keeps it.
+/// The object of a resource type that a JSON object is, as the resource type keeps it.
 ///
-/// An Open row keeps the members of the body as they are, but for `apiVersion` and `kind`, which are filled in where
-/// they are missing, and `metadata`, of which name, namespace, resource version, labels and annotations are kept. A
-/// row of roles or bindings keeps the members of its kind alone (Kubernetes API, rbac.authorization.k8s.io/v1).
+/// The Open schema keeps the members of the body as they are, but for `apiVersion` and `kind`, which are filled in
+/// where they are missing, and `metadata`, of which name, namespace, resource version, labels and annotations are kept.
+/// A resource type of roles or bindings keeps the members of its kind alone (Kubernetes API,
+/// rbac.authorization.k8s.io/v1).
 #[tactic(auto, unfolding(crate::specs::Admission::read_as))]
 pub fn admit_tree(alloc: Global, row: &ResourceRow, tree: Value) -> Result<Object, ObjectError>
     requires ordered { is_ordered (view tree) ≡ true }
     ensures object { Gives told tree_of result (read_as row.now (Some (view tree))) }
 
-    // what the object gives is what the tree gives
+    // the object specifies what the tree specifies
     ensures given { IfOk result (λ o. given_of (tree_of o) ≡ gives.given_on row.now (view tree)) }
 
-    // what is kept of a tree without faults has none
+    // what is kept of a tree without faults has no faults
     ensures clean { IfOk result (λ o. faults_on row.now.schema (tree_of o) ≡ []) }
 {
     if has_float(&tree) {
@@ -234,16 +235,16 @@ pub fn admit_tree(alloc: Global, row: &ResourceRow, tree: Value) -> Result<Objec
     admit(alloc, row, version.as_str(), tree)
 }
 
-/// The object of a row that a body is, as the row keeps it.
+/// The object of a resource type that a body is, as the resource type keeps it.
 #[tactic(auto, unfolding(crate::specs::Admission::read_as))]
 pub fn read_object(alloc: Global, row: &ResourceRow, bytes: &[u8]) -> Result<Object, ObjectError>
     ensures object { Gives told tree_of result (object_of row.now bytes.now) }
 
-    // what the object gives is what the body gives
+    // the object specifies what the body specifies
     ensures given { IfOk result (λ o. (tree : Data)
         → json_object bytes.now ≡ Some tree → given_of (tree_of o) ≡ gives.given_on row.now tree) }
 
-    // what is kept of a body without faults has none
+    // what is kept of a body without faults has no faults
     ensures clean { IfOk result (λ o. faults_on row.now.schema (tree_of o) ≡ []) }
 {
     admit_tree(alloc, row, read_tree(alloc, bytes)?)

@@ -1,4 +1,4 @@
-//! Which bodies are objects of a row: what is wrong with one, and the tree that is kept.
+//! Which bodies are objects of a resource type: what is wrong with one, and the tree that is kept.
 #![tactic(auto)]
 
 mod admission;

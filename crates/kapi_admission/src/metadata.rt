@@ -1,14 +1,14 @@
 ghost use Rattle.std.specs.Prelude.{◌≡◌, codes, ◌++◌, ◌∷◌, [], Some, OnOk, IfOk};
-ghost use Rattle.kapi_object.specs.Tree.{member_of};
+ghost use Rattle.kapi_tree.specs.Tree.{member_of};
 ghost use Rattle.serde_json.specs.View.{view, members_view};
-ghost use Rattle.kapi_names.specs.Cause.{fault};
+ghost use Rattle.kapi_model.specs.FaultKind.{fault};
 ghost use Rattle.kapi_admission.specs.Faults.{faults_in, faults_of, metadata_faults, key_of, field_of};
 ghost use Rattle.kapi_admission.specs.Faults as wrong;
 
-use kapi_names::names::{check_label_key, check_label_value};
-use kapi_names::{Cause, FieldFault};
-use kapi_object::tree::{member, member_of_metadata};
+use kapi_model::names::{check_label_key, check_label_value};
+use kapi_model::{FaultKind, FieldFault};
 use kapi_text::{Memory, Text};
+use kapi_tree::tree::{member, member_of_metadata};
 use serde_json::{Map, Value};
 use std::alloc::Global;
 
@@ -29,7 +29,7 @@ fn entries_key(sort: Entries) -> &'static str
     }
 }
 
-/// The field that a fault of an entry is told at.
+/// The field at which a fault of an entry is reported.
 fn entries_field(sort: Entries) -> &'static str
     ensures { result.now ≡ field_of sort }
 {
@@ -54,7 +54,7 @@ pub fn push_fault(
     alloc: Global,
     faults: &mut Vec<FieldFault>,
     field: &str,
-    cause: Cause,
+    cause: FaultKind,
 ) -> Result<(), Memory>
     ensures { OnOk result (faults.new.items ≡ faults.old.items ++ fault field.now cause ∷ []) }
 {
@@ -81,10 +81,10 @@ fn push_entry_faults(
             if is_entry(sort, key, text.as_str()) {
                 Ok(())
             } else {
-                push_fault(alloc, faults, field, Cause::BadValue)
+                push_fault(alloc, faults, field, FaultKind::BadValue)
             }
         }
-        _other => push_fault(alloc, faults, field, Cause::WrongType),
+        _other => push_fault(alloc, faults, field, FaultKind::WrongType),
     }
 }
 
@@ -106,7 +106,7 @@ fn push_members_faults(
     Ok(())
 }
 
-/// Adds what is wrong with the value where entries ought to stand.
+/// Adds what is wrong with the value where entries are expected.
 #[tactic(auto, unfolding(crate::specs::Faults::entries_faults))]
 pub fn push_entries_faults(
     alloc: Global,
@@ -120,7 +120,7 @@ pub fn push_entries_faults(
 {
     match value {
         Value::Object(members) => push_members_faults(alloc, faults, sort, field, members),
-        _other => push_fault(alloc, faults, field, Cause::WrongType),
+        _other => push_fault(alloc, faults, field, FaultKind::WrongType),
     }
 }
 
@@ -140,7 +140,7 @@ fn push_faults_in(
     }
 }
 
-/// Adds what is wrong with the value where the metadata ought to stand.
+/// Adds what is wrong with the value where the metadata is expected.
 fn push_value_fault(
     alloc: Global,
     faults: &mut Vec<FieldFault>,
@@ -150,7 +150,7 @@ fn push_value_fault(
 {
     match value {
         Value::Object(_members) => Ok(()),
-        _other => push_fault(alloc, faults, "metadata", Cause::WrongType),
+        _other => push_fault(alloc, faults, "metadata", FaultKind::WrongType),
     }
 }
 

@@ -1,12 +1,12 @@
 ghost use Rattle.std.specs.Prelude.{◌≡◌};
 
-use kapi_names::FieldFault;
-use kapi_object::Given;
+use kapi_model::FieldFault;
 use kapi_text::Sequence;
+use kapi_tree::Given;
 use std::alloc::AllocError;
 use thiserror::Error;
 
-/// Why a body is no object of its row: the first of these that holds.
+/// Why a body is no object of its resource type: the first of these that holds.
 #[derive(Debug, Drop, Error)]
 pub enum ObjectError {
     /// The bytes are no JSON object (RFC 8259).
@@ -19,10 +19,10 @@ pub enum ObjectError {
     WrongKind,
     #[error("the body has another apiVersion")]
     WrongVersion,
-    /// Members of the body are at fault: what the body gives all the same, and each fault in order.
+    /// Members of the body are at fault: what the body specifies all the same, and each fault in order.
     #[error("the body is invalid")]
     Invalid(Given, Sequence<FieldFault>),
-    #[error("want of memory")]
+    #[error("out of memory")]
     Memory,
 }
 

@@ -5,16 +5,16 @@ use crate::text_rule::TextRule;
 use crate::typed_list::Need;
 use crate::word::Word;
 
-/// What the members of an object tell, by which a part is chosen for another member.
+/// A condition on the members of an object, by which a part is chosen for another member.
 #[derive(Clone, Copy)]
 pub enum When {
-    /// Anything but an empty list stands at the key.
+    /// The value at the key is anything but an empty list.
     Given(Word),
-    /// A text that is not empty stands at the key.
+    /// The value at the key is a text that is not empty.
     Filled(Word),
-    /// One of the two words stands at the key.
+    /// The value at the key is one of the two words.
     Says(Word, Word, Word),
-    /// What stands at the key is a text that the rule allows.
+    /// The value at the key is a text that the rule allows.
     Keeps(Word, TextRule),
 }
 
@@ -25,12 +25,12 @@ pub enum Written {
     NotEmpty,
 }
 
-/// What may stand at a key.
+/// Which values a key may have.
 #[derive(Clone, Copy)]
 pub enum Part {
-    /// Anything; it is not kept.
+    /// Any value; it is not kept.
     Dropped,
-    /// Nothing.
+    /// No value.
     Forbidden,
     Text(TextRule),
     /// A list of texts.
@@ -39,7 +39,7 @@ pub enum Part {
     Labels,
     /// An object of the table.
     Object(Need, Table),
-    /// A list of such objects.
+    /// A list of objects of the table.
     Objects(Need, Written, Table),
 }
 
@@ -51,7 +51,7 @@ pub enum Choice {
     Three(When, Part, When, Part, Part),
 }
 
-/// A key, and what may stand there.
+/// A key, and which values it may have.
 #[derive(Clone, Copy)]
 pub struct Row(pub Word, pub Choice);
 

@@ -1,9 +1,9 @@
 ghost use Rattle.std.specs.Prelude.{◌≡◌, ◌++◌, [], List, ℕ, true, Some, OnOk};
 ghost use Rattle.serde_json.specs.Data.{Data};
 ghost use Rattle.serde_json.specs.View.{view};
-ghost use Rattle.kapi_names.specs.declared.fault.FieldFault.{FieldFault as Fault};
-ghost use Rattle.kapi_object.specs.Contents.{text_at};
-ghost use Rattle.kapi_object.specs.Tree.{member_of};
+ghost use Rattle.kapi_model.specs.declared.fault.FieldFault.{FieldFault as Fault};
+ghost use Rattle.kapi_tree.specs.Contents.{text_at};
+ghost use Rattle.kapi_tree.specs.Tree.{member_of};
 ghost use Rattle.kapi_admission.specs.declared.metadata.Entries.TheVariants as entries;
 ghost use Rattle.kapi_admission.specs.declared.table.Table.{Table as TableOf};
 ghost use Rattle.kapi_admission.specs.Faults.{entries_faults};
@@ -17,9 +17,9 @@ use crate::path::member_path;
 use crate::table::{Choice, Part, Row, Table, When, rows};
 use crate::text_rule::{is_right, push_text_faults_at};
 use crate::typed_list::{Element, Need, is_given, push_list_faults_at, push_need_faults};
-use kapi_names::{Cause, FieldFault, Schema};
-use kapi_object::member;
+use kapi_model::{FaultKind, FieldFault, Schema};
 use kapi_text::Memory;
+use kapi_tree::member;
 use serde_json::Value;
 use std::alloc::Global;
 
@@ -67,11 +67,11 @@ pub fn chosen(choice: Choice, tree: &Value) -> Part
     }
 }
 
-/// What says of the objects in an object what is wrong with their members.
+/// Reports what is wrong with the members of the objects in an object.
 pub trait Level {
     ghost faults_below: { TableOf → List ℕ → Data → List Fault };
 
-    /// Adds what is wrong with the members of an object of the table that stands at the path.
+    /// Adds what is wrong with the members of an object of the table at the path.
     fn push_members_faults(
         &self,
         alloc: Global,
@@ -83,11 +83,11 @@ pub trait Level {
         ensures { OnOk result (faults.new.items ≡ faults.old.items ++ faults_below table path.now (view value.now)) };
 }
 
-/// Below the lowest objects.
+/// The level below the lowest objects.
 #[derive(Drop)]
 pub struct Bottom;
 
-/// Objects whose members are told by their rows, and the objects in them by the level below.
+/// Objects whose faults are reported by their rows, and those of the objects in them by the level below.
 #[derive(Drop)]
 pub struct Above<L> {
     pub below: L,
@@ -148,14 +148,14 @@ impl<'a, L: Level> Element for Inner<'a, L> {
         value: &Value,
     ) -> Result<(), Memory> {
         if !value.is_object() {
-            return push_fault(alloc, faults, path, Cause::WrongType);
+            return push_fault(alloc, faults, path, FaultKind::WrongType);
         }
         self.below
             .push_members_faults(alloc, faults, self.table, path, value)
     }
 }
 
-/// Adds a fault where something stands at a key where nothing may.
+/// Adds a fault where a key has a value that may have none.
 fn push_forbidden_faults_at(
     alloc: Global,
     faults: &mut Vec<FieldFault>,
@@ -170,7 +170,7 @@ fn push_forbidden_faults_at(
         return Ok(());
     }
     let field = member_path(alloc, path, key)?;
-    push_fault(alloc, faults, field.as_str(), Cause::NotAllowedHere)
+    push_fault(alloc, faults, field.as_str(), FaultKind::NotAllowedHere)
 }
 
 /// Adds what is wrong with the labels that are the member of a key.
@@ -212,7 +212,7 @@ fn push_object_faults_at<E: Element>(
     }
 }
 
-/// Adds what is wrong with what stands at a key.
+/// Adds what is wrong with the value at a key.
 #[tactic(auto, unfolding(crate::specs::Shapes::part_faults))]
 fn push_part_faults_at<L: Level>(
     alloc: Global,

@@ -1,8 +1,8 @@
 ghost use Rattle.std.specs.Prelude.{◌≡◌, [], option_map, IfOk, OnOk};
 ghost use Rattle.serde_json.specs.Data.{Data, no_members};
 ghost use Rattle.serde_json.specs.View.{view, items_view, members_view};
-ghost use Rattle.kapi_object.specs.Contents.{items_at, labels_in, members_value, put_labels, read_items, write_items};
-ghost use Rattle.kapi_object.specs.Tree.{member_of, members_or_none, put_if};
+ghost use Rattle.kapi_tree.specs.Contents.{items_at, labels_in, members_value, put_labels, read_items, write_items};
+ghost use Rattle.kapi_tree.specs.Tree.{member_of, members_or_none, put_if};
 ghost use Rattle.kapi_admission.specs.declared.table.Table.{Table as TableOf};
 ghost use Rattle.kapi_admission.specs.Shapes as shape;
 ghost use Rattle.kapi_admission.specs.Shapes.{part_value, row_value, rows_kept, table_faults, table_kept};
@@ -11,11 +11,11 @@ ghost use Rattle.kapi_admission.specs.Tables.{word_text};
 use crate::table::{Part, Row, Table, Written, rows};
 use crate::table_faults::{Above, Bottom, chosen, text_in};
 use crate::text_rule::TextRule;
-use kapi_names::RBAC_GROUP;
-use kapi_object::member;
-use kapi_object::selector_form::{label_members, put_members, read_labels};
-use kapi_object::tree_form::{put_items, put_text, put_texts, read_list};
+use kapi_model::RBAC_GROUP;
 use kapi_text::{Memory, Sequence, Text};
+use kapi_tree::member;
+use kapi_tree::selector_form::{label_members, put_members, read_labels};
+use kapi_tree::tree_form::{put_items, put_text, put_texts, read_list};
 use serde_json::{Map, Value, put};
 use std::alloc::Global;
 
@@ -147,7 +147,7 @@ fn put_labels_kept(
     put_members(alloc, members, key, inner)
 }
 
-/// Puts what is kept of what stands at a key.
+/// Puts what is kept of the value at a key.
 fn put_part_kept<L: KeptLevel>(
     alloc: Global,
     members: &mut Map<String, Value>,
@@ -212,7 +212,7 @@ fn put_rows_kept<L: KeptLevel>(
 pub fn kept_by_table(alloc: Global, table: Table, tree: &Value) -> Result<Value, Memory>
     ensures kept { IfOk result (λ v. view v ≡ table_kept 4 table (view tree.now)) }
 
-    // what is kept of a tree without faults has none
+    // what is kept of a tree without faults has no faults
     ensures clean { IfOk result (λ v. table_faults 4 table [] (view tree.now) ≡ []
         → table_faults 4 table [] (view v) ≡ []) }
 {

@@ -5,16 +5,16 @@ ghost use Rattle.kapi_admission.specs.Typed as typed;
 
 use crate::metadata::push_fault;
 use crate::path::member_path;
-use kapi_names::kinds::{RBAC_GROUP, RoleKind, SubjectKind};
-use kapi_names::names::{check_label_key, check_label_value, check_object_name, check_rbac_name};
-use kapi_names::selector::Operator;
-use kapi_names::{Cause, FieldFault};
-use kapi_object::member;
+use kapi_model::kinds::{RBAC_GROUP, RoleKind, SubjectKind};
+use kapi_model::names::{check_label_key, check_label_value, check_object_name, check_rbac_name};
+use kapi_model::selector::Operator;
+use kapi_model::{FaultKind, FieldFault};
 use kapi_text::Memory;
+use kapi_tree::member;
 use serde_json::Value;
 use std::alloc::Global;
 
-/// What a text of a typed body has to be; those of whom it is not said may be absent or empty.
+/// What a text of a typed body has to be. A text may be absent or empty unless its rule says otherwise.
 #[derive(Clone, Copy)]
 pub enum TextRule {
     Any,
@@ -57,7 +57,7 @@ fn is_required(rule: TextRule) -> bool
     }
 }
 
-/// Whether the text is what it has to be.
+/// Whether the text obeys its rule.
 pub fn is_right(rule: TextRule, text: &str) -> bool
     ensures { result ≡ typed.is_right rule text.now }
 {
@@ -88,15 +88,15 @@ fn push_given_text_faults(
     ensures { OnOk result (faults.new.items ≡ faults.old.items ++ given_text_faults rule path.now text.now) }
 {
     if is_required(rule) && text.is_empty() {
-        push_fault(alloc, faults, path, Cause::Required)
+        push_fault(alloc, faults, path, FaultKind::Required)
     } else if is_right(rule, text) {
         Ok(())
     } else {
-        push_fault(alloc, faults, path, Cause::BadValue)
+        push_fault(alloc, faults, path, FaultKind::BadValue)
     }
 }
 
-/// Adds what is wrong with a value where a text ought to stand.
+/// Adds what is wrong with a value where a text is expected.
 #[tactic(auto, unfolding(crate::specs::Typed::text_faults))]
 pub fn push_text_faults(
     alloc: Global,
@@ -109,7 +109,7 @@ pub fn push_text_faults(
 {
     match value {
         Value::String(text) => push_given_text_faults(alloc, faults, rule, path, text.as_str()),
-        _other => push_fault(alloc, faults, path, Cause::WrongType),
+        _other => push_fault(alloc, faults, path, FaultKind::WrongType),
     }
 }
 
@@ -123,7 +123,7 @@ fn push_absent_text_faults(
     ensures { OnOk result (faults.new.items ≡ faults.old.items ++ absent_text_faults rule path.now) }
 {
     if is_required(rule) {
-        push_fault(alloc, faults, path, Cause::Required)
+        push_fault(alloc, faults, path, FaultKind::Required)
     } else {
         Ok(())
     }

@@ -1,30 +1,30 @@
 ghost use Rattle.std.specs.Prelude.{◌≡◌, ◌++◌, List, ℕ, true, Some, OnOk};
 ghost use Rattle.serde_json.specs.Data.{Data};
 ghost use Rattle.serde_json.specs.View.{view, items_view};
-ghost use Rattle.kapi_names.specs.declared.fault.FieldFault.{FieldFault as Fault};
+ghost use Rattle.kapi_model.specs.declared.fault.FieldFault.{FieldFault as Fault};
 ghost use Rattle.kapi_admission.specs.Typed.{need_faults, items_faults, list_faults, list_faults_at};
-ghost use Rattle.kapi_object.specs.Tree.{member_of};
+ghost use Rattle.kapi_tree.specs.Tree.{member_of};
 ghost use Rattle.kapi_admission.specs.Typed as typed;
-ghost use Rattle.kapi_object.specs.Tree as trees;
+ghost use Rattle.kapi_tree.specs.Tree as trees;
 
 use crate::metadata::push_fault;
 use crate::path::{item_path, member_path};
 use crate::text_rule::{TextRule, push_text_faults};
-use kapi_names::{Cause, FieldFault};
-use kapi_object::member;
-use kapi_object::tree_form::is_empty;
+use kapi_model::{FaultKind, FieldFault};
 use kapi_text::Memory;
+use kapi_tree::member;
+use kapi_tree::tree_form::is_empty;
 use serde_json::Value;
 use std::alloc::Global;
 
 /// Whether a list may be empty.
 #[derive(Clone, Copy)]
 pub enum Need {
-    /// It must have an element.
+    /// The list must have an element.
     Required,
-    /// It may be absent or empty.
+    /// The list may be absent or empty.
     Optional,
-    /// It must be absent or empty.
+    /// The list must be absent or empty.
     Forbidden,
 }
 
@@ -32,7 +32,7 @@ pub enum Need {
 pub trait Element {
     ghost faults_of: { Self → List ℕ → Data → List Fault };
 
-    /// Adds what is wrong with an element that stands at the path.
+    /// Adds what is wrong with an element at the path.
     fn push_faults(
         &self,
         alloc: Global,
@@ -81,8 +81,8 @@ pub fn push_need_faults(
     ensures { OnOk result (faults.new.items ≡ faults.old.items ++ need_faults need is_empty path.now) }
 {
     match (need, is_empty) {
-        (Need::Required, true) => push_fault(alloc, faults, path, Cause::Required),
-        (Need::Forbidden, false) => push_fault(alloc, faults, path, Cause::NotAllowedHere),
+        (Need::Required, true) => push_fault(alloc, faults, path, FaultKind::Required),
+        (Need::Forbidden, false) => push_fault(alloc, faults, path, FaultKind::NotAllowedHere),
         _other => Ok(()),
     }
 }
@@ -123,7 +123,7 @@ fn push_array_faults<E: Element>(
     push_items_faults(alloc, faults, element, path, items)
 }
 
-/// Adds what is wrong with a value where a list ought to stand.
+/// Adds what is wrong with a value where a list is expected.
 #[tactic(auto, unfolding(crate::specs::Typed::list_faults))]
 fn push_list_faults<E: Element>(
     alloc: Global,
@@ -138,7 +138,7 @@ fn push_list_faults<E: Element>(
 {
     match value {
         Value::Array(items) => push_array_faults(alloc, faults, element, need, path, items),
-        _other => push_fault(alloc, faults, path, Cause::WrongType),
+        _other => push_fault(alloc, faults, path, FaultKind::WrongType),
     }
 }
 

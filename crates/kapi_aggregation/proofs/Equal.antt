@@ -1,7 +1,7 @@
--- Rules that are the same entry by entry are equal; so are lists of rules.
+-- Rules that are the same entry by entry are equal, and lists of such rules too.
 use Rattle.std.proofs.Common.{◌≡◌, ℕ, List, [], ◌∷◌, true, refl, ap, ◌∙◌, Decides}
 use Rattle.std.specs.Str.{bytes_eq}
-use Rattle.kapi_names.specs.declared.policy_rule.PolicyRule.{PolicyRule}
+use Rattle.kapi_model.specs.declared.policy_rule.PolicyRule.{PolicyRule}
 use Rattle.kapi_aggregation.specs.Unions.{same_rule, same_rules, same_texts}
 use Rattle.kapi_aggregation.proofs.Lists.{and_true, both_true, itself, same_text}
 

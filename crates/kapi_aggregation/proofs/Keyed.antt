@@ -1,4 +1,4 @@
--- Keys of rules compare as equal where the rules are the same, so a set of them tells which rules a list has.
+-- Keys of rules compare as equal where the rules are the same, so a set of them shows which rules a list has.
 use Rattle.std.proofs.Common.{◌≡◌, ℕ, List, [], ◌∷◌, ◌++◌, Bool, true, false, not, cond, ◌||◌, refl, sym, ap, ◌∙◌}
 use Rattle.std.proofs.lemmas.Map.Text.{is_eq-slice_cmp}
 use Rattle.std.specs.BTreeMap.{is_at}
@@ -7,7 +7,7 @@ use Rattle.std.specs.Cmp.Lexicographic.{slice_cmp}
 use Rattle.std.specs.List.{list_any}
 use Rattle.std.specs.Ordering.{is_eq, nat_cmp}
 use Rattle.std.specs.Str.{bytes_eq}
-use Rattle.kapi_names.specs.declared.policy_rule.PolicyRule.{PolicyRule}
+use Rattle.kapi_model.specs.declared.policy_rule.PolicyRule.{PolicyRule}
 use Rattle.kapi_aggregation.specs.Keyed.{HaveRules, rule_cmp, rule_of_key}
 use Rattle.kapi_aggregation.specs.Unions.{same_rule, same_texts, with_rule}
 use Rattle.kapi_aggregation.specs.declared.found.RuleKey.{RuleKey}
@@ -39,7 +39,7 @@ any_more p (y ∷ xs) x b is = by_first (p y) b (any_more p xs x b is)
     by_first false true rest = rest
     by_first false false rest = rest
 
--- the keys of the rules, of which the set has one more, are those of the list with that rule at its end
+-- the keys of the rules, with one more in the set, are those of the list with that rule at its end
 pub one_more : (keys new : List RuleKey) (rules : List PolicyRule) (key : RuleKey) (rule : PolicyRule) → rule_of_key key ≡ rule → HaveRules keys rules
     → ((q : RuleKey) → list_any (is_at (rule_cmp q)) new ≡ cond (is_at (rule_cmp key) q) true (list_any (is_at (rule_cmp q)) keys)) → HaveRules new (rules ++ rule ∷ [])
 one_more keys new rules key rule of have put = λ q.
@@ -53,13 +53,13 @@ pub new_rule : (keys : List RuleKey) (rules : List PolicyRule) (key : RuleKey) (
 new_rule keys rules key rule of have absent =
     ap (λ b. cond b rules (rules ++ rule ∷ [])) (ap (λ (r : PolicyRule). list_any (λ f. same_rule f r) rules) (sym of) ∙ sym (have key) ∙ absent)
 
--- a rule whose key is in it is not
+-- a rule whose key is in the set is not put at the end
 pub old_rule : (keys : List RuleKey) (rules : List PolicyRule) (key : RuleKey) (rule : PolicyRule) → rule_of_key key ≡ rule → HaveRules keys rules
     → list_any (is_at (rule_cmp key)) keys ≡ true → with_rule rules rule ≡ rules
 old_rule keys rules key rule of have there =
     ap (λ b. cond b rules (rules ++ rule ∷ [])) (ap (λ (r : PolicyRule). list_any (λ f. same_rule f r) rules) (sym of) ∙ sym (have key) ∙ there)
 
--- what an insertion answers, which says whether the key is new, tells whether it was there
+-- the result of an insertion, which says whether the key is new, shows whether it was there
 pub was_absent : (added there : Bool) → added ≡ not there → added ≡ true → there ≡ false
 was_absent added true is new = absurd (cc (is, new))
 was_absent added false is new = refl

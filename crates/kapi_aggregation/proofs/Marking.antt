@@ -1,4 +1,4 @@
--- What names a note puts in, and that it keeps those that are there.
+-- The names that a note puts in; it keeps those that are there.
 use Rattle.std.proofs.Common.{◌≡◌, inl, inr, ℕ, List, [], ◌∷◌, Bool, true, false, cond, ◌&&◌, ◌||◌, Option, Some, None, refl, ap, ◌∙◌}
 use Rattle.std.proofs.lemmas.Map.Text.{is_eq-slice_cmp}
 use Rattle.std.specs.BTreeSet.{insert_key}
@@ -100,7 +100,7 @@ abbrev pub takes_object : Labelled → Option Data → Bool
 takes_object r None = false
 takes_object r (Some tree) = takes_from r (labels_in tree)
 
--- whether the role takes rules from one that is changed, as it stands or as it is left
+-- whether the role takes rules from one that is changed, as it was or as it is left
 abbrev pub is_moved : List (Key × Data) → Labelled → PlainChange → Bool
 is_moved os r c = is_cluster_role c.key && (takes_object r (lookup (is_key c.key) os) || takes_object r c.new)
 
@@ -146,7 +146,7 @@ module _ (os : List (Key × Data)) (roles : List Labelled) where
       by_case true k = changed_marks ms c r has (takes_object r (lookup (is_key c.key) os)) (takes_object r c.new) refl refl k
       by_case false k = absurd (cc k)
 
-  -- a role that is looked at is marked, where it takes rules from one that is changed
+  -- a role that is read is marked, where it takes rules from one that is changed
   pub all_mark : (ms : List (List ℕ)) (cs : List PlainChange) (r : Labelled) → Has roles r → list_any (is_moved os r) cs ≡ true → is_marked (mark_all os roles ms cs) r.name ≡ true
   all_mark ms [] r has h = absurd (cc h)
   all_mark ms (c ∷ cs) r has h = by_case (is_moved os r c) refl (all_mark (mark_change os roles ms c) cs r has) h

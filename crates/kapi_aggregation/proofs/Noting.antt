@@ -10,10 +10,10 @@ use Rattle.std.specs.Ordering.{is_eq, nat_cmp}
 use Rattle.std.specs.Str.{bytes_eq}
 use Rattle.std.specs.declared.cmp.Ordering.TheVariants.{Less, Equal}
 use Rattle.serde_json.specs.Data.{Data}
-use Rattle.kapi_names.specs.Kinds.{rbac_group}
-use Rattle.kapi_names.specs.Selector.{matches}
-use Rattle.kapi_names.specs.declared.policy_rule.PolicyRule.{PolicyRule}
-use Rattle.kapi_names.specs.declared.selector.Selector.{Selector}
+use Rattle.kapi_model.specs.Kinds.{rbac_group}
+use Rattle.kapi_model.specs.Selector.{matches}
+use Rattle.kapi_model.specs.declared.policy_rule.PolicyRule.{PolicyRule}
+use Rattle.kapi_model.specs.declared.selector.Selector.{Selector}
 use Rattle.kapi_store.proofs.Keys.{key_total}
 use Rattle.kapi_store.specs.Changes.{placed_all}
 use Rattle.kapi_store.specs.Keys.{is_key, key_cmp}
@@ -44,7 +44,7 @@ key_itself k = tied_itself key_total k
 not_itself : (k l : Key) → l ≡ k → key_cmp k l ≡ Less → ⊥
 not_itself k l same less = let equal : key_cmp k l ≡ Equal = rw same (key_itself k) in cc (equal, less)
 
--- what stands behind what is listed
+-- a role behind the listed ones
 listed_before : (o : Option Labelled) (rs : List Labelled) (r : Labelled) → Has rs r → Has (listed_if o ++ rs) r
 listed_before None rs r has = has
 listed_before (Some q) rs r has = inr has
@@ -77,12 +77,12 @@ place_is k is =
       name = k.name;
     }
 
--- a cluster role that stands is the one of its name
+-- a stored cluster role is the one of its name
 role_found : (os : List (Key × Data)) → IsStrictlySortedBy key_cmp (keys_of os) → (e : Key × Data) → Has os e → is_cluster_role e.0 ≡ true → role_at os e.0.name ≡ Some (labelled_tree e)
 role_found os sorted e has is =
     ap (λ (k : Key). option_map (labelled_at e.0.name) (lookup (is_key k) os)) (place_is e.0 is) ∙ ap (option_map (labelled_at e.0.name)) (entry_found os sorted e has)
 
--- it is looked at where its name is kept
+-- a cluster role is read where its name is kept
 taker_has : (os : List (Key × Data)) (names : List (List ℕ)) (name : List ℕ) (r : Labelled) → role_at os name ≡ Some r → is_marked names name ≡ true → Has (takers_in os names) r
 taker_has os [] name r found kept = absurd (cc kept)
 taker_has os (n ∷ names) name r found kept = by_name (is_eq (slice_cmp nat_cmp name n)) refl (taker_has os names name r found) kept
@@ -98,7 +98,7 @@ taker_has os (n ∷ names) name r found kept = by_name (is_eq (slice_cmp nat_cmp
 
 module _ (os : List (Key × Data)) (cs : List PlainChange) (sorted : IsStrictlySortedBy key_cmp (keys_of os)) where
   module _ (r : Labelled) (still : list_any (is_moved os r) cs ≡ false) where
-    -- a selector of the role means what is at an entry
+    -- a selector of the role matches the object of an entry
     meant : Selector → Key × Data → Bool
     meant s e = is_cluster_role e.0 && is_meant r.name s (labelled_tree e)
 
@@ -165,7 +165,7 @@ module _ (os : List (Key × Data)) (cs : List PlainChange) (sorted : IsStrictlyS
     abbrev after : List (Key × Data)
     after = placed_all (trees_left_by cs) os
 
-    -- a role that stood is known, and marked if it differs
+    -- a role that was stored is known, and marked if it differs
     module _ (e : Key × Data) (there : Has os e) (is : is_cluster_role e.0 ≡ true) where
       covered : IsCovered t (roles_in os) (labelled_tree e)
       covered = all_at (IsCovered t (roles_in os)) (roles_in os) (labelled_tree e) covers (has_mapped labelled_tree (filter (λ e. is_cluster_role e.0) os) e (has_kept (λ (e : Key × Data). is_cluster_role e.0) os e there is))
@@ -190,7 +190,7 @@ module _ (os : List (Key × Data)) (cs : List PlainChange) (sorted : IsStrictlyS
     leaves_rule : (c : PlainChange) (x : Data) → c.new ≡ Some x → is_aggregated (labelled_at c.key.name x) ≡ true → has_rule c.new ≡ true
     leaves_rule c x puts is = rw puts is
 
-    -- so is one that a change leaves
+    -- a role that a change leaves is known, and marked if it differs
     left : (c : PlainChange) (x : Data) → Has cs c → c.new ≡ Some x → is_cluster_role c.key ≡ true → IsCovered (noted os t cs) (roles_in after) (labelled_at c.key.name x)
     unfolding noted
     left c x there puts is =
@@ -226,7 +226,7 @@ module _ (os : List (Key × Data)) (cs : List PlainChange) (sorted : IsStrictlyS
     unfolding Covered
     covers_noted = all_from (IsCovered (noted os t cs) (roles_in after)) (roles_in after) (λ r has. by_entry r (mapped_of labelled_tree (filter (λ e. is_cluster_role e.0) after) r has))
 
--- the same of a store
+-- a note of a store's changes covers its cluster roles
 pub note_covers : (s : State) (cs : List PlainChange) (old new : Tracked) → IsStore s → new ≡ noted (plain_of s).objects old cs → Covers old (roles_in (plain_of s).objects)
     → Covers new (roles_in (placed_all (trees_left_by cs) (plain_of s).objects))
 note_covers s cs old new is made covers = rw made (covers_noted (plain_of s).objects cs (rw (keys_of_trees (objects s)) is.ordered) old covers)

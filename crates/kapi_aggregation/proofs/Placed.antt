@@ -1,4 +1,4 @@
--- What changes of a map leave of its entries.
+-- The entries of a map after changes.
 use Rattle.std.proofs.Common.{◌≡◌, ◌⊎◌, inl, inr, List, [], ◌∷◌, Bool, true, false, cond, Option, Some, None, refl, sym, ap, ◌∙◌}
 use Rattle.std.specs.BTreeMap.{insert_entry}
 use Rattle.std.specs.List.{filter}
@@ -62,7 +62,7 @@ module _ {X : Type 0} where
   placed_has k (Some x) os e has = put_has k x os e has
   placed_has k None os e has = inl (removed_has k os e has)
 
-  -- the same after several changes
+  -- an entry was there, or is one of the new ones, after several changes
   pub placed_all_has : (ws : List (Key × Option X)) (os : List (Key × X)) (e : Key × X) → Has (placed_all ws os) e
       → Has os e ⊎ ((w : Key × Option X) × (Has ws w × ((x : X) × ((w.1 ≡ Some x) × (e ≡ (w.0, x))))))
   unfolding placed_all
@@ -106,7 +106,7 @@ module _ {X : Type 0} where
         by_test true is rest = sym (without_first y os (old y (inl refl) (sym (key_is k y.0 is))))
         by_test false is rest = same_first y (remove_entry (is_key k) os) os rest
 
-    -- a test that fails for what is new and for what stood at the key keeps the same entries
+    -- a test that fails for the new value and for the old one of the key keeps the same entries
     placed_filter : (k : Key) (d : Option X) (os : List (Key × X)) → ((x : X) → d ≡ Some x → t (k, x) ≡ false)
         → ((e : Key × X) → Has os e → e.0 ≡ k → t e ≡ false) → filter t (placed k d os) ≡ filter t os
     unfolding placed

@@ -11,11 +11,11 @@ use Rattle.std.specs.Str.{bytes_eq}
 use Rattle.std.specs.declared.cmp.Ordering.{Ordering}
 use Rattle.std.specs.declared.cmp.Ordering.TheVariants.{Less, Equal, Greater}
 use Rattle.serde_json.specs.Data.{Data}
-use Rattle.kapi_names.specs.Kinds.{rbac_group}
-use Rattle.kapi_names.specs.Selector.{has_label, is_met, matches}
-use Rattle.kapi_names.specs.declared.row.ResourceRow.{ResourceRow}
-use Rattle.kapi_names.specs.declared.selector.Selector.{Selector}
-use Rattle.kapi_object.specs.declared.object.Object.{Object}
+use Rattle.kapi_model.specs.Kinds.{rbac_group}
+use Rattle.kapi_model.specs.Selector.{has_label, is_met, matches}
+use Rattle.kapi_model.specs.declared.row.ResourceRow.{ResourceRow}
+use Rattle.kapi_model.specs.declared.selector.Selector.{Selector}
+use Rattle.kapi_tree.specs.declared.object.Object.{Object}
 use Rattle.kapi_store.specs.Keys.{key_cmp}
 use Rattle.kapi_store.specs.Listing.{is_listed, is_within, listed_trees}
 use Rattle.kapi_store.specs.Plain.{plain_of, trees}

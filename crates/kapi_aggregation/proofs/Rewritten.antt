@@ -1,4 +1,4 @@
--- What a turn writes is the cluster role that stood, with other rules.
+-- A turn writes the old cluster role with other rules.
 use Rattle.std.proofs.Common.{◌≡◌, ◌∙◌, ◌+◌, ℕ, List, [], ◌∷◌, Option, None, Some, Bool, true, false, if◌then◌else◌, Result, Ok, Err, bytes_eq, codes, refl, sym, ap, subst}
 use Rattle.std.specs.Fmt.{decimal}
 use Rattle.std.specs.Map.{lookup}
@@ -8,12 +8,12 @@ use Rattle.serde_json.proofs.Views.{get_member-put}
 use Rattle.serde_json.specs.Data.{Data, array, Items, Members}
 use Rattle.serde_json.specs.Find.{get}
 use Rattle.kapi_text.specs.Gives.{◌>>=◌}
-use Rattle.kapi_names.specs.declared.policy_rule.PolicyRule.{PolicyRule}
-use Rattle.kapi_object.proofs.Closed.{Closed, items_hold, members_hold, rule_tree_holds}
-use Rattle.kapi_object.proofs.Puts.{list_round, put_other}
-use Rattle.kapi_object.specs.Contents.{aggregation_of, items_if, read_items, rule_of, rule_tree, rules_of, write_items}
-use Rattle.kapi_object.specs.Given.{given_of}
-use Rattle.kapi_object.specs.Tree.{in_metadata, members_or_none, unless_null}
+use Rattle.kapi_model.specs.declared.policy_rule.PolicyRule.{PolicyRule}
+use Rattle.kapi_tree.proofs.Closed.{Closed, items_hold, members_hold, rule_tree_holds}
+use Rattle.kapi_tree.proofs.Puts.{list_round, put_other}
+use Rattle.kapi_tree.specs.Contents.{aggregation_of, items_if, read_items, rule_of, rule_tree, rules_of, write_items}
+use Rattle.kapi_tree.specs.Given.{given_of}
+use Rattle.kapi_tree.specs.Tree.{in_metadata, members_or_none, unless_null}
 use Rattle.kapi_rbac_types.proofs.RoundTrips.{rule_round}
 use Rattle.kapi_rbac_types.proofs.Stamped.{cluster_role_stamped, in_object, labels_stamped}
 use Rattle.kapi_rbac_types.specs.Trees.{cluster_role_of}
@@ -28,14 +28,14 @@ use Rattle.kapi_aggregation.specs.declared.turn.Turn.{Turn}
 
 -- ---- the tree with other rules
 
--- what holds of the tree that stood holds of the one that is written
+-- what holds of the old tree holds of the one that is written
 pub with_rules_holds : {P : Data → Type 0} {I : Items → Type 0} {M : Members → Type 0} → Closed P I M → (rules : List PolicyRule) (d : Data) → P d → P (with_rules rules d)
 with_rules_holds c rules d h =
     c.members _
     (c.with_member (codes "rules") (array (write_items rule_tree rules)) (members_or_none (Some d))
     (c.list _ (items_hold c rule_tree (rule_tree_holds c) rules)) (members_hold c d h))
 
--- the members beside the rules are those that stood
+-- the members beside the rules are the old ones
 beside_rules : (rules : List PolicyRule) (q : List ℕ) (d : Data) → bytes_eq q (codes "rules") ≡ false → get q (with_rules rules d) ≡ get q d
 beside_rules rules q d h = put_other q (codes "rules") (array (write_items rule_tree rules)) (members_or_none (Some d)) h ∙ in_object q d
 
@@ -95,13 +95,13 @@ module _ (turn : Turn) (s : Plain) (old : Data) where
   unfolding rewriting
   rewrites_where_ok stands = rw stands (replaced_where_ok stands)
 
--- the changes of a turn write the cluster role that stood with the turn's rules
+-- the changes of a turn write the old cluster role with the turn's rules
 pub turn_rewrites : (turn : Turn) (s : Plain) (old : Data) (changes : List PlainChange)
     → lookup (is_key (role_key turn.name)) s.objects ≡ Some old → rewriting turn s ≡ Ok changes → AreRewrites turn old changes
 turn_rewrites turn s old changes stands is =
     let P : Result (List PlainChange) StoreFault → Type 0 = λ r. IfOk r (AreRewrites turn old) in subst P is (rewrites_where_ok turn s old stands)
 
--- there is such a cluster role
+-- the cluster role of a turn exists
 pub turn_rewrites_what_stands : (turn : Turn) (s : Plain) (changes : List PlainChange) → rewriting turn s ≡ Ok changes
     → (old : Data) × ((lookup (is_key (role_key turn.name)) s.objects ≡ Some old) × AreRewrites turn old changes)
 unfolding rewriting

@@ -119,7 +119,7 @@ pub turn_covers : (t : Tracked) (roles : List Labelled) → IsInNameOrder roles 
 turn_covers t roles sorted covers turn is =
     all_from (IsCovered (left_by t roles turn) roles) roles (λ r has. ((λ aggregated. takers_named [] roles r has aggregated), marks_stay t roles sorted covers turn is r has))
 
--- the same, as a call makes it
+-- what is kept after a turn covers the roles, as a call makes it
 pub next_covers : (old new : Tracked) (slice roles : List Labelled) (turn : Option Turn) → slice ≡ roles → IsInNameOrder roles
     → turn ≡ first_some (turn_if_marked old.marks slice) slice → new.marks ≡ marks_after old.marks turn → new.takers ≡ names_of_takers roles → Covers old roles → Covers new roles
 next_covers old new slice roles turn same order is marks takers covers =

@@ -1,4 +1,4 @@
--- Changes that are of no cluster role leave the cluster roles as they are; and no names, where no role is aggregated, are enough.
+-- Changes of no cluster role leave the cluster roles as they are; where no role is aggregated, no names are enough.
 use Rattle.std.proofs.Common.{◌≡◌, ◌==◌, ℕ, List, [], ◌∷◌, Bool, true, false, not, ◌||◌, length, Option, None, refl, sym, ap, ◌∙◌, map}
 use Rattle.std.proofs.Math.Dec.{eqb-suc-zero}
 use Rattle.std.specs.List.{list_any}
@@ -20,7 +20,7 @@ use Rattle.kapi_aggregation.proofs.Turning.{found_where_covered, none_unmarked}
 is_of_roles : List PlainChange → Bool
 is_of_roles cs = list_any (λ c. is_cluster_role c.key) cs
 
--- so is one of them as data
+-- a running change is of a cluster role where the model's is
 as_data : (cs : List Change) → is_of_roles (map plain_change cs) ≡ list_any (λ c. is_cluster_role c.key) cs
 unfolding is_of_roles
 as_data [] = refl
@@ -39,7 +39,7 @@ unmoved cs os none =
     (λ w there x is. elsewhere cs none w there)
     (λ w there e stood at. ap is_cluster_role at ∙ elsewhere cs none w there))
 
--- so marks that cover them cover them still
+-- marks that cover the cluster roles still cover them after changes of no cluster role
 pub unmoved_covers : (t : Tracked) (cs : List Change) (os : List (Key × Data)) → list_any (λ c. is_cluster_role c.key) cs ≡ false
     → Covers t (roles_in os) → Covers t (roles_in (placed_all (trees_left_by (map plain_change cs)) os))
 unmoved_covers t cs os none covers = rw (unmoved (map plain_change cs) os (as_data cs ∙ none)) covers
@@ -58,7 +58,7 @@ none_differ : (roles : List Labelled) (r : Labelled) → is_aggregated r ≡ fal
 none_differ roles r none d =
     let parts = and_true (is_aggregated r) (not (same_rules r.role.rules (union_for roles r))) d in cc (none, parts.0)
 
--- any names cover them
+-- where no role is aggregated, any names cover the cluster roles
 pub none_covered : (t : Tracked) (roles : List Labelled) → NoneAggregated roles → Covers t roles
 none_covered t roles none =
     all_from (IsCovered t roles) roles

@@ -1,4 +1,4 @@
--- What a tracker keeps: the names of the cluster roles that take rules from others, and of those that may differ from their unions.
+-- What a tracker keeps: the names of the cluster roles that take rules from others, and of those that may differ.
 use Rattle.std.specs.Prelude.{◌≡◌, ℕ, List, [], ◌∷◌, ◌++◌, Bool, true, false, ◌&&◌, if◌then◌else◌, Option, Some, None, is_some, option_map}
 use Rattle.std.specs.Cmp.Lexicographic.{slice_cmp}
 use Rattle.std.specs.Ordering.{nat_cmp, is_le}
@@ -16,12 +16,12 @@ use Rattle.kapi_aggregation.specs.Roles.{Labelled, is_aggregated, is_cluster_rol
 use Rattle.kapi_aggregation.specs.Turns.{differs, turn_at}
 use Rattle.kapi_aggregation.specs.declared.turn.Turn.{Turn}
 
--- the names of the cluster roles that may differ from their unions, and names among which each aggregated one's is
+-- the names of the cluster roles that may differ from their unions, and names that include each aggregated cluster role
 pub record Tracked : Type 0 where
   pub marks : List (List ℕ)
   pub takers : List (List ℕ)
 
--- the name is among them
+-- the name is among the marks
 abbrev pub is_marked : List (List ℕ) → List ℕ → Bool
 is_marked marks name = list_any (is_at (slice_cmp nat_cmp name)) marks
 
@@ -44,7 +44,7 @@ is_taker c = is_cluster_role c.key && has_rule c.new
 abbrev pub learn : Tracked → PlainChange → Tracked
 learn t c = if is_taker c then record { marks = with_mark t.marks c.key.name; takers = with_mark t.takers c.key.name } else t
 
--- the same, each change looked at in turn
+-- the names after each change was noted in turn
 abbrev pub learned : Tracked → List PlainChange → Tracked
 learned t cs = fold learn t cs
 
@@ -52,7 +52,7 @@ learned t cs = fold learn t cs
 abbrev pub role_at : List (Key × Data) → List ℕ → Option Labelled
 role_at os name = option_map (labelled_at name) (lookup (is_key (role_key name)) os)
 
--- the list of what is there
+-- the list of a cluster role that may be missing
 abbrev pub listed_if : Option Labelled → List Labelled
 listed_if None = []
 listed_if (Some r) = r ∷ []
@@ -66,7 +66,7 @@ takers_in os (name ∷ names) = listed_if (role_at os name) ++ takers_in os name
 abbrev pub mark_taker : Option Data → List (List ℕ) → Labelled → List (List ℕ)
 mark_taker labels marks r = if takes_from r labels then with_mark marks r.name else marks
 
--- the same, each cluster role looked at in turn
+-- the marks after each cluster role was checked in turn
 unfoldable pub mark_takers : List Labelled → List (List ℕ) → Option Data → List (List ℕ)
 mark_takers roles marks labels = fold (mark_taker labels) marks roles
 
@@ -75,20 +75,19 @@ abbrev pub mark_object : List Labelled → List (List ℕ) → Option Data → L
 mark_object roles marks None = marks
 mark_object roles marks (Some tree) = mark_takers roles marks (labels_in tree)
 
--- the marks with those of the cluster roles that take rules from a changed one, as it stands among the objects or as the change
--- leaves it
+-- the marks with those of the cluster roles that take rules from a changed one, as it was or as the change leaves it
 unfoldable pub mark_changed : List (Key × Data) → List Labelled → List (List ℕ) → PlainChange → List (List ℕ)
 mark_changed os roles marks c = mark_object roles (mark_object roles marks (lookup (is_key c.key) os)) c.new
 
--- a change of anything else marks nothing
+-- the marks with those of a change; a change of no cluster role marks nothing
 abbrev pub mark_change : List (Key × Data) → List Labelled → List (List ℕ) → PlainChange → List (List ℕ)
 mark_change os roles marks c = if is_cluster_role c.key then mark_changed os roles marks c else marks
 
--- the same, each change looked at in turn
+-- the marks after each change was noted in turn
 abbrev pub mark_all : List (Key × Data) → List Labelled → List (List ℕ) → List PlainChange → List (List ℕ)
 mark_all os roles marks cs = fold (mark_change os roles) marks cs
 
--- what is kept after a note of some changes of some objects: those aggregated cluster roles alone are looked at whose names are kept
+-- what is kept after a note of some changes of some objects: only cluster roles whose names are kept are read
 unfoldable pub noted : List (Key × Data) → Tracked → List PlainChange → Tracked
 noted os t cs =
     let after = learned t cs in

@@ -6,13 +6,13 @@ use Rattle.std.specs.List.{filter, find, list_any}
 use Rattle.std.specs.List.Sorted.{IsStrictlySortedBy}
 use Rattle.std.specs.Str.{bytes_eq}
 use Rattle.serde_json.specs.Data.{Data}
-use Rattle.kapi_names.specs.Kinds.{rbac_group}
-use Rattle.kapi_names.specs.Selector.{matches}
-use Rattle.kapi_names.specs.declared.aggregation_rule.AggregationRule.{AggregationRule}
-use Rattle.kapi_names.specs.declared.selector.Selector.{Selector}
-use Rattle.kapi_object.specs.Tree.{in_metadata}
+use Rattle.kapi_model.specs.Kinds.{rbac_group}
+use Rattle.kapi_model.specs.Selector.{matches}
+use Rattle.kapi_model.specs.declared.aggregation_rule.AggregationRule.{AggregationRule}
+use Rattle.kapi_model.specs.declared.selector.Selector.{Selector}
+use Rattle.kapi_tree.specs.Tree.{in_metadata}
 use Rattle.kapi_rbac_types.specs.Trees.{cluster_role_of}
-use Rattle.kapi_rbac_types.specs.declared.role.ClusterRole.{ClusterRole}
+use Rattle.kapi_model.specs.declared.role.ClusterRole.{ClusterRole}
 use Rattle.kapi_store.specs.declared.key.Key.{Key}
 
 -- a cluster role with its name and its labels, if it has some

@@ -1,10 +1,11 @@
--- What an aggregated cluster role takes from the others (Kubernetes, 'Using RBAC Authorization', 'Aggregated ClusterRoles').
+-- What an aggregated cluster role takes from the others (Kubernetes, 'Using RBAC Authorization', 'Aggregated
+-- ClusterRoles').
 use Rattle.std.specs.Prelude.{◌≡◌, ℕ, List, [], ◌∷◌, ◌++◌, Bool, true, false, not, ◌&&◌, if◌then◌else◌, Option, Some, None}
 use Rattle.std.specs.List.{AllByRecursion, filter, flat_map, fold, list_any}
 use Rattle.std.specs.Str.{bytes_eq}
-use Rattle.kapi_names.specs.Selector.{matches}
-use Rattle.kapi_names.specs.declared.policy_rule.PolicyRule.{PolicyRule}
-use Rattle.kapi_names.specs.declared.selector.Selector.{Selector}
+use Rattle.kapi_model.specs.Selector.{matches}
+use Rattle.kapi_model.specs.declared.policy_rule.PolicyRule.{PolicyRule}
+use Rattle.kapi_model.specs.declared.selector.Selector.{Selector}
 use Rattle.kapi_aggregation.specs.Roles.{Labelled, is_aggregated, role_named, selectors_of}
 
 -- the same texts, in the same order
@@ -27,19 +28,19 @@ same_rules [] (y ∷ ys) = false
 same_rules (x ∷ xs) [] = false
 same_rules (x ∷ xs) (y ∷ ys) = same_rule x y && same_rules xs ys
 
--- the list with the rule at its end, unless it stands in it
+-- the list with the rule at its end, unless it is already in the list
 abbrev pub with_rule : List PolicyRule → PolicyRule → List PolicyRule
 with_rule found rule = if list_any (λ f. same_rule f rule) found then found else found ++ rule ∷ []
 
--- the selector means a cluster role that is not the one of the name
+-- the selector matches a cluster role that is not the one of the name
 abbrev pub is_meant : List ℕ → Selector → Labelled → Bool
 is_meant name selector r = not (bytes_eq r.name name) && matches selector r.labels
 
--- the rules of the cluster roles that a selector means, in their order, without those of the one of the name
+-- the rules of the cluster roles that a selector matches, in their order, without those of the one of the name
 abbrev pub rules_meant : List Labelled → List ℕ → Selector → List PolicyRule
 rules_meant roles name selector = flat_map (λ r. r.role.rules) (filter (is_meant name selector) roles)
 
--- the union of a cluster role: by its selectors in their order, each rule once, where it stands first
+-- the union of a cluster role: by its selectors in their order, each rule once, at its first place
 unfoldable pub union_for : List Labelled → Labelled → List PolicyRule
 union_for roles r = fold with_rule [] (flat_map (rules_meant roles r.name) (selectors_of r))
 
@@ -48,7 +49,7 @@ abbrev pub union_if : List Labelled → Option Labelled → List PolicyRule
 union_if roles None = []
 union_if roles (Some r) = union_for roles r
 
--- the union of the cluster role of a name; it is empty where that takes nothing from others, or is not there
+-- the union of the cluster role of a name; it is empty where that role takes nothing from others, or is not there
 abbrev pub union : List Labelled → List ℕ → List PolicyRule
 union roles name = union_if roles (role_named roles name)
 

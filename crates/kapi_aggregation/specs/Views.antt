@@ -1,7 +1,7 @@
 -- What contracts see of a cluster role that is read.
 use Rattle.serde_json.specs.View.{view}
-use Rattle.kapi_names.specs.Selector.{labels_of}
-use Rattle.kapi_object.specs.Contents.{rules_of}
+use Rattle.kapi_model.specs.Selector.{labels_of}
+use Rattle.kapi_tree.specs.Contents.{rules_of}
 use Rattle.kapi_aggregation.specs.Roles.{Labelled}
 use Rattle.kapi_aggregation.specs.declared.roles.NamedRole.{NamedRole}
 

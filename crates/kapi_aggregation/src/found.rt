@@ -3,7 +3,7 @@ ghost use Rattle.std.specs.Prelude.{◌≡◌, [], OnOk};
 ghost use Rattle.kapi_aggregation.specs.Keyed.{rule_of_key};
 ghost use Rattle.kapi_aggregation.specs.Unions.{with_rule};
 
-use kapi_names::PolicyRule;
+use kapi_model::PolicyRule;
 use kapi_text::{Memory, Text, TryCopy};
 use std::alloc::Global;
 use std::collections::BTreeSet;
@@ -19,7 +19,7 @@ struct RuleKey {
     non_resource_urls: Vec<Text>,
 }
 
-/// The rule as a key; takes no memory.
+/// The rule as a key; allocates nothing.
 fn key_of(rule: PolicyRule) -> RuleKey
     ensures { rule_of_key result ≡ rule }
 {
@@ -32,7 +32,7 @@ fn key_of(rule: PolicyRule) -> RuleKey
     }
 }
 
-/// Rules in the order in which they are found. A set has them too, so that none is looked for by a walk over the list.
+/// Rules in the order in which they are found. A set has them too, so that none is searched for in the list.
 #[derive(Drop)]
 pub(crate) struct FoundRules {
     list: Vec<PolicyRule>,
@@ -41,7 +41,7 @@ pub(crate) struct FoundRules {
 
 impl Model for FoundRules {
     ghost use Rattle.std.specs.Prelude.{List};
-    ghost use Rattle.kapi_names.specs.declared.policy_rule.PolicyRule.{PolicyRule as RuleData};
+    ghost use Rattle.kapi_model.specs.declared.policy_rule.PolicyRule.{PolicyRule as RuleData};
     ghost use Rattle.kapi_aggregation.specs.Keyed.{HaveRules};
 
     ghost Value = { List RuleData };
@@ -52,7 +52,7 @@ impl Model for FoundRules {
 }
 
 impl FoundRules {
-    /// No rule.
+    /// A list without rules.
     pub(crate) fn new(alloc: Global) -> FoundRules
         ensures { result ≡ [] }
     {
@@ -74,7 +74,7 @@ impl FoundRules {
         Ok(())
     }
 
-    /// The rules, in their order; takes no memory.
+    /// The rules, in their order; allocates nothing.
     pub(crate) fn into_vec(self) -> Vec<PolicyRule>
         ensures { result.items ≡ self }
     {

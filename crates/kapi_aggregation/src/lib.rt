@@ -1,5 +1,5 @@
-//! Cluster roles that take their rules from others: what they take, and which of them differs from that (Kubernetes, 'Using RBAC
-//! Authorization', 'Aggregated ClusterRoles').
+//! Cluster roles that take their rules from others: the rules that they take, and which roles differ from them
+//! (Kubernetes, 'Using RBAC Authorization', 'Aggregated ClusterRoles').
 #![tactic(auto)]
 
 mod found;
@@ -11,6 +11,7 @@ mod turn;
 mod union;
 
 pub use roles::{ClusterRoles, is_cluster_role};
+pub use same::same_rules;
 pub use tracker::Tracker;
 pub use turn::{Turn, rewrite};
 pub use union::union_of;

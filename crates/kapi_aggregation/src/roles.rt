@@ -1,9 +1,9 @@
 //! The cluster roles of a store.
 ghost use Rattle.std.specs.Prelude.{◌≡◌, [], codes, is_some, map, option_map, IfOk};
 ghost use Rattle.std.proofs.Props.{props};
-ghost use Rattle.kapi_names.specs.Kinds.{rbac_group};
-ghost use Rattle.kapi_names.specs.Selector.{labels_of};
-ghost use Rattle.kapi_object.specs.Object.{tree_of};
+ghost use Rattle.kapi_model.specs.Kinds.{rbac_group};
+ghost use Rattle.kapi_model.specs.Selector.{labels_of};
+ghost use Rattle.kapi_tree.specs.Object.{tree_of};
 ghost use Rattle.kapi_store.specs.Plain.{plain_of, trees};
 ghost use Rattle.kapi_store.specs.Listing.{shown};
 ghost use Rattle.kapi_rbac_types.specs.Trees.{cluster_role_of};
@@ -12,18 +12,18 @@ ghost use Rattle.kapi_aggregation.specs.Rewriting.{role_key as role_key_of};
 ghost use Rattle.kapi_aggregation.specs.Roles.{IsInNameOrder, is_aggregated as is_aggregated_of, is_cluster_role as is_cluster_role_key, labelled_at, labelled_tree, roles_in, selectors_of};
 ghost use Rattle.kapi_aggregation.specs.Views.{labelled};
 
-use kapi_names::{AggregationRule, Labels, PolicyRule, RBAC_GROUP, ResourceRow, Schema, Selector};
-use kapi_object::Object;
-use kapi_object::rules_form::read_rules;
-use kapi_object::selector_form::read_aggregation;
+use kapi_model::{AggregationRule, Labels, PolicyRule, RBAC_GROUP, ResourceRow, Schema, Selector};
 use kapi_store::{Key, Listed, Store};
 use kapi_text::{Memory, Sequence, Text, TryCopy};
+use kapi_tree::Object;
+use kapi_tree::rules_form::read_rules;
+use kapi_tree::selector_form::read_aggregation;
 use serde_json::Value;
 use std::alloc::Global;
 use std::collections::BTreeSet;
 
-/// A cluster role with its name and its labels. Its rules are read where they are asked for, since a write looks at selectors and
-/// labels alone.
+/// A cluster role with its name and its labels. The rules are read only where they are asked for, since a write reads
+/// selectors and labels alone.
 #[derive(Drop)]
 pub(crate) struct NamedRole<'a> {
     pub name: &'a Text,
@@ -33,7 +33,7 @@ pub(crate) struct NamedRole<'a> {
 }
 
 impl<'a> NamedRole<'a> {
-    /// The selectors that say which cluster roles it takes its rules from; none where it is not aggregated.
+    /// The selectors of the cluster roles that this role takes its rules from; none where it is not aggregated.
     pub(crate) fn selectors(&self) -> &[Selector]
         ensures { result.now ≡ selectors_of (labelled self.now) }
     {
@@ -43,14 +43,14 @@ impl<'a> NamedRole<'a> {
         }
     }
 
-    /// Its rules.
+    /// The rules of the cluster role.
     pub(crate) fn rules(&self, alloc: Global) -> Result<Sequence<PolicyRule>, Memory>
         ensures { IfOk result (λ rs. rs ≡ (labelled self.now).role.rules) }
     {
         read_rules(alloc, self.tree)
     }
 
-    /// Whether it takes its rules from others.
+    /// Whether the cluster role takes its rules from others.
     pub(crate) fn is_aggregated(&self) -> bool
         ensures { result ≡ is_aggregated_of (labelled self.now) }
     {
@@ -58,7 +58,7 @@ impl<'a> NamedRole<'a> {
     }
 }
 
-/// The cluster roles of a store, in the order of their names by bytes. Names and labels are borrowed from it.
+/// The cluster roles of a store, in the order of their names by bytes. Names and labels are borrowed from the store.
 #[derive(Drop)]
 pub struct ClusterRoles<'a> {
     list: Vec<NamedRole<'a>>,
@@ -74,7 +74,7 @@ pub fn is_cluster_role(key: &Key) -> bool
         && (key.resource.as_str() == "clusterroles" && key.namespace.as_str().is_empty())
 }
 
-/// The row by which cluster roles are listed.
+/// The resource type by which cluster roles are listed.
 fn cluster_roles_row(alloc: Global) -> Result<ResourceRow, Memory>
     ensures group { IfOk result (λ r. r.group ≡ rbac_group) }
     ensures plural { IfOk result (λ r. r.plural ≡ codes "clusterroles") }
@@ -139,7 +139,7 @@ fn named_role<'a>(alloc: Global, listed: &Listed<'a>) -> Result<NamedRole<'a>, M
     role_of(alloc, &listed.key.name, listed.object.get())
 }
 
-/// The cluster role of the name that stands in the store, if it is there.
+/// The cluster role of the name in the store, if it is there.
 fn role_named<'a>(
     alloc: Global,
     store: &'a Store,
@@ -153,7 +153,7 @@ fn role_named<'a>(
     }
 }
 
-/// The cluster roles of the names that stand in the store. It looks at no others.
+/// The cluster roles of the names in the store. Other cluster roles are not read.
 pub(crate) fn roles_named<'a>(
     alloc: Global,
     store: &'a Store,
@@ -203,7 +203,7 @@ impl<'a> ClusterRoles<'a> {
     ghost use Rattle.kapi_aggregation.specs.Views.{labelled};
     ghost use Rattle.kapi_aggregation.specs.Lent.{roles_of};
 
-    /// The cluster roles of the store. Of its other objects none is looked at.
+    /// The cluster roles of the store. Other objects of the store are not read.
     pub fn read(alloc: Global, store: &'a Store) -> Result<ClusterRoles<'a>, Memory>
         ensures { IfOk result (λ r. roles_of r ≡ roles_in (plain_of store.now).objects) }
     {

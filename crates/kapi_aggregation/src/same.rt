@@ -2,7 +2,7 @@
 ghost use Rattle.std.specs.Prelude.{◌≡◌};
 ghost use Rattle.kapi_aggregation.specs.Unions.{same_rule as same_rule_as, same_rules as same_rules_as, same_texts as same_texts_as};
 
-use kapi_names::PolicyRule;
+use kapi_model::PolicyRule;
 use kapi_text::Text;
 
 /// Whether the texts are the same, in the same order.
@@ -26,14 +26,21 @@ pub fn same_rule(a: &PolicyRule, b: &PolicyRule) -> bool
                     ))))
 }
 
-/// Whether the lists have the same rules, in the same order.
+/// Whether the lists have the same rules, in the same order. Allocates nothing.
 pub fn same_rules(a: &[PolicyRule], b: &[PolicyRule]) -> bool
     ensures { result ≡ same_rules_as a.now b.now }
 {
-    match (a, b) {
-        ([], []) => true,
-        ([x, xs @ ..], [y, ys @ ..]) => same_rule(x, y) && same_rules(xs, ys),
-        ([], [_y, _ys @ ..]) => false,
-        ([_x, _xs @ ..], []) => false,
+    let mut left = a;
+    let mut right = b;
+    while let [x, xs @ ..] = left {
+        let [y, ys @ ..] = right else {
+            return false;
+        };
+        if !same_rule(x, y) {
+            return false;
+        }
+        left = xs;
+        right = ys;
     }
+    right.is_empty()
 }

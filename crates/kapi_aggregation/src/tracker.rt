@@ -3,8 +3,8 @@ ghost use Rattle.std.specs.Prelude.{◌≡◌, map, IfOk, OnOk, option_map};
 ghost use Rattle.std.specs.Cmp.Lexicographic.{slice_cmp};
 ghost use Rattle.std.specs.List.{list_any};
 ghost use Rattle.std.specs.Ordering.{is_le, nat_cmp};
-ghost use Rattle.kapi_names.specs.Selector.{labels_of};
-ghost use Rattle.kapi_object.specs.Object.{tree_of};
+ghost use Rattle.kapi_model.specs.Selector.{labels_of};
+ghost use Rattle.kapi_tree.specs.Object.{tree_of};
 ghost use Rattle.kapi_store.specs.Plain.{plain_change, plain_of};
 ghost use Rattle.kapi_aggregation.specs.Marks.{Keeps, is_taker as is_taker_change, mark_all, mark_change, mark_changed, mark_object, mark_takers, marks_from, names_of_takers, with_mark};
 ghost use Rattle.kapi_aggregation.specs.Roles.{is_cluster_role as is_cluster_role_key, takes_from as takes_from_labels};
@@ -12,16 +12,15 @@ ghost use Rattle.kapi_aggregation.specs.Views.{labelled};
 
 use crate::roles::{ClusterRoles, NamedRole, is_aggregated, is_cluster_role, roles_named};
 use crate::turn::{Turn, turn_at};
-use kapi_names::Labels;
-use kapi_object::Object;
+use kapi_model::Labels;
 use kapi_store::{Change, Store};
 use kapi_text::{Memory, Text, TryCopy};
+use kapi_tree::Object;
 use std::alloc::Global;
 use std::collections::BTreeSet;
 use std::marker::Model;
 
-/// The names of the cluster roles that may differ from their unions, and of those that take rules from others, so that a write looks at
-/// these alone.
+/// The names of the cluster roles that may differ from their unions, and of those that take rules from others.
 #[derive(Debug, Drop)]
 pub struct Tracker {
     alloc: Global,
@@ -59,7 +58,7 @@ fn takes_from(role: &NamedRole<'_>, labels: &Labels<'_>) -> bool
         .any(|selector| selector.matches(labels))
 }
 
-/// Whether a name is the other one, or before it.
+/// Whether a name is another one, or before it.
 fn is_up_to(name: &Text, other: &Text) -> bool
     ensures { result ≡ is_le (slice_cmp nat_cmp name.now other.now) }
 {
@@ -148,7 +147,7 @@ fn left_object(change: &Change) -> Option<&Object>
     }
 }
 
-/// Marks the roles that take rules from a changed one, as it stands in the store or as the change leaves it.
+/// Marks the roles that take rules from a changed one, as it is in the store or as the change leaves it.
 #[tactic(auto, unfolding(crate::specs::Marks::mark_changed))]
 fn mark_by_change(
     alloc: Global,
@@ -164,7 +163,7 @@ fn mark_by_change(
     mark_by_object(alloc, marks, roles, left_object(change))
 }
 
-/// The same of a change of a cluster role; one of anything else concerns none.
+/// Marks the roles that take rules from a changed one, where the change is of a cluster role.
 fn mark_if_role(
     alloc: Global,
     marks: &mut BTreeSet<Text>,
@@ -182,7 +181,7 @@ fn mark_if_role(
     }
 }
 
-/// The same of each change.
+/// Marks the roles that take rules from the cluster roles that the changes change.
 fn mark_by_changes(
     alloc: Global,
     marks: &mut BTreeSet<Text>,
@@ -209,7 +208,7 @@ impl Tracker {
     ghost use Rattle.kapi_aggregation.specs.Lent.{roles_of};
     ghost use Rattle.kapi_aggregation.specs.Views.{labelled};
 
-    /// No name: as for a store without aggregated cluster roles.
+    /// A tracker without names, as for a store without aggregated cluster roles.
     #[tactic(auto, using(crate::proofs::Unmoved::none_covered))]
     pub fn new(alloc: Global) -> Tracker
         ensures no_marks { result.marks ≡ [] }
@@ -223,10 +222,11 @@ impl Tracker {
         }
     }
 
-    /// Marks what some changes of the store concern, before they are made: the aggregated cluster roles that they leave, and those that
-    /// take rules from a changed one, as it stands or as it is left. Where none of them is of a cluster role, nothing is read.
+    /// Marks what some changes of the store affect, before they are made: the aggregated cluster roles that they leave,
+    /// and those that take rules from a changed one, as it is or as it is left. Where no change is of a cluster role,
+    /// nothing is read.
     ///
-    /// Names that are kept stay, so that changes which are then not made do no harm; so do they where memory runs out.
+    /// Names that are kept stay, so that changes which are not made do no harm; so do they where an allocation fails.
     pub fn note_write(&mut self, store: &Store, changes: &[Change]) -> Result<(), Memory>
         // what was covered is covered still, and so are the roles after the changes
         ensures covers { CoversAsMuch self.old self.new }
@@ -241,7 +241,7 @@ impl Tracker {
         Ok(())
     }
 
-    /// The same of changes among which some are of cluster roles.
+    /// Notes changes among which some are of cluster roles.
     #[tactic(auto, unfolding(crate::specs::Marks::noted))]
     fn note(&mut self, store: &Store, changes: &[Change]) -> Result<(), Memory>
         ensures noted { OnOk result (self.new ≡ noted (plain_of store.now).objects self.old (map plain_change changes.now)) }
@@ -280,17 +280,18 @@ impl Tracker {
         Ok(())
     }
 
-    /// The aggregated cluster role of least name that differs from its union, with its union; none where there is none.
+    /// The aggregated cluster role of least name that differs from its union, with its union; none where none differs.
     ///
-    /// Looks at marked roles alone, in the order of their names. The marks before the one that it answers are dropped, and all where
-    /// it answers none; the names of roles that are not aggregated any more are dropped. Where memory runs out none is.
+    /// Reads marked roles alone, in the order of their names. The marks before the returned role are dropped, and all
+    /// where none is returned; the names of roles that are not aggregated any more are dropped. Where an allocation
+    /// fails none is dropped.
     #[tactic(auto, using(crate::proofs::Turning::found_where_covered, crate::proofs::Turning::none_unmarked, crate::proofs::Turning::next_covers))]
     pub fn next(&mut self, roles: &ClusterRoles<'_>) -> Result<Option<Turn>, Memory>
         ensures turn { IfOk result (λ t. t ≡ first_some (turn_of_marked self.old.marks (roles_of roles.now)) (roles_of roles.now)) }
         ensures left { IfOk result (λ t. self.new ≡ left_by self.old (roles_of roles.now) t) }
         ensures refused { OnErr result (self.new ≡ self.old) }
 
-        // what is answered is due, and nothing else that is due is forgotten
+        // the returned turn is due, and nothing else that is due is forgotten
         ensures exact { IfOk result (λ t. Covers self.old (roles_of roles.now) → t ≡ next_of (roles_of roles.now)) }
         ensures covers { Covers self.old (roles_of roles.now) → Covers self.new (roles_of roles.now) }
         ensures unmarked { IfOk result (λ t. self.old.marks ≡ [] → t ≡ None) }
@@ -301,7 +302,7 @@ impl Tracker {
         Ok(turn)
     }
 
-    /// The same for the cluster roles of the store. Where no role is marked, nothing is read.
+    /// The next turn for the cluster roles of the store. Where no role is marked, nothing is read.
     pub fn next_turn(&mut self, store: &Store) -> Result<Option<Turn>, Memory>
         ensures exact { IfOk result (λ t. Covers self.old (roles_in (plain_of store.now).objects) → t ≡ next_of (roles_in (plain_of store.now).objects)) }
         ensures covers { Covers self.old (roles_in (plain_of store.now).objects) → Covers self.new (roles_in (plain_of store.now).objects) }

@@ -1,7 +1,7 @@
 //! The rewriting of an aggregated cluster role.
 ghost use Rattle.std.specs.Prelude.{◌≡◌, map, IfOk};
 ghost use Rattle.serde_json.specs.View.{view};
-ghost use Rattle.kapi_object.specs.Object.{tree_of};
+ghost use Rattle.kapi_tree.specs.Object.{tree_of};
 ghost use Rattle.kapi_store.specs.Faults.{fault_of};
 ghost use Rattle.kapi_store.specs.Plain.{plain_change, plain_of};
 ghost use Rattle.kapi_store.specs.State.{Fits};
@@ -13,12 +13,12 @@ ghost use Rattle.kapi_aggregation.specs.Views.{labelled};
 use crate::roles::{NamedRole, role_key};
 use crate::same::same_rules;
 use crate::union::union_for;
-use kapi_names::PolicyRule;
-use kapi_object::Object;
-use kapi_object::tree::into_members;
-use kapi_object::tree_form::write_items;
+use kapi_model::PolicyRule;
 use kapi_store::{Ready, Store, StoreError};
 use kapi_text::{Memory, Sequence, Text, TryCopy};
+use kapi_tree::Object;
+use kapi_tree::tree::into_members;
+use kapi_tree::tree_form::write_items;
 use serde_json::{Value, put};
 use std::alloc::Global;
 
@@ -50,7 +50,7 @@ pub(crate) fn turn_at(
     }))
 }
 
-/// Prepares the write of a turn: the object that stands at the cluster role's place gets the turn's rules in place of its own.
+/// Prepares the write of a turn: the object at the cluster role's place gets the turn's rules in place of its own.
 ///
 /// # Errors
 /// `Missing` where there is no such cluster role, `RevisionsUsedUp` where no revision is left.
@@ -73,7 +73,7 @@ fn with_rules(alloc: Global, old: &Object, rules: &Sequence<PolicyRule>) -> Resu
     Ok(Object::new(tree_with_rules(alloc, old.as_tree(), rules)?))
 }
 
-/// The same of its tree.
+/// The tree of a cluster role with other rules; all else of it stays.
 fn tree_with_rules(
     alloc: Global,
     old: &Value,

@@ -8,13 +8,13 @@ ghost use Rattle.kapi_aggregation.specs.Views.{labelled};
 
 use crate::found::FoundRules;
 use crate::roles::{ClusterRoles, NamedRole};
-use kapi_names::{PolicyRule, Selector};
+use kapi_model::{PolicyRule, Selector};
 use kapi_text::Memory;
 use std::alloc::Global;
 
-/// The union of the cluster role of the name: the rules of the cluster roles that its selectors mean, by the selectors in their order,
-/// then by name, without its own, each rule once, where it stands first. It is empty where the role takes nothing from others, or
-/// is not there.
+/// The union of the cluster role of the name: the rules of the cluster roles that its selectors match, by the selectors
+/// in their order, then by name, without its own, each rule once, at its first place. It is empty where the role takes
+/// nothing from others, or is not there.
 #[tactic(auto, using(crate::proofs::Named::named_mapped))]
 pub fn union_of(
     alloc: Global,
@@ -52,7 +52,7 @@ pub(crate) fn union_for(
     Ok(rules.into_vec())
 }
 
-/// Adds the rules of the roles that the selector means, but for the role of that name.
+/// Adds the rules of the roles that the selector matches, but for the role of that name.
 fn add_meant(
     alloc: Global,
     rules: &mut FoundRules,
@@ -70,7 +70,7 @@ fn add_meant(
     Ok(())
 }
 
-/// Whether the selector means a role that is not the one of that name.
+/// Whether the selector matches a role that is not the one of that name.
 fn is_meant(role: &NamedRole<'_>, name: &str, selector: &Selector) -> bool
     ensures { result ≡ is_meant_by name.now selector.now (labelled role.now) }
 {

@@ -1,4 +1,4 @@
--- What an answer changes was granted to whoever asks.
+-- What an answer changes was granted to the caller.
 use Rattle.std.proofs.Common.{◌≡◌, ◌+◌, inl, inr, ℕ, List, [], ◌∷◌, Bool, Option, None, Some, Result, Ok, Err, length, refl}
 use Rattle.std.specs.Fmt.{decimal}
 use Rattle.std.specs.List.{AllByRecursion}
@@ -9,15 +9,15 @@ use Rattle.kapi_text.specs.Gives.{◌>>=◌}
 use Rattle.kapi_guard.specs.Impersonation.{MakesAs, impersonated}
 use Rattle.kapi_http.specs.declared.message.HttpFault.{HttpFault}
 use Rattle.kapi_http.specs.declared.message.HttpRequest.{HttpRequest}
-use Rattle.kapi_object.specs.Given.{given_of}
+use Rattle.kapi_tree.specs.Given.{given_of}
 use Rattle.kapi_policy.specs.Objects.{PolicyObjects}
-use Rattle.kapi_rbac_types.specs.declared.identity.Identity.{Identity}
+use Rattle.kapi_model.specs.declared.identity.Identity.{Identity}
 use Rattle.kapi_reply.specs.Refusals.{Asked}
 use Rattle.kapi_reply.specs.declared.refusal.Refused.{Refused}
 use Rattle.kapi_request_info.specs.Attributes.{info}
 use Rattle.kapi_reviews.specs.Reviews.{reviewed}
 use Rattle.kapi_reviews.specs.declared.kind.ReviewKind.{ReviewKind}
-use Rattle.kapi_names.specs.declared.row.ResourceRow.{ResourceRow}
+use Rattle.kapi_model.specs.declared.row.ResourceRow.{ResourceRow}
 use Rattle.kapi_request_info.specs.Faults.{TargetFault}
 use Rattle.kapi_request_info.specs.Impersonation.{Misuse, bad_headers, impersonation}
 use Rattle.kapi_request_info.specs.declared.impersonated.Impersonation.{Impersonation}
@@ -36,12 +36,13 @@ use Rattle.kapi_store.specs.Stamps.{uid_in, uid_of, version_in, with_stamps_of}
 use Rattle.kapi_store.specs.declared.key.Key.{Key}
 use Rattle.kapi_stored_policy.proofs.Sound.{either_holds, then_holds}
 use Rattle.kapi_stored_policy.specs.Kind.{policy_kind}
-use Rattle.kapi_escalation.proofs.Granted.{deletion_is_granted, passed_is_granted, stamped_is_granted}
-use Rattle.kapi_escalation.specs.Granted.{AreGranted, IsDeletion, IsGrantedAt}
+use Rattle.kapi_answer.proofs.Escalated.{passed_is_granted}
+use Rattle.kapi_stored_policy.proofs.Granted.{deletion_is_granted, stamped_is_granted}
+use Rattle.kapi_stored_policy.specs.Granted.{AreGranted, IsDeletion, IsGrantedAt}
 use Rattle.kapi_answer.specs.Answer.{Passed, Plan, Task, answer, answer_as, answer_asked, answer_by, answer_passed, asked_by, carried_out, checked, create, delete, deletes, escalation_checked, passes, planned, planned_at, planned_creation, planned_for, planned_on, replace, task, tell, tells, to_be_created, to_be_replaced, told, told_well, watch, watching}
 use Rattle.kapi_answer.specs.Authorization.{authorized}
 use Rattle.kapi_answer.specs.Collection.{listed, to_delete_all}
-use Rattle.kapi_answer.specs.Create.{Admitted, admitted, created, creates, housed, stored, to_create, valid}
+use Rattle.kapi_answer.specs.Create.{Admitted, admitted, created, creates, with_namespace_on, stored, to_create, valid}
 use Rattle.kapi_answer.specs.Delete.{Deletion, removed, removes, to_delete}
 use Rattle.kapi_answer.specs.Get.{found, found_if}
 use Rattle.kapi_answer.specs.Impersonation.{AreGrantedAs, acts_as, acts_or_refused, made_as}
@@ -50,7 +51,7 @@ use Rattle.kapi_answer.specs.Review.{in_review_namespace, review_kind, to_answer
 use Rattle.kapi_answer.specs.Watch.{since_served}
 use Rattle.kapi_answer.specs.Update.{replaces, to_patch, to_update, told_after}
 
--- what holds behind a check that passed, of what that check gave
+-- what holds behind a check that passed, for its result
 pub then_keeps : {A B F : Type 0} {Q : A → Type 0} (r : Result A F) (f : A → Result B F) (P : B → Type 0) → IfOk r Q → ((x : A) → Q x → IfOk (f x) P) → IfOk (r >>= f) P
 then_keeps (Ok x) f P q h = h x q
 then_keeps (Err e) f P q h = tt
@@ -107,12 +108,12 @@ module _ (objects : PolicyObjects) (identity : Identity) where
   abbrev IsGrantedOutcome : Outcome → Type 0
   IsGrantedOutcome o = Granted o.changes
 
-  -- and so are those that are told of; a watch changes nothing
+  -- the changes that an answer reports are granted; a watch changes nothing
   abbrev IsGrantedPassed : Passed → Type 0
   IsGrantedPassed (told outcome) = IsGrantedOutcome outcome
   IsGrantedPassed (watching w) = Unit {0}
 
-  -- what is only told changes nothing, and what is written is granted
+  -- an answer without a change changes nothing, and what is written is granted
   abbrev IsGrantedPlan : Plan → Type 0
   IsGrantedPlan (tell outcome) = outcome.changes ≡ []
   IsGrantedPlan (watch w) = Unit {0}
@@ -150,7 +151,7 @@ module _ (objects : PolicyObjects) (identity : Identity) where
 
 -- ---- what is planned
 
--- the plan of a task is granted to whoever asks
+-- the plan of a task is granted to its identity
 abbrev IsGrantedFor : Task → Plan → Type 0
 IsGrantedFor t = IsGrantedPlan t.objects t.identity
 
@@ -173,7 +174,7 @@ unfolding to_answer
 answer_tells objects identity kind row namespace body =
     then_holds (in_review_namespace row namespace body.given.namespace) _ (λ outcome. outcome.changes ≡ [])
     (λ same. then_holds (valid [] body.object) _ (λ outcome. outcome.changes ≡ [])
-    (λ tree. then_holds (valid [] (reviewed objects identity kind (housed row namespace tree))) _ (λ outcome. outcome.changes ≡ []) (λ answer. refl)))
+    (λ tree. then_holds (valid [] (reviewed objects identity kind (with_namespace_on row namespace tree))) _ (λ outcome. outcome.changes ≡ []) (λ answer. refl)))
 
 pub review_tells : (objects : PolicyObjects) (identity : Identity) (kind : ReviewKind) (row : ResourceRow) (namespace bytes : List ℕ)
     → IfOk (to_review objects identity kind row namespace bytes) (λ outcome. outcome.changes ≡ [])
@@ -204,7 +205,7 @@ planned_on_granted action.Delete s t = then_holds (to_delete s t.key t.body) del
 planned_on_granted action.DeleteCollection s t = then_holds (to_delete_all s t.row t.key.namespace t.filter t.body) deletes (IsGrantedFor t) (λ deletion. tt)
 
 module _ (objects : PolicyObjects) (s : Plain) (identity : Identity) (request : HttpRequest) where
-  -- the plan is granted to whoever asks
+  -- the plan is granted to the caller
   abbrev IsGrantedHere : Plan → Type 0
   IsGrantedHere = IsGrantedPlan objects identity
 

@@ -7,17 +7,17 @@ use Rattle.serde_json.specs.Data.{Data}
 use Rattle.kapi_text.specs.Gives.{◌>>=◌}
 use Rattle.kapi_admission.specs.Admission.{BodyFault, float, object_of, invalid, not_json, read_as, wrong_kind, wrong_version}
 use Rattle.kapi_http.specs.declared.message.HttpRequest.{HttpRequest}
-use Rattle.kapi_names.specs.Names.{is_name_on}
-use Rattle.kapi_names.specs.declared.fault.FieldFault.{FieldFault}
-use Rattle.kapi_names.specs.declared.row.ResourceRow.{ResourceRow}
-use Rattle.kapi_object.specs.Given.{given_of}
-use Rattle.kapi_object.specs.Tree.{json_object}
-use Rattle.kapi_object.specs.declared.given.Given.{Given}
-use Rattle.kapi_object.specs.declared.given.GivenText.{GivenText}
-use Rattle.kapi_object.specs.declared.given.GivenText.TheVariants as given
+use Rattle.kapi_model.specs.Names.{is_name_on}
+use Rattle.kapi_model.specs.declared.fault.FieldFault.{FieldFault}
+use Rattle.kapi_model.specs.declared.row.ResourceRow.{ResourceRow}
+use Rattle.kapi_tree.specs.Given.{given_of}
+use Rattle.kapi_tree.specs.Tree.{json_object}
+use Rattle.kapi_tree.specs.declared.given.Given.{Given}
+use Rattle.kapi_tree.specs.declared.given.GivenText.{GivenText}
+use Rattle.kapi_tree.specs.declared.given.GivenText.TheVariants as given
 use Rattle.kapi_patch.specs.Merge.{merged}
 use Rattle.kapi_policy.specs.Objects.{PolicyObjects}
-use Rattle.kapi_rbac_types.specs.declared.identity.Identity.{Identity}
+use Rattle.kapi_model.specs.declared.identity.Identity.{Identity}
 use Rattle.kapi_reply.specs.Refusals.{Asked}
 use Rattle.kapi_reply.specs.declared.refusal.Refused.{Refused}
 use Rattle.kapi_request_info.specs.Attributes.{info}
@@ -48,7 +48,7 @@ use Rattle.kapi_answer.specs.Answer.{Passed, Plan, Task, answer, answer_as, answ
 use Rattle.kapi_answer.specs.Authorization.{authorized}
 use Rattle.kapi_answer.specs.Collection.{chosen, deletes_all, listed, to_delete_all}
 use Rattle.kapi_answer.specs.Create.{Admitted, admitted, admitted_from, created, creates, given_name, in_namespace, key_of, name_text, stored, to_create, to_place, valid}
-use Rattle.kapi_answer.specs.Delete.{Deletion, deletable, removed, removes, standing, to_delete}
+use Rattle.kapi_answer.specs.Delete.{Deletion, deletable, removed, removes, existing, to_delete}
 use Rattle.kapi_answer.specs.Get.{found, found_if}
 use Rattle.kapi_answer.specs.Impersonation.{made_as}
 use Rattle.kapi_answer.specs.Histories.{AreNamed, AnswersWrite, IsWrite, LoadsCreate}
@@ -59,12 +59,12 @@ use Rattle.kapi_answer.specs.Review.{review_kind, to_review}
 use Rattle.kapi_answer.specs.Update.{in_name, patch_of, replaces, to_patch, to_replace, to_update, told_after}
 use Rattle.kapi_answer.specs.Watch.{since_served}
 
--- what holds behind a check, for whatever it gave
+-- what holds behind a check, for whatever it returned
 then_is : {A B F : Type 0} (r : Result A F) (f : A → Result B F) (P : B → Type 0) → ((x : A) → r ≡ Ok x → IfOk (f x) P) → IfOk (r >>= f) P
 then_is (Ok x) f P h = h x refl
 then_is (Err e) f P h = tt
 
--- what the store gives
+-- the changes that the store returns
 stored_ok : {X : Type 0} (name : List ℕ) (r : Result X StoreFault) (x : X) → stored name r ≡ Ok x → r ≡ Ok x
 stored_ok name (Ok y) x is = let same : y ≡ x = cc in ap Ok same
 stored_ok name (Err fault) x is = absurd (cc is)
@@ -75,7 +75,7 @@ made_ok (Err fault) x is = absurd (cc is)
 
 -- ---- a body
 
--- the tree of a body is the one that it gives its name and the like of
+-- the tree of a body is the one whose name, namespace and version it specifies
 abbrev IsTold : Admitted → Type 0
 IsTold body = (tree : Data) → body.object ≡ Ok tree → body.given ≡ given_of tree
 
@@ -142,7 +142,7 @@ admits_old : (b : Bool) (t old : Data) (fault : StoreFault) → (if b then Ok t 
 admits_old true t old fault is = let same : t ≡ old = cc in ap Some same
 admits_old false t old fault is = absurd (cc is)
 
--- what may be replaced stands there
+-- an object that may be replaced is stored
 old_stands : (o : Option Data) (version : GivenText) (old : Data) → store.admitted o version ≡ Ok old → o ≡ Some old
 old_stands None version old is = absurd (cc is)
 old_stands (Some t) version old is = admits_old (admits (version_in t) version) t old (Conflict (version_in t)) is
@@ -171,17 +171,17 @@ module _ (s : Plain) (h : AreNamed s.objects) where
   unfolding to_patch
   patch_other row of k bytes home =
       then_holds (patch_of bytes) _ IsOther
-      (λ patch. then_holds (standing s k) _ IsOther
+      (λ patch. then_holds (existing s k) _ IsOther
       (λ old. then_keeps (admitted_from (read_as row (Some (merged old patch)))) (to_replace s row of k) IsOther (body_told (read_as row (Some (merged old patch))))
       (λ body told_it. replace_other row of k body home told_it)))
 
-  -- what is to be removed stands at different keys
+  -- objects that are to be removed are at different keys
   abbrev IsApart : Deletion → Type 0
   IsApart deletion = IsDistinct is_key deletion.keys
 
   delete_apart : (k : Key) (body : List ℕ) → IfOk (to_delete s k body) IsApart
   unfolding to_delete
-  delete_apart k body = then_holds (deletable body) _ IsApart (λ u. then_holds (standing s k) _ IsApart (λ tree. one_distinct (k ∷ []) k refl))
+  delete_apart k body = then_holds (deletable body) _ IsApart (λ u. then_holds (existing s k) _ IsApart (λ tree. one_distinct (k ∷ []) k refl))
 
   delete_all_apart : (row : ResourceRow) (namespace : List ℕ) (filter : Filter) (body : List ℕ) → IfOk (to_delete_all s row namespace filter body) IsApart
   unfolding to_delete_all deletes_all
@@ -192,12 +192,12 @@ module _ (s : Plain) (h : AreNamed s.objects) where
 
   -- ---- what a plan changes
 
-  -- what is told of is one write; a watch changes nothing
+  -- the changes that an answer reports are one write; a watch changes nothing
   abbrev IsWritePassed : Passed → Type 0
   IsWritePassed (told outcome) = IsWrite s outcome.changes
   IsWritePassed (watching w) = Unit {0}
 
-  -- what is only told changes nothing, and what is written is named by its place
+  -- an answer without a change changes nothing, and what is written is named by its place
   abbrev IsNamedPlan : Plan → Type 0
   IsNamedPlan (tell outcome) = outcome.changes ≡ []
   IsNamedPlan (watch w) = Unit {0}

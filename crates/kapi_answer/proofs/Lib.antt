@@ -5,3 +5,5 @@ pub mod Granted
 pub mod Watched
 mod NamedTrees
 pub mod Histories
+pub mod Escalated
+pub mod Joined

@@ -3,10 +3,10 @@ use Rattle.std.proofs.Common.{◌≡◌, ◌∙◌, ◌+◌, suc, ℕ, List, [],
 use Rattle.std.specs.Map.{keys_of}
 use Rattle.serde_json.specs.Data.{Data}
 use Rattle.serde_json.specs.Written.{compact_text}
-use Rattle.kapi_collection.specs.List.{list_tree}
+use Rattle.kapi_answer.specs.List.{list_tree}
 use Rattle.kapi_http.specs.declared.message.StatusCode.TheVariants as status
-use Rattle.kapi_names.specs.declared.row.ResourceRow.{ResourceRow}
-use Rattle.kapi_object.specs.Object.{tree_of}
+use Rattle.kapi_model.specs.declared.row.ResourceRow.{ResourceRow}
+use Rattle.kapi_tree.specs.Object.{tree_of}
 use Rattle.kapi_reply.specs.declared.reply.Content.TheVariants as content
 use Rattle.kapi_store.specs.Listing.{shown}
 use Rattle.kapi_store.specs.Plain.{Plain, revisions_left, trees}
@@ -38,11 +38,11 @@ listed_length : (ls : List Listed) → length (trees (map shown ls)) ≡ length 
 listed_length [] = refl
 listed_length (l ∷ ls) = ap suc (listed_length ls)
 
--- an outcome that tells a body and changes nothing
+-- an outcome with a body that changes nothing
 abbrev pub telling : List ℕ → Outcome
 telling body = record { code = status.Ok; content = content.Json; body = body; changes = [] }
 
--- what is told of a list of some trees
+-- the reply to a list of some trees
 pub list_told : (row : ResourceRow) (ls : List Listed) (es : List (Key × Data)) (n revision : ℕ) (body : List ℕ)
     → body ≡ compact_text (list_tree row (map (λ l. tree_of l.object.now) ls) n) → n ≡ revision → trees (map shown ls) ≡ es
     → telling body ≡ told status.Ok (list_of row es revision)

@@ -1,4 +1,4 @@
--- What is written at a place tells the namespace and the name of that place.
+-- What is written at a place has the namespace and the name of that place.
 use Rattle.std.proofs.Common.{◌≡◌, ℕ, Bool, true, false, not, List, [], ◌∷◌, Option, None, Some, Ok, codes, bytes_eq, if◌then◌else◌, true≢false, refl, sym, ap, ◌∙◌, subst}
 use Rattle.std.proofs.lemmas.Map.Text.{is_eq-slice_cmp}
 use Rattle.std.proofs.lemmas.Slice.Eq.{bytes_eq-Decides}
@@ -10,18 +10,18 @@ use Rattle.std.specs.declared.cmp.Ordering.TheVariants.{Less, Equal, Greater}
 use Rattle.serde_json.proofs.Views.{get_member-put}
 use Rattle.serde_json.specs.Data.{Data, null, boolean, number, string, array, object, Members, no_members, member, put}
 use Rattle.serde_json.specs.Find.{as_str, get, get_member}
-use Rattle.kapi_names.specs.declared.row.ResourceRow.{ResourceRow}
-use Rattle.kapi_object.proofs.Puts.{put_if_other}
-use Rattle.kapi_object.specs.Given.{given_of, text_given}
-use Rattle.kapi_object.specs.Tree.{in_metadata, members_or_none, metadata_of, unless_null, with_member_of, with_text, without, without_member}
-use Rattle.kapi_object.specs.declared.given.GivenText.TheVariants as given
+use Rattle.kapi_model.specs.declared.row.ResourceRow.{ResourceRow}
+use Rattle.kapi_tree.proofs.Puts.{put_if_other}
+use Rattle.kapi_tree.specs.Given.{given_of, text_given}
+use Rattle.kapi_tree.specs.Tree.{in_metadata, members_or_none, metadata_of, unless_null, with_member_of, with_text, without, without_member}
+use Rattle.kapi_tree.specs.declared.given.GivenText.TheVariants as given
 use Rattle.kapi_route.specs.declared.route.Part.{Part}
 use Rattle.kapi_route.specs.declared.route.Part.TheVariants as part
 use Rattle.kapi_store.specs.Stamps.{metadata_text}
 use Rattle.kapi_store.specs.declared.key.Key.{Key}
 use Rattle.kapi_watch.proofs.Named.{in_object, in_text}
 use Rattle.kapi_watch.specs.Histories.{IsNamedBy}
-use Rattle.kapi_answer.specs.Create.{housed, in_namespace, in_place, key_of, unreported}
+use Rattle.kapi_answer.specs.Create.{with_namespace_on, in_namespace, in_place, key_of, without_status}
 use Rattle.kapi_answer.specs.Update.{keeping_status, replacing}
 
 -- ---- what the metadata gives is what it tells
@@ -52,7 +52,7 @@ none_given name (number n) is = absurd (cc is)
 none_given name (array ds) is = absurd (cc is)
 none_given name (object ms) is = absurd (cc is)
 
--- where no other namespace is given than none, none is told
+-- where only the empty namespace may be given, the metadata has none
 none_told : (name : List ℕ) (o : Option Data) → in_namespace [] name (text_given (option_and_then unless_null o)) ≡ Ok tt → unwrap_or (option_and_then as_str o) [] ≡ []
 none_told name None is = refl
 none_told name (Some d) is = none_given name d is
@@ -67,7 +67,7 @@ text_here k t d =
 text_there : (q k t : List ℕ) (d : Data) → bytes_eq q k ≡ false → metadata_text q (with_text k t d) ≡ metadata_text q d
 text_there q k t d apart = ap (λ o. unwrap_or (option_and_then as_str o) []) (in_text q k t d apart)
 
--- trees with the same metadata tell the same
+-- trees with the same metadata have the same texts there
 text_same : (q : List ℕ) (a b : Data) → get (codes "metadata") a ≡ get (codes "metadata") b → metadata_text q a ≡ metadata_text q b
 text_same q a b same = ap (λ o. unwrap_or (option_and_then as_str (option_and_then (get q) o)) []) same
 
@@ -120,11 +120,11 @@ keeping_same false old tree = refl
 
 -- ---- the place
 
--- a namespace is one that places of the row have: none where its objects live in none
+-- a namespace is one that places of the resource type have: none where its objects live in none
 abbrev pub IsHome : ResourceRow → List ℕ → Type 0
 IsHome row namespace = (if row.namespaced then namespace else []) ≡ namespace
 
--- the namespace of a place is one
+-- the namespace of a place is one of its resource type's
 home_of : (b : Bool) (namespace : List ℕ) → (if b then (if b then namespace else []) else []) ≡ (if b then namespace else [])
 home_of true namespace = refl
 home_of false namespace = refl
@@ -142,7 +142,7 @@ housed_by : (b : Bool) (k : Key) (namespace : List ℕ) (tree : Data) → metada
 housed_by true k namespace tree name is none = (text_here (codes "namespace") namespace tree ∙ sym is, text_there (codes "name") (codes "namespace") namespace tree refl ∙ name)
 housed_by false k namespace tree name is none = (none refl ∙ sym is, name)
 
--- where a tree may only give the row's namespace, it tells none on a row without
+-- where a tree may only give the resource type's namespace, it gives none for a resource type without
 none_outside : (row : ResourceRow) (namespace name : List ℕ) (tree : Data) → IsHome row namespace → in_namespace namespace name (given_of tree).namespace ≡ Ok tt
     → row.namespaced ≡ false → metadata_text (codes "namespace") tree ≡ []
 none_outside row namespace name tree home same is =
@@ -153,18 +153,18 @@ none_outside row namespace name tree home same is =
 pub new_named : (row : ResourceRow) (namespace name : List ℕ) (tree : Data) → IsHome row namespace → (given_of tree).name ≡ given.Text name
     → in_namespace namespace name (given_of tree).namespace ≡ Ok tt → IsNamedBy (key_of row namespace name) (in_place row namespace tree)
 new_named row namespace name tree home called same =
-    let kept : get (codes "metadata") (unreported row tree) ≡ get (codes "metadata") tree = unreported_same row.has_status tree in
-    housed_by row.namespaced (key_of row namespace name) namespace (unreported row tree)
-    (text_same (codes "name") (unreported row tree) tree kept ∙ given_told (in_metadata (codes "name") tree) name called) refl
-    (λ is. text_same (codes "namespace") (unreported row tree) tree kept ∙ none_outside row namespace name tree home same is)
+    let kept : get (codes "metadata") (without_status row tree) ≡ get (codes "metadata") tree = unreported_same row.has_status tree in
+    housed_by row.namespaced (key_of row namespace name) namespace (without_status row tree)
+    (text_same (codes "name") (without_status row tree) tree kept ∙ given_told (in_metadata (codes "name") tree) name called) refl
+    (λ is. text_same (codes "namespace") (without_status row tree) tree kept ∙ none_outside row namespace name tree home same is)
 
--- and so is one that is put in place of another
+-- a tree that is put in place of another is named by its place
 pub other_named : (of : Part) (row : ResourceRow) (k : Key) (old tree : Data) → IsHome row k.namespace → in_namespace k.namespace k.name (given_of tree).namespace ≡ Ok tt
     → IsNamedBy k old → IsNamedBy k (replacing of row k old tree)
 unfolding replacing
 other_named part.Object row k old tree home same h =
     let called : Data = with_text (codes "name") k.name tree in
-    named_same k (keeping_status row old (housed row k.namespace called)) (housed row k.namespace called) (keeping_same row.has_status old (housed row k.namespace called))
+    named_same k (keeping_status row old (with_namespace_on row k.namespace called)) (with_namespace_on row k.namespace called) (keeping_same row.has_status old (with_namespace_on row k.namespace called))
     (housed_by row.namespaced k k.namespace called (text_here (codes "name") k.name tree) (sym home)
     (λ is. text_there (codes "namespace") (codes "name") k.name tree refl ∙ none_outside row k.namespace k.name tree home same is))
 other_named part.Status row k old tree home same h = named_same k (with_member_of (codes "status") tree old) old (with_status tree old) h

@@ -1,4 +1,4 @@
--- What is told where the store refuses.
+-- Refusals where the store refuses.
 use Rattle.std.proofs.Common.{ℕ, List, Option, Some, None, Result, refl}
 use Rattle.std.specs.Option.{option_map}
 use Rattle.kapi_text.specs.Gives.{Fails, ◌>>=◌}

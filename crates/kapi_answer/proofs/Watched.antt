@@ -1,4 +1,4 @@
--- What goes out of an event of a watch.
+-- The bytes that an event of a watch sends.
 use Rattle.std.proofs.Common.{◌≡◌, ℕ, List, Some, None, Result, Ok, Err, refl, ap, sym}
 use Rattle.serde_json.specs.Data.{Data}
 use Rattle.serde_json.specs.Written.{compact_text}
@@ -16,7 +16,7 @@ use Rattle.kapi_answer.specs.declared.watch.EventReply.{EventReply}
 abbrev pub told_of : List ℕ → EventReply
 told_of bytes = record { bytes = bytes; after = after.Watches }
 
--- bytes that tell a text of an object
+-- the bytes of an event with a text of an object
 abbrev pub Tells : List ℕ → Shown → List ℕ → Type 0
 Tells bytes e object = (d : Data) → object ≡ compact_text d → bytes ≡ event_chunk (type_of e) d
 
@@ -42,7 +42,7 @@ end_expired s w (event.Deleted o revision) never is = absurd (cc is)
 end_expired s w event.Expired never is = refl
 end_expired s w event.Refused never is = absurd (never refl)
 
--- the end of one whose rights were taken away
+-- the end of a watch whose rights were taken away
 pub end_refused : (s : Plain) (w : PlainWatching) (e : Event) → e ≡ event.Refused → ending_of w.close (refused_status w) ≡ event_reply_of s w (event_of e)
 unfolding event_reply_of
 end_refused s w e is = ap (λ x. event_reply_of s w (event_of x)) (sym is)

@@ -3,12 +3,12 @@ use Rattle.std.specs.Prelude.{ℕ, Bool, List, [], Option, Some, None, Result, O
 use Rattle.std.specs.Map.{lookup}
 use Rattle.serde_json.specs.Data.{Data}
 use Rattle.kapi_text.specs.Gives.{◌>>=◌}
-use Rattle.kapi_escalation.specs.Escalation.{escalated}
+use Rattle.kapi_answer.specs.Escalation.{escalated}
 use Rattle.kapi_http.specs.declared.message.HttpFault.{HttpFault}
 use Rattle.kapi_http.specs.declared.message.HttpRequest.{HttpRequest}
-use Rattle.kapi_names.specs.declared.row.ResourceRow.{ResourceRow}
+use Rattle.kapi_model.specs.declared.row.ResourceRow.{ResourceRow}
 use Rattle.kapi_policy.specs.Objects.{PolicyObjects}
-use Rattle.kapi_rbac_types.specs.declared.identity.Identity.{Identity}
+use Rattle.kapi_model.specs.declared.identity.Identity.{Identity}
 use Rattle.kapi_request_info.specs.Attributes.{info}
 use Rattle.kapi_request_info.specs.Faults.{TargetFault, bad_path, bad_escape, bad_query}
 use Rattle.kapi_request_info.specs.declared.attributes.Attributes.{Attributes}
@@ -40,8 +40,8 @@ use Rattle.kapi_watch.specs.Watches.{PlainWatch}
 use Rattle.kapi_answer.specs.Watch.{PlainWatching, since_served, watch_of}
 use Rattle.kapi_answer.specs.Update.{replaces, to_patch, to_update}
 
--- what a request that passes all checks but the store's is told, the watch that it starts, or what it is to change: a new object at its
--- place, an object in place of the one that stands there, or objects that are to be deleted
+-- what a request that passes all checks but the store's leads to: an answer without a change, a watch that starts, a
+-- new object at its place, an object in place of the stored one, or objects that are to be deleted
 pub data Plan : Type 0 where
   tell : Outcome → Plan
   watch : PlainWatch → Plan
@@ -49,11 +49,11 @@ pub data Plan : Type 0 where
   replace : Key × Data → Plan
   delete : Deletion → Plan
 
--- what is told without a change is a plan
+-- the plan of an answer without a change
 abbrev pub tells : Outcome → Result Plan Refused
 tells outcome = Ok (tell outcome)
 
--- whose a request is, by which roles and bindings it is decided, and what it is about
+-- the roles and bindings that decide a resource request, its identity, resource type, key, filter and body
 pub record Task : Type 0 where
   pub objects : PolicyObjects
   pub identity : Identity
@@ -62,7 +62,7 @@ pub record Task : Type 0 where
   pub filter : Filter
   pub body : List ℕ
 
--- the task of a request on its route, of what its query asks for
+-- the task of a resource request on its route, with the filter of its query
 abbrev pub task : PolicyObjects → Identity → HttpRequest → Attributes → ResourceRouted → Filter → Task
 task objects identity request a r filter = record {
   objects = objects;
@@ -73,32 +73,32 @@ task objects identity request a r filter = record {
   body = request.body;
 }
 
--- the identity may write the object, by what it would give him or others
+-- the identity may write the object, by what the write would grant
 abbrev pub escalation_checked : Plain → Task → Key × Data → Result (Unit {0}) Refused
 escalation_checked s t new = escalated t.objects t.identity t.key.name new.0 (lookup (is_key new.0) s.objects) new.1
 
--- and so is an object that the identity may create
+-- plans the creation of an object that passed its checks, where the identity may make the write
 unfoldable pub to_be_created : Plain → Task → Key × Data → Result Plan Refused
 to_be_created s t new = do
   u ← escalation_checked s t new
   Ok (create new)
 
--- and one that it may write in place of another
+-- plans the replacement of an object that passed its checks, where the identity may make the write
 unfoldable pub to_be_replaced : Plain → Task → Key × Data → Result Plan Refused
 to_be_replaced s t new = do
   u ← escalation_checked s t new
   Ok (replace new)
 
--- and so is a deletion
+-- plans a deletion that passed its checks
 abbrev pub deletes : Deletion → Result Plan Refused
 deletes deletion = Ok (delete deletion)
 
--- a review is answered, and each other object is created
+-- plans the answer to a review, or the creation of any other object
 unfoldable pub planned_creation : Option ReviewKind → Plain → Task → Result Plan Refused
 planned_creation (Some kind) s t = to_review t.objects t.identity kind t.row t.key.namespace t.body >>= tells
 planned_creation None s t = to_create s t.row t.key.namespace t.body >>= to_be_created s t
 
--- what is to be done on a route of a resource
+-- the plan of a resource request by its action
 unfoldable pub planned_on : Action → Plain → Task → Result Plan Refused
 planned_on action.Get s t = found s t.key >>= tells
 planned_on action.List s t = tells (listed s t.row t.key.namespace t.filter)
@@ -109,7 +109,7 @@ planned_on (action.Patch of) s t = to_patch s t.row of t.key t.body >>= to_be_re
 planned_on action.Delete s t = to_delete s t.key t.body >>= deletes
 planned_on action.DeleteCollection s t = to_delete_all s t.row t.key.namespace t.filter t.body >>= deletes
 
--- the checks of a request for a resource, from its query on
+-- the checks of a resource request, from its query on
 unfoldable pub planned_for : PolicyObjects → Plain → Identity → HttpRequest → Attributes → ResourceRouted → Result Plan Refused
 planned_for objects s identity request a r = do
   filter ← queried r.action s.revision a.query
@@ -117,18 +117,18 @@ planned_for objects s identity request a r = do
   w ← media_typed request.method request.headers
   planned_on r.action s (task objects identity request a r filter)
 
--- those of a request whether the server is well
+-- the checks of a health request
 unfoldable pub told_well : HttpRequest → Result Outcome Refused
 told_well request = do
   w ← media_typed request.method request.headers
   Ok well
 
--- those of a request on its route
+-- the checks of a request on its route
 abbrev pub planned_at : PolicyObjects → Plain → Identity → HttpRequest → Attributes → Routed → Result Plan Refused
 planned_at objects s identity request a health = told_well request >>= tells
 planned_at objects s identity request a (resource r) = planned_for objects s identity request a r
 
--- the checks of a request by the roles and bindings that there are, in their order, but for those of the store
+-- all checks of a request but the store's, by the current roles and bindings, in their order
 unfoldable pub planned : PolicyObjects → Plain → Identity → HttpRequest → Attributes → Result Plan Refused
 planned objects s identity request a = do
   v ← authorized objects identity a
@@ -140,11 +140,11 @@ pub data Passed : Type 0 where
   told : Outcome → Passed
   watching : PlainWatch → Passed
 
--- an outcome is told
+-- the result of a request that passed every check with an outcome
 abbrev pub passes : Outcome → Result Passed Refused
 passes outcome = Ok (told outcome)
 
--- what becomes of it, where the store makes the write
+-- what becomes of a plan, where the store makes the write
 abbrev pub carried_out : Plain → Plan → Result Passed Refused
 carried_out s (tell outcome) = passes outcome
 carried_out s (watch w) = Ok (watching w)
@@ -152,7 +152,7 @@ carried_out s (create new) = creates s new >>= passes
 carried_out s (replace new) = replaces s new >>= passes
 carried_out s (delete deletion) = removes s deletion >>= passes
 
--- all checks of a request
+-- all checks of a request, the store's last
 unfoldable pub checked : PolicyObjects → Plain → Identity → HttpRequest → Attributes → Result Passed Refused
 checked objects s identity request a = planned objects s identity request a >>= carried_out s
 
@@ -162,7 +162,7 @@ pub record Answered : Type 0 where
   pub changes : List PlainChange
   pub watch : Option PlainWatching
 
--- a reply, and no more
+-- an answer of a reply alone
 abbrev pub replied : WrittenReply → Answered
 replied reply = record { reply = reply; changes = []; watch = None }
 
@@ -176,33 +176,32 @@ answer_passed identity a close (watching w) = record {
   watch = Some (record { watch = w; close = close; identity = identity; attributes = a });
 }
 
--- the word for a fault of a target
+-- the `BadWord` of a fault of a target
 abbrev pub target_word : TargetFault → BadWord
 target_word bad_path = word.Target
 target_word bad_escape = word.Escape
 target_word bad_query = word.Query
 
--- a request that is made by the identity
+-- a request that the identity makes
 abbrev pub asked_by : Identity → HttpRequest → Attributes → Asked
 asked_by identity request a = record { user = identity.user; method = request.method; attributes = a }
 
--- the answer that a request's checks lead to, which were for the identity
+-- the answer to a request of the identity by the result of its checks
 unfoldable pub answer_by : Identity → HttpRequest → Attributes → Result Passed Refused → Answered
 answer_by identity request a (Ok passed) = answer_passed identity a request.close passed
 answer_by identity request a (Err refused) = replied (refusal_reply (asked_by identity request a) request.close refused)
 
--- the answer to a request, all of whose checks are for the identity as which it is made; where there is none it is refused to the
--- one that asks
+-- the answer to a request, checked for its effective identity; a refused impersonation is answered to the caller
 unfoldable pub answer_as : PolicyObjects → Plain → Identity → HttpRequest → Attributes → Result Identity Refused → Answered
 answer_as objects s identity request a (Ok other) = answer_by other request a (checked objects s other request a)
 answer_as objects s identity request a (Err refused) = replied (refusal_reply (asked_by identity request a) request.close refused)
 
--- the answer to a request whose target gives those attributes, or has a fault
+-- the answer to a request whose target specifies those attributes, or has a fault
 unfoldable pub answer_asked : PolicyObjects → Plain → Identity → HttpRequest → Result Attributes TargetFault → Answered
 answer_asked objects s identity request (Ok a) = answer_as objects s identity request a (made_as objects identity request)
 answer_asked objects s identity request (Err fault) = replied (target_reply (target_word fault) request.close)
 
--- the answer to what was cut from a connection's bytes, by the roles and bindings that there are
+-- the answer to what was cut from a connection's bytes, by the current roles and bindings
 unfoldable pub answer : PolicyObjects → Plain → Identity → Result HttpRequest HttpFault → Answered
 answer objects s identity (Ok request) = answer_asked objects s identity request (info request.method request.target)
 answer objects s identity (Err fault) = replied (fault_reply fault)

@@ -3,9 +3,9 @@ use Rattle.std.specs.Prelude.{ℕ, ◌+◌, List, [], map, length, Result, Ok}
 use Rattle.serde_json.specs.Data.{Data}
 use Rattle.serde_json.specs.Written.{compact_text}
 use Rattle.kapi_text.specs.Gives.{◌>>=◌}
-use Rattle.kapi_collection.specs.List.{list_tree}
+use Rattle.kapi_answer.specs.List.{list_tree}
 use Rattle.kapi_http.specs.declared.message.StatusCode.TheVariants as status
-use Rattle.kapi_names.specs.declared.row.ResourceRow.{ResourceRow}
+use Rattle.kapi_model.specs.declared.row.ResourceRow.{ResourceRow}
 use Rattle.kapi_reply.specs.declared.refusal.Refused.{Refused}
 use Rattle.kapi_route.specs.declared.query.Filter.{Filter}
 use Rattle.kapi_store.specs.Listing.{listed_trees}
@@ -15,7 +15,7 @@ use Rattle.kapi_answer.specs.Create.{stored}
 use Rattle.kapi_answer.specs.Delete.{Deletion, deletable}
 use Rattle.kapi_answer.specs.Outcome.{Outcome, told}
 
--- what a collection is asked for, with its keys: the objects of the row in the namespace, or in all where that is empty
+-- the objects that a collection request selects, with their keys: in the namespace, or in all where it is empty
 abbrev pub chosen : Plain → ResourceRow → List ℕ → Filter → List (Key × Data)
 chosen s row namespace filter = listed_trees row namespace filter.selector filter.name s.objects
 
@@ -23,11 +23,11 @@ chosen s row namespace filter = listed_trees row namespace filter.selector filte
 abbrev pub list_of : ResourceRow → List (Key × Data) → ℕ → Data
 list_of row entries revision = list_tree row (map (λ e. e.1) entries) revision
 
--- what is told of a collection
+-- the reply to a list request
 unfoldable pub listed : Plain → ResourceRow → List ℕ → Filter → Outcome
 listed s row namespace filter = told status.Ok (list_of row (chosen s row namespace filter) s.revision)
 
--- what is deleted of a collection is told as it stood, at the revision of its last deletion
+-- the deletion of these objects; its reply lists the deleted objects, at the revision of the last deletion
 abbrev pub deletion_of : ResourceRow → ℕ → List (Key × Data) → Deletion
 deletion_of row revision entries =
     record { name = []; keys = map (λ e. e.0) entries; told = compact_text (list_of row entries (revision + length entries)) }
@@ -38,7 +38,7 @@ deletes_all s row entries = do
   left ← stored [] (revisions_left s (length entries))
   Ok (deletion_of row s.revision entries)
 
--- the deletion of what a collection is asked for, from its body on
+-- the deletion that a collection request asks for, from its body on
 unfoldable pub to_delete_all : Plain → ResourceRow → List ℕ → Filter → List ℕ → Result Deletion Refused
 to_delete_all s row namespace filter body = do
   options ← deletable body

@@ -6,16 +6,16 @@ use Rattle.serde_json.specs.Written.{compact_text}
 use Rattle.kapi_text.specs.Gives.{◌>>=◌}
 use Rattle.kapi_http.specs.declared.message.StatusCode.TheVariants as status
 use Rattle.kapi_admission.specs.Admission.{BodyFault, float, invalid, not_json, object_of, wrong_kind, wrong_version}
-use Rattle.kapi_object.specs.Given.{given_of}
-use Rattle.kapi_names.specs.Names.{is_name_on}
-use Rattle.kapi_object.specs.Tree.{with_text, without_member}
-use Rattle.kapi_names.specs.declared.fault.Cause.{Cause}
-use Rattle.kapi_names.specs.declared.fault.Cause.TheVariants as cause
-use Rattle.kapi_names.specs.declared.fault.FieldFault.{FieldFault}
-use Rattle.kapi_object.specs.declared.given.Given.{Given}
-use Rattle.kapi_object.specs.declared.given.GivenText.{GivenText}
-use Rattle.kapi_object.specs.declared.given.GivenText.TheVariants as given
-use Rattle.kapi_names.specs.declared.row.ResourceRow.{ResourceRow}
+use Rattle.kapi_tree.specs.Given.{given_of}
+use Rattle.kapi_model.specs.Names.{is_name_on}
+use Rattle.kapi_tree.specs.Tree.{with_text, without_member}
+use Rattle.kapi_model.specs.declared.fault.FaultKind.{FaultKind}
+use Rattle.kapi_model.specs.declared.fault.FaultKind.TheVariants as cause
+use Rattle.kapi_model.specs.declared.fault.FieldFault.{FieldFault}
+use Rattle.kapi_tree.specs.declared.given.Given.{Given}
+use Rattle.kapi_tree.specs.declared.given.GivenText.{GivenText}
+use Rattle.kapi_tree.specs.declared.given.GivenText.TheVariants as given
+use Rattle.kapi_model.specs.declared.row.ResourceRow.{ResourceRow}
 use Rattle.kapi_reply.specs.Refusals.{asked_for, named}
 use Rattle.kapi_reply.specs.declared.reply.Content.TheVariants as content
 use Rattle.kapi_reply.specs.declared.refusal.BadWord.TheVariants as word
@@ -28,7 +28,7 @@ use Rattle.kapi_store.specs.Plain.{Plain, PlainChange, creation_in_place, free_p
 use Rattle.kapi_store.specs.declared.key.Key.{Key}
 use Rattle.kapi_answer.specs.Outcome.{Outcome}
 
--- a body that is an object of its kind and version: what it gives as its name and the like, and its tree or its faults
+-- a body that is an object of its kind and version: its name, namespace and generated name, and its tree or its faults
 pub record Admitted : Type 0 where
   pub given : Given
   pub object : Result Data (List FieldFault)
@@ -42,24 +42,24 @@ admitted_from (Err float) = Err (asked_for (refusal.BadRequest word.Float))
 admitted_from (Err wrong_kind) = Err (asked_for (refusal.BadRequest word.Kind))
 admitted_from (Err wrong_version) = Err (asked_for (refusal.BadRequest word.Version))
 
--- the body is a JSON object of the row's kind and version
+-- the body is a JSON object of the resource type's kind and version
 abbrev pub admitted : ResourceRow → List ℕ → Result Admitted Refused
 admitted row bytes = admitted_from (object_of row bytes)
 
 -- a body is refused for its name alone
-abbrev pub bad_name : List ℕ → Cause → Refused
-bad_name name why = named name (refusal.Invalid (record { field = codes "metadata.name"; cause = why } ∷ []))
+abbrev pub invalid_name : List ℕ → FaultKind → Refused
+invalid_name name why = named name (refusal.Invalid (record { field = codes "metadata.name"; cause = why } ∷ []))
 
--- the text is a name that objects of the row may have
+-- the text is a name that objects of the resource type may have
 unfoldable pub name_text : ResourceRow → List ℕ → Result (List ℕ) Refused
 name_text row name =
-    if length name == 0 then Err (bad_name name cause.Required)
-    else (if is_name_on row name then Ok name else Err (bad_name name cause.BadValue))
+    if length name == 0 then Err (invalid_name name cause.Required)
+    else (if is_name_on row name then Ok name else Err (invalid_name name cause.BadValue))
 
--- the body gives such a name
+-- the body gives a name that objects of the resource type may have
 unfoldable pub given_name : ResourceRow → GivenText → Result (List ℕ) Refused
-given_name row given.Absent = Err (bad_name [] cause.Required)
-given_name row given.Mistyped = Err (bad_name [] cause.WrongType)
+given_name row given.Absent = Err (invalid_name [] cause.Required)
+given_name row given.Mistyped = Err (invalid_name [] cause.WrongType)
 given_name row (given.Text name) = name_text row name
 
 -- a name or namespace that the body gives is the path's
@@ -73,7 +73,7 @@ unfoldable pub in_namespace : List ℕ → List ℕ → GivenText → Result (Un
 in_namespace namespace name given =
     if is_as_in_path namespace given then Ok tt else Err (named name (refusal.BadRequest word.Namespace))
 
--- the place of an object of a row: objects of cluster-scoped rows have no namespace
+-- the place of an object of a resource type: cluster-scoped objects have no namespace
 abbrev pub key_of : ResourceRow → List ℕ → List ℕ → Key
 key_of row namespace name = record {
   group = row.group;
@@ -82,7 +82,7 @@ key_of row namespace name = record {
   name = name;
 }
 
--- what a request is told of what the store refuses, about the object of that name
+-- the refusal that reports a fault of the store, about the object of that name
 unfoldable pub refusal_of : StoreFault → Refusal
 refusal_of Exists = refusal.AlreadyExists
 refusal_of NoNamespace = refusal.NotFound sought.Namespace
@@ -91,7 +91,7 @@ refusal_of Missing = refusal.NotFound sought.Object
 refusal_of (Conflict version) = refusal.Conflict version
 refusal_of NamespaceNotEmpty = refusal.NamespaceNotEmpty
 
--- what the store answers, as an answer to the request
+-- the store's answer as an answer to the request
 abbrev pub stored : {X : Type 0} → List ℕ → Result X StoreFault → Result X Refused
 stored name (Ok x) = Ok x
 stored name (Err fault) = Err (named name (refusal_of fault))
@@ -102,23 +102,23 @@ valid name (Ok tree) = Ok tree
 valid name (Err faults) = Err (named name (refusal.Invalid faults))
 
 -- the tree without its status, where that is a subresource of its own (Kubernetes API conventions, 'Spec and Status')
-abbrev pub unreported : ResourceRow → Data → Data
-unreported row tree = if row.has_status then without_member (codes "status") tree else tree
+abbrev pub without_status : ResourceRow → Data → Data
+without_status row tree = if row.has_status then without_member (codes "status") tree else tree
 
--- the tree with the namespace of its path, where objects of the row live in namespaces
-abbrev pub housed : ResourceRow → List ℕ → Data → Data
-housed row namespace tree = if row.namespaced then with_text (codes "namespace") namespace tree else tree
+-- the tree with the namespace of its path, where objects of the resource type live in namespaces
+abbrev pub with_namespace_on : ResourceRow → List ℕ → Data → Data
+with_namespace_on row namespace tree = if row.namespaced then with_text (codes "namespace") namespace tree else tree
 
 -- the tree as it is stored at first: without a status of its own, with the namespace of its path
 abbrev pub in_place : ResourceRow → List ℕ → Data → Data
-in_place row namespace tree = housed row namespace (unreported row tree)
+in_place row namespace tree = with_namespace_on row namespace (without_status row tree)
 
 -- the object that a write leaves, as JSON text
 abbrev pub tree_text : Option Data → List ℕ
 tree_text (Some tree) = compact_text tree
 tree_text None = []
 
--- the object that a write leaves where the old one stood, if one did, as JSON text
+-- the object that a write leaves at a place where an object may have been, as JSON text
 abbrev pub text_after : Option Data → List PlainChange → List ℕ
 text_after old [] = tree_text old
 text_after old (change ∷ more) = tree_text change.new
@@ -138,10 +138,10 @@ to_create s row namespace bytes = do
   body ← admitted row bytes
   to_place s row namespace body
 
--- the reply that tells of a creation by some changes
+-- the reply to a creation by some changes
 abbrev pub created : List PlainChange → Result Outcome Refused
 created changes = Ok (record { code = status.Created; content = content.Json; body = text_after None changes; changes = changes })
 
--- its creation: a revision must be left
+-- the creation of an object: a revision must be left
 unfoldable pub creates : Plain → Key × Data → Result Outcome Refused
 creates s new = stored new.0.name (creation_in_place s new.0 new.1) >>= created

@@ -7,7 +7,7 @@ use Rattle.serde_json.specs.Data.{Data}
 use Rattle.kapi_http.specs.declared.message.HttpFault.{HttpFault}
 use Rattle.kapi_http.specs.declared.message.HttpRequest.{HttpRequest}
 use Rattle.kapi_policy.specs.Objects.{PolicyObjects}
-use Rattle.kapi_rbac_types.specs.declared.identity.Identity.{Identity}
+use Rattle.kapi_model.specs.declared.identity.Identity.{Identity}
 use Rattle.kapi_store.specs.Keys.{key_cmp}
 use Rattle.kapi_store.specs.Plain.{Plain, PlainChange}
 use Rattle.kapi_store.specs.declared.key.Key.{Key}
@@ -15,7 +15,7 @@ use Rattle.kapi_watch.specs.Histories.{IsNamedBy, IsCreation, IsReplacement, IsR
 use Rattle.kapi_answer.specs.Answer.{answer}
 use Rattle.kapi_answer.specs.Load.{loads}
 
--- the objects are in the order of their keys, and each tells the namespace and the name of its own
+-- the objects are in the order of their keys, and the metadata of each has the namespace and the name of its key
 pub record AreNamed (os : List (Key × Data)) : Type 0 where
   pub sorted : IsStrictlySortedBy key_cmp (keys_of os)
   pub named : AllByRecursion (λ e. IsNamedBy e.0 e.1) os
@@ -32,6 +32,6 @@ abbrev pub AnswersWrite : Type 0
 AnswersWrite = (objects : PolicyObjects) (s : Plain) (identity : Identity) (item : Result HttpRequest HttpFault) → AreNamed s.objects
     → IsWrite s (answer objects s identity item).changes
 
--- and so does each object that is loaded: its changes are those of a creation
+-- each object that is loaded changes what a creation makes
 abbrev pub LoadsCreate : Type 0
 LoadsCreate = (s : Plain) (text : List ℕ) (cs : List PlainChange) → loads s text ≡ Ok cs → IsCreation s cs

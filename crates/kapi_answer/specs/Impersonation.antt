@@ -1,10 +1,10 @@
--- As whom a request is made (Kubernetes, 'Authenticating', 'User impersonation').
+-- The effective identity of a request (Kubernetes, 'Authenticating', 'User impersonation').
 use Rattle.std.specs.Prelude.{List, Option, Some, None, Result, Ok, Err}
-use Rattle.kapi_escalation.specs.Granted.{AreGranted}
+use Rattle.kapi_stored_policy.specs.Granted.{AreGranted}
 use Rattle.kapi_guard.specs.Impersonation.{MakesAs, impersonated}
 use Rattle.kapi_http.specs.declared.message.HttpRequest.{HttpRequest}
 use Rattle.kapi_policy.specs.Objects.{PolicyObjects}
-use Rattle.kapi_rbac_types.specs.declared.identity.Identity.{Identity}
+use Rattle.kapi_model.specs.declared.identity.Identity.{Identity}
 use Rattle.kapi_reply.specs.Refusals.{asked_for}
 use Rattle.kapi_reply.specs.declared.refusal.BadWord.TheVariants as word
 use Rattle.kapi_reply.specs.declared.refusal.Refusal.TheVariants as refusal
@@ -19,16 +19,16 @@ abbrev pub acts_or_refused : Result Identity (List Point) → Result Identity Re
 acts_or_refused (Ok other) = Ok other
 acts_or_refused (Err points) = Err (asked_for (refusal.Impersonation points))
 
--- as whom is acted where somebody is named, and where nobody is
+-- the effective identity of a request with impersonation headers, and of one without
 unfoldable pub acts_as : PolicyObjects → Identity → Result (Option Impersonation) Misuse → Result Identity Refused
 acts_as objects identity (Ok None) = Ok identity
 acts_as objects identity (Ok (Some wanted)) = acts_or_refused (impersonated objects identity wanted)
 acts_as objects identity (Err bad_headers) = Err (asked_for (refusal.BadRequest word.Impersonation))
 
--- the identity as which a request is made: whoever asks, or somebody whom he may impersonate
+-- the identity as which a request is made: the caller, or an identity that the caller may impersonate
 abbrev pub made_as : PolicyObjects → Identity → HttpRequest → Result Identity Refused
 made_as objects identity request = acts_as objects identity (impersonation request.headers)
 
--- the changes of one write are granted to an identity as which the one that asks makes requests
+-- the changes of one write are granted to an identity as which the caller makes requests
 abbrev pub AreGrantedAs : PolicyObjects → Identity → List PlainChange → Type 0
 AreGrantedAs objects identity cs = (other : Identity) × (MakesAs objects identity other × AreGranted objects other cs)

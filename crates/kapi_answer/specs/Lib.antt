@@ -1,10 +1,12 @@
 pub mod Authorization
+pub mod Escalation
 pub mod Impersonation
 pub mod Outcome
 pub mod Get
 pub mod Create
 pub mod Delete
 pub mod Update
+pub mod List
 pub mod Collection
 pub mod Review
 pub mod Watch

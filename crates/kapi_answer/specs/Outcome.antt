@@ -15,10 +15,10 @@ pub record Outcome : Type 0 where
   pub body : List ℕ
   pub changes : List PlainChange
 
--- an object is told, and nothing is changed
+-- the reply is the object, and nothing is changed
 abbrev pub told : StatusCode → Data → Outcome
 told code tree = record { code = code; content = content.Json; body = compact_text tree; changes = [] }
 
--- the server is well (Kubernetes, 'Kubernetes API health endpoints')
+-- the reply to a health request (Kubernetes, 'Kubernetes API health endpoints')
 abbrev pub well : Outcome
 well = record { code = status.Ok; content = content.Text; body = codes "ok"; changes = [] }

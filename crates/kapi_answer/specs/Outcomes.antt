@@ -2,9 +2,9 @@
 use Rattle.std.specs.Prelude.{◌≡◌, List, [], map, Option, None, Some, Result, Ok, Err, option_map}
 use Rattle.std.specs.List.{IsDistinct}
 use Rattle.serde_json.specs.Data.{Data}
-use Rattle.kapi_object.specs.Object.{tree_of}
-use Rattle.kapi_names.specs.declared.fault.FieldFault.{FieldFault}
-use Rattle.kapi_object.specs.declared.object.Object.{Object}
+use Rattle.kapi_tree.specs.Object.{tree_of}
+use Rattle.kapi_model.specs.declared.fault.FieldFault.{FieldFault}
+use Rattle.kapi_tree.specs.declared.object.Object.{Object}
 use Rattle.kapi_policy.specs.Objects.{PolicyObjects}
 use Rattle.kapi_store.specs.Keys.{is_key}
 use Rattle.kapi_store.specs.Plain.{Plain, PlainChange, free_place, plain_change}
@@ -42,12 +42,12 @@ abbrev pub passed_data : PassedOf → Passed
 passed_data (passed.Told outcome) = told (outcome_data outcome)
 passed_data (passed.Watching w) = watching (watch_data w)
 
--- the write that it tells of
+-- the write of what a request that passed every check gets
 abbrev pub write_of : PassedOf → Option Ready
 write_of (passed.Told outcome) = outcome.write
 write_of (passed.Watching w) = None
 
--- the watch that starts
+-- the watch that what a request gets starts, if it starts one
 abbrev pub watch_in : PassedOf → Option Watch
 watch_in (passed.Told outcome) = None
 watch_in (passed.Watching w) = Some w
@@ -81,7 +81,7 @@ plan_data (plan.Create new) = create (new_data new)
 plan_data (plan.Replace new) = replace (new_data new)
 plan_data (plan.Delete deletion) = delete (deletion_data deletion)
 
--- whose a request is, and what it is about, as data
+-- a resource request's task as data
 abbrev pub task_data : PolicyObjects → TaskOf → Task
 task_data objects t = record {
   objects = objects;
@@ -92,7 +92,7 @@ task_data objects t = record {
   body = t.body.now;
 }
 
--- a watch has shown nothing yet, the place of a new object is free, and nothing is to be deleted twice
+-- a planned watch has shown nothing yet, the place of a new object is free, and nothing is to be deleted twice
 abbrev pub IsReady : Plain → PlanOf → Type 0
 IsReady s (plan.Tell outcome) = Unit {0}
 IsReady s (plan.Watch w) = IsFresh s w
@@ -100,7 +100,7 @@ IsReady s (plan.Create new) = free_place s new.key ≡ Ok tt
 IsReady s (plan.Replace new) = Unit {0}
 IsReady s (plan.Delete deletion) = IsDistinct is_key deletion.keys.items
 
--- what is only told has no write
+-- a plan of an answer alone has no write
 abbrev pub ChangesNothing : PlanOf → Type 0
 ChangesNothing (plan.Tell outcome) = outcome.write ≡ None
 ChangesNothing (plan.Watch w) = Unit {0}

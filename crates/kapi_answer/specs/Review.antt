@@ -2,23 +2,23 @@
 use Rattle.std.specs.Prelude.{ℕ, if◌then◌else◌, List, [], Option, None, Result, Ok}
 use Rattle.kapi_text.specs.Gives.{◌>>=◌}
 use Rattle.kapi_http.specs.declared.message.StatusCode.TheVariants as status
-use Rattle.kapi_names.specs.declared.row.ResourceRow.{ResourceRow}
-use Rattle.kapi_object.specs.declared.given.GivenText.{GivenText}
+use Rattle.kapi_model.specs.declared.row.ResourceRow.{ResourceRow}
+use Rattle.kapi_tree.specs.declared.given.GivenText.{GivenText}
 use Rattle.kapi_policy.specs.Objects.{PolicyObjects}
-use Rattle.kapi_rbac_types.specs.declared.identity.Identity.{Identity}
+use Rattle.kapi_model.specs.declared.identity.Identity.{Identity}
 use Rattle.kapi_reply.specs.declared.refusal.Refused.{Refused}
 use Rattle.kapi_reviews.specs.Kinds.{kind_of}
 use Rattle.kapi_reviews.specs.Reviews.{reviewed}
 use Rattle.kapi_reviews.specs.declared.kind.ReviewKind.{ReviewKind}
 use Rattle.kapi_route.specs.Route.{is_of_reviews}
-use Rattle.kapi_answer.specs.Create.{Admitted, admitted, housed, in_namespace, valid}
+use Rattle.kapi_answer.specs.Create.{Admitted, admitted, with_namespace_on, in_namespace, valid}
 use Rattle.kapi_answer.specs.Outcome.{Outcome, told}
 
--- which reviews are made on a row, if any
+-- the kind of the reviews that a resource type takes, if any
 unfoldable pub review_kind : ResourceRow → Option ReviewKind
 review_kind row = if is_of_reviews row then kind_of row.kind else None
 
--- where reviews live in namespaces, the body gives no other than the path's; a name that it gives is not looked at
+-- where reviews live in namespaces, the body gives no other namespace than the path's; a name in the body is ignored
 unfoldable pub in_review_namespace : ResourceRow → List ℕ → GivenText → Result (Unit {0}) Refused
 in_review_namespace row namespace given = if row.namespaced then in_namespace namespace [] given else Ok tt
 
@@ -27,10 +27,10 @@ unfoldable pub to_answer : PolicyObjects → Identity → ReviewKind → Resourc
 to_answer objects identity kind row namespace body = do
   same ← in_review_namespace row namespace body.given.namespace
   tree ← valid [] body.object
-  answer ← valid [] (reviewed objects identity kind (housed row namespace tree))
+  answer ← valid [] (reviewed objects identity kind (with_namespace_on row namespace tree))
   Ok (told status.Created answer)
 
--- the same, from its body on
+-- the answer to a review, from its body on
 unfoldable pub to_review : PolicyObjects → Identity → ReviewKind → ResourceRow → List ℕ → List ℕ → Result Outcome Refused
 to_review objects identity kind row namespace bytes = do
   body ← admitted row bytes

@@ -1,12 +1,12 @@
 ghost use Rattle.std.specs.Prelude.{◌≡◌};
 ghost use Rattle.kapi_answer.specs.Authorization.{authorized, is_authorized as is_authorized_by};
 
+use kapi_model::Identity;
 use kapi_policy::Policy;
-use kapi_rbac_types::Identity;
 use kapi_reply::{Refusal, Refused};
 use kapi_request_info::Attributes;
 
-/// Whether the identity may do what is asked for, by the roles and bindings that there are.
+/// Authorizes the request for the identity, by the current roles and bindings.
 #[tactic(auto, unfolding(crate::specs::Authorization::authorized))]
 pub fn authorize<P: Policy>(
     policy: &P,
@@ -22,7 +22,7 @@ pub fn authorize<P: Policy>(
     }
 }
 
-/// Whether the identity may do it.
+/// Whether the identity may make the request.
 pub fn is_authorized<P: Policy>(policy: &P, identity: &Identity, attributes: &Attributes) -> bool
     ensures { result ≡ is_authorized_by (P.content policy.now) identity.now attributes.now }
 {

@@ -13,17 +13,18 @@ ghost use Rattle.kapi_answer.specs.Outcomes.{deletion_data, outcome_data};
 
 use crate::create::refused_by_store;
 use crate::delete::check_options;
+use crate::list_text::list_text;
+use crate::listed_keys::keys_of;
 use crate::outcome::{Deletion, Outcome};
-use kapi_collection::{keys_of, list_text};
 use kapi_http::StatusCode;
-use kapi_names::ResourceRow;
+use kapi_model::ResourceRow;
 use kapi_reply::{CheckError, Content};
 use kapi_route::Filter;
 use kapi_store::{Listed, Store};
 use kapi_text::{Memory, Text};
 use std::alloc::Global;
 
-/// What a collection is asked for, as a list at the current revision.
+/// The objects that a collection request selects, as a list at the current revision.
 #[tactic(auto, unfolding(crate::specs::Collection::listed))]
 pub fn list(
     alloc: Global,
@@ -44,7 +45,7 @@ pub fn list(
     })
 }
 
-/// The checks of the deletion of what a collection is asked for: the body, and that a revision is left for each object.
+/// The checks of the deletion of a collection: the body, and that a revision is left for each object.
 #[tactic(auto, unfolding(crate::specs::Collection::to_delete_all))]
 pub fn check_delete_all(
     alloc: Global,
@@ -62,7 +63,7 @@ pub fn check_delete_all(
     delete_listed(alloc, store, row, listed.as_slice())
 }
 
-/// The deletion of listed objects, which is told as they stood, at the revision of the last one.
+/// The deletion of listed objects. The reply lists them as they were, at the revision of the last deletion.
 #[tactic(auto, unfolding(crate::specs::Collection::deletes_all))]
 fn delete_listed(
     alloc: Global,

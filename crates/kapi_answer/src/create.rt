@@ -4,29 +4,29 @@ ghost use Rattle.std.specs.Option.{option_map};
 ghost use Rattle.kapi_text.specs.Gives.{Gives};
 ghost use Rattle.serde_json.specs.View.{view};
 ghost use Rattle.kapi_admission.specs.Admission.{read_as};
-ghost use Rattle.kapi_object.specs.Object.{tree_of};
-ghost use Rattle.kapi_object.specs.Order.{is_ordered};
+ghost use Rattle.kapi_tree.specs.Object.{tree_of};
+ghost use Rattle.kapi_tree.specs.Order.{is_ordered};
 ghost use Rattle.kapi_reply.specs.Refusals as table;
 ghost use Rattle.kapi_reply.specs.Refusals.{asked_for, refused_by};
 ghost use Rattle.kapi_store.specs.Plain.{free_place, plain_change, plain_of};
 ghost use Rattle.kapi_store.specs.Faults.{fault_of};
 ghost use Rattle.kapi_store.specs.State.{Same, Fits};
 ghost use Rattle.kapi_answer.specs.Create as creation;
-ghost use Rattle.kapi_answer.specs.Create.{admitted, admitted_from, creates, given_name, housed, in_place, name_text, refusal_of, stored, to_create, to_place, tree_text, valid};
+ghost use Rattle.kapi_answer.specs.Create.{admitted, admitted_from, creates, given_name, with_namespace_on, in_place, name_text, refusal_of, stored, to_create, to_place, tree_text, valid};
 ghost use Rattle.kapi_answer.specs.Outcomes.{admitted_data, new_data, object_data, outcome_data};
 
 use crate::outcome::{NewObject, Outcome};
 use kapi_admission::{ObjectError, admit_tree, read_tree};
 use kapi_http::StatusCode;
-use kapi_names::{Cause, FieldFault, ResourceRow, check_name};
-use kapi_object::{Given, GivenText, Object};
+use kapi_model::{FaultKind, FieldFault, ResourceRow, check_name};
 use kapi_reply::{BadWord, CheckError, Content, Refusal, Refused, Sought};
 use kapi_store::{Change, Key, Shared, Store, StoreError};
 use kapi_text::{Memory, Sequence, Text, TryCopy};
+use kapi_tree::{Given, GivenText, Object};
 use serde_json::Value;
 use std::alloc::Global;
 
-/// What a body was read as: what it gives as its name and the like, and its object or its faults.
+/// What a body was read as: its name, namespace and generated name, and its object or its faults.
 #[derive(Drop)]
 pub struct Admitted {
     pub given: Given,
@@ -70,7 +70,7 @@ pub fn check_body(
     Ok(NewObject { key, object })
 }
 
-/// The namespace must exist, and the place be free.
+/// Checks that the namespace exists and the place is free.
 fn check_place(alloc: Global, store: &Store, key: &Key) -> Result<(), CheckError>
     ensures gives { Gives refused_by (λ u. u) result (stored key.now.name (free_place (plain_of store.now) key.now)) }
     ensures free { OnOk result (free_place (plain_of store.now) key.now ≡ Ok tt) }
@@ -81,7 +81,7 @@ fn check_place(alloc: Global, store: &Store, key: &Key) -> Result<(), CheckError
     }
 }
 
-/// What a request is told of what the store refuses, about the object of that name.
+/// The refusal that reports a fault of the store, about the object of that name.
 #[tactic(auto, unfolding(crate::specs::Create::refusal_of))]
 pub fn refused_by_store(name: Text, error: StoreError) -> CheckError
     ensures { refused_by result ≡ option_map (λ fault. table.named name (refusal_of fault)) (fault_of error) }
@@ -97,7 +97,7 @@ pub fn refused_by_store(name: Text, error: StoreError) -> CheckError
     }
 }
 
-/// Prepares the write of a new object, and the reply with the object as it will stand.
+/// Prepares the write of a new object, and the reply with the object as it will be stored.
 #[tactic(auto, unfolding(crate::specs::Create::creates))]
 pub fn create(alloc: Global, store: &mut Store, new: NewObject) -> Result<Outcome, CheckError>
     requires { free_place (plain_of store.old) new.key ≡ Ok tt }
@@ -117,7 +117,7 @@ pub fn create(alloc: Global, store: &mut Store, new: NewObject) -> Result<Outcom
     }
 }
 
-/// The object that a write leaves where the old one stood, if one did, as JSON text.
+/// The object that a write leaves at a place where an object may have been, as JSON text.
 pub fn text_after(
     alloc: Global,
     old: Option<&Object>,
@@ -149,7 +149,7 @@ fn object_text(alloc: Global, object: Option<&Object>) -> Result<Vec<u8>, Memory
     }
 }
 
-/// Reads a body; what is no JSON object of the row's kind and version is a bad request.
+/// Reads a body; a body that is no JSON object of the resource type's kind and version is a bad request.
 #[tactic(auto, unfolding(crate::specs::Create::admitted_from, kapi_admission::specs::Admission::read_as))]
 pub fn read_body(alloc: Global, row: &ResourceRow, body: &[u8]) -> Result<Admitted, CheckError>
     ensures { Gives refused_by admitted_data result (admitted row.now body.now) }
@@ -157,11 +157,11 @@ pub fn read_body(alloc: Global, row: &ResourceRow, body: &[u8]) -> Result<Admitt
     match read_tree(alloc, body) {
         Ok(tree) => admit(alloc, row, tree),
         Err(ObjectError::Memory) => Err(CheckError::Memory),
-        Err(_other) => Err(bad(BadWord::Json)),
+        Err(_other) => Err(bad_request(BadWord::Json)),
     }
 }
 
-/// What a JSON object was read as; what is none of the row's kind and version is a bad request.
+/// What a JSON object was read as; an object of another kind or version than the resource type's is a bad request.
 #[tactic(auto, unfolding(crate::specs::Create::admitted_from))]
 pub fn admit(alloc: Global, row: &ResourceRow, tree: Value) -> Result<Admitted, CheckError>
     requires ordered { is_ordered (view tree) ≡ true }
@@ -176,15 +176,15 @@ pub fn admit(alloc: Global, row: &ResourceRow, tree: Value) -> Result<Admitted, 
             given,
             object: Err(faults),
         }),
-        Err(ObjectError::NotJson) => Err(bad(BadWord::Json)),
-        Err(ObjectError::Float) => Err(bad(BadWord::Float)),
-        Err(ObjectError::WrongKind) => Err(bad(BadWord::Kind)),
-        Err(ObjectError::WrongVersion) => Err(bad(BadWord::Version)),
+        Err(ObjectError::NotJson) => Err(bad_request(BadWord::Json)),
+        Err(ObjectError::Float) => Err(bad_request(BadWord::Float)),
+        Err(ObjectError::WrongKind) => Err(bad_request(BadWord::Kind)),
+        Err(ObjectError::WrongVersion) => Err(bad_request(BadWord::Version)),
         Err(ObjectError::Memory) => Err(CheckError::Memory),
     }
 }
 
-pub fn bad(word: BadWord) -> CheckError
+pub fn bad_request(word: BadWord) -> CheckError
     ensures { refused_by result ≡ Some (asked_for (Refusal.BadRequest word)) }
 {
     CheckError::Refused(Refused::asked_for(Refusal::BadRequest(word)))
@@ -197,14 +197,22 @@ pub fn refused(name: Text, why: Refusal) -> CheckError
     CheckError::Refused(Refused::named(name, why))
 }
 
-/// The name that the body gives, where it is one that objects of the row may have.
+/// The name that the body gives, where it is one that objects of the resource type may have.
 #[tactic(auto, unfolding(crate::specs::Create::given_name))]
 fn check_given_name(alloc: Global, row: &ResourceRow, given: &GivenText) -> Result<Text, CheckError>
     ensures { Gives refused_by (λ t. t) result (given_name row.now given.now) }
 {
     match given {
-        GivenText::Absent => Err(bad_name(alloc, Text::copy_of(alloc, "")?, Cause::Required)?),
-        GivenText::Mistyped => Err(bad_name(alloc, Text::copy_of(alloc, "")?, Cause::WrongType)?),
+        GivenText::Absent => Err(invalid_name(
+            alloc,
+            Text::copy_of(alloc, "")?,
+            FaultKind::Required,
+        )?),
+        GivenText::Mistyped => Err(invalid_name(
+            alloc,
+            Text::copy_of(alloc, "")?,
+            FaultKind::WrongType,
+        )?),
         GivenText::Text(name) => check_name_text(alloc, row, name.copy(alloc)?),
     }
 }
@@ -214,18 +222,18 @@ fn check_name_text(alloc: Global, row: &ResourceRow, name: Text) -> Result<Text,
     ensures { Gives refused_by (λ t. t) result (name_text row.now name) }
 {
     if name.as_str().is_empty() {
-        return Err(bad_name(alloc, name, Cause::Required)?);
+        return Err(invalid_name(alloc, name, FaultKind::Required)?);
     }
     if check_name(row, name.as_str()) {
         Ok(name)
     } else {
-        Err(bad_name(alloc, name, Cause::BadValue)?)
+        Err(invalid_name(alloc, name, FaultKind::BadValue)?)
     }
 }
 
-/// A refusal of a body whose name is the one fault that is told.
-fn bad_name(alloc: Global, name: Text, cause: Cause) -> Result<CheckError, Memory>
-    ensures { IfOk result (λ e. refused_by e ≡ Some (creation.bad_name name cause)) }
+/// A refusal of a body whose name is the one fault that is reported.
+fn invalid_name(alloc: Global, name: Text, cause: FaultKind) -> Result<CheckError, Memory>
+    ensures { IfOk result (λ e. refused_by e ≡ Some (creation.invalid_name name cause)) }
 {
     let mut faults = Vec::with_capacity(alloc, 1)?;
     faults.push(FieldFault {
@@ -263,7 +271,7 @@ pub fn is_as_in_path(text: &str, given: &GivenText) -> bool
     }
 }
 
-/// The place of an object of a row: objects of cluster-scoped rows have no namespace.
+/// The place of an object of a resource type: cluster-scoped objects have no namespace.
 pub fn key_of(alloc: Global, row: &ResourceRow, namespace: &str, name: &str) -> Result<Key, Memory>
     ensures { IfOk result (λ k. k ≡ creation.key_of row.now namespace.now name.now) }
 {
@@ -305,17 +313,17 @@ fn placed(
 ) -> Result<Object, Memory>
     ensures { IfOk result (λ o. tree_of o ≡ in_place row.now namespace.now (tree_of object)) }
 {
-    house(alloc, row, namespace, unreported(row, object))
+    with_namespace(alloc, row, namespace, without_status(row, object))
 }
 
-/// The object with the namespace of its path, where objects of the row live in namespaces.
-pub fn house(
+/// The object with the namespace of its path, where objects of the resource type live in namespaces.
+pub fn with_namespace(
     alloc: Global,
     row: &ResourceRow,
     namespace: &str,
     object: Object,
 ) -> Result<Object, Memory>
-    ensures { IfOk result (λ o. tree_of o ≡ housed row.now namespace.now (tree_of object)) }
+    ensures { IfOk result (λ o. tree_of o ≡ with_namespace_on row.now namespace.now (tree_of object)) }
 {
     if row.namespaced {
         object.in_namespace(alloc, namespace)
@@ -324,9 +332,10 @@ pub fn house(
     }
 }
 
-/// The object without its status, where that is a subresource of its own (Kubernetes API conventions, 'Spec and Status').
-fn unreported(row: &ResourceRow, object: Object) -> Object
-    ensures { tree_of result ≡ creation.unreported row.now (tree_of object) }
+/// The object without its status, where that is a subresource of its own (Kubernetes API conventions, 'Spec and
+/// Status').
+fn without_status(row: &ResourceRow, object: Object) -> Object
+    ensures { tree_of result ≡ creation.without_status row.now (tree_of object) }
 {
     if row.has_status {
         object.without_status()

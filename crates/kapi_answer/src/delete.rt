@@ -3,8 +3,8 @@ ghost use Rattle.std.specs.Prelude.{◌≡◌, ◌∷◌, [], Some, IfOk, IfSome
 ghost use Rattle.serde_json.specs.Find.{as_str};
 ghost use Rattle.serde_json.specs.View.{view};
 ghost use Rattle.kapi_text.specs.Gives.{Gives};
-ghost use Rattle.kapi_object.specs.Object.{tree_of};
-ghost use Rattle.kapi_object.specs.Tree.{in_metadata, member_of};
+ghost use Rattle.kapi_tree.specs.Object.{tree_of};
+ghost use Rattle.kapi_tree.specs.Tree.{in_metadata, member_of};
 ghost use Rattle.kapi_reply.specs.Refusals.{refused_by};
 ghost use Rattle.std.specs.List.{IsDistinct};
 ghost use Rattle.kapi_store.specs.Keys.{is_key};
@@ -15,16 +15,16 @@ ghost use Rattle.kapi_answer.specs.Delete as deletions;
 ghost use Rattle.kapi_answer.specs.Delete.{asks_nothing, deletable, removes, to_delete};
 ghost use Rattle.kapi_answer.specs.Outcomes.{deletion_data, outcome_data};
 
-use crate::create::{bad, refused_by_store};
+use crate::create::{bad_request, refused_by_store};
 use crate::outcome::{Deletion, Outcome};
 use kapi_admission::{ObjectError, read_tree};
 use kapi_http::StatusCode;
-use kapi_object::tree::has_no_members;
-use kapi_object::tree_form::is_empty;
-use kapi_object::{Object, member};
 use kapi_reply::{BadWord, CheckError, Content, Refusal, Refused, Sought, Subject, deletion_text};
 use kapi_store::{Key, Store};
 use kapi_text::{Memory, TryCopy};
+use kapi_tree::tree::has_no_members;
+use kapi_tree::tree_form::is_empty;
+use kapi_tree::{Object, member};
 use serde_json::Value;
 use std::alloc::Global;
 
@@ -40,7 +40,7 @@ pub fn check_delete(
     ensures distinct { IfOk result (λ d. IsDistinct is_key d.keys.items) }
 {
     check_options(alloc, body)?;
-    let object = standing(store, key)?;
+    let object = existing(store, key)?;
     Ok(Deletion {
         name: key.name.copy(alloc)?,
         keys: one(alloc, key)?,
@@ -48,9 +48,9 @@ pub fn check_delete(
     })
 }
 
-/// The object that stands at the place that is asked for.
-pub fn standing<'a>(store: &'a Store, key: &Key) -> Result<&'a Object, Refused>
-    ensures { Gives (λ r. Some r) (λ o. tree_of o.now) result (deletions.standing (plain_of store.now) key.now) }
+/// The object that is stored at the place that is asked for.
+pub fn existing<'a>(store: &'a Store, key: &Key) -> Result<&'a Object, Refused>
+    ensures { Gives (λ r. Some r) (λ o. tree_of o.now) result (deletions.existing (plain_of store.now) key.now) }
 {
     match store.get(key) {
         Some(object) => Ok(object),
@@ -58,7 +58,7 @@ pub fn standing<'a>(store: &'a Store, key: &Key) -> Result<&'a Object, Refused>
     }
 }
 
-/// What is told where the object at a place was deleted.
+/// The reply to the deletion of the object at a place.
 fn deletion_reply(alloc: Global, key: &Key, object: &Object) -> Result<Vec<u8>, Memory>
     ensures { IfOk result (λ b. b.items ≡ deletions.deletion_text key.now (tree_of object.now)) }
 {
@@ -95,9 +95,9 @@ pub fn check_options(alloc: Global, body: &[u8]) -> Result<(), CheckError>
     }
     match read_tree(alloc, body) {
         Ok(options) if asks_for_nothing(&options) => Ok(()),
-        Ok(_options) => Err(bad(BadWord::Option)),
+        Ok(_options) => Err(bad_request(BadWord::Option)),
         Err(ObjectError::Memory) => Err(CheckError::Memory),
-        Err(_other) => Err(bad(BadWord::Json)),
+        Err(_other) => Err(bad_request(BadWord::Json)),
     }
 }
 
@@ -119,7 +119,7 @@ fn is_unset(value: Option<&Value>) -> bool
     }
 }
 
-/// Prepares the removal of objects, and the reply that tells of it.
+/// Prepares the removal of objects, and the reply that reports it.
 #[tactic(auto, unfolding(crate::specs::Delete::removes))]
 pub fn delete(store: &Store, deletion: Deletion) -> Result<Outcome, CheckError>
     requires { IsDistinct is_key deletion.keys.items }

@@ -1,4 +1,4 @@
-//! Whether the server is well (Kubernetes, 'Kubernetes API health endpoints').
+//! Health checks (Kubernetes, 'Kubernetes API health endpoints').
 ghost use Rattle.std.specs.Prelude.{◌≡◌, None, IfOk};
 ghost use Rattle.kapi_text.specs.Gives.{Gives};
 ghost use Rattle.kapi_reply.specs.Refusals.{refused_by};
@@ -11,9 +11,9 @@ use kapi_reply::{CheckError, Content};
 use kapi_route::check_media_type;
 use std::alloc::Global;
 
-/// Who is answered at all is told that the server is well.
+/// Answers a health check; authorization has passed.
 #[tactic(auto, unfolding(crate::specs::Answer::told_well))]
-pub fn tell_health(alloc: Global, request: &HttpRequest) -> Result<Outcome, CheckError>
+pub fn health(alloc: Global, request: &HttpRequest) -> Result<Outcome, CheckError>
     ensures gives { Gives refused_by outcome_data result (told_well request.now) }
     ensures told { IfOk result (λ o. o.write ≡ None) }
 {

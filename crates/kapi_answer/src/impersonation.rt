@@ -7,13 +7,13 @@ ghost use Rattle.kapi_answer.specs.Impersonation.{acts_as, acts_or_refused};
 
 use kapi_guard::{ImpersonationRefused, check_impersonation};
 use kapi_http::Header;
+use kapi_model::Identity;
 use kapi_policy::Policy;
-use kapi_rbac_types::Identity;
 use kapi_reply::{BadWord, CheckError, Refusal, Refused};
 use kapi_request_info::{Impersonation, ImpersonationError, impersonation};
 use std::alloc::Global;
 
-/// The identity as which a request with these header fields is made, where that is not the one that asks (Kubernetes,
+/// The identity as which a request with these header fields is made, where it is another than the caller (Kubernetes,
 /// 'Authenticating', 'User impersonation').
 #[tactic(auto, unfolding(crate::specs::Impersonation::acts_as))]
 pub fn impersonate<P: Policy>(

@@ -1,14 +1,19 @@
-//! What a request is answered: its checks in their order, with a file for each kind of action, and the write that the reply tells of.
+//! The answers to requests: the checks in their order, a file for each kind of action, and the writes of the answers.
 #![tactic(auto)]
 
 mod authorization;
 mod collection;
 mod create;
 mod delete;
+mod escalation;
+mod escalation_refusal;
 mod get;
 mod health;
 mod impersonation;
 pub mod laws;
+mod list_members;
+mod list_text;
+mod listed_keys;
 pub mod loading;
 pub mod outcome;
 pub mod respond;

@@ -7,8 +7,8 @@ ghost use Rattle.serde_json.specs.Find.{get};
 ghost use Rattle.serde_json.specs.View.{view};
 ghost use Rattle.kapi_text.specs.Gives.{Gives};
 ghost use Rattle.kapi_admission.specs.Admission.{version_of};
-ghost use Rattle.kapi_object.specs.Order.{is_ordered};
-ghost use Rattle.kapi_object.specs.Tree.{json_object};
+ghost use Rattle.kapi_tree.specs.Order.{is_ordered};
+ghost use Rattle.kapi_tree.specs.Tree.{json_object};
 ghost use Rattle.kapi_store.specs.Plain.{free_place, plain_change, plain_of};
 ghost use Rattle.kapi_store.specs.State.{Same, Fits};
 ghost use Rattle.kapi_answer.specs.Load as loading;
@@ -20,12 +20,12 @@ use crate::create::{admit, check_body};
 use crate::outcome::NewObject;
 use crate::review::review_kind;
 use kapi_admission::{ObjectError, read_tree};
-use kapi_names::ResourceRow;
-use kapi_object::GivenText;
-use kapi_object::given::given_in;
+use kapi_model::ResourceRow;
 use kapi_reply::{CheckError, Refusal};
 use kapi_store::{Ready, Store, StoreError};
 use kapi_text::{Memory, is_joined};
+use kapi_tree::GivenText;
+use kapi_tree::given::given_in;
 use serde_json::Value;
 use std::alloc::Global;
 use thiserror::Error;
@@ -33,13 +33,13 @@ use thiserror::Error;
 /// Why an object is not loaded.
 #[derive(Clone, Copy, Debug, PartialEq, Eq, Error)]
 pub enum LoadError {
-    /// It names no version and kind that are served.
+    /// The object names no version and kind that are served.
     #[error("no such version and kind")]
     UnknownKind,
-    /// It is no JSON object, or one with a fault, or names no place.
+    /// The text is no JSON object, or one with a fault, or names no place.
     #[error("no object that could be created")]
     Object,
-    /// Its namespace does not exist, its place is taken, or no revision is left.
+    /// The object's namespace does not exist, its place is taken, or no revision is left.
     #[error("the object cannot be stored")]
     Store,
     #[error("out of memory")]
@@ -102,7 +102,7 @@ fn check_load(alloc: Global, store: &Store, tree: Value) -> Result<NewObject, Lo
     }
 }
 
-/// The checks of a creation on a row and in a namespace.
+/// The checks of a creation for a resource type and in a namespace.
 fn check_on(
     alloc: Global,
     store: &Store,
@@ -136,7 +136,7 @@ fn check_tree(
     check_body(alloc, store, row, namespace, body)
 }
 
-/// Why the object is not loaded whose creation is refused.
+/// Why an object is not loaded whose creation is refused for this reason.
 #[tactic(auto, unfolding(crate::specs::Load::fault_for))]
 fn error_for(why: &Refusal) -> LoadError
     ensures { fault_told result ≡ Some (fault_for why.now) }
@@ -147,14 +147,14 @@ fn error_for(why: &Refusal) -> LoadError
     }
 }
 
-/// The row of the kind and version that a tree gives, but for reviews.
+/// The resource type of the kind and version that a tree has, but for reviews.
 fn find_row<'a>(table: &'a [ResourceRow], tree: &Value) -> Option<&'a ResourceRow>
     ensures { option_copied result ≡ find (loading.is_kept_kind (view tree.now)) table.now }
 {
     table.iter().find(|row| is_kept_kind(tree, row))
 }
 
-/// Reviews are not kept.
+/// Whether the tree is of the resource type's kind and version, and its objects are kept (reviews are not).
 fn is_kept_kind(tree: &Value, row: &ResourceRow) -> bool
     ensures { result ≡ loading.is_kept_kind (view tree.now) row.now }
 {
@@ -179,7 +179,7 @@ fn is_version_of(tree: &Value, row: &ResourceRow) -> bool
     }
 }
 
-/// The group and the version, or the version alone in the core group (Kubernetes, 'API Overview').
+/// Whether the text is the resource type's `apiVersion` (Kubernetes, 'API Overview').
 fn is_version(row: &ResourceRow, text: &str) -> bool
     ensures { result ≡ bytes_eq text.now (version_of row.now) }
 {
@@ -195,7 +195,7 @@ fn is_version(row: &ResourceRow, text: &str) -> bool
     )
 }
 
-/// The namespace of the place of an object of a row, which must be named where the row has namespaces.
+/// The namespace of the place of an object, which must be named where the resource type has namespaces.
 #[tactic(auto, unfolding(crate::specs::Load::namespace_in))]
 fn namespace_in<'a>(row: &ResourceRow, given: &'a GivenText) -> Option<&'a str>
     ensures { option_map (λ s. s.now) result ≡ loading.namespace_in row.now given.now }

@@ -1,8 +1,8 @@
 use kapi_http::StatusCode;
-use kapi_object::Object;
 use kapi_reply::Content;
 use kapi_store::{Key, Ready};
 use kapi_text::Text;
+use kapi_tree::Object;
 use kapi_watch::Watch;
 
 /// What a request that passed every check gets.
@@ -13,25 +13,25 @@ pub enum Passed {
     Watching(Watch),
 }
 
-/// A reply, and the write that it tells of, if the request makes one.
+/// A reply, and the write that it reports, if the request makes one.
 #[derive(Drop)]
 pub struct Outcome {
     pub code: StatusCode,
     pub content: Content,
     pub body: Vec<u8>,
-    /// Of no, one or many changes; it is prepared and still to be made.
+    /// The write, of no, one or many changes; it is prepared and still to be made.
     pub write: Option<Ready>,
 }
 
-/// What a request that passes all checks but the store's is to be told or is to change.
+/// What a request that passes all checks but the store's answers or changes.
 #[derive(Drop)]
 pub enum Plan {
-    /// It changes nothing.
+    /// The request changes nothing.
     Tell(Outcome),
-    /// It starts a watch.
+    /// The request starts a watch.
     Watch(Watch),
     Create(NewObject),
-    /// The object takes the place of the one that stands there.
+    /// The object takes the place of the stored one.
     Replace(NewObject),
     Delete(Deletion),
 }
@@ -43,10 +43,10 @@ pub struct NewObject {
     pub object: Object,
 }
 
-/// The objects that are to be deleted, and what is then told.
+/// The objects that are to be deleted, and the reply.
 #[derive(Drop)]
 pub struct Deletion {
-    /// The name that it is about; empty of a collection.
+    /// The name that the deletion is about; empty for a collection.
     pub name: Text,
     pub keys: Vec<Key>,
     pub reply: Vec<u8>,

@@ -18,18 +18,18 @@ use crate::authorization::authorize;
 use crate::collection::{check_delete_all, list};
 use crate::create::{check_create, create, key_of};
 use crate::delete::{check_delete, delete};
+use crate::escalation::check_escalation;
 use crate::get::find;
-use crate::health::tell_health;
+use crate::health::health;
 use crate::impersonation::impersonate;
 use crate::outcome::{NewObject, Outcome, Passed, Plan};
 use crate::review::{review_kind, tell_review};
 use crate::task::Task;
 use crate::update::{check_patch, check_update, replace};
 use crate::watch::{Watching, begin, check_since};
-use kapi_escalation::check_escalation;
 use kapi_http::{HttpFault, HttpRequest};
+use kapi_model::Identity;
 use kapi_policy::Policy;
-use kapi_rbac_types::Identity;
 use kapi_reply::{
     Asked, BadWord, CheckError, Refused, WrittenReply, content_reply, fault_reply, refusal_reply,
     target_reply, watch_reply,
@@ -40,7 +40,7 @@ use kapi_store::{Ready, Store};
 use kapi_text::{Memory, TryCopy};
 use std::alloc::{AllocError, Global};
 
-/// An answer that is whole, and the write that it tells of, which is still to be made.
+/// A complete answer, and the write that it reports, which is still to be made.
 #[derive(Drop)]
 pub struct Prepared {
     pub reply: WrittenReply,
@@ -50,7 +50,7 @@ pub struct Prepared {
 }
 
 impl Prepared {
-    /// A reply, and no more.
+    /// An answer of a reply alone.
     fn told(reply: WrittenReply) -> Prepared
         ensures { result ≡ record { reply = reply; write = None; watch = None } }
     {
@@ -62,7 +62,7 @@ impl Prepared {
     }
 }
 
-/// The answer to what was cut from a connection's bytes. The write that it tells of is prepared, and the store is as before.
+/// The answer to what was cut from a connection's bytes. Its write is prepared, and the store is as before.
 #[tactic(auto, unfolding(crate::specs::Answer::answer))]
 pub fn answer<P: Policy>(
     alloc: Global,
@@ -111,7 +111,7 @@ fn refuse_target(alloc: Global, word: BadWord, close: bool) -> Result<Prepared, 
     Ok(Prepared::told(target_reply(alloc, word, close)?))
 }
 
-/// The answer to a request whose attributes are known, which is made as whoever asks or as whom he may impersonate.
+/// The answer to a request whose attributes are known, made as the caller or as an identity that it may impersonate.
 #[tactic(auto, unfolding(crate::specs::Answer::answer_as))]
 fn answer_asked<P: Policy>(
     alloc: Global,
@@ -178,8 +178,8 @@ fn answer_made_by<P: Policy>(
     }
 }
 
-/// The reply of a request that passed every check: what it is told, or the head of its watch, which keeps as whom and what was asked
-/// for.
+/// The reply to a request that passed every check: its outcome, or the head of its watch, which keeps the identity and
+/// the attributes of the request.
 #[tactic(auto, unfolding(crate::specs::Answer::answer_passed))]
 fn prepare(
     alloc: Global,
@@ -245,7 +245,7 @@ fn check<P: Policy>(
     Ok(Passed::Told(outcome))
 }
 
-/// What a request that passes all checks but the store's is to be told or is to change.
+/// The plan of a request that passes all checks but the store's: what it answers or changes.
 #[tactic(auto, unfolding(crate::specs::Answer::planned))]
 fn plan<P: Policy>(
     alloc: Global,
@@ -261,14 +261,14 @@ fn plan<P: Policy>(
 {
     authorize(policy, identity, attributes)?;
     match find_route(store.table(), request.method, attributes)? {
-        Route::Health => Ok(Plan::Tell(tell_health(alloc, request)?)),
+        Route::Health => Ok(Plan::Tell(health(alloc, request)?)),
         Route::Resource(route) => {
             plan_for(alloc, policy, store, identity, request, attributes, route)
         }
     }
 }
 
-/// A request for a resource, from its query on.
+/// The checks of a resource request, from its query on.
 #[tactic(auto, unfolding(crate::specs::Answer::planned_for))]
 fn plan_for<P: Policy>(
     alloc: Global,
@@ -299,7 +299,7 @@ fn plan_for<P: Policy>(
     plan_on(alloc, policy, store, route.action, task)
 }
 
-/// What is to be done on a route of a resource.
+/// The plan of a resource request by its action.
 #[tactic(auto, unfolding(crate::specs::Answer::planned_on))]
 fn plan_on<P: Policy>(
     alloc: Global,
@@ -342,7 +342,7 @@ fn plan_on<P: Policy>(
     }
 }
 
-/// A review is answered, and each other object is created.
+/// Plans the answer to a review, or the creation of any other object.
 #[tactic(auto, unfolding(crate::specs::Answer::planned_creation))]
 fn plan_creation<P: Policy>(
     alloc: Global,
@@ -364,7 +364,7 @@ fn plan_creation<P: Policy>(
     }
 }
 
-/// An object is created that passes all checks, where the identity may write it.
+/// Plans the creation of an object that passed its checks, where the identity may write it.
 #[tactic(auto, unfolding(crate::specs::Answer::to_be_created))]
 fn plan_create<P: Policy>(
     alloc: Global,
@@ -380,7 +380,7 @@ fn plan_create<P: Policy>(
     Ok(Plan::Create(new))
 }
 
-/// And one is replaced.
+/// Plans the replacement of an object that passed its checks, where the identity may write it.
 #[tactic(auto, unfolding(crate::specs::Answer::to_be_replaced))]
 fn plan_replace<P: Policy>(
     alloc: Global,
@@ -396,7 +396,7 @@ fn plan_replace<P: Policy>(
     Ok(Plan::Replace(new))
 }
 
-/// The identity may write an object, by what it would give him or others.
+/// Checks that the identity may write an object, by what the write would grant.
 fn check_written<P: Policy>(
     alloc: Global,
     policy: &P,

@@ -1,7 +1,7 @@
 //! Reviews, which are answered and not kept.
 ghost use Rattle.std.specs.Prelude.{◌≡◌, [], None, IfOk};
 ghost use Rattle.kapi_text.specs.Gives.{Gives};
-ghost use Rattle.kapi_object.specs.Object.{tree_of};
+ghost use Rattle.kapi_tree.specs.Object.{tree_of};
 ghost use Rattle.kapi_reply.specs.Refusals.{refused_by};
 ghost use Rattle.kapi_reviews.specs.Reviews.{reviewed};
 ghost use Rattle.kapi_answer.specs.Create.{valid};
@@ -9,21 +9,22 @@ ghost use Rattle.kapi_answer.specs.Outcomes.{admitted_data, outcome_data};
 ghost use Rattle.kapi_answer.specs.Review as reviews;
 ghost use Rattle.kapi_answer.specs.Review.{in_review_namespace, to_answer, to_review};
 
-use crate::create::{Admitted, check_namespace, check_validity, house, read_body, refused};
+use crate::create::{
+    Admitted, check_namespace, check_validity, read_body, refused, with_namespace,
+};
 use crate::outcome::Outcome;
 use crate::task::Task;
 use kapi_http::StatusCode;
-use kapi_names::ResourceRow;
-use kapi_object::{GivenText, Object};
+use kapi_model::{Identity, ResourceRow};
 use kapi_policy::Policy;
-use kapi_rbac_types::Identity;
 use kapi_reply::{CheckError, Content, Refusal};
 use kapi_reviews::{ReviewError, ReviewKind, review};
 use kapi_route::is_of_reviews;
 use kapi_text::Text;
+use kapi_tree::{GivenText, Object};
 use std::alloc::Global;
 
-/// Which reviews are made on a row, if any.
+/// The kind of the reviews that a resource type takes, if any.
 #[tactic(auto, unfolding(crate::specs::Review::review_kind))]
 pub fn review_kind(row: &ResourceRow) -> Option<ReviewKind>
     ensures { result ≡ reviews.review_kind row.now }
@@ -75,7 +76,7 @@ fn answer_body<P: Policy>(
 {
     check_review_namespace(alloc, row, namespace, &body.given.namespace)?;
     let object = check_validity(alloc, &Text::copy_of(alloc, "")?, body.object)?;
-    let object = house(alloc, row, namespace, object)?;
+    let object = with_namespace(alloc, row, namespace, object)?;
     let answer = answer_valid(alloc, policy, identity, kind, &object)?;
     Ok(Outcome {
         code: StatusCode::Created,
@@ -85,7 +86,7 @@ fn answer_body<P: Policy>(
     })
 }
 
-/// Where reviews live in namespaces, the body gives no other than the path's.
+/// Checks that the body gives no other namespace than the path's, where reviews live in namespaces.
 #[tactic(auto, unfolding(crate::specs::Review::in_review_namespace))]
 fn check_review_namespace(
     alloc: Global,
@@ -102,7 +103,7 @@ fn check_review_namespace(
     }
 }
 
-/// The answer to a review of its row's kind, or its faults.
+/// The answer to a review of its resource type's kind, or its faults.
 #[tactic(auto, unfolding(crate::specs::Create::valid))]
 fn answer_valid<P: Policy>(
     alloc: Global,

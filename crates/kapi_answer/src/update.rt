@@ -2,8 +2,8 @@
 ghost use Rattle.std.specs.Prelude.{◌≡◌, Some, true, IfOk, IfSome};
 ghost use Rattle.serde_json.specs.View.{view};
 ghost use Rattle.kapi_text.specs.Gives.{Gives};
-ghost use Rattle.kapi_object.specs.Object.{tree_of};
-ghost use Rattle.kapi_object.specs.Order.{is_ordered};
+ghost use Rattle.kapi_tree.specs.Object.{tree_of};
+ghost use Rattle.kapi_tree.specs.Order.{is_ordered};
 ghost use Rattle.kapi_patch.specs.Merge.{merged};
 ghost use Rattle.kapi_reply.specs.Refusals.{refused_by};
 ghost use Rattle.kapi_store.specs.Plain.{plain_of};
@@ -14,20 +14,20 @@ ghost use Rattle.kapi_answer.specs.Update as updates;
 ghost use Rattle.kapi_answer.specs.Update.{keeping_status, patch_of, replaces, to_patch, to_replace, to_update};
 
 use crate::create::{
-    Admitted, admit, bad, check_namespace, check_validity, house, is_as_in_path, read_body,
-    refused, refused_by_store, text_after,
+    Admitted, admit, bad_request, check_namespace, check_validity, is_as_in_path, read_body,
+    refused, refused_by_store, text_after, with_namespace,
 };
-use crate::delete::standing;
+use crate::delete::existing;
 use crate::outcome::{NewObject, Outcome};
 use kapi_admission::{ObjectError, read_tree};
 use kapi_http::StatusCode;
-use kapi_names::ResourceRow;
-use kapi_object::{GivenText, Object};
+use kapi_model::ResourceRow;
 use kapi_patch::merge_patch;
 use kapi_reply::{BadWord, CheckError, Content, Refusal};
 use kapi_route::Part;
 use kapi_store::{Key, Shared, Store};
 use kapi_text::{Memory, Text, TryCopy};
+use kapi_tree::{GivenText, Object};
 use serde_json::Value;
 use std::alloc::Global;
 
@@ -47,7 +47,7 @@ pub fn check_update(
     check_replacement(alloc, store, row, part, key, body)
 }
 
-/// The checks of a patch: it is a JSON object, and what it is merged into exists; the result is checked as the body of an update.
+/// The checks of a patch: it is a JSON object, and its target exists; the result is checked as the body of an update.
 #[tactic(auto, unfolding(crate::specs::Update::to_patch))]
 pub fn check_patch(
     alloc: Global,
@@ -60,7 +60,7 @@ pub fn check_patch(
     ensures { Gives refused_by new_data result (to_patch (plain_of store.now) row.now part key.now body.now) }
 {
     let patch = read_patch(alloc, body)?;
-    let old = standing(store, key)?;
+    let old = existing(store, key)?;
     let body = admit(alloc, row, merge(alloc, old, &patch)?)?;
     check_replacement(alloc, store, row, part, key, body)
 }
@@ -72,7 +72,7 @@ fn read_patch(alloc: Global, body: &[u8]) -> Result<Value, CheckError>
     match read_tree(alloc, body) {
         Ok(patch) => Ok(patch),
         Err(ObjectError::Memory) => Err(CheckError::Memory),
-        Err(_other) => Err(bad(BadWord::Json)),
+        Err(_other) => Err(bad_request(BadWord::Json)),
     }
 }
 
@@ -125,7 +125,7 @@ fn check_name(alloc: Global, name: &Text, given: &GivenText) -> Result<(), Check
     Err(refused(name, Refusal::BadRequest(BadWord::Name)))
 }
 
-/// The object that stands there, if the version that the body gives admits a write.
+/// The stored object, if the version that the body gives admits a write.
 fn replaceable<'a>(
     alloc: Global,
     store: &'a Store,
@@ -140,7 +140,7 @@ fn replaceable<'a>(
     }
 }
 
-/// The object that stands once a part of the old one is replaced by that of another.
+/// The object that is stored once a part of the old one is replaced by that of another.
 #[tactic(auto, unfolding(crate::specs::Update::replacing))]
 fn replacing(
     alloc: Global,
@@ -155,14 +155,15 @@ fn replacing(
     match part {
         Part::Object => {
             let object = object.named(alloc, key.name.as_str())?;
-            let object = house(alloc, row, key.namespace.as_str(), object)?;
+            let object = with_namespace(alloc, row, key.namespace.as_str(), object)?;
             keep_status(alloc, row, old, object)
         }
         Part::Status => old.copy(alloc)?.with_status_of(alloc, &object),
     }
 }
 
-/// The object with the old one's status, where that is a subresource of its own (Kubernetes API conventions, 'Spec and Status').
+/// The object with the old one's status, where the status is a subresource of its own (Kubernetes API conventions,
+/// 'Spec and Status').
 fn keep_status(
     alloc: Global,
     row: &ResourceRow,
@@ -178,7 +179,7 @@ fn keep_status(
     }
 }
 
-/// Prepares the write of an object in place of the one that stands there, and the reply with the object as it will stand.
+/// Prepares the write of an object in place of the stored one, and the reply with the object as it will be stored.
 #[tactic(auto, unfolding(crate::specs::Update::replaces))]
 pub fn replace(alloc: Global, store: &Store, new: NewObject) -> Result<Outcome, CheckError>
     ensures gives { Gives refused_by outcome_data result (replaces (plain_of store.now) (new_data new)) }

@@ -3,21 +3,20 @@ ghost use Rattle.std.specs.Prelude.{◌≡◌, List, Ok, None, IfOk, option_map}
 ghost use Rattle.serde_json.specs.Data.{Data};
 ghost use Rattle.serde_json.specs.Written.{compact_text};
 ghost use Rattle.kapi_text.specs.Gives.{Gives};
-ghost use Rattle.kapi_names.specs.declared.row.ResourceRow.{ResourceRow as Row};
+ghost use Rattle.kapi_model.specs.declared.row.ResourceRow.{ResourceRow as Row};
 ghost use Rattle.kapi_reply.specs.Refusals.{refused_by};
-ghost use Rattle.kapi_store.specs.Plain.{Plain, PlainChange, StandsFor, plain_of};
-ghost use Rattle.kapi_watch.specs.Running.{IsFresh, StandsForWatch, watch_data};
+ghost use Rattle.kapi_store.specs.Plain.{Plain, PlainChange, RefinesPlain, plain_of};
+ghost use Rattle.kapi_watch.specs.Running.{IsFresh, RefinesWatch, watch_data};
 ghost use Rattle.kapi_watch.specs.Shown.{event_of};
 ghost use Rattle.kapi_watch.specs.Text.{object_text_of};
 ghost use Rattle.kapi_watch.specs.Watches.{startable};
 ghost use Rattle.kapi_answer.specs.Watch as watches;
-ghost use Rattle.kapi_answer.specs.Watch.{PlainWatching, StandsForWatching, event_reply_of, ending_of, expired_status, rechecked, refused_status, since_served, watch_of};
+ghost use Rattle.kapi_answer.specs.Watch.{PlainWatching, RefinesWatching, event_reply_of, ending_of, expired_status, rechecked, refused_status, since_served, watch_of};
 
 use crate::authorization::is_authorized;
 use kapi_http::{Method, write_chunk, write_end};
-use kapi_names::ResourceRow;
+use kapi_model::{Identity, ResourceRow};
 use kapi_policy::Policy;
-use kapi_rbac_types::Identity;
 use kapi_reply::{
     Asked, CheckError, OldRevision, Refusal, Refused, Revisions, Subject, expired_text,
     refusal_text,
@@ -35,9 +34,9 @@ pub struct Watching {
     pub watch: Watch,
     /// The connection closes after the watch.
     pub close: bool,
-    /// As whom it was asked for.
+    /// The identity that asked for the watch.
     pub identity: Identity,
-    /// What its request was about.
+    /// The attributes of the request that asked for the watch.
     pub attributes: Attributes,
 }
 
@@ -52,7 +51,7 @@ pub enum After {
     Closes,
 }
 
-/// An event as it goes out.
+/// The bytes of an event.
 #[derive(Debug, Drop)]
 pub struct EventReply {
     pub bytes: Sequence<u8>,
@@ -79,7 +78,7 @@ pub fn check_since(store: &Store, since: u64) -> Result<(), CheckError>
     Err(CheckError::Refused(Refused::asked_for(why)))
 }
 
-/// The watch of what a collection is asked for, from a revision on that `check_since` lets pass.
+/// The watch of what a collection request selects, from a revision on that `check_since` lets pass.
 pub fn begin(
     alloc: Global,
     store: &Store,
@@ -96,15 +95,15 @@ pub fn begin(
     Watch::begin(alloc, store, scope, filter.since)
 }
 
-/// What a watch sends of an event that it shows next: a chunk of its own; at its end, that it cannot go on, and the end of the body.
-/// Nothing is changed.
+/// What a watch sends for the event that it shows next: a chunk of its own; at its end, that it cannot go on, and the
+/// end of the body. Nothing is changed.
 pub fn event_reply(
     alloc: Global,
     store: &Store,
     watching: &Watching,
     event: &Event<'_>,
 ) -> Result<EventReply, Memory>
-    ensures { (history : List PlainChange) (s : Plain) (w : PlainWatching) → StandsFor store.now history s → StandsForWatching watching.now history s w
+    ensures { (history : List PlainChange) (s : Plain) (w : PlainWatching) → RefinesPlain store.now history s → RefinesWatching watching.now history s w
         → IfOk result (λ r. r ≡ event_reply_of s w (event_of event.now)) }
 {
     match event.object_text(alloc)? {
@@ -116,8 +115,7 @@ pub fn event_reply(
     }
 }
 
-/// What is shown of a watch whose rights are looked at anew, where that is `on`: that whoever watches may not any more comes before all
-/// else. Takes no memory.
+/// What a watch with rechecked rights shows, where `on` is set: the loss of rights comes first. Allocates nothing.
 #[tactic(auto, unfolding(crate::specs::Watch::rechecked))]
 pub fn recheck<'a, P: Policy>(
     policy: &P,
@@ -125,7 +123,7 @@ pub fn recheck<'a, P: Policy>(
     watching: &Watching,
     event: Option<Event<'a>>,
 ) -> Option<Event<'a>>
-    ensures { (history : List PlainChange) (s : Plain) (w : PlainWatching) → StandsForWatching watching.now history s w
+    ensures { (history : List PlainChange) (s : Plain) (w : PlainWatching) → RefinesWatching watching.now history s w
         → option_map event_of result ≡ rechecked on (P.content policy.now) w (option_map event_of event.entry) }
 {
     if on && !is_authorized(policy, &watching.identity, &watching.attributes) {
@@ -135,7 +133,7 @@ pub fn recheck<'a, P: Policy>(
     }
 }
 
-/// An event of a type that tells this text of an object, as a line in a chunk.
+/// An event of a type with this text of an object, as a line in a chunk.
 fn event_chunk(alloc: Global, kind: &str, object: &[u8]) -> Result<Vec<u8>, Memory>
     ensures { (d : Data) → object.now ≡ compact_text d → IfOk result (λ b. b.items ≡ watches.event_chunk kind.now d) }
 {
@@ -151,7 +149,7 @@ fn end_reply(
     watching: &Watching,
     event: &Event<'_>,
 ) -> Result<EventReply, Memory>
-    ensures { (history : List PlainChange) (s : Plain) (w : PlainWatching) → StandsFor store.now history s → StandsForWatching watching.now history s w
+    ensures { (history : List PlainChange) (s : Plain) (w : PlainWatching) → RefinesPlain store.now history s → RefinesWatching watching.now history s w
         → None ≡ object_text_of (event_of event.now) → IfOk result (λ r. r ≡ event_reply_of s w (event_of event.now)) }
 {
     match event {
@@ -160,9 +158,9 @@ fn end_reply(
     }
 }
 
-/// What a watch sends whose rights were taken away.
+/// What a watch sends where its rights were taken away.
 fn refused_reply(alloc: Global, watching: &Watching) -> Result<EventReply, Memory>
-    ensures { (history : List PlainChange) (s : Plain) (w : PlainWatching) → StandsForWatching watching.now history s w
+    ensures { (history : List PlainChange) (s : Plain) (w : PlainWatching) → RefinesWatching watching.now history s w
         → IfOk result (λ r. r ≡ ending_of w.close (refused_status w)) }
 {
     let asked = Asked {
@@ -174,9 +172,9 @@ fn refused_reply(alloc: Global, watching: &Watching) -> Result<EventReply, Memor
     ended_reply(alloc, &status, watching.close)
 }
 
-/// What a watch sends that cannot go on.
+/// What a watch sends where it cannot go on.
 fn expired_reply(alloc: Global, store: &Store, watching: &Watching) -> Result<EventReply, Memory>
-    ensures { (history : List PlainChange) (s : Plain) (w : PlainWatching) → StandsFor store.now history s → StandsForWatching watching.now history s w
+    ensures { (history : List PlainChange) (s : Plain) (w : PlainWatching) → RefinesPlain store.now history s → RefinesWatching watching.now history s w
         → IfOk result (λ r. r ≡ ending_of w.close (expired_status s w.watch)) }
 {
     let scope = watching.watch.scope();
@@ -193,7 +191,7 @@ fn expired_reply(alloc: Global, store: &Store, watching: &Watching) -> Result<Ev
     ended_reply(alloc, &status, watching.close)
 }
 
-/// The last event of a watch, with the text of the Status object that tells why, and the end of the body.
+/// The last event of a watch, with the text of the Status object that reports the reason, and the end of the body.
 fn ended_reply(alloc: Global, status: &[u8], close: bool) -> Result<EventReply, Memory>
     ensures { (d : Data) → status.now ≡ compact_text d → IfOk result (λ r. r ≡ ending_of close d) }
 {

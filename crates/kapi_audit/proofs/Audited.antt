@@ -17,7 +17,7 @@ use Rattle.kapi_loading.specs.declared.fault.StartError.{StartError}
 use Rattle.kapi_loading.specs.declared.fault.StartError.TheVariants as start
 use Rattle.kapi_policy.specs.Objects.{PolicyObjects}
 
--- what is answered by what the desk has published is answered by the machine's policy
+-- what is answered by the policy that the desk has published is answered by the machine's policy
 pub audited : {X : Type 0} (items : X → List ℕ) (core : Running) (desk : Board) (given : Result Machine FileFault) (asked : List NumberedLine) (result : Result X AuditFault)
     → (m : Machine) × (given ≡ Ok m) × Publishes core desk m
     → Gives fault_told items result (answered_by (answer_of access_reviews_row (after desk.opening desk.list)) asked)

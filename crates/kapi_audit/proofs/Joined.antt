@@ -1,14 +1,14 @@
--- What the readers come back with are the shares.
+-- The readers return the shares.
 use Rattle.std.proofs.Common.{◌≡◌, ℕ, zero, suc, ◌+◌, ◌<◌, List, [], ◌∷◌, Option, Result, Ok, Err, IfOk, map, length, slice_index_or, refl, sym, ap, ◌∙◌, subst, arith}
 use Rattle.kapi_audit.specs.Answers.{answer_of}
-use Rattle.kapi_audit.specs.Readers.{AreReaders}
-use Rattle.kapi_audit.specs.Sharing.{AreShares, share}
+use Rattle.kapi_audit.specs.Private.Readers.{AreReaders}
+use Rattle.kapi_audit.specs.Private.Sharing.{AreShares, share}
 use Rattle.kapi_lines.specs.declared.line.Line.{Line}
 use Rattle.kapi_audit.specs.declared.reader.Reader.{Reader}
 use Rattle.kapi_desk.specs.Boards.{Chair}
 use Rattle.kapi_desk.specs.Steps.{after}
 use Rattle.kapi_desk.specs.declared.seat.SeatError.{SeatError}
-use Rattle.kapi_names.specs.declared.row.ResourceRow.{ResourceRow}
+use Rattle.kapi_model.specs.declared.row.ResourceRow.{ResourceRow}
 
 -- the share of what is made of a list
 share_map : {A B : Type 0} (f : A → B) (wait others : ℕ) (xs : List A) → map f (share wait others xs) ≡ share wait others (map f xs)
@@ -21,11 +21,11 @@ share_map f (suc wait) others (x ∷ xs) = share_map f wait others xs
 abbrev pub from_seat : ResourceRow → Chair → Line → Option (List ℕ)
 from_seat row seat l = answer_of row (after seat.opening seat.seen) l.text.now
 
--- what the reader at a place came back with
+-- what the reader at a place returned
 abbrev pub CameBack : ResourceRow → ℕ → List Line → Reader → Result (List (Option (List ℕ))) SeatError → Type 0
 CameBack row others lines r result = IfOk result (λ s. s ≡ map (from_seat row r.seat) (share r.number others lines))
 
--- each reader came back so
+-- each reader returned its share
 abbrev pub AllCameBack : ResourceRow → ℕ → List Line → List Reader → List (Result (List (Option (List ℕ))) SeatError) → Type 0
 AllCameBack row others lines rs results = (i : ℕ) (d : Result (List (Option (List ℕ))) SeatError) → i < length rs
     → (r : Reader) × ((e : Reader) → slice_index_or rs i e ≡ r) × CameBack row others lines r (slice_index_or results i d)
@@ -49,7 +49,7 @@ joined row seat others from lines (r ∷ rs) results (s ∷ ss) are same all is 
     let rest = joined row seat others (from + 1) lines rs (map Ok ss) ss are.2 (let whole = ap length is ∙ same in omega (arith, whole)) later refl in
     (named, subst (λ n. AreShares (from + 1) n others (map (f seat) lines) ss) (omega arith) rest)
 
--- the same, where all have finished
+-- each reader returned its share, where all have finished
 pub joined_if : {V : Type 0} (items : V → List (List (Option (List ℕ)))) (row : ResourceRow) (seat : Chair) (others : ℕ) (lines : List Line) (rs : List Reader) (results : List (Result (List (Option (List ℕ))) SeatError))
     (result : Result V SeatError) → AreReaders seat 0 rs → length results ≡ length rs → AllCameBack row others lines rs results → IfOk result (λ v. map Ok (items v) ≡ results)
     → IfOk result (λ v. AreShares 0 (length rs) others (map (from_seat row seat) lines) (items v))

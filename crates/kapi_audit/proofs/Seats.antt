@@ -1,7 +1,7 @@
--- Seats that are told, one by one.
+-- Seats to which the published steps are reported, one by one.
 use Rattle.std.proofs.Common.{◌≡◌, ℕ, zero, suc, ◌+◌, All, List, [], ◌∷◌, ◌++◌, length, sym, ◌∙◌, subst, arith}
 use Rattle.kapi_desk.specs.Boards.{Chair}
-use Rattle.kapi_audit.specs.Readers.{AreReaders}
+use Rattle.kapi_audit.specs.Private.Readers.{AreReaders}
 use Rattle.kapi_audit.specs.declared.reader.Reader.{Reader}
 
 -- no reader yet

@@ -1,7 +1,7 @@
 -- A reader's share, line by line.
 use Rattle.std.proofs.Common.{◌≡◌, ℕ, zero, suc, ◌+◌, List, [], ◌∷◌, ◌++◌, Option, map, refl, sym, ap, ◌∙◌, subst, append_assoc, append-nil, add-one, drop, drop-cons, get_or, length, ◌<◌, ◌≤◌}
 use Rattle.std.proofs.lemmas.List.{drop_all}
-use Rattle.kapi_audit.specs.Sharing.{share}
+use Rattle.kapi_audit.specs.Private.Sharing.{share}
 use Rattle.kapi_lines.specs.declared.line.Line.{Line}
 
 -- what is answered, and behind it the answers to the share of the rest, are the answers to the whole share
@@ -40,7 +40,7 @@ shared_all answer number others lines i wait answers past h =
     none zero = refl
     none (suc w) = refl
 
--- the same, of the answer that was found
+-- the answers to a share, by the answer that was found
 pub answered_at : (answer : List ℕ → Option (List ℕ)) (number others : ℕ) (lines : List Line) (i wait : ℕ) (d : Line) (answers more : List (Option (List ℕ))) (found : Option (List ℕ)) → i < length lines → wait ≡ 0
     → Shared answer number others lines i wait answers → found ≡ answer (get_or lines i d).text.now → more ≡ answers ++ found ∷ [] → Shared answer number others lines (i + 1) others more
 answered_at answer number others lines i wait d answers more found below none h is longer =

@@ -6,7 +6,7 @@ use Rattle.kapi_audit.specs.Answers.{answered_by}
 use Rattle.kapi_audit.specs.Faults.{AuditError, question_line}
 use Rattle.kapi_lines.specs.Lines.{NumberedLine, line_of}
 use Rattle.kapi_lines.specs.declared.line.Line.{Line}
-use Rattle.kapi_audit.specs.Sharing.{AreShares, share}
+use Rattle.kapi_audit.specs.Private.Sharing.{AreShares, share}
 
 -- readers behind the first one: for each of them the next question is one nearer
 nearer : {A : Type 0} (from end others : ℕ) (x : A) (xs : List A) (ss : List (List A)) → AreShares (suc from) (suc end) others (x ∷ xs) ss → AreShares from end others xs ss
@@ -15,7 +15,7 @@ nearer from end others x xs [] h = omega (arith, h)
 nearer {A} from end others x xs (s ∷ ss) h =
     (h.0, subst (λ n. AreShares n end others xs ss) (sym (add-one from)) (nearer (suc from) end others x xs ss (subst (λ n. AreShares n (suc end) others (x ∷ xs) ss) (add-one (suc from)) h.1)))
 
--- the reader who has answered goes behind the others
+-- the reader that has answered goes behind the others
 behind : {A : Type 0} (from end others : ℕ) (xs : List A) (ss : List (List A)) → AreShares from end others xs ss → AreShares from (end + 1) others xs (ss ++ share end others xs ∷ [])
 unfolding AreShares share
 behind from end others xs [] h = rw h (refl, refl)
@@ -28,7 +28,7 @@ unfolding AreShares share
 taken others x xs [] h = absurd (omega (arith, h))
 taken others x xs (s ∷ ss) h = (ss, ap (λ t. t ∷ ss) h.0, behind 0 others others xs ss (nearer 0 others others x xs ss (subst (λ n. AreShares 1 n others (x ∷ xs) ss) (add-one others) h.1)))
 
--- a text in front of the one that is given
+-- a text in front of the given one
 abbrev pub prefixed : List ℕ → Result (List ℕ) AuditError → Result (List ℕ) AuditError
 prefixed text given = given >>= λ rest. Ok (text ++ rest)
 
@@ -52,7 +52,7 @@ not_answered answer text l ls is =
     let P : Option (List ℕ) → Type 0 = λ o. prefixed text (ok_or o (question_line l.number) >>= λ t. (answered_by answer ls >>= λ rest. Ok (t ++ rest))) ≡ Err (question_line l.number) in
     subst P (sym is) refl
 
--- what the lines give from a place on stands in the shares that are left, and behind the text it gives what all lines give
+-- the answers of the lines from a place on are in the shares that are left; behind the text they make all answers
 abbrev pub Gathering : (List ℕ → Option (List ℕ)) → ℕ → List Line → ℕ → List (List (Option (List ℕ))) → List ℕ → Type 0
 Gathering answer others lines i left text =
     AreShares 0 (others + 1) others (map (λ l. answer l.text.now) (drop i lines)) left
@@ -75,7 +75,7 @@ found_at answer others lines i d left next found text below h moves =
     let m = moves _ _ _ t.1 in
     (m.0, subst (λ s. AreShares 0 (others + 1) others xs s) (sym m.1) t.2)
 
--- stands where no line does
+-- the answer at a place where there is no line
 abbrev pub no_line : Line
 no_line = record { number = 0; text = record { ref_ptr = (0, 0); now = [] } }
 

@@ -6,15 +6,15 @@ use Rattle.std.proofs.lemmas.List.Elements.{All-append, All-cons, All-nil}
 use Rattle.std.proofs.lemmas.List.Splits.{slice_split_at, slice_split_none}
 use Rattle.kapi_core.specs.Table.{access_reviews_row}
 use Rattle.kapi_desk.specs.Boards.{Chair}
-use Rattle.kapi_names.specs.declared.row.ResourceRow.{ResourceRow}
+use Rattle.kapi_model.specs.declared.row.ResourceRow.{ResourceRow}
 use Rattle.kapi_lines.proofs.Appending.{appends_more, appends_nothing}
 use Rattle.kapi_script.specs.Scripts.{lines}
-use Rattle.kapi_audit.specs.Reading.{Reading, ToldSoFar}
+use Rattle.kapi_audit.specs.Private.Reading.{Reading, ToldSoFar}
 use Rattle.kapi_audit.specs.Reports.{IsTold, Reports, Told, report_text}
 use Rattle.kapi_audit.specs.declared.fault.AnswerFault.{AnswerFault}
 use Rattle.kapi_audit.specs.declared.report.Report.{Report}
 
--- one line more is told
+-- one line more is reported on
 one_more : (row : ResourceRow) (old mid : Chair) (line : List ℕ) (rest : List (List ℕ)) (report : Report) (text : List ℕ) (last : Chair) → Reports row old mid line report
     → Told row mid rest text last → Told row old (line ∷ rest) (report_text report ++ text) last
 unfolding Told

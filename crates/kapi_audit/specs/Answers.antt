@@ -3,7 +3,7 @@ use Rattle.std.specs.Prelude.{ℕ, List, [], ◌∷◌, ◌++◌, Option, None, 
 use Rattle.kapi_text.specs.Gives.{◌>>=◌}
 use Rattle.kapi_core.specs.Machine.{Machine, policy_of}
 use Rattle.kapi_core.specs.Table.{access_reviews_row}
-use Rattle.kapi_names.specs.declared.row.ResourceRow.{ResourceRow}
+use Rattle.kapi_model.specs.declared.row.ResourceRow.{ResourceRow}
 use Rattle.kapi_policy.specs.Decided.{Decided, decided}
 use Rattle.kapi_policy.specs.Objects.{PolicyObjects}
 use Rattle.kapi_reviews.specs.Answers.{reason_of}
@@ -14,7 +14,7 @@ use Rattle.kapi_lines.specs.Lines.{NumberedLine, lines_of}
 use Rattle.kapi_loading.specs.Loading.{machine_of}
 use Rattle.kapi_audit.specs.Questions.{question_of}
 
--- the line of a decision, by the reason that a review tells where it is allowed
+-- the line of a decision, by the reason that a review reports where it is allowed
 abbrev pub reason_line : Option (List ℕ) → List ℕ
 reason_line None = codes "denied\n"
 reason_line (Some reason) = (codes "allowed " ++ escaped reason) ++ codes "\n"

@@ -12,7 +12,7 @@ pub data AuditError : Type 0 where
   policy_line : ℕ → AuditError
   question_line : ℕ → AuditError
 
--- what a fault tells of the files: nothing where memory ran out, or a reader was refused
+-- what a fault reports of the files: nothing where it is out of memory, or a reader was refused
 abbrev pub fault_told : AuditFault → Option AuditError
 fault_told (fault.PolicyLine n) = Some (policy_line n)
 fault_told (fault.QuestionLine n) = Some (question_line n)
@@ -24,7 +24,7 @@ abbrev pub unloaded : StartError → AuditFault
 unloaded (start.Line n) = fault.PolicyLine n
 unloaded start.Memory = fault.Memory
 
--- the fault of an audit one of whose readers is refused so
+-- the fault of an audit one of whose readers is refused for this reason
 abbrev pub stopped : SeatError → AuditFault
 stopped seat.Memory = fault.Memory
 stopped seat.Busy = fault.Busy

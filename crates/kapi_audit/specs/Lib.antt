@@ -1,7 +1,5 @@
 pub mod Faults
 pub mod Questions
 pub mod Answers
-pub mod Sharing
-pub mod Readers
 pub mod Reports
-pub mod Reading
+pub mod Private

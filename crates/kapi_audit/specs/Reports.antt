@@ -1,4 +1,4 @@
--- What a client of the answer port is told, line by line.
+-- What a client of the answer port is reported, line by line.
 use Rattle.std.specs.Prelude.{◌≡◌, ℕ, ◌==◌, Bool, true, false, ◌||◌, List, [], ◌∷◌, ◌++◌, length, slice_index, Option, Some, None, codes}
 use Rattle.std.specs.Fmt.{decimal}
 use Rattle.std.specs.Io.KnownBytes.{Appends}
@@ -6,7 +6,7 @@ use Rattle.kapi_core.specs.Table.{access_reviews_row}
 use Rattle.kapi_desk.specs.Boards.{Chair}
 use Rattle.kapi_desk.specs.Rule.{Begins}
 use Rattle.kapi_desk.specs.Steps.{after}
-use Rattle.kapi_names.specs.declared.row.ResourceRow.{ResourceRow}
+use Rattle.kapi_model.specs.declared.row.ResourceRow.{ResourceRow}
 use Rattle.kapi_policy.specs.Decided.{decided}
 use Rattle.kapi_reviews.specs.declared.question.Question.{Question}
 use Rattle.kapi_script.specs.Scripts.{lines}
@@ -20,7 +20,7 @@ pub record Learns (old new : Chair) : Type 0 where
   pub opening : new.opening ≡ old.opening
   pub seen : Begins old.seen new.seen
 
--- what a seat tells of a question: the decision by the policy after the steps that it has then seen, and their number
+-- the report of a seat on a question: the decision by the policy after the steps that it has seen, and their number
 abbrev pub Tells : Chair → Chair → Question → Report → Type 0
 Tells old new q told.Skipped = ⊥
 Tells old new q told.Bad = ⊥
@@ -33,7 +33,7 @@ Tells old new q (told.Told count text) =
 abbrev pub is_skipped : List ℕ → Bool
 is_skipped line = length line == 0 || slice_index line 0 == 35
 
--- what a line is told; where memory ran out, or the desk is closed, its question is not looked at
+-- the report on a line; out of memory, or with the desk closed, its question is not read
 abbrev pub Reports : ResourceRow → Chair → Chair → List ℕ → Report → Type 0
 Reports row old new line told.Skipped = (is_skipped line ≡ true) × (new ≡ old)
 Reports row old new line told.Bad = (is_skipped line ≡ false) × (question_of row line ≡ None) × (new ≡ old)
@@ -41,7 +41,7 @@ Reports row old new line told.Refused = (is_skipped line ≡ false) × Learns ol
 Reports row old new line told.Busy = (is_skipped line ≡ false) × (new ≡ old)
 Reports row old new line (told.Told count text) = (is_skipped line ≡ false) × (q : Question) × (question_of row line ≡ Some q) × Tells old new q (told.Told count text)
 
--- what is written of it
+-- the line that is written of a report
 abbrev pub report_text : Report → List ℕ
 report_text told.Skipped = []
 report_text told.Bad = codes "bad\n"
@@ -49,12 +49,12 @@ report_text told.Refused = codes "error Memory\n"
 report_text told.Busy = codes "error Busy\n"
 report_text (told.Told count text) = (decimal count ++ codes " ") ++ text
 
--- what lines are told, one after the other, by a seat that has seen no less from line to line
+-- the reports on lines, one after the other, by a seat that has seen no less from line to line
 unfoldable pub Told : ResourceRow → Chair → List (List ℕ) → List ℕ → Chair → Type 0
 Told row old [] text new = (text ≡ []) × (new ≡ old)
 Told row old (line ∷ rest) text new =
     (report : Report) × (mid : Chair) × (later : List ℕ) × Reports row old mid line report × Told row mid rest later new × (text ≡ report_text report ++ later)
 
--- behind what was written before stands what all lines of a text are told
+-- behind what was written before come the reports on all lines of a text
 abbrev pub IsTold : List ℕ → Chair → Chair → Option (List ℕ) → Option (List ℕ) → Type 0
 IsTold text old new before contents = (written : List ℕ) × Told access_reviews_row old (lines text) written new × Appends before contents written

@@ -28,7 +28,7 @@ fn lent(decision: &SeatDecision) -> Decision<'_>
     }
 }
 
-/// The line of a decision: `denied`, or `allowed` and the reason that a review tells, in printable ASCII.
+/// The line of a decision: `denied`, or `allowed` and the reason that a review reports, in printable ASCII.
 pub fn answer_text(alloc: Global, decision: &SeatDecision) -> Result<Sequence<u8>, Memory>
     ensures { IfOk result (λ t. t ≡ decision_line (seat_decision decision.now)) }
 {

@@ -1,7 +1,7 @@
 //! Questions of a client, answered line by line from one seat while a desk goes on publishing.
 ghost use Rattle.std.specs.Prelude.{◌≡◌, ◌<◌, ◌≤◌, ◌++◌, ◌∷◌, [], List, Option, ℕ, Some, IfOk, OnOk, length, take};
 ghost use Rattle.std.specs.Io.KnownBytes.{Consumes, IsAtEnd};
-ghost use Rattle.kapi_audit.specs.Reading.{Reading, ToldSoFar};
+ghost use Rattle.kapi_audit.specs.Private.Reading.{Reading, ToldSoFar};
 ghost use Rattle.kapi_audit.specs.Reports.{IsTold};
 ghost use Rattle.kapi_desk.specs.Boards.{Chair};
 ghost use Rattle.kapi_script.specs.Scripts.{lines};
@@ -10,14 +10,14 @@ use crate::fault::AnswerFault;
 use crate::question::access_reviews;
 use crate::report::{make_report, write_report};
 use kapi_desk::Seat;
-use kapi_names::ResourceRow;
+use kapi_model::ResourceRow;
 use std::alloc::Global;
 use std::io::{Read, Write};
 
-/// How many bytes are read at a time.
+/// The number of bytes that are read at a time.
 const READ_SIZE: usize = 65_536;
 
-/// How many reads a client may take.
+/// The number of reads that a client may take.
 const READS: u64 = 4_294_967_296;
 
 /// Answers a line, if it has an answer.
@@ -133,12 +133,13 @@ fn answer_all<R: Read, W: Write>(
     Err(AnswerFault::Read)
 }
 
-/// Answers the questions that a reader gives, a `spec` of a SubjectAccessReview a line, and writes the answers as they are made: the number of
-/// published steps that the seat then sees, and the decision by the policy after them. The number never falls.
+/// Answers the questions of a reader, a `spec` of a SubjectAccessReview a line, and writes the answers as they are
+/// made: the number of published steps that the seat then sees, which never falls, and the decision by the policy after
+/// them.
 ///
 /// # Errors
-/// `Read` where the reader fails or gives 2^32 pieces or more; `Write` where the writer fails; `Memory` where memory runs out outside a
-/// question.
+/// `Read` where the reader fails or returns 2^32 pieces or more; `Write` where the writer fails; `Memory` where an
+/// allocation fails outside a question.
 pub fn answer_run<R: Read, W: Write>(
     alloc: Global,
     seat: &mut Seat,

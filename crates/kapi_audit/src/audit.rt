@@ -6,7 +6,7 @@ ghost use Rattle.kapi_desk.specs.Steps.{after};
 ghost use Rattle.kapi_audit.specs.Answers.{answer_of, answered_by, answers};
 ghost use Rattle.kapi_audit.specs.Faults.{fault_told};
 ghost use Rattle.kapi_lines.specs.Lines.{line_of};
-ghost use Rattle.kapi_audit.specs.Readers.{AreReaders};
+ghost use Rattle.kapi_audit.specs.Private.Readers.{AreReaders};
 
 use crate::fault::AuditFault;
 use crate::gate::Gate;
@@ -22,10 +22,10 @@ use std::alloc::Global;
 use std::sync::Wait;
 use std::thread::Threads;
 
-/// So many readers may answer at a time.
+/// The largest number of readers.
 pub const READERS: usize = 16;
 
-/// Tells a seat all that is published, and makes it a reader.
+/// Reports all published steps to a seat, and makes it a reader.
 fn told_reader(desk: &mut Desk, seat: Seat, number: usize, published: u64) -> Result<Reader, Memory>
     requires published { published ≡ length desk.old.list }
     requires seat { seat ≡ fresh desk.old.opening }
@@ -41,7 +41,7 @@ fn told_reader(desk: &mut Desk, seat: Seat, number: usize, published: u64) -> Re
     })
 }
 
-/// Tells each seat all that is published.
+/// Reports all published steps to each seat.
 fn told_readers(
     alloc: Global,
     desk: &mut Desk,
@@ -80,7 +80,7 @@ fn answer_all<R: Threads + Sync, G: Gate + Sync>(
     gather(alloc, shares.as_slice(), lines)
 }
 
-/// Tells the seats what the desk has published, and has them answer.
+/// Reports the published steps to the seats, and has them answer.
 fn answer_told<R: Threads + Wait + Sync, G: Gate + Sync>(
     alloc: Global,
     rt: &R,
@@ -103,12 +103,13 @@ fn answer_told<R: Threads + Wait + Sync, G: Gate + Sync>(
     }
 }
 
-/// Answers a file of questions by the policy that a file of objects is, with so many reader threads. The text has a line for each
-/// question, in their order, whatever the number of readers is.
+/// Answers a file of questions by the policy of a file of objects, with so many reader threads. The text has a line for
+/// each question, in their order, whatever the number of readers is.
 ///
 /// # Errors
-/// `PolicyLine` at the first line of the policy that is not loaded, else `QuestionLine` at the first line of the questions that is
-/// none; `Memory` where memory ran out, and `Busy` where a reader answered by another policy than the whole one.
+/// `PolicyLine` at the first line of the policy that is not loaded, else `QuestionLine` at the first line that is no
+/// question; `Memory` where an allocation fails, and `Busy` where a reader answered by another policy than the whole
+/// one.
 pub fn audit_run<R: Threads + Wait + Sync, G: Gate + Sync>(
     alloc: Global,
     rt: &R,

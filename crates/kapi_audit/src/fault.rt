@@ -58,7 +58,7 @@ impl From<SeatError> for AuditFault {
     }
 }
 
-/// Why a client's questions were not answered to their end. The answers before it are written.
+/// Why a client's questions were not answered to their end. The answers before the fault are written.
 #[derive(Clone, Copy, Debug, PartialEq, Eq, Error)]
 pub enum AnswerFault {
     #[error("the questions cannot be read")]

@@ -1,13 +1,13 @@
-/// What readers pass around each question: a test holds them here. Questions are counted from 0.
+/// Hooks that readers call around each question: a test holds readers in them. Questions are counted from 0.
 pub trait Gate {
-    /// Before the question is answered, by the reader that answers it.
+    /// Runs before the question is answered, in the reader that answers it.
     fn before(&self, question: usize);
 
-    /// After it.
+    /// Runs after the question was answered, in the reader that answered it.
     fn after(&self, question: usize);
 }
 
-/// Holds nobody.
+/// A gate that holds no reader.
 #[derive(Clone, Copy, Debug)]
 pub struct NoGate;
 

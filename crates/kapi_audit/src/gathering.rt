@@ -4,14 +4,14 @@ ghost use Rattle.kapi_text.specs.Gives.{Gives};
 ghost use Rattle.kapi_audit.specs.Answers.{answered_by};
 ghost use Rattle.kapi_audit.specs.Faults.{fault_told};
 ghost use Rattle.kapi_lines.specs.Lines.{line_of};
-ghost use Rattle.kapi_audit.specs.Sharing.{AreShares};
+ghost use Rattle.kapi_audit.specs.Private.Sharing.{AreShares};
 
 use crate::fault::AuditFault;
 use kapi_lines::Line;
 use kapi_text::{Memory, Sequence};
 use std::alloc::Global;
 
-/// The line that answers a question; none where it is no question.
+/// The line that answers a question; none where a line is no question.
 pub type Answer = Option<Sequence<u8>>;
 
 /// All answers of each share.
@@ -25,7 +25,7 @@ fn whole_shares(alloc: Global, shares: &[Sequence<Answer>]) -> Result<Vec<&[Answ
     Ok(whole)
 }
 
-/// Takes the next answer off the first share, which goes behind the others then.
+/// Takes the next answer off the first share, and puts the share behind the others.
 fn next_answer<'a>(left: &mut Vec<&'a [Answer]>) -> Option<&'a Sequence<u8>>
     ensures { (answer : Option (List ℕ)) (later : List (Option (List ℕ))) (others : List (List (Option (List ℕ)))) → map (λ s. s.now) left.old.items ≡ (answer ∷ later) ∷ others
         → (option_map (λ a. a.now) result ≡ answer) × (map (λ s. s.now) left.new.items ≡ others ++ later ∷ []) }

@@ -1,5 +1,5 @@
-//! Audits: a policy as a file of objects, questions as a file of reviews, and the answers that reader threads give to them. And questions of a
-//! client, answered from a seat while a desk goes on publishing.
+//! Audits: a policy as a file of objects, questions as a file of reviews, and the answers of reader threads. Also the
+//! questions of a client, answered from a seat while a desk goes on publishing.
 #![tactic(auto)]
 
 mod answer_text;

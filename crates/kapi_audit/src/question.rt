@@ -1,10 +1,11 @@
-//! Questions: each is the `spec` of a SubjectAccessReview (Kubernetes API, authorization.k8s.io/v1), as a server reads it.
+//! Questions: each is the `spec` of a SubjectAccessReview (Kubernetes API, authorization.k8s.io/v1), as a server reads
+//! it.
 ghost use Rattle.std.specs.Prelude.{◌≡◌, [], true, codes, IfOk, Some};
 ghost use Rattle.serde_json.specs.View.{view};
 ghost use Rattle.kapi_admission.specs.Admission.{read_as};
 ghost use Rattle.kapi_core.specs.Table.{access_reviews_row, row_of};
-ghost use Rattle.kapi_object.specs.Object.{tree_of};
-ghost use Rattle.kapi_object.specs.Order.{is_ordered};
+ghost use Rattle.kapi_tree.specs.Object.{tree_of};
+ghost use Rattle.kapi_tree.specs.Order.{is_ordered};
 ghost use Rattle.kapi_reviews.specs.Questions.{at, question};
 ghost use Rattle.kapi_reviews.specs.declared.kind.ReviewKind.TheVariants as ReviewKind;
 ghost use Rattle.kapi_audit.specs.Questions as asks;
@@ -12,12 +13,11 @@ ghost use Rattle.kapi_audit.specs.Questions.{review_of};
 
 use kapi_admission::{ObjectError, admit_tree, read_tree};
 use kapi_core::Resource;
-use kapi_names::{ResourceRow, Schema};
-use kapi_object::{Object, member};
+use kapi_model::{Identity, ResourceRow, Schema};
 use kapi_policy::PlainPolicy;
-use kapi_rbac_types::Identity;
 use kapi_reviews::{Question, ReviewError, ReviewKind, read_question, review};
 use kapi_text::{Memory, Sequence, Text};
+use kapi_tree::{Object, member};
 use serde_json::{Map, Value, put};
 use std::alloc::{AllocError, Global};
 
@@ -35,7 +35,7 @@ pub fn access_reviews() -> Resource
     }
 }
 
-/// The question that a line is; none where it is none. `row` is that of access reviews.
+/// The question that a line is; none where the line is no question. `row` is that of access reviews.
 #[tactic(auto, unfolding(crate::specs::Questions::question_of))]
 pub fn question_of(
     alloc: Global,
@@ -106,7 +106,7 @@ fn question_in_review(alloc: Global, nobody: &Identity, object: &Object) -> Resu
     read_question(alloc, ReviewKind::SubjectAccessReview, "", nobody, spec)
 }
 
-/// Who makes the review: it tells a user and groups of its own, so this is not looked at.
+/// The identity that makes the review of a question: it does not count, as the review names a user and groups.
 fn nobody(alloc: Global) -> Result<Identity, Memory>
     ensures { IfOk result (λ i. i ≡ asks.nobody) }
 {

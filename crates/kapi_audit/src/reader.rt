@@ -1,7 +1,7 @@
 //! Readers: each answers its share of the questions, from its own seat.
 ghost use Rattle.std.specs.Prelude.{◌≡◌, ◌++◌, ◌∷◌, [], IfOk, OnOk, map, length};
 ghost use Rattle.kapi_audit.specs.Answers.{answer_of};
-ghost use Rattle.kapi_audit.specs.Sharing.{share};
+ghost use Rattle.kapi_audit.specs.Private.Sharing.{share};
 ghost use Rattle.kapi_desk.specs.Steps.{after};
 
 use crate::answer_text::answer_text;
@@ -10,7 +10,7 @@ use crate::gathering::Answer;
 use crate::question::question_of;
 use kapi_desk::{Seat, SeatError};
 use kapi_lines::Line;
-use kapi_names::ResourceRow;
+use kapi_model::ResourceRow;
 use kapi_text::Sequence;
 use std::alloc::Global;
 
@@ -52,7 +52,8 @@ fn answer(
     }
 }
 
-/// The answers to a reader's share of the lines, in their order: of N readers, reader w answers questions w, w + N, w + 2N and so on.
+/// The answers to a reader's share of the lines, in their order: of N readers, reader w answers questions w, w + N, w +
+/// 2N and so on.
 #[tactic(auto, using(crate::proofs::Shared::answered_one, crate::proofs::Shared::passed_one, crate::proofs::Shared::shared_all))]
 pub fn answer_share<G: Gate>(
     alloc: Global,

@@ -1,4 +1,4 @@
-//! What a line of a client of the answer port is told.
+//! The report on a line of a client of the answer port.
 ghost use Rattle.std.specs.Prelude.{◌≡◌, ◌++◌, OnOk, IfErr, codes};
 ghost use Rattle.std.specs.Fmt.{decimal};
 ghost use Rattle.std.specs.Io.KnownBytes.{Appends};
@@ -9,7 +9,7 @@ use crate::answer_text::answer_text;
 use crate::fault::AnswerFault;
 use crate::question::question_of;
 use kapi_desk::{Seat, SeatError};
-use kapi_names::ResourceRow;
+use kapi_model::ResourceRow;
 use kapi_reviews::Question;
 use kapi_text::Sequence;
 use std::alloc::Global;
@@ -18,15 +18,15 @@ use std::io::{self, Write};
 /// What was made of a line.
 #[derive(Debug, Drop)]
 pub enum Report {
-    /// It is empty or a comment.
+    /// The line is empty or a comment.
     Skipped,
-    /// It is no question.
+    /// The line is no question.
     Bad,
-    /// Memory ran out.
+    /// An allocation fails.
     Refused,
     /// The seat cannot answer.
     Busy,
-    /// How many published steps the policy has had by which it was decided, and the line of the decision.
+    /// The number of published steps of the deciding policy, and the line of the decision.
     Told(u64, Sequence<u8>),
 }
 
@@ -59,7 +59,7 @@ fn ask(alloc: Global, seat: &mut Seat, question: &Question) -> Report
     }
 }
 
-/// Writes what a line is told, and hands it on at once.
+/// Writes the report on a line, and flushes the writer.
 pub fn write_report<W: Write>(writer: &mut W, report: &Report) -> Result<(), AnswerFault>
     ensures text { OnOk result (Appends (W.contents writer.old) (W.contents writer.new) (report_text report.now)) }
     ensures fault { IfErr result (λ e. e ≡ Fault.Write) }

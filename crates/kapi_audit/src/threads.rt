@@ -1,8 +1,8 @@
 //! Readers in threads of their own.
 ghost use Rattle.std.specs.Prelude.{◌≡◌, ◌+◌, ◌++◌, ◌∷◌, [], Ok, IfOk, OnOk, map, length};
 ghost use Rattle.kapi_audit.specs.Answers.{answer_of};
-ghost use Rattle.kapi_audit.specs.Readers.{AreReaders};
-ghost use Rattle.kapi_audit.specs.Sharing.{AreShares, share};
+ghost use Rattle.kapi_audit.specs.Private.Readers.{AreReaders};
+ghost use Rattle.kapi_audit.specs.Private.Sharing.{AreShares, share};
 ghost use Rattle.kapi_desk.specs.Boards.{Chair};
 ghost use Rattle.kapi_desk.specs.Steps.{after};
 
@@ -11,7 +11,7 @@ use crate::gathering::Answer;
 use crate::reader::{Reader, answer_share};
 use kapi_desk::SeatError;
 use kapi_lines::Line;
-use kapi_names::ResourceRow;
+use kapi_model::ResourceRow;
 use kapi_text::Sequence;
 use std::alloc::{AllocError, Global};
 use std::thread;
@@ -40,7 +40,7 @@ fn push(shares: &mut Vec<Sequence<Answer>>, share: Sequence<Answer>) -> Result<(
     }
 }
 
-/// The shares of the readers, each of whom answers in a thread of its own, where one can be made.
+/// The shares of the readers. Each reader answers in a thread of its own, where one can be made.
 pub fn answer_in_threads<R: Threads + Sync, G: Gate + Sync>(
     alloc: Global,
     rt: &R,

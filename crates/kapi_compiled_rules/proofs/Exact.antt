@@ -1,10 +1,10 @@
--- Prepared entries say just what the entries say.
+-- Prepared entries match just what the entries match.
 use Rattle.std.proofs.Common.{◌≡◌, ℕ, ◌==◌, nat_eq, Bool, true, false, ◌&&◌, ◌||◌, if◌then◌else◌, List, [], ◌∷◌, ◌++◌, length, map, not, suc, refl, sym, ap, ◌∙◌}
 use Rattle.std.proofs.Math.Dec.{eqb-suc-zero}
 use Rattle.std.proofs.lemmas.Bool.Decides.{Decides-eqb}
 use Rattle.std.specs.List.{ends_with, list_all, list_any, position, prefix_len, starts_with}
 use Rattle.std.specs.Str.{bytes_eq}
-use Rattle.kapi_names.specs.declared.policy_rule.PolicyRule.{PolicyRule}
+use Rattle.kapi_model.specs.declared.policy_rule.PolicyRule.{PolicyRule}
 use Rattle.kapi_rules.proofs.Covers.{same}
 use Rattle.kapi_rules.specs.Entries.{names_match, resource_matches, star, url_matches, without_stars, word_matches}
 use Rattle.kapi_rules.specs.Rules.{allows}
@@ -112,7 +112,7 @@ rule_exact rule (point.Resource p) =
     moved false g false n = refl
 rule_exact rule (point.Url p) = rw (words_exact rule.verbs p.verb, urls_exact rule.non_resource_urls p.path) refl
 
--- and so the first rule that allows a point is the same
+-- the first rule that allows a point is the same for prepared rules
 pub first_exact : (rules : List PolicyRule) (prepared : List CompiledRule) (p : Point) → prepared ≡ map compiled rules
     → position (λ rule. compiled_allows rule p) prepared ≡ position (λ rule. allows rule p) rules
 first_exact rules prepared p is = rw (is, passed rules, counted rules) refl

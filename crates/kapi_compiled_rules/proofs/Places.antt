@@ -39,7 +39,7 @@ at_most_one n below = omega (arith, below)
 pub bit_set : (marks place : ℕ) → place < 64 → bit_at (bit_or marks (1 * 2 ^ place % 2 ^ 64)) place ≡ 1
 bit_set marks place below = bit_at_set_same w64 marks place below
 
--- and those that were there stay
+-- the marks that were there stay when one is set
 pub bits_kept : (marks more i : ℕ) → bit_at marks i ≡ 1 → bit_at (bit_or marks more) i ≡ 1
 bits_kept marks more i h = rw (bit_at_or marks more i, h) (at_most_one _ (bit_at-lt more i))
 

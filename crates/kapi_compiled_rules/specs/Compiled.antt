@@ -1,8 +1,8 @@
--- Prepared entries, and what they say of points.
+-- Prepared entries, and which points they allow.
 use Rattle.std.specs.Prelude.{ℕ, ◌==◌, nat_eq, Bool, true, ◌&&◌, ◌||◌, if◌then◌else◌, List, ◌∷◌, ◌++◌, length, map}
 use Rattle.std.specs.List.{ends_with, list_any, starts_with}
 use Rattle.std.specs.Str.{bytes_eq}
-use Rattle.kapi_names.specs.declared.policy_rule.PolicyRule.{PolicyRule}
+use Rattle.kapi_model.specs.declared.policy_rule.PolicyRule.{PolicyRule}
 use Rattle.kapi_rules.specs.Entries.{star, without_stars}
 use Rattle.kapi_rules.specs.declared.point.Point.{Point}
 use Rattle.kapi_rules.specs.declared.point.Point.TheVariants as point
@@ -20,7 +20,7 @@ compiled_words entries = if list_any (λ e. bytes_eq e star) entries then All el
 abbrev pub compiled_names : List (List ℕ) → Words
 compiled_names names = if length names == 0 then All else Listed names
 
--- an entry that lists URLs: with a star at its end what stands before the last stars, and else the path
+-- an entry that lists URLs: with a star at its end the text before the last stars, and else the path
 abbrev pub compiled_url : List ℕ → Url
 compiled_url entry = if ends_with nat_eq entry star then Front (without_stars entry) else Path entry
 
@@ -34,18 +34,18 @@ compiled rule = record {
   urls = map compiled_url rule.non_resource_urls;
 }
 
--- the word is among those
+-- the word is among the prepared words
 abbrev pub words_match : Words → List ℕ → Bool
 words_match All w = true
 words_match (Listed words) w = list_any (λ x. bytes_eq x w) words
 
--- of a resource without subresource its name is among them, and else `RESOURCE/SUBRESOURCE` or `*/SUBRESOURCE`
+-- the name of a resource without subresource is among the words, and else `RESOURCE/SUBRESOURCE` or `*/SUBRESOURCE`
 abbrev pub resources_match : Words → List ℕ → List ℕ → Bool
 resources_match words resource subresource =
     if length subresource == 0 then words_match words resource
     else (words_match words (resource ++ 47 ∷ subresource) || words_match words (42 ∷ 47 ∷ subresource))
 
--- the URL is the path itself, or begins with what stood before the stars
+-- the URL is the path itself, or begins with the text before the stars
 abbrev pub url_admits : Url → List ℕ → Bool
 url_admits (Path path) asked = bytes_eq path asked
 url_admits (Front front) asked = starts_with nat_eq asked front

@@ -1,10 +1,10 @@
--- Marks of words: most words that are not in a list are told by them, without a look at the list.
+-- Marks of words: they tell most words that are not in a list, without a look at the list.
 use Rattle.std.specs.Prelude.{◌≡◌, ℕ, ◌+◌, ◌*◌, ◌%◌, true, List, [], ◌∷◌, length}
 use Rattle.std.specs.Int.{bit_at}
 use Rattle.std.specs.List.{list_any}
 use Rattle.std.specs.Str.{bytes_eq}
 
--- the last byte of a text, or that one where it is empty
+-- the last byte of a text, or the given one where it is empty
 abbrev pub last_byte : ℕ → List ℕ → ℕ
 last_byte b [] = b
 last_byte b (c ∷ text) = last_byte c text

@@ -6,7 +6,7 @@ use crate::marks::{Joined, Word};
 use kapi_rules::{Point, ResourcePoint, UrlPoint};
 use std::marker::Model;
 
-/// What is asked of rules. Contracts see it as its point.
+/// A request that is checked against rules. Contracts see it as its point.
 #[derive(Drop)]
 pub enum Asked<'a> {
     Resource(AskedResource<'a>),
@@ -88,7 +88,7 @@ fn ask_url<'a>(point: &'a UrlPoint) -> AskedUrl<'a>
     }
 }
 
-/// Prepares a point. Takes no memory.
+/// Prepares a point. Allocates nothing.
 pub fn ask<'a>(point: &'a Point) -> Asked<'a>
     ensures { point_of result ≡ point.now }
 {

@@ -7,7 +7,7 @@ ghost use Rattle.kapi_rules.specs.declared.point.Point.{Point as AnyPoint};
 use crate::asked::{Asked, AskedResource, AskedUrl};
 use crate::urls::{Url, compile_urls, some_admits};
 use crate::words::{Words, compile_names, compile_words};
-use kapi_names::PolicyRule;
+use kapi_model::PolicyRule;
 use kapi_text::{Memory, Sequence};
 use std::alloc::Global;
 

@@ -1,4 +1,4 @@
-//! Rules whose entries are prepared, so that a long role is asked fast. They allow what the rules as they are written allow.
+//! Rules whose entries are prepared, so that a long role is checked fast. They allow what the written rules allow.
 #![tactic(auto)]
 
 mod asked;

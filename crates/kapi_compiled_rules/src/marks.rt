@@ -8,7 +8,7 @@ ghost use Rattle.kapi_compiled_rules.specs.Marks.{AreMarked, last_byte, mixed as
 use kapi_text::{Sequence, Text, is_joined};
 use std::marker::Model;
 
-// The last byte of a text, or that one where it is empty.
+// The last byte of a text, or the given one where it is empty.
 #[tactic(auto, using(crate::proofs::Places::last_appended))]
 fn last_of(first: u8, text: &[u8]) -> u8
     ensures { result ≡ last_byte first text.now }
@@ -146,14 +146,14 @@ fn is_marked(marks: u64, place: usize) -> bool
     (marks >> place) & 1 == 1
 }
 
-// Whether the word is one of those.
+// Whether the word is one of the words.
 fn is_listed(words: &[Text], word: &str) -> bool
     ensures { result ≡ list_any (λ x. bytes_eq x word.now) words.now }
 {
     words.iter().any(|listed| listed.as_str() == word)
 }
 
-// The lengths are looked at first, since they differ most often.
+// The lengths are compared first, since they differ most often.
 #[tactic(auto, using(crate::proofs::Places::other_length))]
 fn is_joined_of(word: &Text, first: &str, last: &str) -> bool
     ensures { result ≡ bytes_eq word.now (first.now ++ 47 ∷ last.now) }
@@ -195,7 +195,7 @@ impl Marked {
     ghost use Rattle.std.specs.List.{list_any};
     ghost use Rattle.std.specs.Str.{bytes_eq};
 
-    /// Marks the words; takes no memory.
+    /// Marks the words; allocates nothing.
     pub fn new(words: Sequence<Text>) -> Marked
         ensures { result ≡ words }
     {
@@ -203,14 +203,14 @@ impl Marked {
         Marked { marks, words }
     }
 
-    /// Whether the word is one of these.
+    /// Whether the word is one of the marked words.
     pub fn has(&self, word: &Word<'_>) -> bool
         ensures { result ≡ list_any (λ x. bytes_eq x word.now) self.now }
     {
         is_marked(self.marks, word.place) && is_listed(self.words.as_slice(), word.text)
     }
 
-    /// Whether the word in two pieces is one of these.
+    /// Whether the word in two pieces is one of the marked words.
     pub fn has_joined(&self, word: &Joined<'_>) -> bool
         ensures { result ≡ list_any (λ x. bytes_eq x word.now) self.now }
     {

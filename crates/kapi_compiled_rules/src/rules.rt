@@ -6,7 +6,7 @@ ghost use Rattle.kapi_compiled_rules.specs.Points.{point_of};
 
 use crate::asked::Asked;
 use crate::compiled_rule::{CompiledRule, compile, compiled_rule_allows};
-use kapi_names::PolicyRule;
+use kapi_model::PolicyRule;
 use kapi_text::{Memory, Sequence, TryCopy};
 use std::alloc::Global;
 use std::marker::Model;
@@ -20,7 +20,7 @@ pub struct CompiledRules {
 
 impl Model for CompiledRules {
     ghost use Rattle.std.specs.Prelude.{◌≡◌, List, map};
-    ghost use Rattle.kapi_names.specs.declared.policy_rule.PolicyRule.{PolicyRule};
+    ghost use Rattle.kapi_model.specs.declared.policy_rule.PolicyRule.{PolicyRule};
     ghost use Rattle.kapi_compiled_rules.specs.Compiled.{compiled};
 
     ghost Value = { List PolicyRule };
@@ -69,7 +69,7 @@ impl CompiledRules {
         self.rules.as_slice()
     }
 
-    /// The index of the first rule that allows what is asked. Takes no memory.
+    /// The index of the first rule that allows what is asked. Allocates nothing.
     pub fn first_allowing(&self, asked: &Asked<'_>) -> Option<usize>
         ensures { result ≡ position (λ rule. allows rule (point_of asked.now)) self.now }
     {

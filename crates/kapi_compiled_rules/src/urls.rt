@@ -7,16 +7,16 @@ ghost use Rattle.kapi_compiled_rules.specs.Compiled.{compiled_url, url_admits};
 use kapi_text::{Memory, Sequence, Text, TryCopy};
 use std::alloc::Global;
 
-/// What an entry of URLs means.
+/// What an entry of URLs matches.
 #[derive(Drop)]
 pub enum Url {
-    /// That path alone.
+    /// One path.
     Path(Text),
-    /// Each path that begins so. Stars at the end are left out.
+    /// Each path with this beginning. Stars at the end are left out.
     Front(Sequence<u8>),
 }
 
-// What stands before the last byte where that is a star; without it the text has no stars at its end.
+// The text before the last byte where that is a star; without it the text has no stars at its end.
 #[tactic(auto, using(kapi_rules::proofs::Texts::without_stars_kept))]
 fn before_last_star(text: &[u8]) -> Option<&[u8]>
     ensures { MatchOption result (without_last_stars text.now ≡ text.now) (λ front. text.now ≡ front.now ++ 42 ∷ []) }
@@ -57,7 +57,7 @@ fn compile_url(alloc: Global, entry: &Text) -> Result<Url, Memory>
     Ok(Url::Path(entry.copy(alloc)?))
 }
 
-/// What entries of URLs mean.
+/// What entries of URLs match.
 pub fn compile_urls(alloc: Global, entries: &[Text]) -> Result<Sequence<Url>, Memory>
     ensures { IfOk result (λ us. us ≡ map compiled_url entries.now) }
 {
@@ -77,7 +77,7 @@ fn admits(url: &Url, path: &str) -> bool
     }
 }
 
-/// Whether some entry means the path.
+/// Whether some entry matches the path.
 pub fn some_admits(urls: &[Url], path: &str) -> bool
     ensures { result ≡ list_any (λ u. url_admits u path.now) urls.now }
 {

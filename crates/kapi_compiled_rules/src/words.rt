@@ -9,7 +9,7 @@ use crate::marks::{Joined, Marked, Word};
 use kapi_text::{Memory, Sequence, Text, TryCopy};
 use std::alloc::Global;
 
-/// Which words a list of entries means.
+/// The words that a list of entries matches.
 #[derive(Drop)]
 pub enum Words {
     All,
@@ -23,7 +23,7 @@ fn has_star(entries: &[Text]) -> bool
     entries.iter().any(|entry| entry.as_str() == "*")
 }
 
-/// The words that entries of verbs, groups or resources mean.
+/// The words that entries of verbs, groups or resources match.
 pub fn compile_words(alloc: Global, entries: &Sequence<Text>) -> Result<Words, Memory>
     ensures { IfOk result (λ w. w ≡ compiled_words entries.now) }
 {
@@ -33,7 +33,7 @@ pub fn compile_words(alloc: Global, entries: &Sequence<Text>) -> Result<Words, M
     Ok(Words::Listed(Marked::new(entries.copy(alloc)?)))
 }
 
-/// The names that a list of names means.
+/// The names that a list of names matches.
 pub fn compile_names(alloc: Global, names: &Sequence<Text>) -> Result<Words, Memory>
     ensures { IfOk result (λ w. w ≡ compiled_names names.now) }
 {
@@ -47,7 +47,7 @@ impl Words {
     ghost use Rattle.std.specs.Prelude.{◌≡◌};
     ghost use Rattle.kapi_compiled_rules.specs.Compiled.{words_match};
 
-    /// Whether the word is among these.
+    /// Whether the word is matched.
     pub fn has(&self, word: &Word<'_>) -> bool
         ensures { result ≡ words_match self.now word.now }
     {
@@ -57,7 +57,7 @@ impl Words {
         }
     }
 
-    /// Whether the word in two pieces is among these.
+    /// Whether the word in two pieces is matched.
     pub fn has_joined(&self, word: &Joined<'_>) -> bool
         ensures { result ≡ words_match self.now word.now }
     {

@@ -8,12 +8,12 @@ use Rattle.std.specs.BTreeMap.{insert_entry}
 use Rattle.kapi_answer.specs.Watch.{PlainWatching}
 use Rattle.kapi_answer.specs.declared.watch.Watching.{Watching}
 use Rattle.kapi_store.specs.Changes.{Follow}
-use Rattle.kapi_store.specs.Plain.{Plain, PlainChange, StandsFor as StoreStands, written}
+use Rattle.kapi_store.specs.Plain.{Plain, PlainChange, RefinesPlain, written}
 use Rattle.kapi_store.specs.State.{State}
 use Rattle.kapi_watch.proofs.Runs.{stays}
 use Rattle.kapi_core.specs.declared.connection.Connection.{Connection}
 use Rattle.kapi_core.specs.Machine.{Link}
-use Rattle.kapi_core.specs.Stands.{AreLinks, AreWatching, IsLink}
+use Rattle.kapi_core.specs.Refines.{AreLinks, AreWatching, IsLink}
 
 same : (x y : Connection) → Some x ≡ Some y → x ≡ y
 same x y h = cc
@@ -46,7 +46,7 @@ module _ (history : List PlainChange) (state : Plain) where
       by_test more true is found = (p.1, rw is refl, (let Q : Connection → Type 0 = λ d. IsLink history state d p.1 in subst Q (same x.1 c found) h.1))
       by_test more false is found = let l = more found in (l.0, rw is l.1, l.2)
 
-  -- one that is not there has none
+  -- a connection that is not there has no link
   pub link_missing : (t : ℕ → Bool) (es : List (ℕ × Connection)) (ps : List (ℕ × Link)) → AreLinks history state es ps → lookup t es ≡ None → lookup t ps ≡ None
   unfolding AreLinks
   link_missing t [] [] h e = refl
@@ -115,7 +115,7 @@ module _ (history : List PlainChange) (state : Plain) where
   links_counted (x ∷ es) [] h = absurd h
   links_counted (x ∷ es) (p ∷ ps) h = ap suc (links_counted es ps h.2)
 
-  -- no connection stands for no link
+  -- no connections refine no links
   pub links_none : (es : List (ℕ × Connection)) → length es ≡ 0 → AreLinks history state es []
   unfolding AreLinks
   links_none [] h = tt
@@ -133,13 +133,13 @@ follow_behind number before (x ∷ xs) ys h =
     subst P same (follow_behind number (before + 1) xs ys h.1)
 
 -- the changes that a store took are numbered behind its revision
-pub changes_follow : (s t : State) (history changes : List PlainChange) (p : Plain) → StoreStands s history p → StoreStands t (history ++ changes) (written changes p)
+pub changes_follow : (s t : State) (history changes : List PlainChange) (p : Plain) → RefinesPlain s history p → RefinesPlain t (history ++ changes) (written changes p)
     → Follow (λ c. c.revision) p.revision changes
 changes_follow s t history changes p before after =
     let P : ℕ → Type 0 = λ n. Follow (λ (c : PlainChange). c.revision) n changes in
     subst P (sym before.counted) (follow_behind (λ c. c.revision) p.first history changes after.numbered)
 
--- over some changes the connections and their watches stand for what they stood for
+-- over some changes the connections and their watches refine the same links
 module _ (history changes : List PlainChange) (state : Plain) (follow : Follow (λ c. c.revision) state.revision changes) where
   watching_written : (r : Option Watching) (w : Option PlainWatching) → AreWatching history state r w → AreWatching (history ++ changes) (written changes state) r w
   watching_written None None h = h

@@ -1,4 +1,4 @@
--- Bytes that come in are taken in as the machine that is data takes them.
+-- Bytes that come in are taken in as the model takes them.
 use Rattle.std.proofs.Common.{◌≡◌, ℕ, ◌+◌, ◌<◌, ◌≤◌, inl, inr, Bool, true, false, IsTrue, IsFalse, nat_le, List, ◌++◌, length, Some, Result, Ok, Err, refl, sym, ap, ◌∙◌}
 use Rattle.std.proofs.lemmas.Bool.{leb-true, leb-false}
 use Rattle.std.proofs.lemmas.Map.Steps.{set_value_same}
@@ -13,14 +13,14 @@ use Rattle.kapi_core.specs.declared.connection.Connection.{Connection}
 use Rattle.kapi_core.specs.declared.event.ConnId.{ConnId}
 use Rattle.kapi_core.specs.declared.event.Event.TheVariants as event
 use Rattle.kapi_core.specs.declared.event.Answer.TheVariants as told
-use Rattle.kapi_core.specs.Feeds.{Feeds}
+use Rattle.kapi_core.specs.Private.Feeds.{Feeds}
 use Rattle.kapi_core.specs.Running.{Running}
-use Rattle.kapi_core.specs.Stands.{TakesIn}
+use Rattle.kapi_core.specs.Refines.{TakesIn}
 use Rattle.kapi_core.proofs.AlikeLinks.{link_there}
 use Rattle.kapi_core.proofs.Steps.{machine_of, made_for, not_early, told_late, fed, fed_full, fed_nowhere}
-use Rattle.kapi_http.specs.declared.inbox.TheConstants.{KEPT_LIMIT}
+use Rattle.kapi_core.specs.Limits.{kept_limit}
 
--- with the same connections as before
+-- bytes are taken in with the same connections as before
 pub taken_in : (old : Running) (links : List (ℕ × Connection)) (conn : ConnId) (piece : List ℕ) (r : Result (Unit {0}) FeedError)
     → Feeds old.connections links conn.0 piece r → TakesIn old (record old { connections = links }) conn piece r
 taken_in old links conn piece (Ok done) f = λ m h.
@@ -53,10 +53,10 @@ unchanged es fs id c u there is same =
 -- what an inbox answers, its connection does
 pub fed_from : (es fs : List (ℕ × Connection)) (id : ℕ) (piece : List ℕ) (c : Connection) (u : Unserved) (r : Result (Unit {0}) FeedError)
     → lookup (is_at (nat_cmp id)) es ≡ Some c → fs ≡ set_value (is_at (nat_cmp id)) es (record c { inbox = u })
-    → ((d : Unit {0}) → r ≡ Ok d → (u ≡ record { kept = c.inbox.kept ++ piece; ended = false }) × (length c.inbox.kept + length piece ≤ KEPT_LIMIT))
+    → ((d : Unit {0}) → r ≡ Ok d → (u ≡ record { kept = c.inbox.kept ++ piece; ended = false }) × (length c.inbox.kept + length piece ≤ kept_limit))
     → ((e : FeedError) → r ≡ Err e → u ≡ c.inbox)
-    → (r ≡ Err Ended → c.inbox.ended ≡ true) → (r ≡ Err Full → KEPT_LIMIT < length c.inbox.kept + length piece)
-    → (r ≡ Err Memory → length c.inbox.kept + length piece ≤ KEPT_LIMIT)
+    → (r ≡ Err Ended → c.inbox.ended ≡ true) → (r ≡ Err Full → kept_limit < length c.inbox.kept + length piece)
+    → (r ≡ Err Memory → length c.inbox.kept + length piece ≤ kept_limit)
     → Feeds es fs id piece r
 fed_from es fs id piece c u (Ok done) there is ok same ended full memory =
     (c, there, (ok done refl).1, is ∙ ap (λ v. set_value (is_at (nat_cmp id)) es (record c { inbox = v })) (ok done refl).0)
@@ -64,12 +64,12 @@ fed_from es fs id piece c u (Err Full) there is ok same ended full memory = (c, 
 fed_from es fs id piece c u (Err Ended) there is ok same ended full memory = (inr (c, there, ended refl), unchanged es fs id c u there is (same Ended refl))
 fed_from es fs id piece c u (Err Memory) there is ok same ended full memory = (c, there, memory refl, unchanged es fs id c u there is (same Memory refl))
 
--- where want of memory is answered, the inbox goes on and the bytes fit
-pub memory_fits : (r : Result (Unit {0}) FeedError) (ended : Bool) (n : ℕ) → (IsTrue ended → r ≡ Err Ended) → (IsFalse ended × (KEPT_LIMIT < n) → r ≡ Err Full)
-    → r ≡ Err Memory → n ≤ KEPT_LIMIT
+-- where an inbox is out of memory, it goes on and the bytes fit
+pub memory_fits : (r : Result (Unit {0}) FeedError) (ended : Bool) (n : ℕ) → (IsTrue ended → r ≡ Err Ended) → (IsFalse ended × (kept_limit < n) → r ≡ Err Full)
+    → r ≡ Err Memory → n ≤ kept_limit
 memory_fits r true n if_ended if_full is = absurd (let both : Err Ended ≡ Err Memory = sym (if_ended refl) ∙ is in cc both)
 memory_fits r false n if_ended if_full is =
-    elim (nat_le n KEPT_LIMIT) as (λ b. nat_le n KEPT_LIMIT ≡ b → n ≤ KEPT_LIMIT) [
-      | true ↦ λ fits. leb-true n KEPT_LIMIT fits
-      | false ↦ λ many. absurd (let both : Err Full ≡ Err Memory = sym (if_full (refl, leb-false n KEPT_LIMIT many)) ∙ is in cc both)
+    elim (nat_le n kept_limit) as (λ b. nat_le n kept_limit ≡ b → n ≤ kept_limit) [
+      | true ↦ λ fits. leb-true n kept_limit fits
+      | false ↦ λ many. absurd (let both : Err Full ≡ Err Memory = sym (if_full (refl, leb-false n kept_limit many)) ∙ is in cc both)
     ] refl

@@ -1,13 +1,13 @@
--- In a table that fits, a resource has one row.
+-- In a table that fits, a resource has one resource type.
 use Rattle.std.proofs.Common.{◌≡◌, ℕ, Bool, true, false, not, ◌&&◌, ◌||◌, List, [], ◌∷◌, refl, sym, ap, ◌∙◌}
 use Rattle.std.proofs.lemmas.Slice.Eq.{bytes_eq-Decides}
 use Rattle.std.specs.Bool.{beq}
 use Rattle.std.specs.List.{list_any}
 use Rattle.std.specs.Str.{bytes_eq}
-use Rattle.kapi_names.specs.declared.row.ResourceRow.{ResourceRow}
+use Rattle.kapi_model.specs.declared.row.ResourceRow.{ResourceRow}
 use Rattle.kapi_core.specs.Table.{has_row, is_like, is_row, rows_differ}
 
--- a namespaced row of that group and plural
+-- a namespaced resource type of that group and plural
 abbrev tells : List ℕ → List ℕ → ResourceRow → Bool
 tells group plural row = bytes_eq row.group group && (bytes_eq row.plural plural && row.namespaced)
 
@@ -45,7 +45,7 @@ turned a b = by_case (bytes_eq a b) refl
         by_other true f = let is : b ≡ a = same b a f in rw is refl
         by_other false f = e ∙ sym f
 
--- of rows that are not alike one is not of the other's group and plural
+-- of two resource types that are not alike one is not of the other's group and plural
 unlike : (a b c d : Bool) → (a && (b || c)) ≡ false → (a && (b && d)) ≡ false
 unlike true true c d h = absurd (cc h)
 unlike true false c d h = refl
@@ -58,7 +58,7 @@ not_told row other h =
     ∙ ap (λ b. bytes_eq row.group other.group && (b || bytes_eq row.kind other.kind)) (turned other.plural row.plural)
     ∙ h)
 
--- no row is told of behind one that they are not like
+-- no resource type behind others that are unlike it is found by its group and plural
 none_told : (row : ResourceRow) (later : List ResourceRow) → list_any (λ other. is_like row other) later ≡ false
     → list_any (tells row.group row.plural) later ≡ false
 none_told row [] h = refl
@@ -93,7 +93,7 @@ row_is a b h =
       namespaced = same_bool a.namespaced b.namespaced form.0;
     }
 
--- a row is not told of that stands before one which it is not like
+-- a resource type that comes before one unlike it is not found by that one's group and plural
 first_not_told : (r row : ResourceRow) (later : List ResourceRow) → has_row later r ≡ true → list_any (λ other. is_like row other) later ≡ false
     → tells r.group r.plural row ≡ false
 first_not_told r row [] has none = absurd (cc has)
@@ -111,7 +111,7 @@ first_not_told r row (other ∷ later) has none =
         (unlike (bytes_eq row.group other.group) (bytes_eq row.plural other.plural) (bytes_eq row.kind other.kind) row.namespaced parts.0)
     by_case false e behind = behind (rw e at has)
 
--- a row that is in no namespace is its resource's only one
+-- a resource type that is in no namespace is its resource's only one
 pub stands_alone : (r : ResourceRow) (table : List ResourceRow) → r.namespaced ≡ false → has_row table r ≡ true → rows_differ table ≡ true
     → list_any (tells r.group r.plural) table ≡ false
 unfolding rows_differ

@@ -1,153 +1,74 @@
--- Each event of the machine is a run of the policy, by whom it serves; and so is a list of events.
-use Rattle.std.proofs.Common.{◌≡◌, ℕ, List, [], ◌∷◌, length, nat_lt, nat_le, Bool, true, false, ◌&&◌, if◌then◌else◌, Option, Some, None, option_map, Result, Ok, Err, suc, ◌+◌, take, refl, sym, ap, ◌∙◌, subst}
+-- Each event of the machine is a run of the policy, by the identity that it serves; a list of events is a run too.
+use Rattle.std.proofs.Common.{◌≡◌, ℕ, List, [], ◌∷◌, length, Result, Ok, Err, take, sym, ap, ◌∙◌, subst}
 use Rattle.std.specs.List.{fold}
 use Rattle.std.specs.List.Sorted.{IsStrictlySortedBy}
 use Rattle.serde_json.specs.Data.{Data}
-use Rattle.kapi_names.specs.declared.row.ResourceRow.{ResourceRow}
+use Rattle.kapi_model.specs.declared.row.ResourceRow.{ResourceRow}
 use Rattle.kapi_admission.specs.Admission.{BodyFault, object_of}
-use Rattle.kapi_rbac_types.specs.declared.identity.Identity.{Identity}
+use Rattle.kapi_model.specs.declared.identity.Identity.{Identity}
 use Rattle.kapi_http.specs.Cut.{first}
-use Rattle.kapi_http.specs.declared.message.HttpFault.{HttpFault}
-use Rattle.kapi_http.specs.declared.message.HttpRequest.{HttpRequest}
-use Rattle.kapi_http.specs.declared.inbox.TheConstants.{KEPT_LIMIT}
 use Rattle.kapi_policy.specs.Objects.{PolicyObjects}
+use Rattle.kapi_store.specs.Changes.{placed_all}
 use Rattle.kapi_store.specs.Faults.{StoreFault}
 use Rattle.kapi_store.specs.Plain.{Plain, PlainChange, creation, trees_left_by, written}
 use Rattle.kapi_store.specs.declared.key.Key.{Key}
 use Rattle.kapi_stored_policy.proofs.Writes.{placed_all_keeps, stands_in_order}
-use Rattle.kapi_aggregation.specs.Rewriting.{rewriting}
 use Rattle.kapi_aggregation.specs.Roles.{Labelled, roles_in}
-use Rattle.kapi_aggregation.specs.Turns.{next}
-use Rattle.kapi_aggregation.specs.declared.turn.Turn.{Turn}
 use Rattle.kapi_answer.proofs.Granted.{answers_are_granted}
-use Rattle.kapi_answer.specs.Answer.{Answered, answer}
+use Rattle.kapi_answer.specs.Answer.{answer}
 use Rattle.kapi_answer.specs.Impersonation.{AreGrantedAs}
-use Rattle.kapi_answer.specs.Watch.{PlainWatching, event_reply_of}
-use Rattle.kapi_answer.specs.declared.watch.After.{After}
-use Rattle.kapi_answer.specs.declared.watch.After.TheVariants as becomes
-use Rattle.kapi_answer.specs.declared.watch.EventReply.{EventReply}
 use Rattle.kapi_gains.proofs.Impersonating.{acts_as}
-use Rattle.kapi_policy_runs.proofs.Reached.{objects_give_nothing, reaches_both, reaches_itself}
-use Rattle.kapi_policy_runs.proofs.Turns.{turn_runs}
-use Rattle.kapi_policy_runs.proofs.Writes.{granted_reach}
-use Rattle.kapi_policy_runs.specs.Runs.{ObjectsReach}
-use Rattle.kapi_policy_runs.specs.States.{AreInOrder, policy_state}
+use Rattle.kapi_gains.proofs.Reached.{objects_give_nothing, reaches_both, reaches_itself}
+use Rattle.kapi_gains.proofs.StoredTurns.{turn_runs}
+use Rattle.kapi_gains.proofs.StoredWrites.{granted_reach}
+use Rattle.kapi_gains.specs.Runs.{ObjectsReach}
+use Rattle.kapi_gains.specs.StoredStates.{AreInOrder, policy_state}
+use Rattle.kapi_core.proofs.Effects.{FaultKind, Effect, effect}
+use Rattle.kapi_core.proofs.Effects as effects
 use Rattle.kapi_core.proofs.Runs.{Ran, events_made}
 use Rattle.kapi_core.specs.declared.event.Answer.{Answer}
 use Rattle.kapi_core.specs.declared.event.Event.{Event}
-use Rattle.kapi_core.specs.declared.event.Event.TheVariants as event
-use Rattle.kapi_core.specs.declared.machine.TheConstants.{LAST_CONNECTION, OPEN_CONNECTIONS}
-use Rattle.kapi_core.specs.Gains.{NobodyGains, acting_by, acting_in, identity_on}
-use Rattle.kapi_core.specs.Machine.{Link, Machine, after, after_event, after_serve, after_turn, changed, ended_if, feed_step, link_at, open_step, policy_of, pump_shown, pump_step, pump_watch, serve_beside, serve_item, serve_step, shown_next, step, turn_step, turned_by, unserved, with_link}
+use Rattle.kapi_core.specs.Gains.{NobodyGains, NobodyGainsDuring, acting_by, acting_in, identity_on}
+use Rattle.kapi_core.specs.Machine.{Machine, after, policy_of, step}
 use Rattle.kapi_core.specs.Opening.{OpeningObject, cluster_key, created_if, empty, opening, opening_objects, with_opening, written_if}
 use Rattle.kapi_core.specs.Running.{Running}
-use Rattle.kapi_core.specs.Stands.{Stands}
+use Rattle.kapi_core.specs.Refines.{Refines}
 
--- the objects stay in the order of their keys, and the policy that they are is run on by those who act
+-- the objects stay in the order of their keys, and their policy is run on by the acting identities
 pub record Goes (acting : List Identity) (s t : Plain) : Type 0 where
   pub order : AreInOrder t.objects
   pub reached : ObjectsReach acting s.objects t.objects
 
 module _ (acting : List Identity) (s : Plain) (sorted : AreInOrder s.objects) where
-  -- nothing is written
-  goes_nowhere : (t : Plain) → t ≡ s → Goes acting s t
-  goes_nowhere t same = let P : Plain → Type 0 = λ p. Goes acting s p in subst P (sym same) (record { order = sorted; reached = reaches_itself acting (policy_state s.objects) })
-
   -- some changes are made
   goes_written : (changes : List PlainChange) → ObjectsReach acting s.objects (written changes s).objects → Goes acting s (written changes s)
   goes_written changes reached = record { order = placed_all_keeps (trees_left_by changes) s.objects sorted; reached = reached }
 
--- ---- the events that leave the store as it is
+-- ---- events
 
-either : (b : Bool) (x y : Answer × Machine) (s : Plain) → x.1.store ≡ s → y.1.store ≡ s → (if b then x else y).1.store ≡ s
-either true x y s one other = one
-either false x y s one other = other
-
-pub open_keeps : (identity : Identity) (m : Machine) → (open_step identity m).1.store ≡ m.store
-unfolding open_step
-open_keeps identity m = either (nat_lt (length m.links) OPEN_CONNECTIONS && nat_le m.next_id LAST_CONNECTION) _ _ m.store refl refl
-
-pub feed_keeps : (id : ℕ) (piece : List ℕ) (o : Option Link) (m : Machine) → (feed_step id piece o m).1.store ≡ m.store
-unfolding feed_step
-feed_keeps id piece None m = refl
-feed_keeps id piece (Some l) m = either (nat_le (length (unserved l) + length piece) KEPT_LIMIT) _ _ m.store refl refl
-
--- ---- the events that write
-
-pub ended_keeps : (close : Bool) (id : ℕ) (m : Machine) → (ended_if close id m).store ≡ m.store
-ended_keeps true id m = refl
-ended_keeps false id m = refl
-
-item_goes : (id : ℕ) (l : Link) (o : Option (Result HttpRequest HttpFault)) (m : Machine) → AreInOrder m.store.objects
-    → Goes (l.identity ∷ []) m.store (serve_item id l o m).1.store
-unfolding serve_item after_serve
-item_goes id l None m sorted = goes_nowhere (l.identity ∷ []) m.store sorted m.store refl
-item_goes id l (Some item) m sorted =
-    let answered : Answered = answer (policy_of m) m.store l.identity item in
-    let granted : AreGrantedAs (policy_of m) l.identity answered.changes = answers_are_granted (policy_of m) m.store l.identity item in
-    let P : Plain → Type 0 = λ p. Goes (l.identity ∷ []) m.store p in
-    subst P (sym (ended_keeps answered.reply.close id (changed answered.changes (with_link id (record l { served = suc l.served; watching = answered.watch }) m))))
-    (goes_written (l.identity ∷ []) m.store sorted answered.changes
-    (granted_reach l.identity granted.0 answered.changes m.store.objects sorted (acts_as (policy_of m) l.identity granted.0 granted.1.0) granted.1.1))
-
-beside_goes : (id : ℕ) (l : Link) (w : Option PlainWatching) (m : Machine) → AreInOrder m.store.objects → Goes (l.identity ∷ []) m.store (serve_beside id l w m).1.store
-unfolding serve_beside
-beside_goes id l (Some w) m sorted = goes_nowhere (l.identity ∷ []) m.store sorted m.store refl
-beside_goes id l None m sorted = item_goes id l (first (unserved l)) m sorted
-
-serve_goes : (id : ℕ) (o : Option Link) (m : Machine) → AreInOrder m.store.objects → Goes (identity_on o) m.store (serve_step id o m).1.store
-unfolding serve_step
-serve_goes id None m sorted = goes_nowhere [] m.store sorted m.store refl
-serve_goes id (Some l) m sorted = beside_goes id l l.watching m sorted
-
-turn_goes : (m : Machine) → AreInOrder m.store.objects → Goes [] m.store (turn_step m).1.store
-unfolding turn_step
-turn_goes m sorted = by_turn (next (roles_in m.store.objects)) refl
-  where
-    by_write : (turn : Turn) → next (roles_in m.store.objects) ≡ Some turn → (r : Result (List PlainChange) StoreFault) → rewriting turn m.store ≡ r
-        → Goes [] m.store (after_turn turn.name r m).1.store
-    by_write turn comes (Ok changes) is = goes_written [] m.store sorted changes (turn_runs [] turn m.store changes sorted comes is)
-    by_write turn comes (Err fault) is = goes_nowhere [] m.store sorted m.store refl
-
-    by_turn : (due : Option Turn) → next (roles_in m.store.objects) ≡ due → Goes [] m.store (turned_by due m).1.store
-    by_turn None comes = goes_nowhere [] m.store sorted m.store refl
-    by_turn (Some turn) comes = by_write turn comes (rewriting turn m.store) refl
-
--- ---- the events of watches
-
-passed_keeps : (a : After) (id : ℕ) (l : Link) (w : PlainWatching) (m : Machine) → (after_event a id l w m).store ≡ m.store
-unfolding after_event
-passed_keeps becomes.Watches id l w m = refl
-passed_keeps becomes.Serves id l w m = refl
-passed_keeps becomes.Closes id l w m = refl
-
-shown_keeps : (id : ℕ) (l : Link) (w : PlainWatching) (r : Option EventReply) (m : Machine) → (pump_shown id l w r m).1.store ≡ m.store
-unfolding pump_shown
-shown_keeps id l w None m = refl
-shown_keeps id l w (Some r) m = passed_keeps r.after id l w m
-
-watch_keeps : (id : ℕ) (l : Link) (w : Option PlainWatching) (m : Machine) → (pump_watch id l w m).1.store ≡ m.store
-unfolding pump_watch
-watch_keeps id l None m = refl
-watch_keeps id l (Some w) m = shown_keeps id l w (option_map (event_reply_of m.store w) (shown_next m w)) m
-
-pub pump_keeps : (id : ℕ) (o : Option Link) (m : Machine) → (pump_step id o m).1.store ≡ m.store
-unfolding pump_step
-pump_keeps id None m = refl
-pump_keeps id (Some l) m = watch_keeps id l l.watching m
-
--- ---- lists of events
+-- what an event writes is a run of those who act by it
+reached : (m : Machine) (e : Event) (changes : List PlainChange) → FaultKind m e changes → AreInOrder m.store.objects
+    → ObjectsReach (acting_by m e) m.store.objects (written changes m.store).objects
+unfolding placed_all
+reached m e changes (effects.none is) sorted =
+    let P : List PlainChange → Type 0 = λ cs. ObjectsReach (acting_by m e) m.store.objects (written cs m.store).objects in
+    subst P (sym is) (reaches_itself (acting_by m e) (policy_state m.store.objects))
+reached m e changes (effects.request conn l item of at is) sorted =
+    let granted : AreGrantedAs (policy_of m) l.identity (answer (policy_of m) m.store l.identity item).changes = answers_are_granted (policy_of m) m.store l.identity item in
+    let acting : acting_by m e ≡ l.identity ∷ [] = ap (acting_by m) of ∙ ap identity_on at in
+    let P : List Identity → Type 0 = λ who. ObjectsReach who m.store.objects (written changes m.store).objects in
+    let Q : List PlainChange → Type 0 = λ cs. ObjectsReach (l.identity ∷ []) m.store.objects (written cs m.store).objects in
+    subst P (sym acting) (subst Q (sym is)
+    (granted_reach l.identity granted.0 (answer (policy_of m) m.store l.identity item).changes m.store.objects sorted (acts_as (policy_of m) l.identity granted.0 granted.1.0) granted.1.1))
+reached m e changes (effects.turn turn comes is) sorted = turn_runs (acting_by m e) turn m.store changes sorted comes is
 
 pub event_goes : (m : Machine) (e : Event) → AreInOrder m.store.objects → Goes (acting_by m e) m.store (step m e).1.store
-unfolding step
-event_goes m (event.Open identity) sorted = goes_nowhere [] m.store sorted (open_step identity m).1.store (open_keeps identity m)
-event_goes m (event.Feed conn piece) sorted =
-    goes_nowhere [] m.store sorted (feed_step conn.0 piece (link_at conn.0 m) m).1.store (feed_keeps conn.0 piece (link_at conn.0 m) m)
-event_goes m (event.Serve conn) sorted = serve_goes conn.0 (link_at conn.0 m) m sorted
-event_goes m (event.Pump conn) sorted =
-    goes_nowhere [] m.store sorted (pump_step conn.0 (link_at conn.0 m) m).1.store (pump_keeps conn.0 (link_at conn.0 m) m)
-event_goes m event.Turn sorted = turn_goes m sorted
-event_goes m (event.Close conn) sorted = goes_nowhere [] m.store sorted m.store refl
+event_goes m e sorted =
+    let x : Effect m e (step m e) = effect m e in
+    let P : Plain → Type 0 = λ p. Goes (acting_by m e) m.store p in
+    subst P (sym x.store) (goes_written (acting_by m e) m.store sorted x.changes (reached m e x.changes x.cause sorted))
+
+-- ---- lists of events
 
 events_reach : (m : Machine) (es : List Event) → AreInOrder m.store.objects → ObjectsReach (acting_in m es) m.store.objects (after m es).store.objects
 unfolding acting_in after
@@ -164,11 +85,11 @@ events_order m [] sorted = sorted
 events_order m (e ∷ es) sorted = events_order (step m e).1 es (event_goes m e sorted).order
 
 machine_gains : (m : Machine) (es : List Event) → AreInOrder m.store.objects → NobodyGains (roles_in m.store.objects) (acting_in m es) (policy_of m) (policy_of (after m es))
-machine_gains m es sorted settled harmless =
-    objects_give_nothing (acting_in m es) m.store.objects (after m es).store.objects sorted settled harmless (events_reach m es sorted)
+machine_gains m es sorted settled unprivileged =
+    objects_give_nothing (acting_in m es) m.store.objects (after m es).store.objects sorted settled unprivileged (events_reach m es sorted)
 
 -- nobody gains by the events that a running machine made
-pub nobody_gains : (old new : Running) (m : Machine) (es : List Event) → Stands old m → Stands new (after m es)
+pub nobody_gains : (old new : Running) (m : Machine) (es : List Event) → Refines old m → Refines new (after m es)
     → NobodyGains (roles_in m.store.objects) (acting_in m es) old.policy new.policy
 nobody_gains old new m es before now =
     let roles : List Labelled = roles_in m.store.objects in
@@ -177,12 +98,17 @@ nobody_gains old new m es before now =
     subst Q (sym now.policy_is) (subst P (sym before.policy_is) (machine_gains m es (stands_in_order old.store m.changes m.store before.store)))
 
 -- nobody gains by a run
-pub ran_gains : (initial now : Running) (told shown : List Answer) (i : ℕ) (events : List Event) → Ran initial now told (take i events) → shown ≡ told → (m : Machine) → Stands initial m
+pub ran_gains : (initial now : Running) (told shown : List Answer) (i : ℕ) (events : List Event) → Ran initial now told (take i events) → shown ≡ told → (m : Machine) → Refines initial m
     → NobodyGains (roles_in m.store.objects) (acting_in m (take (length shown) events)) initial.policy now.policy
 ran_gains initial now told shown i events ran same m stands =
     let made : take (length shown) events ≡ take i events = ap (λ (xs : List Answer). take (length xs) events) same ∙ events_made told i events ran.count in
     let P : List Event → Type 0 = λ es. NobodyGains (roles_in m.store.objects) (acting_in m es) initial.policy now.policy in
     subst P (sym made) (nobody_gains initial now m (take i events) stands (ran.stands m stands))
+
+-- from any moment on nobody gains by the events of a machine that a running one refines
+pub events_gain : (core : Running) (m : Machine) (es : List Event) → Refines core m → NobodyGainsDuring m es
+events_gain core m es refines front back is =
+    machine_gains (after m front) back (events_order m front (stands_in_order core.store m.changes m.store refines.store))
 
 -- ---- from the opening on
 

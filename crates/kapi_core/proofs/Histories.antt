@@ -1,5 +1,5 @@
 -- All the changes ever of a machine are a history.
-use Rattle.std.proofs.Common.{◌≡◌, ℕ, ◌+◌, List, [], ◌∷◌, ◌++◌, length, nat_lt, nat_le, Bool, true, false, ◌&&◌, if◌then◌else◌, Option, Some, None, option_map, Result, Ok, Err, suc, codes, refl, sym, ap, ◌∙◌, subst, arith, append-nil, append_assoc, length-append}
+use Rattle.std.proofs.Common.{◌≡◌, ℕ, ◌+◌, List, [], ◌∷◌, ◌++◌, length, Bool, Option, Some, None, Result, Ok, Err, codes, refl, sym, ap, ◌∙◌, subst, arith, append-nil, append_assoc, length-append}
 use Rattle.std.proofs.lemmas.List.{map-append}
 use Rattle.std.specs.List.{AllByRecursion, fold}
 use Rattle.std.specs.Map.{lookup}
@@ -10,28 +10,16 @@ use Rattle.serde_json.specs.Find.{as_str, get}
 use Rattle.kapi_admission.proofs.OnLiterals.{admission_on_literals}
 use Rattle.kapi_admission.specs.Admission.{BodyFault, object_of}
 use Rattle.kapi_aggregation.specs.Rewriting.{rewriting, rewriting_of, role_key, with_rules}
-use Rattle.kapi_aggregation.specs.Roles.{roles_in}
-use Rattle.kapi_aggregation.specs.Turns.{next}
-use Rattle.kapi_aggregation.specs.declared.turn.Turn.{Turn}
 use Rattle.kapi_answer.proofs.Histories.{answers_write, loads_create}
-use Rattle.kapi_answer.specs.Answer.{Answered, answer}
 use Rattle.kapi_answer.specs.Histories.{AreNamed, IsWrite}
 use Rattle.kapi_answer.specs.Histories as write
 use Rattle.kapi_answer.specs.Load.{LoadFault, loads}
-use Rattle.kapi_answer.specs.Watch.{PlainWatching, event_reply_of}
-use Rattle.kapi_answer.specs.declared.watch.After.{After}
-use Rattle.kapi_answer.specs.declared.watch.After.TheVariants as becomes
-use Rattle.kapi_answer.specs.declared.watch.EventReply.{EventReply}
 use Rattle.kapi_http.specs.Cut.{first}
-use Rattle.kapi_http.specs.declared.inbox.TheConstants.{KEPT_LIMIT}
-use Rattle.kapi_http.specs.declared.message.HttpFault.{HttpFault}
-use Rattle.kapi_http.specs.declared.message.HttpRequest.{HttpRequest}
-use Rattle.kapi_names.specs.declared.policy_rule.PolicyRule.{PolicyRule}
-use Rattle.kapi_names.specs.declared.row.ResourceRow.{ResourceRow}
-use Rattle.kapi_object.proofs.Puts.{put_other}
-use Rattle.kapi_object.specs.Contents.{rule_tree, write_items}
-use Rattle.kapi_object.specs.Tree.{members_or_none}
-use Rattle.kapi_rbac_types.specs.declared.identity.Identity.{Identity}
+use Rattle.kapi_model.specs.declared.policy_rule.PolicyRule.{PolicyRule}
+use Rattle.kapi_model.specs.declared.row.ResourceRow.{ResourceRow}
+use Rattle.kapi_tree.proofs.Puts.{put_other}
+use Rattle.kapi_tree.specs.Contents.{rule_tree, write_items}
+use Rattle.kapi_tree.specs.Tree.{members_or_none}
 use Rattle.kapi_store.proofs.Writes.{placed_all_append}
 use Rattle.kapi_store.specs.Changes.{placed_all}
 use Rattle.kapi_store.specs.Faults.{StoreFault}
@@ -43,26 +31,25 @@ use Rattle.kapi_watch.proofs.Lists.{Keeps, history_keeps, standing_is_named}
 use Rattle.kapi_watch.proofs.Named.{in_object}
 use Rattle.kapi_watch.specs.Histories.{IsHistory, IsNamedBy, IsReplacement}
 use Rattle.kapi_watch.specs.Lists.{objects_after}
-use Rattle.kapi_core.proofs.Gains.{ended_keeps, feed_keeps, open_keeps, pump_keeps}
+use Rattle.kapi_core.proofs.Effects.{FaultKind, Effect, effect}
+use Rattle.kapi_core.proofs.Effects as effects
 use Rattle.kapi_core.proofs.Opened.{opened_tree, tree_in}
 use Rattle.kapi_core.specs.Histories.{EventsGoOn, LoadsGoOn, ServedIsAHistory, TurnsReplace, loaded, loaded_if, served}
-use Rattle.kapi_core.specs.Machine.{Link, Machine, after, after_event, after_serve, after_turn, changed, ended_if, feed_step, link_at, open_step, policy_of, pump_shown, pump_step, pump_watch, serve_beside, serve_item, serve_step, shown_next, step, turn_step, turned_by, unserved, with_link, with_rechecks}
+use Rattle.kapi_core.specs.Machine.{Machine, after, changed, policy_of, step, with_rechecks}
 use Rattle.kapi_core.specs.Opening.{OpeningObject, basic_user, basic_user_binding, cluster_admin, cluster_admin_binding, cluster_key, created_if, default_namespace, empty, opening, opening_objects, with_opening, written_if}
 use Rattle.kapi_core.specs.Running.{Running}
-use Rattle.kapi_core.specs.Stands.{Stands}
-use Rattle.kapi_core.specs.declared.event.Answer.{Answer}
+use Rattle.kapi_core.specs.Refines.{Refines}
 use Rattle.kapi_core.specs.declared.event.Event.{Event}
-use Rattle.kapi_core.specs.declared.event.Event.TheVariants as event
-use Rattle.kapi_core.specs.declared.machine.TheConstants.{LAST_CONNECTION, OPEN_CONNECTIONS}
 
--- all the changes of a machine are a history from this revision on, which made its objects and which its revision counts
+-- all the changes of a machine are a history from this revision on, which made its objects and which its revision
+-- counts
 pub record HasHistory (first : ℕ) (m : Machine) : Type 0 where
   pub begins : m.store.first ≡ first
   pub objects : m.store.objects ≡ objects_after m.changes
   pub counted : m.store.revision ≡ first + length m.changes
   pub history : IsHistory first m.changes
 
--- its objects are in order, and named by their keys
+-- the objects of a machine with a history are in order, and named by their keys
 pub are_named : (first : ℕ) (m : Machine) → HasHistory first m → AreNamed m.store.objects
 are_named first m h =
     let k : Keeps (objects_after m.changes) = history_keeps first m.changes h.history in
@@ -85,18 +72,6 @@ pub record Writes (m n : Machine) : Type 0 where
   pub store : n.store ≡ written changes m.store
   pub told : n.changes ≡ m.changes ++ changes
 
--- none were made
-stays : (m n : Machine) → n.store ≡ m.store → n.changes ≡ m.changes → Writes m n
-unfolding placed_all
-stays m n store changes =
-    let counted : m.store.revision ≡ m.store.revision + 0 = omega arith in
-    record {
-      changes = [];
-      one = write.nothing refl;
-      store = store ∙ ap (λ revision. record m.store { revision = revision }) counted;
-      told = changes ∙ sym (append-nil m.changes);
-    }
-
 made_objects : (h cs : List PlainChange) (os : List (Key × Data)) → os ≡ objects_after h → placed_all (trees_left_by cs) os ≡ objects_after (h ++ cs)
 made_objects h cs os is =
     ap (placed_all (trees_left_by cs)) is
@@ -114,7 +89,7 @@ goes_on m cs h one = record {
   history = counted_goes_on m.changes cs m.store h.objects h.counted h.history (write_next m.store cs one);
 }
 
--- what has a history has it by its store and its changes alone
+-- a machine has a history by its store and its changes alone
 same_history : (first : ℕ) (m n : Machine) → n.store ≡ m.store → n.changes ≡ m.changes → HasHistory first m → HasHistory first n
 same_history first m n store changes h = record {
   begins = ap (λ s. s.first) store ∙ h.begins;
@@ -131,71 +106,6 @@ written_goes_on first m cs h one =
 
 pub writes_go_on : (first : ℕ) (m n : Machine) → HasHistory first m → Writes m n → HasHistory first n
 writes_go_on first m n h w = same_history first (changed w.changes m) n w.store w.told (written_goes_on first m w.changes h w.one)
-
--- ---- the events that write nothing
-
-either : (b : Bool) (x y : Answer × Machine) (cs : List PlainChange) → x.1.changes ≡ cs → y.1.changes ≡ cs → (if b then x else y).1.changes ≡ cs
-either true x y cs one other = one
-either false x y cs one other = other
-
-open_tells : (identity : Identity) (m : Machine) → (open_step identity m).1.changes ≡ m.changes
-unfolding open_step
-open_tells identity m = either (nat_lt (length m.links) OPEN_CONNECTIONS && nat_le m.next_id LAST_CONNECTION) _ _ m.changes refl refl
-
-feed_tells : (id : ℕ) (piece : List ℕ) (o : Option Link) (m : Machine) → (feed_step id piece o m).1.changes ≡ m.changes
-unfolding feed_step
-feed_tells id piece None m = refl
-feed_tells id piece (Some l) m = either (nat_le (length (unserved l) + length piece) KEPT_LIMIT) _ _ m.changes refl refl
-
-passed_tells : (a : After) (id : ℕ) (l : Link) (w : PlainWatching) (m : Machine) → (after_event a id l w m).changes ≡ m.changes
-unfolding after_event
-passed_tells becomes.Watches id l w m = refl
-passed_tells becomes.Serves id l w m = refl
-passed_tells becomes.Closes id l w m = refl
-
-shown_tells : (id : ℕ) (l : Link) (w : PlainWatching) (r : Option EventReply) (m : Machine) → (pump_shown id l w r m).1.changes ≡ m.changes
-unfolding pump_shown
-shown_tells id l w None m = refl
-shown_tells id l w (Some r) m = passed_tells r.after id l w m
-
-watch_tells : (id : ℕ) (l : Link) (w : Option PlainWatching) (m : Machine) → (pump_watch id l w m).1.changes ≡ m.changes
-unfolding pump_watch
-watch_tells id l None m = refl
-watch_tells id l (Some w) m = shown_tells id l w (option_map (event_reply_of m.store w) (shown_next m w)) m
-
-pump_tells : (id : ℕ) (o : Option Link) (m : Machine) → (pump_step id o m).1.changes ≡ m.changes
-unfolding pump_step
-pump_tells id None m = refl
-pump_tells id (Some l) m = watch_tells id l l.watching m
-
--- ---- a request that is served
-
-ended_tells : (close : Bool) (id : ℕ) (m : Machine) → (ended_if close id m).changes ≡ m.changes
-ended_tells true id m = refl
-ended_tells false id m = refl
-
-item_writes : (id : ℕ) (l : Link) (o : Option (Result HttpRequest HttpFault)) (m : Machine) → AreNamed m.store.objects → Writes m (serve_item id l o m).1
-unfolding serve_item after_serve
-item_writes id l None m named = stays m m refl refl
-item_writes id l (Some item) m named =
-    let answered : Answered = answer (policy_of m) m.store l.identity item in
-    let n : Machine = changed answered.changes (with_link id (record l { served = suc l.served; watching = answered.watch }) m) in
-    record {
-      changes = answered.changes;
-      one = answers_write (policy_of m) m.store l.identity item named;
-      store = ended_keeps answered.reply.close id n;
-      told = ended_tells answered.reply.close id n;
-    }
-
-beside_writes : (id : ℕ) (l : Link) (w : Option PlainWatching) (m : Machine) → AreNamed m.store.objects → Writes m (serve_beside id l w m).1
-unfolding serve_beside
-beside_writes id l (Some w) m named = stays m m refl refl
-beside_writes id l None m named = item_writes id l (first (unserved l)) m named
-
-serve_writes : (id : ℕ) (o : Option Link) (m : Machine) → AreNamed m.store.objects → Writes m (serve_step id o m).1
-unfolding serve_step
-serve_writes id None m named = stays m m refl refl
-serve_writes id (Some l) m named = beside_writes id l l.watching m named
 
 -- ---- a turn
 
@@ -217,29 +127,18 @@ pub turn_replaces : TurnsReplace
 unfolding rewriting
 turn_replaces turn s cs named is = rewriting_replaces (role_key turn.name) turn.rules s cs named (lookup (is_key (role_key turn.name)) s.objects) refl is
 
-turn_writes : (m : Machine) → AreNamed m.store.objects → Writes m (turn_step m).1
-unfolding turn_step
-turn_writes m named = by_due (next (roles_in m.store.objects))
-  where
-    by_write : (turn : Turn) (r : Result (List PlainChange) StoreFault) → rewriting turn m.store ≡ r → Writes m (after_turn turn.name r m).1
-    by_write turn (Ok changes) is = record { changes = changes; one = write.replaces (turn_replaces turn m.store changes named is); store = refl; told = refl }
-    by_write turn (Err fault) is = stays m m refl refl
+-- ---- events
 
-    by_due : (due : Option Turn) → Writes m (turned_by due m).1
-    by_due None = stays m m refl refl
-    by_due (Some turn) = by_write turn (rewriting turn m.store) refl
-
--- ---- lists of events
+-- what an event writes is one write
+one_write : (m : Machine) (e : Event) (changes : List PlainChange) → FaultKind m e changes → AreNamed m.store.objects → IsWrite m.store changes
+one_write m e changes (effects.none is) named = write.nothing is
+one_write m e changes (effects.request conn l item of at is) named =
+    let P : List PlainChange → Type 0 = IsWrite m.store in subst P (sym is) (answers_write (policy_of m) m.store l.identity item named)
+one_write m e changes (effects.turn turn comes is) named = write.replaces (turn_replaces turn m.store changes named is)
 
 pub event_writes : (m : Machine) (e : Event) → AreNamed m.store.objects → Writes m (step m e).1
-unfolding step
-event_writes m (event.Open identity) named = stays m (open_step identity m).1 (open_keeps identity m) (open_tells identity m)
-event_writes m (event.Feed conn piece) named =
-    stays m (feed_step conn.0 piece (link_at conn.0 m) m).1 (feed_keeps conn.0 piece (link_at conn.0 m) m) (feed_tells conn.0 piece (link_at conn.0 m) m)
-event_writes m (event.Serve conn) named = serve_writes conn.0 (link_at conn.0 m) m named
-event_writes m (event.Pump conn) named = stays m (pump_step conn.0 (link_at conn.0 m) m).1 (pump_keeps conn.0 (link_at conn.0 m) m) (pump_tells conn.0 (link_at conn.0 m) m)
-event_writes m event.Turn named = turn_writes m named
-event_writes m (event.Close conn) named = stays m (step m (event.Close conn)).1 refl refl
+event_writes m e named =
+    let x : Effect m e (step m e) = effect m e in record { changes = x.changes; one = one_write m e x.changes x.cause named; store = x.store; told = x.all }
 
 pub events_go_on : (first : ℕ) (m : Machine) (es : List Event) → HasHistory first m → HasHistory first (after m es)
 unfolding after
@@ -272,7 +171,7 @@ loads_go_on first m (text ∷ texts) h = loads_go_on first (loaded_if m (loads m
 
 -- ---- the opening
 
--- what an opening object is read as tells the namespace and the name of its place
+-- what an opening object is read as has the namespace and the name of its place
 abbrev IsNamedOpening : OpeningObject → Type 0
 IsNamedOpening o = IsNamedBy (cluster_key o.row o.name) (opened_tree o)
 
@@ -337,8 +236,8 @@ served_has on table first texts events =
 pub served_is_a_history : ServedIsAHistory
 served_is_a_history on table first texts events = (served_has on table first texts events).history
 
--- a machine that a running one stands for has the history that its changes are
-stands_has : (core : Running) (m : Machine) → Stands core m → IsHistory m.store.first m.changes → HasHistory m.store.first m
+-- a machine that a running one refines has the history that its changes are
+stands_has : (core : Running) (m : Machine) → Refines core m → IsHistory m.store.first m.changes → HasHistory m.store.first m
 stands_has core m stands k = record { begins = refl; objects = stands.store.made; counted = stands.store.counted; history = k }
 
 pub stood_for_goes_on : EventsGoOn

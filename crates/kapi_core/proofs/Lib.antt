@@ -8,10 +8,12 @@ pub mod Runs
 pub mod Tables
 pub mod Openings
 pub mod Fitting
+pub mod ProgramFitting
 pub mod Opened
 pub mod Loads
 pub mod Turning
 pub mod Pumping
+pub mod Effects
 pub mod Gains
 pub mod Telling
 pub mod OpenedPolicy

@@ -1,6 +1,6 @@
 -- What a watch of the machine shows makes its list.
 use Rattle.std.proofs.Common.{◌≡◌, ℕ, Bool, List, [], ◌++◌, sym, ap, ◌∙◌, subst}
-use Rattle.kapi_names.specs.declared.row.ResourceRow.{ResourceRow}
+use Rattle.kapi_model.specs.declared.row.ResourceRow.{ResourceRow}
 use Rattle.kapi_store.specs.Plain.{PlainChange}
 use Rattle.kapi_watch.proofs.Lists.{counted_first_is_the_list, counted_first_shown, counted_showed, due_is_the_list, shown_is_the_list}
 use Rattle.kapi_watch.specs.Histories.{IsHistory}

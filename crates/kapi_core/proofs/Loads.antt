@@ -10,8 +10,8 @@ use Rattle.kapi_store.proofs.Stores.{same_stands}
 use Rattle.kapi_store.specs.Plain.{Plain}
 use Rattle.kapi_store.specs.State.{State}
 use Rattle.kapi_core.specs.Running.{Running}
-use Rattle.kapi_core.specs.Stands.{Loads}
-use Rattle.kapi_core.specs.Writes.{LoadsInto}
+use Rattle.kapi_core.specs.Refines.{Loads}
+use Rattle.kapi_core.specs.Private.Writes.{LoadsInto}
 use Rattle.kapi_core.proofs.AlikeLinks.{changes_follow, links_written}
 
 -- what was loaded into the store and the policy was loaded into the machine

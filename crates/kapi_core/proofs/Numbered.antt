@@ -1,5 +1,5 @@
--- The open connections have numbers that rise, and an event touches that of one number alone.
-use Rattle.std.proofs.Common.{◌≡◌, ℕ, ◌+◌, suc, List, [], ◌∷◌, ◌++◌, length, nat_lt, nat_le, Bool, true, false, cond, ◌&&◌, if◌then◌else◌, Option, Some, None, option_map, Result, Ok, Err, refl, sym, ap, ◌∙◌, subst}
+-- The open connections have numbers that rise, and an event touches the connection of one number alone.
+use Rattle.std.proofs.Common.{◌≡◌, ℕ, List, [], ◌∷◌, Bool, true, false, cond, Option, Some, None, Result, Ok, Err, refl, sym, ap, ◌∙◌, subst}
 use Rattle.std.specs.Prelude.{IsSome}
 use Rattle.std.specs.BTreeMap.{is_at}
 use Rattle.std.specs.Cmp.{Equal-is, eq_by_cmp_equiv, nat_cmp_total, tied_itself}
@@ -16,29 +16,19 @@ use Rattle.kapi_aggregation.specs.Rewriting.{rewriting}
 use Rattle.kapi_aggregation.specs.Roles.{roles_in}
 use Rattle.kapi_aggregation.specs.Turns.{next}
 use Rattle.kapi_aggregation.specs.declared.turn.Turn.{Turn}
-use Rattle.kapi_answer.specs.Answer.{answer}
 use Rattle.kapi_answer.specs.Load.{LoadFault, loads}
-use Rattle.kapi_answer.specs.Watch.{PlainWatching, event_reply_of}
-use Rattle.kapi_answer.specs.declared.watch.After.{After}
-use Rattle.kapi_answer.specs.declared.watch.After.TheVariants as becomes
-use Rattle.kapi_answer.specs.declared.watch.EventReply.{EventReply}
 use Rattle.kapi_http.specs.Cut.{first}
-use Rattle.kapi_http.specs.declared.inbox.TheConstants.{KEPT_LIMIT}
-use Rattle.kapi_http.specs.declared.message.HttpFault.{HttpFault}
-use Rattle.kapi_http.specs.declared.message.HttpRequest.{HttpRequest}
-use Rattle.kapi_names.specs.declared.row.ResourceRow.{ResourceRow}
+use Rattle.kapi_model.specs.declared.row.ResourceRow.{ResourceRow}
 use Rattle.kapi_policy.proofs.Sets.{delete_keeps, delete_sets, put_keeps, put_sets}
-use Rattle.kapi_rbac_types.specs.declared.identity.Identity.{Identity}
 use Rattle.kapi_store.specs.Faults.{StoreFault}
 use Rattle.kapi_store.specs.Plain.{PlainChange, creation}
 use Rattle.kapi_core.proofs.Acting.{nat_exact}
+use Rattle.kapi_core.proofs.Effects.{Moves, effect, number_of}
+use Rattle.kapi_core.proofs.Effects as effects
 use Rattle.kapi_core.specs.Histories.{loaded, loaded_if, served}
-use Rattle.kapi_core.specs.Machine.{Link, Machine, after, after_event, after_serve, after_turn, changed, ended_if, feed_step, link_at, new_link, open_step, policy_of, pump_shown, pump_step, pump_watch, serve_beside, serve_item, serve_step, shown_next, step, turn_step, turned_by, unserved, watched_on, with_link, with_new_link, without_link, with_rechecks}
+use Rattle.kapi_core.specs.Machine.{Link, Machine, after, after_turn, link_at, new_link, step, turn_step, turned_by, with_link, with_new_link, without_link, with_rechecks}
 use Rattle.kapi_core.specs.Opening.{OpeningObject, cluster_key, created_if, empty, opening, opening_objects, with_opening, written_if}
-use Rattle.kapi_core.specs.declared.event.Answer.{Answer}
 use Rattle.kapi_core.specs.declared.event.Event.{Event}
-use Rattle.kapi_core.specs.declared.event.Event.TheVariants as event
-use Rattle.kapi_core.specs.declared.machine.TheConstants.{LAST_CONNECTION, OPEN_CONNECTIONS}
 
 -- the numbers of the open connections rise
 abbrev pub AreNumbered : Machine → Type 0
@@ -109,67 +99,6 @@ touched_on id l m n one other = record { numbered = other.numbered; others = λ 
 pub there : (id : ℕ) (m : Machine) (l : Link) → link_at id m ≡ Some l → IsSome (link_at id m)
 there id m l at = let P : Option Link → Type 0 = IsSome in subst P (sym at) refl
 
--- ---- each event
-
-either : (id : ℕ) (m : Machine) (b : Bool) (x y : Answer × Machine) → Touches id m x.1 → Touches id m y.1 → Touches id m (if b then x else y).1
-either id m true x y one other = one
-either id m false x y one other = other
-
-open_touches : (identity : Identity) (m : Machine) → AreNumbered m → Touches m.next_id m (open_step identity m).1
-unfolding open_step
-open_touches identity m k =
-    either m.next_id m (nat_lt (length m.links) OPEN_CONNECTIONS && nat_le m.next_id LAST_CONNECTION) _ _ (new_touches m.next_id (new_link identity) m k) (untouched m.next_id m m refl k)
-
-feed_touches : (id : ℕ) (piece : List ℕ) (o : Option Link) (m : Machine) → link_at id m ≡ o → AreNumbered m → Touches id m (feed_step id piece o m).1
-unfolding feed_step
-feed_touches id piece None m at k = untouched id m m refl k
-feed_touches id piece (Some l) m at k =
-    either id m (nat_le (length (unserved l) + length piece) KEPT_LIMIT) _ _ (set_touches id (record l { sent = l.sent ++ piece }) m (there id m l at) k) (untouched id m m refl k)
-
-ended_touches : (close : Bool) (id : ℕ) (m n : Machine) → Touches id m n → Touches id m (ended_if close id n)
-ended_touches true id m n t = touched_on id m n (without_link id n) t (gone_touches id n t.numbered)
-ended_touches false id m n t = t
-
-item_touches : (id : ℕ) (l : Link) (o : Option (Result HttpRequest HttpFault)) (m : Machine) → link_at id m ≡ Some l → AreNumbered m → Touches id m (serve_item id l o m).1
-unfolding serve_item after_serve
-item_touches id l None m at k = untouched id m m refl k
-item_touches id l (Some item) m at k =
-    let answered = answer (policy_of m) m.store l.identity item in
-    let n = with_link id (record l { served = suc l.served; watching = answered.watch }) m in
-    let t = set_touches id (record l { served = suc l.served; watching = answered.watch }) m (there id m l at) k in
-    ended_touches answered.reply.close id m (changed answered.changes n) (touched_on id m n (changed answered.changes n) t (untouched id n (changed answered.changes n) refl t.numbered))
-
-beside_touches : (id : ℕ) (l : Link) (w : Option PlainWatching) (m : Machine) → link_at id m ≡ Some l → AreNumbered m → Touches id m (serve_beside id l w m).1
-unfolding serve_beside
-beside_touches id l (Some w) m at k = untouched id m m refl k
-beside_touches id l None m at k = item_touches id l (first (unserved l)) m at k
-
-serve_touches : (id : ℕ) (o : Option Link) (m : Machine) → link_at id m ≡ o → AreNumbered m → Touches id m (serve_step id o m).1
-unfolding serve_step
-serve_touches id None m at k = untouched id m m refl k
-serve_touches id (Some l) m at k = beside_touches id l l.watching m at k
-
-passed_touches : (a : After) (id : ℕ) (l : Link) (w : PlainWatching) (m : Machine) → link_at id m ≡ Some l → AreNumbered m → Touches id m (after_event a id l w m)
-unfolding after_event
-passed_touches becomes.Watches id l w m at k = set_touches id (watched_on l w m) m (there id m l at) k
-passed_touches becomes.Serves id l w m at k = set_touches id (record l { watching = None }) m (there id m l at) k
-passed_touches becomes.Closes id l w m at k = gone_touches id m k
-
-shown_touches : (id : ℕ) (l : Link) (w : PlainWatching) (r : Option EventReply) (m : Machine) → link_at id m ≡ Some l → AreNumbered m → Touches id m (pump_shown id l w r m).1
-unfolding pump_shown
-shown_touches id l w None m at k = set_touches id (watched_on l w m) m (there id m l at) k
-shown_touches id l w (Some r) m at k = passed_touches r.after id l w m at k
-
-watch_touches : (id : ℕ) (l : Link) (w : Option PlainWatching) (m : Machine) → link_at id m ≡ Some l → AreNumbered m → Touches id m (pump_watch id l w m).1
-unfolding pump_watch
-watch_touches id l None m at k = untouched id m m refl k
-watch_touches id l (Some w) m at k = shown_touches id l w (option_map (event_reply_of m.store w) (shown_next m w)) m at k
-
-pump_touches : (id : ℕ) (o : Option Link) (m : Machine) → link_at id m ≡ o → AreNumbered m → Touches id m (pump_step id o m).1
-unfolding pump_step
-pump_touches id None m at k = untouched id m m refl k
-pump_touches id (Some l) m at k = watch_touches id l l.watching m at k
-
 pub turn_links : (m : Machine) → (turn_step m).1.links ≡ m.links
 unfolding turn_step
 turn_links m = by_due (next (roles_in m.store.objects))
@@ -182,23 +111,28 @@ turn_links m = by_due (next (roles_in m.store.objects))
     by_due None = refl
     by_due (Some turn) = by_write turn.name (rewriting turn m.store)
 
--- the number of the connection that an event is about
-abbrev pub number_of : Machine → Event → ℕ
-number_of m (event.Open identity) = m.next_id
-number_of m (event.Feed conn piece) = conn.0
-number_of m (event.Serve conn) = conn.0
-number_of m (event.Pump conn) = conn.0
-number_of m event.Turn = 0
-number_of m (event.Close conn) = conn.0
+-- ---- events
 
 pub event_touches : (m : Machine) (e : Event) → AreNumbered m → Touches (number_of m e) m (step m e).1
-unfolding step
-event_touches m (event.Open identity) k = open_touches identity m k
-event_touches m (event.Feed conn piece) k = feed_touches conn.0 piece (link_at conn.0 m) m refl k
-event_touches m (event.Serve conn) k = serve_touches conn.0 (link_at conn.0 m) m refl k
-event_touches m (event.Pump conn) k = pump_touches conn.0 (link_at conn.0 m) m refl k
-event_touches m event.Turn k = untouched 0 m (turn_step m).1 (turn_links m) k
-event_touches m (event.Close conn) k = gone_touches conn.0 m k
+event_touches m e k = by_moves (effect m e).moves
+  where
+    id : ℕ
+    id = number_of m e
+
+    n : Machine
+    n = (step m e).1
+
+    -- what a machine touches, one with the same connections touches
+    alike_touches : (l : Machine) → n.links ≡ l.links → Touches id m l → Touches id m n
+    alike_touches l same t = touched_on id m l n t (untouched id l n same t.numbered)
+
+    by_moves : Moves m e n → Touches id m n
+    by_moves (effects.stays links next) = untouched id m n links k
+    by_moves (effects.opens identity of links next) =
+        let P : ℕ → Type 0 = λ q. Touches q m (with_new_link m.next_id (new_link identity) m) in
+        alike_touches (with_new_link m.next_id (new_link identity) m) links (subst P (sym (ap (number_of m) of)) (new_touches m.next_id (new_link identity) m k))
+    by_moves (effects.goes_on old new at same links next) = alike_touches (with_link id new m) links (set_touches id new m (there id m old at) k)
+    by_moves (effects.ends links next) = alike_touches (without_link id m) links (gone_touches id m k)
 
 -- ---- the machines that there are
 

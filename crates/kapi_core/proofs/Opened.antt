@@ -1,4 +1,4 @@
--- In a table that fits, the five opening objects stand.
+-- In a table that fits, the five opening objects are stored.
 use Rattle.std.proofs.Common.{◌≡◌, ℕ, ◌+◌, ◌≤◌, ◌∙◌, Bool, true, false, ◌&&◌, List, [], ◌∷◌, Ok, Err, Result, refl, ap, arith}
 use Rattle.std.proofs.lemmas.Bool.{le-leb}
 use Rattle.std.specs.List.{list_all}
@@ -7,14 +7,14 @@ use Rattle.std.specs.Str.{chars}
 use Rattle.serde_json.specs.Data.{Data, null}
 use Rattle.kapi_admission.specs.Admission.{BodyFault, object_of}
 use Rattle.kapi_admission.proofs.OnLiterals.{admission_on_literals}
-use Rattle.kapi_names.specs.declared.row.ResourceRow.{ResourceRow}
+use Rattle.kapi_model.specs.declared.row.ResourceRow.{ResourceRow}
 use Rattle.kapi_store.specs.Changes.{placed, placed_all}
 use Rattle.kapi_store.specs.Plain.{creation_at, free_place, has_namespace, has_object, is_namespaced, revisions_left}
-use Rattle.kapi_store.specs.declared.store.TheConstants.{LAST_REVISION}
+use Rattle.kapi_store.specs.Limits.{last_revision}
 use Rattle.kapi_core.specs.Machine.{Machine, changed}
 use Rattle.kapi_core.specs.Opening.{OpeningObject, Standing, basic_user, basic_user_binding, cluster_admin, cluster_admin_binding, default_namespace, cluster_key, empty, opening, opening_keys, opening_objects, with_opening}
 use Rattle.kapi_core.specs.Table.{cluster_role_bindings_row, cluster_roles_row, fits, has_row, is_known, namespaces_row, required_rows, role_bindings_row, roles_row, rows_differ}
-use Rattle.kapi_core.specs.declared.opening.TheConstants.{LAST_FIRST}
+use Rattle.kapi_core.specs.Limits.{last_first}
 use Rattle.kapi_core.proofs.Fitting.{stands_alone}
 
 both : (a b : Bool) → (a && b) ≡ true → (a ≡ true) × (b ≡ true)
@@ -32,10 +32,10 @@ opened_tree o = tree_in (object_of o.row o.body)
 
 -- one object more is created
 created_next : (m : Machine) (o : OpeningObject) (tree : Data) → object_of o.row o.body ≡ Ok tree
-    → free_place m.store (cluster_key o.row o.name) ≡ Ok tt → m.store.revision + 1 ≤ LAST_REVISION
+    → free_place m.store (cluster_key o.row o.name) ≡ Ok tt → m.store.revision + 1 ≤ last_revision
     → with_opening m o ≡ changed (creation_at (cluster_key o.row o.name) tree (m.store.revision + 1) ∷ []) m
 unfolding with_opening revisions_left
-created_next m o tree body free left = rw (body, free, le-leb (m.store.revision + 1) LAST_REVISION left) refl
+created_next m o tree body free left = rw (body, free, le-leb (m.store.revision + 1) last_revision left) refl
 
 -- the machine with one object more
 abbrev pub next_of : OpeningObject → Data → Machine → Machine
@@ -65,7 +65,7 @@ users_tree = refl
 
 -- ---- their places are free
 
--- a table that fits has no namespaced row of these three resources
+-- a table that fits has no namespaced resource type of these three resources
 record Alone (table : List ResourceRow) : Type 0 where
   namespaces : is_namespaced table (cluster_key namespaces_row []) ≡ false
   cluster_roles : is_namespaced table (cluster_key cluster_roles_row []) ≡ false
@@ -128,7 +128,7 @@ free_five table first a b c d h = rw h.bindings refl
 -- ---- all of them
 
 -- the machine as it begins, whatever the five bodies were read as
-opening_is : (table : List ResourceRow) (first : ℕ) → Alone table → first ≤ LAST_FIRST
+opening_is : (table : List ResourceRow) (first : ℕ) → Alone table → first ≤ last_first
     → opening table first ≡ five table first
     (opened_tree default_namespace)
     (opened_tree cluster_admin)
@@ -161,11 +161,11 @@ five_revision : (table : List ResourceRow) (first : ℕ) (a b c d e : Data) → 
 five_revision table first a b c d e = omega arith
 
 -- the machine as it begins, in a table that fits
-pub opening_five : (table : List ResourceRow) (first : ℕ) → fits table ≡ true → first ≤ LAST_FIRST
+pub opening_five : (table : List ResourceRow) (first : ℕ) → fits table ≡ true → first ≤ last_first
     → opening table first ≡ five table first (opened_tree default_namespace) (opened_tree cluster_admin) (opened_tree basic_user) (opened_tree cluster_admin_binding) (opened_tree basic_user_binding)
 opening_five table first h low = opening_is table first (alone table h) low
 
-pub opening_stands : (table : List ResourceRow) (first : ℕ) → fits table ≡ true → first ≤ LAST_FIRST → Standing table first
+pub opening_stands : (table : List ResourceRow) (first : ℕ) → fits table ≡ true → first ≤ last_first → Standing table first
 opening_stands table first h low =
     let is = opening_is table first (alone table h) low in
     let a = opened_tree default_namespace in

@@ -1,4 +1,4 @@
--- The policy that every machine begins with, and who is harmless in it.
+-- The policy that every machine begins with, and the identities that are unprivileged in it.
 use Rattle.std.proofs.Common.{◌≡◌, ◌≤◌, ℕ, ◌+◌, List, [], ◌∷◌, ◌++◌, Bool, true, false, if◌then◌else◌, ◌==◌, length, map, refl, sym, ap, ◌∙◌, subst, codes}
 use Rattle.std.specs.Fmt.{decimal}
 use Rattle.std.specs.List.{flat_map, list_any}
@@ -6,10 +6,10 @@ use Rattle.std.specs.Option.{unwrap_or}
 use Rattle.std.specs.Str.{chars}
 use Rattle.serde_json.specs.Data.{Data}
 use Rattle.kapi_admission.proofs.OnLiterals.{admission_on_literals}
-use Rattle.kapi_names.specs.declared.row.ResourceRow.{ResourceRow}
-use Rattle.kapi_rbac_types.specs.Identities.{is_in, is_master}
+use Rattle.kapi_model.specs.declared.row.ResourceRow.{ResourceRow}
+use Rattle.kapi_model.specs.Identities.{is_in, is_master}
 use Rattle.kapi_rbac_types.specs.Trees.{cluster_role_binding_of, cluster_role_of}
-use Rattle.kapi_rbac_types.specs.declared.identity.Identity.{Identity}
+use Rattle.kapi_model.specs.declared.identity.Identity.{Identity}
 use Rattle.kapi_rules.specs.Rules.{allows}
 use Rattle.kapi_rules.specs.declared.point.Point.{Point}
 use Rattle.kapi_rules.specs.declared.point.Point.TheVariants as point
@@ -23,10 +23,10 @@ use Rattle.kapi_stored_policy.specs.Reading.{collected, policy_objects}
 use Rattle.kapi_guard.specs.Exempt.{binding, escalating}
 use Rattle.kapi_aggregation.specs.Roles.{roles_in}
 use Rattle.kapi_aggregation.specs.Unions.{IsSettled as AreUnions}
-use Rattle.kapi_gains.specs.Access.{IsHarmless, may, verb_of}
+use Rattle.kapi_gains.specs.Access.{IsUnprivileged, may, verb_of}
 use Rattle.kapi_gains.specs.States.{labelled_roles}
-use Rattle.kapi_policy_runs.proofs.Roles.{labelled_are}
-use Rattle.kapi_policy_runs.specs.States.{labels_at}
+use Rattle.kapi_gains.proofs.StoredRoles.{labelled_are}
+use Rattle.kapi_gains.specs.StoredStates.{labels_at}
 use Rattle.kapi_core.proofs.Gains.{opening_in_order}
 use Rattle.kapi_core.proofs.Opened.{five, opened_tree, opening_five, tree_in}
 use Rattle.kapi_rbac_types.proofs.Stamped.{cluster_role_binding_stamped, cluster_role_stamped}
@@ -34,7 +34,7 @@ use Rattle.kapi_core.specs.Machine.{policy_of}
 use Rattle.kapi_core.specs.Opening.{basic_user, basic_user_binding, cluster_admin, cluster_admin_binding, default_namespace, opening}
 use Rattle.kapi_core.specs.OpeningPolicy.{ask_of_oneself, opening_policy}
 use Rattle.kapi_core.specs.Table.{fits}
-use Rattle.kapi_core.specs.declared.opening.TheConstants.{LAST_FIRST}
+use Rattle.kapi_core.specs.Limits.{last_first}
 
 -- ---- the policy
 
@@ -64,24 +64,24 @@ bodies_policy : policy_with (opened_tree cluster_admin) (opened_tree basic_user)
 unfolding admission_on_literals chars tree_in policy_with
 bodies_policy = refl
 
-pub opening_policy_is : (table : List ResourceRow) (first : ℕ) → fits table ≡ true → first ≤ LAST_FIRST → policy_of (opening table first) ≡ opening_policy
+pub opening_policy_is : (table : List ResourceRow) (first : ℕ) → fits table ≡ true → first ≤ last_first → policy_of (opening table first) ≡ opening_policy
 opening_policy_is table first h low =
     ap policy_of (opening_five table first h low)
     ∙ five_policy table first (opened_tree default_namespace) (opened_tree cluster_admin) (opened_tree basic_user) (opened_tree cluster_admin_binding) (opened_tree basic_user_binding)
     ∙ bodies_policy
 
 -- no cluster role takes rules from others
-pub opening_settled : (table : List ResourceRow) (first : ℕ) → fits table ≡ true → first ≤ LAST_FIRST → AreUnions (roles_in (opening table first).store.objects)
+pub opening_settled : (table : List ResourceRow) (first : ℕ) → fits table ≡ true → first ≤ last_first → AreUnions (roles_in (opening table first).store.objects)
 opening_settled table first h low =
     let os = (opening table first).store.objects in
     let P : PolicyObjects → Type 0 = λ objects. AreUnions (labelled_roles objects (labels_at os)) in
     subst AreUnions (labelled_are os (opening_in_order table first))
     (subst P (sym (opening_policy_is table first h low)) ((λ aggregated. absurd (cc aggregated)), ((λ aggregated. absurd (cc aggregated)), tt)))
 
--- ---- who is harmless
+-- ---- who is unprivileged
 
 module _ (who : Identity) (no_master : is_master who ≡ false) where
-  -- what he holds
+  -- the rules that an identity holds
   held_by_him : (namespace : List ℕ) → held opening_policy who namespace ≡ (if is_in (codes "system:authenticated") who then ask_of_oneself ∷ [] else [])
   unfolding held bindings_in given rules_of
   held_by_him namespace = by_case (length namespace == 0) (is_in (codes "system:authenticated") who) refl
@@ -106,8 +106,8 @@ module _ (who : Identity) (no_master : is_master who ≡ false) where
   other_verb (point.Resource p) is = rw is refl
   other_verb (point.Url p) is = rw is refl
 
-  pub opening_harmless : IsHarmless opening_policy who
-  opening_harmless = record {
+  pub opening_unprivileged : IsUnprivileged opening_policy who
+  opening_unprivileged = record {
     no_master = no_master;
     no_escalate = λ namespace kind name. may_not namespace (escalating kind name) refl;
     no_bind = λ namespace role. may_not namespace (binding role) refl;

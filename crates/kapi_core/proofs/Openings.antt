@@ -1,4 +1,4 @@
--- What the opening objects leave of a machine.
+-- The machine after the opening objects.
 use Rattle.std.proofs.Common.{◌≡◌, ℕ, List, [], ◌∷◌, Result, Ok, Err, refl, ◌∙◌}
 use Rattle.std.specs.List.{fold}
 use Rattle.serde_json.specs.Data.{Data}
@@ -6,7 +6,7 @@ use Rattle.kapi_admission.specs.Admission.{BodyFault, object_of}
 use Rattle.kapi_store.specs.Faults.{StoreFault}
 use Rattle.kapi_store.specs.Plain.{PlainChange, creation}
 use Rattle.kapi_store.specs.declared.key.Key.{Key}
-use Rattle.kapi_names.specs.declared.row.ResourceRow.{ResourceRow}
+use Rattle.kapi_model.specs.declared.row.ResourceRow.{ResourceRow}
 use Rattle.kapi_policy.specs.Objects.{no_objects}
 use Rattle.kapi_stored_policy.specs.Reading.{collected, policy_objects}
 use Rattle.kapi_core.specs.Machine.{Machine, policy_of}

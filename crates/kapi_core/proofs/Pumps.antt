@@ -9,8 +9,8 @@ use Rattle.std.specs.Option.{option_and_then}
 use Rattle.std.proofs.lemmas.Bool.{eqb-false, eqb-true}
 use Rattle.std.proofs.lemmas.List.{drop_at}
 use Rattle.kapi_answer.specs.Watch.{PlainWatching, after_end, event_reply_of, may_go_on, rechecked}
-use Rattle.kapi_http.specs.declared.inbox.TheConstants.{KEPT_LIMIT}
-use Rattle.kapi_rbac_types.specs.declared.identity.Identity.{Identity}
+use Rattle.kapi_core.specs.Limits.{kept_limit, last_connection, open_connections}
+use Rattle.kapi_model.specs.declared.identity.Identity.{Identity}
 use Rattle.kapi_store.specs.Plain.{Plain, PlainChange, written}
 use Rattle.kapi_watch.specs.Lists.{all_on_top, list_at}
 use Rattle.kapi_watch.specs.Runs.{HoldsOn, Made, Pump, Step, history_after, shown_over, still_due, watch_after}
@@ -26,7 +26,6 @@ use Rattle.kapi_core.specs.declared.event.Answer.{Answer}
 use Rattle.kapi_core.specs.declared.event.Answer.TheVariants as told
 use Rattle.kapi_core.specs.declared.event.Event.{Event}
 use Rattle.kapi_core.specs.declared.event.Event.TheVariants as event
-use Rattle.kapi_core.specs.declared.machine.TheConstants.{LAST_CONNECTION, OPEN_CONNECTIONS}
 
 -- the watch of a link, if there is one
 abbrev watch_of : Option Link → Option PlainWatching
@@ -36,7 +35,7 @@ watch_of o = option_and_then (λ (l : Link). l.watching) o
 abbrev pumped_on : Machine → PlainWatching → PlainWatching
 pumped_on m w = record w { watch = after_pump m.changes m.store w.watch }
 
--- what an event of the connection's watch is: changes are made, and it is as it was; or it was pumped, and what it shows is sent
+-- an event of the connection's watch makes changes and leaves the watch, or pumps it and sends what it shows
 Passes : ℕ → Machine → Machine → List ℕ → PlainWatching → Step → Type 0
 Passes id m n sent w (Made cs) = (n.changes ≡ m.changes ++ cs) × (n.store ≡ written cs m.store) × (watch_on id n ≡ Some w) × (sent ≡ [])
 Passes id m n sent w Pump =
@@ -67,12 +66,12 @@ still_if : (id : ℕ) (w : PlainWatching) (b : Bool) (x y : Answer × Machine) �
 still_if id w true x y one other some = one some
 still_if id w false x y one other some = other some
 
--- a connection that was just opened shows none
+-- a connection that was just opened shows no watch
 opened_still : (identity : Identity) (m : Machine) (w : PlainWatching) → watch_on m.next_id m ≡ Some w → IsSome (watch_on m.next_id (open_step identity m).1)
     → watch_on m.next_id (open_step identity m).1 ≡ Some w
 unfolding open_step
 opened_still identity m w is =
-    still_if m.next_id w (nat_lt (length m.links) OPEN_CONNECTIONS && nat_le m.next_id LAST_CONNECTION) _ _
+    still_if m.next_id w (nat_lt (length m.links) open_connections && nat_le m.next_id last_connection) _ _
     (no_watch m.next_id (with_new_link m.next_id (new_link identity) m) (ap watch_of (found_new m.next_id (new_link identity) m)))
     (λ some. is)
 
@@ -81,7 +80,7 @@ fed_still : (id : ℕ) (piece : List ℕ) (m : Machine) (w : PlainWatching) (o :
 unfolding feed_step
 fed_still id piece m w None at is some = is
 fed_still id piece m w (Some l) at is some =
-    still_if id w (nat_le (length (unserved l) + length piece) KEPT_LIMIT) _ _
+    still_if id w (nat_le (length (unserved l) + length piece) kept_limit) _ _
     (λ some. ap watch_of (found_own id (record l { sent = l.sent ++ piece }) m (there id m l at)) ∙ ap watch_of (sym at) ∙ is)
     (λ some. is)
     some
@@ -108,7 +107,7 @@ goes_on m w never = by_case (is_expired m.store w.watch) refl
     by_case true is = absurd (never (ap (λ b. if b then Some Expired else option_map (λ (e : ℕ × Shown). e.1) (slice_get (due m.changes w.watch) w.watch.shown)) is))
     by_case false is = is
 
--- of one that shows its end nothing is left
+-- a watch that shows its end is gone from its connection
 ended : (id : ℕ) (m : Machine) (l : Link) (w : PlainWatching) → link_at id m ≡ Some l → AreNumbered m → (close : Bool) → watch_on id (after_event (after_end close) id l w m) ≡ None
 unfolding after_event
 ended id m l w at k true = ap watch_of (found_gone id m k)
@@ -136,7 +135,7 @@ refused_ends : (id : ℕ) (m : Machine) (l : Link) (w : PlainWatching) → link_
 unfolding Passes pump_shown after_event event_reply_of
 refused_ends id m l w at k some = no_watch id (after_event (after_end w.close) id l w m) (ended id m l w at k w.close) some
 
--- what is shown next is that, or what a pump shows
+-- what is shown next is the refusal, or what a pump shows
 pub shown_or : (m : Machine) (w : PlainWatching) → (shown_next m w ≡ Some Refused) ⊎ (shown_next m w ≡ pumped m.changes m.store w.watch)
 unfolding rechecked
 shown_or m w = by_test (m.rechecks && not (may_go_on (policy_of m) w))
@@ -217,14 +216,14 @@ passes id m (event.Close conn) w one k is some =
 
 -- ---- lists of events
 
--- events after which a machine stands are a run of a watch
+-- events that lead to a machine are a run of a watch
 record Runs (id : ℕ) (ts : List Step) (history : List PlainChange) (s : Plain) (n : Machine) (sent : List ℕ) (w : PlainWatching) : Type 0 where
   between : history_after ts history ≡ n.changes
   holds : HoldsOn ts history s w.watch
   still : watch_on id n ≡ Some (record w { watch = watch_after ts history s w.watch })
   told : sent ≡ lines_of (shown_over ts history s w.watch)
 
--- the watch after one of them
+-- the watch after one of the events
 abbrev next_watch : Step → Machine → PlainWatching → PlainWatching
 next_watch (Made cs) m w = w
 next_watch Pump m w = pumped_on m w

@@ -5,7 +5,7 @@ use Rattle.kapi_core.specs.declared.event.Event.{Event}
 use Rattle.kapi_core.specs.declared.event.Answer.{Answer}
 use Rattle.kapi_core.specs.Running.{Running}
 use Rattle.kapi_core.specs.Machine.{Machine, step, answers, after}
-use Rattle.kapi_core.specs.Stands.{Keeps, Stands, Pushes}
+use Rattle.kapi_core.specs.Refines.{Keeps, Refines, Pushes}
 
 pub answers_push : (m : Machine) (es : List Event) (e : Event) → answers m (es ++ e ∷ []) ≡ answers m es ++ (step (after m es) e).0 ∷ []
 unfolding answers after
@@ -17,11 +17,11 @@ unfolding after
 after_push m [] e = refl
 after_push m (x ∷ es) e = after_push (step m x).1 es e
 
--- what was answered so far, and the machine that is stood for
+-- the answers so far, and the model that is refined
 pub record Ran (initial now : Running) (told : List Answer) (events : List Event) : Type 0 where
   pub count : length told ≡ length events
-  pub answered : (m : Machine) → Stands initial m → told ≡ answers m events
-  pub stands : (m : Machine) → Stands initial m → Stands now (after m events)
+  pub answered : (m : Machine) → Refines initial m → told ≡ answers m events
+  pub stands : (m : Machine) → Refines initial m → Refines now (after m events)
 
 -- nothing was run
 pub ran_nothing : (core : Running) → Ran core core [] []
@@ -38,10 +38,10 @@ ran_push initial now next told more events e ran push = record {
       push.1 ∙ ap (λ a. told ++ a ∷ []) made.0 ∙ ap (λ r. r ++ (step (after m events) e).0 ∷ []) (ran.answered m h) ∙ sym (answers_push m events e);
   stands = λ m h.
       let made = push.2 (after m events) (ran.stands m h) in
-      let P : Machine → Type 0 = λ n. Stands next n in subst P (sym (after_push m events e)) made.1;
+      let P : Machine → Type 0 = λ n. Refines next n in subst P (sym (after_push m events e)) made.1;
 }
 
--- what kept it goes on from it
+-- a call that kept the machine goes on from it
 pub ran_kept : (initial now next : Running) (told : List Answer) (events : List Event) → Ran initial now told events → Keeps now next → Ran initial next told events
 ran_kept initial now next told events ran keeps = record { count = ran.count; answered = ran.answered; stands = λ m h. keeps (after m events) (ran.stands m h) }
 

@@ -6,9 +6,9 @@ use Rattle.kapi_http.specs.Cut.{first}
 use Rattle.kapi_http.specs.declared.message.HttpRequest.{HttpRequest}
 use Rattle.std.proofs.lemmas.List.{drop-append-le}
 use Rattle.kapi_core.specs.Machine.{rest_after}
-use Rattle.kapi_core.specs.Stands.{Serves}
+use Rattle.kapi_core.specs.Refines.{Serves}
 
--- what is kept is what stands behind the requests
+-- the kept bytes are those behind the requests
 pub serves_rest : (k : ℕ) (bytes rest : List ℕ) → Serves k bytes rest → rest_after k bytes ≡ rest
 unfolding Serves rest_after
 serves_rest zero bytes rest h = sym h

@@ -1,4 +1,4 @@
--- A turn of the running machine is that of the machine that is data.
+-- A turn of the running machine is that of the model.
 use Rattle.std.proofs.Common.{◌≡◌, ℕ, false, List, [], Option, None, Some, Result, Ok, Err, refl, sym, ap, ◌∙◌, subst, Bool}
 use Rattle.std.specs.declared.alloc.AllocError.{AllocError}
 use Rattle.kapi_aggregation.specs.Marks.{Covers, Tracked}
@@ -12,8 +12,8 @@ use Rattle.kapi_policy.specs.Objects.{PolicyObjects}
 use Rattle.kapi_store.specs.State.{State}
 use Rattle.kapi_core.specs.Machine.{Link, Machine, after_turn, step, turn_step, turned_by}
 use Rattle.kapi_core.specs.Running.{Running}
-use Rattle.kapi_core.specs.Stands.{AreLinks, RunsOut, StandsFor, Turns, is_early}
-use Rattle.kapi_core.specs.Writes.{TurnsInto, Writes}
+use Rattle.kapi_core.specs.Refines.{AreLinks, RunsOut, RefinesMachine, Turns, is_early}
+use Rattle.kapi_core.specs.Private.Writes.{TurnsInto, Writes}
 use Rattle.kapi_core.specs.declared.connection.Connection.{Connection}
 use Rattle.kapi_core.specs.declared.event.Event.TheVariants as event
 use Rattle.kapi_core.specs.declared.event.Answer.TheVariants as told
@@ -38,7 +38,7 @@ turned_late m = by_due (next (roles_in m.store.objects))
 abbrev pub roles_at : State → List Labelled
 roles_at s = roles_in (plain_of s).objects
 
--- this is what is due, if the marks cover the cluster roles of the store
+-- the turn that is due, if the marks cover the cluster roles of the store
 abbrev pub IsDue : State → Tracked → Option Turn → Type 0
 IsDue s ms due = Covers ms (roles_at s) → due ≡ next (roles_at s)
 
@@ -52,7 +52,7 @@ not_turned : (s : State) (o : PolicyObjects) (ms ns : Tracked) (es : List (ℕ �
 unfolding step turn_step
 not_turned s o ms ns es n on due still cs k p v ps h =
     let m = machine_of s cs n on ps in
-    let P : Option Turn → Type 0 = λ d. (told.Nothing ≡ (turned_by d m).0) × StandsFor s o ns es n on (turned_by d m).1 in
+    let P : Option Turn → Type 0 = λ d. (told.Nothing ≡ (turned_by d m).0) × RefinesMachine s o ns es n on (turned_by d m).1 in
     subst P (due v) (refl, record { store = k; policy_is = p; covers = still v; next_id = refl; rechecks = refl; links = h })
 
 pub nothing_turned : (old : Running) (ns : Tracked) → IsDue old.store old.marks None → StillCovers old.store old.marks ns → Turns old (record old { marks = ns }) (Ok None)
@@ -60,7 +60,7 @@ nothing_turned old ns due still = λ m h.
     made_for old.store old.policy old.marks old.connections old.next_id old.rechecks m old.store old.policy ns old.connections old.next_id old.rechecks event.Turn told.Nothing h
     (not_turned old.store old.policy old.marks ns old.connections old.next_id old.rechecks due still)
 
--- memory ran out before a turn was due
+-- memory runs out before a turn was due
 pub kept_due : (old : Running) (ns : Tracked) → StillCovers old.store old.marks ns → RunsOut old (record old { marks = ns }) event.Turn
 kept_due old ns still = λ m h.
     let P : Plain → Type 0 = λ p. Covers old.marks (roles_in p.objects) → Covers ns (roles_in p.objects) in
@@ -73,8 +73,8 @@ turn_written : (s t : State) (o u : PolicyObjects) (ms ls ns : Tracked) (es : Li
 unfolding step turn_step
 turn_written s t o u ms ls ns es n on turn changes turned due still is tells writes cs k p v ps h =
     let m = machine_of s cs n on ps in
-    let P : Option Turn → Type 0 = λ d. (told.Turned turned ≡ (turned_by d m).0) × StandsFor t u ns es n on (turned_by d m).1 in
-    let Q : Result (List PlainChange) StoreFault → Type 0 = λ r. (told.Turned turned ≡ (after_turn turn.name r m).0) × StandsFor t u ns es n on (after_turn turn.name r m).1 in
+    let P : Option Turn → Type 0 = λ d. (told.Turned turned ≡ (turned_by d m).0) × RefinesMachine t u ns es n on (turned_by d m).1 in
+    let Q : Result (List PlainChange) StoreFault → Type 0 = λ r. (told.Turned turned ≡ (after_turn turn.name r m).0) × RefinesMachine t u ns es n on (after_turn turn.name r m).1 in
     let after = writes cs (plain_of s) k p (still v) in
     let links = links_written cs changes (plain_of s) (changes_follow s t cs changes (plain_of s) k after.0) es ps h in
     subst P (due v) (subst Q (sym is) (tells, record { store = after.0; policy_is = after.1; covers = after.2; next_id = refl; rechecks = refl; links = links }))
@@ -86,8 +86,8 @@ turn_refused : (s t : State) (o u : PolicyObjects) (ms ls ns : Tracked) (es : Li
 unfolding step turn_step
 turn_refused s t o u ms ls ns es n on turn fault due still is same kept goes cs k p v ps h =
     let m = machine_of s cs n on ps in
-    let P : Option Turn → Type 0 = λ d. (told.Nothing ≡ (turned_by d m).0) × StandsFor s o ns es n on (turned_by d m).1 in
-    let Q : Result (List PlainChange) StoreFault → Type 0 = λ r. (told.Nothing ≡ (after_turn turn.name r m).0) × StandsFor s o ns es n on (after_turn turn.name r m).1 in
+    let P : Option Turn → Type 0 = λ d. (told.Nothing ≡ (turned_by d m).0) × RefinesMachine s o ns es n on (turned_by d m).1 in
+    let Q : Result (List PlainChange) StoreFault → Type 0 = λ r. (told.Nothing ≡ (after_turn turn.name r m).0) × RefinesMachine s o ns es n on (after_turn turn.name r m).1 in
     rw (same, kept) (subst P (due v) (subst Q (sym is) (refl, record { store = k; policy_is = p; covers = goes (still v); next_id = refl; rechecks = refl; links = h })))
 
 -- what became of the store, the policy and the marks became of the machine

@@ -3,18 +3,19 @@ use Rattle.std.proofs.Common.{◌≡◌, List, [], ◌++◌, refl, ap, subst, �
 use Rattle.kapi_aggregation.specs.Marks.{Covers, Tracked}
 use Rattle.kapi_aggregation.specs.Roles.{roles_in}
 use Rattle.kapi_store.specs.Changes.{placed_all}
-use Rattle.kapi_store.specs.Plain.{Plain, PlainChange, StandsFor, plain_of, trees_left_by, written}
+use Rattle.kapi_store.specs.Plain.{Plain, PlainChange, RefinesPlain, plain_of, trees_left_by, written}
 use Rattle.kapi_policy.specs.Objects.{PolicyObjects}
 use Rattle.kapi_store.specs.State.{State}
 use Rattle.kapi_stored_policy.proofs.Writes.{policy_written}
-use Rattle.kapi_stored_policy.specs.Reading.{after_changes, policy_changes, policy_objects}
-use Rattle.kapi_core.specs.Writes.{Writes}
+use Rattle.kapi_policy.specs.Steps.{after_changes}
+use Rattle.kapi_stored_policy.specs.Reading.{policy_changes, policy_objects}
+use Rattle.kapi_core.specs.Private.Writes.{Writes}
 
 nothing_written : (s : Plain) → s ≡ written [] s
 unfolding placed_all
 nothing_written s = rw (add-zero) refl
 
--- a store, a policy and marks go on to stand for what they stood for
+-- a store, a policy and marks refine and cover the same objects
 pub nothing_writes : (s : State) (o : PolicyObjects) (ms : Tracked) → Writes s o ms s o ms []
 nothing_writes s o ms cs p stands is covers =
     let P : Plain → Type 0 = λ q. Covers ms (roles_in q.objects) in (
@@ -29,7 +30,7 @@ CoversWritten s ms ns changes = Covers ms (roles_in (plain_of s).objects) → Co
 
 -- a write that the policy follows, and that was noted
 pub writes : (s t : State) (o u : PolicyObjects) (ms ns : Tracked) (changes : List PlainChange)
-    → ((cs : List PlainChange) (p : Plain) → StandsFor s cs p → StandsFor t (cs ++ changes) (written changes p))
+    → ((cs : List PlainChange) (p : Plain) → RefinesPlain s cs p → RefinesPlain t (cs ++ changes) (written changes p))
     → u ≡ after_changes (policy_changes changes) o → CoversWritten s ms ns changes → Writes s o ms t u ns changes
 writes s t o u ms ns changes stands made noted cs p before is covers =
     let P : Plain → Type 0 = λ q. Covers ms (roles_in q.objects) → Covers ns (roles_in (placed_all (trees_left_by changes) q.objects)) in

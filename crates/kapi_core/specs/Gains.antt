@@ -1,22 +1,23 @@
--- Who acts in a list of events, and what nobody gains by it (Kubernetes, 'Using RBAC Authorization', 'Privilege escalation prevention and bootstrapping').
+-- Who acts in a list of events, and what nobody gains by it (Kubernetes, 'Using RBAC Authorization', 'Privilege
+-- escalation prevention and bootstrapping').
 use Rattle.std.specs.Prelude.{◌≡◌, ◌⊎◌, List, [], ◌∷◌, ◌++◌, Option, Some, None}
-use Rattle.kapi_rbac_types.specs.declared.identity.Identity.{Identity}
+use Rattle.kapi_model.specs.declared.identity.Identity.{Identity}
 use Rattle.kapi_policy.specs.Objects.{PolicyObjects}
-use Rattle.kapi_aggregation.specs.Roles.{Labelled}
+use Rattle.kapi_aggregation.specs.Roles.{Labelled, roles_in}
 use Rattle.kapi_aggregation.specs.Unions.{IsSettled}
-use Rattle.kapi_gains.specs.Access.{GivesNothing, IsHarmless}
+use Rattle.kapi_gains.specs.Access.{GivesNothing, IsUnprivileged}
 use Rattle.kapi_aggregation.specs.Members.{Has}
 use Rattle.kapi_core.specs.declared.event.ConnId.{ConnId}
 use Rattle.kapi_core.specs.declared.event.Event.{Event}
 use Rattle.kapi_core.specs.declared.event.Event.TheVariants as event
-use Rattle.kapi_core.specs.Machine.{Link, Machine, link_at, step}
+use Rattle.kapi_core.specs.Machine.{Link, Machine, after, link_at, policy_of, step}
 
--- who makes the requests of a connection, if it is open
+-- the identity that makes the requests of a connection, if it is open
 abbrev pub identity_on : Option Link → List Identity
 identity_on None = []
 identity_on (Some l) = l.identity ∷ []
 
--- who acts by an event: whose connection is served, if it is open then
+-- the identity that acts by an event: the identity of the served connection, if it is open then
 abbrev pub acting_by : Machine → Event → List Identity
 acting_by m (event.Open identity) = []
 acting_by m (event.Feed conn piece) = []
@@ -25,7 +26,7 @@ acting_by m (event.Pump conn) = []
 acting_by m event.Turn = []
 acting_by m (event.Close conn) = []
 
--- those who act in a list of events
+-- the identities that act in a list of events
 unfoldable pub acting_in : Machine → List Event → List Identity
 acting_in m [] = []
 acting_in m (e ∷ es) = acting_by m e ++ acting_in (step m e).1 es
@@ -40,8 +41,14 @@ pub record IsServed (m : Machine) (es : List Event) (who : Identity) : Type 0 wh
   pub named : Has es (event.Serve conn)
   pub connected : IsConnected m es conn who
 
--- where the aggregated cluster roles have their unions and all who act are harmless, the new policy allows nobody what the old one
--- allowed neither him nor one of them
+-- where the aggregated cluster roles have their unions and all acting identities are unprivileged, the new policy
+-- allows no identity what the old one allowed neither to that identity nor to one of those acting
 abbrev pub NobodyGains : List Labelled → List Identity → PolicyObjects → PolicyObjects → Type 0
 NobodyGains roles acting old new =
-    IsSettled roles → ((who : Identity) → Has acting who → IsHarmless old who) → GivesNothing acting old new
+    IsSettled roles → ((who : Identity) → Has acting who → IsUnprivileged old who) → GivesNothing acting old new
+
+-- from any moment of a list of events on, nobody gains by the events that follow
+abbrev pub NobodyGainsDuring : Machine → List Event → Type 0
+NobodyGainsDuring m events =
+    (front back : List Event) → front ++ back ≡ events
+    → NobodyGains (roles_in (after m front).store.objects) (acting_in (after m front) back) (policy_of (after m front)) (policy_of (after (after m front) back))

@@ -5,7 +5,7 @@ use Rattle.kapi_aggregation.specs.Rewriting.{rewriting}
 use Rattle.kapi_aggregation.specs.declared.turn.Turn.{Turn}
 use Rattle.kapi_answer.specs.Histories.{AreNamed}
 use Rattle.kapi_answer.specs.Load.{LoadFault, loads}
-use Rattle.kapi_names.specs.declared.row.ResourceRow.{ResourceRow}
+use Rattle.kapi_model.specs.declared.row.ResourceRow.{ResourceRow}
 use Rattle.kapi_store.specs.Plain.{Plain, PlainChange}
 use Rattle.kapi_store.specs.declared.key.Key.{Key}
 use Rattle.kapi_watch.specs.Histories.{IsHistory, IsReplacement}
@@ -16,7 +16,7 @@ use Rattle.kapi_watch.specs.declared.scope.Scope.{Scope}
 use Rattle.kapi_core.specs.Machine.{Machine, after, changed, with_rechecks}
 use Rattle.kapi_core.specs.Opening.{opening}
 use Rattle.kapi_core.specs.Running.{Running}
-use Rattle.kapi_core.specs.Stands.{Stands}
+use Rattle.kapi_core.specs.Refines.{Refines}
 use Rattle.kapi_core.specs.declared.event.Event.{Event}
 
 -- the machine after the changes of a load, where it is not refused
@@ -29,11 +29,11 @@ unfoldable pub loaded : Machine → List (List ℕ) → Machine
 loaded m [] = m
 loaded m (text ∷ texts) = loaded (loaded_if m (loads m.store text)) texts
 
--- the machine that has begun, loaded some objects, was told whether the rights of watches are looked at anew, and made some events
+-- the machine that has begun, loaded some objects, was set to recheck the rights of watches or not, and took events
 abbrev pub served : Bool → List ResourceRow → ℕ → List (List ℕ) → List Event → Machine
 served on table first texts events = after (with_rechecks on (loaded (opening table first) texts)) events
 
--- all the changes ever of such a machine are a history
+-- all the changes ever of a served machine are a history
 abbrev pub ServedIsAHistory : Type 0
 ServedIsAHistory = (on : Bool) (table : List ResourceRow) (first : ℕ) (texts : List (List ℕ)) (events : List Event) → IsHistory first (served on table first texts events).changes
 
@@ -41,18 +41,18 @@ ServedIsAHistory = (on : Bool) (table : List ResourceRow) (first : ℕ) (texts :
 abbrev pub TurnsReplace : Type 0
 TurnsReplace = (turn : Turn) (s : Plain) (cs : List PlainChange) → AreNamed s.objects → rewriting turn s ≡ Ok cs → IsReplacement s cs
 
--- where all the changes of a machine that a running one stands for are a history, they still are after some events
+-- where all the changes of a machine that a running one refines are a history, they still are after some events
 abbrev pub EventsGoOn : Type 0
-EventsGoOn = (core : Running) (m : Machine) (events : List Event) → Stands core m → IsHistory m.store.first m.changes → IsHistory m.store.first (after m events).changes
+EventsGoOn = (core : Running) (m : Machine) (events : List Event) → Refines core m → IsHistory m.store.first m.changes → IsHistory m.store.first (after m events).changes
 
--- and after an object was loaded
+-- where all changes of a machine that a running one refines are a history, they still are after an object was loaded
 abbrev pub LoadsGoOn : Type 0
-LoadsGoOn = (core : Running) (m : Machine) (text : List ℕ) (cs : List PlainChange) → Stands core m → IsHistory m.store.first m.changes → loads m.store text ≡ Ok cs
+LoadsGoOn = (core : Running) (m : Machine) (text : List ℕ) (cs : List PlainChange) → Refines core m → IsHistory m.store.first m.changes → loads m.store text ≡ Ok cs
     → IsHistory m.store.first (changed cs m).changes
 
 -- ---- the lists of a machine
 
--- what its store lists
+-- what the store of a machine lists
 abbrev pub list_of : Scope → Machine → List (Key × Data)
 list_of scope m = listed scope m.store.objects
 
@@ -68,7 +68,7 @@ DueIsListed = (on : Bool) (table : List ResourceRow) (first : ℕ) (texts : List
     let m : Machine = served on table first texts events in
     all_on_top scope (list_at scope revision m.changes) (still_due m.changes (started_at scope revision)) ≡ list_of scope m
 
--- and so is what is due to a watch that shows first what was listed when it started, on top of nothing
+-- what is due to a watch that shows first what was listed when it started, on top of nothing, is what is listed now
 abbrev pub FirstIsListed : Type 0
 FirstIsListed = (on : Bool) (table : List ResourceRow) (first : ℕ) (texts : List (List ℕ)) (before events : List Event) (scope : Scope) →
     let m : Machine = served on table first texts before in
@@ -79,8 +79,8 @@ FirstIsListed = (on : Bool) (table : List ResourceRow) (first : ℕ) (texts : Li
 abbrev pub IsBetween : List Step → Machine → Machine → Type 0
 IsBetween ts m n = history_after ts m.changes ≡ n.changes
 
--- what a watch from a revision on has shown while the window holds, on top of the list at that revision, is what is listed now, once
--- nothing is due any more
+-- what a watch from a revision on has shown while the window holds, on top of the list at that revision, is what is
+-- listed now, once nothing is due any more
 abbrev pub ShownIsListed : Type 0
 ShownIsListed = (on : Bool) (table : List ResourceRow) (first : ℕ) (texts : List (List ℕ)) (before events : List Event) (ts : List Step) (scope : Scope) (revision : ℕ) →
     let m : Machine = served on table first texts before in
@@ -88,7 +88,8 @@ ShownIsListed = (on : Bool) (table : List ResourceRow) (first : ℕ) (texts : Li
     IsBetween ts m n → HoldsOn ts m.changes m.store (started_at scope revision) → still_due n.changes (watch_after ts m.changes m.store (started_at scope revision)) ≡ []
     → all_on_top scope (list_at scope revision n.changes) (shown_over ts m.changes m.store (started_at scope revision)) ≡ list_of scope n
 
--- and the same of a watch that shows what is listed first
+-- what a watch that shows first what is listed has shown while the window holds, on top of nothing, is what is listed
+-- now, once nothing is due any more
 abbrev pub FirstShownIsListed : Type 0
 FirstShownIsListed = (on : Bool) (table : List ResourceRow) (first : ℕ) (texts : List (List ℕ)) (before events : List Event) (ts : List Step) (scope : Scope) →
     let m : Machine = served on table first texts before in

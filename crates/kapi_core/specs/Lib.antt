@@ -1,11 +1,11 @@
-pub mod Writes
+pub mod Limits
 pub mod Machine
 pub mod Running
-pub mod Stands
-pub mod Feeds
+pub mod Refines
 pub mod Opening
 pub mod Table
-pub mod Openings
+pub mod ProgramTable
+pub mod Private
 pub mod Gains
 pub mod Telling
 pub mod OpeningPolicy

@@ -1,4 +1,4 @@
--- The machine as data, and what each event makes of it.
+-- The model of the machine, and what each event makes of it.
 use Rattle.std.specs.Prelude.{ℕ, ◌+◌, zero, suc, nat_lt, nat_le, Bool, true, false, ◌&&◌, if◌then◌else◌, List, [], ◌∷◌, ◌++◌, length, drop, Option, Some, None, option_map, Result, Ok, Err}
 use Rattle.std.specs.Ordering.{nat_cmp}
 use Rattle.std.specs.Map.{lookup, set_value, remove_entry}
@@ -15,7 +15,7 @@ use Rattle.kapi_answer.specs.declared.watch.EventReply.{EventReply}
 use Rattle.kapi_http.specs.Cut.{first}
 use Rattle.kapi_http.specs.declared.message.HttpFault.{HttpFault}
 use Rattle.kapi_http.specs.declared.message.HttpRequest.{HttpRequest}
-use Rattle.kapi_rbac_types.specs.declared.identity.Identity.{Identity}
+use Rattle.kapi_model.specs.declared.identity.Identity.{Identity}
 use Rattle.kapi_policy.specs.Objects.{PolicyObjects}
 use Rattle.kapi_store.specs.Faults.{StoreFault}
 use Rattle.kapi_store.specs.Plain.{Plain, PlainChange, written}
@@ -27,10 +27,9 @@ use Rattle.kapi_core.specs.declared.event.Event.TheVariants as event
 use Rattle.kapi_core.specs.declared.event.Answer.{Answer}
 use Rattle.kapi_core.specs.declared.event.Answer.TheVariants as told
 use Rattle.kapi_core.specs.declared.event.Output.{Output}
-use Rattle.kapi_core.specs.declared.machine.TheConstants.{LAST_CONNECTION, OPEN_CONNECTIONS}
-use Rattle.kapi_http.specs.declared.inbox.TheConstants.{KEPT_LIMIT}
+use Rattle.kapi_core.specs.Limits.{kept_limit, last_connection, open_connections}
 
--- a connection: who makes its requests, all bytes that it ever sent, how many of its requests were served, and the watch that it shows
+-- a connection: its identity, all bytes that it ever sent, how many of its requests were served, and its watch
 pub record Link : Type 0 where
   pub identity : Identity
   pub sent : List ℕ
@@ -41,8 +40,8 @@ pub record Link : Type 0 where
 abbrev pub new_link : Identity → Link
 new_link identity = record { identity = identity; sent = []; served = 0; watching = None }
 
--- the objects, all changes that ever made them, the next number, the open connections by number, and whether the rights of a watch are
--- looked at anew at each of its events; a connection that was closed or has ended is not among the open ones
+-- the objects, all changes that ever made them, the next number, the open connections by number, and whether the rights
+-- of a watch are rechecked at each of its events; a connection that was closed or has ended is not among the open ones
 pub record Machine : Type 0 where
   pub store : Plain
   pub changes : List PlainChange
@@ -50,7 +49,7 @@ pub record Machine : Type 0 where
   pub links : List (ℕ × Link)
   pub rechecks : Bool
 
--- its policy: the roles and bindings among its objects
+-- the policy of a machine: the roles and bindings among its objects
 abbrev pub policy_of : Machine → PolicyObjects
 policy_of m = policy_objects m.store.objects
 
@@ -68,7 +67,7 @@ with_link id l m = record m { links = set_value (is_at (nat_cmp id)) m.links l }
 abbrev pub with_new_link : ℕ → Link → Machine → Machine
 with_new_link id l m = record m { links = insert_entry nat_cmp m.links id l; next_id = id + 1 }
 
--- the machine whose watches' rights are looked at anew, or are not
+-- the machine that rechecks the rights of watches, or does not
 abbrev pub with_rechecks : Bool → Machine → Machine
 with_rechecks on m = record m { rechecks = on }
 
@@ -76,13 +75,13 @@ with_rechecks on m = record m { rechecks = on }
 abbrev pub without_link : ℕ → Machine → Machine
 without_link id m = record m { links = remove_entry (is_at (nat_cmp id)) m.links }
 
--- what stands behind the request that the bytes begin with; where they begin with none, nothing is taken
+-- the bytes behind the request that the bytes begin with; where they begin with none, nothing is taken
 abbrev pub behind : Option (Result HttpRequest HttpFault) → List ℕ → List ℕ
 behind None bytes = bytes
 behind (Some (Err fault)) bytes = bytes
 behind (Some (Ok request)) bytes = drop request.length bytes
 
--- what stands behind so many requests
+-- the bytes behind so many requests
 unfoldable pub rest_after : ℕ → List ℕ → List ℕ
 rest_after zero bytes = bytes
 rest_after (suc k) bytes = rest_after k (behind (first bytes) bytes)
@@ -96,7 +95,7 @@ unserved l = rest_after l.served l.sent
 -- a connection is opened: at most 256 at a time, with numbers of at most 18 digits
 unfoldable pub open_step : Identity → Machine → Answer × Machine
 open_step identity m =
-    if nat_lt (length m.links) OPEN_CONNECTIONS && nat_le m.next_id LAST_CONNECTION
+    if nat_lt (length m.links) open_connections && nat_le m.next_id last_connection
     then (told.Opened (record { 0 = m.next_id }), with_new_link m.next_id (new_link identity) m)
     else (told.TooMany, m)
 
@@ -104,7 +103,7 @@ open_step identity m =
 unfoldable pub feed_step : ℕ → List ℕ → Option Link → Machine → Answer × Machine
 feed_step id piece None m = (told.Ended, m)
 feed_step id piece (Some l) m =
-    if nat_le (length (unserved l) + length piece) KEPT_LIMIT
+    if nat_le (length (unserved l) + length piece) kept_limit
     then (told.Done, with_link id (record l { sent = l.sent ++ piece }) m)
     else (told.Full, m)
 
@@ -116,7 +115,7 @@ ended_if close id m = if close then without_link id m else m
 abbrev pub changed : List PlainChange → Machine → Machine
 changed cs m = record m { store = written cs m.store; changes = m.changes ++ cs }
 
--- what goes out, and what the step changed in the policy
+-- the bytes that an answer sends, and what its step changed in the policy
 abbrev pub output_of : Answered → Output
 output_of answered = record { bytes = answered.reply.bytes; close = answered.reply.close; policy_changes = policy_changes answered.changes }
 
@@ -127,7 +126,7 @@ after_serve id l answered m = (
   ended_if answered.reply.close id (changed answered.changes (with_link id (record l { served = suc l.served; watching = answered.watch }) m)),
 )
 
--- the answer to what was cut, if anything was, by the roles and bindings that there are
+-- the answer to what was cut, if anything was, by the current roles and bindings
 unfoldable pub serve_item : ℕ → Link → Option (Result HttpRequest HttpFault) → Machine → Answer × Machine
 serve_item id l None m = (told.Nothing, m)
 serve_item id l (Some item) m = after_serve id l (answer (policy_of m) m.store l.identity item) m
@@ -148,7 +147,7 @@ is_last becomes.Watches = false
 is_last becomes.Serves = false
 is_last becomes.Closes = true
 
--- what goes out of an event
+-- the bytes that an event of a watch sends
 abbrev pub event_output : EventReply → Output
 event_output r = record { bytes = r.bytes; close = is_last r.after; policy_changes = [] }
 
@@ -162,12 +161,12 @@ after_event becomes.Watches id l w m = with_link id (watched_on l w m) m
 after_event becomes.Serves id l w m = with_link id (record l { watching = None }) m
 after_event becomes.Closes id l w m = without_link id m
 
--- what is shown goes out; where nothing is, the watch moves on
+-- what a watch shows is sent; where it shows nothing, the watch moves on
 unfoldable pub pump_shown : ℕ → Link → PlainWatching → Option EventReply → Machine → Answer × Machine
 pump_shown id l w None m = (told.Nothing, with_link id (watched_on l w m) m)
 pump_shown id l w (Some r) m = (told.Sent (event_output r), after_event r.after id l w m)
 
--- what a watch shows next: where rights are looked at anew, first that the roles and bindings there are do not allow it any more
+-- what a watch shows next: where rights are rechecked, first that the roles and bindings do not allow it any more
 abbrev pub shown_next : Machine → PlainWatching → Option Shown
 shown_next m w = rechecked m.rechecks (policy_of m) w (pumped m.changes m.store w.watch)
 
@@ -186,17 +185,17 @@ abbrev pub after_turn : List ℕ → Result (List PlainChange) StoreFault → Ma
 after_turn name (Ok changes) m = (told.Turned (record { revision = m.store.revision + 1; name = name; policy_changes = policy_changes changes }), changed changes m)
 after_turn name (Err fault) m = (told.Nothing, m)
 
--- what is due is made, if anything is
+-- the machine after the turn that is due, if one is
 abbrev pub turned_by : Option Turn → Machine → Answer × Machine
 turned_by None m = (told.Nothing, m)
 turned_by (Some turn) m = after_turn turn.name (rewriting turn m.store) m
 
--- the controller's next write: the aggregated cluster role of least name that differs from its union gets that as its rules; none where
--- there is none, and none where no revision is left
+-- the controller's next write: the aggregated cluster role of least name that differs from its union gets the union as
+-- its rules; no write where no cluster role differs, and none where no revision is left
 unfoldable pub turn_step : Machine → Answer × Machine
 turn_step m = turned_by (next (roles_in m.store.objects)) m
 
--- what an event is answered, and the machine after it
+-- the answer to an event, and the machine after it
 unfoldable pub step : Machine → Event → Answer × Machine
 step m (event.Open identity) = open_step identity m
 step m (event.Feed conn piece) = feed_step conn.0 piece (link_at conn.0 m) m
@@ -205,7 +204,7 @@ step m (event.Pump conn) = pump_step conn.0 (link_at conn.0 m) m
 step m event.Turn = turn_step m
 step m (event.Close conn) = (told.Done, without_link conn.0 m)
 
--- the answers to a list of events, and the machine after them
+-- the answers to a list of events
 unfoldable pub answers : Machine → List Event → List Answer
 answers m [] = []
 answers m (e ∷ es) = (step m e).0 ∷ answers (step m e).1 es

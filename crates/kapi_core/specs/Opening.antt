@@ -1,17 +1,18 @@
--- The machine as it begins: with the opening objects, each made by the creation that makes all others, and no connection.
+-- The machine as it begins: with the opening objects, each made by the creation that makes all others, and no
+-- connection.
 use Rattle.std.specs.Prelude.{◌≡◌, ℕ, ◌+◌, false, List, [], ◌∷◌, codes, Result, Ok, Err}
 use Rattle.std.specs.List.{fold}
 use Rattle.std.specs.Map.{keys_of}
 use Rattle.serde_json.specs.Data.{Data}
 use Rattle.kapi_admission.specs.Admission.{BodyFault, object_of}
-use Rattle.kapi_names.specs.declared.row.ResourceRow.{ResourceRow}
+use Rattle.kapi_model.specs.declared.row.ResourceRow.{ResourceRow}
 use Rattle.kapi_store.specs.Faults.{StoreFault}
 use Rattle.kapi_store.specs.Plain.{PlainChange, creation, opened}
 use Rattle.kapi_store.specs.declared.key.Key.{Key}
 use Rattle.kapi_core.specs.Machine.{Machine, changed}
 use Rattle.kapi_core.specs.Table.{namespaces_row, cluster_roles_row, cluster_role_bindings_row}
 
--- the place of an object of a row that is in no namespace
+-- the place of an object of a resource type that is in no namespace
 abbrev pub cluster_key : ResourceRow → List ℕ → Key
 cluster_key row name = record { group = row.group; resource = row.plural; namespace = []; name = name }
 
@@ -25,7 +26,7 @@ abbrev pub created_if : Machine → Key → Result Data BodyFault → Machine
 created_if m key (Ok tree) = written_if m (creation m.store key tree)
 created_if m key (Err fault) = m
 
--- an object that every machine begins with: of a row, a name and a body
+-- an object that every machine begins with: of a resource type, a name and a body
 pub record OpeningObject : Type 0 where
   pub row : ResourceRow
   pub name : List ℕ
@@ -47,7 +48,7 @@ cluster_admin = record {
   body = codes "{\"metadata\":{\"name\":\"cluster-admin\"},\"rules\":[{\"apiGroups\":[\"*\"],\"resources\":[\"*\"],\"verbs\":[\"*\"]},{\"nonResourceURLs\":[\"*\"],\"verbs\":[\"*\"]}]}";
 }
 
--- the role by which one may ask what one may do (the same page, API discovery roles)
+-- the role by which users may review their own access (the same page, API discovery roles)
 abbrev pub basic_user : OpeningObject
 basic_user = record {
   row = cluster_roles_row;
@@ -55,7 +56,7 @@ basic_user = record {
   body = codes "{\"metadata\":{\"name\":\"system:basic-user\"},\"rules\":[{\"apiGroups\":[\"authorization.k8s.io\"],\"resources\":[\"selfsubjectaccessreviews\",\"selfsubjectrulesreviews\"],\"verbs\":[\"create\"]}]}";
 }
 
--- the group system:masters has the first role
+-- the group system:masters has the role cluster-admin
 abbrev pub cluster_admin_binding : OpeningObject
 cluster_admin_binding = record {
   row = cluster_role_bindings_row;
@@ -63,7 +64,7 @@ cluster_admin_binding = record {
   body = codes "{\"metadata\":{\"name\":\"cluster-admin\"},\"roleRef\":{\"apiGroup\":\"rbac.authorization.k8s.io\",\"kind\":\"ClusterRole\",\"name\":\"cluster-admin\"},\"subjects\":[{\"apiGroup\":\"rbac.authorization.k8s.io\",\"kind\":\"Group\",\"name\":\"system:masters\"}]}";
 }
 
--- the group system:authenticated has the second one
+-- the group system:authenticated has the role system:basic-user
 abbrev pub basic_user_binding : OpeningObject
 basic_user_binding = record {
   row = cluster_role_bindings_row;
@@ -75,7 +76,7 @@ basic_user_binding = record {
 unfoldable pub opening_objects : List OpeningObject
 opening_objects = default_namespace ∷ cluster_admin ∷ basic_user ∷ cluster_admin_binding ∷ basic_user_binding ∷ []
 
--- a machine without objects and connections, which looks at the rights of a watch at its start alone
+-- a machine without objects and connections, which checks the rights of a watch at its start alone
 abbrev pub empty : List ResourceRow → ℕ → Machine
 empty table first = record { store = opened table first; changes = []; next_id = 0; links = []; rechecks = false }
 
@@ -93,7 +94,7 @@ opening_keys =
     ∷ cluster_key cluster_roles_row (codes "system:basic-user")
     ∷ []
 
--- all five stand, and took the five revisions after the first
+-- all five opening objects are stored, and took the five revisions after the first
 pub record Standing (table : List ResourceRow) (first : ℕ) : Type 0 where
   pub objects : keys_of (opening table first).store.objects ≡ opening_keys
   pub revision : (opening table first).store.revision ≡ first + 5

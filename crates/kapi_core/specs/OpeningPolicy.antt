@@ -1,10 +1,11 @@
--- The policy that every machine begins with (Kubernetes, 'Using RBAC Authorization', user-facing roles and API discovery roles).
+-- The policy that every machine begins with (Kubernetes, 'Using RBAC Authorization', user-facing roles and API
+-- discovery roles).
 use Rattle.std.specs.Prelude.{ℕ, List, [], ◌∷◌, None, codes}
-use Rattle.kapi_names.specs.declared.kinds.RoleKind.TheVariants as role_kind
-use Rattle.kapi_names.specs.declared.policy_rule.PolicyRule.{PolicyRule}
-use Rattle.kapi_names.specs.declared.subject.Subject.TheVariants.{Group}
-use Rattle.kapi_rbac_types.specs.declared.binding.ClusterRoleBinding.{ClusterRoleBinding}
-use Rattle.kapi_rbac_types.specs.declared.role.ClusterRole.{ClusterRole}
+use Rattle.kapi_model.specs.declared.kinds.RoleKind.TheVariants as role_kind
+use Rattle.kapi_model.specs.declared.policy_rule.PolicyRule.{PolicyRule}
+use Rattle.kapi_model.specs.declared.subject.Subject.TheVariants.{Group}
+use Rattle.kapi_model.specs.declared.binding.ClusterRoleBinding.{ClusterRoleBinding}
+use Rattle.kapi_model.specs.declared.role.ClusterRole.{ClusterRole}
 use Rattle.kapi_policy.specs.Objects.{PolicyObjects}
 
 -- one word, or all words
@@ -19,7 +20,7 @@ any_resource = record { verbs = word (codes "*"); api_groups = word (codes "*");
 abbrev pub any_path : PolicyRule
 any_path = record { verbs = word (codes "*"); api_groups = []; resources = []; resource_names = []; non_resource_urls = word (codes "*") }
 
--- the rule that allows to ask what one may do
+-- the rule that allows to review one's own access
 abbrev pub ask_of_oneself : PolicyRule
 ask_of_oneself = record {
   verbs = word (codes "create");
@@ -37,7 +38,7 @@ role_with rules = record { aggregation_rule = None; rules = rules }
 abbrev pub group_has : List ℕ → List ℕ → ClusterRoleBinding
 group_has group name = record { subjects = Group group ∷ []; role_ref = record { kind = role_kind.ClusterRole; name = name } }
 
--- members of `system:masters` may do everything, and whoever has a name may ask what he may do
+-- members of `system:masters` may do everything, and every user with a name may review their own access
 abbrev pub opening_policy : PolicyObjects
 opening_policy = record {
   roles = [];

@@ -2,7 +2,7 @@
 use Rattle.std.specs.Prelude.{◌≡◌, ℕ, ◌==◌, Bool, false, if◌then◌else◌, List, [], ◌∷◌, ◌++◌, length, drop, Option, Some, IsSome}
 use Rattle.std.specs.Option.{option_and_then}
 use Rattle.kapi_answer.specs.Watch.{PlainWatching, event_chunk}
-use Rattle.kapi_names.specs.declared.row.ResourceRow.{ResourceRow}
+use Rattle.kapi_model.specs.declared.row.ResourceRow.{ResourceRow}
 use Rattle.kapi_store.specs.Plain.{PlainChange}
 use Rattle.kapi_watch.specs.Lists.{all_on_top, list_at}
 use Rattle.kapi_watch.specs.Runs.{HoldsOn, Made, Pump, Step, shown_over, still_due, watch_after}
@@ -21,14 +21,14 @@ use Rattle.kapi_core.specs.declared.event.Event.TheVariants as event
 abbrev pub watch_on : ℕ → Machine → Option PlainWatching
 watch_on id m = option_and_then (λ l. l.watching) (link_at id m)
 
--- after each of the events the connection still shows one
+-- after each of the events the connection still shows a watch
 unfoldable pub WatchesOn : ℕ → Machine → List Event → Type 0
 WatchesOn id m [] = Unit {0}
 WatchesOn id m (e ∷ es) = IsSome (watch_on id (step m e).1) × WatchesOn id (step m e).1 es
 
 -- ---- the run
 
--- what an event changed: the changes behind those that there were
+-- what an event changed: the changes behind those that were there before
 abbrev pub made_by : Machine → Event → List PlainChange
 made_by m e = drop (length m.changes) (step m e).1.changes
 
@@ -37,11 +37,11 @@ abbrev pub pumps : ℕ → Event → Bool
 pumps id (event.Pump conn) = conn.0 == id
 pumps id e = false
 
--- what an event is to this watch: a pump, or changes that are made
+-- what an event is to the watch of a connection: a pump, or changes that are made
 abbrev pub moment_of : ℕ → Machine → Event → Step
 moment_of id m e = if pumps id e then Pump else Made (made_by m e)
 
--- what events are to it, one after the other
+-- what events are to the watch of a connection, one after the other
 unfoldable pub run_on : ℕ → Machine → List Event → List Step
 run_on id m [] = []
 run_on id m (e ∷ es) = moment_of id m e ∷ run_on id (step m e).1 es
@@ -63,7 +63,7 @@ bytes_of answer = []
 abbrev pub sent_by : ℕ → Machine → Event → List ℕ
 sent_by id m e = if asks id e then bytes_of (step m e).0 else []
 
--- what events send on it, joined
+-- what events send on the connection, joined
 unfoldable pub sent_on : ℕ → Machine → List Event → List ℕ
 sent_on id m [] = []
 sent_on id m (e ∷ es) = sent_by id m e ++ sent_on id (step m e).1 es
@@ -83,8 +83,8 @@ lines_of (e ∷ es) = line_of e ++ lines_of es
 
 -- ---- the laws
 
--- events are a run of the watch that the connection of a number shows: it was pumped in between while the window held, it is the
--- connection's watch still, and what was sent on the connection is what it has shown
+-- events are a run of the watch that the connection of a number shows: it was pumped in between while the window held,
+-- it is the connection's watch still, and what was sent on the connection is what it has shown
 pub record IsRun (id : ℕ) (m : Machine) (events : List Event) (w : PlainWatching) : Type 0 where
   pub between : IsBetween (run_on id m events) m (after m events)
   pub holds : HoldsOn (run_on id m events) m.changes m.store w.watch
@@ -97,8 +97,8 @@ EventsAreARun = (on : Bool) (table : List ResourceRow) (first : ℕ) (texts : Li
     let m : Machine = served on table first texts before in
     watch_on id m ≡ Some w → WatchesOn id m events → IsRun id m events w
 
--- what was sent of a watch that began at a revision, on top of the list at that revision, is what is listed now, once nothing is due
--- any more
+-- what was sent of a watch that began at a revision, on top of the list at that revision, is what is listed now, once
+-- nothing is due any more
 abbrev pub SentIsListed : Type 0
 SentIsListed = (on : Bool) (table : List ResourceRow) (first : ℕ) (texts : List (List ℕ)) (before events : List Event) (id : ℕ) (w v : PlainWatching) (scope : Scope) (revision : ℕ) →
     let m : Machine = served on table first texts before in
@@ -106,7 +106,7 @@ SentIsListed = (on : Bool) (table : List ResourceRow) (first : ℕ) (texts : Lis
     watch_on id m ≡ Some w → w.watch ≡ started_at scope revision → WatchesOn id m events → watch_on id n ≡ Some v → still_due n.changes v.watch ≡ []
     → (shown : List Shown) × (sent_on id m events ≡ lines_of shown) × (all_on_top scope (list_at scope revision n.changes) shown ≡ list_of scope n)
 
--- and the same of a watch that shows first what is listed, on top of nothing
+-- what was sent of a watch that shows first what is listed, on top of nothing, is listed now, once nothing is due
 abbrev pub FirstSentIsListed : Type 0
 FirstSentIsListed = (on : Bool) (table : List ResourceRow) (first : ℕ) (texts : List (List ℕ)) (before events : List Event) (id : ℕ) (w v : PlainWatching) (scope : Scope) →
     let m : Machine = served on table first texts before in

@@ -1,9 +1,9 @@
 use kapi_answer::Watching;
 use kapi_http::Inbox;
-use kapi_rbac_types::Identity;
+use kapi_model::Identity;
 
-/// An open connection: who makes its requests, the bytes that were not yet served, and the watch that it shows, if any. While that
-/// runs no request is served.
+/// An open connection: the identity that makes its requests, the bytes not served yet, and the watch that it shows, if
+/// any. While a watch runs no request is served.
 #[derive(Drop)]
 pub struct Connection {
     pub identity: Identity,

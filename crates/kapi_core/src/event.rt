@@ -1,5 +1,5 @@
-use kapi_policy::PolicyChange;
-use kapi_rbac_types::Identity;
+use kapi_model::Identity;
+use kapi_policy::PolicyStep;
 use kapi_text::{Memory, Sequence, Text};
 use thiserror::Error;
 
@@ -24,43 +24,43 @@ pub enum Event {
     Close(ConnId),
 }
 
-/// A write of the controller: the revision that it took, the name of what it wrote, and what that changed in the policy.
+/// A write of the controller: its revision, the name of the written role, and what the write changed in the policy.
 #[derive(Debug, Drop)]
 pub struct Turned {
     pub revision: u64,
     pub name: Text,
-    /// One put.
-    pub policy_changes: Sequence<PolicyChange>,
+    /// The changes of the policy: one put.
+    pub policy_changes: PolicyStep,
 }
 
-/// What goes out on a connection, and what the step changed in the policy.
+/// The bytes that are sent on a connection, and what the step changed in the policy.
 #[derive(Debug, Drop)]
 pub struct Output {
     pub bytes: Sequence<u8>,
     /// The connection has ended with these bytes.
     pub close: bool,
-    /// None, one put, or deletions alone.
-    pub policy_changes: Sequence<PolicyChange>,
+    /// The changes of the policy: none, one put, or deletions alone.
+    pub policy_changes: PolicyStep,
 }
 
 /// What the machine answers to an event.
 #[derive(Debug, Drop)]
 pub enum Answer {
-    /// To an open: the new connection.
+    /// The answer to an open: the new connection.
     Opened(ConnId),
-    /// To a feed or a close.
+    /// The answer to a feed or a close.
     Done,
-    /// To a serve, a pump or a turn that had nothing to do.
+    /// The answer to a serve, a pump or a turn that had nothing to do.
     Nothing,
-    /// To a serve or a pump.
+    /// The answer to a serve or a pump.
     Sent(Output),
-    /// To a turn.
+    /// The answer to a turn.
     Turned(Turned),
-    /// To an open: 256 connections are open, or the numbers are used up.
+    /// The answer to an open: 256 connections are open, or the numbers are used up.
     TooMany,
-    /// To a feed: the bytes not yet served would be more than 2,097,152.
+    /// The answer to a feed: the bytes not yet served would be more than 2,097,152.
     Full,
-    /// To a feed: there is no such connection, or it has ended.
+    /// The answer to a feed: there is no such connection, or it has ended.
     Ended,
 }
 
@@ -73,7 +73,7 @@ pub enum OpenError {
     Memory,
 }
 
-/// What a run answered: one answer for each step made, and what stopped it before the last event, if anything did.
+/// The answers of a run: one for each step made, and what stopped the run before the last event, if anything did.
 #[derive(Debug, Drop)]
 pub struct Outputs {
     pub answers: Sequence<Answer>,

@@ -1,13 +1,13 @@
-//! Laws of the machine that is data, each the clause of a function that does nothing.
+//! Laws of the model of the machine, each the clause of a function that does nothing.
 ghost use Rattle.std.specs.Prelude.{◌≡◌, ◌≤◌, ℕ, List, true, false};
-ghost use Rattle.kapi_names.specs.declared.row.ResourceRow.{ResourceRow};
-ghost use Rattle.kapi_rbac_types.specs.Identities.{is_master};
-ghost use Rattle.kapi_rbac_types.specs.declared.identity.Identity.{Identity};
+ghost use Rattle.kapi_model.specs.declared.row.ResourceRow.{ResourceRow};
+ghost use Rattle.kapi_model.specs.Identities.{is_master};
+ghost use Rattle.kapi_model.specs.declared.identity.Identity.{Identity};
 ghost use Rattle.kapi_aggregation.specs.Roles.{roles_in};
 ghost use Rattle.kapi_aggregation.specs.Unions.{IsSettled};
-ghost use Rattle.kapi_gains.specs.Access.{IsHarmless};
+ghost use Rattle.kapi_gains.specs.Access.{IsUnprivileged};
 ghost use Rattle.kapi_aggregation.specs.Members.{Has};
-ghost use Rattle.kapi_core.specs.Gains.{IsServed, NobodyGains, acting_in};
+ghost use Rattle.kapi_core.specs.Gains.{IsServed, NobodyGains, NobodyGainsDuring, acting_in};
 ghost use Rattle.kapi_core.specs.Histories.{DueIsListed, EventsGoOn, FirstIsListed, FirstShownIsListed, ListedThen, LoadsGoOn, ServedIsAHistory, ShownIsListed, TurnsReplace};
 ghost use Rattle.kapi_core.specs.Machine.{Machine, after, answers, policy_of};
 ghost use Rattle.kapi_core.specs.Opening.{opening};
@@ -15,41 +15,44 @@ ghost use Rattle.kapi_core.specs.OpeningPolicy.{opening_policy};
 ghost use Rattle.kapi_core.specs.Pumps.{EventsAreARun, FirstSentIsListed, SentIsListed};
 ghost use Rattle.kapi_core.specs.Rechecks.{ShowsWhatIsDue, StaysSwitched};
 ghost use Rattle.kapi_core.specs.Running.{Running};
-ghost use Rattle.kapi_core.specs.Stands.{Stands};
+ghost use Rattle.kapi_core.specs.Refines.{Refines};
 ghost use Rattle.kapi_core.specs.Table.{fits};
 ghost use Rattle.kapi_core.specs.Telling.{policy_told};
-ghost use Rattle.kapi_core.specs.declared.opening.TheConstants.{LAST_FIRST};
+ghost use Rattle.kapi_core.specs.Limits.{last_first};
 ghost use Rattle.kapi_core.specs.declared.event.Event.{Event};
 
-/// Whatever events were made since the opening, nobody gains by those that follow.
+/// Whatever events were made before, nobody gains by those that follow: since the opening, and on every machine that a running one
+/// refines, whatever was loaded into it.
 pub fn nobody_gains_between_events()
-    ensures { (table : List ResourceRow) (first : ℕ) (before events : List Event) →
+    ensures opening { (table : List ResourceRow) (first : ℕ) (before events : List Event) →
         let m : Machine = after (opening table first) before in
         NobodyGains (roles_in m.store.objects) (acting_in m events) (policy_of m) (policy_of (after m events)) }
+    ensures running { (core : Running) (m : Machine) (events : List Event) → Refines core m → NobodyGainsDuring m events }
 {}
 
-/// Every machine begins with the opening policy, whose cluster roles take rules from no others, and in which all but the members of
-/// `system:masters` are harmless.
+/// Every machine begins with the opening policy, whose cluster roles take rules from no others, and in which all but
+/// the members of `system:masters` are unprivileged.
 pub fn the_opening_is_settled()
-    ensures policy { (table : List ResourceRow) (first : ℕ) → fits table ≡ true → first ≤ LAST_FIRST → policy_of (opening table first) ≡ opening_policy }
-    ensures settled { (table : List ResourceRow) (first : ℕ) → fits table ≡ true → first ≤ LAST_FIRST → IsSettled (roles_in (opening table first).store.objects) }
-    ensures harmless { (who : Identity) → is_master who ≡ false → IsHarmless opening_policy who }
+    ensures policy { (table : List ResourceRow) (first : ℕ) → fits table ≡ true → first ≤ last_first → policy_of (opening table first) ≡ opening_policy }
+    ensures settled { (table : List ResourceRow) (first : ℕ) → fits table ≡ true → first ≤ last_first → IsSettled (roles_in (opening table first).store.objects) }
+    ensures unprivileged { (who : Identity) → is_master who ≡ false → IsUnprivileged opening_policy who }
 {}
 
-/// Who acts in a list of events is on a connection that one of them serves: open before them, or opened by one of them.
+/// An identity that acts in a list of events is on a connection that one of them serves: open before, or opened by one.
 #[tactic(auto, using(crate::proofs::Acting::acts_served))]
 pub fn who_acts_is_served()
     ensures { (m : Machine) (events : List Event) (who : Identity) → Has (acting_in m events) who → IsServed m events who }
 {}
 
-/// What the answers to events tell of the policy is what became of it: so whoever makes these changes, in their order, has the
-/// policy of the machine.
+/// The answers to events report what became of the policy: a reader that makes the reported changes, in their order,
+/// has the policy of the machine.
 pub fn answers_tell_what_changed_in_the_policy()
-    ensures { (core : Running) (m : Machine) (events : List Event) → Stands core m → policy_of (after m events) ≡ policy_told (answers m events) (policy_of m) }
+    ensures { (core : Running) (m : Machine) (events : List Event) → Refines core m → policy_of (after m events) ≡ policy_told (answers m events) (policy_of m) }
 {}
 
-/// All the changes ever of a machine are a history, from its first revision on: whatever it began with, whatever was loaded, and whatever
-/// events it made. Where those of any other machine are, they are so after its events and loads. A turn changes what a replacement makes.
+/// All the changes ever of a machine are a history, from its first revision on: whatever it began with, loaded, and
+/// whatever events it made. A machine whose changes are a history keeps that over events and loads. A turn changes what
+/// a replacement makes.
 pub fn the_changes_of_a_machine_are_a_history()
     ensures served { ServedIsAHistory }
     ensures events { EventsGoOn }
@@ -57,10 +60,10 @@ pub fn the_changes_of_a_machine_are_a_history()
     ensures turns { TurnsReplace }
 {}
 
-/// What a watch of a machine from a revision on shows, on top of the list at that revision, is what the machine lists now, for the objects
-/// that it selects: so it is with all that is due to it, and with what it has shown while the window holds, once nothing is due any more.
-/// A watch that shows the objects first makes that list on top of nothing. The list at a revision is what the machine listed when it
-/// stood at that.
+/// What a watch of a machine from a revision on shows, on top of the list at that revision, is what the machine lists
+/// now, for the objects that it selects. This holds of all that is due to it, and of what it has shown while the window
+/// holds, once nothing is due any more. A watch that shows the objects first makes that list on top of nothing. The
+/// list at a revision is what the machine listed when that was its current revision.
 pub fn what_a_watch_of_the_machine_shows_makes_its_list()
     ensures due { DueIsListed }
     ensures shown { ShownIsListed }
@@ -69,17 +72,18 @@ pub fn what_a_watch_of_the_machine_shows_makes_its_list()
     ensures at { ListedThen }
 {}
 
-/// Events over which a connection shows a watch are a run of it, in which the window holds, and what is sent on the connection is what the
-/// watch shows. So what a client was sent of a watch from a revision on, on top of the list at that revision, is what the machine lists
-/// now, once nothing is due to him any more; and what he was sent of a watch that shows the objects first is that list.
+/// Events over which a connection shows a watch are a run of the watch, in which the window holds, and what is sent on
+/// the connection is what the watch shows. What a client was sent of a watch from a revision on, on top of the list at
+/// that revision, is what the machine lists now, once nothing is due to the client any more; what the client was sent
+/// of a watch that shows the objects first is that list.
 pub fn what_is_sent_of_a_watch_makes_its_list()
     ensures run { EventsAreARun }
     ensures sent { SentIsListed }
     ensures first { FirstSentIsListed }
 {}
 
-/// No event turns the switch by which the rights of watches are looked at anew. Where it is off a watch shows what is due to it, or that
-/// it cannot go on, and nothing else.
+/// No event turns the switch by which the rights of watches are rechecked. Where it is off a watch shows what is due to
+/// it, or that it cannot go on, and nothing else.
 pub fn the_switch_of_watches_stays()
     ensures stays { StaysSwitched }
     ensures off { ShowsWhatIsDue }

@@ -3,7 +3,7 @@ ghost use Rattle.std.specs.Ordering.{nat_cmp};
 ghost use Rattle.std.specs.Map.{lookup, set_value};
 ghost use Rattle.std.specs.BTreeMap.{is_at};
 ghost use Rattle.kapi_answer.specs.declared.watch.Watching.{Watching as Watched};
-ghost use Rattle.kapi_core.specs.Feeds.{Feeds, passed};
+ghost use Rattle.kapi_core.specs.Private.Feeds.{Feeds, passed};
 ghost use Rattle.kapi_answer.specs.declared.watch.After.TheVariants as After;
 ghost use Rattle.kapi_http.specs.Inbox.{after_next, next_of};
 ghost use Rattle.kapi_core.specs.declared.connection.Connection.{Connection as Linked};
@@ -28,8 +28,8 @@ pub fn feed_at(
     }
 }
 
-/// Takes out what stands first on the connection of a number, which shows that watch from now on, if there is one.
-pub fn done_at(
+/// Takes the first item out on the connection of a number, which shows that watch from now on, if there is one.
+pub fn finish_request(
     links: &mut BTreeMap<u64, Connection>,
     id: u64,
     item: &Result<HttpRequest, HttpFault>,
@@ -45,8 +45,8 @@ pub fn done_at(
     }
 }
 
-/// After an event of a watch: the watch moves on to a place, or ends, or the connection is closed.
-pub fn pass_event(links: &mut BTreeMap<u64, Connection>, id: u64, after: After, place: Place)
+/// After an event of a watch, moves the watch on to a place, or ends it, or closes the connection.
+pub fn advance_watch(links: &mut BTreeMap<u64, Connection>, id: u64, after: After, place: Place)
     ensures { (c : Linked) (w : Watched) → lookup (is_at (nat_cmp id)) links.old.entries ≡ Some c → c.watching ≡ Some w
         → links.new.entries ≡ passed links.old.entries id c w after place }
 {

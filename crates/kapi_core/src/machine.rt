@@ -6,23 +6,22 @@ ghost use Rattle.kapi_core.specs.Machine.{Machine, is_last, with_rechecks};
 ghost use Rattle.kapi_core.specs.Running.{watches};
 ghost use Rattle.kapi_core.specs.Opening.{opening};
 ghost use Rattle.kapi_core.specs.Table.{fits};
-ghost use Rattle.kapi_core.specs.Stands.{HasOpened};
-ghost use Rattle.kapi_core.specs.Stands.{Opens, TakesIn, Sends, Makes, Loads, Stands, Turns};
+ghost use Rattle.kapi_core.specs.Refines.{HasOpened};
+ghost use Rattle.kapi_core.specs.Refines.{Opens, TakesIn, Sends, Makes, Loads, Refines, Turns};
 ghost use Rattle.kapi_core.specs.declared.event.Event.TheVariants as Event;
 ghost use Rattle.kapi_core.specs.declared.event.Answer.TheVariants as Answer;
 ghost use Rattle.kapi_policy.specs.Objects.{no_objects};
 
 use crate::connection::Connection;
 use crate::event::{ConnId, OpenError, Output, Turned};
-use crate::links::{done_at, feed_at, pass_event};
+use crate::links::{advance_watch, feed_at, finish_request};
 use crate::opening::{LAST_FIRST, open_objects};
 use crate::write::{load_object, make_turn, make_write};
 use kapi_aggregation::Tracker;
 use kapi_answer::{After, LoadError, Prepared, answer, event_reply, recheck};
 use kapi_http::{FeedError, Inbox};
-use kapi_names::ResourceRow;
-use kapi_policy::{Policy, PolicyChange};
-use kapi_rbac_types::Identity;
+use kapi_model::{Identity, ResourceRow};
+use kapi_policy::{Policy, PolicyStep};
 use kapi_store::Store;
 use kapi_text::{Memory, Sequence};
 use kapi_watch::Next;
@@ -30,14 +29,14 @@ use std::alloc::Global;
 use std::collections::BTreeMap;
 use std::marker::Model;
 
-/// How many connections may be open at a time.
+/// The largest number of open connections.
 pub const OPEN_CONNECTIONS: usize = 256;
 
 /// The last number that a connection may have.
 pub const LAST_CONNECTION: u64 = 999_999_999_999_999_999;
 
-/// The machine: the objects, the roles and bindings among them as a policy that decides, the marks of the cluster roles that may
-/// differ from their unions, and the open connections.
+/// The machine: the objects, the roles and bindings among them as a policy that decides, the marks of the cluster roles
+/// that may differ from their unions, and the open connections.
 pub struct Core<P: Policy + Drop> {
     alloc: Global,
     store: Store,
@@ -45,11 +44,11 @@ pub struct Core<P: Policy + Drop> {
     tracker: Tracker,
     connections: BTreeMap<u64, Connection>,
     next_id: u64,
-    /// The rights of each watch are looked at anew at each of its events.
+    /// The rights of each watch are rechecked at each of its events.
     rechecks: bool,
 }
 
-// It is written out, so that a caller does not prove again how each part is dropped.
+// `Drop` is written out, so that a caller does not prove again how each part is dropped.
 impl<P: Policy + Drop> Drop for Core<P> {
     fn drop(self) {
         let Core {
@@ -66,7 +65,7 @@ impl<P: Policy + Drop> Drop for Core<P> {
 
 impl<P: Policy + Drop> Model for Core<P> {
     ghost use Rattle.std.specs.Coded.{codes};
-    ghost use Rattle.kapi_object.specs.contracts.object.Object as held;
+    ghost use Rattle.kapi_tree.specs.contracts.object.Object as held;
     ghost use Rattle.kapi_store.specs.contracts.change.Change as changed;
     ghost use Rattle.kapi_core.specs.Running.{Running};
 
@@ -88,7 +87,7 @@ impl<P: Policy + Drop> Core<P> {
         requires first { first ≤ LAST_FIRST }
         requires table { fits table ≡ true }
         requires empty { P.content policy ≡ no_objects }
-        ensures stands { IfOk result (λ core. Stands core (opening table first)) }
+        ensures stands { IfOk result (λ core. Refines core (opening table first)) }
         ensures opened { IfOk result (λ core. HasOpened core first) }
         ensures unopened { IfOk result (λ core. core.next_id ≡ 0) }
     {
@@ -106,14 +105,15 @@ impl<P: Policy + Drop> Core<P> {
         })
     }
 
-    /// Creates an object with which the server begins, before the first connection is opened: without authorization and the check
-    /// against escalation, at the place that its apiVersion, kind and namespace name. Answers what that changed in the policy.
+    /// Creates an object with which the server begins, before the first connection is opened: without authorization and
+    /// the check against escalation, at the place that its apiVersion, kind and namespace name. Answers what the
+    /// creation changed in the policy.
     ///
     /// # Errors
-    /// `UnknownKind` where no such apiVersion and kind are served, `Object` where it is no JSON object, has a fault, or names no
-    /// namespace though its kind has one, `Store` where its namespace does not exist, its place is taken, or no revision is left.
-    /// After an error nothing has changed.
-    pub fn load(&mut self, text: &[u8]) -> Result<Sequence<PolicyChange>, LoadError>
+    /// `UnknownKind` where no such apiVersion and kind are served, `Object` where it is no JSON object, has a fault, or
+    /// names no namespace though its kind has one, `Store` where its namespace does not exist, its place is taken, or
+    /// no revision is left. After an error nothing has changed.
+    pub fn load(&mut self, text: &[u8]) -> Result<PolicyStep, LoadError>
         ensures { Loads self.old self.new text.now result }
     {
         load_object(
@@ -125,18 +125,18 @@ impl<P: Policy + Drop> Core<P> {
         )
     }
 
-    /// Whether the rights of each watch are looked at anew at each of its events: where the roles and bindings of that moment do not
-    /// allow it any more, the watch ends with that event. To be called before the first connection is opened; off at first. Takes no
-    /// memory.
+    /// Sets whether the rights of each watch are rechecked at each of its events: where the current roles and bindings
+    /// do not allow it any more, the watch ends with that event. To be called before the first connection is opened;
+    /// off at first. Allocates nothing.
     pub fn recheck_watches(&mut self, on: bool)
         requires { self.old.next_id ≡ 0 }
         ensures switched { self.new ≡ record self.old { rechecks = on } }
-        ensures stands { (m : Machine) → Stands self.old m → Stands self.new (with_rechecks on m) }
+        ensures stands { (m : Machine) → Refines self.old m → Refines self.new (with_rechecks on m) }
     {
         self.rechecks = on;
     }
 
-    /// The roles and bindings among the objects, as a policy that decides. Takes no memory.
+    /// The roles and bindings among the objects, as a policy that decides. Allocates nothing.
     pub fn policy(&self) -> &P
         ensures { P.content result.now ≡ self.now.policy }
     {
@@ -151,7 +151,7 @@ impl<P: Policy + Drop> Core<P> {
     /// Opens a connection for an identity.
     ///
     /// # Errors
-    /// `TooMany` where 256 connections are open or the numbers are used up, before any memory is taken.
+    /// `TooMany` where 256 connections are open or the numbers are used up, before anything is allocated.
     pub fn open(&mut self, identity: Identity) -> Result<ConnId, OpenError>
         ensures { Opens self.old self.new identity result }
     {
@@ -184,15 +184,15 @@ impl<P: Policy + Drop> Core<P> {
     ///
     /// # Errors
     /// `Ended` where no such connection is open, else `Full` where the bytes not yet served would be more than
-    /// 2,097,152; both before any memory is taken. After an error nothing has changed.
+    /// 2,097,152; both before anything is allocated. After an error nothing has changed.
     pub fn feed(&mut self, conn: ConnId, piece: &[u8]) -> Result<(), FeedError>
         ensures { TakesIn self.old self.new conn piece.now result }
     {
         feed_at(&mut self.connections, conn.0, piece)
     }
 
-    /// Answers the next whole request of a connection, or the fault that stands there; none where there is neither, and none while
-    /// a watch of the connection runs.
+    /// Answers the next complete request of a connection, or the first fault in its bytes; none where there is neither,
+    /// and none while a watch of the connection runs.
     pub fn serve(&mut self, conn: ConnId) -> Result<Option<Output>, Memory>
         ensures { Sends self.old self.new (Event.Serve conn) result }
     {
@@ -223,18 +223,18 @@ impl<P: Policy + Drop> Core<P> {
             &mut self.store,
             write,
         )?;
-        done_at(&mut self.connections, conn.0, &item, watch);
+        finish_request(&mut self.connections, conn.0, &item, watch);
         close_if(&mut self.connections, conn.0, reply.close);
         Ok(Some(Output {
             bytes: reply.bytes,
             close: reply.close,
-            policy_changes: Sequence::new(changes),
+            policy_changes: changes,
         }))
     }
 
-    /// Shows the next event of a connection's watch; none where it has no watch, and where nothing is to be shown. A watch that cannot
-    /// go on, or whose rights were taken away where those are looked at, is at its end with that event, and with it the connection, where
-    /// its request asked for that.
+    /// Shows the next event of a connection's watch; none where it has no watch, and where there is nothing to show. A
+    /// watch that cannot go on, or whose rights were taken away where they are rechecked, ends with that event, and the
+    /// connection with it, where its request asked for that.
     pub fn pump(&mut self, conn: ConnId) -> Result<Option<Output>, Memory>
         ensures { Sends self.old self.new (Event.Pump conn) result }
     {
@@ -247,19 +247,19 @@ impl<P: Policy + Drop> Core<P> {
         let Next { event, place } = watching.watch.next(&self.store);
         let event = recheck(&self.policy, self.rechecks, watching, event);
         let Some(event) = event else {
-            pass_event(&mut self.connections, conn.0, After::Watches, place);
+            advance_watch(&mut self.connections, conn.0, After::Watches, place);
             return Ok(None);
         };
         let reply = event_reply(self.alloc, &self.store, watching, &event)?;
-        pass_event(&mut self.connections, conn.0, reply.after, place);
+        advance_watch(&mut self.connections, conn.0, reply.after, place);
         Ok(Some(Output {
             bytes: reply.bytes,
             close: closes(reply.after),
-            policy_changes: Sequence::new(Vec::new(self.alloc)),
+            policy_changes: PolicyStep::nothing(self.alloc),
         }))
     }
 
-    /// Whether a watch of a connection runs, so that a pump may show something. Takes no memory.
+    /// Whether a watch of a connection runs, so that a pump may show something. Allocates nothing.
     pub fn is_watching(&self, conn: ConnId) -> bool
         ensures { result ≡ watches self.now conn.0 }
     {
@@ -269,8 +269,8 @@ impl<P: Policy + Drop> Core<P> {
         }
     }
 
-    /// Makes the controller's next write: the aggregated cluster role of least name whose rules are not its union gets that as its
-    /// rules. None where there is no such role, or no revision is left.
+    /// Makes the controller's next write: the aggregated cluster role of least name whose rules are not its union gets
+    /// the union as its rules. None where there is no such role, or no revision is left.
     pub fn turn(&mut self) -> Result<Option<Turned>, Memory>
         ensures { Turns self.old self.new result }
     {

@@ -1,26 +1,26 @@
 ghost use Rattle.std.specs.Prelude.{◌≡◌, ◌≤◌, IfOk, OnOk, map as map_of};
 ghost use Rattle.std.specs.List.{fold};
-ghost use Rattle.kapi_object.specs.Object.{tree_of};
+ghost use Rattle.kapi_tree.specs.Object.{tree_of};
 ghost use Rattle.kapi_policy.specs.Objects.{no_objects};
 ghost use Rattle.kapi_store.specs.Plain.{creation};
 ghost use Rattle.kapi_core.specs.Machine.{Machine};
 ghost use Rattle.kapi_core.specs.Opening as opening_of;
 ghost use Rattle.kapi_core.specs.Opening.{cluster_key, opening, with_opening, written_if};
-ghost use Rattle.kapi_core.specs.Openings.{Holds, opening_data};
+ghost use Rattle.kapi_core.specs.Private.Openings.{Holds, opening_data};
 ghost use Rattle.kapi_core.specs.Table.{row_of};
 
 use crate::resource::{Resource, cluster_role_bindings, cluster_roles, namespaces};
 use crate::write::make_write;
 use kapi_admission::{ObjectError, read_object};
 use kapi_aggregation::Tracker;
-use kapi_names::ResourceRow;
-use kapi_object::Object;
+use kapi_model::ResourceRow;
 use kapi_policy::Policy;
 use kapi_store::{Key, Store, StoreError};
 use kapi_text::{Memory, Sequence, Text};
+use kapi_tree::Object;
 use std::alloc::{AllocError, Global};
 
-/// The largest revision at which a machine may begin: the opening objects still find revisions.
+/// The largest revision at which a machine may begin, so that the opening objects still find revisions.
 pub const LAST_FIRST: u64 = 281_474_976_710_650;
 
 /// An object that every machine begins with.
@@ -31,8 +31,8 @@ pub struct OpeningObject {
     body: &'static [u8],
 }
 
-/// A store with the opening objects at the five revisions after `first`, and the roles and bindings among them in an empty policy;
-/// the cluster roles are noted.
+/// A store with the opening objects at the five revisions after `first`, and the roles and bindings among them in an
+/// empty policy; the cluster roles are noted.
 #[tactic(auto, unfolding(crate::specs::Opening::opening))]
 pub fn open_objects<P: Policy>(
     alloc: Global,
@@ -50,8 +50,9 @@ pub fn open_objects<P: Policy>(
     Ok(store)
 }
 
-/// The five objects, in their order: the namespace `default`; the role by which everything may be done, and the one by
-/// which who has a name may ask what he may do; and who has them (Kubernetes, 'Using RBAC Authorization').
+/// The five opening objects, in their order: the namespace `default`; the role that allows everything; the role by
+/// which users with a name may review their own access; and the bindings of the two (Kubernetes, 'Using RBAC
+/// Authorization').
 #[tactic(auto, unfolding(crate::specs::Opening::opening_objects))]
 fn opening_objects() -> [OpeningObject; 5]
     ensures { map_of opening_data result ≡ opening_of.opening_objects }
@@ -121,7 +122,7 @@ fn create_opening<P: Policy>(
     }
 }
 
-/// Creates an object, where that is not refused.
+/// Creates an object, where its creation is not refused.
 fn create_if<P: Policy>(
     alloc: Global,
     policy: &mut P,

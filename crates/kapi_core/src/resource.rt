@@ -3,7 +3,7 @@ ghost use Rattle.kapi_core.specs.Table.{required_rows, row_of};
 ghost use Rattle.kapi_core.specs.Table.{namespaces_row, roles_row, role_bindings_row, cluster_roles_row, cluster_role_bindings_row};
 ghost use Rattle.kapi_core.specs.Table.{access_reviews_row, local_access_reviews_row, own_access_reviews_row, rules_reviews_row};
 
-use kapi_names::{RBAC_GROUP, ResourceRow, Schema};
+use kapi_model::{RBAC_GROUP, ResourceRow, Schema};
 use kapi_text::{Memory, Text};
 use std::alloc::Global;
 
@@ -22,7 +22,7 @@ pub struct Resource {
 }
 
 impl Resource {
-    /// The row of the resource in a table.
+    /// The resource type of the resource in a table.
     pub fn row(&self, alloc: Global) -> Result<ResourceRow, Memory>
         ensures { IfOk result (λ r. r ≡ row_of self.now) }
     {
@@ -70,7 +70,7 @@ pub fn namespaces() -> Resource
     }
 }
 
-/// Roles (Kubernetes API, rbac.authorization.k8s.io/v1), as the next three.
+/// Roles (Kubernetes API, rbac.authorization.k8s.io/v1).
 pub fn roles() -> Resource
     ensures { row_of result ≡ roles_row }
 {
@@ -126,7 +126,7 @@ pub fn cluster_role_bindings() -> Resource
     }
 }
 
-/// Reviews of what whoever asks may do (Kubernetes API, authorization.k8s.io/v1), as the next three.
+/// Reviews of what the caller may do (Kubernetes API, authorization.k8s.io/v1).
 fn own_access_reviews() -> Resource
     ensures { row_of result ≡ own_access_reviews_row }
 {
@@ -154,7 +154,7 @@ fn access_reviews() -> Resource
     }
 }
 
-/// The same in a namespace.
+/// Reviews of what others may do in a namespace.
 fn local_access_reviews() -> Resource
     ensures { row_of result ≡ local_access_reviews_row }
 {
@@ -168,7 +168,7 @@ fn local_access_reviews() -> Resource
     }
 }
 
-/// Reviews of the rules that whoever asks holds.
+/// Reviews of the rules that the caller holds.
 fn rules_reviews() -> Resource
     ensures { row_of result ≡ rules_reviews_row }
 {

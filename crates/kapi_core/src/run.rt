@@ -3,19 +3,19 @@ ghost use Rattle.kapi_aggregation.specs.Roles.{roles_in};
 ghost use Rattle.kapi_core.specs.Gains.{NobodyGains, acting_in};
 ghost use Rattle.kapi_core.specs.Machine.{Machine, answers as answers_of, after};
 ghost use Rattle.kapi_core.specs.Rechecks.{RechecksWatches};
-ghost use Rattle.kapi_core.specs.Stands.{Keeps, Pushes, Stands, Steps, sent_if, turned_if};
+ghost use Rattle.kapi_core.specs.Refines.{Keeps, Pushes, Refines, Steps, sent_if, turned_if};
 ghost use Rattle.kapi_core.specs.declared.event.Event.TheVariants as Events;
 
 use crate::event::{Answer, ConnId, Event, OpenError, Output, Outputs, Turned};
 use crate::machine::Core;
 use kapi_http::FeedError;
+use kapi_model::Identity;
 use kapi_policy::Policy;
-use kapi_rbac_types::Identity;
 use kapi_text::{Memory, Sequence, TryCopy};
 use std::alloc::AllocError;
 
 impl<P: Policy + Drop> Core<P> {
-    /// Makes one step. Where memory runs out nothing has changed.
+    /// Makes one step. Where an allocation fails nothing has changed.
     pub fn step(&mut self, event: &Event) -> Result<Answer, Memory>
         ensures { Steps self.old self.new event.now result }
     {
@@ -57,20 +57,20 @@ impl<P: Policy + Drop> Core<P> {
         }
     }
 
-    /// Makes the steps of a list of events, one after the other, until memory runs out.
+    /// Makes the steps of a list of events, one after the other, until an allocation fails.
     ///
-    /// Nobody gains by them what no actor held: where the aggregated cluster roles have their unions, and all on whose connections
-    /// requests are served are harmless by the policy as it is before, the policy as it is then allows nobody anything that it allowed
-    /// before neither to him nor to one of them.
+    /// Nobody gains by them what no actor held: where the aggregated cluster roles have their unions, and the
+    /// identities of all connections that are served are unprivileged by the policy as it is before, the policy as it
+    /// is then allows no identity anything that it allowed before neither to that identity nor to one of those served.
     ///
-    /// Where the rights of watches are looked at anew, whatever is sent on a watch is sent while the roles and bindings of that moment
-    /// allow its identity to start it, or is the refusal that ends it.
+    /// Where the rights of watches are rechecked, whatever is sent on a watch is sent while the roles and bindings of
+    /// that moment allow its identity to start it, or is the refusal that ends it.
     pub fn run(&mut self, events: &[Event]) -> Outputs
-        ensures answers { (m : Machine) → Stands self.old m → result.answers ≡ answers_of m (take (length result.answers) events.now) }
-        ensures state { (m : Machine) → Stands self.old m → Stands self.new (after m (take (length result.answers) events.now)) }
-        ensures gains { (m : Machine) → Stands self.old m
+        ensures answers { (m : Machine) → Refines self.old m → result.answers ≡ answers_of m (take (length result.answers) events.now) }
+        ensures state { (m : Machine) → Refines self.old m → Refines self.new (after m (take (length result.answers) events.now)) }
+        ensures gains { (m : Machine) → Refines self.old m
             → NobodyGains (roles_in m.store.objects) (acting_in m (take (length result.answers) events.now)) self.old.policy self.new.policy }
-        ensures rechecked { (m : Machine) → Stands self.old m → RechecksWatches m (take (length result.answers) events.now) }
+        ensures rechecked { (m : Machine) → Refines self.old m → RechecksWatches m (take (length result.answers) events.now) }
         ensures all { IsNone result.stopped → length result.answers ≡ length events.now }
     {
         let mut answers = Vec::new(self.allocator());
@@ -88,7 +88,7 @@ impl<P: Policy + Drop> Core<P> {
         }
     }
 
-    /// Makes room for an answer first, so that a step that was made is always told.
+    /// Makes room for an answer first, so that a step that was made is always reported.
     fn step_into(&mut self, answers: &mut Vec<Answer>, event: &Event) -> Result<(), Memory>
         ensures made { OnOk result (Pushes self.old self.new event.now answers.old.items answers.new.items) }
         ensures kept { OnErr result (Keeps self.old self.new) }

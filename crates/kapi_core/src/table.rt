@@ -4,12 +4,12 @@ ghost use Rattle.kapi_core.specs.Table as tables;
 ghost use Rattle.kapi_core.specs.Table.{fits, required_rows, row_of};
 
 use crate::resource::{Resource, required_resources};
-use kapi_names::{ResourceRow, Schema};
+use kapi_model::{ResourceRow, Schema};
 use kapi_route::is_of_reviews;
 
-/// Whether a table of resources can be served: it has the rows of `namespaces`, of the four kinds of the policy and of the four
-/// kinds of reviews as Kubernetes has them, every further row is open and in another group than reviews, and no two rows share
-/// group and plural, or group and kind. Takes no memory.
+/// Whether a table of resources can be served: it has the resource types of `namespaces`, of the four kinds of the
+/// policy and of the four kinds of reviews as Kubernetes has them, every further one is open and in another group than
+/// reviews, and no two resource types share group and plural, or group and kind. Allocates nothing.
 pub fn table_fits(table: &[ResourceRow]) -> bool
     ensures { result ≡ fits table.now }
 {
@@ -46,7 +46,7 @@ fn is_known(row: &ResourceRow) -> bool
     is_further(row) || is_required(row)
 }
 
-/// A row of an open schema in another group than reviews.
+/// A resource type of an open schema in another group than reviews.
 fn is_further(row: &ResourceRow) -> bool
     ensures { result ≡ tables.is_further row.now }
 {
@@ -95,7 +95,7 @@ fn is_schema(a: Schema, b: Schema) -> bool
     )
 }
 
-/// No row is like one that stands after it.
+/// No resource type is like one that comes after it.
 #[tactic(auto, unfolding(crate::specs::Table::rows_differ))]
 fn rows_differ(table: &[ResourceRow]) -> bool
     ensures { result ≡ tables.rows_differ table.now }

@@ -2,41 +2,42 @@
 ghost use Rattle.std.specs.Prelude.{◌≡◌, ◌++◌, IfOk, IfSome, OnErr, OnOk};
 ghost use Rattle.kapi_aggregation.specs.Marks.{CoversAsMuch};
 ghost use Rattle.kapi_answer.specs.Outcomes.{changes_data};
-ghost use Rattle.kapi_core.specs.Writes.{LoadsInto, TurnsInto, Writes};
+ghost use Rattle.kapi_core.specs.Private.Writes.{LoadsInto, TurnsInto, Writes};
 ghost use Rattle.kapi_store.specs.State.{Fits};
 ghost use Rattle.kapi_stored_policy.specs.Reading as reading;
 
 use crate::event::Turned;
 use kapi_aggregation::{Tracker, Turn, rewrite};
 use kapi_answer::{LoadError, load};
-use kapi_policy::{Policy, PolicyChange};
+use kapi_policy::{Policy, PolicyStep};
 use kapi_store::{Ready, Store, StoreError};
-use kapi_stored_policy::{apply_step, policy_changes};
-use kapi_text::{Memory, Sequence};
+use kapi_stored_policy::policy_changes;
+use kapi_text::Memory;
 use std::alloc::{AllocError, Global};
 
-/// Makes a prepared write, if there is one, in the store and in the policy, marks the cluster roles that it concerns, and answers what
-/// it changed in the policy. The store comes last, since all before it may meet want of memory: marks that were made by then do no harm.
+/// Makes a prepared write, if there is one, in the store and in the policy, marks the cluster roles that it affects,
+/// and answers what it changed in the policy. The store comes last, since all before it may fail to allocate: marks
+/// that were made by then do no harm.
 pub fn make_write<P: Policy>(
     alloc: Global,
     policy: &mut P,
     tracker: &mut Tracker,
     store: &mut Store,
     write: Option<Ready>,
-) -> Result<Vec<PolicyChange>, Memory>
+) -> Result<PolicyStep, Memory>
     requires { IfSome write (Fits store.old) }
-    ensures made { IfOk result (λ v. v.items ≡ reading.policy_changes (changes_data write)) }
+    ensures made { IfOk result (λ s. s ≡ reading.policy_changes (changes_data write)) }
     ensures writes { OnOk result (Writes store.old (P.content policy.old) tracker.old store.new (P.content policy.new) tracker.new (changes_data write)) }
     ensures same_store { OnErr result (store.new ≡ store.old) }
     ensures same_policy { OnErr result (P.content policy.new ≡ P.content policy.old) }
     ensures covers { CoversAsMuch tracker.old tracker.new }
 {
     let Some(ready) = write else {
-        return Ok(Vec::new(alloc));
+        return Ok(PolicyStep::nothing(alloc));
     };
     let changes = policy_changes(alloc, ready.changes())?;
     tracker.note_write(store, ready.changes())?;
-    apply_step(policy, changes.as_slice())?;
+    changes.apply_to(policy)?;
     store.commit(ready);
     Ok(changes)
 }
@@ -48,15 +49,15 @@ pub fn load_object<P: Policy>(
     tracker: &mut Tracker,
     store: &mut Store,
     text: &[u8],
-) -> Result<Sequence<PolicyChange>, LoadError>
+) -> Result<PolicyStep, LoadError>
     ensures { LoadsInto store.old (P.content policy.old) tracker.old store.new (P.content policy.new) tracker.new text.now result }
 {
     let ready = load(alloc, store, text)?;
-    let changes = make_write(alloc, policy, tracker, store, Some(ready))?;
-    Ok(Sequence::new(changes))
+    let step = make_write(alloc, policy, tracker, store, Some(ready))?;
+    Ok(step)
 }
 
-/// Makes the write of a turn, and tells it; none where the store refuses it.
+/// Makes the write of a turn, and reports it; none where the store refuses it.
 pub fn make_turn<P: Policy>(
     alloc: Global,
     policy: &mut P,
@@ -73,7 +74,7 @@ pub fn make_turn<P: Policy>(
             Ok(Some(Turned {
                 revision,
                 name: turn.name,
-                policy_changes: Sequence::new(changes),
+                policy_changes: changes,
             }))
         }
         Err(StoreError::Memory) => Err(AllocError),

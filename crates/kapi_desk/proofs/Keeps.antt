@@ -28,7 +28,7 @@ fits_snoc : (opening : PolicyObjects) (log : List (List PolicyChange)) (views : 
     → (j : ℕ) (u : View) → get_elem? (views ++ w ∷ []) j ≡ some u → Fits opening log u
 fits_snoc opening log views w others mine j u e = ⊎_elim (others j u) (λ (same : w ≡ u). subst (Fits opening log) same mine) (at_snoc views w u j e)
 
--- who has seen nothing fits everywhere
+-- a view that has seen nothing fits everywhere
 fits_newcomer : (opening : PolicyObjects) (log : List (List PolicyChange)) → Fits opening log newcomer
 fits_newcomer opening log = ((λ k. absurd (true≢false (sym k))), (log, refl))
 

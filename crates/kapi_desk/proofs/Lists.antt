@@ -5,7 +5,8 @@ use Rattle.kapi_policy.specs.declared.change.PolicyChange.{PolicyChange}
 use Rattle.kapi_policy.specs.Objects.{PolicyObjects}
 use Rattle.kapi_desk.specs.declared.version.Version.{Version}
 use Rattle.kapi_desk.specs.Rule.{Begins, counted}
-use Rattle.kapi_desk.specs.Steps.{after, after_changes}
+use Rattle.kapi_policy.specs.Steps.{after_changes}
+use Rattle.kapi_desk.specs.Steps.{after}
 
 Steps : Type 0
 Steps = List (List PolicyChange)

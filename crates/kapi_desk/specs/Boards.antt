@@ -1,4 +1,4 @@
--- What contracts see of a desk, a seat and a told list.
+-- What contracts see of a desk, a seat and a list of reported steps.
 use Rattle.std.specs.Prelude.{List, [], length, if◌then◌else◌, nat_lt}
 use Rattle.kapi_policy.specs.declared.change.PolicyChange.{PolicyChange}
 use Rattle.kapi_policy.specs.Decided.{Decided, allowed, masters, denied, Granted}
@@ -13,12 +13,12 @@ pub record Board : Type 0 where
   pub list : List (List PolicyChange)
   pub waiting : List (List PolicyChange)
 
--- a seat or a told list: the policy that its desk opened with, and the published steps that it has seen
+-- a seat or a list of reported steps: the policy that its desk opened with, and the published steps that it has seen
 pub record Chair : Type 0 where
   pub opening : PolicyObjects
   pub seen : List (List PolicyChange)
 
--- a seat or a told list of that opening policy, by which those steps were seen
+-- a seat or a list of reported steps of that opening policy, which has seen those steps
 abbrev pub chair : PolicyObjects → List (List PolicyChange) → Chair
 chair opening seen = record { opening = opening; seen = seen }
 

@@ -6,21 +6,22 @@ use Rattle.kapi_policy.specs.declared.change.PolicyChange.{PolicyChange}
 use Rattle.kapi_policy.specs.Objects.{PolicyObjects, no_objects}
 use Rattle.kapi_desk.specs.declared.rule.View.{View}
 use Rattle.kapi_desk.specs.declared.version.Version.{Version}
-use Rattle.kapi_desk.specs.Steps.{after, after_changes}
+use Rattle.kapi_policy.specs.Steps.{after_changes}
+use Rattle.kapi_desk.specs.Steps.{after}
 
 -- a policy with one step more
 abbrev pub counted : Version → List PolicyChange → Version
 counted v step = record { policy = after_changes step v.policy; steps = v.steps + 1 }
 
--- who has seen nothing yet
+-- a view that has seen nothing yet
 abbrev pub newcomer : View
 newcomer = record { knows = false; opening = no_objects; seen = [] }
 
--- who knows the policy that the desk opened with, and has seen no step
+-- a view that knows the policy that the desk opened with, and has seen no step
 abbrev pub opened : PolicyObjects → View
 opened policy = record { knows = true; opening = policy; seen = [] }
 
--- the same with further steps seen
+-- a view with further steps seen
 abbrev pub grown : View → List (List PolicyChange) → View
 grown v steps = record { knows = v.knows; opening = v.opening; seen = v.seen ++ steps }
 
@@ -28,11 +29,11 @@ grown v steps = record { knows = v.knows; opening = v.opening; seen = v.seen ++ 
 abbrev pub Begins : List (List PolicyChange) → List (List PolicyChange) → Type 0
 Begins xs ys = (rest : List (List PolicyChange)) × (ys ≡ xs ++ rest)
 
--- what the rule says of one who looks
+-- what the rule says of a view
 abbrev pub Fits : PolicyObjects → List (List PolicyChange) → View → Type 0
 Fits opening log v = (v.knows ≡ true → v.opening ≡ opening) × Begins v.seen log
 
--- the policy that is shown is the opening one after the published steps, whose number stands beside it
+-- the policy that is shown is the opening one after the published steps, together with their number
 abbrev pub Kept : Version → List View → Type 0
 Kept x views =
     (opening : PolicyObjects) × (log : List (List PolicyChange)) × (x.policy ≡ after opening log) × (x.steps ≡ length log)
@@ -42,7 +43,7 @@ Kept x views =
 abbrev pub IsShown : Version → View → Type 0
 IsShown y w = (y.policy ≡ after w.opening w.seen) × (y.steps ≡ length w.seen)
 
--- all that is published is seen
+-- a view has seen all that is published
 abbrev pub Entered : View → Version → Version → View → Type 0
 Entered v x y w = (w.knows ≡ v.knows) × (w.opening ≡ v.opening) × Begins v.seen w.seen
     × (y.steps ≡ length w.seen) × (v.knows ≡ true → y.policy ≡ after w.opening w.seen)

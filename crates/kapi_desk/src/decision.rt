@@ -2,8 +2,8 @@ ghost use Rattle.std.specs.Prelude.{◌≡◌, IfOk};
 ghost use Rattle.kapi_policy.specs.Views.{decision_of, granted_of};
 ghost use Rattle.kapi_desk.specs.Boards.{seat_decision, seat_granted};
 
+use kapi_model::RoleRef;
 use kapi_policy::{BindingKind, Decision, Grant};
-use kapi_rbac_types::RoleRef;
 use kapi_text::{Memory, Text, TryCopy};
 use std::alloc::Global;
 

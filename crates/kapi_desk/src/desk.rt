@@ -1,37 +1,37 @@
-ghost use Rattle.std.specs.Prelude.{◌≡◌, ◌↔◌, ◌≤◌, ◌<◌, [], ◌∷◌, ◌++◌, drop, length, replicate, true, Err, IfOk, IsOk, MatchResult};
+ghost use Rattle.std.specs.Prelude.{◌≡◌, ◌↔◌, ◌≤◌, ◌<◌, List, [], ◌∷◌, ◌++◌, drop, length, replicate, true, Err, IfOk, IsOk, MatchResult};
 ghost use Rattle.left_right.specs.Sides.{view as view_of};
 ghost use Rattle.kapi_desk.specs.Boards.{chair, fresh};
 ghost use Rattle.kapi_desk.specs.Rule.{IsShown, grown, opened};
-ghost use Rattle.kapi_desk.specs.Steps.{IsStep, after};
+ghost use Rattle.kapi_desk.specs.Steps.{after};
 ghost use Rattle.kapi_desk.specs.declared.desk.PublishError.TheVariants as refusal;
+ghost use Rattle.kapi_policy.specs.declared.change.PolicyChange.{PolicyChange as AChange};
 
 use crate::rule::{Opens, PolicyWriter, Publishes, Tells, Waiting};
 use crate::seat::{Seat, Told};
-use crate::step::Step;
 use crate::version::Version;
 use core::mem::replace_with;
 use kapi_index::IndexedPolicy;
-use kapi_policy::PolicyChange;
+use kapi_policy::PolicyStep;
 use kapi_text::Memory;
 use left_right::writer::Writer;
 use std::alloc::{AllocError, Global};
 use std::marker::{Brand, Model};
 use std::sync::Wait;
 
-/// So many told lists may be kept at a time beside the seats.
+/// The largest number of lists of reported steps beside the seats.
 const TOLD: usize = 16;
 
 /// Why a step was not published.
-#[derive(Clone, Copy, Debug, PartialEq, Eq)]
+#[derive(Debug, Drop)]
 pub enum PublishError {
-    /// A growth was refused, and nothing was changed.
-    Memory,
+    /// Out of memory: nothing was changed, and the step is handed back.
+    Memory(PolicyStep),
     /// The step was taken and waits, and nothing new is published.
     Pending,
 }
 
-/// Publishes steps of changes of a policy, for seats to see. Contracts see the policy that it opened with, the published steps and the
-/// steps that wait. It is not `Drop`: end it by `close`.
+/// Publishes steps of changes of a policy, for seats to see. Contracts see the policy that it opened with, the
+/// published steps and the steps that wait. It is not `Drop`: end it by `close`.
 pub struct Desk {
     alloc: Global,
     writer: PolicyWriter,
@@ -69,7 +69,7 @@ fn show<W: Waiting, R: Wait>(rt: &R, writer: PolicyWriter) -> (PolicyWriter, Res
     writer.publish_as::<Publishes<W>, R>(rt)
 }
 
-/// Publishes what waits.
+/// Publishes the steps that wait.
 fn show_waiting<R: Wait>(rt: &R, writer: PolicyWriter) -> (PolicyWriter, Result<(), AllocError>)
     requires knows { (view_of writer.desk.place).knows ≡ true }
     requires shown { IsShown writer.desk.shown.value (view_of writer.desk.place) }
@@ -79,7 +79,8 @@ fn show_waiting<R: Wait>(rt: &R, writer: PolicyWriter) -> (PolicyWriter, Result<
 }
 
 impl Desk {
-    /// A desk that has published no step over this policy, and so many seats, which have seen none. Want of memory ends it.
+    /// A desk that has published no step over this policy, and so many seats, which have seen none. A failed allocation
+    /// ends it.
     pub fn new<R: Wait>(
         alloc: Global,
         rt: &R,
@@ -158,20 +159,16 @@ impl Desk {
         Ok(Seat::over(self.alloc, reader, self.writer.published().steps))
     }
 
-    /// Publishes a step and answers how many are published then.
-    pub fn publish<R: Wait>(&mut self, rt: &R, step: &[PolicyChange]) -> Result<u64, PublishError>
-        requires free { self.old.waiting ≡ [] }
-        requires step { IsStep step.now }
+    /// Publishes a step and returns the number of published steps.
+    pub fn publish<R: Wait>(&mut self, rt: &R, step: PolicyStep) -> Result<u64, PublishError>
+        requires { self.old.waiting ≡ [] }
         ensures opening { self.new.opening ≡ self.old.opening }
-        ensures steps { MatchResult result (λ n. (self.new.list ≡ self.old.list ++ step.now ∷ []) × (n ≡ length self.new.list) × (self.new.waiting ≡ [])) (λ _. self.new.list ≡ self.old.list) }
-        ensures memory { result ≡ Err refusal.Memory → self.new ≡ self.old }
-        ensures pending { result ≡ Err refusal.Pending → self.new.waiting ≡ step.now ∷ [] }
+        ensures steps { MatchResult result (λ n. (self.new.list ≡ self.old.list ++ step ∷ []) × (n ≡ length self.new.list) × (self.new.waiting ≡ [])) (λ _. self.new.list ≡ self.old.list) }
+        ensures memory { (back : List AChange) → result ≡ Err (refusal.Memory back) → (self.new ≡ self.old) × (back ≡ step) }
+        ensures pending { result ≡ Err refusal.Pending → self.new.waiting ≡ step ∷ [] }
     {
-        let Ok(step) = Step::of(self.alloc, step) else {
-            return Err(PublishError::Memory);
-        };
-        if self.writer.append(step).is_err() {
-            return Err(PublishError::Memory);
+        if let Err(step) = self.writer.append(step) {
+            return Err(PublishError::Memory(step));
         }
         self.retry(rt)
     }
@@ -183,7 +180,7 @@ impl Desk {
         self.writer.has_pending_operations()
     }
 
-    /// Publishes the step that waits, if there is one, and answers how many are published then.
+    /// Publishes the step that waits, if there is one, and returns the number of published steps.
     pub fn retry<R: Wait>(&mut self, rt: &R) -> Result<u64, PublishError>
         ensures opening { self.new.opening ≡ self.old.opening }
         ensures steps { MatchResult result (λ n. (self.new.list ≡ self.old.list ++ self.old.waiting) × (n ≡ length self.new.list) × (self.new.waiting ≡ [])) (λ e. (e ≡ refusal.Pending) × (self.new.list ≡ self.old.list) × (self.new.waiting ≡ self.old.waiting)) }
@@ -199,7 +196,7 @@ impl Desk {
         }
     }
 
-    /// What is published, for a seat to learn. Want of memory is also the answer where more than 16 told lists are kept.
+    /// The published steps, for a seat to learn. `Memory` also where more than 16 reported lists are kept.
     pub fn tell(&mut self) -> Result<Told, Memory>
         ensures same { self.new ≡ self.old }
         ensures told { IfOk result (λ t. t ≡ chair self.old.opening self.old.list) }
@@ -207,7 +204,7 @@ impl Desk {
         Ok(Told::by(self.seat()?))
     }
 
-    /// Ends the desk and gives back the published policy. Seats answer `Busy` from then on.
+    /// Ends the desk and returns the published policy. Seats answer `Busy` from then on.
     pub fn close<R: Wait>(self, rt: &R) -> IndexedPolicy
         ensures { result ≡ after self.opening self.list }
     {

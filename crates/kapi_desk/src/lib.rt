@@ -1,5 +1,5 @@
-//! Reader threads over published policies: a desk publishes steps of changes, and seats answer questions, each over the policy after
-//! some number of the published steps, with no lock and without waiting.
+//! Reader threads over published policies: a desk publishes steps of changes, and seats answer questions, each over the
+//! policy after some number of the published steps, with no lock and without waiting.
 #![tactic(auto)]
 
 mod decision;
@@ -7,7 +7,6 @@ mod desk;
 pub mod laws;
 mod rule;
 mod seat;
-mod step;
 mod version;
 
 pub use decision::{SeatDecision, SeatGrant};

@@ -1,15 +1,14 @@
-//! What the two copies and all who look at them keep: each list of steps that somebody has seen begins the one published list.
-use crate::step::Step;
+//! The rule that the two copies and all views of them keep: each list of steps that was seen begins the published one.
 use crate::version::Version;
 use atomic_table::{Join, Split};
 use crossbeam_utils::rule::{Outcome, Protocol};
-use kapi_policy::{PlainPolicy, PolicyChange};
+use kapi_policy::{PlainPolicy, PolicyChange, PolicyStep};
 use left_right::reader::Reader;
 use left_right::writer::Writer;
 use std::marker::{Brand, PhantomData};
 
-/// What the desk, a seat or a told list knows: the policy that the desk opened with, and the published steps that it has seen. No
-/// value of it is made.
+/// What the desk, a seat or a reported list knows: the policy that the desk opened with, and the published steps that
+/// it has seen. No value of it is made.
 pub struct View {
     pub knows: bool,
     pub opening: PlainPolicy,
@@ -28,9 +27,9 @@ impl Protocol<Version, View> for Law {
 
 pub(crate) type PolicyReader = Reader<Version, View, Law>;
 
-pub(crate) type PolicyWriter = Writer<Version, Step, View, Law>;
+pub(crate) type PolicyWriter = Writer<Version, PolicyStep, View, Law>;
 
-/// A seat sees all that is published.
+/// A seat sees all published steps.
 pub(crate) struct Enters;
 
 impl Outcome<Version, View> for Enters {
@@ -75,7 +74,7 @@ impl<W: Waiting> Outcome<Version, View> for Publishes<W> {
     ghost then = { λ v x y w. (w ≡ grown v W.steps) × IsShown y w };
 }
 
-/// The desk tells all that it has published.
+/// The desk reports all published steps.
 pub(crate) struct Tells;
 
 impl Split<View> for Tells {

@@ -10,8 +10,8 @@ use crate::decision::SeatDecision;
 use crate::rule::{Enters, PolicyReader};
 use crate::version::Version;
 use core::mem::replace_with;
+use kapi_model::Identity;
 use kapi_policy::Policy;
-use kapi_rbac_types::Identity;
 use kapi_rules::Point;
 use kapi_text::Memory;
 use std::alloc::Global;
@@ -22,12 +22,12 @@ use std::marker::Model;
 pub enum SeatError {
     /// The desk is closed.
     Busy,
-    /// A growth was refused.
+    /// An allocation fails.
     Memory,
 }
 
-/// One reader of a desk's published policy. Contracts see the policy that the desk opened with and the published steps that the seat
-/// has seen.
+/// One reader of a desk's published policy. Contracts see the policy that the desk opened with and the published steps
+/// that the seat has seen.
 #[derive(Drop)]
 pub struct Seat {
     alloc: Global,
@@ -47,7 +47,7 @@ impl Model for Seat {
     ghost invariant = { λ s. IsSeated (view_of s.reader.place) s.count };
 }
 
-/// What a desk tells one seat: the steps that it has published. Contracts see it as a seat that has seen them.
+/// What a desk reports to one seat: the published steps. Contracts see it as a seat that has seen them.
 #[derive(Drop)]
 pub struct Told {
     seat: Seat,
@@ -97,7 +97,7 @@ fn answer(version: &Version, question: &Question<'_, '_, '_>) -> Asked
     }
 }
 
-/// The answer of what is published, or none where the desk is closed.
+/// The answer of the published policy, or none where the desk is closed.
 fn ask(reader: PolicyReader, question: Question<'_, '_, '_>) -> (PolicyReader, Option<Asked>)
     ensures met { IfSome result.1 (λ a. Met (view_of reader.place) (view_of result.0.place) a.count) }
     ensures answer { IfSome result.1 (λ a. (view_of reader.place).knows ≡ true → IfOk a.decision (λ d. seat_decision d ≡ decided (after (view_of result.0.place).opening (view_of result.0.place).seen) question.entry.identity.now question.entry.namespace.now question.entry.point.now)) }
@@ -124,7 +124,7 @@ impl Seat {
         }
     }
 
-    /// Takes the told list for the seat's own where it is the longer one.
+    /// Takes the reported list for the seat's own where it is the longer one.
     pub fn learn(&mut self, told: Told)
         requires { told.opening ≡ self.old.opening }
         ensures opening { self.new.opening ≡ self.old.opening }
@@ -135,8 +135,8 @@ impl Seat {
         }
     }
 
-    /// Decides whether the identity may do this in the namespace, by the policy after the published steps that are then seen, and
-    /// answers with their number. The steps seen before are among them. No answer changes what the seat has seen before.
+    /// Decides whether the identity may do this in the namespace, by the policy after the published steps that are then
+    /// seen, and returns their number too. The steps seen before are among them, and no answer changes those.
     pub fn review(
         &mut self,
         identity: &Identity,

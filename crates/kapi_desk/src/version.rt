@@ -1,5 +1,5 @@
-use crate::step::Step;
 use kapi_index::IndexedPolicy;
+use kapi_policy::PolicyStep;
 use left_right::Absorb;
 use std::alloc::AllocError;
 
@@ -10,7 +10,7 @@ pub(crate) struct Version {
     pub(crate) steps: u64,
 }
 
-impl Absorb<Step> for Version {
+impl Absorb<PolicyStep> for Version {
     ghost use Rattle.kapi_desk.specs.Rule.{counted};
 
     type State = Version;
@@ -20,7 +20,7 @@ impl Absorb<Step> for Version {
     ghost applied = { counted };
 
     /// Makes the whole step, or nothing. Once 2^64 - 1 steps are counted, no further one is made.
-    fn absorb_first(&mut self, operation: &Step, _other: &Version) -> Result<(), AllocError> {
+    fn absorb_first(&mut self, operation: &PolicyStep, _other: &Version) -> Result<(), AllocError> {
         if self.steps == u64::MAX {
             return Err(AllocError);
         }

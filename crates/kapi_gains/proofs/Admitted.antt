@@ -1,16 +1,16 @@
--- What one step may change while all stays within what those who act held at the start.
+-- What one step may change while all stays within what the acting identities held at the start.
 use Rattle.std.proofs.Common.{◌≡◌, ◌⊎◌, inl, inr, ℕ, List, [], Bool, true, false, Option, Some, None, refl, sym, ap}
 use Rattle.std.specs.List.{list_any}
 use Rattle.std.specs.Option.{is_some}
 use Rattle.std.specs.Str.{bytes_eq}
 use Rattle.serde_json.specs.Data.{Data}
-use Rattle.kapi_names.specs.Selector.{matches}
-use Rattle.kapi_names.specs.declared.aggregation_rule.AggregationRule.{AggregationRule}
-use Rattle.kapi_names.specs.declared.kinds.RoleKind.{RoleKind}
-use Rattle.kapi_names.specs.declared.kinds.RoleKind.TheVariants as role_kind
-use Rattle.kapi_names.specs.declared.policy_rule.PolicyRule.{PolicyRule}
-use Rattle.kapi_rbac_types.specs.declared.identity.Identity.{Identity}
-use Rattle.kapi_rbac_types.specs.declared.role.ClusterRole.{ClusterRole}
+use Rattle.kapi_model.specs.Selector.{matches}
+use Rattle.kapi_model.specs.declared.aggregation_rule.AggregationRule.{AggregationRule}
+use Rattle.kapi_model.specs.declared.kinds.RoleKind.{RoleKind}
+use Rattle.kapi_model.specs.declared.kinds.RoleKind.TheVariants as role_kind
+use Rattle.kapi_model.specs.declared.policy_rule.PolicyRule.{PolicyRule}
+use Rattle.kapi_model.specs.declared.identity.Identity.{Identity}
+use Rattle.kapi_model.specs.declared.role.ClusterRole.{ClusterRole}
 use Rattle.kapi_rules.proofs.Covers.{same}
 use Rattle.kapi_rules.specs.declared.atom.Atom.{Atom}
 use Rattle.kapi_aggregation.specs.Roles.{selectors_in, takes_from}
@@ -25,13 +25,13 @@ use Rattle.kapi_gains.specs.States.{Labels, cluster_role_at, labelled, labelled_
 use Rattle.kapi_gains.specs.Within.{HasAtom, IsOwn, RoleHas, StaysWithin, scope_of}
 
 module _ (acting : List Identity) (start : PolicyObjects) where
-  -- a cluster role stands as it did, or is written with what those who act held, or has its union in place of its rules
+  -- a cluster role is as it was, or is written with what acting identities held, or has its union in place of its rules
   pub data ClusterRoleChange (old : PolicyObjects) (before now : Labels) (name : List ℕ) (r : ClusterRole) : Type 0 where
     stands : cluster_role_at old name ≡ Some r → now name ≡ before name → ClusterRoleChange old before now name r
     written : ((a : Atom) → HasAtom r.rules a → IsOwn acting start [] a) → is_some r.aggregation_rule ≡ false → ClusterRoleChange old before now name r
     given_union : (was : ClusterRole) → cluster_role_at old name ≡ Some was → now name ≡ before name → r ≡ turned old before name was → ClusterRoleChange old before now name r
 
-  -- all that is new is within what those who act held at the start
+  -- all that is new is within what the acting identities held at the start
   pub record IsAdmitted (old : PolicyObjects) (before : Labels) (new : PolicyObjects) (now : Labels) : Type 0 where
     pub order : IsInOrder new
     pub roles : (name namespace : List ℕ) (a : Atom) → RoleHas new role_kind.Role name namespace a → IsOwn acting start namespace a ⊎ RoleHas old role_kind.Role name namespace a
@@ -47,7 +47,7 @@ at_name (Some r) rules h = (r, (refl, cc h))
 pub has_by_rules : (rules others : List PolicyRule) (a : Atom) → others ≡ rules → HasAtom rules a → HasAtom others a
 has_by_rules rules others a e has = rw e has
 
--- who is not aggregated takes nothing
+-- a cluster role that is not aggregated takes nothing
 pub takes_nothing : (rule : Option AggregationRule) (labels : Option Data) → is_some rule ≡ false → list_any (λ s. matches s labels) (selectors_in rule) ≡ true → ⊥
 takes_nothing None labels is h = absurd (cc h)
 takes_nothing (Some rule) labels is h = absurd (cc is)

@@ -1,15 +1,15 @@
--- Atoms: what an identity holds by a binding, what that allows him, and what is his own.
+-- Atoms: what an identity holds by a binding, what that allows it, and what is its own.
 use Rattle.std.proofs.Common.{◌≡◌, ◌⊎◌, inl, inr, ℕ, List, [], ◌++◌, Bool, true, false, if◌then◌else◌, ◌||◌, ◌==◌, length, map, Option, Some, None, refl, sym, ap, ◌∙◌}
 use Rattle.std.proofs.lemmas.Grind.{flat_map-append}
 use Rattle.std.specs.List.{filter, flat_map, list_any}
 use Rattle.std.specs.Option.{unwrap_or}
-use Rattle.kapi_names.specs.declared.kinds.RoleKind.{RoleKind}
-use Rattle.kapi_names.specs.declared.kinds.RoleKind.TheVariants as role_kind
-use Rattle.kapi_names.specs.declared.policy_rule.PolicyRule.{PolicyRule}
-use Rattle.kapi_rbac_types.specs.Identities.{is_master}
-use Rattle.kapi_rbac_types.specs.Subjects.{names}
-use Rattle.kapi_rbac_types.specs.declared.binding.RoleBinding.{RoleBinding}
-use Rattle.kapi_rbac_types.specs.declared.identity.Identity.{Identity}
+use Rattle.kapi_model.specs.declared.kinds.RoleKind.{RoleKind}
+use Rattle.kapi_model.specs.declared.kinds.RoleKind.TheVariants as role_kind
+use Rattle.kapi_model.specs.declared.policy_rule.PolicyRule.{PolicyRule}
+use Rattle.kapi_model.specs.Identities.{is_master}
+use Rattle.kapi_model.specs.Subjects.{subject_matches}
+use Rattle.kapi_model.specs.declared.binding.RoleBinding.{RoleBinding}
+use Rattle.kapi_model.specs.declared.identity.Identity.{Identity}
 use Rattle.kapi_rules.proofs.Covers.{implies_allows, implies_onward, same}
 use Rattle.kapi_rules.proofs.Parts.{allowed_by_atom, any_flat_map, any_same}
 use Rattle.kapi_rules.specs.Atoms.{atom_allows, atoms, implies}
@@ -31,11 +31,11 @@ use Rattle.kapi_gains.specs.Within.{HasAtom, IsOwn, RoleHas, scope_of}
 
 -- ---- what a binding gives
 
--- one of the subjects of the binding means the identity
+-- one of the subjects of the binding matches the identity
 abbrev pub means : Identity → Binding → Bool
-means identity b = list_any (λ s. names s b.namespace identity) b.subjects
+means identity b = list_any (λ s. subject_matches s b.namespace identity) b.subjects
 
--- a binding that counts, means the identity, and whose role has the atom
+-- a binding that counts, matches the identity, and whose role has the atom
 pub record HeldBy (objects : PolicyObjects) (identity : Identity) (namespace : List ℕ) (a : Atom) : Type 0 where
   pub one : Binding
   pub counts : Has (bindings_in objects namespace) one
@@ -70,7 +70,7 @@ given_is : (objects : PolicyObjects) (identity : Identity) (b : Binding) (rules 
 unfolding given rules_of
 given_is objects identity b rules meant found = rw (meant, found) refl
 
--- what such a binding gives is held
+-- what a binding with the atom grants is held
 pub is_held : (objects : PolicyObjects) (identity : Identity) (namespace : List ℕ) (a : Atom) → HeldBy objects identity namespace a → HasAtom (held objects identity namespace) a
 unfolding held
 is_held objects identity namespace a by =
@@ -123,7 +123,7 @@ atom_from_may objects identity namespace p allowed = by_case (is_master identity
     by_case true is h = inl is
     by_case false is h = inr (passing (λ a. atom_allows a p) (flat_map atoms (held objects identity namespace)) (rules_by_atoms (held objects identity namespace) p ∙ h))
 
--- who holds rules holds an atom that implies each of theirs
+-- an identity that holds rules holds an atom that implies each of theirs
 pub wanted_is_implied : (own rules : List PolicyRule) (a : Atom) → holds_all own rules ≡ true → HasAtom rules a → (h : Atom) × (HasAtom own h × (implies h a ≡ true))
 wanted_is_implied own rules a all has =
     passing (λ h. implies h a) (flat_map atoms own)
@@ -154,7 +154,7 @@ module _ (acting : List Identity) (start : PolicyObjects) where
       by_case (inl none) = own_widens namespace a (rw (← none) own)
       by_case (inr here) = rw (← here) own
 
-  -- what an own atom allows was allowed at the start to one who acts
+  -- what an own atom allows was allowed at the start to an acting identity
   pub own_allows : (namespace : List ℕ) (a : Atom) (p : Point) → HasPlainResource p → IsOwn acting start namespace a → atom_allows a p ≡ true
       → (who : Identity) × (Has acting who × (may start who namespace p ≡ true))
   own_allows namespace a p plain own allowed =

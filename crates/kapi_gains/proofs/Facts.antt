@@ -1,12 +1,12 @@
--- What follows where all stays within what those who act held at the start.
+-- What follows where all stays within what the acting identities held at the start.
 use Rattle.std.proofs.Common.{◌≡◌, ◌⊎◌, inl, inr, ℕ, List, [], Bool, true, false, ◌||◌, refl}
 use Rattle.std.specs.List.{list_any}
-use Rattle.kapi_names.specs.declared.kinds.RoleKind.{RoleKind}
-use Rattle.kapi_names.specs.declared.kinds.RoleKind.TheVariants as role_kind
-use Rattle.kapi_names.specs.declared.policy_rule.PolicyRule.{PolicyRule}
-use Rattle.kapi_names.specs.declared.role_ref.RoleRef.{RoleRef}
-use Rattle.kapi_rbac_types.specs.Identities.{is_master}
-use Rattle.kapi_rbac_types.specs.declared.identity.Identity.{Identity}
+use Rattle.kapi_model.specs.declared.kinds.RoleKind.{RoleKind}
+use Rattle.kapi_model.specs.declared.kinds.RoleKind.TheVariants as role_kind
+use Rattle.kapi_model.specs.declared.policy_rule.PolicyRule.{PolicyRule}
+use Rattle.kapi_model.specs.declared.role_ref.RoleRef.{RoleRef}
+use Rattle.kapi_model.specs.Identities.{is_master}
+use Rattle.kapi_model.specs.declared.identity.Identity.{Identity}
 use Rattle.kapi_rules.proofs.Covers.{implies_itself}
 use Rattle.kapi_rules.specs.Atoms.{atom_allows, atoms, resource_atom}
 use Rattle.kapi_rules.specs.Entries.{star}
@@ -21,7 +21,7 @@ use Rattle.kapi_guard.specs.Checks.{holds_all}
 use Rattle.kapi_guard.specs.Exempt.{binding, escalating}
 use Rattle.kapi_gains.proofs.Atoms.{HeldBy, atom_from_may, held_from, is_held, master_may, may_by_atom, own_allows, own_below, own_in_scope, own_where_bound, wanted_is_implied}
 use Rattle.kapi_aggregation.proofs.Lists.{some_at}
-use Rattle.kapi_gains.specs.Access.{ActsAs, GivesNothing, IsHarmless, may}
+use Rattle.kapi_gains.specs.Access.{ActsAs, GivesNothing, IsUnprivileged, may}
 use Rattle.kapi_aggregation.specs.Members.{Has}
 use Rattle.kapi_gains.specs.States.{Labels}
 use Rattle.kapi_gains.specs.Within.{ActorsHoldOwn, HasAtom, IsOwn, RoleHas, StaysWithin, scope_of}
@@ -29,7 +29,7 @@ use Rattle.kapi_gains.specs.Within.{ActorsHoldOwn, HasAtom, IsOwn, RoleHas, Stay
 module _ (acting : List Identity) (start objects : PolicyObjects) (labels : Labels) (facts : StaysWithin acting start objects labels) where
   -- ---- what is held
 
-  -- what anybody holds is own, or he held it at the start
+  -- what an identity holds is own, or the identity held it at the start
   pub held_before : (identity : Identity) (namespace : List ℕ) (a : Atom) → HasAtom (held objects identity namespace) a → IsOwn acting start namespace a ⊎ HasAtom (held start identity namespace) a
   held_before identity namespace a has = by_binding (facts.bindings namespace by.one by.counts)
     where
@@ -53,7 +53,7 @@ module _ (acting : List Identity) (start objects : PolicyObjects) (labels : Labe
       by_case (inl own) = own
       by_case (inr holds) = record { who = who; acts = acts; held_one = a; holds = holds; implied = implies_itself a }
 
-  -- rules that one who acts may write are own
+  -- rules that an acting identity may write are own
   pub written_are_own : (who : Identity) (namespace : List ℕ) (rules : List PolicyRule) → Has acting who → holds_all (held objects who namespace) rules ≡ true
       → (a : Atom) → HasAtom rules a → IsOwn acting start namespace a
   written_are_own who namespace rules acts all a has =
@@ -92,7 +92,7 @@ module _ (acting : List Identity) (start objects : PolicyObjects) (labels : Labe
   contradicts true h k = absurd (cc k)
   contradicts false h k = absurd (cc h)
 
-  -- what none of those who act might at the start none of them may now
+  -- what no acting identity might do at the start none of them may do now
   stays_denied : (who : Identity) (namespace : List ℕ) (p : Point) → HasPlainResource p → ((other : Identity) → Has acting other → may start other namespace p ≡ false) → Has acting who → may objects who namespace p ≡ true → ⊥
   stays_denied who namespace p plain denied acts allowed = by_case (atom_from_may objects who namespace p allowed)
     where
@@ -102,12 +102,12 @@ module _ (acting : List Identity) (start objects : PolicyObjects) (labels : Labe
           let other = own_allows acting start namespace one.0 p plain (acting_hold_own who namespace one.0 acts one.1.0) one.1.1 in
           contradicts (may start other.0 namespace p) other.1.1 (denied other.0 other.1.0)
 
-  module _ (harmless : (who : Identity) → Has acting who → IsHarmless start who) where
+  module _ (unprivileged : (who : Identity) → Has acting who → IsUnprivileged start who) where
     pub no_escalation : (who : Identity) (namespace : List ℕ) (kind : RoleKind) (name : List ℕ) → Has acting who → may objects who namespace (escalating kind name) ≡ true → ⊥
     no_escalation who namespace role_kind.Role name acts allowed =
-        stays_denied who namespace (escalating role_kind.Role name) refl (λ other there. (harmless other there).no_escalate namespace role_kind.Role name) acts allowed
+        stays_denied who namespace (escalating role_kind.Role name) refl (λ other there. (unprivileged other there).no_escalate namespace role_kind.Role name) acts allowed
     no_escalation who namespace role_kind.ClusterRole name acts allowed =
-        stays_denied who namespace (escalating role_kind.ClusterRole name) refl (λ other there. (harmless other there).no_escalate namespace role_kind.ClusterRole name) acts allowed
+        stays_denied who namespace (escalating role_kind.ClusterRole name) refl (λ other there. (unprivileged other there).no_escalate namespace role_kind.ClusterRole name) acts allowed
 
     binding_is_plain : (kind : RoleKind) (name : List ℕ) → HasPlainResource (binding (record { kind = kind; name = name }))
     binding_is_plain role_kind.Role name = refl
@@ -115,13 +115,13 @@ module _ (acting : List Identity) (start objects : PolicyObjects) (labels : Labe
 
     pub no_binding : (who : Identity) (namespace : List ℕ) (role : RoleRef) → Has acting who → may objects who namespace (binding role) ≡ true → ⊥
     no_binding who namespace role acts allowed =
-        stays_denied who namespace (binding role) (binding_is_plain role.kind role.name) (λ other there. (harmless other there).no_bind namespace role) acts allowed
+        stays_denied who namespace (binding role) (binding_is_plain role.kind role.name) (λ other there. (unprivileged other there).no_bind namespace role) acts allowed
 
-    -- nobody who acts is taken for another
+    -- no acting identity is taken for another
     pub acts_as_himself : (who other : Identity) → Has acting who → ActsAs objects who other → other ≡ who
     acts_as_himself who other acts (inl himself) = himself
     acts_as_himself who other acts (inr by) =
-        absurd (stays_denied who by.namespace by.request by.plain (λ one there. (harmless one there).no_impersonate by.namespace by.request by.verb) acts by.allowed)
+        absurd (stays_denied who by.namespace by.request by.plain (λ one there. (unprivileged one there).no_impersonate by.namespace by.request by.verb) acts by.allowed)
 
     -- all verbs on all resources
     abbrev everything : Atom
@@ -131,9 +131,9 @@ module _ (acting : List Identity) (start objects : PolicyObjects) (labels : Labe
     unfolding atoms
     in_authority = inl refl
 
-    -- nobody who acts has full authority: with it he might escalate
+    -- no acting identity has full authority: with it the identity might escalate
     pub no_full_authority : (who : Identity) → Has acting who → holds_all (held objects who []) full_authority ≡ true → ⊥
     no_full_authority who acts all =
         let own : IsOwn acting start [] everything = written_are_own who [] full_authority acts all everything in_authority in
         let other = own_allows acting start [] everything (escalating role_kind.ClusterRole []) refl own refl in
-        contradicts (may start other.0 [] (escalating role_kind.ClusterRole [])) other.1.1 ((harmless other.0 other.1.0).no_escalate [] role_kind.ClusterRole [])
+        contradicts (may start other.0 [] (escalating role_kind.ClusterRole [])) other.1.1 ((unprivileged other.0 other.1.0).no_escalate [] role_kind.ClusterRole [])

@@ -1,12 +1,12 @@
--- Whoever makes requests as somebody else may impersonate.
+-- An identity that makes requests as another may impersonate.
 use Rattle.std.proofs.Common.{◌≡◌, ◌==◌, inl, inr, ℕ, List, [], ◌∷◌, length, map, Bool, true, false, not, if◌then◌else◌, Option, Some, None, Result, Ok, Err, refl, sym, ◌∙◌, codes}
 use Rattle.std.specs.List.{filter}
 use Rattle.std.proofs.Math.Dec.{eqb-suc-zero}
 use Rattle.kapi_guard.specs.Impersonation.{MakesAs, asked_of, denied, effective, group_question, impersonated, is_denied, questions, service_account, user_question}
 use Rattle.kapi_guard.specs.declared.questions.Question.{Question}
-use Rattle.kapi_names.specs.declared.subject.ServiceAccount.{ServiceAccount}
+use Rattle.kapi_model.specs.declared.subject.ServiceAccount.{ServiceAccount}
 use Rattle.kapi_policy.specs.Objects.{PolicyObjects}
-use Rattle.kapi_rbac_types.specs.declared.identity.Identity.{Identity}
+use Rattle.kapi_model.specs.declared.identity.Identity.{Identity}
 use Rattle.kapi_request_info.specs.declared.impersonated.Impersonation.{Impersonation}
 use Rattle.kapi_rules.specs.Points.{HasPlainResource}
 use Rattle.kapi_rules.specs.declared.point.Point.{Point}
@@ -24,18 +24,18 @@ user_asked : (user : List ℕ) → IsAsked (user_question user)
 unfolding user_question
 user_asked user = account_asked (service_account user) user
 
--- where the first is told that is denied, nothing told means that it is allowed
+-- where the first question is reported if it is denied, no report means that it is allowed
 first_if : (q : Question) (rest : List Question) (b : Bool) → (length (map (λ q. q.point) (if not b then q ∷ rest else rest)) == 0) ≡ true → b ≡ true
 first_if q rest true h = refl
 first_if q rest false h = let never : false ≡ true = sym (eqb-suc-zero (length (map (λ q. q.point) rest))) ∙ h in cc never
 
--- where somebody is acted as, nothing is told
+-- where another identity is acted as, nothing is reported as denied
 told_if : (b : Bool) (points : List Point) (it other : Identity) → (if b then Ok it else Err points) ≡ Ok other → b ≡ true
 told_if true points it other h = refl
 told_if false points it other h = cc h
 
 module _ (objects : PolicyObjects) (identity : Identity) where
-  -- where nothing is denied the first question is not
+  -- where nothing is denied the first question is allowed
   first_allowed : (q : Question) (qs : List Question) → (length (denied objects identity (q ∷ qs)) == 0) ≡ true → may objects identity q.namespace q.point ≡ true
   first_allowed q qs none = first_if q (filter (is_denied objects identity) qs) (may objects identity q.namespace q.point) none
 
@@ -55,7 +55,7 @@ module _ (objects : PolicyObjects) (identity : Identity) where
         allowed = first_allowed q (map group_question wanted.groups) (none_denied wanted other acts);
       }
 
-  -- he is the other, or may impersonate
+  -- the identity is the other, or may impersonate
   pub acts_as : (other : Identity) → MakesAs objects identity other → ActsAs objects identity other
   acts_as other (inl same) = inl same
   acts_as other (inr (wanted, acts)) = inr (may_impersonate wanted other acts)

@@ -1,6 +1,6 @@
 -- The laws of runs.
 use Rattle.std.proofs.Common.{List}
-use Rattle.kapi_rbac_types.specs.declared.identity.Identity.{Identity}
+use Rattle.kapi_model.specs.declared.identity.Identity.{Identity}
 use Rattle.kapi_gains.proofs.Facts.{acting_hold_own, gives_nothing}
 use Rattle.kapi_gains.proofs.Steps.{begins, run_keeps}
 use Rattle.kapi_gains.specs.Access.{GivesNothing}
@@ -8,11 +8,11 @@ use Rattle.kapi_gains.specs.States.{PolicyState}
 use Rattle.kapi_gains.specs.Steps.{AreBy, IsGuarded, PolicyStep, Runs}
 use Rattle.kapi_gains.specs.Within.{ActorsHoldOwn, BindingsStayWithin, RolesStayWithin, StaysWithin, TurnsStayWithin}
 
--- all stays within what those who act held at the start
+-- all stays within what the acting identities held at the start
 pub all_within : (acting : List Identity) (start now : PolicyState) (steps : List PolicyStep) → IsGuarded acting start → AreBy acting steps → Runs start steps now
     → StaysWithin acting start.objects now.objects now.labels
 all_within acting start now steps guarded by runs =
-    run_keeps acting start.objects guarded.harmless start now steps (begins acting start guarded.order guarded.settled) by runs
+    run_keeps acting start.objects guarded.unprivileged start now steps (begins acting start guarded.order guarded.settled) by runs
 
 pub actors_hold_own : (acting : List Identity) (start now : PolicyState) (steps : List PolicyStep) → IsGuarded acting start → AreBy acting steps → Runs start steps now
     → ActorsHoldOwn acting start.objects now.objects

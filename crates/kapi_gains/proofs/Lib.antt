@@ -10,3 +10,8 @@ pub mod Law
 pub mod Turns
 pub mod Impersonating
 pub mod Worked
+pub mod StoredRoles
+pub mod StoredLabels
+pub mod Reached
+pub mod StoredWrites
+pub mod StoredTurns

@@ -1,12 +1,12 @@
--- Each step is admitted, and so all stays within along a run.
+-- Each step is admitted, and all stays within along a run.
 use Rattle.std.proofs.Common.{◌≡◌, ◌⊎◌, inl, inr, ℕ, List, [], ◌∷◌, Bool, true, false, if◌then◌else◌, not, ◌&&◌, ◌||◌, Option, Some, None, refl, sym, ap, ◌∙◌}
 use Rattle.std.specs.Option.{is_some}
 use Rattle.std.specs.Str.{bytes_eq}
 use Rattle.serde_json.specs.Data.{Data}
-use Rattle.kapi_names.specs.declared.kinds.RoleKind.TheVariants as role_kind
-use Rattle.kapi_names.specs.declared.role_ref.RoleRef.{RoleRef}
-use Rattle.kapi_rbac_types.specs.declared.identity.Identity.{Identity}
-use Rattle.kapi_rbac_types.specs.declared.role.ClusterRole.{ClusterRole}
+use Rattle.kapi_model.specs.declared.kinds.RoleKind.TheVariants as role_kind
+use Rattle.kapi_model.specs.declared.role_ref.RoleRef.{RoleRef}
+use Rattle.kapi_model.specs.declared.identity.Identity.{Identity}
+use Rattle.kapi_model.specs.declared.role.ClusterRole.{ClusterRole}
 use Rattle.kapi_rules.proofs.Covers.{same}
 use Rattle.kapi_rules.specs.declared.atom.Atom.{Atom}
 use Rattle.kapi_aggregation.specs.Roles.{takes_from}
@@ -32,7 +32,7 @@ use Rattle.kapi_aggregation.proofs.Lists.{all_at, has_mapped}
 use Rattle.kapi_gains.proofs.Entries.{found_in}
 use Rattle.kapi_gains.proofs.Facts.{acts_as_himself, no_binding, no_escalation, no_full_authority, written_are_own}
 use Rattle.kapi_gains.proofs.Unions.{union_has}
-use Rattle.kapi_gains.specs.Access.{IsHarmless, may}
+use Rattle.kapi_gains.specs.Access.{IsUnprivileged, may}
 use Rattle.kapi_aggregation.specs.Members.{Has}
 use Rattle.kapi_gains.specs.States.{IsSettled, Labels, PolicyState, cluster_role_at, labelled, labelled_roles, turned}
 use Rattle.kapi_gains.specs.Steps.{AreBy, DropsLabels, IsBy, IsDeleted, IsTurned, IsWritten, KeepsLabels, MadeWrite, Makes, PolicyStep, Runs, SetsLabels, deletes, turns, writes}
@@ -44,7 +44,7 @@ same_role : (o : Option ClusterRole) (r c : ClusterRole) → o ≡ Some r → o 
 same_role o r c h k = cc (h, k)
 
 module _ (acting : List Identity) (state : PolicyState) (order : IsInOrder state.objects) (settled : IsSettled state) where
-  -- an aggregated cluster role that stands is settled
+  -- a stored aggregated cluster role is settled
   is_union : (name : List ℕ) (r : ClusterRole) → cluster_role_at state.objects name ≡ Some r → IsUnion (labelled_roles state.objects state.labels) (labelled state.labels (name, r))
   is_union name r found =
       let entry = found_in (bytes_eq name) state.objects.cluster_roles r found in
@@ -89,7 +89,7 @@ set_elsewhere : (b : Bool) (given was now : Option Data) → b ≡ false → now
 set_elsewhere true given was now b h = absurd (cc b)
 set_elsewhere false given was now b h = h
 
--- who is not aggregated, of both versions, is not in the new one
+-- a cluster role that is aggregated in neither version is not aggregated in the new one
 new_plain : (was now : Bool) → (was || now) ≡ false → now ≡ false
 new_plain true now h = absurd (cc h)
 new_plain false now h = h
@@ -164,15 +164,15 @@ module _ (acting : List Identity) (start old : PolicyObjects) (before : Labels) 
 
   -- ---- writes
 
-  module _ (harmless : (who : Identity) → Has acting who → IsHarmless start who) (who : Identity) (acts : Has acting who) where
-    -- nobody who acts writes what he does not hold
+  module _ (unprivileged : (who : Identity) → Has acting who → IsUnprivileged start who) (who : Identity) (acts : Has acting who) where
+    -- no acting identity writes what it does not hold
     none_exempt : (request_name : List ℕ) (o : WrittenObject) → may old who (scope o) (exemption request_name o) ≡ true → ⊥
-    none_exempt request_name (written.Role place versions) = no_escalation acting start old before facts harmless who place.namespace role_kind.Role request_name acts
-    none_exempt request_name (written.ClusterRole name versions) = no_escalation acting start old before facts harmless who [] role_kind.ClusterRole request_name acts
-    none_exempt request_name (written.RoleBinding place versions) = no_binding acting start old before facts harmless who place.namespace versions.new.role_ref acts
-    none_exempt request_name (written.ClusterRoleBinding name versions) = no_binding acting start old before facts harmless who [] versions.new.role_ref acts
+    none_exempt request_name (written.Role place versions) = no_escalation acting start old before facts unprivileged who place.namespace role_kind.Role request_name acts
+    none_exempt request_name (written.ClusterRole name versions) = no_escalation acting start old before facts unprivileged who [] role_kind.ClusterRole request_name acts
+    none_exempt request_name (written.RoleBinding place versions) = no_binding acting start old before facts unprivileged who place.namespace versions.new.role_ref acts
+    none_exempt request_name (written.ClusterRoleBinding name versions) = no_binding acting start old before facts unprivileged who [] versions.new.role_ref acts
 
-    -- a write that is granted to one who acts is held by him
+    -- a write that is granted to an acting identity is held by that identity
     granted_is_held : (w : PolicyWrite) → grant old who w ≡ true
         → (holds_found (held old who (scope w.object)) (wanted old w.object) ≡ true) × (holds_authority (held old who (scope w.object)) w.object ≡ true)
     unfolding grant
@@ -222,7 +222,7 @@ module _ (acting : List Identity) (start old : PolicyObjects) (before : Labels) 
         plain =
             new_plain (was_aggregated versions.old) (is_some versions.new.aggregation_rule)
             (by_authority (was_aggregated versions.old || is_some versions.new.aggregation_rule) (holds_all (held old who []) full_authority) holds.1
-            (no_full_authority acting start old before facts harmless who acts))
+            (no_full_authority acting start old before facts unprivileged who acts))
 
         by_case : (q : List ℕ) (r : ClusterRole) → ((bytes_eq q name ≡ true) × (versions.new ≡ r)) ⊎ ((bytes_eq q name ≡ false) × (cluster_role_at old q ≡ Some r))
             → ClusterRoleChange acting start old before now q r
@@ -255,19 +255,19 @@ module _ (acting : List Identity) (start old : PolicyObjects) (before : Labels) 
 
 -- ---- runs
 
-module _ (acting : List Identity) (start : PolicyObjects) (harmless : (who : Identity) → Has acting who → IsHarmless start who) where
+module _ (acting : List Identity) (start : PolicyObjects) (unprivileged : (who : Identity) → Has acting who → IsUnprivileged start who) where
   -- the facts of the objects that a change makes are those of a state of these objects
   of_state : (made : PolicyObjects) (new : PolicyState) → new.objects ≡ made → StaysWithin acting start made new.labels → StaysWithin acting start new.objects new.labels
   of_state made new is facts = rw is facts
 
   write_keeps : (old new : PolicyState) (w : MadeWrite) → StaysWithin acting start old.objects old.labels → Has acting w.writer → IsWritten old w new → StaysWithin acting start new.objects new.labels
   write_keeps old new w facts acts is =
-      let himself : w.made_as ≡ w.writer = acts_as_himself acting start old.objects old.labels facts harmless w.writer w.made_as acts is.acts in
+      let himself : w.made_as ≡ w.writer = acts_as_himself acting start old.objects old.labels facts unprivileged w.writer w.made_as acts is.acts in
       let granted : grant old.objects w.writer w.write ≡ true = ap (λ (who : Identity). grant old.objects who w.write) (sym himself) ∙ is.granted in
       of_state (applied (change.Put (put_of w.write.object)) old.objects) new is.objects
       (facts_kept acting start old.objects old.labels facts (applied (change.Put (put_of w.write.object)) old.objects) new.labels
-      (put_admitted acting start old.objects old.labels facts harmless w.writer acts w.write.object w.labels new.labels
-      (granted_is_held acting start old.objects old.labels facts harmless w.writer acts w.write granted) is.labels))
+      (put_admitted acting start old.objects old.labels facts unprivileged w.writer acts w.write.object w.labels new.labels
+      (granted_is_held acting start old.objects old.labels facts unprivileged w.writer acts w.write granted) is.labels))
 
   delete_keeps : (old new : PolicyState) (k : PolicyKey) → StaysWithin acting start old.objects old.labels → IsDeleted old k new → StaysWithin acting start new.objects new.labels
   delete_keeps old new k facts is =

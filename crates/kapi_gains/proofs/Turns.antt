@@ -1,9 +1,9 @@
--- The turn that comes next, and a policy in which none does.
+-- The next turn, and a policy in which none is due.
 use Rattle.std.proofs.Common.{◌≡◌, inl, inr, ℕ, List, [], ◌∷◌, Bool, true, false, if◌then◌else◌, not, ◌&&◌, Option, Some, None, refl, ap, ◌∙◌}
 use Rattle.std.specs.List.{AllByRecursion}
 use Rattle.std.specs.Option.{option_or}
-use Rattle.kapi_names.specs.declared.policy_rule.PolicyRule.{PolicyRule}
-use Rattle.kapi_rbac_types.specs.declared.role.ClusterRole.{ClusterRole}
+use Rattle.kapi_model.specs.declared.policy_rule.PolicyRule.{PolicyRule}
+use Rattle.kapi_model.specs.declared.role.ClusterRole.{ClusterRole}
 use Rattle.kapi_aggregation.proofs.Equal.{same_rules_are}
 use Rattle.kapi_aggregation.specs.Roles.{Labelled, is_aggregated}
 use Rattle.kapi_aggregation.specs.Turns.{differs, first_some, next, turn_at, turn_of}
@@ -32,7 +32,7 @@ turn_if : (b : Bool) (one turn : Turn) → (if b then Some one else None) ≡ So
 turn_if true one turn h = cc h
 turn_if false one turn h = absurd (cc h)
 
--- the cluster role that comes next is there, and its turn has its union
+-- the next cluster role is there, and its turn has its union
 record Turns (objects : PolicyObjects) (labels : Labels) (turn : Turn) : Type 0 where
   pub role : ClusterRole
   pub found : cluster_role_at objects turn.name ≡ Some role

@@ -2,10 +2,10 @@
 use Rattle.std.proofs.Common.{◌≡◌, ◌⊎◌, inl, inr, ℕ, List, [], ◌∷◌, ◌++◌, Bool, true, false, cond, not, ◌&&◌, Some, refl}
 use Rattle.std.specs.List.{filter, flat_map, fold, list_any}
 use Rattle.std.specs.Str.{bytes_eq}
-use Rattle.kapi_names.specs.Selector.{matches}
-use Rattle.kapi_names.specs.declared.policy_rule.PolicyRule.{PolicyRule}
-use Rattle.kapi_names.specs.declared.selector.Selector.{Selector}
-use Rattle.kapi_rbac_types.specs.declared.role.ClusterRole.{ClusterRole}
+use Rattle.kapi_model.specs.Selector.{matches}
+use Rattle.kapi_model.specs.declared.policy_rule.PolicyRule.{PolicyRule}
+use Rattle.kapi_model.specs.declared.selector.Selector.{Selector}
+use Rattle.kapi_model.specs.declared.role.ClusterRole.{ClusterRole}
 use Rattle.kapi_rules.proofs.Covers.{same}
 use Rattle.kapi_rules.specs.Atoms.{atoms}
 use Rattle.kapi_rules.specs.declared.atom.Atom.{Atom}

@@ -3,7 +3,7 @@ use Rattle.std.proofs.Common.{◌≡◌, inl, inr, ℕ, List, [], ◌∷◌, ◌
 use Rattle.std.specs.List.{flat_map}
 use Rattle.std.specs.List.Sorted.{IsStrictlySortedBy}
 use Rattle.std.specs.Option.{unwrap_or}
-use Rattle.kapi_rbac_types.specs.declared.identity.Identity.{Identity}
+use Rattle.kapi_model.specs.declared.identity.Identity.{Identity}
 use Rattle.kapi_rules.specs.Worked.{get_of, get_on}
 use Rattle.kapi_rules.specs.Rules.{allows}
 use Rattle.kapi_rules.specs.declared.point.Point.{Point}
@@ -15,7 +15,7 @@ use Rattle.kapi_policy.specs.Laws.{IsInOrder}
 use Rattle.kapi_policy.specs.Objects.{applied, with_object}
 use Rattle.kapi_guard.specs.Checks.{grant}
 use Rattle.kapi_guard.specs.Exempt.{binding, escalating}
-use Rattle.kapi_gains.specs.Access.{GivesNothing, IsHarmless, may, verb_of}
+use Rattle.kapi_gains.specs.Access.{GivesNothing, IsUnprivileged, may, verb_of}
 use Rattle.kapi_aggregation.specs.Members.{Has}
 use Rattle.kapi_gains.specs.States.{IsSettled}
 use Rattle.kapi_gains.specs.Steps.{AreBy, IsGuarded, Runs}
@@ -27,7 +27,7 @@ pub unsettled_in_order : IsInOrder unsettled.objects
 unfolding IsStrictlySortedBy
 unsettled_in_order = record { roles = tt; cluster_roles = ((refl, tt), (tt, tt)); role_bindings = tt; cluster_role_bindings = (tt, tt) }
 
--- she holds nothing
+-- Eve holds nothing
 holds_none : (namespace : List ℕ) → held unsettled.objects eve namespace ≡ []
 unfolding held bindings_in given rules_of
 holds_none namespace = by_case (length namespace == 0)
@@ -39,17 +39,17 @@ holds_none namespace = by_case (length namespace == 0)
 may_nothing : (namespace : List ℕ) (p : Point) → may unsettled.objects eve namespace p ≡ false
 may_nothing namespace p = allowed_where_held unsettled.objects eve namespace p ∙ rw (holds_none namespace) refl
 
-eve_harmless : IsHarmless unsettled.objects eve
-eve_harmless = record {
+eve_unprivileged : IsUnprivileged unsettled.objects eve
+eve_unprivileged = record {
   no_master = refl;
   no_escalate = λ namespace kind name. may_nothing namespace _;
   no_bind = λ namespace role. may_nothing namespace _;
   no_impersonate = λ namespace p is. may_nothing namespace p;
 }
 
-pub unsettled_harmless : (who : Identity) → Has (eve ∷ []) who → IsHarmless unsettled.objects who
-unsettled_harmless who (inl same) = rw (← same) eve_harmless
-unsettled_harmless who (inr never) = absurd never
+pub unsettled_unprivileged : (who : Identity) → Has (eve ∷ []) who → IsUnprivileged unsettled.objects who
+unsettled_unprivileged who (inl same) = rw (← same) eve_unprivileged
+unsettled_unprivileged who (inr never) = absurd never
 
 pub unsettled_runs : Runs unsettled turn_of_b filled
 unfolding applied with_object union_for
@@ -59,7 +59,7 @@ pub unsettled_gains : GivesNothing (eve ∷ []) unsettled.objects filled.objects
 unfolding decided granted granted_by given bindings_in rules_of
 unsettled_gains nothing = absurd (let never = nothing eve [] (get_of (codes "pods")) refl refl in cc never)
 
--- ---- not harmless
+-- ---- not unprivileged
 
 pub binder_in_order : IsInOrder binder.objects
 unfolding IsStrictlySortedBy
@@ -79,7 +79,7 @@ pub binder_gains : GivesNothing (eve ∷ []) binder.objects bound.objects → �
 unfolding decided granted granted_by given bindings_in rules_of
 binder_gains nothing = absurd (let never = nothing eve [] (get_of (codes "pods")) refl refl in cc never)
 
--- ---- settled, with a harmless user
+-- ---- settled, with a unprivileged user
 
 holds_one : (namespace : List ℕ) → held filled.objects eve namespace ≡ get_on (codes "pods") ∷ []
 unfolding held bindings_in given rules_of
@@ -96,17 +96,17 @@ other_verb : (p : Point) → verb_of p ≡ codes "impersonate" → (allows (get_
 other_verb (point.Resource p) is = rw is refl
 other_verb (point.Url p) is = rw is refl
 
-still_harmless : IsHarmless filled.objects eve
-still_harmless = record {
+still_unprivileged : IsUnprivileged filled.objects eve
+still_unprivileged = record {
   no_master = refl;
   no_escalate = λ namespace kind name. may_by_one namespace (escalating kind name);
   no_bind = λ namespace role. may_by_one namespace (binding role);
   no_impersonate = λ namespace p is. may_by_one namespace p ∙ other_verb p is;
 }
 
-filled_harmless : (who : Identity) → Has (eve ∷ []) who → IsHarmless filled.objects who
-filled_harmless who (inl same) = rw (← same) still_harmless
-filled_harmless who (inr never) = absurd never
+filled_unprivileged : (who : Identity) → Has (eve ∷ []) who → IsUnprivileged filled.objects who
+filled_unprivileged who (inl same) = rw (← same) still_unprivileged
+filled_unprivileged who (inr never) = absurd never
 
 filled_settled : IsSettled filled
 unfolding union_for
@@ -117,7 +117,7 @@ unfolding IsStrictlySortedBy
 filled_in_order = record { roles = tt; cluster_roles = ((refl, tt), (tt, tt)); role_bindings = tt; cluster_role_bindings = (tt, tt) }
 
 pub filled_guarded : IsGuarded (eve ∷ []) filled
-filled_guarded = record { order = filled_in_order; settled = filled_settled; harmless = filled_harmless }
+filled_guarded = record { order = filled_in_order; settled = filled_settled; unprivileged = filled_unprivileged }
 
 pub eve_may_get : may filled.objects eve [] (get_of (codes "pods")) ≡ true
 unfolding decided granted granted_by given bindings_in rules_of

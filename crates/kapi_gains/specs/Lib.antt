@@ -3,3 +3,5 @@ pub mod Access
 pub mod Steps
 pub mod Within
 pub mod Worked
+pub mod StoredStates
+pub mod Runs

@@ -1,9 +1,10 @@
--- A policy as it stands: its objects, and the labels by which cluster roles are aggregated (Kubernetes, 'Using RBAC Authorization', 'Aggregated ClusterRoles').
+-- The state of a policy: its objects, and the labels by which cluster roles are aggregated (Kubernetes, 'Using RBAC
+-- Authorization', 'Aggregated ClusterRoles').
 use Rattle.std.specs.Prelude.{ℕ, List, map, Option}
 use Rattle.std.specs.Map.{lookup}
 use Rattle.std.specs.Str.{bytes_eq}
 use Rattle.serde_json.specs.Data.{Data}
-use Rattle.kapi_rbac_types.specs.declared.role.ClusterRole.{ClusterRole}
+use Rattle.kapi_model.specs.declared.role.ClusterRole.{ClusterRole}
 use Rattle.kapi_aggregation.specs.Roles.{Labelled}
 use Rattle.kapi_aggregation.specs.Turns.{turn_of}
 use Rattle.kapi_aggregation.specs.Unions.{IsSettled as AreUnions}

@@ -1,10 +1,12 @@
--- How a policy changes: by writes that the check against escalation grants, by deletions, and by turns of aggregated cluster roles (Kubernetes, 'Using RBAC Authorization', 'Privilege escalation prevention and bootstrapping' and 'Aggregated ClusterRoles').
+-- How a policy changes: by writes that the check against escalation grants, by deletions, and by turns of aggregated
+-- cluster roles (Kubernetes, 'Using RBAC Authorization', 'Privilege escalation prevention and bootstrapping' and
+-- 'Aggregated ClusterRoles').
 use Rattle.std.specs.Prelude.{◌≡◌, ℕ, true, false, if◌then◌else◌, List, [], ◌∷◌, Option, Some}
 use Rattle.std.specs.List.{AllByRecursion}
 use Rattle.std.specs.Str.{bytes_eq}
 use Rattle.serde_json.specs.Data.{Data}
-use Rattle.kapi_rbac_types.specs.declared.identity.Identity.{Identity}
-use Rattle.kapi_rbac_types.specs.declared.role.ClusterRole.{ClusterRole}
+use Rattle.kapi_model.specs.declared.identity.Identity.{Identity}
+use Rattle.kapi_model.specs.declared.role.ClusterRole.{ClusterRole}
 use Rattle.kapi_aggregation.specs.declared.turn.Turn.{Turn}
 use Rattle.kapi_policy.specs.Laws.{IsInOrder}
 use Rattle.kapi_policy.specs.Objects.{applied}
@@ -16,13 +18,13 @@ use Rattle.kapi_policy.specs.declared.change.PolicyPut.TheVariants as put
 use Rattle.kapi_guard.specs.Checks.{grant}
 use Rattle.kapi_guard.specs.Writes.{put_of}
 use Rattle.kapi_guard.specs.declared.write.PolicyWrite.{PolicyWrite}
-use Rattle.kapi_gains.specs.Access.{ActsAs, IsHarmless}
+use Rattle.kapi_gains.specs.Access.{ActsAs, IsUnprivileged}
 use Rattle.kapi_aggregation.specs.Members.{Has}
 use Rattle.kapi_gains.specs.States.{IsSettled, Labels, PolicyState, cluster_role_at, turned}
 
 -- ---- one step
 
--- who writes, as whom, what, and the labels that a cluster role has that is written
+-- a write: its caller, its effective identity, its object, and the labels of a cluster role that is written
 pub record MadeWrite : Type 0 where
   pub writer : Identity
   pub made_as : Identity
@@ -53,14 +55,14 @@ DropsLabels (key.ClusterRole name) old new = (q : List ℕ) → bytes_eq q name 
 DropsLabels (key.RoleBinding place) old new = KeepsLabels old new
 DropsLabels (key.ClusterRoleBinding name) old new = KeepsLabels old new
 
--- the object is written, as the check grants it to the identity that it is made as
+-- the object is written, as the check grants it to the write's effective identity
 pub record IsWritten (old : PolicyState) (w : MadeWrite) (new : PolicyState) : Type 0 where
   pub acts : ActsAs old.objects w.writer w.made_as
   pub granted : grant old.objects w.made_as w.write ≡ true
   pub objects : new.objects ≡ applied (change.Put (put_of w.write.object)) old.objects
   pub labels : SetsLabels (put_of w.write.object) w.labels old.labels new.labels
 
--- the object is deleted, by whomever
+-- the object is deleted, by any identity
 pub record IsDeleted (old : PolicyState) (k : PolicyKey) (new : PolicyState) : Type 0 where
   pub objects : new.objects ≡ applied (change.Delete k) old.objects
   pub labels : DropsLabels k old.labels new.labels
@@ -72,7 +74,7 @@ pub record IsTurned (old : PolicyState) (name : List ℕ) (new : PolicyState) : 
   pub objects : new.objects ≡ applied (change.Put (put.ClusterRole name (turned old.objects old.labels name role))) old.objects
   pub labels : KeepsLabels old.labels new.labels
 
--- the rules of the turn stand in place of those of the cluster role that it names
+-- the cluster role that the turn names has the rules of the turn
 pub record IsRewritten (old : PolicyState) (turn : Turn) (new : PolicyState) : Type 0 where
   pub role : ClusterRole
   pub found : cluster_role_at old.objects turn.name ≡ Some role
@@ -92,18 +94,18 @@ abbrev pub Runs : PolicyState → List PolicyStep → PolicyState → Type 0
 Runs old [] new = (new.objects ≡ old.objects) × KeepsLabels old.labels new.labels
 Runs old (step ∷ steps) new = (next : PolicyState) × (Makes old step next × Runs next steps new)
 
--- a write is made by one of them; a deletion and a turn by anybody
+-- a write is made by one of the identities; a deletion and a turn by any
 abbrev pub IsBy : List Identity → PolicyStep → Type 0
 IsBy acting (writes w) = Has acting w.writer
 IsBy acting (deletes k) = Unit {0}
 IsBy acting (turns name) = Unit {0}
 
--- each write is made by one of those who act
+-- each write is made by one of the acting identities
 abbrev pub AreBy : List Identity → List PolicyStep → Type 0
 AreBy acting steps = AllByRecursion (IsBy acting) steps
 
--- the lists are in the order of their names, the aggregated cluster roles are settled, and those who act are harmless
+-- the lists are in the order of their names, aggregated cluster roles are settled, and acting identities unprivileged
 pub record IsGuarded (acting : List Identity) (start : PolicyState) : Type 0 where
   pub order : IsInOrder start.objects
   pub settled : IsSettled start
-  pub harmless : (who : Identity) → Has acting who → IsHarmless start.objects who
+  pub unprivileged : (who : Identity) → Has acting who → IsUnprivileged start.objects who

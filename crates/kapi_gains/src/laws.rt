@@ -1,7 +1,7 @@
-//! Laws of runs, each the clause of a function that does nothing. A run leads from a settled policy, by any writes, deletions and
-//! turns; those who write are harmless at its start.
+//! Laws of runs, each the clause of a function that does nothing. A run leads from a settled policy, by any writes,
+//! deletions and turns; the acting identities, which make the writes, are unprivileged at its start.
 ghost use Rattle.std.specs.Prelude.{◌≡◌, ◌∷◌, List, [], None, Ok, Some, codes, true};
-ghost use Rattle.kapi_rbac_types.specs.declared.identity.Identity.{Identity};
+ghost use Rattle.kapi_model.specs.declared.identity.Identity.{Identity};
 ghost use Rattle.kapi_rules.specs.Worked.{get_of};
 ghost use Rattle.kapi_aggregation.specs.Turns.{next};
 ghost use Rattle.kapi_aggregation.specs.declared.turn.Turn.{Turn};
@@ -9,27 +9,27 @@ ghost use Rattle.kapi_policy.specs.Laws.{IsInOrder};
 ghost use Rattle.kapi_policy.specs.Objects.{PolicyObjects};
 ghost use Rattle.kapi_guard.specs.Checks.{checked, grant};
 ghost use Rattle.kapi_guard.specs.declared.write.PolicyWrite.{PolicyWrite};
-ghost use Rattle.kapi_gains.specs.Access.{GivesNothing, IsHarmless, may};
+ghost use Rattle.kapi_gains.specs.Access.{GivesNothing, IsUnprivileged, may};
 ghost use Rattle.kapi_aggregation.specs.Members.{Has};
 ghost use Rattle.kapi_gains.specs.States.{IsSettled, PolicyState, labelled_roles};
 ghost use Rattle.kapi_gains.specs.Steps.{AreBy, IsGuarded, IsRewritten, IsTurned, PolicyStep, Runs};
 ghost use Rattle.kapi_gains.specs.Within.{ActorsHoldOwn, BindingsStayWithin, RolesStayWithin, TurnsStayWithin};
 ghost use Rattle.kapi_gains.specs.Worked.{binder, binding_of_a, bound, eve, filled, turn_of_b, unsettled};
 
-/// Nobody gains what no actor held: whatever is allowed to anybody in a namespace, or cluster-wide, after the run was allowed
-/// there at its start to him or to one of those who write.
+/// Nobody gains what no actor held: whatever is allowed to an identity in a namespace, or cluster-wide, after the run
+/// was allowed there at its start to that identity or to one of those acting.
 pub fn nobody_gains_what_no_actor_held()
     ensures { (acting : List Identity) (start now : PolicyState) (steps : List PolicyStep)
         → IsGuarded acting start → AreBy acting steps → Runs start steps now → GivesNothing acting start.objects now.objects }
 {}
 
-/// Who writes holds at no time more than those who write held at the start.
+/// An acting identity holds at no time more than the acting identities held at the start.
 pub fn actors_hold_what_actors_held()
     ensures { (acting : List Identity) (start now : PolicyState) (steps : List PolicyStep)
         → IsGuarded acting start → AreBy acting steps → Runs start steps now → ActorsHoldOwn acting start.objects now.objects }
 {}
 
-/// The rules of a role, and of the role of a binding, are what those who write held at the start, or were there.
+/// The rules of a role, and of the role of a binding, are what the acting identities held at the start, or were there.
 pub fn what_is_written_stays_within()
     ensures roles { (acting : List Identity) (start now : PolicyState) (steps : List PolicyStep)
         → IsGuarded acting start → AreBy acting steps → Runs start steps now → RolesStayWithin acting start.objects now.objects }
@@ -37,14 +37,13 @@ pub fn what_is_written_stays_within()
         → IsGuarded acting start → AreBy acting steps → Runs start steps now → BindingsStayWithin acting start.objects now.objects }
 {}
 
-/// What a turn would give an aggregated cluster role is what those who write held at the start, or the cluster role has it.
+/// What a turn would add to an aggregated cluster role is what the acting identities held at the start, or in the role.
 pub fn what_a_turn_writes_stays_within()
     ensures { (acting : List Identity) (start now : PolicyState) (steps : List PolicyStep)
         → IsGuarded acting start → AreBy acting steps → Runs start steps now → TurnsStayWithin acting start.objects now.objects now.labels }
 {}
 
-/// The writes of a run are those that pass the check, and its turns those that come next; where none comes next, the policy is
-/// settled.
+/// The writes of a run pass the check, and its turns are the next ones; where none is next, the policy is settled.
 pub fn checks_and_turns_make_runs()
     ensures writes { (objects : PolicyObjects) (identity : Identity) (write : PolicyWrite)
         → checked objects identity write ≡ Ok tt → grant objects identity write ≡ true }
@@ -53,21 +52,21 @@ pub fn checks_and_turns_make_runs()
     ensures settled { (state : PolicyState) → next (labelled_roles state.objects state.labels) ≡ None → IsSettled state }
 {}
 
-/// Such runs there are: in a settled policy a user who may do something is harmless.
-pub fn harmless_users_may_do_something()
+/// Runs exist: in a settled policy a user who may do something is unprivileged.
+pub fn unprivileged_users_may_do_something()
     ensures guarded { IsGuarded (eve ∷ []) filled }
     ensures allowed { may filled.objects eve [] (get_of (codes "pods")) ≡ true }
 {}
 
-/// Where the policy is not settled this fails: a turn gives a user the rules that the aggregated cluster role has not taken yet.
+/// Where the policy is not settled the law fails: a turn gives a user rules that the aggregated role has not taken yet.
 pub fn turns_of_unsettled_policies_give_more()
     ensures order { IsInOrder unsettled.objects }
-    ensures harmless { (who : Identity) → Has (eve ∷ []) who → IsHarmless unsettled.objects who }
+    ensures unprivileged { (who : Identity) → Has (eve ∷ []) who → IsUnprivileged unsettled.objects who }
     ensures runs { Runs unsettled turn_of_b filled }
     ensures gains { GivesNothing (eve ∷ []) unsettled.objects filled.objects → ⊥ }
 {}
 
-/// Where somebody who writes may bind it fails too: she binds herself to a cluster role with rules that she does not hold.
+/// Where an acting identity may bind the law fails too: Eve binds herself to a role with rules that she does not hold.
 pub fn who_may_bind_gains_more()
     ensures order { IsInOrder binder.objects }
     ensures settled { IsSettled binder }

@@ -5,15 +5,15 @@ use Rattle.std.specs.Prelude.{OnOk}
 use Rattle.std.specs.Result.{is_ok}
 use Rattle.std.proofs.lemmas.Bool.{and_parts}
 use Rattle.kapi_text.specs.Gives.{Gives, ◌>>=◌}
-use Rattle.kapi_names.specs.declared.kinds.RoleKind.{RoleKind}
-use Rattle.kapi_names.specs.declared.kinds.RoleKind.TheVariants as role_kind
-use Rattle.kapi_rbac_types.specs.Identities.{is_master}
-use Rattle.kapi_rbac_types.specs.declared.identity.Identity.{Identity}
-use Rattle.kapi_names.specs.declared.policy_rule.PolicyRule.{PolicyRule}
-use Rattle.kapi_names.specs.declared.aggregation_rule.AggregationRule.{AggregationRule}
-use Rattle.kapi_rbac_types.specs.declared.role.ClusterRole.{ClusterRole}
-use Rattle.kapi_rbac_types.specs.declared.role.Role.{Role}
-use Rattle.kapi_names.specs.declared.role_ref.RoleRef.{RoleRef}
+use Rattle.kapi_model.specs.declared.kinds.RoleKind.{RoleKind}
+use Rattle.kapi_model.specs.declared.kinds.RoleKind.TheVariants as role_kind
+use Rattle.kapi_model.specs.Identities.{is_master}
+use Rattle.kapi_model.specs.declared.identity.Identity.{Identity}
+use Rattle.kapi_model.specs.declared.policy_rule.PolicyRule.{PolicyRule}
+use Rattle.kapi_model.specs.declared.aggregation_rule.AggregationRule.{AggregationRule}
+use Rattle.kapi_model.specs.declared.role.ClusterRole.{ClusterRole}
+use Rattle.kapi_model.specs.declared.role.Role.{Role}
+use Rattle.kapi_model.specs.declared.role_ref.RoleRef.{RoleRef}
 use Rattle.kapi_rules.proofs.Covers.{both, itself}
 use Rattle.kapi_rules.specs.Missing.{missing}
 use Rattle.kapi_policy.specs.Decided.{held}

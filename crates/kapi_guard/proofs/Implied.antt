@@ -5,7 +5,7 @@ use Rattle.std.proofs.lemmas.Bool.{and_parts, or_cases}
 use Rattle.std.proofs.lemmas.Grind.{flat_map-append}
 use Rattle.std.proofs.lemmas.List.Folds.{list_all-append, list_any-append}
 use Rattle.std.specs.List.{filter, flat_map, fold, list_all, list_any}
-use Rattle.kapi_names.specs.declared.policy_rule.PolicyRule.{PolicyRule}
+use Rattle.kapi_model.specs.declared.policy_rule.PolicyRule.{PolicyRule}
 use Rattle.kapi_rules.proofs.Covers.{both, implies_onward}
 use Rattle.kapi_rules.proofs.Law.{any_weaker}
 use Rattle.kapi_rules.proofs.Parts.{any_flat_map}
@@ -45,7 +45,7 @@ all_same : {X : Type 0} (p q : X → Bool) (xs : List X) → ((x : X) → p x �
 all_same p q [] same = refl
 all_same p q (x ∷ xs) same = rw (same x, all_same p q xs same) refl
 
--- an atom is not missing just where one that is held implies it
+-- an atom is not missing just where a held atom implies it
 held_or_missing : (own : List PolicyRule) (a : Atom) → not (is_missing own a) ≡ list_any (λ h. implies h a) (flat_map atoms own)
 unfolding rule_implies
 held_or_missing own a =

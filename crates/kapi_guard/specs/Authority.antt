@@ -1,6 +1,6 @@
 -- Full authority: to do everything with everything.
 use Rattle.std.specs.Prelude.{List, [], ◌∷◌}
-use Rattle.kapi_names.specs.declared.policy_rule.PolicyRule.{PolicyRule}
+use Rattle.kapi_model.specs.declared.policy_rule.PolicyRule.{PolicyRule}
 use Rattle.kapi_rules.specs.Entries.{star}
 
 -- all verbs on all resources of all groups, whatever their names
@@ -23,6 +23,6 @@ all_urls = record {
   non_resource_urls = star ∷ [];
 }
 
--- the two together
+-- all verbs on all resources and on all URLs
 abbrev pub full_authority : List PolicyRule
 full_authority = all_resources ∷ all_urls ∷ []

@@ -1,9 +1,10 @@
--- The check against escalation (Kubernetes, 'Using RBAC Authorization', 'Privilege escalation prevention and bootstrapping').
+-- The check against escalation (Kubernetes, 'Using RBAC Authorization', 'Privilege escalation prevention and
+-- bootstrapping').
 use Rattle.std.specs.Prelude.{◌≡◌, ◌==◌, Bool, true, false, not, ◌&&◌, ◌||◌, if◌then◌else◌, List, length, Option, Some, None, Result, Ok, Err}
 use Rattle.std.specs.List.{flat_map, list_all, list_any}
 use Rattle.kapi_text.specs.Gives.{◌>>=◌}
-use Rattle.kapi_rbac_types.specs.declared.identity.Identity.{Identity}
-use Rattle.kapi_names.specs.declared.policy_rule.PolicyRule.{PolicyRule}
+use Rattle.kapi_model.specs.declared.identity.Identity.{Identity}
+use Rattle.kapi_model.specs.declared.policy_rule.PolicyRule.{PolicyRule}
 use Rattle.kapi_rules.specs.Atoms.{atoms, implies}
 use Rattle.kapi_rules.specs.Missing.{missing}
 use Rattle.kapi_rules.specs.declared.atom.Atom.{Atom}
@@ -32,7 +33,8 @@ holds_found own (Some rules) = holds_all own rules
 abbrev pub holds_authority : List PolicyRule → WrittenObject → Bool
 holds_authority own o = not (is_aggregated o) || holds_all own full_authority
 
--- the identity may make the write: he is exempt, or holds its rules, which exist, and the authority that it needs, in its scope
+-- the identity may make the write: it is exempt, or holds the rules, which exist, and the authority, in the write's
+-- scope
 unfoldable pub grant : PolicyObjects → Identity → PolicyWrite → Bool
 grant objects identity w =
     is_exempt objects identity w
@@ -43,8 +45,8 @@ grant objects identity w =
 abbrev pub implies_each : List PolicyRule → List PolicyRule → Bool
 implies_each own rules = list_all (λ a. list_any (λ h. implies h a) (flat_map atoms own)) (flat_map atoms rules)
 
--- the object stays within what the identity holds in its scope: its rules exist, and each of their atoms is implied by one that
--- is held; and so is each of full authority where a cluster role takes its rules from others
+-- the object stays within what the identity holds in its scope: its rules exist, and each of their atoms is implied by
+-- one that is held; each atom of full authority is held too where a cluster role takes its rules from others
 pub record IsWithin (objects : PolicyObjects) (identity : Identity) (o : WrittenObject) : Type 0 where
   pub rules : List PolicyRule
   pub found : wanted objects o ≡ Some rules
@@ -53,14 +55,14 @@ pub record IsWithin (objects : PolicyObjects) (identity : Identity) (o : Written
 
 -- ---- why a write is refused
 
--- a role that changed, a role that is not there, what is missing of the rules, and what of full authority
+-- a role reference that changed, a role that does not exist, the missing atoms of the rules, or of full authority
 pub data Fault : Type 0 where
   role_ref_changed : Fault
   role_not_found : Fault
   lacks : List Atom → Fault
   lacks_authority : List Atom → Fault
 
--- the fault that a refusal tells; want of memory is none
+-- the fault that a refusal reports; running out of memory is none
 abbrev pub fault_of : Refused → Option Fault
 fault_of (refused.Missing list) = Some (lacks list)
 fault_of (refused.NeedsFullAuthority list) = Some (lacks_authority list)
@@ -80,11 +82,11 @@ none_missing own rules = if holds_all own rules then Ok tt else Err (lacks (miss
 abbrev pub authority_held : List PolicyRule → WrittenObject → Result (Unit {0}) Fault
 authority_held own o = if holds_authority own o then Ok tt else Err (lacks_authority (missing own full_authority))
 
--- the rules are held, and so is the authority
+-- the rules are held, and full authority where it is needed
 unfoldable pub all_held : List PolicyRule → WrittenObject → List PolicyRule → Result (Unit {0}) Fault
 all_held own o rules = none_missing own rules >>= λ u. authority_held own o
 
--- the rules exist and are held, and so is the authority
+-- the rules exist and are held, and full authority where it is needed
 unfoldable pub rules_held : PolicyObjects → Identity → WrittenObject → Option (List PolicyRule) → Result (Unit {0}) Fault
 rules_held objects identity o None = Err role_not_found
 rules_held objects identity o (Some rules) = all_held (held objects identity (scope o)) o rules
@@ -95,7 +97,7 @@ checked objects identity w =
     role_kept w.object
     >>= λ u. (if is_exempt objects identity w then Ok tt else rules_held objects identity w.object (wanted objects w.object))
 
--- the answer tells whether that is so, unless memory ran out
+-- the answer reports whether the check passes, unless it is out of memory
 abbrev pub Tells : Result (Unit {0}) Refused → Bool → Type 0
 Tells (Ok u) so = so ≡ true
 Tells (Err refused.Memory) so = Unit {0}

@@ -1,10 +1,11 @@
--- Who writes rules without holding them (Kubernetes, 'Using RBAC Authorization', 'Restrictions on role creation or update' and 'Restrictions on role binding creation or update').
+-- Which identities write rules without holding them (Kubernetes, 'Using RBAC Authorization', 'Restrictions on role
+-- creation or update' and 'Restrictions on role binding creation or update').
 use Rattle.std.specs.Prelude.{ℕ, List, [], Bool, codes}
-use Rattle.kapi_names.specs.Kinds.{rbac_group}
-use Rattle.kapi_names.specs.declared.kinds.RoleKind.{RoleKind}
-use Rattle.kapi_names.specs.declared.kinds.RoleKind.TheVariants as role_kind
-use Rattle.kapi_rbac_types.specs.declared.identity.Identity.{Identity}
-use Rattle.kapi_names.specs.declared.role_ref.RoleRef.{RoleRef}
+use Rattle.kapi_model.specs.Kinds.{rbac_group}
+use Rattle.kapi_model.specs.declared.kinds.RoleKind.{RoleKind}
+use Rattle.kapi_model.specs.declared.kinds.RoleKind.TheVariants as role_kind
+use Rattle.kapi_model.specs.declared.identity.Identity.{Identity}
+use Rattle.kapi_model.specs.declared.role_ref.RoleRef.{RoleRef}
 use Rattle.kapi_rules.specs.declared.point.Point.{Point}
 use Rattle.kapi_rules.specs.declared.point.Point.TheVariants as point
 use Rattle.kapi_policy.specs.Decided.{decided}
@@ -25,16 +26,15 @@ abbrev pub role_point : List ℕ → RoleKind → List ℕ → Point
 role_point verb kind name =
     point.Resource (record { verb = verb; group = rbac_group; resource = plural kind; subresource = []; name = name })
 
--- to write a role with rules that one does not hold
+-- to write a role with rules that the identity does not hold
 abbrev pub escalating : RoleKind → List ℕ → Point
 escalating kind name = role_point (codes "escalate") kind name
 
--- to bind a role with rules that one does not hold
+-- to bind a role with rules that the identity does not hold
 abbrev pub binding : RoleRef → Point
 binding role = role_point (codes "bind") role.kind role.name
 
--- what he may who writes the object without holding its rules: to escalate the roles of the name that the request asks for, or to
--- bind the role
+-- the point that exempts a write: to escalate the roles of the name that the request asks for, or to bind the role
 abbrev pub exemption : List ℕ → WrittenObject → Point
 exemption request_name (written.Role place versions) = escalating role_kind.Role request_name
 exemption request_name (written.ClusterRole name versions) = escalating role_kind.ClusterRole request_name

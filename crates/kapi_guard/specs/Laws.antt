@@ -1,9 +1,9 @@
 -- Writes that the laws speak of.
 use Rattle.std.specs.Prelude.{ℕ, List, Option, Some, None}
-use Rattle.kapi_names.specs.declared.policy_rule.PolicyRule.{PolicyRule}
-use Rattle.kapi_names.specs.declared.aggregation_rule.AggregationRule.{AggregationRule}
-use Rattle.kapi_rbac_types.specs.declared.role.ClusterRole.{ClusterRole}
-use Rattle.kapi_rbac_types.specs.declared.role.Role.{Role}
+use Rattle.kapi_model.specs.declared.policy_rule.PolicyRule.{PolicyRule}
+use Rattle.kapi_model.specs.declared.aggregation_rule.AggregationRule.{AggregationRule}
+use Rattle.kapi_model.specs.declared.role.ClusterRole.{ClusterRole}
+use Rattle.kapi_model.specs.declared.role.Role.{Role}
 use Rattle.kapi_policy.specs.declared.change.NamespacedName.{NamespacedName}
 use Rattle.kapi_policy.specs.declared.change.PolicyPut.{PolicyPut}
 use Rattle.kapi_policy.specs.declared.change.PolicyPut.TheVariants as put
@@ -11,14 +11,14 @@ use Rattle.kapi_guard.specs.declared.write.PolicyWrite.{PolicyWrite}
 use Rattle.kapi_guard.specs.declared.write.WrittenObject.{WrittenObject}
 use Rattle.kapi_guard.specs.declared.write.WrittenObject.TheVariants as written
 
--- the object stood at its place just as it is to stand
+-- the write leaves its object as it was stored
 abbrev pub unchanged : PolicyPut → WrittenObject
 unchanged (put.Role place role) = written.Role place (record { old = Some role; new = role })
 unchanged (put.ClusterRole name role) = written.ClusterRole name (record { old = Some role; new = role })
 unchanged (put.RoleBinding place binding) = written.RoleBinding place (record { old = Some binding; new = binding })
 unchanged (put.ClusterRoleBinding name binding) = written.ClusterRoleBinding name (record { old = Some binding; new = binding })
 
--- nothing stood at its place
+-- the write creates its object
 abbrev pub created : PolicyPut → WrittenObject
 created (put.Role place role) = written.Role place (record { old = None; new = role })
 created (put.ClusterRole name role) = written.ClusterRole name (record { old = None; new = role })

@@ -1,17 +1,16 @@
-//! Who writes rules without holding them.
+//! Which identities write rules without holding them.
 ghost use Rattle.std.specs.Prelude.{◌≡◌, IfOk, codes};
 ghost use Rattle.kapi_guard.specs.Exempt.{binding as binding_of, escalating as escalating_of, exemption as exemption_of, is_exempt as is_exempt_by, plural as plural_of, role_point as role_point_of};
 
 use crate::write::{PolicyWrite, WrittenObject};
-use kapi_names::RBAC_GROUP;
+use kapi_model::{Identity, RBAC_GROUP, RoleKind, RoleRef};
 use kapi_policy::Policy;
-use kapi_rbac_types::{Identity, RoleKind, RoleRef};
 use kapi_rules::{Point, ResourcePoint};
 use kapi_text::{Memory, Text};
 use std::alloc::Global;
 
-/// Whether the identity may write without holding the rules: where he may escalate the roles that the request asks for, or bind
-/// the role that a binding refers to. Members of `system:masters` may do both.
+/// Whether the identity may write without holding the rules: where it may escalate the roles that the request asks for,
+/// or bind the role that a binding refers to. Members of `system:masters` may do both.
 pub fn is_exempt<P: Policy>(
     alloc: Global,
     policy: &P,

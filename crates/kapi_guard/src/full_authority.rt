@@ -1,13 +1,13 @@
-//! The rules of him who may do everything.
+//! The rules that allow everything.
 ghost use Rattle.std.specs.Prelude.{◌≡◌, ◌∷◌, [], IfOk};
 ghost use Rattle.kapi_rules.specs.Entries.{star};
 ghost use Rattle.kapi_guard.specs.Authority.{all_resources as all_resources_of, all_urls as all_urls_of, full_authority as full_authority_of};
 
-use kapi_rbac_types::PolicyRule;
+use kapi_model::PolicyRule;
 use kapi_text::{Memory, Sequence, Text};
 use std::alloc::Global;
 
-/// The rule of all resources, and that of all URLs.
+/// The rule of all resources, and the rule of all URLs.
 pub fn full_authority(alloc: Global) -> Result<Vec<PolicyRule>, Memory>
     ensures { IfOk result (λ v. v.items ≡ full_authority_of) }
 {
@@ -41,7 +41,7 @@ fn all_urls(alloc: Global) -> Result<PolicyRule, Memory>
     })
 }
 
-/// The list of the one entry that stands for all.
+/// The list of the one entry that matches all.
 fn all(alloc: Global) -> Result<Sequence<Text>, Memory>
     ensures { IfOk result (λ s. s ≡ star ∷ []) }
 {

@@ -1,4 +1,4 @@
-//! Who acts as whom (Kubernetes, 'Authenticating', 'User impersonation').
+//! Which identity may impersonate which (Kubernetes, 'Authenticating', 'User impersonation').
 ghost use Rattle.std.specs.Prelude.{◌≡◌, ◌++◌, IfOk};
 ghost use Rattle.kapi_text.specs.Gives.{Gives};
 ghost use Rattle.kapi_guard.specs.Impersonation as acting;
@@ -7,17 +7,16 @@ ghost use Rattle.kapi_guard.specs.Impersonation.{denied_in, impersonated};
 use crate::impersonation_refused::ImpersonationRefused;
 use crate::questions::{denied, questions};
 use crate::service_account::service_account;
+use kapi_model::Identity;
 use kapi_policy::Policy;
-use kapi_rbac_types::Identity;
 use kapi_request_info::Impersonation;
 use kapi_text::{Memory, Sequence, Text, TryCopy};
 use std::alloc::Global;
 
-/// The identity as which a request is made: the user and the groups that it names, where the identity may impersonate each
-/// of them.
+/// The effective identity of a request: its user and groups, where the identity may impersonate each of them.
 ///
-/// A user `system:serviceaccount:NAMESPACE:NAME` is asked for as that service account. Where no groups are named it has
-/// those of service accounts; the anonymous user is unauthenticated besides, and every other is authenticated.
+/// A user `system:serviceaccount:NAMESPACE:NAME` is impersonated as that service account. Where no groups are named it
+/// has those of service accounts. The anonymous user is unauthenticated besides, every other is authenticated.
 #[tactic(auto, unfolding(crate::specs::Impersonation::impersonated))]
 pub fn check_impersonation<P: Policy>(
     alloc: Global,
@@ -47,7 +46,7 @@ fn effective(alloc: Global, wanted: &Impersonation) -> Result<Identity, Memory>
     with_group(alloc, identity, group)
 }
 
-/// The groups that are named, or where there is none those of the user.
+/// The groups that are named, or where none is named those of the user.
 #[tactic(auto, unfolding(crate::specs::Impersonation::groups_of))]
 fn groups(alloc: Global, wanted: &Impersonation) -> Result<Sequence<Text>, Memory>
     ensures { IfOk result (λ s. s ≡ acting.groups_of wanted.now) }
@@ -60,7 +59,7 @@ fn groups(alloc: Global, wanted: &Impersonation) -> Result<Sequence<Text>, Memor
 }
 
 /// The groups of a service account; other users have none of themselves.
-fn own_groups(alloc: Global, user: &str) -> Result<Sequence<Text>, Memory>
+pub fn own_groups(alloc: Global, user: &str) -> Result<Sequence<Text>, Memory>
     ensures { IfOk result (λ s. s ≡ acting.own_groups (acting.service_account user.now)) }
 {
     match service_account(alloc, user)? {
@@ -86,7 +85,8 @@ fn prefixed(alloc: Global, prefix: &str, text: &str) -> Result<Text, Memory>
     Ok(Text::new(string))
 }
 
-/// The anonymous user is unauthenticated, and so is whoever is said to be; everybody else is authenticated.
+/// The group of the authentication status: the anonymous user and members of `system:unauthenticated` are
+/// unauthenticated; all others are authenticated.
 fn standing_group(identity: &Identity) -> &'static str
     ensures { result.now ≡ acting.standing_group identity.now }
 {

@@ -5,13 +5,13 @@ use kapi_text::Sequence;
 use std::alloc::AllocError;
 use thiserror::Error;
 
-/// Why nobody is impersonated.
+/// Why an impersonation is refused.
 #[derive(Debug, Drop, Error)]
 pub enum ImpersonationRefused {
     /// These points are denied: that of the user, then those of the groups, in their order.
     #[error("impersonation is denied")]
     Missing(Sequence<Point>),
-    #[error("want of memory")]
+    #[error("out of memory")]
     Memory,
 }
 

@@ -1,6 +1,7 @@
-//! The check against escalation: nobody writes rules, or binds a role with rules, that he does not hold (Kubernetes, 'Using
-//! RBAC Authorization', 'Privilege escalation prevention and bootstrapping'). And the check of impersonation: nobody acts as
-//! somebody else who may not (Kubernetes, 'Authenticating', 'User impersonation').
+//! The check against escalation: no identity writes rules, or binds a role with rules, that it does not hold
+//! (Kubernetes, 'Using RBAC Authorization', 'Privilege escalation prevention and bootstrapping'). Also the check of
+//! impersonation: no identity acts as another that it may not impersonate (Kubernetes, 'Authenticating', 'User
+//! impersonation').
 #![tactic(auto)]
 
 mod check;
@@ -17,7 +18,7 @@ mod write;
 
 pub use check::check_write;
 pub use exemption::plural;
-pub use impersonation::check_impersonation;
+pub use impersonation::{check_impersonation, own_groups};
 pub use impersonation_refused::ImpersonationRefused;
 pub use refused::Refused;
 pub use write::{PolicyWrite, Versions, WrittenObject};

@@ -1,24 +1,24 @@
-//! What is asked of whoever impersonates (Kubernetes, 'Authenticating', 'User impersonation').
+//! The questions about the caller of an impersonation (Kubernetes, 'Authenticating', 'User impersonation').
 ghost use Rattle.std.specs.Prelude.{◌≡◌, ◌++◌, IfOk, OnOk};
 ghost use Rattle.std.specs.Prelude.{map};
 ghost use Rattle.kapi_guard.specs.Impersonation as asking;
 
 use crate::service_account::service_account;
+use kapi_model::Identity;
 use kapi_policy::Policy;
-use kapi_rbac_types::Identity;
 use kapi_request_info::Impersonation;
 use kapi_rules::{Point, ResourcePoint};
 use kapi_text::{Memory, Text, TryCopy};
 use std::alloc::Global;
 
-/// Whether a point is allowed in a namespace, or cluster-wide where that is empty.
+/// Whether a point is allowed in a namespace, or cluster-wide where the namespace is empty.
 #[derive(Debug, Drop)]
 pub struct Question {
     pub namespace: Text,
     pub point: Point,
 }
 
-/// What is asked: the user, then the groups in their order.
+/// The questions of an impersonation: the user, then the groups in their order.
 pub fn questions(alloc: Global, wanted: &Impersonation) -> Result<Vec<Question>, Memory>
     ensures { IfOk result (λ v. v.items ≡ asking.questions wanted.now) }
 {
@@ -67,7 +67,7 @@ fn question_about(
     })
 }
 
-/// To act as who has that name.
+/// The point of impersonating the user, group or service account of that name.
 fn impersonating(alloc: Global, resource: &str, name: &str) -> Result<Point, Memory>
     ensures { IfOk result (λ p. p ≡ asking.impersonating resource.now name.now) }
 {

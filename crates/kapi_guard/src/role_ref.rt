@@ -3,7 +3,7 @@ ghost use Rattle.std.specs.Prelude.{◌≡◌};
 ghost use Rattle.kapi_guard.specs.Writes.{is_same_kind as are_same_kinds, is_same_role as are_same_roles, keeps_role as keeps_role_of, keeps_role_cluster_wide as keeps_role_there, keeps_role_in_namespace as keeps_role_here};
 
 use crate::write::{Versions, WrittenObject};
-use kapi_rbac_types::{ClusterRoleBinding, RoleBinding, RoleKind, RoleRef};
+use kapi_model::{ClusterRoleBinding, RoleBinding, RoleKind, RoleRef};
 
 /// Whether a binding that is written refers to the role that it referred to.
 pub fn keeps_role(object: &WrittenObject) -> bool

@@ -2,7 +2,7 @@
 ghost use Rattle.std.specs.Prelude.{◌≡◌, IfOk};
 ghost use Rattle.kapi_guard.specs.Impersonation.{account_in as account_in_text, named_account, service_account as service_account_of};
 
-use kapi_names::{ServiceAccount, check_namespace_name, check_object_name};
+use kapi_model::{ServiceAccount, check_namespace_name, check_object_name};
 use kapi_request_info::behind;
 use kapi_text::{Memory, Text};
 use std::alloc::Global;
@@ -29,7 +29,7 @@ fn account_in(alloc: Global, text: &str) -> Result<Option<ServiceAccount>, Memor
     }
 }
 
-/// The account of a namespace and a name, where they are such names.
+/// The account of a namespace and a name, where they are a DNS label and a DNS subdomain.
 fn account(alloc: Global, namespace: &str, name: &str) -> Result<Option<ServiceAccount>, Memory>
     ensures { IfOk result (λ o. o ≡ named_account namespace.now name.now) }
 {

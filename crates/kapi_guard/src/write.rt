@@ -2,18 +2,19 @@ ghost use Rattle.std.specs.Prelude.{◌≡◌, ◌||◌};
 ghost use Rattle.std.specs.Option.{is_some};
 ghost use Rattle.kapi_guard.specs.Writes.{is_aggregated as has_aggregation_rule, put_of, scope as scope_of, was_aggregated as was_aggregated_at};
 
+use kapi_model::{ClusterRole, ClusterRoleBinding, Role, RoleBinding};
 use kapi_policy::{NamespacedName, PolicyPut};
-use kapi_rbac_types::{ClusterRole, ClusterRoleBinding, Role, RoleBinding};
 use kapi_text::Text;
 
-/// An object as it stood, if it did, and as it is to stand.
+/// The old version of an object, if there was one, and the new version.
 #[derive(Debug, Drop)]
 pub struct Versions<T> {
     pub old: Option<T>,
     pub new: T,
 }
 
-/// A create, update or patch of a policy object: the name that its request asks for, which is empty on create, and what is written.
+/// A create, update or patch of a policy object: the name that its request asks for, which is empty on create, and what
+/// is written.
 #[derive(Debug, Drop)]
 pub struct PolicyWrite {
     pub request_name: Text,
@@ -30,7 +31,7 @@ pub enum WrittenObject {
 }
 
 impl WrittenObject {
-    /// The namespace in which a write of it counts, empty where it counts cluster-wide.
+    /// The namespace in which a write of the object counts, empty where it counts cluster-wide.
     pub fn scope(&self) -> &str
         ensures { result.now ≡ scope_of self.now }
     {
@@ -42,7 +43,7 @@ impl WrittenObject {
         }
     }
 
-    /// Whether it is a cluster role that takes its rules from others, as it stood or as it is to stand.
+    /// Whether the object is a cluster role whose old or new version takes its rules from others.
     pub fn is_aggregated(&self) -> bool
         ensures { result ≡ has_aggregation_rule self.now }
     {
@@ -52,7 +53,7 @@ impl WrittenObject {
         }
     }
 
-    /// The new version at its place. Takes no memory.
+    /// The new version at its place. Allocates nothing.
     pub fn into_put(self) -> PolicyPut
         ensures { result ≡ put_of self }
     {

@@ -4,8 +4,8 @@ use Rattle.std.proofs.lemmas.List.{drop-append-le, length-take}
 use Rattle.kapi_http.specs.Chunks.{chunk_step, chunked, ending_of, in_data, is_over, no_chunks}
 use Rattle.kapi_http.specs.declared.chunks.Chunks.{Chunks}
 use Rattle.kapi_http.specs.declared.chunks.Ending.TheVariants as ending
-use Rattle.kapi_http.specs.declared.chunks.Spot.{Spot}
-use Rattle.kapi_http.specs.declared.chunks.Spot.TheVariants.{SizeLine, SizeCr, Data, DataEnd, DataCr, LastLine, LastCr, Whole, Wrong, TooLarge}
+use Rattle.kapi_http.specs.declared.chunks.ChunkState.{ChunkState}
+use Rattle.kapi_http.specs.declared.chunks.ChunkState.TheVariants.{SizeLine, SizeCr, Data, DataEnd, DataCr, LastLine, LastCr, Whole, Wrong, TooLarge}
 
 -- nothing is read behind the end of a body
 pub chunked_over : (c : Chunks) (bytes : List ℕ) → is_over c.spot ≡ true → chunked c bytes ≡ c
@@ -24,7 +24,7 @@ chunked_append c (x ∷ a) b = by_spot (is_over c.spot) refl (chunked_append (ch
     by_spot true e more = rw e (sym (chunked_over c b e))
     by_spot false e more = rw e more
 
--- some bytes at the front are read, and these alone tell what is said
+-- the state after some bytes depends only on the bytes that were read
 pub chunked_take : (c : Chunks) (bytes : List ℕ)
     → (n : ℕ) × (n ≤ length bytes) × ((chunked c bytes).at ≡ c.at + n) × (chunked c (take n bytes) ≡ chunked c bytes)
 unfolding chunked
@@ -75,7 +75,7 @@ pub chunks_within : (bytes : List ℕ) → (chunked no_chunks bytes).at ≤ leng
 chunks_within bytes = let front = chunked_take no_chunks bytes in omega (arith, front.1, front.2)
 
 -- a body that is open goes on, and one that is not does not
-pub open_goes_on : (s : Spot) → ending_of s ≡ ending.Open → is_over s ≡ false
+pub open_goes_on : (s : ChunkState) → ending_of s ≡ ending.Open → is_over s ≡ false
 open_goes_on (SizeLine digits size) e = refl
 open_goes_on (SizeCr size) e = refl
 open_goes_on (Data left) e = refl
@@ -87,7 +87,7 @@ open_goes_on Whole e = absurd cc
 open_goes_on Wrong e = absurd cc
 open_goes_on TooLarge e = absurd cc
 
-pub going_is_open : (s : Spot) → is_over s ≡ false → ending_of s ≡ ending.Open
+pub going_is_open : (s : ChunkState) → is_over s ≡ false → ending_of s ≡ ending.Open
 going_is_open (SizeLine digits size) e = refl
 going_is_open (SizeCr size) e = refl
 going_is_open (Data left) e = refl
@@ -99,7 +99,7 @@ going_is_open Whole e = absurd cc
 going_is_open Wrong e = absurd cc
 going_is_open TooLarge e = absurd cc
 
-pub ended_is_over : (s : Spot) → (ending_of s ≡ ending.Open → ⊥) → is_over s ≡ true
+pub ended_is_over : (s : ChunkState) → (ending_of s ≡ ending.Open → ⊥) → is_over s ≡ true
 ended_is_over s ended = by_over (is_over s) refl
   where
     by_over : (b : Bool) → is_over s ≡ b → is_over s ≡ true
@@ -112,20 +112,20 @@ pub chunks_append : (n : ℕ) (bytes more : List ℕ) → n ≤ length bytes
 chunks_append n bytes more fits =
     ap (chunked no_chunks) (drop-append-le n bytes more fits) ∙ chunked_append no_chunks (drop n bytes) more
 
--- a body that is over tells the same, whatever follows
+-- a body that is over stays as it is, whatever follows
 pub chunks_stay : (n : ℕ) (bytes more : List ℕ) → n ≤ length bytes → is_over (chunked no_chunks (drop n bytes)).spot ≡ true
     → chunked no_chunks (drop n (bytes ++ more)) ≡ chunked no_chunks (drop n bytes)
 chunks_stay n bytes more fits over =
     chunks_append n bytes more fits ∙ chunked_over (chunked no_chunks (drop n bytes)) more over
 
--- the bytes that were read tell what is said
+-- the result depends only on the bytes that were read
 pub chunks_front : (body : List ℕ) → chunked no_chunks (take (chunked no_chunks body).at body) ≡ chunked no_chunks body
 chunks_front body =
     let front = chunked_take no_chunks body in
     let at : (chunked no_chunks body).at ≡ front.0 = omega (arith, front.2) in
     ap (λ (k : ℕ). chunked no_chunks (take k body)) at ∙ front.3
 
--- fewer of them leave the body open
+-- with fewer bytes than were read the body stays open
 pub chunks_open : (body : List ℕ) (k : ℕ) → k < (chunked no_chunks body).at → ending_of (chunked no_chunks (take k body)).spot ≡ ending.Open
 chunks_open body k below = going_is_open (chunked no_chunks (take k body)).spot (by_over (is_over (chunked no_chunks (take k body)).spot) refl)
   where

@@ -79,7 +79,7 @@ cut_first bytes = fuel (length bytes) (suc (length bytes)) bytes (omega arith) (
     by_first (Some (Ok r)) e =
         rw e (ap (with_request r) (fuel (length bytes) (length (drop r.length bytes)) (drop r.length bytes) (omega (arith, length-drop r.length bytes)) (omega arith)))
 
--- what follows a request's bytes is cut by itself
+-- the bytes behind a request's are cut by themselves
 nothing_left : (bytes : List ℕ) → drop (length bytes) bytes ≡ []
 nothing_left [] = refl
 nothing_left (b ∷ bytes) = nothing_left bytes
@@ -150,7 +150,7 @@ left_none (suc n) a fits none = by_first (first a) refl (λ rest. left_none n re
         drop-drop (total_length others.requests) r.length a in
         rw e (ap first (sym left) ∙ again rest (omega (arith, length-drop r.length a)) still)
 
--- the same of all that a text is cut to
+-- a text in two pieces is cut as the first piece, and then as what that left with the second
 cut_joined : (a b : List ℕ) → cut (a ++ b) ≡ and_then (cut a) (cut (drop (total_length (cut a).requests) a ++ b))
 unfolding cut
 cut_joined a b = cut_split (length a) a b (omega arith)

@@ -254,7 +254,7 @@ pub first_positive : (bytes : List ℕ) (r : HttpRequest) → first bytes ≡ So
 unfolding first
 first_positive bytes r e = item_positive (settled bytes) bytes r (facts bytes) e
 
--- the same of whatever is decided
+-- the first item of a text stays the first, whatever follows
 pub first_stays : (bytes more : List ℕ) → IsSome (first bytes) → first (bytes ++ more) ≡ first bytes
 first_stays bytes more some = by_answer (first bytes) refl
   where

@@ -49,7 +49,7 @@ pub first_fits : (bytes : List ℕ) (r : HttpRequest) → first bytes ≡ Some (
 unfolding first
 first_fits bytes r e = item_fits (settled bytes) bytes r (facts bytes) e
 
--- what an inbox gives next lies within its bytes
+-- what an inbox returns next lies within its bytes
 pub next_fits : (u : Unserved) (r : HttpRequest) → next_of u ≡ Some (Ok r) → r.length ≤ length u.kept
 next_fits u r e = by_end u.ended refl
   where

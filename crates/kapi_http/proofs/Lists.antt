@@ -18,7 +18,7 @@ pub none_in : (xs : List ℕ) → length xs ≡ 0 → xs ≡ []
 none_in [] e = refl
 none_in (x ∷ xs) e = absurd (omega arith)
 
--- and what is empty in the end was white space alone
+-- a text that is empty after the trim was white space alone
 pub trimmed_empty : (rest item : List ℕ) → length rest ≡ 0
     → skip_ows (reverse rest) ≡ skip_ows (reverse (skip_ows item)) → rest ≡ trim_ows item
 unfolding trim_ows

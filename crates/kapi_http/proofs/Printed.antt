@@ -73,7 +73,7 @@ settled_front bytes decided = by_end (is_ended (scanned begin (take 16384 bytes)
             settled_long s (take s.at bytes) (front_scan bytes) e enough ∙ sym (settled_long s bytes refl e long)
         by_length (inr (f, short)) = absurd (decided (settled_short (scanned begin (take 16384 bytes)) bytes refl e short))
 
--- and so is every longer front
+-- every longer front settles the same
 settled_from : (bytes : List ℕ) (k : ℕ) → (settled bytes ≡ waits → ⊥) → (scanned begin (take 16384 bytes)).at ≤ k → settled (take k bytes) ≡ settled bytes
 settled_from bytes k decided far =
     let at : ℕ = (scanned begin (take 16384 bytes)).at in
@@ -160,7 +160,7 @@ waits_by (accepted n h method Chunked) bytes k known is below = by_head (leb_tel
         ap (λ (g : Finding). item_of g (take k bytes)) (settled_from bytes k decided (omega (arith, known.4)) ∙ is)
         ∙ ap (λ (o : Ending). chunked_item n h method o (chunks_behind n (take k bytes)).at (take k bytes)) still
 
--- and by no shorter front
+-- a fault is shown by no shorter front
 pub fault_waits : (bytes : List ℕ) (k : ℕ) → k < reach bytes → first (take k bytes) ≡ None
 unfolding first
 fault_waits bytes k below = waits_by (settled bytes) bytes k (facts bytes) refl below

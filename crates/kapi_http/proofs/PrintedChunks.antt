@@ -13,19 +13,19 @@ use Rattle.std.proofs.lemmas.List.Elements.{All-head, All-tail}
 use Rattle.httparse.specs.Ascii.{crlf_bytes}
 use Rattle.httparse.specs.Grammar.{IsRequestHead, RequestHead, print_request}
 use Rattle.kapi_http.specs.ChunkText.{AreChunks, body_text, chunk, last_chunk}
-use Rattle.kapi_http.specs.Chunks.{behind_size, chunked, ending_of, in_data, is_over, joined, next_spot, no_chunks}
+use Rattle.kapi_http.specs.Chunks.{behind_size, chunked, ending_of, in_data, is_over, joined, next_state, no_chunks}
 use Rattle.kapi_http.specs.Cut.{Finding, accepted, chunked_item, chunks_behind, first, item_of, request_of, settled, settled_by}
 use Rattle.kapi_http.specs.Head.{says}
 use Rattle.kapi_http.specs.Rules.{checked}
 use Rattle.kapi_http.specs.declared.chunks.Chunks.{Chunks}
-use Rattle.kapi_http.specs.declared.chunks.Spot.{Spot}
-use Rattle.kapi_http.specs.declared.chunks.Spot.TheVariants.{SizeLine, SizeCr, Data, DataEnd, DataCr, LastLine, LastCr, Whole}
+use Rattle.kapi_http.specs.declared.chunks.ChunkState.{ChunkState}
+use Rattle.kapi_http.specs.declared.chunks.ChunkState.TheVariants.{SizeLine, SizeCr, Data, DataEnd, DataCr, LastLine, LastCr, Whole}
 use Rattle.kapi_http.specs.declared.message.Method.{Method}
 use Rattle.kapi_http.specs.declared.rules.Framing.TheVariants.{Chunked}
 use Rattle.kapi_http.proofs.Chunking.{chunked_append, chunked_over}
 use Rattle.kapi_http.proofs.Printed.{settled_print}
 
-abbrev pub mk : Spot → ℕ → ℕ → Chunks
+abbrev pub mk : ChunkState → ℕ → ℕ → Chunks
 mk spot at sum = record { spot = spot; at = at; sum = sum }
 
 -- these bytes are read from there to there, and have these data
@@ -34,14 +34,14 @@ Reads c bytes found d = (chunked c bytes ≡ d) × (joined c bytes ≡ found)
 
 -- ---- one byte
 
-out_more : (s t : Spot) (at sum b : ℕ) (bytes found : List ℕ) (d : Chunks) → next_spot s sum b ≡ t → in_data s ≡ false → is_over s ≡ false → at < 1572864
+out_more : (s t : ChunkState) (at sum b : ℕ) (bytes found : List ℕ) (d : Chunks) → next_state s sum b ≡ t → in_data s ≡ false → is_over s ≡ false → at < 1572864
     → Reads (mk t (at + 1) sum) bytes found d → Reads (mk s at sum) (b ∷ bytes) found d
 unfolding chunked joined
 out_more s t at sum b bytes found d e out going fits more =
     let within = le-ltb 1572864 (at + 1) (omega arith) in
     (rw (going, out, e, within) more.0, rw (out, e, within) more.1)
 
-in_more : (s t : Spot) (at sum b : ℕ) (bytes found : List ℕ) (d : Chunks) → next_spot s sum b ≡ t → in_data s ≡ true → is_over s ≡ false → at < 1572864
+in_more : (s t : ChunkState) (at sum b : ℕ) (bytes found : List ℕ) (d : Chunks) → next_state s sum b ≡ t → in_data s ≡ true → is_over s ≡ false → at < 1572864
     → Reads (mk t (at + 1) (sum + 1)) bytes found d → Reads (mk s at sum) (b ∷ bytes) (b ∷ found) d
 unfolding chunked joined
 in_more s t at sum b bytes found d e out going fits more =
@@ -55,7 +55,7 @@ le_value_after n [] = omega arith
 le_value_after n (c ∷ cs) = omega (arith, le_value_after (n * 16 + digit_value c) cs)
 
 a_digit : (k v sum c : ℕ) → digit_value c < 16 → k < 8 → v * 16 + digit_value c ≤ 1048576
-    → next_spot (SizeLine k v) sum c ≡ SizeLine (k + 1) (v * 16 + digit_value c)
+    → next_state (SizeLine k v) sum c ≡ SizeLine (k + 1) (v * 16 + digit_value c)
 a_digit k v sum c digit few small =
     let same : min (v * 16 + digit_value c) 1048577 ≡ v * 16 + digit_value c = omega arith in
     rw (lt-ltb (digit_value c) 16 digit, lt-ltb k 8 few) (ap (SizeLine (k + 1)) same)
@@ -189,7 +189,7 @@ pub printed_read : (parts : List (List ℕ)) → AreChunks parts
     → Reads no_chunks (body_text parts) (concat parts) (mk Whole (length (body_text parts)) (length (concat parts)))
 printed_read parts are = body_read parts 0 0 (length (body_text parts)) (length (concat parts)) are.some (omega arith) are.body (omega arith) are.sent
 
--- whatever follows it
+-- a printed body is read whole, whatever follows it
 pub printed_whole : (parts : List (List ℕ)) (more : List ℕ) → AreChunks parts
     → chunked no_chunks (body_text parts ++ more) ≡ mk Whole (length (body_text parts)) (length (concat parts))
 printed_whole parts more are =

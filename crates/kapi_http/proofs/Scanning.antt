@@ -23,7 +23,7 @@ scanned_append s (x ∷ a) b = by_place (is_ended s.place) refl (scanned_append 
     by_place true e more = rw e (sym (scanned_ended s b e))
     by_place false e more = rw e more
 
--- a scan reads some bytes at the front, and these alone tell what it says
+-- the scan of some bytes depends only on the bytes at the front that were read
 pub scanned_take : (s : Scan) (bytes : List ℕ)
     → (n : ℕ) × (n ≤ length bytes) × ((scanned s bytes).at ≡ s.at + n) × (scanned s (take n bytes) ≡ scanned s bytes)
 unfolding scanned

@@ -30,7 +30,7 @@ use Rattle.kapi_http.proofs.Scanning.{scanned_append, scanned_take, scanned_all,
 
 -- ---- reading on
 
--- a text in two pieces, the first of n bytes, of which the first end bytes are looked at
+-- a text in two pieces, the first of n bytes, of which the first end bytes are read
 two_pieces : (n end : ℕ) (bytes : List ℕ) → n ≤ end → take end bytes ≡ take n bytes ++ drop n (take end bytes)
 two_pieces n end bytes fits =
     sym (ap (λ (t : List ℕ). t ++ drop n (take end bytes)) (sym (take-take n end bytes fits)) ∙ take-append-drop n (take end bytes))
@@ -52,7 +52,7 @@ lines_read s bytes e =
 pub scan_within : (bytes : List ℕ) → (scanned begin bytes).at ≤ length bytes
 scan_within bytes = let front = scanned_take begin bytes in omega (arith, front.1, front.2)
 
--- the bytes that are looked at
+-- the bytes that are read
 take_limit : (bytes : List ℕ) (end : ℕ) → end ≡ min (length bytes) 16384 → take end bytes ≡ take 16384 bytes
 take_limit bytes end e = by_length (leb_tells (length bytes) 16384)
   where
@@ -281,7 +281,7 @@ accepted_item (accepted m h method (Sized size)) bytes n t known e =
           rw yes (λ i. Some (Ok (request_of (says i) (served i) (slice_range bytes (same i) (sum i)) (sum i))));
     }
 
--- the same of the first item
+-- what is known of the first item
 pub first_waits : (bytes : List ℕ) → decision.Waits ≡ decision_of (settled bytes) bytes → first bytes ≡ None
 unfolding first
 first_waits bytes e = waits_item (settled bytes) bytes e

@@ -4,7 +4,7 @@ use Rattle.std.specs.Fmt.{digits}
 use Rattle.std.specs.List.{All, concat, flat_map}
 use Rattle.kapi_http.specs.Limits.{body_limit, sent_limit}
 
--- how many bytes, in hexadecimal of lower case without leading zeros, CRLF, the bytes, CRLF
+-- a chunk: its length in hexadecimal of lower case without leading zeros, CRLF, its bytes, CRLF
 abbrev pub chunk : List ℕ → List ℕ
 chunk bytes = digits 16 false (length bytes) ++ codes "\r\n" ++ bytes ++ codes "\r\n"
 

@@ -35,7 +35,7 @@ code_of refusal.TransferEncoding = status.NotImplemented
 code_of refusal.Chunk = status.BadRequest
 code_of refusal.BodyTooLarge = status.ContentTooLarge
 
--- its word: what is wrong with a bad request, or the method that isn't allowed
+-- the word of a refusal: what is wrong with a bad request, or the method that is not allowed
 abbrev pub word_of : Refusal → List ℕ → List ℕ
 word_of refusal.HeadTooLarge method = []
 word_of refusal.NoHead method = codes "head"
@@ -73,29 +73,29 @@ request_of h method body length = record {
 
 -- what the front of a text settles
 pub data Finding : Type 0 where
-  -- nothing yet
+  -- the text settles nothing yet
   waits : Finding
-  -- the bytes of its head, the method, empty where no head was read, and why the request is refused
+  -- the text is refused: the bytes of its head, the method, empty where no head was read, and the reason
   refused : (n : ℕ) (method : List ℕ) (why : Refusal) → Finding
-  -- the bytes of its head, what the head says, the method, and how the body's end is found
+  -- a head is accepted: its bytes, what it says, the method, and how the body's end is found
   accepted : (n : ℕ) (h : Says) (method : Method) (framing : Framing) → Finding
 
--- a head that was read, by the rules
+-- what a head that was read settles, by the rules
 abbrev pub settled_by : List ℕ → Says → Result (Method × Framing) Refusal → Finding
 settled_by head h (Ok m) = accepted (length head) h m.0 m.1
 settled_by head h (Err why) = refused (length head) h.method why
 
--- a whole head, which is one of the grammar or not
+-- what a whole head settles, which is one of the grammar or not
 abbrev pub settled_of : List ℕ → Option Says → Finding
 settled_of head None = refused (length head) [] refusal.NoHead
 settled_of head (Some h) = settled_by head h (checked h)
 
--- a whole head of so many lines: at most the request line and 64 more
+-- what a whole head of so many lines settles: at most the request line and 64 more are allowed
 abbrev pub settled_within : ℕ → List ℕ → Finding
 settled_within lines head =
     if nat_lt 65 lines then refused 0 [] refusal.HeadTooLarge else settled_of head (head_of head)
 
--- a head that is whole within 16,384 bytes, is too long, or waits
+-- what a scanned head settles: it is whole within 16,384 bytes, is too long, or waits
 abbrev pub settled_at : Scan → List ℕ → Finding
 settled_at s bytes =
     if is_ended s.place then settled_within s.lines (take s.at bytes)
@@ -132,14 +132,15 @@ item_of (accepted n h method Chunked) bytes =
 unfoldable pub first : List ℕ → Option (Result HttpRequest HttpFault)
 first bytes = item_of (settled bytes) bytes
 
--- how many bytes at the front tell what the first item is, if it is a fault: the head's, or 16,384 without its end, and those of chunks up to the body's end or its first wrong byte
+-- how many bytes at the front decide the first item, if it is a fault: the head's, or 16,384 without its end, and those
+-- of chunks up to the body's end or its first wrong byte
 abbrev pub reach_of : Finding → List ℕ → ℕ
 reach_of waits bytes = (scanned begin (take head_limit bytes)).at
 reach_of (refused n method why) bytes = (scanned begin (take head_limit bytes)).at
 reach_of (accepted n h method (Sized size)) bytes = (scanned begin (take head_limit bytes)).at
 reach_of (accepted n h method Chunked) bytes = n + (chunks_behind n bytes).at
 
--- the same of a text
+-- how many bytes at the front of a text decide its first item, if it is a fault
 abbrev pub reach : List ℕ → ℕ
 reach bytes = reach_of (settled bytes) bytes
 
@@ -148,7 +149,7 @@ pub record Cut : Type 0 where
   pub requests : List HttpRequest
   pub fault : Option HttpFault
 
--- nothing more
+-- the cut that has nothing more
 abbrev pub no_more : Cut
 no_more = record { requests = []; fault = None }
 

@@ -28,6 +28,6 @@ lists word value =
 abbrev pub asks_to_close : List FieldBytes → Bool
 asks_to_close fields = list_any (lists (codes "close")) (values (codes "connection") fields)
 
--- the fields of a head whose names and values stand there
+-- the fields of a head whose names and values are at these spans
 abbrev pub fields_at : List ℕ → List HeaderSpan → List FieldBytes
 fields_at bytes headers = map (header_bytes bytes) headers

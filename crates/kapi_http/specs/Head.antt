@@ -1,4 +1,5 @@
--- The head of a request as a function of its bytes (RFC 9112 sections 2.2, 3 and 5): what the grammar of `httparse` reads.
+-- The head of a request as a function of its bytes (RFC 9112 sections 2.2, 3 and 5): what the grammar of `httparse`
+-- reads.
 use Rattle.std.specs.Prelude.{ℕ, ◌-◌, ◌==◌, nat_lt, nat_le, if◌then◌else◌, Bool, true, false, ◌&&◌, List, [], ◌∷◌, length, drop, map, slice_index, Option, Some, None, zero, suc}
 use Rattle.std.specs.List.{list_all}
 use Rattle.std.specs.Str.{bytes_eq, is_utf8}
@@ -26,12 +27,12 @@ abbrev pub front : (ℕ → Bool) → List ℕ → List ℕ
 front test [] = []
 front test (b ∷ bytes) = if test b then b ∷ front test bytes else []
 
--- the bytes behind them
+-- the bytes behind the front that passes the test
 abbrev pub back : (ℕ → Bool) → List ℕ → List ℕ
 back test [] = []
 back test (b ∷ bytes) = if test b then back test bytes else b ∷ bytes
 
--- the line end at the front: CRLF where a CR stands there, else LF
+-- the line end at the front: CRLF where a CR comes first, else LF
 abbrev pub end_at : List ℕ → LineEnd
 end_at bytes = if slice_index bytes 0 == carriage_return then crlf else lf
 
@@ -39,7 +40,7 @@ end_at bytes = if slice_index bytes 0 == carriage_return then crlf else lf
 abbrev pub after_end : List ℕ → List ℕ
 after_end bytes = if slice_index bytes 0 == carriage_return then drop 2 bytes else drop 1 bytes
 
--- the line ends in a run of them; the flag says that a CR stands before
+-- the line ends in a run of line-end bytes; the flag says that a CR comes before
 abbrev pub ends_in : Bool → List ℕ → List LineEnd
 ends_in cr [] = []
 ends_in cr (b ∷ bytes) =
@@ -57,7 +58,7 @@ field_at bytes = record {
 abbrev pub after_field : List ℕ → List ℕ
 after_field bytes = after_end (back is_value_byte (drop 1 (back is_token_byte bytes)))
 
--- a line of the field section and those behind it
+-- a line of the field section and the lines behind it
 abbrev pub with_field : Field → List Field × LineEnd → List Field × LineEnd
 with_field f s = (f ∷ s.0, s.1)
 
@@ -80,17 +81,17 @@ from_version blank method target bytes = record {
   last = (section_at (length bytes) (after_end (drop 8 bytes))).1;
 }
 
--- from its target on
+-- the parts of a head, from its target on
 abbrev pub from_target : List LineEnd → List ℕ → List ℕ → RequestHead
 from_target blank method bytes =
     from_version blank method (front is_uri_byte bytes) (drop 1 (back is_uri_byte bytes))
 
--- from its method on
+-- the parts of a head, from its method on
 abbrev pub from_method : List LineEnd → List ℕ → RequestHead
 from_method blank bytes =
     from_target blank (front is_token_byte bytes) (drop 1 (back is_token_byte bytes))
 
--- the parts of a head, where the bytes are one; of other bytes it says anything
+-- the parts of a head, where the bytes are a head; the parts of other bytes are arbitrary
 unfoldable pub parts : List ℕ → RequestHead
 parts bytes = from_method (ends_in false (front is_newline bytes)) (back is_newline bytes)
 
@@ -98,14 +99,14 @@ parts bytes = from_method (ends_in false (front is_newline bytes)) (back is_newl
 abbrev pub is_field : Field → Bool
 is_field f = is_token f.name && list_all is_value_byte f.raw
 
--- each part is of its class
+-- each part of a head is of its class
 unfoldable pub is_head : RequestHead → Bool
 is_head h =
     is_token h.method
     && ((nat_lt 0 (length h.target) && list_all is_uri_byte h.target)
     && (is_utf8 h.target && (nat_le h.minor 1 && list_all is_field h.fields)))
 
--- what the head says, where the bytes are that head printed
+-- what the head says, where the bytes are the head as printed
 abbrev pub if_printed : List ℕ → RequestHead → Option Says
 if_printed bytes h = if is_head h && bytes_eq bytes (print_request h) then Some (says h) else None
 
@@ -113,7 +114,7 @@ if_printed bytes h = if is_head h && bytes_eq bytes (print_request h) then Some 
 unfoldable pub head_of : List ℕ → Option Says
 head_of bytes = if_printed bytes (parts bytes)
 
--- what the head says whose parts stand there
+-- what the head says whose parts are at these spans
 abbrev pub said : List ℕ → RequestSpans → List HeaderSpan → Says
 said bytes line headers = record {
   method = span_bytes bytes line.method;

@@ -14,16 +14,16 @@ pub record Unserved : Type 0 where
   pub kept : List ℕ
   pub ended : Bool
 
--- what stands first; nothing after a fault was taken out
+-- the first item of the bytes; there is none after a fault was taken out
 abbrev pub next_of : Unserved → Option (Result HttpRequest HttpFault)
 next_of u = if u.ended then None else first u.kept
 
--- what is left after it was taken out
+-- what is left after the first item was taken out
 abbrev pub after_next : Unserved → Result HttpRequest HttpFault → Unserved
 after_next u (Ok request) = record { kept = drop request.length u.kept; ended = u.ended }
 after_next u (Err fault) = record { kept = []; ended = true }
 
--- what it remembers of a head of so many bytes that keeps the rules, and of what stands behind it
+-- what an inbox remembers of a head of so many bytes that keeps the rules, and of the bytes behind it
 abbrev pub accepted_of : ℕ → Framing → List ℕ → Decision
 accepted_of n (Sized size) body = decision.Accepted n (n + size)
 accepted_of n Chunked body = decision.Chunked n (chunked no_chunks body)

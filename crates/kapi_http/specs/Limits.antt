@@ -5,7 +5,7 @@ use Rattle.std.specs.Prelude.{ℕ}
 abbrev pub head_limit : ℕ
 head_limit = 16384
 
--- and at most so many fields
+-- a head has at most so many fields
 abbrev pub field_limit : ℕ
 field_limit = 64
 

@@ -5,7 +5,7 @@ use Rattle.kapi_http.specs.declared.message.Method.TheVariants.{Get, Post, Put, 
 use Rattle.kapi_http.specs.declared.message.StatusCode.{StatusCode}
 use Rattle.kapi_http.specs.declared.message.StatusCode.TheVariants as status
 
--- a method as it stands in a request line (RFC 9110 section 9.3, RFC 5789)
+-- a method as in a request line (RFC 9110 section 9.3, RFC 5789)
 abbrev pub method_text : Method → List ℕ
 method_text Get = codes "GET"
 method_text Post = codes "POST"
@@ -33,7 +33,7 @@ status_number status.ServiceUnavailable = 503
 status_number status.GatewayTimeout = 504
 status_number status.HttpVersionNotSupported = 505
 
--- the reason phrase of a status code (the same sections)
+-- the reason phrase of a status code (RFC 9110 section 15, RFC 6585 section 5)
 abbrev pub status_phrase : StatusCode → List ℕ
 status_phrase status.Ok = codes "OK"
 status_phrase status.Created = codes "Created"

@@ -7,7 +7,7 @@ use Rattle.kapi_http.specs.declared.message.Method.{Method}
 use Rattle.kapi_http.specs.declared.message.Reply.{Reply}
 use Rattle.kapi_http.specs.declared.message.StatusCode.{StatusCode}
 
--- version, code and phrase
+-- the status line of a reply: version, code and phrase
 abbrev pub status_line : StatusCode → List ℕ
 status_line code = codes "HTTP/1.1 " ++ decimal (status_number code) ++ codes " " ++ status_phrase code ++ codes "\r\n"
 
@@ -26,7 +26,7 @@ framing_line false (Some body) = codes "Content-Length: " ++ decimal (length bod
 abbrev pub further : Method → List ℕ
 further method = codes ", " ++ method_text method
 
--- the methods that are served there, where some are named
+-- the Allow line: the methods that are served at the path, where some are named
 abbrev pub allow_line : List Method → List ℕ
 allow_line [] = []
 allow_line (method ∷ methods) = codes "Allow: " ++ method_text method ++ flat_map further methods ++ codes "\r\n"
@@ -36,12 +36,12 @@ abbrev pub close_line : Bool → List ℕ
 close_line true = codes "Connection: close\r\n"
 close_line false = []
 
--- the body as it is
+-- the bytes of a body, none where there is no body
 abbrev pub body_bytes : Option (List ℕ) → List ℕ
 body_bytes None = []
 body_bytes (Some body) = body
 
--- the status line, the header fields, an empty line and the body
+-- the text of a reply: the status line, the header fields, an empty line and the body
 unfoldable pub text : Reply → List ℕ
 text r =
     status_line r.code ++ type_line r.plain ++ framing_line r.chunked r.body ++ allow_line r.allow ++ close_line r.close

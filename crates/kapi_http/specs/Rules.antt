@@ -1,4 +1,4 @@
--- What a head must keep to be served, in the order in which it is looked at.
+-- The rules that a head must keep to be served, in the order of the checks.
 use Rattle.std.specs.Prelude.{ℕ, ◌≤◌, ⊤, ◌==◌, nat_lt, nat_le, if◌then◌else◌, not, ◌&&◌, List, [], ◌∷◌, length, codes, Option, Some, None, Result, Ok, Err}
 use Rattle.std.specs.List.{list_all}
 use Rattle.std.specs.Str.{bytes_eq, str_eq_ignore_ascii_case}
@@ -28,7 +28,7 @@ method_named name =
 abbrev pub within_limit : ℕ → Result Framing Refusal
 within_limit size = if nat_le size body_limit then Ok (Sized size) else Err refusal.BodyTooLarge
 
--- the size that a Content-Length value gives: one or more digits and nothing else (RFC 9110 section 8.6)
+-- the size that a Content-Length value specifies: one or more digits and nothing else (RFC 9110 section 8.6)
 unfoldable pub content_length : List ℕ → Result Framing Refusal
 content_length value =
     if nat_lt 0 (length value) && list_all is_ascii_digit value then within_limit (digits_value 10 value)
@@ -47,7 +47,7 @@ framing_by (value ∷ []) [] = coding value
 framing_by (value ∷ other ∷ more) [] = Err refusal.TransferEncoding
 framing_by (value ∷ codings) (size ∷ more) = Err refusal.Length
 
--- how the end of the body is found that follows a head of these fields
+-- how the end of the body behind a head of these fields is found
 unfoldable pub framing : List FieldBytes → Result Framing Refusal
 framing fields = framing_by (values (codes "transfer-encoding") fields) (values (codes "content-length") fields)
 
@@ -56,17 +56,18 @@ abbrev pub IsFramed : Framing → Type 0
 IsFramed (Sized size) = size ≤ body_limit
 IsFramed Chunked = ⊤
 
--- the method beside it
+-- the method beside the framing of its body
 abbrev pub with_method : Method → Result Framing Refusal → Result (Method × Framing) Refusal
 with_method method (Ok framing) = Ok (method, framing)
 with_method method (Err why) = Err why
 
--- the same, unless the method is none that is served
+-- the method beside the framing of its body, unless the method is none that is served
 abbrev pub if_served : Option Method → Result Framing Refusal → Result (Method × Framing) Refusal
 if_served None framing = Err refusal.Method
 if_served (Some method) framing = with_method method framing
 
--- the method and how the body's end is found, or the first rule that the head breaks: HTTP/1.1, exactly one Host (RFC 9112 section 3.2), no Expect, a method that is served, a body whose end is known, and of a size within the limit
+-- the method and how the body's end is found, or the first rule that the head breaks: HTTP/1.1, exactly one Host (RFC
+-- 9112 section 3.2), no Expect, a method that is served, a body whose end is known, and of a size within the limit
 unfoldable pub checked : Says → Result (Method × Framing) Refusal
 checked h =
     if h.minor == 0 then Err refusal.Version

@@ -5,7 +5,7 @@ use Rattle.kapi_http.specs.declared.scan.Place.{Place}
 use Rattle.kapi_http.specs.declared.scan.Place.TheVariants.{Leading, LeadingCr, Inside, LineStart, LineCr, Ended}
 use Rattle.kapi_http.specs.declared.scan.Scan.{Scan}
 
--- where the next byte stands: a line ends at LF, a line of only CR is empty, and the head ends with the first empty line behind its first line
+-- the place behind the next byte: a line ends at LF, a line of only CR is empty, and the first empty line ends the head
 abbrev pub next_place : Place → ℕ → Place
 next_place Leading b = if b == line_feed then Leading else if b == carriage_return then LeadingCr else Inside
 next_place LeadingCr b = if b == line_feed then Leading else Inside
@@ -14,7 +14,7 @@ next_place LineStart b = if b == line_feed then Ended else if b == carriage_retu
 next_place LineCr b = if b == line_feed then Ended else Inside
 next_place Ended b = Ended
 
--- how many lines that aren't empty end with this byte
+-- how many lines that are not empty end with this byte
 abbrev pub lines_ended : Place → ℕ → ℕ
 lines_ended Leading b = 0
 lines_ended LeadingCr b = 0
@@ -32,15 +32,15 @@ is_ended LineStart = false
 is_ended LineCr = false
 is_ended Ended = true
 
--- one byte more
+-- the scan with one byte more
 abbrev pub step : Scan → ℕ → Scan
 step s b = record { place = next_place s.place b; at = s.at + 1; lines = s.lines + lines_ended s.place b }
 
--- nothing read
+-- the scan before any byte
 abbrev pub begin : Scan
 begin = record { place = Leading; at = 0; lines = 0 }
 
--- these bytes more, but none behind the end of the head
+-- the scan with these bytes more, but with none behind the end of the head
 unfoldable pub scanned : Scan → List ℕ → Scan
 scanned s [] = s
 scanned s (b ∷ bytes) = if is_ended s.place then s else scanned (step s b) bytes

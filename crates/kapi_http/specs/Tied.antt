@@ -27,7 +27,7 @@ pub record IsKnown (progress : Progress) (kept : List ℕ) : Type 0 where
   pub decided : progress.decision ≡ decision_of (settled kept) kept
   pub read : progress.decision ≡ decision.Waits → IsRead progress kept
 
--- and the bytes that were not taken out are within the limit
+-- the scan and the decision are those of the bytes, and the bytes that were not taken out are within the limit
 pub record IsTied (bytes : List ℕ) (start : ℕ) (progress : Progress) : Type 0 where
   pub within : start ≤ length bytes
   pub fits : length (drop start bytes) ≤ KEPT_LIMIT

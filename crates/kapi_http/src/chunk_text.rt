@@ -5,10 +5,10 @@ ghost use Rattle.kapi_http.specs.ChunkText.{chunk, last_chunk};
 use kapi_text::Memory;
 use std::alloc::Global;
 
-/// The chunk of these bytes: how many they are in lower case hexadecimal without leading zeros, CRLF, the bytes, CRLF
+/// The chunk of these bytes: their number in lower case hexadecimal without leading zeros, CRLF, the bytes, CRLF
 /// (RFC 9112 section 7.1).
 ///
-/// There should be some bytes: a chunk of none is read as the end of the body, for which [`write_end`] is there.
+/// There should be some bytes: a chunk of none is read as the end of the body, for which there is [`write_end`].
 #[tactic(auto, using(std::proofs::Common::append_assoc))]
 pub fn write_chunk(alloc: Global, bytes: &[u8]) -> Result<Vec<u8>, Memory>
     ensures { IfOk result (λ b. b.items ≡ chunk bytes.now) }

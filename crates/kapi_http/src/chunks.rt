@@ -1,8 +1,8 @@
 //! A body in chunks, read as its bytes come (RFC 9112 section 7.1).
 ghost use Rattle.std.specs.Prelude.{◌≡◌, ◌+◌, ◌-◌, ◌*◌, ◌≤◌, ◌<◌, IfOk, IfSome, min, nat_lt, if◌then◌else◌, Some, None, length};
 ghost use Rattle.std.specs.Char.{digit_value, is_digit};
-ghost use Rattle.kapi_http.specs.Chunks.{behind_size as behind_size_of, chunk_step, chunked, ending_of, in_data as in_data_of, in_size as in_size_of, is_over as is_over_of, is_wrong as is_wrong_of, joined, next_spot, no_chunks, only as only_of, within_sent as within_sent_of};
-ghost use Rattle.kapi_http.specs.declared.chunks.Spot.TheVariants.{Data, DataEnd};
+ghost use Rattle.kapi_http.specs.Chunks.{behind_size as behind_size_of, chunk_step, chunked, ending_of, in_data as in_data_of, in_size as in_size_of, is_over as is_over_of, is_wrong as is_wrong_of, joined, next_state, no_chunks, only as only_of, within_sent as within_sent_of};
+ghost use Rattle.kapi_http.specs.declared.chunks.ChunkState.TheVariants.{Data, DataEnd};
 
 use crate::message::Refusal;
 use crate::rules::BODY_LIMIT;
@@ -12,10 +12,10 @@ use std::alloc::Global;
 /// The most bytes of a body in chunks as sent, with its size lines and line ends.
 pub const SENT_LIMIT: usize = 1_572_864;
 
-/// Where in a body in chunks the next byte stands.
+/// The place of the next byte in a body in chunks.
 #[derive(Clone, Copy, Debug, PartialEq, Eq)]
-pub enum Spot {
-    /// In a size line, behind so many digits of that size, or of one above the limit.
+pub enum ChunkState {
+    /// In a size line, behind so many digits of the size, or of one above the limit.
     SizeLine(u32, u32),
     /// Behind the CR of the line of that size.
     SizeCr(u32),
@@ -27,11 +27,11 @@ pub enum Spot {
     DataCr,
     /// Behind the line of the last chunk, whose size is 0.
     LastLine,
-    /// Behind the CR that follows it.
+    /// Behind the CR that follows the last chunk's line.
     LastCr,
     /// Behind the whole body.
     Whole,
-    /// Behind a byte that no such body has there.
+    /// Behind a byte that is not allowed there.
     Wrong,
     /// Behind a body that is above a limit.
     TooLarge,
@@ -40,60 +40,63 @@ pub enum Spot {
 /// How far a body in chunks was read.
 #[derive(Clone, Copy, Debug, PartialEq, Eq)]
 pub struct Chunks {
-    pub spot: Spot,
+    pub spot: ChunkState,
     /// How many bytes of the body as sent were read.
     pub at: usize,
-    /// How many of them are data.
+    /// How many of the bytes that were read are data.
     pub sum: usize,
 }
 
 /// What is known of a body in chunks.
 #[derive(Clone, Copy, Debug, PartialEq, Eq)]
 pub enum Ending {
-    /// It is not whole yet.
+    /// The body is not whole yet.
     Open,
-    /// It is whole.
+    /// The body is whole.
     Closed,
-    /// It is no such body, or is above a limit.
+    /// The bytes are no body in chunks, or the body is above a limit.
     Refused(Refusal),
 }
 
-/// Nothing read yet.
+/// The progress before any byte.
 pub const NO_CHUNKS: Chunks = Chunks {
-    spot: Spot::SizeLine(0, 0),
+    spot: ChunkState::SizeLine(0, 0),
     at: 0,
     sum: 0,
 };
 
 /// The body is whole, or is refused.
-pub fn is_over(spot: Spot) -> bool
+pub fn is_over(spot: ChunkState) -> bool
     ensures { result ≡ is_over_of spot }
 {
-    matches!(spot, Spot::Whole | Spot::Wrong | Spot::TooLarge)
+    matches!(
+        spot,
+        ChunkState::Whole | ChunkState::Wrong | ChunkState::TooLarge
+    )
 }
 
 /// What is known of the body.
-pub fn outcome(spot: Spot) -> Ending
+pub fn outcome(spot: ChunkState) -> Ending
     ensures { result ≡ ending_of spot }
 {
     match spot {
-        Spot::Whole => Ending::Closed,
-        Spot::Wrong => Ending::Refused(Refusal::Chunk),
-        Spot::TooLarge => Ending::Refused(Refusal::BodyTooLarge),
+        ChunkState::Whole => Ending::Closed,
+        ChunkState::Wrong => Ending::Refused(Refusal::Chunk),
+        ChunkState::TooLarge => Ending::Refused(Refusal::BodyTooLarge),
         _ => Ending::Open,
     }
 }
 
-fn in_data(spot: Spot) -> bool
+fn in_data(spot: ChunkState) -> bool
     ensures { result ≡ in_data_of spot }
 {
-    matches!(spot, Spot::Data(_))
+    matches!(spot, ChunkState::Data(_))
 }
 
-fn is_wrong(spot: Spot) -> bool
+fn is_wrong(spot: ChunkState) -> bool
     ensures { result ≡ is_wrong_of spot }
 {
-    matches!(spot, Spot::Wrong)
+    matches!(spot, ChunkState::Wrong)
 }
 
 // The value of a hexadecimal digit of either case.
@@ -117,79 +120,83 @@ fn longer(size: u32, digit: u8) -> u32
     (size as usize * 16 + digit as usize).min(BODY_LIMIT + 1) as u32
 }
 
-// The byte that must stand there, and where the next one then stands.
-fn only(wanted: u8, byte: u8, spot: Spot) -> Spot
+// The state behind the only byte that is allowed here; any other byte is wrong.
+fn only(wanted: u8, byte: u8, spot: ChunkState) -> ChunkState
     ensures { result ≡ only_of wanted byte spot }
 {
-    if byte == wanted { spot } else { Spot::Wrong }
-}
-
-// In a size line, behind so many digits of that size.
-fn in_size(digits: u32, size: u32, byte: u8) -> Spot
-    ensures { result ≡ in_size_of digits size byte }
-{
-    match hex_value(byte) {
-        Some(digit) if digits < 8 => Spot::SizeLine(digits + 1, longer(size, digit)),
-        Some(_) => Spot::Wrong,
-        None if byte == b'\r' && digits > 0 => Spot::SizeCr(size),
-        None => Spot::Wrong,
+    if byte == wanted {
+        spot
+    } else {
+        ChunkState::Wrong
     }
 }
 
-// Behind the line of that size: the last chunk, too much data, or so many bytes of it.
-fn behind_size(size: u32, sum: usize) -> Spot
+// The state in a size line, behind so many digits of the size.
+fn in_size(digits: u32, size: u32, byte: u8) -> ChunkState
+    ensures { result ≡ in_size_of digits size byte }
+{
+    match hex_value(byte) {
+        Some(digit) if digits < 8 => ChunkState::SizeLine(digits + 1, longer(size, digit)),
+        Some(_) => ChunkState::Wrong,
+        None if byte == b'\r' && digits > 0 => ChunkState::SizeCr(size),
+        None => ChunkState::Wrong,
+    }
+}
+
+// The state behind the line of a size: the last chunk, too much data, or so many bytes of data.
+fn behind_size(size: u32, sum: usize) -> ChunkState
     requires { sum ≤ 2097152 }
     ensures { result ≡ behind_size_of size sum }
 {
     if size == 0 {
-        Spot::LastLine
+        ChunkState::LastLine
     } else if sum + size as usize > BODY_LIMIT {
-        Spot::TooLarge
+        ChunkState::TooLarge
     } else {
-        Spot::Data(size)
+        ChunkState::Data(size)
     }
 }
 
-// Where the byte behind `byte` stands, behind so many bytes of data.
-fn spot_after(spot: Spot, sum: usize, byte: u8) -> Spot
+// The state behind `byte`, with so many bytes of data before it.
+fn spot_after(spot: ChunkState, sum: usize, byte: u8) -> ChunkState
     requires { sum ≤ 2097152 }
-    ensures { result ≡ next_spot spot sum byte }
+    ensures { result ≡ next_state spot sum byte }
 {
     match spot {
-        Spot::SizeLine(digits, size) => in_size(digits, size, byte),
-        Spot::SizeCr(size) => only(b'\n', byte, behind_size(size, sum)),
-        Spot::Data(left) => behind_data(left),
-        Spot::DataEnd => only(b'\r', byte, Spot::DataCr),
-        Spot::DataCr => only(b'\n', byte, Spot::SizeLine(0, 0)),
-        Spot::LastLine => only(b'\r', byte, Spot::LastCr),
-        Spot::LastCr => only(b'\n', byte, Spot::Whole),
+        ChunkState::SizeLine(digits, size) => in_size(digits, size, byte),
+        ChunkState::SizeCr(size) => only(b'\n', byte, behind_size(size, sum)),
+        ChunkState::Data(left) => behind_data(left),
+        ChunkState::DataEnd => only(b'\r', byte, ChunkState::DataCr),
+        ChunkState::DataCr => only(b'\n', byte, ChunkState::SizeLine(0, 0)),
+        ChunkState::LastLine => only(b'\r', byte, ChunkState::LastCr),
+        ChunkState::LastCr => only(b'\n', byte, ChunkState::Whole),
         over => over,
     }
 }
 
-// Behind a byte of data, of which so many were to come.
-fn behind_data(left: u32) -> Spot
+// The state behind a byte of data, of which so many were to come.
+fn behind_data(left: u32) -> ChunkState
     ensures { result ≡ (if nat_lt 1 left then Data (left - 1) else DataEnd) }
 {
     if left > 1 {
-        Spot::Data(left - 1)
+        ChunkState::Data(left - 1)
     } else {
-        Spot::DataEnd
+        ChunkState::DataEnd
     }
 }
 
-// The same, unless so many bytes as sent are too many; a wrong byte is told first.
-fn within_sent(at: usize, spot: Spot) -> Spot
+// The state, unless more bytes were sent than are allowed; a wrong byte is reported first.
+fn within_sent(at: usize, spot: ChunkState) -> ChunkState
     ensures { result ≡ within_sent_of at spot }
 {
     if at > SENT_LIMIT && !is_wrong(spot) {
-        Spot::TooLarge
+        ChunkState::TooLarge
     } else {
         spot
     }
 }
 
-// One byte more.
+// The progress with one byte more.
 fn step(chunks: Chunks, byte: u8) -> Chunks
     requires bound { chunks.sum ≤ chunks.at }
     requires fits { chunks.at < 2097152 }
@@ -223,7 +230,7 @@ pub fn read_on(chunks: Chunks, bytes: &[u8]) -> Chunks
     state
 }
 
-/// The data of the chunks that `bytes` are; `size` is how much room it is given at first.
+/// The data of the chunks that `bytes` are; `size` is the capacity that is allocated first.
 #[tactic(auto, using(std::proofs::Common::append_assoc), unfolding(crate::specs::Chunks::joined))]
 pub fn join(alloc: Global, bytes: &[u8], size: usize) -> Result<Vec<u8>, Memory>
     requires { length bytes.now ≤ 2097152 }

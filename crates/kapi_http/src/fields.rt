@@ -18,7 +18,7 @@ pub fn count_named(bytes: &[u8], headers: &[HeaderSpan], name: &[u8]) -> usize
 {
     let mut count = 0;
     for header in headers {
-        if is_same(header.name.of(bytes), name) {
+        if eq_ignore_ascii_case(header.name.of(bytes), name) {
             count += 1;
         }
     }
@@ -32,7 +32,7 @@ pub fn first_named<'a>(bytes: &'a [u8], headers: &[HeaderSpan], name: &[u8]) -> 
     ensures { option_copied result ≡ slice_get (values name.now (fields_at bytes.now headers.now)) 0 }
 {
     for header in headers {
-        if is_same(header.name.of(bytes), name) {
+        if eq_ignore_ascii_case(header.name.of(bytes), name) {
             return Some(header.value.of(bytes));
         }
     }
@@ -41,12 +41,14 @@ pub fn first_named<'a>(bytes: &'a [u8], headers: &[HeaderSpan], name: &[u8]) -> 
 
 /// Some field of that name lists the word, both in any case.
 #[tactic(auto, unfolding(crate::specs::Fields::values))]
-pub fn some_lists(bytes: &[u8], headers: &[HeaderSpan], name: &[u8], word: &[u8]) -> bool
+pub fn any_field_lists(bytes: &[u8], headers: &[HeaderSpan], name: &[u8], word: &[u8]) -> bool
     requires { All (IsHeaderWithin (length bytes.now)) headers.now }
     ensures { result ≡ list_any (lists_word word.now) (values name.now (fields_at bytes.now headers.now)) }
 {
     for header in headers {
-        if is_same(header.name.of(bytes), name) && lists(header.value.of(bytes), word) {
+        if eq_ignore_ascii_case(header.name.of(bytes), name)
+            && lists(header.value.of(bytes), word)
+        {
             return true;
         }
     }
@@ -54,7 +56,7 @@ pub fn some_lists(bytes: &[u8], headers: &[HeaderSpan], name: &[u8], word: &[u8]
 }
 
 /// Whether two texts are equal but for the case of their letters.
-pub fn is_same(one: &[u8], other: &[u8]) -> bool
+pub fn eq_ignore_ascii_case(one: &[u8], other: &[u8]) -> bool
     ensures { result ≡ str_eq_ignore_ascii_case one.now other.now }
 {
     one.eq_ignore_ascii_case(other)
@@ -67,15 +69,15 @@ fn lists(value: &[u8], word: &[u8]) -> bool
 {
     let mut rest = value;
     while let Some((item, after)) = split_at_comma(rest) {
-        if is_same(trimmed(item), word) {
+        if eq_ignore_ascii_case(trim_ows(item), word) {
             return true;
         }
         rest = after;
     }
-    is_same(trimmed(rest), word)
+    eq_ignore_ascii_case(trim_ows(rest), word)
 }
 
-// What stands before the first comma, and behind it.
+// The text before the first comma, and the text behind it.
 #[tactic(auto, using(crate::proofs::Lists::split_found, crate::proofs::Lists::split_not_found))]
 fn split_at_comma(value: &[u8]) -> Option<(&[u8], &[u8])>
     ensures none { IsNone result → slice_split (λ b. b == comma) value.now ≡ value.now ∷ [] }
@@ -92,7 +94,7 @@ fn split_at_comma(value: &[u8]) -> Option<(&[u8], &[u8])>
     }
 }
 
-// Where the first comma stands.
+// The index of the first comma.
 fn comma_at(value: &[u8]) -> Option<usize>
     ensures found { result ≡ position_from (λ b. b == comma) 0 value.now }
     ensures within { IfSome result (λ at. at < length value.now) }
@@ -101,7 +103,7 @@ fn comma_at(value: &[u8]) -> Option<usize>
 }
 
 /// A value without the spaces and tabs at both ends (RFC 9110 section 5.6.3).
-pub fn trimmed(item: &[u8]) -> &[u8]
+pub fn trim_ows(item: &[u8]) -> &[u8]
     ensures { result.now ≡ trim_ows item.now }
 {
     let mut rest = without_leading(item);

@@ -8,7 +8,7 @@ ghost use Rattle.kapi_http.specs.Tied.{HasTexts};
 use httparse::Status;
 use httparse::spans::{HeaderSpan, RequestSpans, parse_request};
 
-// Where the parts of `bytes` stand, if they are one request head and no more.
+// The spans of the parts of `bytes`, if they are one request head and no more.
 fn parse_head(bytes: &[u8], headers: &mut [HeaderSpan]) -> Option<RequestSpans>
     requires { (h : RequestHead) → ReadsRequest bytes.now h [] → length h.fields ≤ length headers.old }
     ensures some { IfSome result (λ r. (h : RequestHead) × ReadsRequest bytes.now h [] × (said bytes.now r (take r.headers headers.new) ≡ says h)) }
@@ -30,7 +30,8 @@ fn parse_head(bytes: &[u8], headers: &mut [HeaderSpan]) -> Option<RequestSpans>
     }
 }
 
-/// Where the parts of `bytes` stand, if they are one request head and no more: what they say is `head_of` of the bytes.
+/// The spans of the parts of `bytes`, if they are one request head and no more: what they say is `head_of` of the
+/// bytes.
 pub fn read_head(bytes: &[u8], headers: &mut [HeaderSpan]) -> Option<RequestSpans>
     requires { (h : RequestHead) → ReadsRequest bytes.now h [] → length h.fields ≤ length headers.old }
     ensures exact { option_map (λ r. said bytes.now r (take r.headers headers.new)) result ≡ head_of bytes.now }

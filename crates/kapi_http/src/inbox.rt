@@ -19,7 +19,7 @@ pub enum FeedError {
     /// The unserved bytes would be above the limit.
     #[error("too many unserved bytes")]
     Full,
-    /// A growth was refused.
+    /// An allocation fails.
     #[error("out of memory")]
     Memory,
     /// A fault was taken out, so that nothing more is read.
@@ -58,7 +58,7 @@ impl Model for Inbox {
 impl Inbox {
     ghost use Rattle.kapi_http.specs.Inbox.{after_next, next_of};
 
-    /// An inbox without bytes; takes no memory.
+    /// An inbox without bytes; allocates nothing.
     pub fn new(alloc: Global) -> Inbox
         ensures { result ≡ record { kept = []; ended = false } }
     {
@@ -77,7 +77,7 @@ impl Inbox {
         ensures fits { OnOk result (length self.old.kept + length piece.now ≤ KEPT_LIMIT) }
         ensures err { OnErr result (self.new ≡ self.old) }
 
-        // Tested in this order, and before any growth.
+        // The limits are tested in this order, and before any allocation.
         ensures ended { result ≡ Err FeedError.Ended ↔ IsTrue self.old.ended }
         ensures full { result ≡ Err FeedError.Full
             ↔ (IsFalse self.old.ended × (KEPT_LIMIT < length self.old.kept + length piece.now)) }
@@ -95,7 +95,8 @@ impl Inbox {
         Ok(())
     }
 
-    /// The first request or fault of the bytes, which stay; None where neither is whole, and after a fault was taken out.
+    /// The first request or fault of the bytes, which stay; None where neither is whole, and after a fault was taken
+    /// out.
     pub fn next(&self) -> Result<Option<Result<HttpRequest, HttpFault>>, Memory>
         ensures { IfOk result (λ o. o ≡ next_of self.now) }
     {
@@ -109,7 +110,7 @@ impl Inbox {
         )
     }
 
-    /// Takes out what `next` gives; after a fault nothing is read any more.
+    /// Takes out the item that `next` returns; after a fault nothing is read any more.
     pub fn done(&mut self, item: &Result<HttpRequest, HttpFault>)
         requires { next_of self.old ≡ Some item.now }
         ensures { self.new ≡ after_next self.old item.now }
@@ -117,7 +118,7 @@ impl Inbox {
         match item {
             Ok(request) => {
                 let start = self.start + request.length;
-                // Moves the rest only where that is less than what was served before it.
+                // The rest is moved only where it is shorter than what was served before it.
                 if start > self.bytes.len() / 2 {
                     self.bytes.drain(..start);
                     self.start = 0;

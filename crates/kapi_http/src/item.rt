@@ -1,4 +1,4 @@
-//! What the bytes begin with: a whole request, a fault, or nothing yet.
+//! The first item of the bytes: a whole request, a fault, or nothing yet.
 ghost use Rattle.std.specs.Prelude.{◌≡◌, ◌-◌, ◌++◌, ◌≤◌, All, IfOk, IsUtf8, length, take, map};
 ghost use Rattle.httparse.specs.Spans.{IsHeaderWithin, header_bytes, span_bytes};
 ghost use Rattle.kapi_http.specs.Cut.{code_of, fault_of, first, header_of, request_of, settled, settled_within, word_of};
@@ -10,7 +10,7 @@ ghost use Rattle.kapi_http.specs.Scan.{begin, scanned};
 ghost use Rattle.kapi_http.specs.Tied.{HasLines, HasRoom, IsKnown, IsRead, IsServed, is_waiting, method_sent};
 
 use crate::chunks::{Chunks, Ending, NO_CHUNKS, join, outcome, read_on};
-use crate::fields::some_lists;
+use crate::fields::any_field_lists;
 use crate::head::read_head;
 use crate::message::{Header, HttpFault, HttpRequest, Refusal, StatusCode};
 use crate::rules::{Framing, check, method_named};
@@ -31,7 +31,7 @@ pub const LINE_LIMIT: usize = 64;
 pub enum Decision {
     /// The head is not whole yet.
     Waits,
-    /// The request is refused; its head has so many bytes, where it is whole and within the limits, and else 0 stands here.
+    /// The request is refused; its head has so many bytes, where it is whole and within the limits, and else 0 bytes.
     Refused(usize, Refusal),
     /// The head has so many bytes, and the request so many in all.
     Accepted(usize, usize),
@@ -46,7 +46,7 @@ pub struct Progress {
     pub decision: Decision,
 }
 
-/// Reads on where the head or the body of `kept` is not whole: `progress` is of its first bytes, without the last `more`.
+/// Reads on where the head or the body of `kept` is not whole: `progress` is of its bytes before the last `more`.
 pub fn continued(progress: Progress, kept: &[u8], more: usize) -> Progress
     requires more { more ≤ length kept.now }
     requires fits { length kept.now ≤ 2097152 }
@@ -93,7 +93,7 @@ pub fn advance(scan: Scan, kept: &[u8]) -> Progress
     Progress { scan, decision }
 }
 
-// What a whole head settles, and the body behind it; `lines` counts the request line too.
+// What a whole head and the body behind it settle; `lines` counts the request line too.
 fn decide(head: &[u8], body: &[u8], lines: usize) -> Decision
     requires lines { HasLines lines head.now }
     requires small { length head.now ≤ 16384 }
@@ -113,7 +113,7 @@ fn decide(head: &[u8], body: &[u8], lines: usize) -> Decision
     }
 }
 
-// What a head of so many bytes settles that keeps the rules.
+// What a head of so many bytes that keeps the rules settles.
 fn accepted(head: usize, framing: Framing, body: &[u8]) -> Decision
     requires size { IsFramed framing }
     requires small { head ≤ 16384 }
@@ -256,7 +256,7 @@ fn request(alloc: Global, head: &[u8], body: Vec<u8>, total: usize) -> Result<Ht
         target,
         headers: Sequence::new(headers),
         body: Sequence::new(body),
-        close: some_lists(head, fields, b"connection", b"close"),
+        close: any_field_lists(head, fields, b"connection", b"close"),
         length: total,
     })
 }

@@ -5,7 +5,7 @@ ghost use Rattle.httparse.specs.Grammar.{IsRequestHead, ReadsRequest, RequestHea
 ghost use Rattle.kapi_http.specs.ChunkText.{AreChunks, body_text};
 ghost use Rattle.kapi_http.specs.Chunks.{chunked, joined, no_chunks};
 ghost use Rattle.kapi_http.specs.Rules.{checked};
-ghost use Rattle.kapi_http.specs.declared.chunks.Spot.TheVariants.{Whole};
+ghost use Rattle.kapi_http.specs.declared.chunks.ChunkState.TheVariants.{Whole};
 ghost use Rattle.kapi_http.specs.declared.message.Method.{Method};
 ghost use Rattle.kapi_http.specs.declared.rules.Framing.TheVariants.{Chunked};
 ghost use Rattle.kapi_http.specs.Cut.{Begins, cut, fault_of, first, reach, request_of, settled, settled_of, taken, with_request};
@@ -28,8 +28,8 @@ pub fn printed_heads_are_read()
         → settled (print_request h ++ more) ≡ settled_of (print_request h) (Some (says h)) }
 {}
 
-/// A body that is printed in chunks is read as these and no others, whatever follows it; and so is the request of a
-/// printed head that says that its body comes in chunks (RFC 9112 section 7.1).
+/// A body that is printed in chunks is read as these chunks and no others, whatever follows it, and so is the request
+/// of a printed head that says that its body comes in chunks (RFC 9112 section 7.1).
 pub fn printed_chunks_are_read()
     ensures whole { (parts : List (List ℕ)) (more : List ℕ) → AreChunks parts
         → chunked no_chunks (body_text parts ++ more)
@@ -54,14 +54,14 @@ pub fn fronts_are_cut_alike()
     ensures { (bytes more : List ℕ) → Begins (cut bytes) (cut (bytes ++ more)) }
 {}
 
-/// No request is hidden in another: what is cut from a request's bytes and others behind them is that request, and what
-/// is cut from the others.
+/// No request is hidden in another: what is cut from a request's bytes and others behind them is that request, and then
+/// what is cut from the others.
 pub fn requests_are_cut_apart()
     ensures { (bytes more : List ℕ) (r : HttpRequest) → first bytes ≡ Some (Ok r) → r.length ≡ length bytes
         → cut (bytes ++ more) ≡ with_request r (cut more) }
 {}
 
-/// Feeding a text in any pieces, and taking all that is whole after each, gives what the whole text is cut to.
+/// Feeding a text in any pieces, and taking all that is whole after each, returns what the whole text is cut to.
 pub fn pieces_are_cut_alike()
     ensures { (pieces : List (List ℕ)) → taken [] pieces ≡ cut (flat_map (λ piece. piece) pieces) }
 {}

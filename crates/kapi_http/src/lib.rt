@@ -1,4 +1,4 @@
-//! HTTP/1.1 messages (RFC 9110, RFC 9112): bytes that come in any pieces to whole requests, and replies to bytes.
+//! HTTP/1.1 messages (RFC 9110, RFC 9112): whole requests from bytes in any pieces, and replies as bytes.
 #![tactic(auto)]
 
 mod chunk_text;
@@ -14,7 +14,7 @@ mod rules;
 mod scan;
 
 pub use chunk_text::{write_chunk, write_end};
-pub use fields::{is_same, trimmed};
+pub use fields::{eq_ignore_ascii_case, trim_ows};
 pub use inbox::{FeedError, Inbox};
 pub use kapi_text::Memory;
 pub use laws::{

@@ -1,4 +1,4 @@
-//! What requests, faults and replies are made of.
+//! Requests, faults and replies, with their parts.
 ghost use Rattle.std.specs.Prelude.{◌≡◌};
 ghost use Rattle.kapi_http.specs.Message.{method_text, status_number, status_phrase};
 
@@ -15,7 +15,7 @@ pub enum Method {
 }
 
 impl Method {
-    /// The method as it stands in a request line.
+    /// The method as in a request line.
     pub fn as_str(self) -> &'static str
         ensures { result.now ≡ method_text self }
     {
@@ -129,7 +129,8 @@ pub struct HttpRequest {
 #[derive(Debug, Drop)]
 pub struct HttpFault {
     pub code: StatusCode,
-    /// Of a 400 what is wrong (`head`, `host`, `length` or `chunk`), of a 405 the method, else empty.
+    /// What is wrong where the code is 400 (`head`, `host`, `length` or `chunk`), the method where it is 405, else
+    /// empty.
     pub word: Text,
     /// The request is a HEAD, so that its reply has no body.
     pub no_body: bool,
@@ -150,7 +151,7 @@ pub enum Refusal {
     Expectation,
     /// The method is none that is served.
     Method,
-    /// A Content-Length field is not digits alone, is not the only one, or stands beside a Transfer-Encoding field.
+    /// A Content-Length field is not digits alone, is not the only one, or comes with a Transfer-Encoding field.
     Length,
     /// There is a Transfer-Encoding field whose value is not `chunked`, or more than one.
     TransferEncoding,
@@ -166,12 +167,12 @@ pub struct Reply {
     pub code: StatusCode,
     /// The body is plain text, and JSON where this is false.
     pub plain: bool,
-    /// The methods of the Allow line; none: there is no such line.
+    /// The methods of the Allow line; where there are none, there is no such line.
     pub allow: Sequence<Method>,
-    /// A Transfer-Encoding line stands in place of Content-Length, and the body is written as it is.
+    /// A Transfer-Encoding line takes the place of Content-Length, and the body is written as it is.
     pub chunked: bool,
     /// The connection closes after the reply.
     pub close: bool,
-    /// None: neither a Content-Length line nor a body, as in a reply to HEAD.
+    /// The body; where there is none, there is no Content-Length line either, as in a reply to HEAD.
     pub body: Option<Sequence<u8>>,
 }

@@ -1,11 +1,11 @@
-//! What a head must keep to be served, in the order in which it is looked at.
+//! The rules that a head must keep to be served, in the order of the checks.
 ghost use Rattle.std.specs.Prelude.{◌≡◌, ◌≤◌, ◌+◌, ◌*◌, All, IfOk, length, min};
 ghost use Rattle.httparse.specs.Spans.{IsHeaderWithin, IsWithin};
 ghost use Rattle.kapi_http.specs.Fields.{fields_at};
 ghost use Rattle.kapi_http.specs.Head.{said};
 ghost use Rattle.kapi_http.specs.Rules.{IsFramed, checked, coding as coding_of, framing as framing_of, content_length as size_of, method_named as method_of};
 
-use crate::fields::{count_named, first_named, is_same};
+use crate::fields::{count_named, eq_ignore_ascii_case, first_named};
 use crate::message::{Method, Refusal};
 use httparse::spans::{HeaderSpan, RequestSpans};
 
@@ -69,7 +69,7 @@ pub fn method_named(name: &[u8]) -> Option<Method>
     }
 }
 
-// How the end of the body is found that follows the head (RFC 9112 section 6).
+// How the end of the body behind the head is found (RFC 9112 section 6).
 #[tactic(auto, unfolding(crate::specs::Rules::framing, crate::specs::Rules::framing_by))]
 fn body_framing(bytes: &[u8], headers: &[HeaderSpan]) -> Result<Framing, Refusal>
     requires { All (IsHeaderWithin (length bytes.now)) headers.now }
@@ -101,7 +101,7 @@ fn transfer_coding(value: &[u8]) -> Result<Framing, Refusal>
     ensures exact { result ≡ coding_of value.now }
     ensures within { IfOk result IsFramed }
 {
-    if is_same(value, b"chunked") {
+    if eq_ignore_ascii_case(value, b"chunked") {
         Ok(Framing::Chunked)
     } else {
         Err(Refusal::TransferEncoding)

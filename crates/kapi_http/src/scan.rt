@@ -2,7 +2,7 @@
 ghost use Rattle.std.specs.Prelude.{◌≡◌, ◌+◌, ◌≤◌, length};
 ghost use Rattle.kapi_http.specs.Scan.{is_ended, lines_ended, next_place, scanned};
 
-/// Where in a head the next byte stands.
+/// The place of the next byte in a head.
 #[derive(Clone, Copy, Debug, PartialEq, Eq)]
 pub enum Place {
     /// At the start of a line, before the request line.
@@ -29,7 +29,7 @@ pub struct Scan {
     pub lines: usize,
 }
 
-/// Nothing read yet.
+/// The scan before any byte.
 pub const BEGIN: Scan = Scan {
     place: Place::Leading,
     at: 0,
@@ -43,7 +43,7 @@ pub fn has_ended(place: Place) -> bool
     matches!(place, Place::Ended)
 }
 
-// Where the byte behind `byte` stands; a line ends at LF, and a line of only CR is empty too (RFC 9112 section 2.2).
+// The place behind `byte`; a line ends at LF, and a line of only CR is empty too (RFC 9112 section 2.2).
 fn place_after(place: Place, byte: u8) -> Place
     ensures { result ≡ next_place place byte }
 {

@@ -33,7 +33,7 @@ module _ (before after : Names) (now : List (List ℕ)) (seen : names_in before 
       ap (λ s. is_listed n (names_in s)) is ∙ two n ∙ ap (λ b. bytes_eq name n || b) (sym (alone_listed one n))
       ∙ ap (λ l. bytes_eq name n || is_listed n l) (sym (ap names_in was) ∙ seen)
 
-  -- what is left where the one name is taken out, and where it is another
+  -- the names after the one name is taken out, and after another is
   pub taken_out : (name one : List ℕ) → before ≡ Few (Some one) → after ≡ Few None → bytes_eq one name ≡ true
       → (n : List ℕ) → is_listed n (names_in after) ≡ (is_listed n now && not (bytes_eq name n))
   taken_out name one was is equal n =

@@ -18,7 +18,7 @@ use Rattle.kapi_index.specs.Listed.{Adds, AreSame, HasAt, Removes, has_name, is_
 abbrev pub Sets : Type 0
 Sets = List (List ℕ × List (List ℕ))
 
--- at that key stand those names, and at each other key what stood there
+-- the key has those names, and each other key those that it had
 abbrev pub Puts : List ℕ → Option (List (List ℕ)) → Sets → Sets → Type 0
 Puts key names old new = (q : List ℕ) → lookup (is_at (name_cmp q)) new ≡ cond (is_at (name_cmp key) q) names (lookup (is_at (name_cmp q)) old)
 

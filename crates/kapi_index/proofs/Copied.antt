@@ -12,8 +12,8 @@ use Rattle.std.specs.declared.alloc.Global.{Global}
 use Rattle.kapi_policy.proofs.Inserts.{one_more}
 use Rattle.kapi_policy.specs.Objects.{name_cmp}
 use Rattle.kapi_policy.specs.declared.change.NamespacedName.{NamespacedName}
-use Rattle.kapi_rbac_types.specs.declared.binding.RoleBinding.{RoleBinding}
-use Rattle.kapi_rbac_types.specs.declared.role.Role.{Role}
+use Rattle.kapi_model.specs.declared.binding.RoleBinding.{RoleBinding}
+use Rattle.kapi_model.specs.declared.role.Role.{Role}
 use Rattle.kapi_index.proofs.Finds.{name_total}
 use Rattle.kapi_index.proofs.Spread.{insert_text}
 use Rattle.kapi_index.specs.Contents.{AreNamed, AreSpread, Part, bindings_in, by_text, in_all, part, parts, placed, roles_in}

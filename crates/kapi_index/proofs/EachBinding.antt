@@ -3,7 +3,7 @@ use Rattle.std.proofs.Common.{◌≡◌, ℕ, Bool, true, false, not, cond, ◌=
 use Rattle.std.proofs.lemmas.List.{map-append}
 use Rattle.std.proofs.lemmas.List.Elements.{filter-append}
 use Rattle.std.specs.List.{filter}
-use Rattle.kapi_rbac_types.specs.declared.binding.RoleBinding.{RoleBinding}
+use Rattle.kapi_model.specs.declared.binding.RoleBinding.{RoleBinding}
 use Rattle.kapi_policy.specs.All.{all_bindings, bindings_in_namespaces, has_namespace}
 use Rattle.kapi_policy.specs.Decided.{Binding, cluster_binding, namespace_binding}
 use Rattle.kapi_policy.specs.Objects.{PolicyObjects}

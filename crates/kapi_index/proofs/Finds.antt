@@ -1,4 +1,4 @@
--- The first of some entries that stand in the order of their keys.
+-- The first of some entries in the order of their keys.
 use Rattle.std.proofs.Common.{◌≡◌, ℕ, Bool, true, false, not, ◌&&◌, ◌||◌, if◌then◌else◌, cond, List, [], ◌∷◌, Option, Some, None, refl, sym, ap, subst, ◌∙◌}
 use Rattle.std.proofs.Common.{Bor}
 use Rattle.std.specs.Option.{MatchOption, option_copied}
@@ -40,7 +40,7 @@ not_below_itself k = by_order (name_cmp k k) (at_itself k)
     by_order Equal h = refl
     by_order Greater h = refl
 
--- what is from a start on stays so upwards
+-- a key from a start on stays so upwards
 pub from_upward : (start : Start (List ℕ)) (a b : List ℕ) → is_from_start name_cmp start a ≡ true → name_cmp a b ≡ Less → is_from_start name_cmp start b ≡ true
 from_upward (Included x) a b h below = by_order (name_cmp x a) refl h
   where

@@ -1,4 +1,4 @@
--- Whom the subjects of a binding mean, by their keys.
+-- Which identities the subjects of a binding match, by their keys.
 use Rattle.std.proofs.Common.{◌≡◌, ℕ, ◌==◌, Bool, true, false, not, ◌&&◌, ◌||◌, if◌then◌else◌, List, [], ◌∷◌, ◌++◌, length, refl, sym, ap, ◌∙◌}
 use Rattle.std.specs.Prelude.{codes}
 use Rattle.std.proofs.lemmas.List.Folds.{list_any-append}
@@ -7,10 +7,10 @@ use Rattle.std.specs.List.{filter, list_any}
 use Rattle.std.specs.Str.{bytes_eq}
 use Rattle.std.specs.declared.collections.Bound.{Bound as Start}
 use Rattle.kapi_policy.specs.Objects.{name_cmp}
-use Rattle.kapi_rbac_types.specs.Subjects.{is_account, names, namespace_of}
-use Rattle.kapi_rbac_types.specs.declared.identity.Identity.{Identity}
-use Rattle.kapi_names.specs.declared.subject.Subject.{Subject}
-use Rattle.kapi_names.specs.declared.subject.Subject.TheVariants.{User, Group, ServiceAccount}
+use Rattle.kapi_model.specs.Subjects.{is_account, subject_matches, namespace_of}
+use Rattle.kapi_model.specs.declared.identity.Identity.{Identity}
+use Rattle.kapi_model.specs.declared.subject.Subject.{Subject}
+use Rattle.kapi_model.specs.declared.subject.Subject.TheVariants.{User, Group, ServiceAccount}
 use Rattle.kapi_index.proofs.Bools.{any_same, or_across, or_false, turned}
 use Rattle.kapi_index.specs.Listed.{is_key}
 use Rattle.kapi_index.specs.Prepared.{account_users, group_of, groups_of, user_of, users_of}
@@ -31,9 +31,9 @@ account_meant user namespace name = by_test (length namespace == 0) refl
     by_test true is = rw is refl
     by_test false is = rw is (turned user whole ∙ sym (or_false (bytes_eq whole user)))
 
--- one subject means the identity by the user or the group that it is
+-- one subject matches the identity by the user or the group that it is
 one_meant : (namespace : List ℕ) (identity : Identity) (s : Subject)
-    → names s namespace identity ≡ (is_key identity.user (user_of namespace s) || list_any (λ g. is_key g (group_of s)) identity.groups)
+    → subject_matches s namespace identity ≡ (is_key identity.user (user_of namespace s) || list_any (λ g. is_key g (group_of s)) identity.groups)
 one_meant namespace identity (User name) =
     turned identity.user name ∙ sym (or_false (bytes_eq name identity.user)) ∙ sym (or_false (bytes_eq name identity.user || false))
     ∙ ap (λ b. (bytes_eq name identity.user || false) || b) (sym (none_of identity.groups))
@@ -49,11 +49,11 @@ any_either p q [] = refl
 any_either p q (g ∷ gs) = ap (λ b. (p g || q g) || b) (any_either p q gs) ∙ or_across (p g) (q g) (list_any p gs) (list_any q gs)
 
 pub meant : (namespace : List ℕ) (identity : Identity) (subjects : List Subject)
-    → list_any (λ s. names s namespace identity) subjects
+    → list_any (λ s. subject_matches s namespace identity) subjects
     ≡ (is_key identity.user (users_of namespace subjects) || list_any (λ g. is_key g (groups_of subjects)) identity.groups)
 meant namespace identity [] = sym (none_of identity.groups)
 meant namespace identity (s ∷ subjects) =
-    ap (λ b. b || list_any (λ s. names s namespace identity) subjects) (one_meant namespace identity s)
+    ap (λ b. b || list_any (λ s. subject_matches s namespace identity) subjects) (one_meant namespace identity s)
     ∙ ap (λ b. (is_key identity.user (user_of namespace s) || list_any (λ g. is_key g (group_of s)) identity.groups) || b) (meant namespace identity subjects)
     ∙ or_across (is_key identity.user (user_of namespace s)) (list_any (λ g. is_key g (group_of s)) identity.groups)
     (is_key identity.user (users_of namespace subjects)) (list_any (λ g. is_key g (groups_of subjects)) identity.groups)
@@ -70,7 +70,7 @@ asked identity b = is_key identity.user b.keys.users || list_any (λ g. is_key g
 pub asked_means : (namespace : List ℕ) (identity : Identity) (b : Bound) → IsPrepared namespace b → means namespace identity b.binding ≡ asked identity b
 asked_means namespace identity b prepared = meant namespace identity b.binding.subjects ∙ rw (prepared.users, prepared.groups) refl
 
--- the bindings that mean the identity are those whose keys are asked for
+-- the bindings that match the identity are those whose keys are asked for
 pub left_asked : (namespace : List ℕ) (identity : Identity) (start : Start (List ℕ)) (es : List (List ℕ × Bound)) → ArePrepared namespace es
     → filter (λ e. is_from_start name_cmp start e.0 && means namespace identity e.1) (bare es) ≡ bare (filter (λ e. is_from_start name_cmp start e.0 && asked identity e.1) es)
 left_asked namespace identity start [] prepared = refl

@@ -5,7 +5,7 @@ use Rattle.std.specs.Cmp.Lexicographic.{slice_cmp}
 use Rattle.std.specs.Map.{lookup, remove_entry, set_value}
 use Rattle.std.specs.Ordering.{nat_cmp}
 use Rattle.std.specs.Prelude.{OnErr, OnOk}
-use Rattle.kapi_rbac_types.specs.declared.binding.RoleBinding.{RoleBinding}
+use Rattle.kapi_model.specs.declared.binding.RoleBinding.{RoleBinding}
 use Rattle.kapi_index.specs.Scopes.{Scoped}
 use Rattle.std.specs.declared.string.String.{String}
 use Rattle.std.specs.declared.alloc.Global.{Global}
@@ -46,7 +46,7 @@ was_made ns k w old new spread absent same made = record {
 pub spread_after : (ns : List ℕ) (o : Option Namespace) (w : Namespace) (old new : Spaces) → IsPut ns o w old new → w.bound.namespace ≡ ns → AreSpread (by_text new)
 spread_after ns o w old new is named = spread_put (by_text old) (by_text new) ns w is.spread named is.put
 
--- a namespace that stood is under its name
+-- a stored namespace is under its name
 pub stood_named : (ns : List ℕ) (v w : Namespace) (old new : Spaces) → IsPut ns (Some v) w old new → v.bound.namespace ≡ ns
 stood_named ns v w old new is = named_at (by_text old) ns v is.spread.named (sym is.stood)
 

@@ -18,7 +18,7 @@ use Rattle.kapi_index.specs.Listed.{Adds, AreOrdered, AreSame, HasAt, Removes, h
 use Rattle.kapi_index.specs.Scopes.{ArePrepared, IsExact, IsIndex, IsPrepared, Scoped, bare, group_keys, keys_in, user_keys}
 use Rattle.kapi_index.specs.declared.scope.Bound.{Bound}
 
--- what stands at a name after a put there
+-- the value of a name after a put there
 after_put : (es : List (List ℕ × Bound)) (name : List ℕ) (b : Bound) (n : List ℕ)
     → lookup (is_at (name_cmp n)) (insert_entry name_cmp es name b) ≡ cond (bytes_eq name n) (Some b) (lookup (is_at (name_cmp n)) es)
 after_put es name b n =
@@ -84,7 +84,7 @@ taken_index g es old new name stale none sorted index was nothing gone ordered =
 pub same_index : (g : Bound → List (List ℕ)) (es after : List (List ℕ × Bound)) (old new : Sets) → IsIndex g es old → after ≡ es → AreSame old new → AreOrdered new → IsIndex g after new
 same_index g es after old new index stay same ordered = record { ordered = ordered; exact = λ k n. same k n ∙ index.exact k n ∙ rw stay refl }
 
--- the names under the keys of a binding that stands
+-- the names under the keys of a stored binding
 pub had_at : (g : Bound → List (List ℕ)) (es : List (List ℕ × Bound)) (sets : Sets) (name : List ℕ) (kept : List (List ℕ))
     → IsIndex g es sets → kept ≡ keys_in g (lookup (is_at (name_cmp name)) es) → HasAt kept name sets
 had_at g es sets name kept index is = λ k. index.exact k name ∙ rw is refl

@@ -1,4 +1,4 @@
--- A step of the walk over the bindings that mean an identity.
+-- A step of the walk over the bindings that match an identity.
 use Rattle.std.proofs.Common.{◌≡◌, ℕ, Bool, true, false, ◌&&◌, if◌then◌else◌, List, [], ◌∷◌, Option, Some, None, refl, sym, ap, subst, ◌∙◌}
 use Rattle.std.specs.Borrow.{Bor}
 use Rattle.std.specs.BTreeMap.{is_at}
@@ -14,8 +14,8 @@ use Rattle.std.specs.declared.collections.Bound.{Bound as Start}
 use Rattle.std.specs.declared.collections.Bound.TheVariants.{Excluded}
 use Rattle.std.proofs.lemmas.Map.Lookups.{btree_set_from_contains, exact_bytes}
 use Rattle.kapi_policy.specs.Objects.{name_cmp}
-use Rattle.kapi_rbac_types.specs.declared.binding.RoleBinding.{RoleBinding}
-use Rattle.kapi_rbac_types.specs.declared.identity.Identity.{Identity}
+use Rattle.kapi_model.specs.declared.binding.RoleBinding.{RoleBinding}
+use Rattle.kapi_model.specs.declared.identity.Identity.{Identity}
 use Rattle.kapi_index.proofs.Changed.{Sets}
 use Rattle.kapi_index.proofs.Finds.{Step, find_first, first_key, grouped, name_total, none_left, step}
 use Rattle.kapi_index.proofs.Meant.{asked, asked_means, left_asked}

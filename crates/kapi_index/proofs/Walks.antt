@@ -1,4 +1,4 @@
--- The walk over the bindings that mean an identity finds what the walk over all does.
+-- The walk over the bindings that match an identity finds what the walk over all does.
 use Rattle.std.proofs.Common.{◌≡◌, ℕ, Bool, true, false, cond, ◌&&◌, if◌then◌else◌, List, [], ◌∷◌, ◌++◌, map, Option, Some, None, refl, sym, ap, append_assoc, ◌∙◌}
 use Rattle.std.specs.BTreeMap.{insert_entry, is_at}
 use Rattle.std.specs.List.{filter, flat_map}
@@ -9,14 +9,14 @@ use Rattle.std.specs.Option.{is_some, option_or, unwrap_or}
 use Rattle.std.specs.Str.{bytes_eq}
 use Rattle.std.specs.declared.collections.Bound.TheVariants.{Unbounded}
 use Rattle.std.proofs.lemmas.Map.Text.{is_eq-slice_cmp}
-use Rattle.kapi_rbac_types.specs.declared.binding.ClusterRoleBinding.{ClusterRoleBinding}
-use Rattle.kapi_rbac_types.specs.declared.binding.RoleBinding.{RoleBinding}
-use Rattle.kapi_names.specs.declared.role_ref.RoleRef.{RoleRef}
-use Rattle.kapi_names.specs.declared.subject.Subject.{Subject}
+use Rattle.kapi_model.specs.declared.binding.ClusterRoleBinding.{ClusterRoleBinding}
+use Rattle.kapi_model.specs.declared.binding.RoleBinding.{RoleBinding}
+use Rattle.kapi_model.specs.declared.role_ref.RoleRef.{RoleRef}
+use Rattle.kapi_model.specs.declared.subject.Subject.{Subject}
 use Rattle.kapi_policy.specs.declared.decision.Grant.{Grant}
 use Rattle.kapi_policy.specs.Views.{granted_if}
-use Rattle.kapi_rbac_types.specs.declared.identity.Identity.{Identity}
-use Rattle.kapi_names.specs.declared.policy_rule.PolicyRule.{PolicyRule}
+use Rattle.kapi_model.specs.declared.identity.Identity.{Identity}
+use Rattle.kapi_model.specs.declared.policy_rule.PolicyRule.{PolicyRule}
 use Rattle.kapi_rules.specs.declared.point.Point.{Point}
 use Rattle.kapi_policy.specs.Decided.{Granted, bindings_of, cluster_binding, first_some, given, granted_by, is_in, is_place, namespace_binding, rules_in, rules_of}
 use Rattle.kapi_policy.specs.Objects.{PolicyObjects, name_cmp}

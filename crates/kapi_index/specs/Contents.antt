@@ -5,9 +5,9 @@ use Rattle.std.specs.List.Sorted.{IsStrictlySortedBy}
 use Rattle.std.specs.Map.{keys_of}
 use Rattle.std.specs.Option.{unwrap_or}
 use Rattle.std.specs.declared.string.String.{String}
-use Rattle.kapi_rbac_types.specs.declared.binding.ClusterRoleBinding.{ClusterRoleBinding}
-use Rattle.kapi_rbac_types.specs.declared.binding.RoleBinding.{RoleBinding}
-use Rattle.kapi_rbac_types.specs.declared.role.Role.{Role}
+use Rattle.kapi_model.specs.declared.binding.ClusterRoleBinding.{ClusterRoleBinding}
+use Rattle.kapi_model.specs.declared.binding.RoleBinding.{RoleBinding}
+use Rattle.kapi_model.specs.declared.role.Role.{Role}
 use Rattle.kapi_rules.specs.Rules.{allows}
 use Rattle.kapi_rules.specs.declared.point.Point.{Point}
 use Rattle.kapi_policy.specs.declared.change.NamespacedName.{NamespacedName}
@@ -30,15 +30,15 @@ roles_in space = space.roles.entries
 abbrev pub bindings_in : Namespace → List (List ℕ × RoleBinding)
 bindings_in space = space.bound.bindings
 
--- the place of what has a name in a namespace
+-- the place of an object that has a name in a namespace
 abbrev pub placed : {X : Type 0} → List ℕ → List ℕ × X → NamespacedName × X
 placed namespace e = (record { namespace = namespace; name = e.0 }, e.1)
 
--- what all namespaces hold, each at its place
+-- the objects of all namespaces, each at its place
 abbrev pub in_all : {X : Type 0} → (Namespace → List (List ℕ × X)) → List (List ℕ × Namespace) → List (NamespacedName × X)
 in_all held spaces = flat_map (λ s. map (placed s.0) (held s.1)) spaces
 
--- what a namespace holds, if it is there
+-- the objects of a namespace, if it is there
 abbrev pub in_one : {X : Type 0} → (Namespace → List (List ℕ × X)) → Option Namespace → List (List ℕ × X)
 in_one held None = []
 in_one held (Some space) = held space
@@ -53,7 +53,7 @@ pub record AreSpread (spaces : List (List ℕ × Namespace)) : Type 0 where
   pub sorted : IsStrictlySortedBy name_cmp (keys_of spaces)
   pub named : AreNamed spaces
 
--- what is seen of a namespace
+-- what contracts see of a namespace: its roles and bindings
 pub record Part : Type 0 where
   pub roles : List (List ℕ × Role)
   pub bound : Scoped
@@ -74,7 +74,7 @@ cluster_wide e = (e.0, record { subjects = e.1.subjects; role_ref = e.1.role_ref
 abbrev pub binding_at : BindingKind → List ℕ → List ℕ × RoleBinding → Binding
 binding_at kind namespace e = record { kind = kind; namespace = namespace; name = e.0; subjects = e.1.subjects; role = e.1.role_ref }
 
--- what a binding grants whom it means
+-- what a binding grants the identities that it matches
 abbrev pub grant_of : PolicyObjects → Point → Binding → Option Granted
 grant_of objects point b = granted_at b (position (λ rule. allows rule point) (unwrap_or (rules_of objects b.role b.namespace) []))
 

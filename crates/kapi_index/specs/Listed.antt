@@ -8,7 +8,7 @@ use Rattle.std.specs.Option.{unwrap_or}
 use Rattle.std.specs.Str.{bytes_eq}
 use Rattle.kapi_policy.specs.Objects.{name_cmp}
 
--- the name is one of those
+-- the name is one of the names
 abbrev pub is_listed : List ℕ → List (List ℕ) → Bool
 is_listed name names = list_any (is_at (name_cmp name)) names
 
@@ -24,7 +24,7 @@ has_name sets key name = is_listed name (names_at sets key)
 abbrev pub AreOrdered : List (List ℕ × List (List ℕ)) → Type 0
 AreOrdered sets = (key : List ℕ) → IsStrictlySortedBy name_cmp (names_at sets key)
 
--- the key is one of those
+-- the key is one of the keys
 abbrev pub is_key : List ℕ → List (List ℕ) → Bool
 is_key key keys = list_any (λ x. bytes_eq x key) keys
 
@@ -41,6 +41,6 @@ abbrev pub Removes : List (List ℕ) → List (List ℕ) → List ℕ → List (
 Removes keys kept name old new =
     (k n : List ℕ) → has_name new k n ≡ (has_name old k n && not ((is_key k keys && not (is_key k kept)) && bytes_eq name n))
 
--- the keys that have the name are those
+-- these keys, and no others, have the name
 abbrev pub HasAt : List (List ℕ) → List ℕ → List (List ℕ × List (List ℕ)) → Type 0
 HasAt keys name sets = (k : List ℕ) → has_name sets k name ≡ is_key k keys

@@ -1,9 +1,10 @@
--- The users and groups that the subjects of a binding mean (Kubernetes, 'Using RBAC Authorization', 'Referring to subjects').
+-- The users and groups that the subjects of a binding match (Kubernetes, 'Using RBAC Authorization', 'Referring to
+-- subjects').
 use Rattle.std.specs.Prelude.{ℕ, ◌==◌, List, [], ◌∷◌, ◌++◌, length, if◌then◌else◌, codes}
 use Rattle.std.specs.List.{flat_map}
-use Rattle.kapi_rbac_types.specs.Subjects.{namespace_of}
-use Rattle.kapi_names.specs.declared.subject.Subject.{Subject}
-use Rattle.kapi_names.specs.declared.subject.Subject.TheVariants.{User, Group, ServiceAccount}
+use Rattle.kapi_model.specs.Subjects.{namespace_of}
+use Rattle.kapi_model.specs.declared.subject.Subject.{Subject}
+use Rattle.kapi_model.specs.declared.subject.Subject.TheVariants.{User, Group, ServiceAccount}
 
 -- the user that a service account is; in no namespace there is none
 abbrev pub account_users : List ℕ → List ℕ → List (List ℕ)

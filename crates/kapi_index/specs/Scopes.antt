@@ -8,9 +8,9 @@ use Rattle.std.specs.List.Sorted.{IsStrictlySortedBy}
 use Rattle.std.specs.Map.{keys_of, lookup}
 use Rattle.std.specs.Ordering.{match_ordering}
 use Rattle.std.specs.declared.collections.Bound.{Bound as Start}
-use Rattle.kapi_rbac_types.specs.Subjects.{names}
-use Rattle.kapi_rbac_types.specs.declared.binding.RoleBinding.{RoleBinding}
-use Rattle.kapi_rbac_types.specs.declared.identity.Identity.{Identity}
+use Rattle.kapi_model.specs.Subjects.{subject_matches}
+use Rattle.kapi_model.specs.declared.binding.RoleBinding.{RoleBinding}
+use Rattle.kapi_model.specs.declared.identity.Identity.{Identity}
 use Rattle.kapi_policy.specs.Objects.{name_cmp}
 use Rattle.kapi_index.specs.Listed.{AreOrdered, has_name, is_key, names_at}
 use Rattle.kapi_index.specs.Prepared.{groups_of, users_of}
@@ -25,11 +25,11 @@ pub record Scoped : Type 0 where
 abbrev pub bare : List (List ℕ × Bound) → List (List ℕ × RoleBinding)
 bare es = map (λ e. (e.0, e.1.binding)) es
 
--- whether some subject of a binding in the namespace means the identity
+-- whether some subject of a binding in the namespace matches the identity
 abbrev pub means : List ℕ → Identity → RoleBinding → Bool
-means namespace identity b = list_any (λ s. names s namespace identity) b.subjects
+means namespace identity b = list_any (λ s. subject_matches s namespace identity) b.subjects
 
--- the bindings from a name on that mean the identity
+-- the bindings from a name on that match the identity
 abbrev pub left : Identity → Start (List ℕ) → Scoped → List (List ℕ × RoleBinding)
 left identity start s = filter (λ e. is_from_start name_cmp start e.0 && means s.namespace identity e.1) s.bindings
 
@@ -38,11 +38,11 @@ abbrev pub keys_in : (Bound → List (List ℕ)) → Option Bound → List (List
 keys_in keys None = []
 keys_in keys (Some b) = keys b
 
--- the users under whom a binding stands in the index
+-- the users under whom a binding is indexed
 abbrev pub user_keys : Bound → List (List ℕ)
 user_keys b = b.keys.users
 
--- the groups under which a binding stands in the index
+-- the groups under which a binding is indexed
 abbrev pub group_keys : Bound → List (List ℕ)
 group_keys b = b.keys.groups
 
@@ -51,7 +51,7 @@ pub record IsIndex (keys : Bound → List (List ℕ)) (es : List (List ℕ × Bo
   pub ordered : AreOrdered sets
   pub exact : (k n : List ℕ) → has_name sets k n ≡ is_key k (keys_in keys (lookup (is_at (name_cmp n)) es))
 
--- the lesser of two names, of those that there are
+-- the lesser of two names, of which either may be missing
 abbrev pub least : Option (List ℕ) → Option (List ℕ) → Option (List ℕ)
 least None b = b
 least (Some a) None = Some a
@@ -73,7 +73,7 @@ abbrev pub ArePrepared : List ℕ → List (List ℕ × Bound) → Type 0
 ArePrepared namespace [] = Unit {0}
 ArePrepared namespace (e ∷ es) = IsPrepared namespace e.1 × ArePrepared namespace es
 
--- the index is just that of the bindings
+-- the index is exactly the index of the bindings
 pub record IsExact (namespace : List ℕ) (es : List (List ℕ × Bound)) (users groups : List (List ℕ × List (List ℕ))) : Type 0 where
   pub sorted : IsStrictlySortedBy name_cmp (keys_of es)
   pub prepared : ArePrepared namespace es

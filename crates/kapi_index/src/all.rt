@@ -6,8 +6,8 @@ ghost use Rattle.kapi_index.specs.Contents.{binding_at as binding_in, bindings_i
 
 use crate::scope::Scope;
 use crate::spaces::{Namespace, Spaces};
+use kapi_model::RoleBinding;
 use kapi_policy::{Binding, BindingKind};
-use kapi_rbac_types::RoleBinding;
 use kapi_text::{Memory, Text};
 use std::alloc::Global;
 

@@ -15,10 +15,10 @@ use crate::spaces::{
 };
 use crate::walk;
 use kapi_compiled_rules::CompiledRules;
+use kapi_model::{Identity, PolicyRule, RoleBinding, RoleRef};
 use kapi_policy::{
     Binding, BindingKind, Decision, Policy, PolicyChange, PolicyKey, PolicyPut, copy_map,
 };
-use kapi_rbac_types::{Identity, PolicyRule, RoleBinding, RoleRef};
 use kapi_rules::Point;
 use kapi_text::{Memory, Text, TryCopy};
 use std::alloc::Global;
@@ -47,7 +47,7 @@ impl Model for IndexedPolicy {
 }
 
 impl IndexedPolicy {
-    /// A policy without roles and bindings. Takes no memory.
+    /// A policy without roles and bindings. Allocates nothing.
     pub fn new(alloc: Global) -> IndexedPolicy
         ensures { result ≡ no_objects }
     {
@@ -59,7 +59,7 @@ impl IndexedPolicy {
         }
     }
 
-    /// A policy of its own with the same roles and bindings.
+    /// An owned policy with the same roles and bindings.
     #[tactic(auto, using(crate::proofs::Copied::same_roles, crate::proofs::Copied::same_bindings, crate::proofs::Copied::same_spread))]
     pub fn copy(&self) -> Result<IndexedPolicy, Memory>
         ensures { IfOk result (λ p. p ≡ self.now) }
@@ -76,7 +76,7 @@ impl IndexedPolicy {
         })
     }
 
-    /// The bindings that count somewhere, in the order in which they are looked at: the cluster-wide ones, then those of
+    /// The bindings that count somewhere, in the order in which they are checked: the cluster-wide ones, then those of
     /// namespaces.
     pub fn bindings(&self) -> Result<Vec<Binding<'_>>, Memory>
         ensures { IfOk result (λ v. map binding_of v.items ≡ all_bindings self.now) }
@@ -118,7 +118,7 @@ impl IndexedPolicy {
         scope_in(&self.spaces, namespace)
     }
 
-    /// Puts the object at its place. Want of memory changes nothing.
+    /// Puts the object at its place. A failed allocation changes nothing.
     #[tactic(auto, unfolding(kapi_policy::specs::Objects::with_object))]
     fn put(&mut self, object: &PolicyPut) -> Result<(), Memory>
         ensures done { OnOk result (self.new ≡ with_object object.now self.old) }

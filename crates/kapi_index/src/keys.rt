@@ -1,14 +1,14 @@
-//! What the subjects of a binding mean, prepared where it is put.
+//! The users and groups that the subjects of a binding match, prepared when the binding is put.
 ghost use Rattle.std.specs.Prelude.{◌≡◌, ◌∷◌, ◌++◌, [], IfOk, OnOk, codes, string_bytes};
 ghost use Rattle.std.specs.List.{flat_map};
-ghost use Rattle.kapi_rbac_types.specs.Subjects.{namespace_of as namespace_of_account};
+ghost use Rattle.kapi_model.specs.Subjects.{namespace_of as namespace_of_account};
 ghost use Rattle.kapi_index.specs.Prepared.{account_users, group_of, groups_of, user_of, users_of};
 
-use kapi_rbac_types::{ServiceAccount, Subject};
+use kapi_model::{ServiceAccount, Subject};
 use kapi_text::{Memory, Sequence, Text, TryCopy};
 use std::alloc::Global;
 
-/// The users and groups that the subjects of a binding mean. A service account is the user that it is.
+/// The users and groups that the subjects of a binding match. A service account is the user that it is.
 #[derive(Drop)]
 pub struct Keys {
     pub users: Sequence<Text>,
@@ -19,7 +19,7 @@ impl Keys {
     ghost use Rattle.std.specs.Prelude.{◌≡◌, [], IfOk};
     ghost use Rattle.kapi_index.specs.Prepared.{groups_of, users_of};
 
-    /// The keys of no subject. Takes no memory.
+    /// The keys of no subject. Allocates nothing.
     pub fn none(alloc: Global) -> Keys
         ensures users { result.users ≡ [] }
         ensures groups { result.groups ≡ [] }
@@ -51,7 +51,7 @@ fn is_group(subject: &Subject) -> bool {
     }
 }
 
-// How many subjects are groups, so that a list of them is as long as it must be.
+// The number of subjects that are groups, so that a list of them is as long as it must be.
 fn group_count(subjects: &[Subject]) -> usize {
     subjects.iter().filter(|subject| is_group(subject)).count()
 }
@@ -121,7 +121,7 @@ fn push_account(
     Ok(())
 }
 
-/// The prefix, the first one, a colon, and the name.
+/// The prefix, the first text, a colon, and the name.
 fn prefixed(alloc: Global, prefix: &str, first: &str, name: &str) -> Result<Text, Memory>
     ensures { IfOk result (λ t. t ≡ prefix.now ++ (first.now ++ 58 ∷ name.now)) }
 {

@@ -28,7 +28,7 @@ impl Model for NameTree {
 }
 
 impl NameTree {
-    /// No name.
+    /// A tree without names.
     pub fn new(alloc: Global) -> NameTree
         ensures { result ≡ [] }
     {
@@ -62,7 +62,7 @@ impl NameTree {
         self.set.is_empty()
     }
 
-    /// The first name from there on.
+    /// The first name from the start on.
     pub fn first_from(&self, start: Bound<&Text>) -> Option<&Text>
         ensures { option_copied result ≡ find (is_from_start name_cmp (bound_map (λ x. x.now) start.entry)) self.now }
     {

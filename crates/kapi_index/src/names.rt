@@ -20,7 +20,7 @@ pub struct NameSet {
     names: Names,
 }
 
-/// One name alone takes no tree: most users have one binding.
+/// A single name needs no tree: most users have one binding.
 #[derive(Drop)]
 pub enum Names {
     Few(Option<Text>),
@@ -59,7 +59,7 @@ fn is_from(start: Bound<&Text>, name: &Text) -> bool
 }
 
 impl NameSet {
-    /// No name.
+    /// A set without names.
     pub fn new() -> NameSet
         ensures { result ≡ [] }
     {
@@ -109,7 +109,7 @@ impl NameSet {
         }
     }
 
-    /// The first name from there on.
+    /// The first name from the start on.
     pub fn first_from(&self, start: Bound<&Text>) -> Option<&Text>
         ensures { option_copied result ≡ find (is_from_start name_cmp (bound_map (λ x. x.now) start.entry)) self.now }
     {

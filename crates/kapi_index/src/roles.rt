@@ -1,6 +1,6 @@
 //! Roles with the entries of their rules prepared.
 use kapi_compiled_rules::CompiledRules;
-use kapi_rbac_types::{AggregationRule, ClusterRole, Role};
+use kapi_model::{AggregationRule, ClusterRole, Role};
 use kapi_text::{Memory, TryCopy};
 use std::alloc::Global;
 use std::marker::Model;
@@ -12,7 +12,7 @@ pub struct PreparedRole {
 }
 
 impl Model for PreparedRole {
-    ghost use Rattle.kapi_rbac_types.specs.declared.role.Role.{Role};
+    ghost use Rattle.kapi_model.specs.declared.role.Role.{Role};
 
     ghost Value = { Role };
 
@@ -30,7 +30,7 @@ impl PreparedRole {
         Ok(PreparedRole { rules })
     }
 
-    /// Its rules.
+    /// The rules of the cluster role.
     pub fn rules(&self) -> &CompiledRules
         ensures { result.now ≡ self.now.rules }
     {
@@ -46,7 +46,7 @@ pub struct PreparedClusterRole {
 }
 
 impl Model for PreparedClusterRole {
-    ghost use Rattle.kapi_rbac_types.specs.declared.role.ClusterRole.{ClusterRole};
+    ghost use Rattle.kapi_model.specs.declared.role.ClusterRole.{ClusterRole};
 
     ghost Value = { ClusterRole };
 
@@ -68,7 +68,7 @@ impl PreparedClusterRole {
         })
     }
 
-    /// Its rules.
+    /// The rules of the cluster role.
     pub fn rules(&self) -> &CompiledRules
         ensures { result.now ≡ self.now.rules }
     {

@@ -10,7 +10,7 @@ ghost use Rattle.kapi_index.specs.Scopes.{IsIndex, bare, first_name as first_nam
 
 use crate::keys::Keys;
 use crate::sets::{NameSets, add_all, first_under, remove_all};
-use kapi_rbac_types::{Identity, RoleBinding};
+use kapi_model::{Identity, RoleBinding};
 use kapi_text::{Memory, Text, TryCopy};
 use std::alloc::{AllocError, Global};
 use std::cmp::Ordering;
@@ -18,7 +18,7 @@ use std::collections::BTreeMap;
 use std::marker::Model;
 use std::ops::Bound as Start;
 
-/// A binding and what its subjects mean.
+/// A binding and the users and groups that its subjects match.
 #[derive(Drop)]
 pub struct Bound {
     pub binding: RoleBinding,
@@ -27,10 +27,10 @@ pub struct Bound {
 
 pub type Bindings = BTreeMap<Text, Bound>;
 
-/// So many bindings are looked at one by one sooner than a user and his groups are looked up among them.
+/// The number of bindings up to which checking each is faster than looking up a user and the user's groups.
 const FEW: usize = 32;
 
-/// The bindings of one namespace by name, or, where it is empty, the cluster-wide ones.
+/// The bindings of one namespace by name, or, where the namespace is empty, the cluster-wide ones.
 #[derive(Drop)]
 pub struct Scope {
     alloc: Global,
@@ -52,7 +52,7 @@ impl Model for Scope {
 
 // ---- the index
 
-// Puts the name under the keys. A refusal changes nothing.
+// Puts the name under the keys. A failed allocation changes nothing.
 fn index(
     alloc: Global,
     users: &mut NameSets,
@@ -92,7 +92,7 @@ fn index(
     }
 }
 
-// Takes the name out under the keys, but for those that are kept.
+// Takes the name out under the keys, but for the keys that are kept.
 fn unindex(users: &mut NameSets, groups: &mut NameSets, keys: &Keys, kept: &Keys, name: &Text)
     ensures users { Removes keys.now.users kept.now.users name.now users.old.entries users.new.entries }
     ensures groups { Removes keys.now.groups kept.now.groups name.now groups.old.entries groups.new.entries }
@@ -127,7 +127,7 @@ fn into_keys(alloc: Global, bound: Option<Bound>) -> Keys
     }
 }
 
-// Puts a binding under its name. A refusal changes nothing.
+// Puts a binding under its name. A failed allocation changes nothing.
 fn put_bound(
     alloc: Global,
     bindings: &mut Bindings,
@@ -281,14 +281,14 @@ impl Scope {
         &self.bindings
     }
 
-    /// Whether it is sooner to look at each binding than to look up those that mean an identity.
+    /// Whether checking each binding is faster than looking up those that match an identity.
     pub fn has_few(&self) -> bool
         ensures { result ≡ nat_le (length self.now.bindings) FEW }
     {
         self.bindings.len() <= FEW
     }
 
-    /// Puts a binding under its name. Want of memory changes nothing.
+    /// Puts a binding under its name. A failed allocation changes nothing.
     pub fn put(&mut self, name: &Text, binding: RoleBinding) -> Result<(), Memory>
         ensures done { OnOk result (self.new ≡ record self.old { bindings = insert_entry name_cmp self.old.bindings name.now binding }) }
         ensures kept { OnErr result (self.new ≡ self.old) }
@@ -321,7 +321,7 @@ impl Scope {
         );
     }
 
-    /// A scope of its own with the same bindings.
+    /// An owned scope with the same bindings.
     pub fn copy(&self) -> Result<Scope, Memory>
         ensures { IfOk result (λ s. s ≡ self.now) }
     {
@@ -330,7 +330,7 @@ impl Scope {
         Ok(copied)
     }
 
-    /// The first binding from there on that means the identity.
+    /// The first binding from the start on that matches the identity.
     pub fn next<'a>(
         &'a self,
         identity: &Identity,

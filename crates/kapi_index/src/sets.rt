@@ -15,7 +15,7 @@ use std::ops::Bound;
 /// The names of bindings under each key, a user or a group.
 pub type NameSets = BTreeMap<Text, NameSet>;
 
-/// The first name under a key from there on.
+/// The first name under a key from the start on.
 pub fn first_under<'a>(sets: &'a NameSets, key: &Text, start: Bound<&Text>) -> Option<&'a Text>
     ensures { option_copied result ≡ find (is_from_start name_cmp (bound_map (λ x. x.now) start.entry)) (names_at sets.now.entries key.now) }
 {
@@ -52,7 +52,7 @@ fn add(alloc: Global, sets: &mut NameSets, key: &Text, name: &Text) -> Result<()
     }
 }
 
-// Takes the name out under the key; whether no name is left there.
+// Takes the name out under the key, and returns whether no name is left there.
 fn take_name(sets: &mut NameSets, key: &Text, name: &Text) -> bool
     ensures gone { Removes (key.now ∷ []) [] name.now sets.old.entries sets.new.entries }
     ensures ordered { AreOrdered sets.old.entries → AreOrdered sets.new.entries }
@@ -83,7 +83,7 @@ fn is_key(key: &Text, keys: &[Text]) -> bool
     keys.iter().any(|other| other == key)
 }
 
-// Takes the name out under the key, unless that is one of those that are kept.
+// Takes the name out under the key, unless the key is one of those that are kept.
 fn remove_unless_kept(sets: &mut NameSets, key: &Text, kept: &[Text], name: &Text)
     ensures gone { Removes (key.now ∷ []) kept.now name.now sets.old.entries sets.new.entries }
     ensures ordered { AreOrdered sets.old.entries → AreOrdered sets.new.entries }
@@ -93,7 +93,7 @@ fn remove_unless_kept(sets: &mut NameSets, key: &Text, kept: &[Text], name: &Tex
     }
 }
 
-/// Takes the name out under the keys, but for those that are kept.
+/// Takes the name out under the keys, but for the keys that are kept.
 pub fn remove_all(sets: &mut NameSets, keys: &[Text], kept: &[Text], name: &Text)
     ensures gone { Removes keys.now kept.now name.now sets.old.entries sets.new.entries }
     ensures ordered { AreOrdered sets.old.entries → AreOrdered sets.new.entries }
@@ -103,7 +103,7 @@ pub fn remove_all(sets: &mut NameSets, keys: &[Text], kept: &[Text], name: &Text
     }
 }
 
-/// Puts the name under the keys. A refusal changes nothing: the name stays under the keys that had it before.
+/// Puts the name under the keys. A failed allocation changes nothing: the name stays under the keys that had it before.
 pub fn add_all(
     alloc: Global,
     sets: &mut NameSets,

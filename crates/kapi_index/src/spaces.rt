@@ -9,8 +9,8 @@ ghost use Rattle.kapi_index.specs.Contents.{AreSpread, binding_at, bindings_in, 
 use crate::roles::PreparedRole;
 use crate::scope::Scope;
 use kapi_compiled_rules::CompiledRules;
+use kapi_model::RoleBinding;
 use kapi_policy::{BindingKind, NamespacedName, copy_map};
-use kapi_rbac_types::RoleBinding;
 use kapi_text::{Memory, Text, TryCopy};
 use std::alloc::Global;
 use std::collections::BTreeMap;
@@ -36,7 +36,7 @@ fn empty(alloc: Global, name: &Text) -> Result<Namespace, Memory>
     })
 }
 
-// A role in its namespace.
+// Puts a role in its namespace.
 fn insert_role(space: &mut Namespace, name: Text, role: PreparedRole) -> Result<(), Memory>
     ensures done { OnOk result (space.new.roles.entries ≡ insert_entry name_cmp space.old.roles.entries name role) }
     ensures kept { OnErr result (space.new.roles.entries ≡ space.old.roles.entries) }
@@ -46,7 +46,7 @@ fn insert_role(space: &mut Namespace, name: Text, role: PreparedRole) -> Result<
     Ok(())
 }
 
-// A role in a namespace that is not there yet.
+// Puts a role in a namespace that is not there yet.
 fn put_first_role(
     alloc: Global,
     spaces: &mut Spaces,
@@ -88,7 +88,7 @@ pub fn put_role(
     }
 }
 
-// A binding in a namespace that is not there yet.
+// Puts a binding in a namespace that is not there yet.
 fn put_first_binding(
     alloc: Global,
     spaces: &mut Spaces,
@@ -197,7 +197,7 @@ fn copy_space(alloc: Global, space: &Namespace) -> Result<Namespace, Memory>
     Ok(Namespace { roles, bound })
 }
 
-/// Namespaces of their own with the same roles and bindings.
+/// Owned namespaces with the same roles and bindings.
 pub fn copy_spaces(alloc: Global, spaces: &Spaces) -> Result<Spaces, Memory>
     requires spread { AreSpread (by_text spaces.now.entries) }
     ensures { IfOk result (λ s. parts (by_text s.entries) ≡ parts (by_text spaces.now.entries)) }

@@ -1,10 +1,10 @@
-//! The walk over the bindings that mean an identity.
+//! The walk over the bindings that match an identity.
 ghost use Rattle.std.specs.Prelude.{◌≡◌, ◌++◌, [], map, IfOk, OnOk, option_copied};
 ghost use Rattle.std.specs.List.{flat_map, list_any, position};
 ghost use Rattle.std.specs.Option.{unwrap_or};
 ghost use Rattle.kapi_policy.specs.Decided.{bindings_of, cluster_binding, decided, first_some, given, granted, granted_at, granted_by, held as held_by, rules_of, rules_of_kind};
 ghost use Rattle.kapi_policy.specs.Views.{binding_of, decision_of, granted_if};
-ghost use Rattle.kapi_rbac_types.specs.Subjects.{names as names_of};
+ghost use Rattle.kapi_model.specs.Subjects.{subject_matches as matches_of};
 ghost use Rattle.kapi_rules.specs.Rules.{allows as rule_allows};
 ghost use Rattle.kapi_compiled_rules.specs.Points.{point_of};
 ghost use Rattle.kapi_index.specs.Contents.{binding_at, grant_of};
@@ -12,8 +12,8 @@ ghost use Rattle.kapi_index.specs.Contents.{binding_at, grant_of};
 use crate::indexed::IndexedPolicy;
 use crate::scope::Scope;
 use kapi_compiled_rules::{Asked, CompiledRules, ask};
+use kapi_model::{Identity, PolicyRule, RoleBinding, RoleKind, RoleRef, subject_matches};
 use kapi_policy::{Binding, BindingKind, Decision, Grant, push_rules};
-use kapi_rbac_types::{Identity, PolicyRule, RoleBinding, RoleKind, RoleRef, names};
 use kapi_rules::Point;
 use kapi_text::{Memory, Text};
 use std::alloc::Global;
@@ -21,7 +21,7 @@ use std::ops::Bound;
 
 // ---- roles
 
-// A role stands in a namespace, so that cluster-wide there is none.
+// The rules of a role in a namespace; cluster-wide there is none.
 fn rules_of_role<'a>(
     policy: &'a IndexedPolicy,
     name: &Text,
@@ -85,15 +85,12 @@ fn binding_in<'a>(
 }
 
 fn is_bound(binding: &Binding<'_>, identity: &Identity) -> bool
-    ensures { result ≡ list_any (λ s. names_of s (binding_of binding.now).namespace identity.now) (binding_of binding.now).subjects }
+    ensures { result ≡ list_any (λ s. matches_of s (binding_of binding.now).namespace identity.now) (binding_of binding.now).subjects }
 {
-    binding
-        .subjects
-        .iter()
-        .any(|subject| names(subject, binding.namespace, identity))
+    binding.subjects.iter().any(|subject| subject_matches(subject, binding.namespace, identity))
 }
 
-// The grant of a binding by the first of some rules that allows what is asked.
+// The grant of a binding by the first of some rules that allows the point.
 fn grant_in<'a>(
     binding: &Binding<'a>,
     rules: &CompiledRules,
@@ -112,7 +109,7 @@ fn grant_in<'a>(
     }
 }
 
-// The grant of a binding by the first rule of its role that allows what is asked.
+// The grant of a binding by the first rule of its role that allows the point.
 fn grant_by<'a>(
     policy: &'a IndexedPolicy,
     binding: &Binding<'a>,
@@ -143,7 +140,7 @@ fn push_of(
 
 // ---- the bindings of a scope
 
-// The grant of a binding by the first rule of its role that allows what is asked, if a subject of it means the identity.
+// The grant of a binding by the first rule of its role that allows the point, if a subject of it matches the identity.
 #[tactic(auto, unfolding(kapi_policy::specs::Decided::granted_by, kapi_policy::specs::Decided::given))]
 fn grant_to<'a>(
     policy: &'a IndexedPolicy,
@@ -160,7 +157,7 @@ fn grant_to<'a>(
     }
 }
 
-// Of few bindings each is looked at.
+// The first grant among few bindings: each is checked.
 fn grant_of_few<'a>(
     policy: &'a IndexedPolicy,
     kind: BindingKind,
@@ -180,7 +177,7 @@ fn grant_of_few<'a>(
     None
 }
 
-// Of many bindings those that mean the identity are looked up.
+// The first grant among many bindings: those that match the identity are looked up.
 fn grant_of_many<'a>(
     policy: &'a IndexedPolicy,
     kind: BindingKind,
@@ -267,7 +264,7 @@ fn namespace_grant<'a>(
     }
 }
 
-// The first rule that allows what is asked, among those that the identity holds in the namespace.
+// The first rule that allows the point, among those that the identity holds in the namespace.
 #[tactic(auto, unfolding(kapi_policy::specs::Decided::granted, kapi_policy::specs::Decided::bindings_in), using(kapi_policy::proofs::Firsts::first_some_append))]
 fn grant<'a>(
     policy: &'a IndexedPolicy,
@@ -284,7 +281,7 @@ fn grant<'a>(
     namespace_grant(policy, identity, namespace, asked)
 }
 
-/// Whether the identity may do this in the namespace, and the first rule by which he may. Takes no memory.
+/// Whether the identity may do this in the namespace, and the first rule that allows it. Allocates nothing.
 #[tactic(auto, unfolding(kapi_policy::specs::Decided::decided))]
 pub fn decide<'a>(
     policy: &'a IndexedPolicy,
@@ -343,7 +340,7 @@ fn push_in_namespace(
     }
 }
 
-/// The rules that the identity holds in the namespace, in order, each binding's once.
+/// The rules that the identity holds in the namespace, in order, those of each binding once.
 #[tactic(auto, unfolding(kapi_policy::specs::Decided::held, kapi_policy::specs::Decided::bindings_in), using(kapi_policy::proofs::Firsts::flat_map_append))]
 pub fn held(
     alloc: Global,

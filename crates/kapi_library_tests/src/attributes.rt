@@ -48,7 +48,7 @@ fn told(alloc: Global, method: Method, target: &str) -> Result<String, AllocErro
     }
 }
 
-// Each row tells the version, the number of parts and the pairs of the query, of which no reply speaks.
+// Each row has the version, the number of parts and the pairs of the query, which no reply shows.
 static ROWS: [(Method, &str, &str); 20] = [
     (Get, "/api/v1/namespaces/n", "n (get,,namespaces,,n) v1 2"),
     (Get, "/api/v1/namespaces/", " (list,,namespaces,,) v1 1"),

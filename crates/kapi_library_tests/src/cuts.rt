@@ -4,7 +4,7 @@ use std::alloc::Global;
 use std::process::Abort;
 use std::test::Fail;
 
-// Twenty pieces of text of which the mixed texts are made.
+// The twenty pieces of text that the mixed texts are made of.
 const PARTS: [&[u8]; 20] = [
     b"GET / HTTP/1.1\r\nHost: a\r\n\r\n",
     b"POST /x HTTP/1.1\nHost: a\nContent-Length: 3\n\nabc",

@@ -4,7 +4,7 @@ use std::alloc::Global;
 use std::process::Abort;
 use std::test::Fail;
 
-// What the inbox gives next is this; it is taken out.
+// Checks that the inbox returns this item next, and takes it out.
 fn take(rt: &impl Abort, alloc: Global, inbox: &mut Inbox, wanted: &str) -> Result<(), Fail> {
     let found = inbox.next()?;
     let said = shown(alloc, &found)?;
@@ -30,7 +30,7 @@ fn feed_takes_all_or_nothing(rt: HostRuntime) -> Result<(), Fail> {
     assert_eq!(rt; inbox.feed(b"a"), Err(FeedError::Full));
     assert_eq!(rt; inbox.feed(b""), Ok(()));
     take(&rt, alloc, &mut inbox, "POST / 2 49 2")?;
-    // The request's bytes left, and what follows it is 16,384 bytes of no head.
+    // The request's bytes left, and 16,384 bytes of no head follow.
     assert_eq!(rt; inbox.feed(FED), Ok(()));
     assert_eq!(rt; inbox.feed(more.as_slice()), Err(FeedError::Full));
     take(&rt, alloc, &mut inbox, "431 ")?;
@@ -40,7 +40,7 @@ fn feed_takes_all_or_nothing(rt: HostRuntime) -> Result<(), Fail> {
     Ok(())
 }
 
-// Under a run that refuses a growth, the call leaves the state, and the same call then succeeds.
+// Under a run that refuses an allocation, the call leaves the state, and the same call then succeeds.
 #[test]
 fn a_refused_feed_changes_nothing(rt: HostRuntime) -> Result<(), Fail> {
     let mut inbox = Inbox::new(rt.alloc());

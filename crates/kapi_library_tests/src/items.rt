@@ -1,10 +1,10 @@
-// What an inbox gives of a text, in words, and texts that are made of parts.
+// The items that an inbox returns for a text, in words, and texts that are made of parts.
 use kapi_http::{FeedError, HttpFault, HttpRequest, Inbox, Memory};
 use std::alloc::Global;
 use std::process::Abort;
 use std::test::Fail;
 
-// What the bytes begin with, in one line: `wait`, a fault's code, word and whether its reply has no body, or a
+// The first item of the bytes, in one line: `wait`, a fault's code, word and whether its reply has no body, or a
 // request's method, target, number of fields, length, close mark and body.
 pub fn shown(
     alloc: Global,
@@ -32,7 +32,7 @@ pub fn shown_request(alloc: Global, request: &HttpRequest) -> Result<String, Mem
     format!(in alloc; "{method} {target} {fields} {length}{close} {body}")
 }
 
-// What an inbox that was fed the text says first.
+// The first item of an inbox that was fed the text.
 pub fn first(alloc: Global, text: &[u8]) -> Result<String, Fail> {
     let mut inbox = Inbox::new(alloc);
     inbox.feed(text)?;
@@ -40,7 +40,7 @@ pub fn first(alloc: Global, text: &[u8]) -> Result<String, Fail> {
     Ok(shown(alloc, &item)?)
 }
 
-// Everything that an inbox gives which is fed the text in pieces of that many bytes, each item behind a semicolon.
+// Every item of an inbox that is fed the text in pieces of that many bytes, each behind a semicolon.
 pub fn all(alloc: Global, text: &[u8], size: usize) -> Result<String, Fail> {
     let mut inbox = Inbox::new(alloc);
     let mut said = String::new(alloc);

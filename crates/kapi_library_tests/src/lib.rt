@@ -1,5 +1,5 @@
-//! Tests of the libraries that no script can show: refused allocations, writes that are prepared and not committed, the edges of the
-//! window of changes, requests cut at every byte, both policies over random changes, copies, and parts of which no reply speaks.
+//! Tests of the libraries that no script can show: refused allocations, prepared writes that are not committed, the
+//! edges of the window of changes, requests cut at every byte, both policies over random changes, and copies.
 #![tactic(auto)]
 
 #[cfg(test)]

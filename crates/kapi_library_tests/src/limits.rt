@@ -26,7 +26,7 @@ static LONG_BODIES: [(&[u8], usize, &[u8], &str); 9] = [
     (b"1\r\nx\r\n", 100, b"fff9d\r\n", "413 "),
 ];
 
-// That each body behind the head begins so.
+// Checks that each body behind the head begins with its item.
 fn are_bodies(
     rt: &impl Abort,
     alloc: Global,
@@ -103,7 +103,7 @@ static LONG_TEXTS: [(&[u8], &[u8], usize, &[u8], &str); 14] = [
     (b"GET / HTTP/1.0\n", b"X: y\n", 65, b"\n", "431 "),
 ];
 
-// That each text begins so.
+// Checks that each text begins with its item.
 fn are_heads(
     rt: &impl Abort,
     alloc: Global,

@@ -1,6 +1,6 @@
-use kapi_admission::{ObjectError, read_object};
-use kapi_names::{ResourceRow, Schema, Selector, SelectorError, check_name};
-use kapi_object::GivenText;
+use kapi_object::{
+    GivenText, ObjectError, ResourceRow, Schema, Selector, SelectorError, check_name, read_object,
+};
 use kapi_text::{Text, TryCopy};
 use std::alloc::{AllocError, Global};
 use std::process::Abort;
@@ -53,7 +53,7 @@ fn only_core_namespaces_are_dns_labels(rt: HostRuntime) -> Result<(), Fail> {
     Ok(())
 }
 
-/// Run with each allocation refused in turn: the same call then succeeds.
+/// The test is run with each allocation refused in turn: the same call then succeeds.
 #[test]
 fn want_of_memory_is_told(rt: HostRuntime) -> Result<(), Fail> {
     let alloc = rt.alloc();

@@ -1,11 +1,10 @@
-//! That a policy which is walked and one which has an index answer alike.
+//! Checks that a policy which is walked and one which has an index answer alike.
 use kapi_index::IndexedPolicy;
-use kapi_names::PolicyRule;
-use kapi_policy::{NamespacedName, PlainPolicy, Policy, PolicyChange, PolicyKey, PolicyPut};
-use kapi_rbac_types::{
-    ClusterRole, ClusterRoleBinding, Identity, Role, RoleBinding, RoleKind, RoleRef,
+use kapi_model::{
+    ClusterRole, ClusterRoleBinding, Identity, PolicyRule, Role, RoleBinding, RoleKind, RoleRef,
     ServiceAccount, Subject,
 };
+use kapi_policy::{NamespacedName, PlainPolicy, Policy, PolicyChange, PolicyKey, PolicyPut};
 use kapi_rules::{Point, ResourcePoint};
 use kapi_text::{Memory, Sequence, Text};
 use std::alloc::{AllocError, Global};
@@ -170,7 +169,7 @@ fn any_change(alloc: Global, state: &mut u64) -> Result<PolicyChange, AllocError
     }
 }
 
-/// What a policy is asked: who asks for which point, in which namespace, and what a role there is.
+/// A question to a policy: an identity, a point and a namespace, and a role there.
 #[derive(Drop)]
 struct Question {
     identity: Identity,
@@ -212,7 +211,7 @@ fn any_question(alloc: Global, state: &mut u64) -> Result<Question, AllocError> 
 
 // ---- both policies
 
-/// The decision, the held rules and the rules of the role that a policy answers.
+/// The decision, the held rules and the rules of the role that a policy returns.
 fn answers<P: Policy>(
     alloc: Global,
     policy: &P,
@@ -237,7 +236,7 @@ fn assert_alike(
     Ok(())
 }
 
-/// Makes a change in both. It takes the change, so that no caller has one to drop.
+/// Makes a change in both policies. It takes the change, so that no caller has one to drop.
 fn change_both(
     plain: &mut PlainPolicy,
     indexed: &mut IndexedPolicy,
@@ -270,9 +269,9 @@ fn both_policies_answer_alike(rt: HostRuntime) -> Result<(), Fail> {
     Ok(())
 }
 
-// ---- scopes of more bindings than are looked at one by one
+// ---- scopes of more bindings than are checked one by one
 
-/// Puts a cluster role of this name, which may do that with pods.
+/// Puts a cluster role of this name, which allows the verb on pods.
 fn put_role(
     alloc: Global,
     plain: &mut PlainPolicy,
@@ -286,7 +285,7 @@ fn put_role(
     Ok(change_both(plain, indexed, PolicyChange::Put(put))?)
 }
 
-/// The role, the user and the group that a binding of a number has. Four of them mean user `a` of the group `g`.
+/// The role, the user and the group of a binding of a number. Four of the bindings match user `a` of the group `g`.
 fn bound_to(number: usize) -> (&'static str, &'static str, &'static str) {
     match number {
         12 => ("list", "a", "h"),
@@ -334,7 +333,7 @@ fn numbered_deletion(
     Ok(PolicyChange::Delete(PolicyKey::RoleBinding(place)))
 }
 
-/// User `a` of the group `g`, who asks to do this with pods.
+/// A question of user `a` of the group `g` about the verb on pods.
 fn question_of_a(
     alloc: Global,
     namespace: &'static str,
@@ -394,7 +393,7 @@ fn grow(
     Ok(())
 }
 
-/// Deletes them, the first name first, and asks after each.
+/// Deletes the forty bindings, the first name first, and asks after each.
 fn shrink(
     rt: &impl Abort,
     alloc: Global,

@@ -6,7 +6,7 @@ use std::test::Fail;
 
 const REQUEST: &[u8] = b"\nPOST /b HTTP/1.1\r\nHost: a\r\nContent-Length: 4\r\n\r\nabcd";
 
-// That every front of a text waits for more.
+// Checks that every front of a text waits for more.
 fn are_waiting(rt: &impl Abort, alloc: Global, text: &[u8]) -> Result<(), Fail> {
     for size in 0..text.len() {
         expect(rt, alloc, &text[..size], "wait")?;

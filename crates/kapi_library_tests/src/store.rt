@@ -1,4 +1,4 @@
-//! Writes that are prepared and not committed, the last revision, the window of changes, and want of memory.
+//! Writes that are prepared and not committed, the last revision, the window of changes, and failed allocations.
 ghost use Rattle.std.specs.Prelude.{◌≡◌, ◌≤◌, IfOk, map};
 ghost use Rattle.std.specs.List.{IsDistinct};
 ghost use Rattle.std.specs.Map.{keys_of};
@@ -6,16 +6,14 @@ ghost use Rattle.kapi_store.specs.Keys.{is_key};
 ghost use Rattle.kapi_store.specs.Listing.{shown};
 ghost use Rattle.kapi_store.specs.State.{Fits};
 
-use kapi_admission::read_object;
-use kapi_names::{ResourceRow, Schema, Selector};
-use kapi_object::Object;
+use kapi_object::{Object, ResourceRow, Schema, Selector, read_object};
 use kapi_store::{Change, Key, LAST_REVISION, Listed, Ready, Store, StoreError};
 use kapi_text::{Sequence, Text, TryCopy};
 use std::alloc::Global;
 use std::process::Abort;
 use std::test::Fail;
 
-/// Each assertion stands in a function of its own: what an assertion expands to is proved once.
+/// Each assertion is in a function of its own: what an assertion expands to is proved once.
 fn is_so(rt: &impl Abort, so: bool, what: &str) {
     assert!(rt; so, "{what}");
 }
@@ -28,7 +26,7 @@ pub fn is_text(rt: &impl Abort, text: &str, wanted: &str) {
     assert_eq!(rt; text, wanted);
 }
 
-/// A row of the core group.
+/// A resource type of the core group.
 pub fn row(alloc: Global, plural: &str, kind: &str, namespaced: bool) -> Result<ResourceRow, Fail> {
     Ok(ResourceRow {
         group: Text::copy_of(alloc, "")?,
@@ -144,7 +142,7 @@ fn creations_that_are_dropped_are_not_seen(rt: HostRuntime) -> Result<(), Fail> 
     Ok(())
 }
 
-/// The selector that means all objects.
+/// The selector that matches all objects.
 fn everything(alloc: Global) -> Selector {
     Selector {
         match_labels: Sequence::new(Vec::new(alloc)),
@@ -219,7 +217,7 @@ fn word(ready: &Result<Ready, StoreError>) -> &'static str {
     }
 }
 
-/// A write, its place and its value, and the answer where no revision is left: that comes last.
+/// A write, its place and its value, and the answer where no revision is left: that check comes last.
 static WRITES: [(&str, &str, &str, &str); 10] = [
     ("create", "configmaps/n/a", "1", "exists"),
     ("create", "configmaps/o/a", "1", "no namespace"),
@@ -233,7 +231,7 @@ static WRITES: [(&str, &str, &str, &str); 10] = [
     ("remove", "namespaces//m", "", "used up"),
 ];
 
-/// A word for what is answered to a write, which is not committed.
+/// A word for the answer to a write, which is not committed.
 fn answer(
     alloc: Global,
     store: &mut Store,
@@ -250,7 +248,7 @@ fn answer(
     Ok(word(&ready))
 }
 
-/// That the writes are answered so.
+/// Checks that the writes are answered with these words.
 fn are_answered(
     rt: &impl Abort,
     alloc: Global,
@@ -330,7 +328,7 @@ static EDGES: [(u64, u64, Option<(u64, u64)>); 11] = [
     (2_100, 1_176, Some((1_177, 1_024))),
 ];
 
-/// That the changes after these revisions are as told.
+/// Checks that the changes after these revisions are as listed.
 fn are_windows(
     rt: &impl Abort,
     alloc: Global,
@@ -366,7 +364,7 @@ fn a_change_has_its_old_object(rt: HostRuntime) -> Result<(), Fail> {
     Ok(())
 }
 
-// ---- want of memory: run with each allocation refused in turn, the state is as before, and the same call then succeeds
+// ---- failed allocations: with each one refused in turn, the state is as before, and the same call then succeeds
 
 /// Makes a prepared write, where it was not refused.
 fn commit_if(store: &mut Store, ready: Result<Ready, StoreError>)
@@ -378,7 +376,7 @@ fn commit_if(store: &mut Store, ready: Result<Ready, StoreError>)
     }
 }
 
-/// Whether a write was refused for want of memory.
+/// Whether a write was refused as an allocation failed.
 fn wants_memory(ready: &Result<Ready, StoreError>) -> bool {
     matches!(ready, Err(StoreError::Memory))
 }

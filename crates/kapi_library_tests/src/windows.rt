@@ -1,13 +1,14 @@
 //! The edges of the window of changes, as watches see them.
 use crate::store::{is_text, key, object, put_all, row, store_at};
-use kapi_names::{ResourceRow, Selector};
+use kapi_model::{ResourceRow, Selector};
 use kapi_store::Store;
 use kapi_watch::{Watch, WatchError};
 use std::alloc::Global;
 use std::process::Abort;
 use std::test::Fail;
 
-/// Updates that come after revision 3, a revision to start from, and what the watch shows first, or why it does not start.
+/// Updates that come after revision 3, a revision to start from, and what the watch shows first, or why it does not
+/// start.
 static WINDOWS: [(u64, Option<u64>, &str); 8] = [
     (1_024, Some(2), "below the window"),
     (1_024, Some(3), "MODIFIED"),
@@ -19,7 +20,7 @@ static WINDOWS: [(u64, Option<u64>, &str); 8] = [
     (0, Some(4), "above the current revision"),
 ];
 
-/// The row of config maps.
+/// The resource type of config maps.
 fn config_maps(alloc: Global) -> Result<ResourceRow, Fail> {
     row(alloc, "configmaps", "ConfigMap", true)
 }
@@ -76,7 +77,7 @@ fn updated(alloc: Global, count: u64) -> Result<Store, Fail> {
     Ok(store)
 }
 
-/// That watches which start so show this first.
+/// Checks that watches which start so show this first.
 fn are_started(
     rt: &impl Abort,
     alloc: Global,
@@ -95,7 +96,7 @@ fn watches_start_within_the_window(rt: HostRuntime) -> Result<(), Fail> {
     are_started(&rt, rt.alloc(), &WINDOWS)
 }
 
-/// Pumps a watch, and looks at what it shows.
+/// Pumps a watch, and compares what it shows.
 fn pump(rt: &impl Abort, store: &Store, watch: &mut Watch, wanted: &str) {
     is_text(rt, next_word(watch, store), wanted);
     watch.shown(watch.next(store).place);

@@ -5,7 +5,7 @@ use std::alloc::Global;
 use std::process::Abort;
 use std::test::Fail;
 
-// So many bytes as a chunk are these: a front, the bytes, CRLF.
+// Checks that a chunk of so many bytes is the front, the bytes, CRLF.
 fn expect_chunk(rt: &impl Abort, alloc: Global, count: usize, front: &[u8]) -> Result<(), Fail> {
     let bytes = repeated(alloc, b"", b"x", count, b"")?;
     let wanted = repeated(alloc, front, b"x", count, b"\r\n")?;

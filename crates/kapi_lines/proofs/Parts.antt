@@ -19,7 +19,7 @@ no_end_yet text i none below other =
 pub whole_line : (text : List ℕ) (i : ℕ) → HasNoEnd (take i text) → length text ≤ i → parts_of text ≡ text ∷ []
 whole_line text i none past = slice_split_none (λ b. b == 10) text (subst HasNoEnd (take_all i text past) none)
 
--- the first line, and what stands behind its end
+-- the first line, and the text behind its end
 pub first_line : (text : List ℕ) (i : ℕ) → HasNoEnd (take i text) → i < length text → get_or text i 0 ≡ 10
     → parts_of text ≡ take i text ∷ parts_of (drop (i + 1) text)
 first_line text i none below end =

@@ -20,13 +20,13 @@ escaped_byte b =
     else (if nat_le 32 b && nat_le b 126 then b ∷ []
     else 92 ∷ 120 ∷ digit_char (b / 16) ∷ digit_char (b % 16) ∷ []))))
 
--- a text as it is written
+-- a text, escaped
 abbrev pub escaped : List ℕ → List ℕ
 escaped bytes = flat_map escaped_byte bytes
 
 -- ---- reading
 
--- the byte that a letter behind a backslash stands for
+-- the byte that a letter behind a backslash writes
 unfoldable pub after_backslash : ℕ → Effect
 after_backslash b =
     if b == 92 then Byte 92
@@ -53,7 +53,7 @@ behind (Byte b) rest = option_map (λ bytes. b ∷ bytes) (rest Plain)
 behind (To place) rest = rest place
 behind Bad rest = None
 
--- the bytes that a text stands for, from a place on; none where a backslash begins no escape
+-- the bytes that a text writes, from a place on; none where a backslash begins no escape
 unfoldable pub unescaped_from : Place → List ℕ → Option (List ℕ)
 unescaped_from Plain [] = Some []
 unescaped_from Escape [] = None
@@ -61,6 +61,6 @@ unescaped_from HighDigit [] = None
 unescaped_from (LowDigit high) [] = None
 unescaped_from place (b ∷ bs) = behind (read place b) (λ next. unescaped_from next bs)
 
--- the text that was written so, if it is one
+-- the text whose escaped form this is, if it is one
 abbrev pub unescaped : List ℕ → Option (List ℕ)
 unescaped text = unescaped_from Plain text

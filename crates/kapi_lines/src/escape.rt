@@ -8,7 +8,7 @@ use kapi_text::Memory;
 use std::alloc::Global;
 use std::io::{self, Write};
 
-/// Where a reader of a script's text stands.
+/// The place of a reader in a script's text.
 #[derive(Clone, Copy, Debug, PartialEq, Eq)]
 pub enum Place {
     Plain,
@@ -23,10 +23,10 @@ pub enum Place {
 /// What a byte of a script's text does.
 #[derive(Clone, Copy, Debug, PartialEq, Eq)]
 pub enum Effect {
-    /// It ends the text of this byte.
+    /// The byte ends the text of this byte.
     Byte(u8),
     To(Place),
-    /// No text goes on so.
+    /// No text goes on with this byte.
     Bad,
 }
 
@@ -85,7 +85,7 @@ fn hex_value(digit: u8) -> Option<u8>
     }
 }
 
-/// Whether the text stands for bytes: each backslash begins an escape. Takes no memory.
+/// Whether the text writes bytes: each backslash begins an escape. Allocates nothing.
 #[tactic(auto, unfolding(crate::specs::Escapes::unescaped_from))]
 pub fn is_escaped(text: &[u8]) -> bool
     ensures { result ≡ is_some (unescaped text.now) }
@@ -101,7 +101,7 @@ pub fn is_escaped(text: &[u8]) -> bool
     matches!(place, Place::Plain)
 }
 
-/// The bytes that a text stands for; none where a backslash begins no escape.
+/// The bytes that a text writes; none where a backslash begins no escape.
 #[tactic(auto, unfolding(crate::specs::Escapes::unescaped_from))]
 pub fn unescape(alloc: Global, text: &[u8]) -> Result<Option<Vec<u8>>, Memory>
     ensures { IfOk result (λ o. option_map (λ v. v.items) o ≡ unescaped text.now) }
@@ -124,7 +124,7 @@ pub fn unescape(alloc: Global, text: &[u8]) -> Result<Option<Vec<u8>>, Memory>
     }
 }
 
-/// Writes bytes as the text of a script. Takes no memory.
+/// Writes bytes as the text of a script. Allocates nothing.
 pub fn write_escaped<W: Write>(writer: &mut W, bytes: &[u8]) -> io::Result<()>
     ensures { OnOk result (Appends (W.contents writer.old) (W.contents writer.new) (escaped bytes.now)) }
 {

@@ -44,7 +44,7 @@ pub fn split_lines(alloc: Global, text: &[u8]) -> Result<Vec<Sequence<u8>>, Memo
     Ok(lines)
 }
 
-/// The first line, and what stands behind its end; none where there is no end.
+/// The first line, and the text behind its end; none where there is no end.
 #[tactic(auto, using(crate::proofs::Parts::first_line))]
 fn split_line(text: &[u8]) -> Option<(&[u8], &[u8])>
     ensures some { IfSome result (λ r. (parts_of text.now ≡ r.0.now ∷ parts_of r.1.now) × (length r.1.now < length text.now)) }

@@ -1,20 +1,30 @@
--- The policy that a desk has published, change by change.
-use Rattle.std.proofs.Common.{◌≡◌, ℕ, suc, ◌+◌, List, [], ◌∷◌, ◌++◌, sym, ap, ◌∙◌, subst, add-one, drop, drop-cons, get_or, length, ◌<◌}
+-- The policy that a desk has published, step by step.
+use Rattle.std.proofs.Common.{◌≡◌, ◌==◌, true, false, true≢false, List, [], ◌∷◌, ◌++◌, length, refl, sym, ◌∙◌, append-nil}
+use Rattle.std.proofs.Math.Dec.{eqb-suc-zero}
 use Rattle.kapi_policy.specs.Objects.{PolicyObjects}
+use Rattle.kapi_policy.specs.Steps.{after_changes}
 use Rattle.kapi_policy.specs.declared.change.PolicyChange.{PolicyChange}
-use Rattle.kapi_desk.specs.Steps.{after, after_changes}
+use Rattle.kapi_desk.specs.Steps.{after, step_of}
 use Rattle.kapi_desk.proofs.Lists.{after_more}
 
--- one change more is published
-pub published_one : (opening next : PolicyObjects) (list more : List (List PolicyChange)) (changes step : List PolicyChange) (i : ℕ) (d : PolicyChange) (whole : PolicyObjects) → i < length changes → next ≡ opening
-    → after_changes (drop i changes) (after opening list) ≡ whole → more ≡ list ++ step ∷ [] → step ≡ get_or changes i d ∷ []
-    → after_changes (drop (i + 1) changes) (after next more) ≡ whole
-unfolding after after_changes
-published_one opening next list more changes step i d whole below same h is one =
-    let c = get_or changes i d in
-    let behind = drop (suc i) changes in
-    let there : after_changes behind (after next more) ≡ whole =
-    (λ j. after_changes behind (after (same j) (is j))) ∙ ap (λ s. after_changes behind (after opening (list ++ s ∷ []))) one
-    ∙ ap (after_changes behind) (after_more opening list ((c ∷ []) ∷ []))
-    ∙ ap (λ cs. after_changes cs (after opening list)) (sym (drop-cons changes i d below)) ∙ h in
-    subst (λ n. after_changes (drop n changes) (after next more) ≡ whole) (sym (add-one i)) there
+-- one step more is published
+pub published_step : (opening next : PolicyObjects) (list more : List (List PolicyChange)) (step : List PolicyChange) → next ≡ opening → more ≡ list ++ step ∷ []
+    → after next more ≡ after_changes step (after opening list)
+unfolding after
+published_step opening next list more step same is = (λ j. after (same j) (is j)) ∙ after_more opening list (step ∷ [])
+
+-- a step of nothing
+pub published_none : (objects : PolicyObjects) (step : List PolicyChange) → (length step == 0) ≡ true → objects ≡ after_changes step objects
+unfolding after_changes
+published_none objects [] is = refl
+published_none objects (c ∷ cs) is = absurd (true≢false (sym is ∙ eqb-suc-zero (length cs)))
+
+-- the list with one step more
+pub listed_step : (list more : List (List PolicyChange)) (step : List PolicyChange) → (length step == 0) ≡ false → more ≡ list ++ step ∷ [] → more ≡ list ++ step_of step
+listed_step list more [] some is = absurd (cc some)
+listed_step list more (c ∷ cs) some is = is
+
+-- the list with a step of nothing
+pub listed_none : (list : List (List PolicyChange)) (step : List PolicyChange) → (length step == 0) ≡ true → list ≡ list ++ step_of step
+listed_none list [] is = sym (append-nil list)
+listed_none list (c ∷ cs) is = absurd (true≢false (sym is ∙ eqb-suc-zero (length cs)))

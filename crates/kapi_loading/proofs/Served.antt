@@ -1,4 +1,4 @@
--- The machine that a file makes has begun, loaded the file's objects, and made turns, and no connection was opened on it.
+-- The machine of a file has begun, loaded the file's objects, and made turns, and no connection was opened on it.
 use Rattle.std.proofs.Common.{◌≡◌, ℕ, zero, suc, Bool, false, List, [], ◌∷◌, map, Option, None, Some, Result, Ok, Err, sym, ap, ◌∙◌, refl, subst}
 use Rattle.std.specs.Prelude.{replicate}
 use Rattle.kapi_text.specs.Gives.{◌>>=◌}
@@ -18,7 +18,7 @@ use Rattle.kapi_loading.specs.Faults.{FileFault}
 use Rattle.kapi_loading.specs.Laws.{FileIsServed, FileIsUnopened}
 use Rattle.kapi_lines.specs.Lines.{NumberedLine, lines_of}
 use Rattle.kapi_loading.specs.Loading.{loaded, machine_from, made_by, turned}
-use Rattle.kapi_script.specs.ProgramTable.{program_rows}
+use Rattle.kapi_core.specs.ProgramTable.{program_rows}
 
 -- the texts of lines
 abbrev texts : List NumberedLine → List (List ℕ)
@@ -44,7 +44,7 @@ unfolding turned after
 turned_is zero m = refl
 turned_is (suc k) m = turned_is k (step m event.Turn).1
 
--- a turn leaves the switch, and does not look at it
+-- a turn leaves the switch, and does not read it
 turn_switched : (on : Bool) (m : Machine) → (step (with_rechecks on m) event.Turn).1 ≡ with_rechecks on (step m event.Turn).1
 unfolding step turn_step
 turn_switched on m = by_due (next (roles_in m.store.objects))

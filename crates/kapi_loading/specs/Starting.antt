@@ -1,4 +1,4 @@
--- What a start gives.
+-- What a start returns.
 use Rattle.std.specs.Prelude.{◌≡◌, Result, Ok, Err}
 use Rattle.kapi_text.specs.Gives.{Fails}
 use Rattle.kapi_core.specs.Machine.{Machine}
@@ -7,7 +7,7 @@ use Rattle.kapi_loading.specs.Loading.{Publishes}
 use Rattle.kapi_loading.specs.declared.fault.StartError.{StartError}
 use Rattle.kapi_loading.specs.declared.starting.Started.{Started}
 
--- a core that stands for the machine that is given, whose policy the desk has published, or why none is
+-- a core that refines the machine that is given, whose policy the desk has published, or why none is
 abbrev pub Starts : Result Started StartError → Result Machine FileFault → Type 0
 Starts (Ok s) given = (m : Machine) × (given ≡ Ok m) × Publishes s.core s.desk m
 Starts (Err e) given = Fails (fault_told e) given

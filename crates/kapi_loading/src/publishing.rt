@@ -1,25 +1,25 @@
 //! The policy of a file, published step by step.
-ghost use Rattle.std.specs.Prelude.{◌≡◌, [], IfErr, OnOk, map, Ok};
+ghost use Rattle.std.specs.Prelude.{◌≡◌, ◌++◌, [], IfErr, OnOk, map, Ok};
 ghost use Rattle.kapi_core.specs.Machine.{Machine};
-ghost use Rattle.kapi_desk.specs.Steps.{after, after_changes};
+ghost use Rattle.kapi_policy.specs.Steps.{after_changes};
+ghost use Rattle.kapi_desk.specs.Steps.{after, step_of};
 ghost use Rattle.kapi_lines.specs.Lines.{line_of};
-ghost use Rattle.kapi_loading.specs.Loading.{Publishes, Reaches, load_fault, loaded, made_of, turned};
+ghost use Rattle.kapi_loading.specs.Loading.{Publishes, Reaches, load_fault, loaded, made_of, steps_loaded, steps_made, steps_turned, turned};
 
 use crate::fault::StartError;
 use kapi_core::{Core, LoadError};
 use kapi_desk::Desk;
 use kapi_index::IndexedPolicy;
 use kapi_lines::Line;
-use kapi_policy::PolicyChange;
+use kapi_policy::PolicyStep;
 use kapi_text::Memory;
 use std::alloc::AllocError;
-use std::slice;
 use std::sync::Wait;
 
-/// So many turns are made at most after the last line.
+/// The largest number of turns after the last line.
 pub const TURNS: usize = 64;
 
-/// Loads each line as an object, and publishes what that changed in the policy.
+/// Loads each line as an object, and publishes what the load changed in the policy.
 fn load_lines<R: Wait>(
     rt: &R,
     core: &mut Core<IndexedPolicy>,
@@ -30,10 +30,11 @@ fn load_lines<R: Wait>(
     ensures opening { desk.new.opening ≡ desk.old.opening }
     ensures waiting { OnOk result (desk.new.waiting ≡ []) }
     ensures reaches { (m : Machine) → Publishes core.old desk.old m → Reaches core.new desk.new result (loaded m (map line_of lines.now)) }
+    ensures steps { (m : Machine) → Publishes core.old desk.old m → OnOk result (desk.new.list ≡ desk.old.list ++ steps_loaded m (map line_of lines.now)) }
 {
     for line in lines {
         match core.load(line.text) {
-            Ok(changes) => publish(rt, desk, changes.as_slice())?,
+            Ok(step) => publish(rt, desk, step)?,
             Err(error) => return Err(fault_at(line.number, error)),
         }
     }
@@ -50,7 +51,7 @@ fn fault_at(number: usize, error: LoadError) -> StartError
     }
 }
 
-/// Makes turns while there is one, 64 at most, and publishes what each changed in the policy.
+/// Makes turns while one is due, 64 at most, and publishes what each changed in the policy.
 fn make_turns<R: Wait>(
     rt: &R,
     core: &mut Core<IndexedPolicy>,
@@ -60,31 +61,33 @@ fn make_turns<R: Wait>(
     ensures opening { desk.new.opening ≡ desk.old.opening }
     ensures waiting { OnOk result (desk.new.waiting ≡ []) }
     ensures reaches { (m : Machine) → Publishes core.old desk.old m → Reaches core.new desk.new result (Ok (turned TURNS m)) }
+    ensures steps { (m : Machine) → Publishes core.old desk.old m → OnOk result (desk.new.list ≡ desk.old.list ++ steps_turned TURNS m) }
 {
     for _ in 0..TURNS {
         match core.turn()? {
-            Some(turned) => publish(rt, desk, turned.policy_changes.as_slice())?,
+            Some(turned) => publish(rt, desk, turned.policy_changes)?,
             None => return Ok(()),
         }
     }
     Ok(())
 }
 
-/// Publishes changes, each as a step of its own.
-#[tactic(auto, unfolding(kapi_desk::specs::Steps::after_changes))]
-fn publish<R: Wait>(rt: &R, desk: &mut Desk, changes: &[PolicyChange]) -> Result<(), Memory>
+/// Publishes what a line or a turn changed in the policy, if anything, as one step.
+#[tactic(auto, using(crate::proofs::Published::published_none, crate::proofs::Published::published_step, crate::proofs::Published::listed_none, crate::proofs::Published::listed_step))]
+fn publish<R: Wait>(rt: &R, desk: &mut Desk, step: PolicyStep) -> Result<(), Memory>
     requires free { desk.old.waiting ≡ [] }
     ensures opening { desk.new.opening ≡ desk.old.opening }
     ensures waiting { OnOk result (desk.new.waiting ≡ []) }
-    ensures policy { OnOk result (after desk.new.opening desk.new.list ≡ after_changes changes.now (after desk.old.opening desk.old.list)) }
+    ensures list { OnOk result (desk.new.list ≡ desk.old.list ++ step_of step) }
+    ensures policy { OnOk result (after desk.new.opening desk.new.list ≡ after_changes step (after desk.old.opening desk.old.list)) }
 {
-    for change in changes {
-        match desk.publish(rt, slice::from_ref(change)) {
-            Ok(_published) => {}
-            Err(_refused) => return Err(AllocError),
-        }
+    if step.is_empty() {
+        return Ok(());
     }
-    Ok(())
+    match desk.publish(rt, step) {
+        Ok(_published) => Ok(()),
+        Err(_refused) => Err(AllocError),
+    }
 }
 
 /// Loads all lines, makes the turns that follow, and publishes the policy.
@@ -98,6 +101,7 @@ pub fn publish_policy<R: Wait>(
     ensures opening { desk.new.opening ≡ desk.old.opening }
     ensures waiting { OnOk result (desk.new.waiting ≡ []) }
     ensures reaches { (m : Machine) → Publishes core.old desk.old m → Reaches core.new desk.new result (made_of m (map line_of lines.now)) }
+    ensures steps { (m : Machine) → Publishes core.old desk.old m → OnOk result (desk.new.list ≡ desk.old.list ++ steps_made m (map line_of lines.now)) }
 {
     load_lines(rt, core, desk, lines)?;
     make_turns(rt, core, desk)

@@ -1,15 +1,17 @@
 ghost use Rattle.std.specs.Prelude.{◌≡◌, ◌≤◌, [], IfOk, replicate};
 ghost use Rattle.kapi_desk.specs.Boards.{fresh};
-ghost use Rattle.kapi_loading.specs.Loading.{machine_from};
+ghost use Rattle.kapi_core.specs.Opening.{opening};
+ghost use Rattle.kapi_core.specs.ProgramTable.{program_rows};
+ghost use Rattle.kapi_lines.specs.Lines.{lines_of};
+ghost use Rattle.kapi_loading.specs.Loading.{machine_from, steps_made};
 ghost use Rattle.kapi_loading.specs.Starting.{Starts};
 
 use crate::fault::StartError;
 use crate::publishing::publish_policy;
-use kapi_core::Core;
+use kapi_core::{Core, program_table};
 use kapi_desk::{Desk, Seat};
 use kapi_index::IndexedPolicy;
 use kapi_lines::numbered_lines;
-use kapi_script::program_table;
 use std::alloc::Global;
 use std::sync::Wait;
 
@@ -20,11 +22,11 @@ pub struct Started {
     pub seats: Vec<Seat>,
 }
 
-/// A machine whose revisions begin after `first`, with the objects of a file, a JSON object a line, whose policy is published to so many
-/// seats. The turns that follow the objects are made, 64 at most.
+/// A machine whose revisions begin after `first`, with the objects of a file, a JSON object a line, whose policy is
+/// published to so many seats. The turns that follow the objects are made, 64 at most.
 ///
 /// # Errors
-/// `Line` at the first line that cannot be loaded, `Memory` where memory runs out.
+/// `Line` at the first line that cannot be loaded, `Memory` where an allocation fails.
 pub fn start<R: Wait>(
     alloc: Global,
     rt: &R,
@@ -37,6 +39,7 @@ pub fn start<R: Wait>(
     ensures machine { Starts result (machine_from first objects.now) }
     ensures unopened { IfOk result (λ s. s.core.next_id ≡ 0) }
     ensures waiting { IfOk result (λ s. s.desk.waiting ≡ []) }
+    ensures steps { IfOk result (λ s. s.desk.list ≡ steps_made (opening program_rows first) (lines_of objects.now)) }
     ensures seats { IfOk result (λ s. s.seats.items ≡ replicate seats (fresh s.desk.opening)) }
 {
     let lines = numbered_lines(alloc, objects)?;

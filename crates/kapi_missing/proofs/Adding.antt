@@ -1,21 +1,18 @@
 -- One rule more among those that are found by their entries.
-use Rattle.std.proofs.Common.{◌≡◌, ℕ, zero, suc, ◌==◌, ◌<◌, Bool, true, false, ◌&&◌, ◌||◌, ◌⊎◌, inl, inr, if◌then◌else◌, List, [], ◌∷◌, ◌++◌, length, map, get_or, nat_cmp, refl, ap, subst, sym, ◌∙◌, arith}
+use Rattle.std.proofs.Common.{◌≡◌, ℕ, zero, suc, ◌==◌, ◌<◌, Bool, true, false, ◌&&◌, ◌||◌, ◌⊎◌, inl, inr, if◌then◌else◌, List, [], ◌∷◌, ◌++◌, length, map, get_or, refl, ap, subst, sym, ◌∙◌, arith}
 use Rattle.std.proofs.lemmas.List.Folds.{list_any-append}
-use Rattle.std.proofs.lemmas.Map.Lookups.{exact_unsigned}
-use Rattle.std.specs.BTreeSet.{BTreeSet, contains}
+use Rattle.std.proofs.lemmas.Bool.Decides.{nat_tests}
 use Rattle.std.specs.List.{list_any}
-use Rattle.std.specs.Ordering.{is_eq}
-use Rattle.std.specs.declared.cmp.Ordering.{Ordering}
-use Rattle.std.specs.declared.cmp.Ordering.TheVariants.{Less, Equal, Greater}
 use Rattle.std.specs.Str.{bytes_eq}
-use Rattle.kapi_names.specs.declared.policy_rule.PolicyRule.{PolicyRule}
-use Rattle.kapi_rules.proofs.Covers.{and_false, or_false}
+use Rattle.kapi_model.specs.declared.policy_rule.PolicyRule.{PolicyRule}
+use Rattle.kapi_rules.proofs.Covers.{or_false}
 use Rattle.kapi_rules.proofs.Law.{any_weaker}
 use Rattle.kapi_missing.proofs.Placed.{at_more, some_at}
 use Rattle.kapi_missing.proofs.Repeats.{from_some}
 use Rattle.kapi_missing.proofs.Seen.{turned_word}
-use Rattle.kapi_missing.specs.Index.{AreBars, IsAt, IsPlaced, Keeps, has_number, rules_in}
-use Rattle.kapi_missing.specs.Marks.{at}
+use Rattle.kapi_missing.specs.Private.Index.{AreBars, IsAt, IsPlaced, Keeps, has_number, rules_in}
+use Rattle.kapi_missing.specs.Private.Marks.{at}
+use Rattle.kapi_missing.specs.Private.Masks.{AreAllMasks}
 use Rattle.kapi_missing.specs.declared.bars.Sort.{Sort}
 use Rattle.kapi_missing.specs.declared.bars.Sort.TheVariants as sort
 use Rattle.kapi_missing.specs.declared.index.Bars.{Bars}
@@ -45,17 +42,11 @@ position_of {X} {C} p (x ∷ xs) some leads = by_case (p x) refl some (λ rest. 
     by_case true is h more = leads 0 is
     by_case false is h more = more h
 
-is_equal : (o : Ordering) → is_eq o ≡ true → o ≡ Equal
-is_equal Less h = absurd cc
-is_equal Equal h = refl
-is_equal Greater h = absurd cc
-
-pub through : {X : Type 0} (t : X → Bool) (rules : List X) (s : BTreeSet ℕ) → ((n : ℕ) → at (map t rules) n ≡ true → contains nat_cmp s n ≡ true)
-    → list_any (λ n. at (map t rules) n) s.keys ≡ list_any t rules
-through t rules s has =
-    same_truth (list_any (λ n. at (map t rules) n) s.keys) (list_any t rules) (λ h. from_some (λ n. at (map t rules) n) s.keys h (λ n is. some_at t rules n is))
-    (λ h. position_of t rules h (λ n is.
-    any_weaker (λ k. is_eq (nat_cmp n k)) (λ k. at (map t rules) k) s.keys (λ k same. ap (at (map t rules)) (sym (exact_unsigned n k (is_equal (nat_cmp n k) same))) ∙ is) (has n is)))
+pub through : {X : Type 0} (t : X → Bool) (rules : List X) (numbers : List ℕ) → ((n : ℕ) → at (map t rules) n ≡ true → has_number numbers n ≡ true)
+    → list_any (λ n. at (map t rules) n) numbers ≡ list_any t rules
+through t rules numbers has =
+    same_truth (list_any (λ n. at (map t rules) n) numbers) (list_any t rules) (λ h. from_some (λ n. at (map t rules) n) numbers h (λ n is. some_at t rules n is))
+    (λ h. position_of t rules h (λ n is. any_weaker (λ k. k == n) (at (map t rules)) numbers (λ k same. let e : k ≡ n = grind (arith, nat_tests) in rw e is) (has n is)))
 
 -- ---- what is put under an entry
 
@@ -84,13 +75,18 @@ kept held old new n rule which keeps (inr key) = inr (key.0, key.1, λ e listed.
 pub one_more : (held : Bool) (rules : List PolicyRule) (rule : PolicyRule) (old new : Bars) (middle : Index) (n : ℕ) → n ≡ length (rules_in old)
     → new.is_held ≡ old.is_held → rules_in new ≡ rules_in old ++ rule ∷ []
     → IsPlaced old.is_held middle n rule sort.Resources → Keeps old.index middle → IsPlaced old.is_held new.index n rule sort.Urls → Keeps middle new.index
+    → (AreAllMasks old.seen old.is_held (rules_in old) old.masks.items → AreAllMasks new.seen old.is_held (rules_in old ++ rule ∷ []) new.masks.items)
     → AreBars held rules old → AreBars held (rules ++ rule ∷ []) new
-one_more held rules rule old new middle n last same_held same_rules on_resources keeps on_urls keeps_on are = (
+one_more held rules rule old new middle n last same_held same_rules on_resources keeps on_urls keeps_on masks are = (
   same_held ∙ are.0,
   same_rules ∙ ap (λ rs. rs ++ rule ∷ []) are.1,
-  λ m r is which.
-      let here : IsAt (rules_in old ++ rule ∷ []) m r = subst (λ (rs : List PolicyRule). IsAt rs m r) same_rules is in
-      subst (λ (h : Bool). IsPlaced h new.index m r which) (sym same_held) (by_case m r which (at_more (rules_in old) rule m r here)),
+  (
+    λ m r is which.
+        let here : IsAt (rules_in old ++ rule ∷ []) m r = subst (λ (rs : List PolicyRule). IsAt rs m r) same_rules is in
+        subst (λ (h : Bool). IsPlaced h new.index m r which) (sym same_held) (by_case m r which (at_more (rules_in old) rule m r here)),
+    subst (λ (h : Bool). AreAllMasks new.seen h (rules_in new) new.masks.items) (sym same_held)
+        (subst (λ (rs : List PolicyRule). AreAllMasks new.seen old.is_held rs new.masks.items) (sym same_rules) (masks are.2.1)),
+  ),
 )
   where
     own : (which : Sort) → IsPlaced old.is_held new.index n rule which
@@ -98,21 +94,9 @@ one_more held rules rule old new middle n last same_held same_rules on_resources
     own sort.Urls = on_urls
 
     by_case : (m : ℕ) (r : PolicyRule) (which : Sort) → IsAt (rules_in old) m r ⊎ ((m ≡ length (rules_in old)) × (rule ≡ r)) → IsPlaced old.is_held new.index m r which
-    by_case m r which (inl before) = kept old.is_held middle new.index m r which keeps_on (kept old.is_held old.index middle m r which keeps (are.2 m r before which))
+    by_case m r which (inl before) = kept old.is_held middle new.index m r which keeps_on (kept old.is_held old.index middle m r which keeps (are.2.0 m r before which))
     by_case m r which (inr now) =
         subst (λ (k : ℕ). IsPlaced old.is_held new.index k r which) (last ∙ sym now.0) (subst (λ (q : PolicyRule). IsPlaced old.is_held new.index n q which) now.1 (own which))
-
--- ---- what is gathered
-
-pub gathered : (w a b c d e t : Bool) → ((((((false || (w && t)) || (a && t)) || (b && t)) || (c && t)) || (d && t)) || (e && t)) ≡ ((w || (a || (b || (c || (d || e))))) && t)
-gathered true a b c d e true = refl
-gathered false true b c d e true = refl
-gathered false false true c d e true = refl
-gathered false false false true d e true = refl
-gathered false false false false true e true = refl
-gathered false false false false false true true = refl
-gathered false false false false false false true = refl
-gathered w a b c d e false = rw (and_false w, and_false a, and_false b, and_false c, and_false d, and_false e, and_false (w || (a || (b || (c || (d || e)))))) refl
 
 pub map_push : {X Y : Type 0} (f : X → Y) (xs : List X) (x : X) → map f (xs ++ x ∷ []) ≡ map f xs ++ f x ∷ []
 map_push f [] x = refl

@@ -1,10 +1,10 @@
 -- What is left beside the held rules, and then beside the earlier wanted ones.
 use Rattle.std.proofs.Common.{◌≡◌, ℕ, Bool, true, false, not, ◌&&◌, List, ap, ◌∙◌}
 use Rattle.std.specs.List.{list_any}
-use Rattle.kapi_names.specs.declared.policy_rule.PolicyRule.{PolicyRule}
-use Rattle.kapi_missing.specs.Bars.{AreLeft, barred, wanted_at}
-use Rattle.kapi_missing.specs.Index.{AreAllPlaced, AreBars, rules_in}
-use Rattle.kapi_missing.specs.Marks.{some_has}
+use Rattle.kapi_model.specs.declared.policy_rule.PolicyRule.{PolicyRule}
+use Rattle.kapi_missing.specs.Private.Bars.{AreLeft, barred, wanted_at}
+use Rattle.kapi_missing.specs.Private.Index.{AreAllPlaced, AreBars, rules_in}
+use Rattle.kapi_missing.specs.Private.Marks.{some_has}
 use Rattle.kapi_missing.specs.declared.bars.Sort.{Sort}
 use Rattle.kapi_missing.specs.declared.index.Bars.{Bars}
 use Rattle.kapi_missing.specs.declared.marks.Marks.{Marks}

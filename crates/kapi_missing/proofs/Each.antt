@@ -1,12 +1,12 @@
 -- What is made of each element and its position.
-use Rattle.std.proofs.Common.{◌≡◌, ℕ, suc, ◌+◌, ◌==◌, true, false, List, [], ◌∷◌, ◌++◌, length, map, refl, ap, sym, ◌∙◌, append_assoc, append-nil, arith}
+use Rattle.std.proofs.Common.{◌≡◌, ℕ, suc, ◌+◌, ◌==◌, true, false, List, [], ◌∷◌, ◌++◌, length, map, refl, ap, sym, ◌∙◌, append_assoc, append-nil, add-one, drop, arith}
 use Rattle.std.proofs.Math.Dec.{eqb-suc-zero}
 use denote.Ref.{Bor}
-use Rattle.kapi_names.specs.declared.policy_rule.PolicyRule.{PolicyRule}
+use Rattle.kapi_model.specs.declared.policy_rule.PolicyRule.{PolicyRule}
 use Rattle.kapi_rules.specs.Atoms.{names_of}
 use Rattle.kapi_rules.specs.declared.atom.Atom.{Atom}
 use Rattle.kapi_rules.specs.declared.atom.Names.TheVariants as names
-use Rattle.kapi_missing.specs.Left.{each, left_group, left_name, left_one_name, left_resource, left_url, left_verb, parts_at}
+use Rattle.kapi_missing.specs.Private.Left.{each, left_group, left_name, left_one_name, left_resource, left_url, left_verb, parts_at}
 use Rattle.kapi_missing.specs.declared.marks.Marks.{Marks}
 
 -- one element more
@@ -46,12 +46,14 @@ module _ (rule : PolicyRule) where
   pub no_url_left : (url : List ℕ) → left_url [] rule url ≡ []
   no_url_left url = each_none _ 0 rule.verbs (λ j x. refl)
 
-no_parts : (near : List (Bor Marks)) → (length near == 0) ≡ true → parts_at near ≡ []
-no_parts [] none = refl
-no_parts (m ∷ near) none = absurd (let some = sym (eqb-suc-zero (length near)) ∙ none in cc)
+-- where there are no parts, nothing is added
+pub nothing_more : (parts : List (Bor Marks)) (f : List Marks → List Atom) (list : List Atom) → (length parts == 0) ≡ true → f [] ≡ [] → list ≡ list ++ f (parts_at parts)
+nothing_more [] f list none nothing = rw nothing (sym (append-nil list))
+nothing_more (m ∷ parts) f list none nothing = absurd (let some = sym (eqb-suc-zero (length parts)) ∙ none in cc)
 
--- where no part is near, nothing is added
-pub skipped : (near : List (Bor Marks)) (parts : List Marks) (f : List Marks → List Atom) (list : List Atom)
-    → (length near == 0) ≡ true → parts_at near ≡ parts → f [] ≡ [] → list ≡ list ++ f parts
-skipped near parts f list none is nothing =
-    let empty : parts ≡ [] = sym is ∙ no_parts near none in rw (empty, nothing) (sym (append-nil list))
+-- one element more is added
+pub each_step : {A : Type 0} (f : ℕ → A → List Atom) (i : ℕ) (xs : List A) (x : A) (list more all : List Atom)
+    → drop i xs ≡ x ∷ drop (i + 1) xs → more ≡ list ++ f i x → list ++ each f i (drop i xs) ≡ all → more ++ each f (i + 1) (drop (i + 1) xs) ≡ all
+each_step f i xs x list more all next grown before =
+    ap (λ r. r ++ each f (i + 1) (drop (i + 1) xs)) grown ∙ append_assoc list (f i x) (each f (i + 1) (drop (i + 1) xs))
+    ∙ ap (λ r. list ++ r) (ap (λ n. f i x ++ each f n (drop (i + 1) xs)) (add-one i) ∙ sym (ap (each f i) next)) ∙ before

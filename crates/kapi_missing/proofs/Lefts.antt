@@ -3,7 +3,7 @@ use Rattle.std.proofs.Common.{◌≡◌, ℕ, zero, suc, ◌+◌, ◌==◌, Bool
 use Rattle.std.proofs.Math.Dec.{eqb-suc-zero}
 use Rattle.std.specs.List.{filter, flat_map, list_any}
 use Rattle.std.specs.Str.{bytes_eq}
-use Rattle.kapi_names.specs.declared.policy_rule.PolicyRule.{PolicyRule}
+use Rattle.kapi_model.specs.declared.policy_rule.PolicyRule.{PolicyRule}
 use Rattle.kapi_rules.proofs.Covers.{or_false}
 use Rattle.kapi_rules.proofs.Parts.{any_map, any_never, any_same, of_resource, of_url, resource_part, rule_implies_resource, rule_implies_url, url_part}
 use Rattle.kapi_rules.specs.Atoms.{atoms, group_atoms, listed_cover, names_of, resource_atom, resource_atoms, resource_covers, url_atom, url_atoms, verb_atoms}
@@ -14,10 +14,10 @@ use Rattle.kapi_rules.specs.declared.atom.Atom.TheVariants as atom
 use Rattle.kapi_rules.specs.declared.atom.Names.{Names}
 use Rattle.kapi_rules.specs.declared.atom.Names.TheVariants as names
 use Rattle.kapi_missing.proofs.Repeats.{either_way, filter_append, has_atom, is_stopped, missing_more}
-use Rattle.kapi_missing.specs.Bars.{AreLeft, barred, meets, name_marks, whole_name_marks}
-use Rattle.kapi_missing.specs.Left.{each, left, left_urls, marked, url_marked}
-use Rattle.kapi_missing.specs.Marks.{at}
-use Rattle.kapi_missing.specs.Once.{once}
+use Rattle.kapi_missing.specs.Private.Bars.{AreLeft, barred, meets, name_marks, whole_name_marks}
+use Rattle.kapi_missing.specs.Private.Left.{each, left, left_urls, marked, url_marked}
+use Rattle.kapi_missing.specs.Private.Marks.{at}
+use Rattle.kapi_missing.specs.Private.Once.{once}
 use Rattle.kapi_missing.specs.declared.bars.Dimension.TheVariants as dimension
 use Rattle.kapi_missing.specs.declared.bars.Sort.TheVariants as sort
 use Rattle.kapi_missing.specs.declared.left.Level.TheVariants as level

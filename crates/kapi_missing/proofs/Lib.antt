@@ -4,6 +4,8 @@ pub mod Pieces
 pub mod Each
 pub mod Repeats
 pub mod Placed
+pub mod Masked
 pub mod Adding
+pub mod Losing
 pub mod Both
 pub mod Lefts

@@ -3,9 +3,9 @@ use Rattle.std.proofs.Common.{◌≡◌, ℕ, zero, suc, ◌+◌, Bool, true, fa
 use Rattle.std.proofs.Math.Dec.{eqb-suc-zero}
 use Rattle.std.specs.List.{list_any}
 use Rattle.kapi_rules.proofs.Covers.{and_false}
-use Rattle.kapi_names.specs.declared.policy_rule.PolicyRule.{PolicyRule}
-use Rattle.kapi_missing.specs.Bars.{barred, is_near_to, meets, name_marks, some_name_met}
-use Rattle.kapi_missing.specs.Marks.{at, has, is_some_piece, keeps, kept, piece, some_has}
+use Rattle.kapi_model.specs.declared.policy_rule.PolicyRule.{PolicyRule}
+use Rattle.kapi_missing.specs.Private.Bars.{barred, is_near_to, meets, name_marks, some_name_met}
+use Rattle.kapi_missing.specs.Private.Marks.{at, has, is_some_piece, keeps, kept, piece, some_has}
 use Rattle.kapi_missing.specs.declared.bars.Dimension.TheVariants as dimension
 use Rattle.kapi_missing.specs.declared.bars.Sort.{Sort}
 use Rattle.kapi_missing.specs.declared.bars.Sort.TheVariants as sort

@@ -1,16 +1,15 @@
 -- The rules that bar an atom are among those found by the entries of the wanted rule.
-use Rattle.std.proofs.Common.{◌≡◌, ℕ, zero, suc, ◌==◌, Bool, true, false, ◌&&◌, ◌||◌, ◌⊎◌, inl, inr, if◌then◌else◌, List, [], ◌∷◌, ◌++◌, length, map, nat_cmp, refl, ap, sym, ◌∙◌}
+use Rattle.std.proofs.Common.{◌≡◌, ℕ, zero, suc, ◌==◌, Bool, true, false, ◌&&◌, ◌||◌, ◌⊎◌, inl, inr, if◌then◌else◌, List, [], ◌∷◌, ◌++◌, length, map, refl, ap, sym, ◌∙◌}
 use Rattle.std.proofs.lemmas.Bool.{and_parts, or_cases}
-use Rattle.std.specs.BTreeSet.{BTreeSet, contains}
 use Rattle.std.specs.List.{list_any}
 use Rattle.std.specs.Str.{bytes_eq}
-use Rattle.kapi_names.specs.declared.policy_rule.PolicyRule.{PolicyRule}
-use Rattle.kapi_missing.proofs.Pieces.{none_at, not_near}
+use Rattle.kapi_model.specs.declared.policy_rule.PolicyRule.{PolicyRule}
+use Rattle.kapi_missing.proofs.Pieces.{none_at}
 use Rattle.kapi_missing.proofs.Stars.{covers_split}
-use Rattle.kapi_missing.specs.Bars.{barred, entries_in, entry_covers, is_near_to, meets, name_marks, some_covers}
-use Rattle.kapi_missing.specs.Index.{AreAllPlaced, IsAt, IsPlaced, has_number, is_list_of, is_wide, listed_under, near_at, numbers_at, rules_in}
-use Rattle.kapi_missing.specs.Marks.{at}
-use Rattle.kapi_missing.specs.Words.{has_star}
+use Rattle.kapi_missing.specs.Private.Bars.{barred, entries_in, entry_covers, is_wide, meets, name_marks, some_covers}
+use Rattle.kapi_missing.specs.Private.Index.{AreAllPlaced, IsAt, IsPlaced, has_number, is_list_of, listed_under, numbers_at, rules_in}
+use Rattle.kapi_missing.specs.Private.Marks.{at}
+use Rattle.kapi_missing.specs.Private.Words.{has_star}
 use Rattle.kapi_missing.specs.declared.bars.Dimension.{Dimension}
 use Rattle.kapi_missing.specs.declared.bars.Dimension.TheVariants as dimension
 use Rattle.kapi_missing.specs.declared.bars.Sort.{Sort}
@@ -19,7 +18,7 @@ use Rattle.kapi_missing.specs.declared.index.Bars.{Bars}
 
 -- ---- truths
 
-true_or_false : (b : Bool) → (b ≡ true) ⊎ (b ≡ false)
+pub true_or_false : (b : Bool) → (b ≡ true) ⊎ (b ≡ false)
 true_or_false true = inl refl
 true_or_false false = inr refl
 
@@ -31,7 +30,7 @@ right true b h = refl
 right false b h = h
 
 -- what follows from the opposite of what is false
-not_false : (a b : Bool) → (a ≡ false → b ≡ false) → b ≡ true → a ≡ true
+pub not_false : (a b : Bool) → (a ≡ false → b ≡ false) → b ≡ true → a ≡ true
 not_false true b leads h = refl
 not_false false b leads h = absurd (let none = leads refl in cc)
 
@@ -66,7 +65,7 @@ plain_list which (x ∷ xs) y plain h = by_case (or_cases (entry_covers which x 
 names_list : (xs : List (List ℕ)) (y : List ℕ) → some_covers dimension.Names xs y ≡ true → list_any (λ x. bytes_eq x y) xs ≡ true
 names_list xs y h = h
 
-met_is_listed : (held : Bool) (which : Dimension) (rule : PolicyRule) (y : List ℕ) → is_wide held which rule ≡ false → meets held which rule y ≡ true
+pub met_is_listed : (held : Bool) (which : Dimension) (rule : PolicyRule) (y : List ℕ) → is_wide held which rule ≡ false → meets held which rule y ≡ true
     → list_any (λ x. bytes_eq x y) (entries_in which rule) ≡ true
 met_is_listed false which rule y plain h = h
 met_is_listed true dimension.Verbs rule y plain h = plain_list dimension.Verbs rule.verbs y plain h
@@ -91,7 +90,7 @@ some_name held rule (x ∷ xs) l some h = some_at (meets held dimension.Names ru
     listed_marks true m = m
     listed_marks false m = m
 
-some_met : (held : Bool) (which : Sort) (d : Dimension) (rule wanted : PolicyRule) (i j k l : ℕ) → is_list_of which d ≡ true → is_wide held d rule ≡ false
+pub some_met : (held : Bool) (which : Sort) (d : Dimension) (rule wanted : PolicyRule) (i j k l : ℕ) → is_list_of which d ≡ true → is_wide held d rule ≡ false
     → barred held which rule wanted i j k l ≡ true → list_any (meets held d rule) (entries_in d wanted) ≡ true
 some_met held sort.Resources d rule wanted i j k l of plain h =
     let g = and_parts (at (map (meets held dimension.Groups rule) wanted.api_groups) i) (at (map (meets held dimension.Resources rule) wanted.resources) j
@@ -128,15 +127,10 @@ some_met held sort.Urls d rule wanted i j k l of plain h =
 -- ---- positions
 
 -- what is marked at a position is of the element there
-marked_at : {X : Type 0} {C : Type 0} (p : X → Bool) (xs : List X) (n : ℕ) → at (map p xs) n ≡ true → ((x : X) → IsAt xs n x → p x ≡ true → C) → C
+pub marked_at : {X : Type 0} {C : Type 0} (p : X → Bool) (xs : List X) (n : ℕ) → at (map p xs) n ≡ true → ((x : X) → IsAt xs n x → p x ≡ true → C) → C
 marked_at p [] n h leads = absurd cc
 marked_at p (x ∷ xs) zero h leads = leads x refl h
 marked_at p (x ∷ xs) (suc n) h leads = marked_at p xs n h leads
-
-mark_of : {X : Type 0} (p : X → Bool) (xs : List X) (n : ℕ) (x : X) → IsAt xs n x → at (map p xs) n ≡ p x
-mark_of p [] n x is = absurd is
-mark_of p (y ∷ xs) zero x is = ap p is
-mark_of p (y ∷ xs) (suc n) x is = mark_of p xs n x is
 
 -- one element more
 pub at_more : {X : Type 0} (xs : List X) (y : X) (n : ℕ) (x : X) → IsAt (xs ++ y ∷ []) n x → IsAt xs n x ⊎ ((n ≡ length xs) × (y ≡ x))
@@ -217,16 +211,7 @@ module _ (bars : Bars) (which : Sort) (wanted : PolicyRule) where
           by_case (inl here) more = left (has_number (numbers_at bars.index.places e) n) (under es n) (key.2 e (met_is_listed bars.is_held key.0 rule e key.1.1 here))
           by_case (inr there) more = right (has_number (numbers_at bars.index.places e) n) (under es n) (more there)
 
-  pub all_near : (s : BTreeSet ℕ) → ((n : ℕ) → contains nat_cmp s n ≡ (found n && near_at bars which wanted n)) → AreAllPlaced bars
-      → (i j k l n : ℕ) → at (map (λ b. barred bars.is_held which b wanted i j k l) (rules_in bars)) n ≡ true → contains nat_cmp s n ≡ true
-  all_near s has placed i j k l n h =
-      marked_at (λ b. barred bars.is_held which b wanted i j k l) (rules_in bars) n h (λ rule here is.
-      has n ∙ both (found n) (near_at bars which wanted n) (placed_found n rule i j k l (placed n rule here which) is) (near n rule here is))
-    where
-      both : (a b : Bool) → a ≡ true → b ≡ true → (a && b) ≡ true
-      both a b p q = rw (p, q) refl
-
-      near : (n : ℕ) (rule : PolicyRule) → IsAt (rules_in bars) n rule → barred bars.is_held which rule wanted i j k l ≡ true → near_at bars which wanted n ≡ true
-      near n rule here is =
-          mark_of (λ b. is_near_to bars.is_held which b wanted) (rules_in bars) n rule here
-          ∙ not_false (is_near_to bars.is_held which rule wanted) (barred bars.is_held which rule wanted i j k l) (λ none. not_near bars.is_held which rule wanted none i j k l) is
+  -- a rule that bars an atom is found
+  pub all_found : AreAllPlaced bars → (i j k l n : ℕ) → at (map (λ b. barred bars.is_held which b wanted i j k l) (rules_in bars)) n ≡ true → found n ≡ true
+  all_found placed i j k l n h =
+      marked_at (λ b. barred bars.is_held which b wanted i j k l) (rules_in bars) n h (λ rule here is. placed_found n rule i j k l (placed.0 n rule here which) is)

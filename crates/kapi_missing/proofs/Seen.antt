@@ -6,8 +6,8 @@ use Rattle.std.specs.List.{list_any}
 use Rattle.std.specs.Str.{bytes_eq}
 use denote.Ref.{Bor}
 use Rattle.kapi_rules.proofs.Covers.{itself, same}
-use Rattle.kapi_missing.specs.Once.{HasThose, with_word}
-use Rattle.kapi_missing.specs.Words.{is_in}
+use Rattle.kapi_missing.specs.Private.Once.{HasThose, with_word}
+use Rattle.kapi_missing.specs.Private.Words.{is_in}
 
 pub turned_word : (a b : List ℕ) → bytes_eq a b ≡ bytes_eq b a
 turned_word a b = by_case (bytes_eq a b) (bytes_eq b a) refl refl

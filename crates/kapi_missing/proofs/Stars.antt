@@ -8,8 +8,8 @@ use Rattle.std.specs.Str.{bytes_eq}
 use Rattle.kapi_rules.proofs.Covers.{same}
 use Rattle.kapi_rules.specs.Atoms.{after_slash, is_any_with}
 use Rattle.kapi_rules.specs.Entries.{beginning_matches, star, without_stars, word_matches}
-use Rattle.kapi_missing.specs.Bars.{entry_covers, some_covers}
-use Rattle.kapi_missing.specs.Words.{has_star}
+use Rattle.kapi_missing.specs.Private.Bars.{entry_covers, some_covers}
+use Rattle.kapi_missing.specs.Private.Words.{has_star}
 use Rattle.kapi_missing.specs.declared.bars.Dimension.{Dimension}
 use Rattle.kapi_missing.specs.declared.bars.Dimension.TheVariants as dimension
 
@@ -119,3 +119,15 @@ some_split which (x ∷ xs) y = by_case (has_star x) refl (some_split which xs y
     by_case false t more =
         let split = rw t at (covers_split which x y) in
         rw (t, more) (alone (entry_covers which x y) (bytes_eq x y) (list_any (λ e. bytes_eq e y) xs) (some_covers which (filter has_star xs) y) split)
+
+-- of words, the very word or `*`
+pub some_word : (xs : List (List ℕ)) (y : List ℕ) → list_any (λ e. word_matches e y) xs ≡ (list_any (λ e. bytes_eq e y) xs || list_any (λ e. bytes_eq e star) xs)
+some_word [] y = refl
+some_word (x ∷ xs) y = rw (some_word xs y) (turn (bytes_eq x star) (bytes_eq x y) (list_any (λ e. bytes_eq e y) xs) (list_any (λ e. bytes_eq e star) xs))
+  where
+    turn : (s e a b : Bool) → ((s || e) || (a || b)) ≡ ((e || a) || (s || b))
+    turn true true a b = refl
+    turn true false true b = refl
+    turn true false false b = refl
+    turn false true a b = refl
+    turn false false a b = refl

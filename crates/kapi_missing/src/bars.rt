@@ -1,13 +1,14 @@
 //! What stops an atom of a wanted rule from being missing: a held rule that implies it, or an earlier wanted rule that has it.
 ghost use Rattle.std.specs.Prelude.{◌≡◌, ◌∷◌, [], ℕ, true, map, IfOk};
-ghost use Rattle.kapi_missing.specs.Bars.{barred, entries_in, entry_covers as covers_entry, is_near_to, meets, name_marks, rule_in, some_covers, some_name_met, wanted_at, whole_name_marks};
-ghost use Rattle.kapi_missing.specs.Marks.{has};
-ghost use Rattle.kapi_missing.specs.Words.{texts_at};
+ghost use Rattle.kapi_missing.specs.Private.Bars.{barred, entries_in, entry_covers as covers_entry, is_near_to, meets, name_marks, rule_in, some_covers, some_name_met, wanted_at, whole_name_marks};
+ghost use Rattle.kapi_rules.specs.Entries.{word_matches as word_entry_matches};
+ghost use Rattle.kapi_missing.specs.Private.Marks.{has};
+ghost use Rattle.kapi_missing.specs.Private.Words.{texts_at};
 ghost use Rattle.std.specs.List.{list_any};
 
 use crate::entries::{Entries, lists, made_ready};
 use crate::marks::Marks;
-use kapi_names::PolicyRule;
+use kapi_model::PolicyRule;
 use kapi_rules::{resource_covers, url_matches, word_matches};
 use kapi_text::{Memory, Text};
 use std::alloc::Global;
@@ -99,12 +100,31 @@ fn some_starred_covers(starred: &[&Text], dimension: Dimension, other: &str) -> 
     false
 }
 
-// Some entry of a held rule covers that one. An entry without a star covers itself alone.
+// The word or `*` is an entry.
+#[tactic(auto, using(crate::proofs::Stars::some_word))]
+fn is_word_covered(entries: &Entries<'_>, word: &str) -> bool
+    ensures { result ≡ list_any (λ e. word_entry_matches e word.now) entries.now.all.now }
+{
+    lists(entries, word) || lists(entries, "*")
+}
+
+// An entry without a star covers itself alone.
 #[tactic(auto, using(crate::proofs::Stars::some_split))]
-fn is_covered(entries: &Entries<'_>, dimension: Dimension, other: &str) -> bool
+fn is_listed_or_starred(entries: &Entries<'_>, dimension: Dimension, other: &str) -> bool
     ensures { result ≡ some_covers dimension entries.now.all.now other.now }
 {
     lists(entries, other) || some_starred_covers(entries.starred.as_slice(), dimension, other)
+}
+
+// Some entry of a held rule covers that one.
+fn is_covered(entries: &Entries<'_>, dimension: Dimension, other: &str) -> bool
+    ensures { result ≡ some_covers dimension entries.now.all.now other.now }
+{
+    match dimension {
+        Dimension::Verbs | Dimension::Groups => is_word_covered(entries, other),
+        Dimension::Names => lists(entries, other),
+        Dimension::Resources | Dimension::Urls => is_listed_or_starred(entries, dimension, other),
+    }
 }
 
 // Some entry of a held rule covers that one, or an earlier rule lists it.

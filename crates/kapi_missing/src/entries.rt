@@ -2,7 +2,7 @@
 ghost use Rattle.std.specs.Prelude.{◌≡◌, ◌<◌, ℕ, List, length, IfOk};
 ghost use Rattle.std.specs.List.{filter, list_any};
 ghost use Rattle.std.specs.Str.{bytes_eq};
-ghost use Rattle.kapi_missing.specs.Words.{has_star as some_star, is_in, texts_at};
+ghost use Rattle.kapi_missing.specs.Private.Words.{has_star as some_star, is_in, texts_at};
 
 use crate::words::{has_star, has_word, words_of};
 use kapi_rules::is_listed;

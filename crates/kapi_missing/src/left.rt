@@ -2,11 +2,11 @@
 ghost use Rattle.std.specs.Prelude.{◌≡◌, ◌∷◌, [], ◌++◌, IfOk, OnOk};
 ghost use Rattle.std.specs.List.{filter, list_any};
 ghost use Rattle.kapi_rules.specs.Atoms.{resource_atom as named_atom, url_atom as verb_on_url};
-ghost use Rattle.kapi_missing.specs.Left.{each, left, left_group, left_name, left_of, left_one_name, left_resource, left_url, left_urls, left_verb, marked, near_group, near_resource, near_url, near_verb, parts_at, url_marked};
+ghost use Rattle.kapi_missing.specs.Private.Left.{each, left, left_group, left_name, left_of, left_one_name, left_resource, left_url, left_urls, left_verb, marked, parts_at, url_marked};
 
 use crate::marks::{Marks, is_marked};
 use crate::plans::Plan;
-use kapi_names::PolicyRule;
+use kapi_model::PolicyRule;
 use kapi_rules::{Atom, Names, ResourceAtom, UrlAtom};
 use kapi_text::{Memory, Text, TryCopy};
 use std::alloc::Global;
@@ -31,7 +31,7 @@ fn is_marked_at(marks: &Marks, level: Level, position: usize) -> bool
     }
 }
 
-// The parts that have the entry at that position.
+// The parts that have the entry at that position. Where there is none, nothing below it is looked at.
 fn near<'a>(
     alloc: Global,
     parts: &[&'a Marks],
@@ -140,6 +140,9 @@ fn push_verb(
 ) -> Result<(), Memory>
     ensures { OnOk result (list.new.items ≡ list.old.items ++ left_verb (parts_at parts.now) rule.now group.now resource.now verb.now) }
 {
+    if parts.is_empty() {
+        return Ok(());
+    }
     let names = rule.resource_names.as_slice();
     if names.is_empty() {
         push_all_names(alloc, list, parts, verb, group, resource)
@@ -158,8 +161,12 @@ fn push_resource(
 ) -> Result<(), Memory>
     ensures { OnOk result (list.new.items ≡ list.old.items ++ left_resource (parts_at parts.now) rule.now group.now resource.now) }
 {
+    if parts.is_empty() {
+        return Ok(());
+    }
     for (index, verb) in rule.verbs.as_slice().iter().enumerate() {
-        push_near_verb(alloc, list, parts, index, rule, group, resource, verb)?;
+        let near = near(alloc, parts, Level::Verbs, index)?;
+        push_verb(alloc, list, near.as_slice(), rule, group, resource, verb)?;
     }
     Ok(())
 }
@@ -173,13 +180,17 @@ fn push_group(
 ) -> Result<(), Memory>
     ensures { OnOk result (list.new.items ≡ list.old.items ++ left_group (parts_at parts.now) rule.now group.now) }
 {
+    if parts.is_empty() {
+        return Ok(());
+    }
     for (index, resource) in rule.resources.as_slice().iter().enumerate() {
-        push_near_resource(alloc, list, parts, index, rule, group, resource)?;
+        let near = near(alloc, parts, Level::Resources, index)?;
+        push_resource(alloc, list, near.as_slice(), rule, group, resource)?;
     }
     Ok(())
 }
 
-#[tactic(auto, unfolding(crate::specs::Left::left))]
+#[tactic(auto, unfolding(crate::specs::Private::Left::left))]
 fn push_groups(
     alloc: Global,
     list: &mut Vec<Atom>,
@@ -189,7 +200,8 @@ fn push_groups(
     ensures { OnOk result (list.new.items ≡ list.old.items ++ left (parts_at parts.now) rule.now) }
 {
     for (index, group) in rule.api_groups.as_slice().iter().enumerate() {
-        push_near_group(alloc, list, parts, index, rule, group)?;
+        let near = near(alloc, parts, Level::Groups, index)?;
+        push_group(alloc, list, near.as_slice(), rule, group)?;
     }
     Ok(())
 }
@@ -230,6 +242,9 @@ fn push_url(
 ) -> Result<(), Memory>
     ensures { OnOk result (list.new.items ≡ list.old.items ++ left_url (parts_at parts.now) rule.now url.now) }
 {
+    if parts.is_empty() {
+        return Ok(());
+    }
     for (index, verb) in rule.verbs.as_slice().iter().enumerate() {
         if is_any_url(parts, index) {
             list.push(url_atom(alloc, verb, url)?)?;
@@ -238,7 +253,7 @@ fn push_url(
     Ok(())
 }
 
-#[tactic(auto, unfolding(crate::specs::Left::left_urls))]
+#[tactic(auto, unfolding(crate::specs::Private::Left::left_urls))]
 fn push_urls(
     alloc: Global,
     list: &mut Vec<Atom>,
@@ -248,7 +263,8 @@ fn push_urls(
     ensures { OnOk result (list.new.items ≡ list.old.items ++ left_urls (parts_at parts.now) rule.now) }
 {
     for (index, url) in rule.non_resource_urls.as_slice().iter().enumerate() {
-        push_near_url(alloc, list, parts, index, rule, url)?;
+        let near = near(alloc, parts, Level::Groups, index)?;
+        push_url(alloc, list, near.as_slice(), rule, url)?;
     }
     Ok(())
 }
@@ -272,79 +288,4 @@ pub fn push_left(alloc: Global, list: &mut Vec<Atom>, plan: &Plan) -> Result<(),
     push_groups(alloc, list, resources.as_slice(), &plan.rule)?;
     let urls = pointers(alloc, plan.urls.as_slice())?;
     push_urls(alloc, list, urls.as_slice(), &plan.rule)
-}
-
-// The parts that have the entry at that position. Where there is none, nothing below is looked at.
-fn push_near_resource(
-    alloc: Global,
-    list: &mut Vec<Atom>,
-    parts: &[&Marks],
-    position: usize,
-    rule: &PolicyRule,
-    group: &Text,
-    resource: &Text,
-) -> Result<(), Memory>
-    ensures { OnOk result (list.new.items ≡ list.old.items ++ near_resource (parts_at parts.now) rule.now group.now position resource.now) }
-{
-    let near = near(alloc, parts, Level::Resources, position)?;
-    if near.is_empty() {
-        return Ok(());
-    }
-    push_resource(alloc, list, near.as_slice(), rule, group, resource)
-}
-
-// The parts that have the entry at that position. Where there is none, nothing below is looked at.
-fn push_near_group(
-    alloc: Global,
-    list: &mut Vec<Atom>,
-    parts: &[&Marks],
-    position: usize,
-    rule: &PolicyRule,
-    group: &Text,
-) -> Result<(), Memory>
-    ensures { OnOk result (list.new.items ≡ list.old.items ++ near_group (parts_at parts.now) rule.now position group.now) }
-{
-    let near = near(alloc, parts, Level::Groups, position)?;
-    if near.is_empty() {
-        return Ok(());
-    }
-    push_group(alloc, list, near.as_slice(), rule, group)
-}
-
-// The parts that have the entry at that position. Where there is none, nothing below is looked at.
-fn push_near_url(
-    alloc: Global,
-    list: &mut Vec<Atom>,
-    parts: &[&Marks],
-    position: usize,
-    rule: &PolicyRule,
-    url: &Text,
-) -> Result<(), Memory>
-    ensures { OnOk result (list.new.items ≡ list.old.items ++ near_url (parts_at parts.now) rule.now position url.now) }
-{
-    let near = near(alloc, parts, Level::Groups, position)?;
-    if near.is_empty() {
-        return Ok(());
-    }
-    push_url(alloc, list, near.as_slice(), rule, url)
-}
-
-// The parts that have the entry at that position. Where there is none, nothing below is looked at.
-fn push_near_verb(
-    alloc: Global,
-    list: &mut Vec<Atom>,
-    parts: &[&Marks],
-    position: usize,
-    rule: &PolicyRule,
-    group: &Text,
-    resource: &Text,
-    verb: &Text,
-) -> Result<(), Memory>
-    ensures { OnOk result (list.new.items ≡ list.old.items ++ near_verb (parts_at parts.now) rule.now group.now resource.now position verb.now) }
-{
-    let near = near(alloc, parts, Level::Verbs, position)?;
-    if near.is_empty() {
-        return Ok(());
-    }
-    push_verb(alloc, list, near.as_slice(), rule, group, resource, verb)
 }

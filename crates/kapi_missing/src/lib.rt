@@ -6,9 +6,12 @@ mod entries;
 mod index;
 mod left;
 mod marks;
+mod masks;
 mod missing_atoms;
 mod once;
 mod plans;
+mod stopped;
+mod wide;
 mod words;
 
 pub use missing_atoms::missing;

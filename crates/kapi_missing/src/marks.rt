@@ -1,7 +1,7 @@
 //! Which entries of a wanted rule belong to a part of its atoms.
 ghost use Rattle.std.specs.Prelude.{◌≡◌, ℕ, ◌&&◌, ◌||◌, not, IfOk, OnOk};
 ghost use Rattle.std.specs.List.{list_any};
-ghost use Rattle.kapi_missing.specs.Marks.{at, has, is_some_piece, keeps, kept as kept_marks, piece, some_has};
+ghost use Rattle.kapi_missing.specs.Private.Marks.{at, has, is_some_piece, keeps, kept as kept_marks, piece, some_has};
 
 use kapi_text::Memory;
 use std::alloc::Global;

@@ -1,9 +1,9 @@
 //! Rules with each entry once.
 ghost use Rattle.std.specs.Prelude.{◌≡◌, IfOk, OnOk};
-ghost use Rattle.kapi_missing.specs.Once.{HasThose, once, once_each, with_word};
+ghost use Rattle.kapi_missing.specs.Private.Once.{HasThose, once, once_each, with_word};
 
 use crate::words::{add_word, has_word};
-use kapi_names::PolicyRule;
+use kapi_model::PolicyRule;
 use kapi_text::{Memory, Sequence, Text, TryCopy};
 use std::alloc::Global;
 use std::collections::BTreeSet;
@@ -21,7 +21,7 @@ pub fn once_rule(alloc: Global, rule: &PolicyRule) -> Result<PolicyRule, Memory>
     })
 }
 
-#[tactic(auto, unfolding(crate::specs::Once::once_each))]
+#[tactic(auto, unfolding(crate::specs::Private::Once::once_each))]
 fn once_words(alloc: Global, words: &[Text]) -> Result<Sequence<Text>, Memory>
     ensures { IfOk result (λ s. s ≡ once_each words.now) }
 {

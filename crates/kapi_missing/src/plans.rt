@@ -1,18 +1,19 @@
 //! What is missing of each wanted rule, before any atom is made.
-ghost use Rattle.std.specs.Prelude.{◌≡◌, ◌∷◌, [], ◌++◌, ◌&&◌, ℕ, List, map, not, true, false, IfOk};
-ghost use Rattle.std.specs.List.{flat_map, list_any};
+ghost use Rattle.std.specs.Prelude.{◌≡◌, ◌∷◌, [], ◌++◌, List, true, false, IfOk, OnOk};
+ghost use Rattle.std.specs.List.{flat_map};
 ghost use Rattle.kapi_rules.specs.Missing.{missing as missing_of};
-ghost use Rattle.kapi_names.specs.declared.policy_rule.PolicyRule.{PolicyRule as PolicyRuleValue};
-ghost use Rattle.kapi_missing.specs.Bars.{AreLeft, barred, rule_in};
-ghost use Rattle.kapi_missing.specs.Index.{AreAllPlaced, AreBars, rules_in};
-ghost use Rattle.kapi_missing.specs.Left.{left_of};
-ghost use Rattle.kapi_missing.specs.Marks.{at, some_has};
+ghost use Rattle.kapi_model.specs.declared.policy_rule.PolicyRule.{PolicyRule as PolicyRuleValue};
+ghost use Rattle.kapi_missing.specs.Private.Bars.{AreLeft};
+ghost use Rattle.kapi_missing.specs.Private.Index.{AreBars};
+ghost use Rattle.kapi_missing.specs.Private.Left.{left_of};
 
-use crate::bars::{Bar, Sort, barred_part, is_near, whole_part};
-use crate::index::{Bars, add_bar, held_bars, near_numbers, no_bars};
-use crate::marks::{Marks, without};
+use crate::bars::{Sort, whole_part};
+use crate::index::{Bars, add_bar, held_bars, no_bars};
+use crate::marks::Marks;
 use crate::once::once_rule;
-use kapi_names::PolicyRule;
+use crate::stopped::without_bars;
+use kapi_model::PolicyRule;
+use kapi_rules::Atom;
 use kapi_text::Memory;
 use std::alloc::Global;
 
@@ -22,59 +23,6 @@ pub struct Plan {
     pub rule: PolicyRule,
     pub resources: Vec<Marks>,
     pub urls: Vec<Marks>,
-}
-
-#[tactic(auto, using(crate::proofs::Pieces::not_near, crate::proofs::Pieces::none_there))]
-fn without_bar(
-    alloc: Global,
-    parts: Vec<Marks>,
-    bar: &Bar<'_>,
-    is_held: bool,
-    sort: Sort,
-    rule: &PolicyRule,
-) -> Result<Vec<Marks>, Memory>
-    ensures { IfOk result (λ v. (i j k l : ℕ) → some_has v.items i j k l ≡ (some_has parts.items i j k l && not (barred is_held sort (rule_in bar.now) rule.now i j k l))) }
-{
-    if parts.is_empty() || !is_near(bar, is_held, sort, rule) {
-        return Ok(parts);
-    }
-    let part = barred_part(alloc, bar, is_held, sort, rule)?;
-    without(alloc, parts, &part)
-}
-
-fn without_at(
-    alloc: Global,
-    parts: Vec<Marks>,
-    bars: &Bars<'_>,
-    number: usize,
-    sort: Sort,
-    rule: &PolicyRule,
-) -> Result<Vec<Marks>, Memory>
-    ensures { IfOk result (λ v. (i j k l : ℕ) → some_has v.items i j k l
-        ≡ (some_has parts.items i j k l && not (at (map (λ b. barred bars.now.is_held sort b rule.now i j k l) (rules_in bars.now)) number))) }
-{
-    match bars.rules.get(number) {
-        Some(bar) => Ok(without_bar(alloc, parts, bar, bars.is_held, sort, rule)?),
-        None => Ok(parts),
-    }
-}
-
-fn without_bars(
-    alloc: Global,
-    parts: Vec<Marks>,
-    bars: &Bars<'_>,
-    sort: Sort,
-    rule: &PolicyRule,
-) -> Result<Vec<Marks>, Memory>
-    ensures { IfOk result (λ v. AreAllPlaced bars.now → (i j k l : ℕ) → some_has v.items i j k l
-        ≡ (some_has parts.items i j k l && not (list_any (λ b. barred bars.now.is_held sort b rule.now i j k l) (rules_in bars.now)))) }
-{
-    let near = near_numbers(alloc, bars, sort, rule)?;
-    let mut left = parts;
-    for number in near.as_slice() {
-        left = without_at(alloc, left, bars, *number, sort, rule)?;
-    }
-    Ok(left)
 }
 
 fn left_parts(
@@ -112,16 +60,50 @@ fn planned(
     })
 }
 
-/// What is missing of each of the wanted rules, beside the held ones and those before it.
+fn marked_in(marks: &[bool]) -> usize {
+    marks.iter().filter(|mark| **mark).count()
+}
+
+// How many atoms the parts have: no two parts have one in common.
+fn atoms_of(parts: &[Marks]) -> usize {
+    let mut total: usize = 0;
+    for marks in parts {
+        let on_groups = marked_in(marks.groups.as_slice()).saturating_mul(marked_in(
+            marks.resources.as_slice(),
+        ));
+        let on_verbs = marked_in(marks.verbs.as_slice()).saturating_mul(marked_in(
+            marks.names.as_slice(),
+        ));
+        total = total.saturating_add(on_groups.saturating_mul(on_verbs));
+    }
+    total
+}
+
+fn atoms_in(plan: &Plan) -> usize {
+    atoms_of(plan.resources.as_slice()).saturating_add(atoms_of(plan.urls.as_slice()))
+}
+
+/// What is missing of each of the wanted rules, beside the held ones and those before it. Room is made for the atoms rule by rule,
+/// so that too many are refused before more is planned.
 #[tactic(auto, using(crate::proofs::Repeats::missing_none))]
-pub fn plans(alloc: Global, held: &[PolicyRule], wanted: &[PolicyRule]) -> Result<Vec<Plan>, Memory>
-    ensures { IfOk result (λ v. flat_map left_of v.items ≡ missing_of held.now wanted.now) }
+pub fn plans(
+    alloc: Global,
+    held: &[PolicyRule],
+    wanted: &[PolicyRule],
+    found: &mut Vec<Atom>,
+) -> Result<Vec<Plan>, Memory>
+    ensures plans { IfOk result (λ v. flat_map left_of v.items ≡ missing_of held.now wanted.now) }
+    ensures room { OnOk result (found.new.items ≡ found.old.items) }
 {
     let held = held_bars(alloc, held)?;
     let mut earlier = no_bars(alloc, false, wanted)?;
     let mut list = Vec::new(alloc);
+    let mut atoms: usize = 0;
     for rule in wanted {
-        list.push(planned(alloc, &held, &earlier, rule)?)?;
+        let plan = planned(alloc, &held, &earlier, rule)?;
+        atoms = atoms.saturating_add(atoms_in(&plan));
+        found.reserve(atoms)?;
+        list.push(plan)?;
         add_bar(alloc, &mut earlier, rule)?;
     }
     Ok(list)

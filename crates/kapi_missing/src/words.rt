@@ -2,7 +2,7 @@
 ghost use Rattle.std.specs.Prelude.{◌≡◌, ◌||◌, ℕ, List, IfOk, OnOk};
 ghost use Rattle.std.specs.List.{list_any};
 ghost use Rattle.std.specs.Str.{bytes_eq};
-ghost use Rattle.kapi_missing.specs.Words.{has_star as some_star, is_in};
+ghost use Rattle.kapi_missing.specs.Private.Words.{has_star as some_star, is_in};
 
 use kapi_text::{Memory, Text};
 use std::alloc::Global;

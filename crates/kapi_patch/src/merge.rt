@@ -15,7 +15,7 @@ pub fn merge_patch(alloc: Global, target: &Value, patch: &Value) -> Result<Value
     merged(alloc, patch, target)
 }
 
-/// The patch comes first: a walk ends by what gets smaller.
+/// The patch is the first argument, since the walk ends by the patch getting smaller.
 #[cycle(merge)]
 fn merged(alloc: Global, patch: &Value, target: &Value) -> Result<Value, Memory>
     ensures { IfOk result (λ v. view v ≡ merged_of (view target.now) (view patch.now)) }
@@ -67,7 +67,7 @@ fn merge_member(
     put(members, alloc, name, value)
 }
 
-/// The value of a name, or that other one.
+/// The value of a name, or the other value where there is none.
 fn value_or<'a>(members: &'a Map<String, Value>, name: &str, other: &'a Value) -> &'a Value
     ensures { view result.now ≡ unwrap_or (get_member name.now (members_view members.now.entries)) (view other.now) }
 {

@@ -5,15 +5,15 @@ use Rattle.std.proofs.lemmas.List.Folds.{list_any-append}
 use Rattle.std.proofs.lemmas.Grind.{flat_map-append}
 use Rattle.std.specs.List.{flat_map, list_any, position, position_or_len}
 use Rattle.std.specs.Option.{is_some, option_or, unwrap_or}
-use Rattle.kapi_rbac_types.specs.declared.binding.ClusterRoleBinding.{ClusterRoleBinding}
-use Rattle.kapi_rbac_types.specs.declared.identity.Identity.{Identity}
-use Rattle.kapi_names.specs.declared.policy_rule.PolicyRule.{PolicyRule}
-use Rattle.kapi_names.specs.declared.kinds.RoleKind.{RoleKind}
-use Rattle.kapi_names.specs.declared.kinds.RoleKind.TheVariants as role_kind
+use Rattle.kapi_model.specs.declared.binding.ClusterRoleBinding.{ClusterRoleBinding}
+use Rattle.kapi_model.specs.declared.identity.Identity.{Identity}
+use Rattle.kapi_model.specs.declared.policy_rule.PolicyRule.{PolicyRule}
+use Rattle.kapi_model.specs.declared.kinds.RoleKind.{RoleKind}
+use Rattle.kapi_model.specs.declared.kinds.RoleKind.TheVariants as role_kind
 use Rattle.kapi_rules.specs.Rules.{allows}
 use Rattle.kapi_rules.specs.declared.point.Point.{Point}
 use Rattle.kapi_policy.specs.Decided.{Binding, bindings_in, bindings_of, cluster_binding, allowed, masters, allowed_if, decided, first_some, given, Granted, granted, granted_at, granted_by, held, rules_of, rules_of_kind}
-use Rattle.kapi_rbac_types.specs.Identities.{is_master}
+use Rattle.kapi_model.specs.Identities.{is_master}
 use Rattle.kapi_policy.specs.Laws.{cluster_wide, is_allowed, NamesFirst, rules_by}
 use Rattle.kapi_policy.specs.Objects.{PolicyObjects}
 

@@ -13,6 +13,6 @@ pub first_some_append : {X Y : Type 0} (f : X → Option Y) (xs ys : List X) →
 first_some_append f [] ys = refl
 first_some_append f (x ∷ xs) ys = ap (option_or (f x)) (first_some_append f xs ys) ∙ or_assoc (f x) (first_some f xs) (first_some f ys)
 
--- the rules that the bindings give, those of two lists one after the other
+-- the rules that the bindings of two lists grant, those of the first list before the others
 pub flat_map_append : {X A : Type 0} (f : X → List A) (xs ys : List X) → flat_map f (xs ++ ys) ≡ flat_map f xs ++ flat_map f ys
 flat_map_append = flat_map-append

@@ -1,4 +1,5 @@
 pub mod Firsts
+pub mod Steps
 pub mod Keys
 pub mod Inserts
 pub mod Decisions

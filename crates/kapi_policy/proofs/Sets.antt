@@ -1,4 +1,4 @@
--- What puts and deletions leave of a list in the order of its keys.
+-- Lists in the order of their keys, after puts and deletions.
 use Rattle.std.proofs.Common.{◌≡◌, List, [], ◌∷◌, Bool, true, false, cond, Option, Some, None, refl, sym, ap, ◌∙◌}
 use Rattle.std.specs.BTreeMap.{insert_entry, is_at}
 use Rattle.std.specs.Cmp.{IsTotalOrder, eq_by_cmp_equiv}
@@ -29,7 +29,7 @@ name_total : IsTotalOrder name_cmp
 name_total = nat_list_cmp_total
 
 module _ {K : Type 0} (cmp : K → K → Ordering) (o : IsTotalOrder cmp) where
-  -- keys that compare as equal to one are so to each other
+  -- keys that compare as equal to one compare as equal to each other
   both_equal : (q k l : K) → cmp q l ≡ Equal → cmp q k ≡ Equal → cmp k l ≡ Equal
   both_equal q k l h i = sym (o.congr q k l i) ∙ h
 

@@ -1,7 +1,7 @@
 -- All bindings of a policy (Kubernetes, 'Using RBAC Authorization', 'RoleBinding and ClusterRoleBinding').
 use Rattle.std.specs.Prelude.{ℕ, ◌==◌, Bool, not, List, ◌++◌, length, map}
 use Rattle.std.specs.List.{filter}
-use Rattle.kapi_rbac_types.specs.declared.binding.RoleBinding.{RoleBinding}
+use Rattle.kapi_model.specs.declared.binding.RoleBinding.{RoleBinding}
 use Rattle.kapi_policy.specs.declared.change.NamespacedName.{NamespacedName}
 use Rattle.kapi_policy.specs.Decided.{Binding, cluster_binding, namespace_binding}
 use Rattle.kapi_policy.specs.Objects.{PolicyObjects}

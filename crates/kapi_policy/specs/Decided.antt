@@ -1,21 +1,22 @@
--- What bindings give an identity, and what is allowed by it (Kubernetes, 'Using RBAC Authorization', 'RoleBinding and ClusterRoleBinding').
+-- What bindings grant an identity, and what is allowed by it (Kubernetes, 'Using RBAC Authorization', 'RoleBinding and
+-- ClusterRoleBinding').
 use Rattle.std.specs.Prelude.{ℕ, ◌==◌, Bool, ◌&&◌, if◌then◌else◌, List, [], ◌∷◌, ◌++◌, length, map, Option, Some, None}
 use Rattle.std.specs.List.{filter, flat_map, list_any, position}
 use Rattle.std.specs.Map.{lookup}
 use Rattle.std.specs.Option.{option_or, unwrap_or}
 use Rattle.std.specs.Str.{bytes_eq}
-use Rattle.kapi_names.specs.declared.kinds.RoleKind.{RoleKind}
-use Rattle.kapi_names.specs.declared.kinds.RoleKind.TheVariants as role_kind
-use Rattle.kapi_rbac_types.specs.declared.binding.ClusterRoleBinding.{ClusterRoleBinding}
-use Rattle.kapi_rbac_types.specs.declared.binding.RoleBinding.{RoleBinding}
-use Rattle.kapi_rbac_types.specs.declared.identity.Identity.{Identity}
-use Rattle.kapi_names.specs.declared.policy_rule.PolicyRule.{PolicyRule}
-use Rattle.kapi_rbac_types.specs.declared.role.ClusterRole.{ClusterRole}
-use Rattle.kapi_rbac_types.specs.declared.role.Role.{Role}
-use Rattle.kapi_names.specs.declared.role_ref.RoleRef.{RoleRef}
-use Rattle.kapi_names.specs.declared.subject.Subject.{Subject}
-use Rattle.kapi_rbac_types.specs.Identities.{is_master}
-use Rattle.kapi_rbac_types.specs.Subjects.{names}
+use Rattle.kapi_model.specs.declared.kinds.RoleKind.{RoleKind}
+use Rattle.kapi_model.specs.declared.kinds.RoleKind.TheVariants as role_kind
+use Rattle.kapi_model.specs.declared.binding.ClusterRoleBinding.{ClusterRoleBinding}
+use Rattle.kapi_model.specs.declared.binding.RoleBinding.{RoleBinding}
+use Rattle.kapi_model.specs.declared.identity.Identity.{Identity}
+use Rattle.kapi_model.specs.declared.policy_rule.PolicyRule.{PolicyRule}
+use Rattle.kapi_model.specs.declared.role.ClusterRole.{ClusterRole}
+use Rattle.kapi_model.specs.declared.role.Role.{Role}
+use Rattle.kapi_model.specs.declared.role_ref.RoleRef.{RoleRef}
+use Rattle.kapi_model.specs.declared.subject.Subject.{Subject}
+use Rattle.kapi_model.specs.Identities.{is_master}
+use Rattle.kapi_model.specs.Subjects.{subject_matches}
 use Rattle.kapi_rules.specs.declared.point.Point.{Point}
 use Rattle.kapi_rules.specs.Rules.{allows}
 use Rattle.kapi_policy.specs.declared.change.NamespacedName.{NamespacedName}
@@ -41,13 +42,13 @@ abbrev pub cluster_rules_in : Option ClusterRole → Option (List PolicyRule)
 cluster_rules_in None = None
 cluster_rules_in (Some role) = Some role.rules
 
--- the rules of the role of a kind and name; a Role stands in a namespace, so that cluster-wide there is none
+-- the rules of the role of a kind and name; a Role is in a namespace, so that cluster-wide there is none
 abbrev pub rules_of_kind : PolicyObjects → RoleKind → List ℕ → List ℕ → Option (List PolicyRule)
 rules_of_kind objects role_kind.Role name namespace =
     if length namespace == 0 then None else rules_in (lookup (is_place namespace name) objects.roles)
 rules_of_kind objects role_kind.ClusterRole name namespace = cluster_rules_in (lookup (bytes_eq name) objects.cluster_roles)
 
--- the rules of the role that a binding in a namespace refers to, if it exists; the namespace is empty for a ClusterRoleBinding
+-- the rules of the role that a binding refers to, if it exists; the namespace is empty for a ClusterRoleBinding
 unfoldable pub rules_of : PolicyObjects → RoleRef → List ℕ → Option (List PolicyRule)
 rules_of objects role namespace = rules_of_kind objects role.kind role.name namespace
 
@@ -83,17 +84,17 @@ namespace_binding entry = record {
 abbrev pub bindings_of : List ℕ → List (NamespacedName × RoleBinding) → List Binding
 bindings_of namespace entries = map namespace_binding (filter (λ entry. is_in namespace entry.0) entries)
 
--- the bindings that count in a namespace, in the order in which they are looked at: all ClusterRoleBindings, then, unless the
--- question is cluster-wide, the RoleBindings of the namespace
+-- the bindings that count in a namespace, in the order in which they are checked: all ClusterRoleBindings, then, unless
+-- the question is cluster-wide, the RoleBindings of the namespace
 unfoldable pub bindings_in : PolicyObjects → List ℕ → List Binding
 bindings_in objects namespace =
     map cluster_binding objects.cluster_role_bindings
     ++ (if length namespace == 0 then [] else bindings_of namespace objects.role_bindings)
 
--- the rules that a binding gives the identity: its role's, where one of its subjects means the identity and the role exists
+-- the rules that a binding grants the identity: its role's, where a subject matches the identity and the role exists
 unfoldable pub given : PolicyObjects → Identity → Binding → Option (List PolicyRule)
 given objects identity b =
-    if list_any (λ s. names s b.namespace identity) b.subjects then rules_of objects b.role b.namespace else None
+    if list_any (λ s. subject_matches s b.namespace identity) b.subjects then rules_of objects b.role b.namespace else None
 
 -- the rules that the identity holds in a namespace, in order
 unfoldable pub held : PolicyObjects → Identity → List ℕ → List PolicyRule
@@ -117,7 +118,7 @@ abbrev pub granted_at : Binding → Option ℕ → Option Granted
 granted_at b None = None
 granted_at b (Some index) = Some (record { kind = b.kind; binding = b.name; role = b.role; rule = index })
 
--- the first rule of the binding that allows the point, among those that it gives the identity
+-- the first rule of the binding that allows the point, among those that it grants the identity
 unfoldable pub granted_by : PolicyObjects → Identity → Point → Binding → Option Granted
 granted_by objects identity point b = granted_at b (position (λ rule. allows rule point) (unwrap_or (given objects identity b) []))
 
@@ -130,7 +131,7 @@ first_some f (x ∷ xs) = option_or (f x) (first_some f xs)
 unfoldable pub granted : PolicyObjects → Identity → List ℕ → Point → Option Granted
 granted objects identity namespace point = first_some (granted_by objects identity point) (bindings_in objects namespace)
 
--- the decision where system:masters has no part in it
+-- the decision of a user who is not in system:masters
 abbrev pub allowed_if : Option Granted → Decided
 allowed_if None = denied
 allowed_if (Some g) = allowed g

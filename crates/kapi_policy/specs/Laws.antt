@@ -1,9 +1,9 @@
--- What decisions and held rules have to do with one another, and what changes leave.
+-- How decisions and held rules relate to one another, and what changes leave.
 use Rattle.std.specs.Prelude.{◌≡◌, ℕ, Bool, true, false, if◌then◌else◌, List, [], ◌∷◌, ◌++◌, Option, Some, None}
 use Rattle.std.specs.List.{flat_map, list_any, position}
 use Rattle.std.specs.Option.{unwrap_or}
-use Rattle.kapi_rbac_types.specs.declared.identity.Identity.{Identity}
-use Rattle.kapi_names.specs.declared.policy_rule.PolicyRule.{PolicyRule}
+use Rattle.kapi_model.specs.declared.identity.Identity.{Identity}
+use Rattle.kapi_model.specs.declared.policy_rule.PolicyRule.{PolicyRule}
 use Rattle.kapi_rules.specs.declared.point.Point.{Point}
 use Rattle.kapi_rules.specs.Rules.{allows}
 use Rattle.kapi_policy.specs.Decided.{Binding, bindings_in, Decided, allowed, masters, denied, given, Granted}
@@ -24,12 +24,12 @@ is_allowed (allowed g) = true
 is_allowed masters = true
 is_allowed denied = false
 
--- the rules that a binding gives the identity, none where it gives none
+-- the rules that a binding grants the identity, none where it grants none
 abbrev pub rules_by : PolicyObjects → Identity → Binding → List PolicyRule
 rules_by objects identity b = unwrap_or (given objects identity b) []
 
--- the grant names the first rule that allows the point: it is one of a binding that counts; no rule that an earlier binding gives
--- allows the point, nor does an earlier rule of its own role
+-- the grant names the first rule that allows the point: it is one of a binding that counts; no rule that an earlier
+-- binding grants allows the point, nor does an earlier rule of its own role
 pub record NamesFirst (objects : PolicyObjects) (identity : Identity) (namespace : List ℕ) (point : Point) (g : Granted) : Type 0 where
   pub before : List Binding
   pub binding : Binding
@@ -39,7 +39,7 @@ pub record NamesFirst (objects : PolicyObjects) (identity : Identity) (namespace
   pub first : position (λ rule. allows rule point) (rules_by objects identity binding) ≡ Some g.rule
   pub named : g ≡ record { kind = binding.kind; binding = binding.name; role = binding.role; rule = g.rule }
 
--- the objects without those that stand in a namespace
+-- the objects without those in namespaces
 abbrev pub cluster_wide : PolicyObjects → PolicyObjects
 cluster_wide objects = record objects { roles = []; role_bindings = [] }
 
@@ -50,7 +50,7 @@ pub record IsInOrder (objects : PolicyObjects) : Type 0 where
   pub role_bindings : IsStrictlySortedBy place_cmp (keys_of objects.role_bindings)
   pub cluster_role_bindings : IsStrictlySortedBy name_cmp (keys_of objects.cluster_role_bindings)
 
--- at that key stands the object, or none, and at each other key what stood there
+-- the map has the object at that key, or none, and at each other key what it had before
 abbrev pub Sets : {K X : Type 0} → (K → K → Ordering) → K → Option X → List (K × X) → List (K × X) → Type 0
 Sets {K} cmp k object old new = (q : K) → lookup (is_at (cmp q)) new ≡ (if is_eq (cmp q k) then object else lookup (is_at (cmp q)) old)
 
@@ -61,7 +61,7 @@ IsWith (put.ClusterRole name r) old new = Sets name_cmp name (Some r) old.cluste
 IsWith (put.RoleBinding place b) old new = Sets place_cmp place (Some b) old.role_bindings new.role_bindings × (new ≡ record old { role_bindings = new.role_bindings })
 IsWith (put.ClusterRoleBinding name b) old new = Sets name_cmp name (Some b) old.cluster_role_bindings new.cluster_role_bindings × (new ≡ record old { cluster_role_bindings = new.cluster_role_bindings })
 
--- and so does a deletion
+-- a deletion removes one object of one kind
 abbrev pub IsWithout : PolicyKey → PolicyObjects → PolicyObjects → Type 0
 IsWithout (key.Role place) old new = Sets place_cmp place None old.roles new.roles × (new ≡ record old { roles = new.roles })
 IsWithout (key.ClusterRole name) old new = Sets name_cmp name None old.cluster_roles new.cluster_roles × (new ≡ record old { cluster_roles = new.cluster_roles })

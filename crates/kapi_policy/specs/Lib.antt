@@ -1,4 +1,5 @@
 pub mod Objects
+pub mod Steps
 pub mod Decided
 pub mod Views
 pub mod Laws

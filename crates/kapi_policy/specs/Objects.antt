@@ -5,10 +5,10 @@ use Rattle.std.specs.declared.cmp.Ordering.{Ordering}
 use Rattle.std.specs.Cmp.Lexicographic.{slice_cmp}
 use Rattle.std.specs.Map.{remove_entry}
 use Rattle.std.specs.BTreeMap.{insert_entry, is_at}
-use Rattle.kapi_rbac_types.specs.declared.role.Role.{Role}
-use Rattle.kapi_rbac_types.specs.declared.role.ClusterRole.{ClusterRole}
-use Rattle.kapi_rbac_types.specs.declared.binding.RoleBinding.{RoleBinding}
-use Rattle.kapi_rbac_types.specs.declared.binding.ClusterRoleBinding.{ClusterRoleBinding}
+use Rattle.kapi_model.specs.declared.role.Role.{Role}
+use Rattle.kapi_model.specs.declared.role.ClusterRole.{ClusterRole}
+use Rattle.kapi_model.specs.declared.binding.RoleBinding.{RoleBinding}
+use Rattle.kapi_model.specs.declared.binding.ClusterRoleBinding.{ClusterRoleBinding}
 use Rattle.kapi_policy.specs.declared.change.NamespacedName.{NamespacedName}
 use Rattle.kapi_policy.specs.declared.change.PolicyChange.{PolicyChange}
 use Rattle.kapi_policy.specs.declared.change.PolicyChange.TheVariants as change

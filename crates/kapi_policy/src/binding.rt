@@ -1,5 +1,5 @@
 use crate::decision::BindingKind;
-use kapi_rbac_types::{RoleRef, Subject};
+use kapi_model::{RoleRef, Subject};
 
 /// A binding of either kind. The namespace is empty for a cluster role binding.
 #[derive(Drop)]

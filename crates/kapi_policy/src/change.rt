@@ -1,4 +1,4 @@
-use kapi_rbac_types::{ClusterRole, ClusterRoleBinding, Role, RoleBinding};
+use kapi_model::{ClusterRole, ClusterRoleBinding, Role, RoleBinding};
 use kapi_text::{Text, TryCopy};
 use std::alloc::{AllocError, Global};
 
@@ -9,7 +9,8 @@ pub struct NamespacedName {
     pub name: Text,
 }
 
-/// A policy object at its place: a role or role binding in a namespace, or a cluster role or cluster role binding of a name.
+/// A policy object at its place: a role or role binding in a namespace, or a cluster role or cluster role binding of a
+/// name.
 #[derive(Debug, Drop)]
 pub enum PolicyPut {
     Role(NamespacedName, Role),
@@ -30,9 +31,9 @@ pub enum PolicyKey {
 /// One change of the policy objects.
 #[derive(Debug, Drop)]
 pub enum PolicyChange {
-    /// The object stands at its place, in place of one that stood there.
+    /// Puts the object at its place, also where there is one.
     Put(PolicyPut),
-    /// No object stands at the place.
+    /// Removes the object at the place, if there is one.
     Delete(PolicyKey),
 }
 

@@ -5,7 +5,7 @@ use kapi_text::{Memory, TryCopy};
 use std::alloc::Global;
 use std::collections::BTreeMap;
 
-/// A map of its own with the same entries.
+/// An owned map with the same entries.
 pub fn copy_map<K: Ord + TryCopy + Drop, V: TryCopy + Drop>(
     alloc: Global,
     map: &BTreeMap<K, V>,

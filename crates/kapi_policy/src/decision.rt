@@ -1,7 +1,7 @@
-use kapi_rbac_types::RoleRef;
+use kapi_model::RoleRef;
 
-/// The two kinds of bindings: in a namespace, and cluster-wide (Kubernetes, 'Using RBAC Authorization', 'RoleBinding and
-/// ClusterRoleBinding').
+/// The two kinds of bindings: in a namespace, and cluster-wide (Kubernetes, 'Using RBAC Authorization', 'RoleBinding
+/// and ClusterRoleBinding').
 #[derive(Clone, Copy, Debug, PartialEq, Eq)]
 pub enum BindingKind {
     RoleBinding,

@@ -1,4 +1,4 @@
-//! Role-based access control: the policy objects, who is allowed what by them, and the rules that an identity holds.
+//! Role-based access control: the policy objects, which requests they allow, and the rules that an identity holds.
 #![tactic(auto)]
 
 mod all;
@@ -9,6 +9,7 @@ mod decision;
 pub mod laws;
 mod plain;
 mod policy;
+mod step;
 mod walk;
 
 pub use binding::Binding;
@@ -17,4 +18,5 @@ pub use copies::copy_map;
 pub use decision::{BindingKind, Decision, Grant};
 pub use plain::PlainPolicy;
 pub use policy::{Policy, is_allowed};
+pub use step::PolicyStep;
 pub use walk::{grant_in, push_rules};

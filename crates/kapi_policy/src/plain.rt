@@ -9,7 +9,7 @@ use crate::copies::copy_map;
 use crate::decision::Decision;
 use crate::policy::Policy;
 use crate::{all, walk};
-use kapi_rbac_types::{
+use kapi_model::{
     ClusterRole, ClusterRoleBinding, Identity, PolicyRule, Role, RoleBinding, RoleRef,
 };
 use kapi_rules::Point;
@@ -18,7 +18,7 @@ use std::alloc::Global;
 use std::collections::BTreeMap;
 use std::marker::Model;
 
-/// A policy that looks at each binding in turn.
+/// A policy that checks each binding in turn.
 #[derive(Drop)]
 pub struct PlainPolicy {
     alloc: Global,
@@ -50,7 +50,7 @@ impl PlainPolicy {
         }
     }
 
-    /// A policy of its own with the same roles and bindings.
+    /// An owned policy with the same roles and bindings.
     pub fn copy(&self) -> Result<PlainPolicy, Memory>
         ensures { IfOk result (λ p. p ≡ self.now) }
     {
@@ -64,7 +64,7 @@ impl PlainPolicy {
         })
     }
 
-    /// The bindings that count somewhere, in the order in which they are looked at: the cluster-wide ones, then those of
+    /// The bindings that count somewhere, in the order in which they are checked: the cluster-wide ones, then those of
     /// namespaces.
     pub fn bindings(&self) -> Result<Vec<Binding<'_>>, Memory>
         ensures { IfOk result (λ v. map binding_of v.items ≡ all_bindings self.now) }
@@ -72,7 +72,7 @@ impl PlainPolicy {
         all::bindings(self.alloc, self)
     }
 
-    /// Puts the object at its place. Want of memory changes nothing.
+    /// Puts the object at its place. A failed allocation changes nothing.
     #[tactic(auto, unfolding(crate::specs::Objects::with_object))]
     fn put(&mut self, object: &PolicyPut) -> Result<(), Memory>
         ensures done { OnOk result (self.new ≡ with_object object.now self.old) }

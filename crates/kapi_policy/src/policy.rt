@@ -2,44 +2,45 @@ ghost use Rattle.std.specs.Prelude.{◌≡◌, ◌||◌, IfOk, IsOk, OnErr, OnOk
 ghost use Rattle.std.specs.List.{list_any};
 ghost use Rattle.kapi_rules.specs.Rules.{allows as rule_allows};
 ghost use Rattle.kapi_policy.specs.Decided.{decided, held as held_by, rules_of};
-ghost use Rattle.kapi_rbac_types.specs.Identities.{is_master};
+ghost use Rattle.kapi_model.specs.Identities.{is_master};
 ghost use Rattle.kapi_policy.specs.Objects.{PolicyObjects, applied};
 ghost use Rattle.kapi_policy.specs.Views.{decision_of};
 ghost use Rattle.kapi_policy.specs.declared.change.PolicyKey.{PolicyKey};
 
 use crate::change::PolicyChange;
 use crate::decision::Decision;
-use kapi_rbac_types::{Identity, PolicyRule, RoleRef};
+use kapi_model::{Identity, PolicyRule, RoleRef};
 use kapi_rules::Point;
 use kapi_text::Memory;
 
-/// Roles and bindings, and what they allow (Kubernetes, 'Using RBAC Authorization'). Contracts see a policy as its objects alone.
-/// Where a namespace is asked for, the empty one asks cluster-wide.
+/// Roles and bindings, and what they allow (Kubernetes, 'Using RBAC Authorization'). Contracts see a policy as its
+/// objects alone. Where a namespace is asked for, the empty one asks cluster-wide.
 pub trait Policy {
     /// The roles and bindings.
     ghost content: { Self → PolicyObjects };
 
-    /// Puts or deletes one object. Want of memory changes nothing; a deletion takes none and is always done.
+    /// Puts or deletes one object. A failed allocation changes nothing; a deletion allocates nothing and always
+    /// succeeds.
     fn apply(&mut self, change: &PolicyChange) -> Result<(), Memory>
         ensures done { OnOk result (content self.new ≡ applied change.now (content self.old)) }
         ensures kept { OnErr result (content self.new ≡ content self.old) }
         ensures deletes { (key : PolicyKey) → change.now ≡ PolicyChange.Delete key → IsOk result };
 
-    /// Whether the identity may do this in the namespace, and the first rule by which he may. Takes no memory.
+    /// Whether the identity may do this in the namespace, and the first rule that allows it. Allocates nothing.
     fn decide<'a>(&'a self, identity: &Identity, namespace: &str, point: &Point) -> Decision<'a>
         ensures { decision_of result ≡ decided (content self.now) identity.now namespace.now point.now };
 
-    /// The rules that the bindings give the identity in the namespace, in the order in which they are looked at.
+    /// The rules that the bindings grant the identity in the namespace, in the order in which they are checked.
     fn held(&self, identity: &Identity, namespace: &str) -> Result<Vec<PolicyRule>, Memory>
         ensures { IfOk result (λ v. v.items ≡ held_by (content self.now) identity.now namespace.now) };
 
-    /// The rules of the role that a binding in the namespace refers to, if it exists. Takes no memory.
+    /// The rules of the role that a binding in the namespace refers to, if it exists. Allocates nothing.
     fn role_rules<'a>(&'a self, role: &RoleRef, namespace: &str) -> Option<&'a [PolicyRule]>
         ensures { option_copied result ≡ rules_of (content self.now) role.now namespace.now };
 }
 
-/// Whether the identity may do this in the namespace: where he is of the group `system:masters`, or some rule that he holds there
-/// allows it. Takes no memory.
+/// Whether the identity may do this in the namespace: it is of the group `system:masters`, or some rule that it holds
+/// there allows the point. Allocates nothing.
 pub fn is_allowed<P: Policy>(
     policy: &P,
     identity: &Identity,

@@ -4,7 +4,7 @@ ghost use Rattle.std.specs.List.{flat_map, list_any, position};
 ghost use Rattle.std.specs.Map.{lookup};
 ghost use Rattle.std.specs.Option.{unwrap_or};
 ghost use Rattle.std.specs.Str.{bytes_eq};
-ghost use Rattle.kapi_rbac_types.specs.Subjects.{names as names_of};
+ghost use Rattle.kapi_model.specs.Subjects.{subject_matches as matches_of};
 ghost use Rattle.kapi_rules.specs.Rules.{allows as rule_allows};
 ghost use Rattle.kapi_policy.specs.Decided.{bindings_of, cluster_binding as cluster_binding_of, cluster_rules_in, decided, first_some, given as given_by, granted, granted_at, granted_by, held as held_by, is_place, namespace_binding as namespace_binding_of, rules_in, rules_of, rules_of_kind};
 ghost use Rattle.kapi_policy.specs.Views.{binding_of, decision_of, granted_if};
@@ -13,8 +13,8 @@ use crate::binding::Binding;
 use crate::change::NamespacedName;
 use crate::decision::{BindingKind, Decision, Grant};
 use crate::plain::PlainPolicy;
-use kapi_rbac_types::{
-    ClusterRoleBinding, Identity, PolicyRule, RoleBinding, RoleKind, RoleRef, names,
+use kapi_model::{
+    ClusterRoleBinding, Identity, PolicyRule, RoleBinding, RoleKind, RoleRef, subject_matches,
 };
 use kapi_rules::{Point, allows};
 use kapi_text::{Memory, Text, TryCopy};
@@ -33,7 +33,7 @@ fn rules_at<'a>(policy: &'a PlainPolicy, name: &str, namespace: &str) -> Option<
     None
 }
 
-// A role stands in a namespace, so that cluster-wide there is none.
+// The rules of a role in a namespace; cluster-wide there is none.
 fn rules_of_role<'a>(
     policy: &'a PlainPolicy,
     name: &str,
@@ -102,15 +102,12 @@ pub fn namespace_binding<'a>(place: &'a NamespacedName, binding: &'a RoleBinding
 }
 
 fn is_bound(binding: &Binding<'_>, identity: &Identity) -> bool
-    ensures { result ≡ list_any (λ s. names_of s (binding_of binding.now).namespace identity.now) (binding_of binding.now).subjects }
+    ensures { result ≡ list_any (λ s. matches_of s (binding_of binding.now).namespace identity.now) (binding_of binding.now).subjects }
 {
-    binding
-        .subjects
-        .iter()
-        .any(|subject| names(subject, binding.namespace, identity))
+    binding.subjects.iter().any(|subject| subject_matches(subject, binding.namespace, identity))
 }
 
-// The rules that a binding gives the identity.
+// The rules that a binding grants the identity.
 #[tactic(auto, unfolding(crate::specs::Decided::given))]
 fn given<'a>(
     policy: &'a PlainPolicy,
@@ -218,7 +215,7 @@ fn grant<'a>(
     namespace_grant(policy, identity, namespace, point)
 }
 
-/// Whether the identity may do this in the namespace, and the first rule by which he may.
+/// Whether the identity may do this in the namespace, and the first rule that allows it.
 #[tactic(auto, unfolding(crate::specs::Decided::decided))]
 pub fn decide<'a>(
     policy: &'a PlainPolicy,

@@ -63,7 +63,7 @@ const CRLF_QUESTION: &str =
 const LAST_QUESTION: &str =
     "{\"user\":\"bob\",\"resourceAttributes\":{\"namespace\":\"default\",\"verb\":\"get\",\"resource\":\"pods\"}}";
 
-/// Files and what is told of them: lines without their end, CRLF, empty files, and a bad line in each file.
+/// Files and the audit's output for them: lines without their end, CRLF, empty files, and a bad line in each file.
 #[test]
 fn files_are_read_line_by_line(rt: HostRuntime) -> Result<(), Fail> {
     for (policy, questions, answers) in [

@@ -2,10 +2,10 @@ ghost use Rattle.std.specs.Prelude.{◌≡◌, []};
 
 use kapi_desk::{Desk, PublishError, Seat, SeatDecision, SeatError, SeatGrant};
 use kapi_index::IndexedPolicy;
+use kapi_model::{Identity, PolicyRule, Role, RoleBinding, RoleKind, RoleRef, Subject};
 use kapi_policy::{
-    BindingKind, Decision, NamespacedName, Policy, PolicyChange, PolicyKey, PolicyPut,
+    BindingKind, Decision, NamespacedName, Policy, PolicyChange, PolicyKey, PolicyPut, PolicyStep,
 };
-use kapi_rbac_types::{Identity, PolicyRule, Role, RoleBinding, RoleKind, RoleRef, Subject};
 use kapi_rules::{Point, ResourcePoint};
 use kapi_text::{Sequence, Text};
 use std::alloc::{AllocError, Global};
@@ -84,7 +84,7 @@ fn identity(alloc: Global, user: &str, group: &str) -> Result<Identity, AllocErr
     })
 }
 
-/// To get pods.
+/// The point of getting pods.
 fn point(alloc: Global) -> Result<Point, AllocError> {
     Ok(Point::Resource(ResourcePoint {
         verb: Text::copy_of(alloc, "get")?,
@@ -108,7 +108,7 @@ fn told_grant(alloc: Global, grant: &SeatGrant, count: u64) -> Result<String, Al
     format!(in alloc; "{kind} {binding}, {role} {name}, rule {rule} at {count}")
 }
 
-/// The whole answer of a seat, who is asked whether this user may get pods in `default`.
+/// The whole answer of a seat to the question whether this user may get pods in `default`.
 fn asked(alloc: Global, seat: &mut Seat, user: &str, group: &str) -> Result<String, AllocError>
     ensures { seat.new.opening ≡ seat.old.opening }
 {
@@ -125,7 +125,7 @@ fn asked(alloc: Global, seat: &mut Seat, user: &str, group: &str) -> Result<Stri
     }
 }
 
-/// What each seat answers for ann and for a master.
+/// The answers of each seat for ann and for a master.
 fn tell_each(alloc: Global, seats: &mut [Seat], told: &mut String) -> Result<(), AllocError> {
     for seat in seats {
         told.push_str(asked(alloc, seat, "ann", "g")?.as_str())?;
@@ -136,17 +136,24 @@ fn tell_each(alloc: Global, seats: &mut [Seat], told: &mut String) -> Result<(),
     Ok(())
 }
 
-/// Publishes a step of this one change, after the step that waits, if there is one.
-fn publish<R: Wait>(rt: &R, desk: &mut Desk, change: PolicyChange) -> Result<u64, PublishError>
+/// The step of one change.
+fn step_of(alloc: Global, change: PolicyChange) -> Result<PolicyStep, AllocError> {
+    let mut changes = Vec::with_capacity(alloc, 1)?;
+    changes.push(change)?;
+    Ok(PolicyStep::of(changes))
+}
+
+/// Publishes a step, after the step that waits, if there is one.
+fn publish<R: Wait>(rt: &R, desk: &mut Desk, step: PolicyStep) -> Result<u64, PublishError>
     ensures { desk.new.opening ≡ desk.old.opening }
 {
     desk.retry(rt)?;
-    desk.publish(rt, &[change])
+    desk.publish(rt, step)
 }
 
 // ---- what seats see
 
-/// What the seats answer at first and after each of two steps.
+/// The answers of the seats at first and after each of two steps.
 fn two_steps<R: Wait>(
     rt: &R,
     alloc: Global,
@@ -155,9 +162,9 @@ fn two_steps<R: Wait>(
 ) -> Result<String, Fail> {
     let mut told = String::new(alloc);
     tell_each(alloc, seats, &mut told)?;
-    publish(rt, desk, binding_is_put(alloc, "b")?)?;
+    publish(rt, desk, step_of(alloc, binding_is_put(alloc, "b")?)?)?;
     tell_each(alloc, seats, &mut told)?;
-    publish(rt, desk, role_is_deleted(alloc)?)?;
+    publish(rt, desk, step_of(alloc, role_is_deleted(alloc)?)?)?;
     tell_each(alloc, seats, &mut told)?;
     Ok(told)
 }
@@ -173,7 +180,7 @@ fn is_allowed(alloc: Global, policy: &IndexedPolicy) -> Result<bool, AllocError>
     Ok(matches!(decision, Decision::Allowed(_)))
 }
 
-/// What seats answer whose desk is closed, and whether its policy allows ann, without the role and with it.
+/// The answers of seats whose desk is closed, and whether its policy allows ann, without the role and with it.
 fn after_the_end(
     alloc: Global,
     policy: &mut IndexedPolicy,
@@ -200,7 +207,7 @@ fn seats_see_what_is_published(rt: HostRuntime) -> Result<(), Fail> {
     Ok(())
 }
 
-/// Three steps, the last of which takes the first binding away, and then what a seat answers that learned them.
+/// Three steps, the last of which takes the first binding away, and then the answer of a seat that learned them.
 fn three_steps<R: Wait>(
     rt: &R,
     alloc: Global,
@@ -209,10 +216,10 @@ fn three_steps<R: Wait>(
 ) -> Result<String, Fail>
     requires { seat.old.opening ≡ desk.old.opening }
 {
-    publish(rt, desk, binding_is_put(alloc, "a")?)?;
-    publish(rt, desk, binding_is_put(alloc, "b")?)?;
+    publish(rt, desk, step_of(alloc, binding_is_put(alloc, "a")?)?)?;
+    publish(rt, desk, step_of(alloc, binding_is_put(alloc, "b")?)?)?;
     let early = desk.tell()?;
-    publish(rt, desk, binding_is_deleted(alloc, "a")?)?;
+    publish(rt, desk, step_of(alloc, binding_is_deleted(alloc, "a")?)?)?;
     seat.learn(desk.tell()?);
     let mut told = asked(alloc, seat, "ann", "g")?;
     seat.learn(early);
@@ -237,15 +244,15 @@ fn a_seat_answers_after_what_it_was_told(rt: HostRuntime) -> Result<(), Fail> {
 
 // ---- readers in threads
 
-/// What a reader comes back with.
+/// What a reader returns.
 #[derive(Drop)]
 struct Reader {
     seat: Seat,
-    /// So many answers were not those of their count, or of a lower count than the one before.
+    /// The number of answers that were not those of their count, or of a lower count than the one before.
     wrong: u32,
 }
 
-/// Ann is allowed after each odd number of steps alone.
+/// Whether an answer is right: ann is allowed after each odd number of steps alone.
 fn is_of_its_count(decision: &SeatDecision, count: u64) -> bool {
     match decision {
         SeatDecision::Allowed(grant) => count % 2 == 1 && grant.binding.as_str() == "b",
@@ -270,7 +277,7 @@ fn ask_often(mut seat: Seat, ann: &Identity, pods: &Point) -> Reader {
     Reader { seat, wrong }
 }
 
-/// Puts the binding `b` where the number is even, and deletes it else.
+/// Puts the binding `b` where the number is even, and deletes it where it is odd.
 fn turned(alloc: Global, number: u32) -> Result<PolicyChange, AllocError> {
     if number % 2 == 0 {
         binding_is_put(alloc, "b")
@@ -279,13 +286,14 @@ fn turned(alloc: Global, number: u32) -> Result<PolicyChange, AllocError> {
     }
 }
 
-fn publish_often<R: Wait>(rt: &R, alloc: Global, desk: &mut Desk) -> Result<u64, PublishError> {
+fn publish_often<R: Wait>(rt: &R, alloc: Global, desk: &mut Desk) -> Result<u64, AllocError> {
     let mut published = 0;
     for number in 0..1_000 {
-        let Ok(change) = turned(alloc, number) else {
-            return Err(PublishError::Memory);
-        };
-        published = publish(rt, desk, change)?;
+        let step = step_of(alloc, turned(alloc, number)?)?;
+        match publish(rt, desk, step) {
+            Ok(count) => published = count,
+            Err(_refused) => return Err(AllocError),
+        }
     }
     Ok(published)
 }
@@ -310,7 +318,7 @@ fn ask_while_published<R: Threads + Wait + Sync>(
     }
 }
 
-/// What each reader found, and what it answers now that all is published.
+/// What each reader found, and its answer once all is published.
 fn tell_readers(alloc: Global, readers: &mut [Reader]) -> Result<String, AllocError> {
     let mut told = String::new(alloc);
     for Reader { seat, wrong } in readers {
@@ -342,9 +350,9 @@ fn threads_see_whole_steps_in_order(rt: HostRuntime) -> Result<(), Fail> {
     Ok(())
 }
 
-// ---- want of memory
+// ---- failed allocations
 
-/// A first step is published; where a growth is refused, seats see nothing of it, and it is published then.
+/// A first step is published; where an allocation fails, seats see nothing of it, and the retry publishes it.
 fn first_step<R: Wait>(
     rt: &R,
     alloc: Global,
@@ -353,9 +361,9 @@ fn first_step<R: Wait>(
 ) -> Result<String, Fail>
     requires { desk.old.waiting ≡ [] }
 {
-    let step = [binding_is_put(alloc, "b")?];
+    let step = step_of(alloc, binding_is_put(alloc, "b")?)?;
     let mut told = String::new(alloc);
-    let Err(refused) = desk.publish(rt, &step) else {
+    let Err(refused) = desk.publish(rt, step) else {
         tell_each(alloc, seats, &mut told)?;
         return Ok(told);
     };
@@ -363,13 +371,12 @@ fn first_step<R: Wait>(
     if told.as_str() != "denied at 0, masters at 0; " {
         return Err(Fail::new("what is refused is seen"));
     }
-    if desk.pending() != (refused == PublishError::Pending) {
+    if desk.pending() != matches!(refused, PublishError::Pending) {
         return Err(Fail::new("it waits exactly where Pending is the answer"));
     }
-    let published = if desk.pending() {
-        desk.retry(rt)?
-    } else {
-        desk.publish(rt, &step)?
+    let published = match refused {
+        PublishError::Pending => desk.retry(rt)?,
+        PublishError::Memory(step) => desk.publish(rt, step)?,
     };
     if published != 1 || desk.retry(rt)? != 1 {
         return Err(Fail::new("it is not published once"));
@@ -379,7 +386,7 @@ fn first_step<R: Wait>(
     Ok(told)
 }
 
-/// Run with each allocation refused in turn: a refused step is published once in the end.
+/// The test is run with each allocation refused in turn: a refused step is published once in the end.
 #[test]
 fn want_of_memory_publishes_once(rt: HostRuntime) -> Result<(), Fail> {
     let alloc = rt.alloc();

@@ -1,4 +1,4 @@
-//! Lists of events, bytes one by one, bodies of the largest size, and what an answer tells beside its bytes.
+//! Lists of events, bytes one by one, bodies of the largest size, and what an answer reports beside its bytes.
 use crate::machine::{MAPS, core_at, exchange, feed, has_code, open_root, opened_at, request};
 use kapi_core::{Answer, ConnId, Core, Event};
 use kapi_index::IndexedPolicy;
@@ -11,11 +11,11 @@ const CREATE: &[u8] =
 
 const GET: &[u8] = b"GET /api/v1/namespaces/default/configmaps/a HTTP/1.1\r\nHost: a\r\n\r\n";
 
-/// The replies to both, one behind the other.
+/// The replies to a create and a get, one behind the other.
 const CREATED_AND_FOUND: &[u8] =
     b"HTTP/1.1 201 Created\r\nContent-Type: application/json\r\nContent-Length: 168\r\n\r\n{\"apiVersion\":\"v1\",\"data\":{\"k\":\"v\"},\"kind\":\"ConfigMap\",\"metadata\":{\"name\":\"a\",\"namespace\":\"default\",\"resourceVersion\":\"6\",\"uid\":\"00000000-0000-4000-8000-000000000006\"}}HTTP/1.1 200 OK\r\nContent-Type: application/json\r\nContent-Length: 168\r\n\r\n{\"apiVersion\":\"v1\",\"data\":{\"k\":\"v\"},\"kind\":\"ConfigMap\",\"metadata\":{\"name\":\"a\",\"namespace\":\"default\",\"resourceVersion\":\"6\",\"uid\":\"00000000-0000-4000-8000-000000000006\"}}";
 
-/// What the run of a create and a get is told, event by event.
+/// The answers of the run of a create and a get, event by event.
 const TOLD: &[&str] = &[
     "opened", "done", "sent", "done", "sent", "nothing", "nothing", "nothing", "done",
 ];
@@ -88,7 +88,7 @@ fn runs_10_000_events(rt: HostRuntime) -> Result<(), Fail> {
     Ok(())
 }
 
-/// What bytes are sent where each comes in a piece of its own.
+/// The bytes that are sent where each byte comes in a piece of its own.
 fn sent_byte_by_byte(alloc: Global, bytes: &[u8]) -> Result<Vec<u8>, Memory> {
     let mut core = opened_at(alloc, 0)?;
     let mut sent = Vec::new(alloc);
@@ -143,7 +143,7 @@ const ROLES: &str = "/apis/rbac.authorization.k8s.io/v1/namespaces/default/roles
 const READER: &str =
     r#"{"metadata":{"name":"reader"},"rules":[{"verbs":["get"],"apiGroups":[""],"resources":["configmaps"]}]}"#;
 
-/// How many policy changes the answer to a create tells.
+/// How many policy changes the answer to a create reports.
 fn changes_told(
     alloc: Global,
     core: &mut Core<IndexedPolicy>,
@@ -171,14 +171,14 @@ fn tells_what_changed_in_the_policy(rt: HostRuntime) -> Result<(), Fail> {
 
 const CLUSTER_ROLES: &str = "/apis/rbac.authorization.k8s.io/v1/clusterroles";
 
-/// A cluster role that takes its rules from the second one.
+/// A cluster role that takes its rules from another one.
 const TAKER: &str =
     r#"{"metadata":{"name":"a"},"aggregationRule":{"clusterRoleSelectors":[{"matchLabels":{"x":"1"}}]}}"#;
 
 const PART: &str =
     r#"{"metadata":{"name":"b","labels":{"x":"1"}},"rules":[{"verbs":["get"],"apiGroups":[""],"resources":["pods"]}]}"#;
 
-/// The answer to an event, which is tried again where memory was refused.
+/// The answer to an event, which is tried again where an allocation failed.
 fn answered(core: &mut Core<IndexedPolicy>, event: &Event) -> Result<Answer, Memory> {
     match core.step(event) {
         Ok(answer) => Ok(answer),
@@ -186,7 +186,7 @@ fn answered(core: &mut Core<IndexedPolicy>, event: &Event) -> Result<Answer, Mem
     }
 }
 
-/// Whether a cluster role is created by a serve that is tried again where memory was refused.
+/// Whether a cluster role is created by a serve that is tried again where an allocation failed.
 fn is_created(alloc: Global, core: &mut Core<IndexedPolicy>, body: &str) -> Result<bool, Memory> {
     let text = request(alloc, "POST", CLUSTER_ROLES, body)?;
     core.step(&feed(alloc, 0, text.as_bytes())?)?;
@@ -194,7 +194,7 @@ fn is_created(alloc: Global, core: &mut Core<IndexedPolicy>, body: &str) -> Resu
     Ok(has_code(bytes_of(&answer), "201"))
 }
 
-/// Whether an answer tells the turn of this cluster role.
+/// Whether an answer reports the turn of this cluster role.
 fn is_turn(answer: &Answer, revision: u64, name: &str) -> bool {
     match answer {
         Answer::Turned(turn) => turn.revision == revision && turn.name.as_str() == name,
@@ -202,7 +202,7 @@ fn is_turn(answer: &Answer, revision: u64, name: &str) -> bool {
     }
 }
 
-/// Run with each allocation refused in turn: a write that was refused is made once, and the turn that it makes due is not lost.
+/// The test is run with each allocation refused in turn: a refused write is made once, and its turn is not lost.
 #[test]
 fn want_of_memory_loses_no_turn(rt: HostRuntime) -> Result<(), Fail> {
     let alloc = rt.alloc();

@@ -1,4 +1,4 @@
-//! A machine at its last revisions: what takes none is answered still, and all else is refused.
+//! A machine at its last revisions: requests that take no revision are answered still, and all others are refused.
 use crate::machine::{MAPS, Told, first_untold, opened_at};
 use kapi_core::{Answer, Event, LAST_FIRST, LoadError};
 use std::test::Fail;
@@ -9,7 +9,7 @@ const NONE_LEFT: &str = "no revision is left";
 
 const OWN: &str = "/apis/authorization.k8s.io/v1/selfsubjectaccessreviews";
 
-/// The five objects of the beginning have taken the last five revisions.
+/// The five opening objects have taken the last five revisions.
 const AT_THE_LAST: &[Told] = &[
     (
         "GET",

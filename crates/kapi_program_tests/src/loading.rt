@@ -2,12 +2,12 @@
 use crate::machine::{core_at, exchange, has_code, request};
 use kapi_core::{Core, Event, LoadError};
 use kapi_index::IndexedPolicy;
-use kapi_rbac_types::Identity;
+use kapi_model::Identity;
 use kapi_text::{Memory, Sequence, Text};
 use std::alloc::Global;
 use std::test::Fail;
 
-/// Objects in their order, each behind what becomes of it: how many changes of the policy it makes, or why it is not loaded.
+/// Objects in their order, each behind its outcome: how many changes of the policy it makes, or why it is not loaded.
 const OBJECTS: &str = r#"bad 
 bad []
 unknown {}
@@ -34,7 +34,7 @@ refused {"apiVersion":"rbac.authorization.k8s.io/v1","kind":"ClusterRole","metad
 1 {"apiVersion":"rbac.authorization.k8s.io/v1","kind":"ClusterRole","metadata":{"name":"c"},"rules":[]}
 "#;
 
-/// What becomes of an object, in the words of the objects above.
+/// The outcome of an object, in the words of the objects above.
 fn loaded(core: &mut Core<IndexedPolicy>, text: &str) -> &'static str {
     match core.load(text.as_bytes()) {
         Ok(changes) => match changes.as_slice() {
@@ -49,7 +49,7 @@ fn loaded(core: &mut Core<IndexedPolicy>, text: &str) -> &'static str {
     }
 }
 
-/// The first line of which something else becomes.
+/// The first line whose outcome is another.
 fn first_wrong<'a>(core: &mut Core<IndexedPolicy>, objects: &'a str) -> Option<&'a str> {
     for line in objects.lines() {
         let (wanted, text) = line.split_once(' ').unwrap_or((line, ""));

@@ -1,10 +1,9 @@
 //! A machine in tests, and requests of a master on its connection 0.
 ghost use Rattle.std.specs.Prelude.{◌≡◌, ◌≤◌, IfOk};
 
-use kapi_core::{Answer, ConnId, Core, Event, LAST_FIRST};
+use kapi_core::{Answer, ConnId, Core, Event, LAST_FIRST, program_table};
 use kapi_index::IndexedPolicy;
-use kapi_rbac_types::Identity;
-use kapi_script::program_table;
+use kapi_model::Identity;
 use kapi_text::{Memory, Sequence, Text};
 use std::alloc::Global;
 
@@ -23,7 +22,7 @@ pub fn core_at(alloc: Global, first: u64) -> Result<Core<IndexedPolicy>, Memory>
     )
 }
 
-/// The same with a connection of a member of `system:masters`.
+/// A machine that begins at a revision, with a connection of a member of `system:masters`.
 pub fn opened_at(alloc: Global, first: u64) -> Result<Core<IndexedPolicy>, Memory>
     requires { first ≤ LAST_FIRST }
 {
@@ -46,7 +45,7 @@ pub fn feed(alloc: Global, conn: u64, piece: &[u8]) -> Result<Event, Memory> {
     Ok(Event::Feed(ConnId(conn), Sequence::new(Vec::from_slice(alloc, piece)?)))
 }
 
-/// What goes out at an event, nothing where nothing does.
+/// The bytes that an event sends, none where it sends nothing.
 pub fn sent(
     alloc: Global,
     core: &mut Core<IndexedPolicy>,
@@ -58,7 +57,7 @@ pub fn sent(
     }
 }
 
-/// What goes out when bytes are fed and served once.
+/// The bytes that are sent when bytes are fed and served once.
 pub fn exchange(
     alloc: Global,
     core: &mut Core<IndexedPolicy>,
@@ -82,13 +81,13 @@ pub fn request(alloc: Global, method: &str, target: &str, body: &str) -> Result<
     )
 }
 
-/// Whether a text stands among bytes.
+/// Whether the bytes contain a text.
 pub fn holds(bytes: &[u8], text: &str) -> bool {
     let wanted = text.as_bytes();
     wanted.is_empty() || bytes.windows(wanted.len()).any(|window| window == wanted)
 }
 
-/// A request and what stands in its reply: the method, the target, the body, the code, a text.
+/// A request and a text of its reply: the method, the target, the body, the code, the text.
 pub type Told = (
     &'static str,
     &'static str,
@@ -103,7 +102,7 @@ pub fn has_code(reply: &[u8], code: &str) -> bool {
     rest.starts_with(code.as_bytes())
 }
 
-/// Makes requests in their order; answers the method, target and body of the first whose reply has another code or not the text.
+/// Makes requests in their order; returns the first whose reply has another code or lacks the text.
 pub fn first_untold(
     alloc: Global,
     core: &mut Core<IndexedPolicy>,

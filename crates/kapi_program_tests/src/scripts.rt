@@ -4,7 +4,7 @@ use std::alloc::Global;
 use std::io::{self, BufWriter, Read};
 use std::test::Fail;
 
-/// What a script that comes in one piece is answered.
+/// The answers to a script that comes in one piece.
 fn answers_to(alloc: Global, script: &[u8]) -> Result<Vec<u8>, ScriptFault> {
     let mut reader = script;
     let mut writer = Vec::new(alloc);
@@ -64,7 +64,7 @@ fn stops_at_a_bad_line(rt: HostRuntime) -> Result<(), Fail> {
     Ok(())
 }
 
-/// A reader that gives one byte a read, and fails at its end or tells it.
+/// A reader that returns one byte a read, and fails at its end or reports it.
 #[derive(Drop)]
 struct Dripping<'a> {
     text: &'a [u8],
@@ -86,7 +86,7 @@ impl Read for Dripping<'_> {
     }
 }
 
-/// How often a connection is opened and closed in the long script.
+/// The number of times that a connection is opened and closed in the long script.
 const ROUNDS: usize = 12_000;
 
 /// Some 220,000 bytes of 24,000 events, and their answers.
@@ -140,7 +140,7 @@ fn plays_a_line_of_two_million_bytes(rt: HostRuntime) -> Result<(), Fail> {
 const TOO_LONG_ANSWERS: &[u8] =
     b"conn 0\nok\nlast HTTP/1.1 431 Request Header Fields Too Large\\r\\nContent-Type: application/json\\r\\nContent-Length: 123\\r\\nConnection: close\\r\\n\\r\\n{\"apiVersion\":\"v1\",\"code\":431,\"kind\":\"Status\",\"message\":\"Request Header Fields Too Large\",\"metadata\":{},\"status\":\"Failure\"}\nnone\n";
 
-/// Each answer is handed on before the next byte is read.
+/// Each answer is flushed before the next byte is read.
 #[test]
 fn hands_each_answer_on_at_once(rt: HostRuntime) -> Result<(), Fail> {
     let mut reader = Dripping {

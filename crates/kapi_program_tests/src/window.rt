@@ -69,7 +69,7 @@ const STARTS: &[(u64, &str, &str)] = &[
     (4, "1030", "200"),
 ];
 
-/// The revision of the first start that is answered otherwise.
+/// The revision of the first start that is answered with another code.
 fn first_wrong(
     alloc: Global,
     core: &mut Core<IndexedPolicy>,
@@ -98,8 +98,8 @@ fn is_at_its_end(alloc: Global, core: &mut Core<IndexedPolicy>, conn: u64) -> Re
     Ok(event.as_slice().ends_with(ENDED))
 }
 
-/// A watch from the first revision of the window shows all its changes, one at the current revision none. One change more ends the
-/// watches of those that saw none; one connection goes on with the request that came in meanwhile, the other ends.
+/// A watch from the first revision of the window shows all its changes, one at the current revision none. One change
+/// more ends the watches that saw no change; one connection goes on with its next request, the other ends.
 #[test]
 fn shows_the_whole_window_and_ends_below_it(rt: HostRuntime) -> Result<(), Fail> {
     let alloc = rt.alloc();
@@ -131,7 +131,7 @@ const BINDINGS: &str = "/apis/rbac.authorization.k8s.io/v1/namespaces/default/ro
 const ROLE: &str =
     r#"{"metadata":{"name":"r"},"rules":[{"apiGroups":[""],"resources":["configmaps"],"verbs":["watch"]}]}"#;
 
-/// Its binding to ann.
+/// The binding of the role to ann.
 const BINDING: &str =
     r#"{"metadata":{"name":"b"},"roleRef":{"kind":"Role","name":"r"},"subjects":[{"kind":"User","name":"ann"}]}"#;
 
@@ -139,7 +139,7 @@ const BINDING: &str =
 const AS_ANN: &[u8] =
     b"GET /api/v1/namespaces/default/configmaps?watch=1&resourceVersion=8 HTTP/1.1\r\nHost: a\r\nImpersonate-User: ann\r\n\r\n";
 
-/// A machine that looks at the rights of watches anew, with two connections, an object at revision 6, and what ann may watch by.
+/// A machine that rechecks the rights of watches, with two connections, an object, and ann's role and binding.
 fn rechecking(alloc: Global) -> Result<Core<IndexedPolicy>, Memory> {
     let mut core = core_at(alloc, 0)?;
     core.recheck_watches(true);
@@ -157,7 +157,7 @@ fn rechecking(alloc: Global) -> Result<Core<IndexedPolicy>, Memory> {
     Ok(core)
 }
 
-/// A watch that is below the window and whose rights were taken away is told that it is refused.
+/// A watch that is below the window and whose rights were taken away ends with the refusal.
 #[test]
 fn a_watch_at_its_end_is_refused_first(rt: HostRuntime) -> Result<(), Fail> {
     let alloc = rt.alloc();

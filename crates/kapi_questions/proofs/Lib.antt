@@ -1,4 +1,3 @@
 pub mod Parted
-pub mod Texts
 pub mod Behind
 pub mod Walked

@@ -1,8 +1,8 @@
 -- The cells of a line: bytes that are no printable ASCII are escaped.
 use Rattle.std.specs.Prelude.{ℕ, ◌==◌, if◌then◌else◌, List, ◌++◌, length, codes, decimal}
 use Rattle.serde_json.specs.Written.{compact_text}
-use Rattle.kapi_names.specs.Kinds.{role_kind_text}
-use Rattle.kapi_names.specs.declared.role_ref.RoleRef.{RoleRef}
+use Rattle.kapi_model.specs.Kinds.{role_kind_text}
+use Rattle.kapi_model.specs.declared.role_ref.RoleRef.{RoleRef}
 use Rattle.kapi_rules.specs.declared.atom.Atom.{Atom}
 use Rattle.kapi_policy.specs.Decided.{Binding}
 use Rattle.kapi_policy.specs.declared.decision.BindingKind.{BindingKind}

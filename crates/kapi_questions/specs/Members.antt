@@ -2,7 +2,7 @@
 use Rattle.std.specs.Prelude.{ℕ, List, [], ◌∷◌, ◌++◌, codes}
 use Rattle.serde_json.specs.Data.{Data, number, string, object, unsigned, Members, no_members, member}
 use Rattle.serde_json.specs.Written.{compact_text}
-use Rattle.kapi_names.specs.Kinds.{role_kind_text}
+use Rattle.kapi_model.specs.Kinds.{role_kind_text}
 use Rattle.kapi_policy.specs.Decided.{Binding}
 use Rattle.kapi_access.specs.Gained.{Gained}
 use Rattle.kapi_access.specs.Who.{Way}

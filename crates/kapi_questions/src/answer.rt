@@ -15,7 +15,7 @@ use crate::cells::{gain_row, gains_head, masters_row, way_row, ways_head};
 use crate::members::{push_gain, push_way};
 use crate::question::Wanted;
 use crate::table::{Row, push_table};
-use kapi_access::{Gain, Way, compare, risks, who};
+use kapi_access::{Gain, Identities, Way, compare, risks, who};
 use kapi_policy::{Binding, Policy};
 use kapi_text::Memory;
 use std::alloc::Global;
@@ -79,10 +79,11 @@ pub struct Compared {
     pub gains: bool,
 }
 
-/// What the policy after gives that the policy before did not, given all bindings of both.
+/// What the policy after grants those identities that the policy before did not, given all bindings of both.
 pub fn answer_compare<P: Policy, Q: Policy>(
     alloc: Global,
     form: Form,
+    identities: Identities,
     before: &P,
     stood: &[Binding<'_>],
     after: &Q,
@@ -90,10 +91,10 @@ pub fn answer_compare<P: Policy, Q: Policy>(
 ) -> Result<Compared, Memory>
     requires before { map binding_of stood.now ≡ all_bindings (P.content before.now) }
     requires after { map binding_of bindings.now ≡ all_bindings (Q.content after.now) }
-    ensures text { IfOk result (λ c. c.text.items ≡ answers.gains_text form (gained (P.content before.now) (Q.content after.now))) }
-    ensures gains { IfOk result (λ c. c.gains ≡ not (length (gained (P.content before.now) (Q.content after.now)) == 0)) }
+    ensures text { IfOk result (λ c. c.text.items ≡ answers.gains_text form (gained identities (P.content before.now) (Q.content after.now))) }
+    ensures gains { IfOk result (λ c. c.gains ≡ not (length (gained identities (P.content before.now) (Q.content after.now)) == 0)) }
 {
-    let list = compare(alloc, before, stood, after, bindings)?;
+    let list = compare(alloc, identities, before, stood, after, bindings)?;
     Ok(Compared {
         text: gains_text(alloc, form, list.as_slice())?,
         gains: !list.is_empty(),

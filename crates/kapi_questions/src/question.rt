@@ -1,15 +1,14 @@
 //! Questions of whom a policy allows something, as words tell them.
-ghost use Rattle.std.specs.Prelude.{◌≡◌, IfOk, Some, None, if◌then◌else◌, map, option_map};
+ghost use Rattle.std.specs.Prelude.{◌≡◌, IfOk, map, option_map};
 ghost use Rattle.std.specs.List.{slice_split};
-ghost use Rattle.std.specs.Str.{is_utf8};
 ghost use Rattle.kapi_rules.specs.Points.{HasPlainResource};
 ghost use Rattle.kapi_questions.specs.Questions as asks;
 ghost use Rattle.kapi_questions.specs.Questions.{after, before, words_in};
 
+use kapi_lines::as_text;
 use kapi_rules::{Point, ResourcePoint, UrlPoint};
 use kapi_text::{Memory, Text};
 use std::alloc::Global;
-use std::str;
 
 /// What somebody may do, in a namespace or cluster-wide where it is empty.
 #[derive(Debug, Drop)]
@@ -89,16 +88,6 @@ pub fn question_of(
         namespace: Text::copy_of(alloc, namespace)?,
         point: resource_point(alloc, verb, resource, name)?,
     })
-}
-
-/// The text that the bytes are, if they are UTF-8.
-fn as_text(bytes: &[u8]) -> Option<&str>
-    ensures { option_map (λ s. s.now) result ≡ (if is_utf8 bytes.now then Some bytes.now else None) }
-{
-    match str::from_utf8(bytes) {
-        Ok(text) => Some(text),
-        Err(_) => None,
-    }
 }
 
 fn split_words(alloc: Global, text: &str) -> Result<Vec<&str>, Memory>

@@ -3,24 +3,24 @@ use Rattle.std.proofs.Common.{◌≡◌, ◌∙◌, ℕ, List, [], ◌∷◌, Op
 use Rattle.std.specs.Option.{option_and_then, option_map}
 use Rattle.serde_json.specs.Data.{Data, string, array, object, Members, no_members, put}
 use Rattle.serde_json.specs.Find.{get, get_member}
-use Rattle.kapi_names.specs.declared.aggregation_rule.AggregationRule.{AggregationRule}
-use Rattle.kapi_names.specs.declared.policy_rule.PolicyRule.{PolicyRule}
-use Rattle.kapi_names.specs.declared.role_ref.RoleRef.{RoleRef}
-use Rattle.kapi_names.specs.declared.row.Schema.TheVariants as schema
-use Rattle.kapi_names.specs.declared.selector.Selector.{Selector}
-use Rattle.kapi_names.specs.declared.subject.Subject.{Subject}
-use Rattle.kapi_object.specs.Contents.{items_if, list_value, read_items, write_items, content_of, rule_of, rule_tree, rules_of, role_content, aggregation_of, aggregation_tree, aggregation_in, cluster_role_content, subject_of, subject_tree, subjects_of, role_ref_if, role_ref_of, role_ref_tree, binding_content}
-use Rattle.kapi_object.specs.Tree.{put_if, with_content, with_metadata, unless_null}
-use Rattle.kapi_object.proofs.Puts.{put_if_other, put_if_here, put_items_same, list_round}
+use Rattle.kapi_model.specs.declared.aggregation_rule.AggregationRule.{AggregationRule}
+use Rattle.kapi_model.specs.declared.policy_rule.PolicyRule.{PolicyRule}
+use Rattle.kapi_model.specs.declared.role_ref.RoleRef.{RoleRef}
+use Rattle.kapi_model.specs.declared.row.Schema.TheVariants as schema
+use Rattle.kapi_model.specs.declared.selector.Selector.{Selector}
+use Rattle.kapi_model.specs.declared.subject.Subject.{Subject}
+use Rattle.kapi_tree.specs.Contents.{items_if, list_value, read_items, write_items, content_of, rule_of, rule_tree, rules_of, role_content, aggregation_of, aggregation_tree, aggregation_in, cluster_role_content, subject_of, subject_tree, subjects_of, role_ref_if, role_ref_of, role_ref_tree, binding_content}
+use Rattle.kapi_tree.specs.Tree.{put_if, with_content, with_metadata, unless_null}
+use Rattle.kapi_tree.proofs.Puts.{put_if_other, put_if_here, put_items_same, list_round}
 use Rattle.kapi_admission.specs.Admission.{version_of}
 use Rattle.kapi_rbac_types.proofs.RoundTrips.{rule_round, subject_round, role_ref_round}
 use Rattle.kapi_rbac_types.proofs.Selectors.{selectors_round, selectors_stable}
 use Rattle.kapi_rbac_types.specs.Laws.{IsKept, IsOrdered}
 use Rattle.kapi_rbac_types.specs.Trees.{role_of, role_binding_of, cluster_role_binding_of, cluster_role_of}
-use Rattle.kapi_rbac_types.specs.declared.binding.ClusterRoleBinding.{ClusterRoleBinding}
-use Rattle.kapi_rbac_types.specs.declared.binding.RoleBinding.{RoleBinding}
-use Rattle.kapi_rbac_types.specs.declared.role.ClusterRole.{ClusterRole}
-use Rattle.kapi_rbac_types.specs.declared.role.Role.{Role}
+use Rattle.kapi_model.specs.declared.binding.ClusterRoleBinding.{ClusterRoleBinding}
+use Rattle.kapi_model.specs.declared.binding.RoleBinding.{RoleBinding}
+use Rattle.kapi_model.specs.declared.role.ClusterRole.{ClusterRole}
+use Rattle.kapi_model.specs.declared.role.Role.{Role}
 
 -- ---- what is written is read
 

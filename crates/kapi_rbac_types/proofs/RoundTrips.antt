@@ -1,16 +1,16 @@
 -- What is written of a rule, a subject and a reference to a role is read as it.
 use Rattle.std.proofs.Common.{◌≡◌, ◌∙◌, ℕ, List, [], ◌∷◌, Some, refl, ap, codes, length}
 use Rattle.std.proofs.Math.Dec.{eqb-suc-zero}
-use Rattle.kapi_names.specs.declared.kinds.RoleKind.{RoleKind}
-use Rattle.kapi_names.specs.declared.kinds.RoleKind.TheVariants as role_kind
-use Rattle.kapi_names.specs.declared.policy_rule.PolicyRule.{PolicyRule}
-use Rattle.kapi_names.specs.declared.role_ref.RoleRef.{RoleRef}
-use Rattle.kapi_names.specs.declared.subject.Subject.{Subject}
-use Rattle.kapi_names.specs.declared.subject.Subject.TheVariants.{User, Group, ServiceAccount}
-use Rattle.kapi_object.specs.Contents.{text_of, items_if, read_items, rule_of, rule_tree, subject_of, subject_tree, role_ref_if, role_ref_tree}
-use Rattle.kapi_object.specs.Tree.{member_of}
-use Rattle.kapi_object.proofs.Puts.{listed_round, texts_round}
-use Rattle.kapi_object.proofs.Fields.{verbs_at, groups_at, resources_at, names_at, urls_at}
+use Rattle.kapi_model.specs.declared.kinds.RoleKind.{RoleKind}
+use Rattle.kapi_model.specs.declared.kinds.RoleKind.TheVariants as role_kind
+use Rattle.kapi_model.specs.declared.policy_rule.PolicyRule.{PolicyRule}
+use Rattle.kapi_model.specs.declared.role_ref.RoleRef.{RoleRef}
+use Rattle.kapi_model.specs.declared.subject.Subject.{Subject}
+use Rattle.kapi_model.specs.declared.subject.Subject.TheVariants.{User, Group, ServiceAccount}
+use Rattle.kapi_tree.specs.Contents.{text_of, items_if, read_items, rule_of, rule_tree, subject_of, subject_tree, role_ref_if, role_ref_tree}
+use Rattle.kapi_tree.specs.Tree.{member_of}
+use Rattle.kapi_tree.proofs.Puts.{listed_round, texts_round}
+use Rattle.kapi_tree.proofs.Fields.{verbs_at, groups_at, resources_at, names_at, urls_at}
 
 pub rule_round : (r : PolicyRule) → rule_of (rule_tree r) ≡ r
 rule_round r =

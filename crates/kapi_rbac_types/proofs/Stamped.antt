@@ -4,10 +4,10 @@ use Rattle.std.specs.Option.{option_and_then, option_map}
 use Rattle.serde_json.proofs.Views.{get_member-put}
 use Rattle.serde_json.specs.Data.{Data, string, object, put}
 use Rattle.serde_json.specs.Find.{get, get_member}
-use Rattle.kapi_object.proofs.Puts.{put_other}
-use Rattle.kapi_object.specs.Contents.{aggregation_in, aggregation_of, items_if, read_items, role_ref_if, role_ref_of, rule_of, rules_of, subject_of, subjects_of}
-use Rattle.kapi_object.specs.Object.{stamped_tree}
-use Rattle.kapi_object.specs.Tree.{in_metadata, members_or_none, metadata_of, unless_null, with_text}
+use Rattle.kapi_tree.proofs.Puts.{put_other}
+use Rattle.kapi_tree.specs.Contents.{aggregation_in, aggregation_of, items_if, read_items, role_ref_if, role_ref_of, rule_of, rules_of, subject_of, subjects_of}
+use Rattle.kapi_tree.specs.Object.{stamped_tree}
+use Rattle.kapi_tree.specs.Tree.{in_metadata, members_or_none, metadata_of, unless_null, with_text}
 use Rattle.kapi_rbac_types.specs.Trees.{cluster_role_binding_of, cluster_role_of, role_binding_of, role_of}
 
 -- ---- a text in the metadata
@@ -24,7 +24,7 @@ in_members q (Some d) = in_object q d
 pub beside_metadata : (q k t : List ℕ) (d : Data) → bytes_eq q (codes "metadata") ≡ false → get q (with_text k t d) ≡ get q d
 beside_metadata q k t d h = put_other q (codes "metadata") (object (put k (string t) (metadata_of d))) (members_or_none (Some d)) h ∙ in_object q d
 
--- so do the metadata's other members
+-- the metadata's other members stay
 pub in_text : (q k t : List ℕ) (d : Data) → bytes_eq q k ≡ false → in_metadata q (with_text k t d) ≡ in_metadata q d
 in_text q k t d h =
     ap (option_and_then (get q)) (get_member-put (codes "metadata") (object (put k (string t) (metadata_of d))) (members_or_none (Some d)))

@@ -1,4 +1,2 @@
-pub mod Identities
-pub mod Subjects
 pub mod Trees
 pub mod Laws

@@ -1,12 +1,12 @@
 ghost use Rattle.std.specs.Prelude.{◌≡◌};
 ghost use Rattle.kapi_text.specs.Gives.{Gives};
-ghost use Rattle.kapi_object.specs.Object.{tree_of};
+ghost use Rattle.kapi_tree.specs.Object.{tree_of};
 ghost use Rattle.kapi_rbac_types.specs.Trees.{read_as, told};
 
 use kapi_admission::collect_faults;
-use kapi_names::{FieldFault, Schema};
-use kapi_object::Object;
+use kapi_model::{FieldFault, Schema};
 use kapi_text::Sequence;
+use kapi_tree::Object;
 use std::alloc::{AllocError, Global};
 use thiserror::Error;
 
@@ -16,7 +16,7 @@ pub enum ReadFault {
     /// Members of the object are at fault: each fault in order.
     #[error("the object is invalid")]
     Invalid(Sequence<FieldFault>),
-    #[error("want of memory")]
+    #[error("out of memory")]
     Memory,
 }
 
@@ -30,7 +30,7 @@ impl From<AllocError> for ReadFault {
     }
 }
 
-/// Whether an object has no fault on a row of the schema.
+/// Whether an object has no fault for a resource type with this schema.
 #[tactic(auto, unfolding(crate::specs::Trees::read_as))]
 pub fn check(alloc: Global, object: &Object, schema: Schema) -> Result<(), ReadFault>
     ensures { Gives told (λ u. u) result (read_as schema (λ d. tt) (tree_of object.now)) }

@@ -1,22 +1,21 @@
 ghost use Rattle.std.specs.Prelude.{◌≡◌, length, Ok, IfOk};
 ghost use Rattle.serde_json.specs.View.{view};
 ghost use Rattle.kapi_text.specs.Gives.{Gives};
-ghost use Rattle.kapi_names.specs.declared.row.Schema.TheVariants as schema;
-ghost use Rattle.kapi_object.specs.Contents as form;
-ghost use Rattle.kapi_object.specs.Object.{tree_of};
-ghost use Rattle.kapi_object.specs.Tree.{with_content};
+ghost use Rattle.kapi_model.specs.declared.row.Schema.TheVariants as schema;
+ghost use Rattle.kapi_tree.specs.Contents as form;
+ghost use Rattle.kapi_tree.specs.Object.{tree_of};
+ghost use Rattle.kapi_tree.specs.Tree.{with_content};
 ghost use Rattle.kapi_admission.specs.Admission.{faults_on};
 ghost use Rattle.kapi_rbac_types.specs.Laws.{IsKept, IsOrdered};
 ghost use Rattle.kapi_rbac_types.specs.Trees.{told, read_as, role_of, cluster_role_of};
 
 use crate::read_fault::{ReadFault, check};
-use crate::role::{ClusterRole, Role};
-use kapi_names::Schema;
-use kapi_object::Object;
-use kapi_object::contents::{cluster_role_content, role_content};
-use kapi_object::rules_form::read_rules;
-use kapi_object::selector_form::read_aggregation;
+use kapi_model::{ClusterRole, Role, Schema};
 use kapi_text::Memory;
+use kapi_tree::Object;
+use kapi_tree::contents::{cluster_role_content, role_content};
+use kapi_tree::rules_form::read_rules;
+use kapi_tree::selector_form::read_aggregation;
 use serde_json::Value;
 use std::alloc::Global;
 
@@ -44,7 +43,7 @@ pub fn cluster_role(alloc: Global, tree: &Value) -> Result<ClusterRole, Memory>
 pub fn read_role(alloc: Global, object: &Object) -> Result<Role, ReadFault>
     ensures read { Gives told (λ r. r) result (read_as schema.Role role_of (tree_of object.now)) }
 
-    // written again it is the object, where that is as it was admitted
+    // the role, written again, is the object, where the object is as it was admitted
     ensures writes_back { IfOk result (λ r. IsKept schema.Role (tree_of object.now)
         → with_content (form.role_content r.rules) (tree_of object.now) ≡ tree_of object.now) }
 {
@@ -57,7 +56,7 @@ pub fn read_role(alloc: Global, object: &Object) -> Result<Role, ReadFault>
 pub fn read_cluster_role(alloc: Global, object: &Object) -> Result<ClusterRole, ReadFault>
     ensures read { Gives told (λ r. r) result (read_as schema.ClusterRole cluster_role_of (tree_of object.now)) }
 
-    // written again it is the object, where that is as it was admitted
+    // the cluster role, written again, is the object, where the object is as it was admitted
     ensures writes_back { IfOk result (λ r. IsKept schema.ClusterRole (tree_of object.now)
         → with_content (form.cluster_role_content r.aggregation_rule r.rules) (tree_of object.now) ≡ tree_of object.now) }
 {
@@ -65,49 +64,49 @@ pub fn read_cluster_role(alloc: Global, object: &Object) -> Result<ClusterRole, 
     Ok(cluster_role(alloc, object.as_tree())?)
 }
 
-impl Role {
-    /// The role that an admitted object is.
-    pub fn of_admitted(alloc: Global, object: &Object) -> Result<Role, Memory>
-        ensures { IfOk result (λ r. r ≡ role_of (tree_of object.now)) }
-    {
-        role(alloc, object.as_tree())
-    }
-
-    /// The role as an object with the version, the kind and the metadata of another.
-    #[tactic(auto, unfolding(crate::specs::Trees::read_as), using(kapi_object::proofs::Written::role_has_no_float, kapi_object::proofs::Written::role_in_order, crate::proofs::Laws::role_reads_back))]
-    pub fn to_object(&self, alloc: Global, of: &Object) -> Result<Object, Memory>
-        ensures written { IfOk result (λ o. tree_of o ≡ with_content (form.role_content self.now.rules) (tree_of of.now)) }
-
-        // read again it is the role, unless it has faults
-        ensures reads_back { IfOk result (λ o. length (faults_on schema.Role (tree_of o)) ≡ 0
-            → read_as schema.Role role_of (tree_of o) ≡ Ok self.now) }
-    {
-        of.with_content(alloc, role_content(alloc, self.rules.as_slice())?)
-    }
+/// The role that an admitted object is.
+pub fn admitted_role(alloc: Global, object: &Object) -> Result<Role, Memory>
+    ensures { IfOk result (λ r. r ≡ role_of (tree_of object.now)) }
+{
+    role(alloc, object.as_tree())
 }
 
-impl ClusterRole {
-    /// The cluster role that an admitted object is.
-    pub fn of_admitted(alloc: Global, object: &Object) -> Result<ClusterRole, Memory>
-        ensures { IfOk result (λ r. r ≡ cluster_role_of (tree_of object.now)) }
-    {
-        cluster_role(alloc, object.as_tree())
-    }
+/// The role as an object with the version, the kind and the metadata of another.
+#[tactic(auto, unfolding(crate::specs::Trees::read_as), using(kapi_tree::proofs::Written::role_has_no_float, kapi_tree::proofs::Written::role_in_order, crate::proofs::Laws::role_reads_back))]
+pub fn role_object(alloc: Global, value: &Role, of: &Object) -> Result<Object, Memory>
+    ensures written { IfOk result (λ o. tree_of o ≡ with_content (form.role_content value.now.rules) (tree_of of.now)) }
 
-    /// The cluster role as an object with the version, the kind and the metadata of another.
-    #[tactic(auto, unfolding(crate::specs::Trees::read_as), using(kapi_object::proofs::Written::cluster_role_has_no_float, kapi_object::proofs::Written::cluster_role_in_order, crate::proofs::Laws::cluster_role_reads_back))]
-    pub fn to_object(&self, alloc: Global, of: &Object) -> Result<Object, Memory>
-        ensures written { IfOk result (λ o. tree_of o
-            ≡ with_content (form.cluster_role_content self.now.aggregation_rule self.now.rules) (tree_of of.now)) }
+    // the object, read again, is the role, unless it has faults
+    ensures reads_back { IfOk result (λ o. length (faults_on schema.Role (tree_of o)) ≡ 0
+        → read_as schema.Role role_of (tree_of o) ≡ Ok value.now) }
+{
+    of.with_content(alloc, role_content(alloc, value.rules.as_slice())?)
+}
 
-        // read again it is the cluster role, unless it has faults, if the labels of its selectors are in order
-        ensures reads_back { IfOk result (λ o. IsOrdered self.now.aggregation_rule
-            → length (faults_on schema.ClusterRole (tree_of o)) ≡ 0
-            → read_as schema.ClusterRole cluster_role_of (tree_of o) ≡ Ok self.now) }
-    {
-        of.with_content(
-            alloc,
-            cluster_role_content(alloc, &self.aggregation_rule, self.rules.as_slice())?,
-        )
-    }
+/// The cluster role that an admitted object is.
+pub fn admitted_cluster_role(alloc: Global, object: &Object) -> Result<ClusterRole, Memory>
+    ensures { IfOk result (λ r. r ≡ cluster_role_of (tree_of object.now)) }
+{
+    cluster_role(alloc, object.as_tree())
+}
+
+/// The cluster role as an object with the version, the kind and the metadata of another.
+#[tactic(auto, unfolding(crate::specs::Trees::read_as), using(kapi_tree::proofs::Written::cluster_role_has_no_float, kapi_tree::proofs::Written::cluster_role_in_order, crate::proofs::Laws::cluster_role_reads_back))]
+pub fn cluster_role_object(
+    alloc: Global,
+    value: &ClusterRole,
+    of: &Object,
+) -> Result<Object, Memory>
+    ensures written { IfOk result (λ o. tree_of o
+        ≡ with_content (form.cluster_role_content value.now.aggregation_rule value.now.rules) (tree_of of.now)) }
+
+    // the object, read again, is the cluster role, unless it has faults, if the labels of its selectors are in order
+    ensures reads_back { IfOk result (λ o. IsOrdered value.now.aggregation_rule
+        → length (faults_on schema.ClusterRole (tree_of o)) ≡ 0
+        → read_as schema.ClusterRole cluster_role_of (tree_of o) ≡ Ok value.now) }
+{
+    of.with_content(
+        alloc,
+        cluster_role_content(alloc, &value.aggregation_rule, value.rules.as_slice())?,
+    )
 }

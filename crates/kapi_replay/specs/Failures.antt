@@ -1,4 +1,4 @@
--- What of a case is not as it is wanted.
+-- The answers of a case that are not as wanted.
 use Rattle.std.specs.Prelude.{◌≡◌, ℕ, Bool, if◌then◌else◌, List, [], ◌∷◌, ◌++◌, Option, Some, None, option_map, Result, Ok, Err}
 use Rattle.std.specs.List.{find, flat_map}
 use Rattle.std.specs.Str.{bytes_eq}
@@ -36,7 +36,7 @@ number_or (Some e) = e.number
 abbrev pub number_at : List Event → ℕ → ℕ
 number_at script n = number_or (nth script n)
 
--- the failure of what is wanted, where the answer is not so
+-- the failure of what is wanted, where the answer differs
 abbrev pub unmet : List Event → List (List ℕ) → Want → List Failure
 unmet script answers w =
     if is_met w.wanted (line_at answers w.events) then []
@@ -55,15 +55,15 @@ abbrev pub failures_by : Case → Option ℕ → List ℕ → List Failure
 failures_by c (Some n) text = bad_line c n
 failures_by c None text = differences c text
 
--- the failures of a case that is played on a machine, where memory ran out at some of its lines
+-- the failures of a case that is played on a machine, which is out of memory at some of the case's lines
 abbrev pub failures_on : Machine → Case → List Bool → List Failure
 failures_on m c refused = failures_by c (first_bad (script_text c.script)) (said m (lines (script_text c.script)) refused)
 
--- these are the failures, for some lines at which memory ran out
+-- these are the failures, for some lines at which the machine is out of memory
 abbrev pub FailsOn : Machine → Case → List Failure → Type 0
 FailsOn m c failures = (refused : List Bool) × (failures ≡ failures_on m c refused)
 
--- the failures on the machine that a file makes, or the line of it that is not loaded
+-- the failures on the machine that a file makes, or the line of the file that is not loaded
 abbrev pub FailsBy : Case → Loaded → Result Machine FileFault → List Failure → Type 0
 FailsBy c load (Ok m) failures = FailsOn (with_rechecks c.rechecks m) c failures
 FailsBy c load (Err (file_fault.bad_line n)) failures = failures ≡ failure.NotLoaded load.number n ∷ []
@@ -80,8 +80,8 @@ abbrev pub FailsWith : Case → Loaded → Option (List ℕ) → List Failure �
 FailsWith c load (Some objects) failures = FailsLoaded c load objects failures
 FailsWith c load None failures = failures ≡ failure.NoFile load.number ∷ []
 
--- the failures of a case on the machine that begins as every one, or on the one that a file makes, whose watches' rights are looked at
--- anew where the case has it so
+-- the failures of a case on the opening machine, or on the one that a file makes, which rechecks the rights of watches
+-- where the case says so
 abbrev pub FailsFrom : List NamedFile → Case → Option Loaded → List Failure → Type 0
 FailsFrom files c None failures = FailsOn (with_rechecks c.rechecks start) c failures
 FailsFrom files c (Some load) failures = FailsWith c load (file_named files load.name) failures

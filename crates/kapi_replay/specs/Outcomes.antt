@@ -32,12 +32,12 @@ pub record IsOutcome (files : List NamedFile) (transcript : NamedFile) (o : Outc
   pub wanted : o.wanted ≡ wanted_in (cases_in transcript.bytes)
   pub failures : AreFailures files (cases_in transcript.bytes) o.failures
 
--- what became of a transcript is written, and whether it is well
+-- the report of a transcript is written, and whether all of it is as wanted
 abbrev pub IsReported : Bool → List NamedFile → NamedFile → Option (List ℕ) → Option (List ℕ) → Bool → Type 0
 IsReported rewrites files transcript before contents well =
     (o : Outcome) × IsOutcome files transcript o × Appends before contents (written rewrites transcript.bytes o) × (well ≡ is_well o)
 
--- what became of each transcript is written, in their order, and all is well exactly where each of them is
+-- the reports of all transcripts are written, in their order, and all is well exactly where each of them is
 abbrev pub IsReplayed : Bool → List NamedFile → List NamedFile → Option (List ℕ) → Option (List ℕ) → Bool → Type 0
 IsReplayed rewrites files [] before contents well = Appends before contents [] × (well ≡ true)
 IsReplayed rewrites files (t ∷ ts) before contents well =

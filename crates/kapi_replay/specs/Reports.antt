@@ -14,18 +14,18 @@ use Rattle.kapi_replay.specs.declared.failure.Outcome.{Outcome}
 abbrev pub line_at : List (List ℕ) → ℕ → List ℕ
 line_at lines n = unwrap_or (nth lines n) []
 
--- `NAME:LINE`
+-- a line of a file: `NAME:LINE`
 abbrev pub place_text : List ℕ → ℕ → List ℕ
 place_text name n = name ++ number_line (codes ":") n
 
--- the line of the transcript at which something is not as it is wanted
+-- the line of the transcript at which something is not as wanted
 abbrev pub number_of : Failure → ℕ
 number_of (failure.Differs n asked answer) = n
 number_of (failure.NoForm n) = n
 number_of (failure.NoFile n) = n
 number_of (failure.NotLoaded n line) = n
 
--- what is not as it is wanted: the event that was answered, what is wanted and what came; or why nothing came
+-- what is not as wanted: the event that was answered, what is wanted and what came; or why nothing came
 abbrev pub what_text : List (List ℕ) → Failure → List ℕ
 what_text lines (failure.Differs n asked answer) =
     codes "\n  asked  " ++ line_at lines asked ++ codes "\n  wanted " ++ line_at lines n ++ codes "\n  got    " ++ answer
@@ -80,10 +80,10 @@ rewritten_from failures n (l ∷ ls) = rewritten_line failures n l ++ rewritten_
 abbrev pub rewritten : List (List ℕ) → List Failure → List ℕ
 rewritten lines failures = rewritten_from failures 1 lines
 
--- what is written of a transcript: its report, or the transcript with the answers that came
+-- the text for a transcript: its report, or the transcript with the answers that came
 abbrev pub written : Bool → List ℕ → Outcome → List ℕ
 written rewrites text o = if rewrites then rewritten (parts_of text) o.failures else report_text (parts_of text) o
 
--- nothing is otherwise than it is wanted
+-- everything is as wanted
 abbrev pub is_well : Outcome → Bool
 is_well o = length o.failures == 0

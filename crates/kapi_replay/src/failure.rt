@@ -1,19 +1,19 @@
 use kapi_text::{Sequence, Text};
 
-/// What is not as a transcript wants it.
+/// A difference from what a transcript wants.
 #[derive(Drop)]
 pub enum Failure {
-    /// An answer is not as this line wants it: the line, the line of the event that was answered (0 where none was), and the answer.
+    /// An answer is not as wanted: the line, the line of the answered event (0 where there is none), and the answer.
     Differs(usize, usize, Sequence<u8>),
     /// This line has no known form.
     NoForm(usize),
     /// The file that this line names is not there.
     NoFile(usize),
-    /// The file that this line names has a line that is not loaded, the second.
+    /// The file that this line names has a line, the second number, that is not loaded.
     NotLoaded(usize, usize),
 }
 
-/// What became of a transcript.
+/// The outcome of a transcript.
 #[derive(Drop)]
 pub struct Outcome {
     pub name: Text,

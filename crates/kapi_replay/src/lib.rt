@@ -1,4 +1,4 @@
-//! Transcripts, played on the machine: what is not as they want it.
+//! Transcripts, played on the machine, and the answers that are not as wanted.
 #![tactic(auto)]
 
 mod failure;

@@ -1,7 +1,7 @@
 //! A case, played.
 ghost use Rattle.std.specs.Prelude.{◌≡◌, ◌++◌, ◌∷◌, [], IfOk, OnOk, option_map};
 ghost use Rattle.kapi_core.specs.Machine.{Machine, with_rechecks};
-ghost use Rattle.kapi_core.specs.Stands.{Stands};
+ghost use Rattle.kapi_core.specs.Refines.{Refines};
 ghost use Rattle.kapi_script.specs.Scripts.{start as begun};
 ghost use Rattle.kapi_replay.specs.Reports.{line_at};
 ghost use Rattle.kapi_replay.specs.Failures as fails;
@@ -9,11 +9,11 @@ ghost use Rattle.kapi_replay.specs.Failures.{Fails, file_named, script_text as s
 
 use crate::failure::Failure;
 use crate::replay::NamedFile;
-use kapi_core::Core;
+use kapi_core::{Core, program_table};
 use kapi_index::IndexedPolicy;
 use kapi_lines::{copy_of, nth, split_lines};
 use kapi_loading::{StartError, Started, start};
-use kapi_script::{ScriptFault, play_script, program_table};
+use kapi_script::{ScriptFault, play_script};
 use kapi_text::{Memory, Sequence};
 use kapi_transcript::{Case, Event, Loaded, Want, is_met};
 use std::alloc::{AllocError, Global};
@@ -58,7 +58,7 @@ fn number_at(script: &[Event], number: usize) -> usize
     }
 }
 
-/// Adds a failure where an answer is not as it is wanted.
+/// Adds a failure where an answer is not as wanted.
 fn check_want(
     alloc: Global,
     failures: &mut Vec<Failure>,
@@ -77,7 +77,7 @@ fn check_want(
     Ok(())
 }
 
-/// The failures of a case whose answers these are.
+/// The failures of a case with these answers.
 fn differences(alloc: Global, case: &Case, text: &[u8]) -> Result<Vec<Failure>, Memory>
     ensures { IfOk result (λ v. v.items ≡ fails.differences case.now text.now) }
 {
@@ -95,7 +95,7 @@ fn differences(alloc: Global, case: &Case, text: &[u8]) -> Result<Vec<Failure>, 
     Ok(failures)
 }
 
-/// One failure.
+/// The list of one failure.
 fn only(alloc: Global, failure: Failure) -> Result<Vec<Failure>, Memory>
     ensures { IfOk result (λ v. v.items ≡ failure ∷ []) }
 {
@@ -117,14 +117,14 @@ fn bad_line(alloc: Global, case: &Case, number: u64) -> Result<Vec<Failure>, Mem
     }
 }
 
-/// Plays a case on a machine on which no connection was opened, and compares its answers with those that are wanted.
+/// Plays a case on a machine on which no connection was opened, and compares its answers with the wanted ones.
 fn play_on(
     alloc: Global,
     core: &mut Core<IndexedPolicy>,
     case: &Case,
 ) -> Result<Vec<Failure>, Memory>
     requires { core.old.next_id ≡ 0 }
-    ensures { (m : Machine) → Stands core.old m → IfOk result (λ v. fails.FailsOn (with_rechecks case.now.rechecks m) case.now v.items) }
+    ensures { (m : Machine) → Refines core.old m → IfOk result (λ v. fails.FailsOn (with_rechecks case.now.rechecks m) case.now v.items) }
 {
     core.recheck_watches(case.rechecks);
     let script = script_text(alloc, case.script.as_slice())?;
@@ -176,7 +176,7 @@ fn play_loaded<R: Wait>(
     }
 }
 
-/// Plays a case on the machine that begins as every one.
+/// Plays a case on the opening machine.
 fn play_begun(alloc: Global, case: &Case) -> Result<Vec<Failure>, Memory>
     ensures { IfOk result (λ v. fails.FailsOn (with_rechecks case.now.rechecks begun) case.now v.items) }
 {
@@ -184,7 +184,7 @@ fn play_begun(alloc: Global, case: &Case) -> Result<Vec<Failure>, Memory>
     play_on(alloc, &mut core, case)
 }
 
-/// What is not as the case wants it. The files are those that it may load.
+/// The failures of a case. `files` are the files that the case may load.
 pub fn play_case<R: Wait>(
     alloc: Global,
     rt: &R,

@@ -23,7 +23,7 @@ pub struct NamedFile {
     pub bytes: Sequence<u8>,
 }
 
-/// Why transcripts were not played to their end. The reports before it are written.
+/// Why transcripts were not played to their end. The reports before the fault are written.
 #[derive(Clone, Copy, Debug, PartialEq, Eq, Error)]
 pub enum ReplayFault {
     #[error("the reports cannot be written")]
@@ -49,7 +49,7 @@ fn wanted_of(cases: &[Case]) -> usize
     wanted
 }
 
-/// What is not as the cases want it.
+/// The failures of some cases.
 fn failures_of<R: Wait>(
     alloc: Global,
     rt: &R,
@@ -87,7 +87,7 @@ fn play<R: Wait>(
     })
 }
 
-/// Whether nothing is otherwise than it is wanted.
+/// Whether every answer is as wanted.
 fn is_well(outcome: &Outcome) -> bool
     ensures { result ≡ is_well_of outcome.now }
 {
@@ -119,11 +119,12 @@ fn both(first: bool, second: bool) -> bool
     first && second
 }
 
-/// Plays transcripts, each of whose cases begins on a machine of its own, and writes what became of each, or where `rewrites` is
-/// set each transcript with the answers that came where others are wanted. `files` are those whose objects a case may load. Answers whether every answer is as it is wanted.
+/// Plays transcripts, each of whose cases begins on a machine of its own, and writes the report of each, or where
+/// `rewrites` is set each transcript with the answers that came where others are wanted. `files` are those whose
+/// objects a case may load. Returns whether every answer is as wanted.
 ///
 /// # Errors
-/// `Write` where the writer fails, `Memory` where memory runs out outside an event.
+/// `Write` where the writer fails, `Memory` where an allocation fails outside an event.
 pub fn replay_run<R: Wait, W: Write>(
     alloc: Global,
     rt: &R,

@@ -37,7 +37,7 @@ fn push_place(text: &mut Vec<u8>, name: &str, number: usize) -> Result<(), Memor
     push_number(text, b":", number)
 }
 
-/// Appends what is not as it is wanted.
+/// Appends what is not as wanted.
 fn push_what(text: &mut Vec<u8>, lines: &[Sequence<u8>], failure: &Failure) -> Result<(), Memory>
     ensures { OnOk result (text.new.items ≡ text.old.items ++ reports.what_text lines.now failure.now) }
 {
@@ -53,7 +53,7 @@ fn push_what(text: &mut Vec<u8>, lines: &[Sequence<u8>], failure: &Failure) -> R
     }
 }
 
-/// The line of the transcript at which something is not as it is wanted.
+/// The line of the transcript at which something is not as wanted.
 fn number_of(failure: &Failure) -> usize
     ensures { result ≡ reports.number_of failure.now }
 {
@@ -106,7 +106,7 @@ fn push_count(text: &mut Vec<u8>, failures: usize) -> Result<(), Memory>
     Ok(())
 }
 
-/// What became of a transcript: each failure, and how many answers it wants.
+/// The report of a transcript: each failure, and how many answers it wants.
 fn report(alloc: Global, lines: &[Sequence<u8>], outcome: &Outcome) -> Result<Vec<u8>, Memory>
     ensures { IfOk result (λ v. v.items ≡ report_text lines.now outcome.now) }
 {

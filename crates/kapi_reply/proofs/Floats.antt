@@ -7,8 +7,8 @@ use Rattle.serde_json.specs.Written.{has_float, items_have_float, members_have_f
 use Rattle.kapi_http.specs.Message.{status_number}
 use Rattle.kapi_http.specs.declared.message.StatusCode.{StatusCode}
 use Rattle.kapi_http.specs.declared.message.StatusCode.TheVariants as status
-use Rattle.kapi_object.proofs.NoFloats.{put_has_no_float}
-use Rattle.kapi_names.specs.declared.fault.FieldFault.{FieldFault}
+use Rattle.kapi_tree.proofs.NoFloats.{put_has_no_float}
+use Rattle.kapi_model.specs.declared.fault.FieldFault.{FieldFault}
 use Rattle.kapi_rules.specs.declared.atom.Atom.{Atom}
 use Rattle.kapi_rules.specs.declared.point.Point.{Point}
 use Rattle.kapi_reply.specs.declared.refusal.Refusal.{Refusal}

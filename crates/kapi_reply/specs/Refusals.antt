@@ -1,4 +1,4 @@
--- The table of refusals: of each the whole failure that is told (Kubernetes API conventions, 'HTTP Status codes').
+-- The table of refusals: the whole failure of each (Kubernetes API conventions, 'HTTP Status codes').
 use Rattle.std.specs.Prelude.{ℕ, ◌==◌, if◌then◌else◌, List, [], ◌∷◌, ◌++◌, length, map, codes, Option, Some, None}
 use Rattle.std.specs.Fmt.{decimal}
 use Rattle.std.specs.Option.{unwrap_or}
@@ -27,7 +27,7 @@ use Rattle.kapi_reply.specs.declared.refusal.Sought.{Sought}
 use Rattle.kapi_reply.specs.declared.refusal.Sought.TheVariants as sought
 use Rattle.kapi_reply.specs.Status.{Failed, Subject, changed_role_ref, invalid_field, missing_atom, missing_permission}
 
--- refused for what the path names
+-- refused for the object or collection that the path names
 abbrev pub asked_for : Refusal → Refused
 asked_for why = record { name = None; why = why }
 
@@ -35,12 +35,12 @@ asked_for why = record { name = None; why = why }
 abbrev pub named : List ℕ → Refusal → Refused
 named name why = record { name = Some name; why = why }
 
--- the refusal that an error tells; none where it tells want of memory
+-- the refusal that an error reports; none where it is out of memory
 abbrev pub refused_by : CheckError → Option Refused
 refused_by (error.Refused r) = Some r
 refused_by error.Memory = None
 
--- what a refused request was: whose it is, its method and its attributes
+-- a refused request: its identity, its method and its attributes
 pub record Asked : Type 0 where
   pub user : List ℕ
   pub method : Method
@@ -60,7 +60,7 @@ name_of (point.Url u) = []
 abbrev pub name_in : Asked → Refused → List ℕ
 name_in asked r = unwrap_or r.name (name_of asked.attributes.point)
 
--- whom a failure about an object of that name is about; nobody where the request is about no resource
+-- the subject of a failure about an object of that name; none where the request is about no resource
 unfoldable pub subject_of : Point → List ℕ → Option Subject
 subject_of (point.Resource p) name = Some (record { group = p.group; resource = p.resource; name = name })
 subject_of (point.Url u) name = None
@@ -89,13 +89,14 @@ methods_at place.Status = method.Get ∷ method.Put ∷ method.Patch ∷ []
 methods_at place.Reviews = method.Post ∷ []
 methods_at place.Health = method.Get ∷ []
 
--- where a denial holds
+-- the text that says where a denial holds
 unfoldable pub denied_text : List ℕ → List ℕ → List ℕ
 denied_text user namespace =
     if length namespace == 0 then user ++ codes " may not do this cluster-wide"
     else user ++ codes " may not do this in namespace " ++ namespace
 
--- where an escalation would hold (Kubernetes, 'Using RBAC Authorization', 'Privilege escalation prevention and bootstrapping')
+-- the text that says where an escalation would hold (Kubernetes, 'Using RBAC Authorization', 'Privilege escalation
+-- prevention and bootstrapping')
 unfoldable pub escalation_text : List ℕ → List ℕ → List ℕ
 escalation_text user namespace =
     if length namespace == 0 then user ++ codes " does not hold these permissions cluster-wide"
@@ -113,17 +114,17 @@ said_of asked name words = resource_of asked.attributes.point ++ codes " " ++ na
 abbrev pub bad_request : List ℕ → Failed
 bad_request text = failed status.BadRequest (codes "BadRequest") (codes "bad request: " ++ text)
 
--- the failure of a method that is not served, with those that are
+-- the failure of a method that is not served, with the methods that are
 abbrev pub not_allowed : List ℕ → List Method → Failed
 not_allowed text allow = record (failed status.MethodNotAllowed (codes "MethodNotAllowed") (text ++ codes " is not served here")) { allow = allow }
 
--- the failure where something is not there
+-- the failure where an object or a resource is not found
 unfoldable pub not_found : Asked → List ℕ → Sought → Failed
 not_found asked name sought.Object = failed status.NotFound (codes "NotFound") (said_of asked name (codes " not found"))
 not_found asked name sought.Namespace =
     failed status.NotFound (codes "NotFound") (codes "namespaces " ++ asked.attributes.namespace ++ codes " not found")
 
--- the failure where the role is not there that a binding refers to
+-- the failure where a binding refers to a role that does not exist
 abbrev pub role_not_found : NamedRole → Failed
 role_not_found role = failed status.NotFound (codes "NotFound") (role.resource ++ codes " " ++ role.name ++ codes " not found")
 
@@ -132,18 +133,18 @@ abbrev pub invalid : Asked → List ℕ → List Data → Failed
 invalid asked name causes =
     record (failed status.UnprocessableContent (codes "Invalid") (said_of asked name (codes " is invalid"))) { causes = causes }
 
--- the failure where a revision is asked for that is not reached yet (Kubernetes, 'Kubernetes API Concepts', 'Resource versions')
+-- the failure where a revision is not reached yet (Kubernetes, 'Kubernetes API Concepts', 'Resource versions')
 abbrev pub not_yet_reached : Revisions → Failed
 not_yet_reached r =
     failed status.GatewayTimeout (codes "Timeout") (codes "resourceVersion " ++ (decimal r.asked ++ (codes " is above the current " ++ decimal r.current)))
 
--- the failure where a watch would begin, or goes on, below the window of the changes that are kept (Kubernetes, 'Kubernetes API Concepts',
--- '410 Gone responses')
+-- the failure where a watch would begin, or goes on, below the window of the changes that are kept (Kubernetes,
+-- 'Kubernetes API Concepts', '410 Gone responses')
 abbrev pub expired : OldRevision → Failed
 expired r =
     failed status.Gone (codes "Expired") (codes "resourceVersion " ++ (decimal r.asked ++ (codes " is below the window, which begins at " ++ decimal r.begins)))
 
--- the failure that is told of a refusal about the object of that name
+-- the failure for a refusal about the object of that name
 unfoldable pub failure_of : Asked → List ℕ → Refusal → Failed
 failure_of asked name (refusal.BadRequest w) = bad_request (word_text w)
 failure_of asked name (refusal.Impersonation points) =
@@ -180,7 +181,7 @@ failure_of asked name (refusal.Expired old) = expired old
 abbrev pub all_methods : List Method
 all_methods = method.Get ∷ method.Post ∷ method.Put ∷ method.Patch ∷ method.Delete ∷ []
 
--- the failure that is told of them, by its code and its word
+-- the failure for bytes that are no request, by its code and its word
 unfoldable pub fault_failure : StatusCode → List ℕ → Failed
 fault_failure status.BadRequest text = bad_request text
 fault_failure status.MethodNotAllowed text = not_allowed text all_methods

@@ -7,8 +7,8 @@ use Rattle.serde_json.specs.Written.{compact_text}
 use Rattle.kapi_http.specs.Message.{status_number}
 use Rattle.kapi_http.specs.declared.message.Method.{Method}
 use Rattle.kapi_http.specs.declared.message.StatusCode.{StatusCode}
-use Rattle.kapi_names.specs.Cause.{cause_text}
-use Rattle.kapi_names.specs.declared.fault.FieldFault.{FieldFault}
+use Rattle.kapi_model.specs.FaultKind.{cause_text}
+use Rattle.kapi_model.specs.declared.fault.FieldFault.{FieldFault}
 use Rattle.kapi_rules.specs.declared.atom.Atom.{Atom}
 use Rattle.kapi_rules.specs.declared.atom.Atom.TheVariants as atom
 use Rattle.kapi_rules.specs.declared.atom.Names.{Names}
@@ -17,14 +17,14 @@ use Rattle.kapi_rules.specs.declared.atom.ResourceAtom.{ResourceAtom}
 use Rattle.kapi_rules.specs.declared.point.Point.{Point}
 use Rattle.kapi_rules.specs.declared.point.Point.TheVariants as point
 
--- whom a failure is about: the group, the resource and the name of a request
+-- the subject of a failure: the group, the resource and the name of a request
 pub record Subject : Type 0 where
   pub group : List ℕ
   pub resource : List ℕ
   pub name : List ℕ
 
--- a failure: its code, one word for programs (which may be empty), its message, its causes, and the methods that are served in place
--- of the one that was not (none where that is not the matter)
+-- a failure: its code, one word for programs (which may be empty), its message, its causes, and the methods that are
+-- served in place of the one that was not (none where that is not the matter)
 pub record Failed : Type 0 where
   pub code : StatusCode
   pub reason : List ℕ
@@ -36,7 +36,7 @@ pub record Failed : Type 0 where
 abbrev pub with_text : List ℕ → List ℕ → Members → Members
 with_text key text ms = put key (string text) ms
 
--- the same, unless the text is empty
+-- the members with a text at the key, unless the text is empty
 unfoldable pub with_some_text : List ℕ → List ℕ → Members → Members
 with_some_text key text ms = if length text == 0 then ms else put key (string text) ms
 
@@ -44,13 +44,13 @@ with_some_text key text ms = if length text == 0 then ms else put key (string te
 unfoldable pub with_causes : List Data → Members → Members
 with_causes causes ms = if length causes == 0 then ms else put (codes "causes") (array (items_of causes)) ms
 
--- the members with whom the failure is about
+-- the members with the subject of the failure
 unfoldable pub with_subject : Option Subject → Members → Members
 with_subject None ms = ms
 with_subject (Some s) ms =
     with_some_text (codes "name") s.name (with_some_text (codes "kind") s.resource (with_some_text (codes "group") s.group ms))
 
--- the details of a failure: its causes, and whom it is about
+-- the details of a failure: its causes and its subject
 abbrev pub details_of : Option Subject → List Data → Members
 details_of subject causes = with_subject subject (with_causes causes no_members)
 
@@ -58,7 +58,7 @@ details_of subject causes = with_subject subject (with_causes causes no_members)
 unfoldable pub with_some_object : List ℕ → Members → Members → Members
 with_some_object key members ms = if members_len members == 0 then ms else put key (object members) ms
 
--- the Status object of a failure and whom it is about
+-- the Status object of a failure and its subject
 unfoldable pub status_of : Option Subject → Failed → Data
 status_of subject f = object
     (with_text (codes "status") (codes "Failure")
@@ -70,7 +70,7 @@ status_of subject f = object
     (put (codes "code") (number (unsigned (status_number f.code)))
     (with_text (codes "apiVersion") (codes "v1") no_members))))))))
 
--- the details of a deletion: whom it was about, and the uid of what was deleted
+-- the details of a deletion: its subject, and the uid of what was deleted
 abbrev pub deleted_details : Subject → List ℕ → Members
 deleted_details s uid = with_text (codes "uid") uid (with_subject (Some s) no_members)
 
@@ -103,7 +103,7 @@ abbrev pub atom_list : Atom → Data
 atom_list (atom.Resource a) = resource_atom_list a
 atom_list (atom.Url a) = array (item (string a.verb) (item (string a.url) no_items))
 
--- what is missing, as the cause of a denial: its parts as JSON text
+-- the cause of a denial: the missing parts as JSON text
 abbrev pub missing : List ℕ → Data
 missing parts = object
     (member (codes "message") (string parts)
@@ -113,7 +113,7 @@ missing parts = object
 abbrev pub missing_permission : Point → Data
 missing_permission p = missing (compact_text (point_list p))
 
--- the cause of an escalation's refusal: a part of the written rules that whoever asks does not hold
+-- the cause of an escalation's refusal: a part of the written rules that the caller does not hold
 abbrev pub missing_atom : Atom → Data
 missing_atom a = missing (compact_text (atom_list a))
 

@@ -7,7 +7,7 @@ use Rattle.kapi_reply.specs.declared.status.Subject.{Subject as SubjectOf}
 use Rattle.kapi_reply.specs.Refusals.{Asked}
 use Rattle.kapi_reply.specs.Status.{Failed, Subject}
 
--- whom a failure is about, as data
+-- the subject of a failure, as data
 abbrev pub subject_data : SubjectOf → Subject
 subject_data s = record { group = s.group.now; resource = s.resource.now; name = s.name.now }
 

@@ -1,4 +1,4 @@
-//! The table of refusals: of each the whole failure that is told.
+//! The table of refusals: the whole failure of each.
 ghost use Rattle.std.specs.Prelude.{◌≡◌, [], ◌∷◌, ◌++◌, codes, map as map_of, string_bytes, IfOk};
 ghost use Rattle.std.specs.Option.{option_map};
 ghost use Rattle.serde_json.specs.View.{view};
@@ -15,7 +15,7 @@ use crate::status::{
     missing_permissions,
 };
 use kapi_http::{Method, StatusCode};
-use kapi_names::FieldFault;
+use kapi_model::FieldFault;
 use kapi_rules::{Atom, Point};
 use kapi_text::Memory;
 use serde_json::Value;
@@ -30,7 +30,7 @@ const METHODS: [Method; 5] = [
     Method::Delete,
 ];
 
-/// The failure that is told of a refusal about the object of that name.
+/// The failure for a refusal about the object of that name.
 #[tactic(auto, unfolding(crate::specs::Refusals::failure_of))]
 pub fn failure_of(
     alloc: Global,
@@ -102,7 +102,7 @@ pub fn expired(alloc: Global, old: OldRevision) -> Result<Failure, Memory>
     Ok(with_message(alloc, StatusCode::Gone, "Expired", message))
 }
 
-/// The failure that is told of bytes that are no request.
+/// The failure for bytes that are no request.
 #[tactic(auto, unfolding(crate::specs::Refusals::fault_failure))]
 pub fn failure_of_fault(alloc: Global, code: StatusCode, word: &str) -> Result<Failure, Memory>
     ensures { IfOk result (λ f. failure_data f ≡ fault_failure code word.now) }
@@ -152,7 +152,7 @@ pub fn bad_request(alloc: Global, word: &str) -> Result<Failure, Memory>
     Ok(with_message(alloc, StatusCode::BadRequest, "BadRequest", message))
 }
 
-/// The failure of a method that is not served, with those that are.
+/// The failure of a method that is not served, with the methods that are.
 fn not_allowed(alloc: Global, method: &str, allow: &'static [Method]) -> Result<Failure, Memory>
     ensures { IfOk result (λ f. failure_data f ≡ table.not_allowed method.now allow.now) }
 {
@@ -207,7 +207,7 @@ fn denied_message(alloc: Global, user: &str, namespace: &str) -> Result<String, 
     }
 }
 
-/// The failure of a write that would give what whoever asks does not hold, each part of it a cause.
+/// The failure of a write that would grant what the caller does not hold, each part of it a cause.
 #[tactic(auto, unfolding(crate::specs::Refusals::failure_of))]
 fn escalation(alloc: Global, asked: Asked<'_>, atoms: &[Atom]) -> Result<Failure, Memory>
     ensures { IfOk result (λ f. failure_data f ≡ table.failure_of (asked_data asked.entry) [] (Refusal.Escalation atoms.now)) }
@@ -246,7 +246,7 @@ fn joined(alloc: Global, first: &str, second: &str, third: &str) -> Result<Strin
     Ok(text)
 }
 
-/// The failure where something is not there.
+/// The failure where an object or a namespace is not found.
 #[tactic(auto, unfolding(crate::specs::Refusals::not_found))]
 fn not_found(alloc: Global, asked: Asked<'_>, name: &str, what: Sought) -> Result<Failure, Memory>
     ensures { IfOk result (λ f. failure_data f ≡ table.not_found (asked_data asked.entry) name.now what) }
@@ -261,7 +261,7 @@ fn not_found(alloc: Global, asked: Asked<'_>, name: &str, what: Sought) -> Resul
     Ok(with_message(alloc, StatusCode::NotFound, "NotFound", message))
 }
 
-/// The failure where the role is not there that a binding refers to.
+/// The failure where a binding refers to a role that does not exist.
 fn role_not_found(alloc: Global, role: &NamedRole) -> Result<Failure, Memory>
     ensures { IfOk result (λ f. failure_data f ≡ table.role_not_found role.now) }
 {
@@ -351,7 +351,7 @@ fn said_of(alloc: Global, asked: Asked<'_>, name: &str, words: &str) -> Result<S
     Ok(text)
 }
 
-/// Whom a failure about an object of that name is about; nobody where the request is about no resource.
+/// The subject of a failure about an object of that name; none where the request is about no resource.
 #[tactic(auto, unfolding(crate::specs::Refusals::subject_of))]
 pub fn subject_of<'a>(point: &'a Point, name: &'a str) -> Option<Subject<'a>>
     ensures { option_map subject_data result ≡ table.subject_of point.entry.now name.entry.now }

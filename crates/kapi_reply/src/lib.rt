@@ -1,4 +1,4 @@
-//! What a refused request is told: the refusals, the failure that is told of each, and replies with JSON bodies.
+//! The replies to refused requests: the refusals, the failure of each, and replies with JSON bodies.
 #![tactic(auto)]
 
 mod failure;

@@ -1,10 +1,10 @@
 use kapi_http::Method;
-use kapi_names::FieldFault;
+use kapi_model::FieldFault;
 use kapi_rules::{Atom, Point};
 use kapi_text::{Memory, Sequence, Text};
 use thiserror::Error;
 
-/// What a path of a served resource stands for.
+/// The kind of place that a path of a served resource names.
 #[derive(Clone, Copy, Debug, PartialEq, Eq)]
 pub enum Place {
     /// The objects of one namespace, or of a cluster-scoped resource.
@@ -17,9 +17,9 @@ pub enum Place {
     Object,
     /// The status of one object.
     Status,
-    /// Where reviews are made, which are answered and not kept.
+    /// The place of reviews, which are answered and not kept.
     Reviews,
-    /// Whether the server is well.
+    /// A health request.
     Health,
 }
 
@@ -38,11 +38,11 @@ pub enum BadWord {
     Name,
     /// The body names another namespace than the path.
     Namespace,
-    /// The query asks for what is not served.
+    /// The query asks for an option that is not served.
     Option,
 }
 
-/// What is not there (404).
+/// What was not found (404).
 #[derive(Clone, Copy, Debug, PartialEq, Eq)]
 pub enum Sought {
     /// The object that the request is about.
@@ -55,13 +55,13 @@ pub enum Sought {
 #[derive(Debug, Drop)]
 pub enum Refusal {
     BadRequest(BadWord),
-    /// Whoever asks may not impersonate: these points are denied, that of the user first, then those of the groups.
+    /// The caller may not impersonate: these points are denied, that of the user first, then those of the groups.
     Impersonation(Sequence<Point>),
     /// Authorization denies the request's point.
     Forbidden,
-    /// Whoever asks does not hold these parts of what the role or binding that he writes gives.
+    /// The caller does not hold these parts of what the written role or binding grants.
     Escalation(Sequence<Atom>),
-    /// The path is none of a served resource.
+    /// The path is not one of a served resource.
     NoSuchResource,
     NotFound(Sought),
     /// The role that the binding refers to does not exist.
@@ -74,7 +74,7 @@ pub enum Refusal {
     Conflict(Text),
     /// The body has faults.
     Invalid(Sequence<FieldFault>),
-    /// A binding refers to its role for good.
+    /// A binding may not change the role that it refers to.
     RoleRefChanged,
     /// The namespace still holds objects.
     NamespaceNotEmpty,
@@ -106,7 +106,7 @@ pub struct OldRevision {
     pub begins: u64,
 }
 
-/// A refused request: the name of the object that it is about, where that is not the one that its path names, and why.
+/// A refused request: the name of the object that it is about, where that is not the one of its path, and the reason.
 #[derive(Debug, Drop)]
 pub struct Refused {
     pub name: Option<Text>,
@@ -117,7 +117,7 @@ impl Refused {
     ghost use Rattle.std.specs.Prelude.{◌≡◌};
     ghost use Rattle.kapi_reply.specs.Refusals as table;
 
-    /// Refused for what the path names.
+    /// Refused for the object or collection that the path names.
     pub fn asked_for(why: Refusal) -> Refused
         ensures { result ≡ table.asked_for why }
     {
@@ -160,7 +160,7 @@ impl BadWord {
     ghost use Rattle.std.specs.Prelude.{◌≡◌};
     ghost use Rattle.kapi_reply.specs.Refusals.{word_text};
 
-    /// The word as it stands in the message.
+    /// The word as in the message.
     pub fn as_str(self) -> &'static str
         ensures { result.now ≡ word_text self }
     {
@@ -180,7 +180,7 @@ impl BadWord {
     }
 }
 
-/// A check that failed, or want of memory in place of any answer.
+/// A check that failed, or that ran out of memory.
 #[derive(Debug, Drop, Error)]
 pub enum CheckError {
     #[error("the request is refused")]

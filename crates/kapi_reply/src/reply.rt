@@ -1,4 +1,4 @@
-//! Replies with JSON bodies, and what refused requests are sent.
+//! Replies with JSON bodies, and the replies to refused requests.
 ghost use Rattle.std.specs.Prelude.{◌≡◌, [], false, Some, map as map_of, IfOk};
 ghost use Rattle.std.specs.Option.{option_map};
 ghost use Rattle.serde_json.specs.View.{items_of, view};
@@ -17,7 +17,7 @@ use kapi_request_info::Attributes;
 use kapi_text::{Memory, Sequence};
 use std::alloc::Global;
 
-/// A reply as it goes out on a connection.
+/// The bytes of a reply on a connection.
 #[derive(Debug, Drop)]
 pub struct WrittenReply {
     pub bytes: Sequence<u8>,
@@ -25,7 +25,7 @@ pub struct WrittenReply {
     pub close: bool,
 }
 
-/// What the body of a reply is.
+/// The kind of a reply's body.
 #[derive(Clone, Copy, Debug, PartialEq, Eq)]
 pub enum Content {
     /// An object as JSON text.
@@ -33,7 +33,7 @@ pub enum Content {
     Text,
 }
 
-/// What a refused request was: whose it is, its method and its attributes.
+/// A refused request: its identity, its method and its attributes.
 #[derive(Clone, Copy)]
 pub struct Asked<'a> {
     pub user: &'a str,
@@ -41,7 +41,7 @@ pub struct Asked<'a> {
     pub attributes: &'a Attributes,
 }
 
-/// A reply that tells an object, given as JSON text, or a plain text.
+/// A reply with an object, given as JSON text, or a plain text.
 pub fn content_reply(
     alloc: Global,
     code: StatusCode,
@@ -89,7 +89,7 @@ fn is_plain(content: Content) -> bool
     }
 }
 
-/// A reply as it goes out.
+/// The bytes of a reply.
 fn write(alloc: Global, reply: &Reply) -> Result<WrittenReply, Memory>
     ensures { IfOk result (λ o. o ≡ sent reply.now) }
 {
@@ -99,7 +99,7 @@ fn write(alloc: Global, reply: &Reply) -> Result<WrittenReply, Memory>
     })
 }
 
-/// A reply with a JSON body, or none, as it goes out.
+/// The bytes of a reply with a JSON body, or none.
 fn send(
     alloc: Global,
     code: StatusCode,
@@ -120,7 +120,7 @@ fn send(
     write(alloc, &reply)
 }
 
-/// What a request that was refused is sent.
+/// The reply to a refused request.
 pub fn refusal_reply(
     alloc: Global,
     asked: Asked<'_>,
@@ -139,7 +139,7 @@ pub fn refusal_reply(
     )
 }
 
-/// What a request that was refused is told, as JSON text.
+/// The Status object for a refused request, as JSON text.
 pub fn refusal_text(alloc: Global, asked: Asked<'_>, refused: &Refused) -> Result<Vec<u8>, Memory>
     ensures { IfOk result (λ b. b.items ≡ compact_text (replies.refusal_status (asked_data asked.entry) refused.now)) }
 {
@@ -158,7 +158,7 @@ fn name_in<'a>(asked: Asked<'a>, refused: &'a Refused) -> &'a str
     }
 }
 
-/// What a request is sent whose target has a fault: nothing is known of what it is about.
+/// The reply to a request whose target has a fault: nothing is known of its attributes.
 pub fn target_reply(alloc: Global, word: BadWord, close: bool) -> Result<WrittenReply, Memory>
     ensures { IfOk result (λ o. o ≡ replies.target_reply word close) }
 {
@@ -166,7 +166,7 @@ pub fn target_reply(alloc: Global, word: BadWord, close: bool) -> Result<Written
     failure_reply(alloc, None, close, failure)
 }
 
-/// A reply that tells a failure and whom it is about.
+/// A reply that reports a failure and its subject.
 fn failure_reply(
     alloc: Global,
     subject: Option<Subject<'_>>,
@@ -193,7 +193,7 @@ fn status_text(
     failure_status(alloc, subject, failure)?.to_vec(alloc)
 }
 
-/// What a watch is told that cannot go on, as JSON text: that changes after the revision at which it stands may be kept no longer.
+/// The Status object for a watch that cannot go on, as JSON text: changes after its revision may be kept no longer.
 pub fn expired_text(
     alloc: Global,
     subject: Subject<'_>,
@@ -205,15 +205,15 @@ pub fn expired_text(
     status_text(alloc, Some(subject), failure)
 }
 
-/// What a deletion is told, as JSON text: whom it was about, and the uid of what was deleted (Kubernetes API conventions, 'Response
-/// Status Kind').
+/// The Status object for a deletion, as JSON text: its subject, and the uid of what was deleted (Kubernetes API
+/// conventions, 'Response Status Kind').
 pub fn deletion_text(alloc: Global, subject: Subject<'_>, uid: &str) -> Result<Vec<u8>, Memory>
     ensures { IfOk result (λ b. b.items ≡ compact_text (deleted_status (subject_data subject.entry) uid.now)) }
 {
     deletion_status(alloc, subject, uid)?.to_vec(alloc)
 }
 
-/// What bytes that are no request are sent; it ends the connection.
+/// The reply to bytes that are no request; it ends the connection.
 #[tactic(auto, unfolding(crate::specs::Replies::fault_reply))]
 pub fn fault_reply(alloc: Global, fault: &HttpFault) -> Result<WrittenReply, Memory>
     ensures { IfOk result (λ o. o ≡ replies.fault_reply fault.now) }
@@ -224,7 +224,7 @@ pub fn fault_reply(alloc: Global, fault: &HttpFault) -> Result<WrittenReply, Mem
     send(alloc, fault.code, allow, true, body)
 }
 
-/// A reply to HEAD has no body (RFC 9110 section 9.3.2).
+/// The body that reports a fault; a reply to HEAD has none (RFC 9110 section 9.3.2).
 fn fault_body(
     alloc: Global,
     fault: &HttpFault,

@@ -7,13 +7,13 @@ ghost use Rattle.kapi_reply.specs.Status.{with_text, with_some_text, with_causes
 ghost use Rattle.kapi_reply.specs.Views.{subject_data, failure_data};
 
 use kapi_http::{Method, StatusCode};
-use kapi_names::FieldFault;
+use kapi_model::FieldFault;
 use kapi_rules::{Atom, Names, Point, ResourceAtom};
 use kapi_text::Memory;
 use serde_json::{Map, Value, json, put};
 use std::alloc::Global;
 
-/// Whom a failure is about: a resource request's group, resource and name, each left out where it is empty.
+/// The subject of a failure: a resource request's group, resource and name, each left out where it is empty.
 #[derive(Clone, Copy)]
 pub struct Subject<'a> {
     pub group: &'a str,
@@ -21,7 +21,7 @@ pub struct Subject<'a> {
     pub name: &'a str,
 }
 
-/// A failure that is told in a reply.
+/// A failure that is reported in a reply.
 #[derive(Drop)]
 pub struct Failure {
     pub code: StatusCode,
@@ -34,7 +34,7 @@ pub struct Failure {
     pub allow: &'static [Method],
 }
 
-/// The Status object of a failure and whom it is about (Kubernetes API conventions, 'Response Status Kind').
+/// The Status object of a failure and its subject (Kubernetes API conventions, 'Response Status Kind').
 #[tactic(auto, unfolding(crate::specs::Status::status_of))]
 pub fn failure_status(
     alloc: Global,
@@ -66,7 +66,7 @@ pub fn failure_status(
     Ok(Value::Object(status))
 }
 
-/// The Status object of a deletion: whom it was about, and the uid of what was deleted.
+/// The Status object of a deletion: its subject, and the uid of what was deleted.
 #[tactic(auto, unfolding(crate::specs::Status::deleted_status))]
 pub fn deletion_status(alloc: Global, subject: Subject<'_>, uid: &str) -> Result<Value, Memory>
     ensures { IfOk result (λ v. view v ≡ deleted_status (subject_data subject.entry) uid.now) }
@@ -104,7 +104,7 @@ fn put_some_object(
     }
 }
 
-/// The details of a failure: the causes, where there are some, and whom it is about.
+/// The details of a failure: the causes, where there are some, and the subject.
 fn details(
     alloc: Global,
     subject: Option<Subject<'_>>,
@@ -186,14 +186,14 @@ pub fn missing_permission(alloc: Global, point: &Point) -> Result<Value, Memory>
     missing(alloc, point_text(alloc, point)?.as_str())
 }
 
-/// The cause of an escalation's refusal: a part of the written rules that whoever asks does not hold.
+/// The cause of an escalation's refusal: a part of the written rules that the caller does not hold.
 pub fn missing_atom(alloc: Global, atom: &Atom) -> Result<Value, Memory>
     ensures { IfOk result (λ v. view v ≡ status_object.missing_atom atom.now) }
 {
     missing(alloc, atom_text(alloc, atom)?.as_str())
 }
 
-/// What is missing, whose parts are given as the text of a JSON list.
+/// The cause of a denial; the missing parts are given as the text of a JSON list.
 fn missing(alloc: Global, parts: &str) -> Result<Value, Memory>
     ensures { IfOk result (λ v. view v ≡ status_object.missing parts.now) }
 {
@@ -266,7 +266,7 @@ pub fn missing_permissions(alloc: Global, points: &[Point]) -> Result<Vec<Value>
     Ok(causes)
 }
 
-/// The causes of an escalation's refusal, in the order of what is missing.
+/// The causes of an escalation's refusal, in the order of the missing parts.
 pub fn missing_atoms(alloc: Global, atoms: &[Atom]) -> Result<Vec<Value>, Memory>
     ensures { IfOk result (λ v. map_of view v.items ≡ map_of status_object.missing_atom atoms.now) }
 {

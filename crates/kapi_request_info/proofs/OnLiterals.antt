@@ -4,7 +4,7 @@ use Rattle.std.specs.Str.{is_utf8, chars}
 use Rattle.std.specs.Str.Lossy.{utf8_valid_len, utf8_error_len, utf8_lossy}
 use lib.Utf8.{encode}
 use Rattle.form_urlencoded.proofs.OnLiterals.{form_urlencoded_on_literals}
-use Rattle.kapi_names.specs.Names.{is_path_segment}
+use Rattle.kapi_model.specs.Names.{is_path_segment}
 use Rattle.kapi_request_info.specs.Target.{path_on, split_target}
 use Rattle.kapi_request_info.specs.Path.{without_last_empty, has_whole_escapes, texts, segments}
 use Rattle.kapi_request_info.specs.Query.{query_value}

@@ -12,7 +12,7 @@ use Rattle.kapi_request_info.specs.Path.{has_slash, names_something, has_whole_e
 use Rattle.kapi_request_info.specs.Resource.{part, is_namespace_subresource, namespace_and_parts, named_by, verb_and_name, resource_attributes, url_attributes, attributes_by}
 use Rattle.kapi_request_info.specs.Slashes.{HasNoSlash}
 
--- each names something
+-- each segment names something
 abbrev AllName : List (List ℕ) → Type 0
 AllName names = list_all names_something names ≡ true
 
@@ -28,7 +28,7 @@ last_not true true false d h = cc
 last_not true false c d h = cc
 last_not false b c d h = cc
 
--- what names something has no slash
+-- a segment that names something has no slash
 no_slash : (s : List ℕ) → names_something s ≡ true → has_slash s ≡ false
 no_slash s h = last_not (not (length s == 0)) (not (bytes_eq s (codes "."))) (not (bytes_eq s (codes ".."))) (has_slash s) h
 
@@ -74,7 +74,7 @@ parts_name (first ∷ name ∷ []) h = same_names (bytes_eq first (codes "namesp
 parts_name (first ∷ []) h = h
 parts_name [] h = h
 
--- that attributes were given, and then about a point without slashes
+-- attributes were returned, for a point without slashes
 abbrev Slashless : {F : Type 0} → Result Attributes F → Type 0
 Slashless r = IfOk r (λ a. HasNoSlash a.point)
 
@@ -121,7 +121,7 @@ given_slashless : (r : Result Attributes InfoError) (given : Result Attributes T
 given_slashless (Ok a) given h k = rw h at k
 given_slashless (Err e) given h k = tt
 
--- what is given for a path whose segments were found
+-- what is returned for a path whose segments were found
 pub found_slashless : (r : Result Attributes InfoError) (method : Method) (path : List ℕ) (names : List (List ℕ)) (query : List QueryPair)
     → segments path ≡ Ok names → GivesInfo r (attributes_by method path names query) → Slashless r
 found_slashless r method path names query found h =

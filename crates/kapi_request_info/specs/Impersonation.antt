@@ -1,4 +1,4 @@
--- Whom a request is to be made as (Kubernetes, 'Authenticating', 'User impersonation').
+-- The identity that a request asks to act as (Kubernetes, 'Authenticating', 'User impersonation').
 use Rattle.std.specs.Prelude.{ℕ, ◌==◌, nat_le, Bool, not, ◌&&◌, ◌||◌, if◌then◌else◌, List, [], ◌∷◌, length, take, codes, Option, Some, None, Result, Ok, Err}
 use Rattle.std.specs.List.{list_all, list_any}
 use Rattle.std.specs.Str.{is_utf8, str_eq_ignore_ascii_case}
@@ -9,11 +9,11 @@ use Rattle.kapi_request_info.specs.declared.impersonated.Impersonation.{Imperson
 use Rattle.kapi_request_info.specs.declared.impersonated.ImpersonationError.{ImpersonationError}
 use Rattle.kapi_request_info.specs.declared.impersonated.ImpersonationError.TheVariants as error
 
--- header fields that name nobody to be impersonated
+-- header fields that name no identity to be impersonated
 pub data Misuse : Type 0 where
   bad_headers : Misuse
 
--- the misuse that an error tells; none where it tells want of memory
+-- the misuse that an error reports; none where it is out of memory
 abbrev pub misuse_of : ImpersonationError → Option Misuse
 misuse_of error.BadHeaders = Some bad_headers
 misuse_of error.Memory = None
@@ -26,7 +26,7 @@ is_impersonation h = nat_le 12 (length h.name) && str_eq_ignore_ascii_case (take
 abbrev pub names_someone : Header → Bool
 names_someone h = is_named (codes "impersonate-user") h || is_named (codes "impersonate-group") h
 
--- another field of the family, as one of an extra value, is not served
+-- another field of the impersonation family, as one of an extra value, is not served
 abbrev pub is_other : Header → Bool
 is_other h = is_impersonation h && not (names_someone h)
 
@@ -46,7 +46,7 @@ names_in name headers = if list_all is_name (values_named name headers) then Ok 
 abbrev pub nobody : List (List ℕ) → Result (Option Impersonation) Misuse
 nobody groups = if length groups == 0 then Ok None else Err bad_headers
 
--- whom users and groups mean: one user and the groups, or nobody
+-- the impersonation that users and groups specify: one user and the groups, or none
 unfoldable pub meant : List (List ℕ) → List (List ℕ) → Result (Option Impersonation) Misuse
 meant [] groups = nobody groups
 meant (user ∷ []) groups = Ok (Some (record { user = user; groups = groups }))
@@ -59,6 +59,6 @@ named headers = do
   groups ← names_in (codes "impersonate-group") headers
   meant users groups
 
--- whom a request with these header fields is to be made as, if as somebody else
+-- the impersonation that a request with these header fields asks for, if any
 unfoldable pub impersonation : List Header → Result (Option Impersonation) Misuse
 impersonation headers = if list_any is_other headers then Err bad_headers else named headers

@@ -20,7 +20,7 @@ part parts index = unwrap_or (slice_get parts index) []
 abbrev pub is_namespace_subresource : List ℕ → Bool
 is_namespace_subresource s = bytes_eq s (codes "status") || bytes_eq s (codes "finalize")
 
--- the namespace and the parts from the resource on: below `namespaces/NAME` stand the resources of that namespace
+-- the namespace and the parts from the resource on: below `namespaces/NAME` are the resources of that namespace
 unfoldable pub namespace_and_parts : List (List ℕ) → List ℕ × List (List ℕ)
 namespace_and_parts (first ∷ name ∷ third ∷ more) =
     if bytes_eq first (codes "namespaces")
@@ -56,11 +56,11 @@ abbrev pub read_verb_and_name : List QueryPair → Result Bool TargetFault → R
 read_verb_and_name query (Ok w) = Ok ((if w then codes "watch" else codes "list"), selector_name query)
 read_verb_and_name query (Err e) = Err e
 
--- the verb of a read of a collection, and the name that a field selector gives
+-- the verb of a read of a collection, and the name that a field selector specifies
 unfoldable pub collection_read : List QueryPair → Result (List ℕ × List ℕ) TargetFault
 collection_read query = read_verb_and_name query (watched query)
 
--- the verb of a request about a resource of this name, which is empty for a collection, and the name that it then has
+-- the verb and the name of a request about a resource of this name, which is empty for a collection
 unfoldable pub verb_and_name : Method → List ℕ → List QueryPair → Result (List ℕ × List ℕ) TargetFault
 verb_and_name Get name query = if length name == 0 then collection_read query else Ok (codes "get", name)
 verb_and_name Post name query = Ok (codes "create", name)

@@ -2,17 +2,18 @@
 use Rattle.std.specs.Prelude.{ℕ, ◌==◌, nat_eq, Bool, not, ◌&&◌, ◌||◌, if◌then◌else◌, List, length, drop, codes, Option, Some, None}
 use Rattle.std.specs.List.{list_any, starts_with}
 use Rattle.std.specs.Option.{option_or, option_and_then}
-use Rattle.kapi_names.specs.Names.{is_path_segment}
+use Rattle.kapi_model.specs.Names.{is_path_segment}
 
--- a name that is a path segment (Kubernetes, 'Object Names and IDs') without `,`, `=`, `!` and `\`, by which selectors part and escape
+-- a name that is a path segment (Kubernetes, 'Object Names and IDs') without `,`, `=`, `!` and `\`, by which selectors
+-- part and escape
 abbrev pub is_selectable : List ℕ → Bool
 is_selectable name = is_path_segment name && not (list_any (λ b. b == 44 || (b == 61 || (b == 33 || b == 92))) name)
 
--- the name that a selector of one equality gives
+-- the name that a selector of one equality specifies
 abbrev pub named : List ℕ → Option (List ℕ)
 named name = if is_selectable name then Some name else None
 
--- what follows a prefix, where the text begins with it
+-- the text behind a prefix, where the text begins with it
 abbrev pub behind : List ℕ → List ℕ → Option (List ℕ)
 behind text prefix = if starts_with nat_eq text prefix then Some (drop (length prefix) text) else None
 

@@ -1,4 +1,5 @@
--- Points whose resource and subresource have no slash, as the rules of roles see them (Kubernetes, 'Using RBAC Authorization').
+-- Points whose resource and subresource have no slash, as the rules of roles see them (Kubernetes, 'Using RBAC
+-- Authorization').
 use Rattle.std.specs.Prelude.{◌≡◌, ◌==◌, false}
 use Rattle.std.specs.List.{list_any}
 use Rattle.kapi_rules.specs.declared.point.Point.{Point}

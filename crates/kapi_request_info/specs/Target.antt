@@ -3,11 +3,11 @@ use Rattle.std.specs.Prelude.{ℕ, ◌==◌, nat_eq, nat_le, Bool, not, ◌&&◌
 use Rattle.std.specs.List.{list_all, starts_with, position_or_len, before_first, after_first}
 use Rattle.kapi_request_info.specs.Faults.{TargetFault, bad_path}
 
--- visible ASCII but `#`, which would begin a fragment (RFC 3986 sections 2 and 3.5)
+-- a byte of a target: visible ASCII but `#`, which would begin a fragment (RFC 3986 sections 2 and 3.5)
 abbrev pub is_target_byte : ℕ → Bool
 is_target_byte b = nat_le 33 b && (nat_le b 126 && not (b == 35))
 
--- what follows the authority, which ends before the first `/` or `?` (RFC 3986 section 3.2)
+-- the text behind the authority, which ends before the first `/` or `?` (RFC 3986 section 3.2)
 abbrev pub behind_authority : List ℕ → List ℕ
 behind_authority rest = drop (position_or_len (λ b. b == 47 || b == 63) rest) rest
 
@@ -18,7 +18,7 @@ path_on target =
     else if starts_with nat_eq target (codes "http://") then Some (behind_authority (drop (length (codes "http://")) target))
     else None
 
--- an absent path is `/` (RFC 9110 section 4.2.3)
+-- the path, or `/` where it is absent (RFC 9110 section 4.2.3)
 abbrev pub path_or_root : List ℕ → List ℕ
 path_or_root path = if length path == 0 then codes "/" else path
 

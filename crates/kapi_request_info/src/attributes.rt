@@ -13,13 +13,13 @@ use kapi_text::{Memory, Sequence, Text, TryCopy};
 use std::alloc::{AllocError, AllocFailed, Global};
 use thiserror::Error;
 
-/// What a request asks for, as its method and target say (Kubernetes, 'Authorization Overview', request attributes).
+/// The attributes of a request, from its method and target (Kubernetes, 'Authorization Overview', request attributes).
 #[derive(Debug, Drop)]
 pub struct Attributes {
-    /// Empty where the request is about no namespace.
+    /// The namespace, empty where the request is about none.
     pub namespace: Text,
     pub point: Point,
-    /// Empty where the request is about no resource.
+    /// The version, empty where the request is about no resource.
     pub version: Text,
     /// How many segments the path has from the resource on; 0 where the request is about no resource.
     pub parts: usize,
@@ -42,7 +42,7 @@ impl TryCopy for Attributes {
 /// Why a request has no attributes, in the order in which the faults are looked for.
 #[derive(Clone, Copy, Debug, PartialEq, Eq, Error)]
 pub enum InfoError {
-    /// The target is no path of segments that name something, with or without a query (RFC 9112 section 3.2; RFC 3986 section 3.3).
+    /// The target is no path of segments that name something (RFC 9112 section 3.2; RFC 3986 section 3.3).
     #[error("the target is no path")]
     BadPath,
     /// A `%` of the path has no two hexadecimal digits behind it, or a segment is no UTF-8 (RFC 3986 section 2.1).
@@ -51,7 +51,7 @@ pub enum InfoError {
     /// A collection is to be watched or not by a value that is no Boolean.
     #[error("a query value is no Boolean")]
     BadQuery,
-    /// A growth was refused.
+    /// An allocation fails.
     #[error("out of memory")]
     Memory,
 }

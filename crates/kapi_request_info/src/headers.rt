@@ -1,4 +1,4 @@
-//! Whom the header fields of a request name to be impersonated (Kubernetes, 'Authenticating', 'User impersonation').
+//! The impersonation that the header fields of a request name (Kubernetes, 'Authenticating', 'User impersonation').
 ghost use Rattle.std.specs.Prelude.{◌≡◌, ◌++◌};
 ghost use Rattle.std.specs.List.{list_any};
 ghost use Rattle.kapi_text.specs.Gives.{Gives};
@@ -8,7 +8,7 @@ ghost use Rattle.kapi_request_info.specs.Impersonation.{misuse_of};
 
 use crate::impersonated::{Impersonation, ImpersonationError};
 use crate::path::text_in;
-use kapi_http::{Header, is_same};
+use kapi_http::{Header, eq_ignore_ascii_case};
 use kapi_text::{Sequence, Text, TryCopy};
 use std::alloc::Global;
 
@@ -16,10 +16,10 @@ use std::alloc::Global;
 pub fn is_named(header: &Header, name: &[u8]) -> bool
     ensures { result ≡ is_named_by name.now header.now }
 {
-    is_same(header.name.as_str().as_bytes(), name)
+    eq_ignore_ascii_case(header.name.as_str().as_bytes(), name)
 }
 
-/// Whom a request with these header fields is to be made as, if as somebody else.
+/// The impersonation that a request with these header fields asks for, if any.
 #[tactic(auto, unfolding(crate::specs::Impersonation::impersonation))]
 pub fn impersonation(
     alloc: Global,
@@ -49,7 +49,7 @@ fn some_is_other(headers: &[Header]) -> bool
     headers.iter().any(|header| is_other(header))
 }
 
-/// Whether a field of the family names neither a user nor a group.
+/// Whether a field of the impersonation family names neither a user nor a group.
 fn is_other(header: &Header) -> bool
     ensures { result ≡ fields.is_other header.now }
 {
@@ -64,7 +64,7 @@ fn is_impersonation(header: &Header) -> bool
         return false;
     }
     let (front, _) = name.split_at(12);
-    is_same(front, b"impersonate-")
+    eq_ignore_ascii_case(front, b"impersonate-")
 }
 
 fn names_someone(header: &Header) -> bool
@@ -73,7 +73,7 @@ fn names_someone(header: &Header) -> bool
     is_named(header, b"impersonate-user") || is_named(header, b"impersonate-group")
 }
 
-/// The values of the fields of a name, each of which is a name too.
+/// The values of the fields of a name, each of which is a user's or a group's name.
 #[tactic(auto, unfolding(crate::specs::Impersonation::names_in))]
 fn names_in(alloc: Global, name: &[u8], headers: &[Header]) -> Result<Vec<Text>, ImpersonationError>
     ensures { Gives misuse_of (λ v. v.items) result (fields.names_in name.now headers.now) }
@@ -100,7 +100,7 @@ fn name_in(alloc: Global, value: &[u8]) -> Result<Text, ImpersonationError>
     }
 }
 
-/// One user and the groups, or nobody.
+/// One user and the groups, or none.
 #[tactic(auto, unfolding(crate::specs::Impersonation::meant))]
 fn meant(
     alloc: Global,
@@ -119,7 +119,7 @@ fn meant(
     }
 }
 
-/// There are no groups without a user.
+/// No impersonation, where no groups are named; groups without a user are an error.
 fn nobody(groups: &[Text]) -> Result<Option<Impersonation>, ImpersonationError>
     ensures { Gives misuse_of (λ o. o) result (fields.nobody groups.now) }
 {

@@ -2,21 +2,21 @@ use kapi_text::{Memory, Sequence, Text};
 use std::alloc::AllocFailed;
 use thiserror::Error;
 
-/// Whom a request is to be made as (Kubernetes, 'Authenticating', 'User impersonation').
+/// The identity that a request asks to act as (Kubernetes, 'Authenticating', 'User impersonation').
 #[derive(Debug, Drop)]
 pub struct Impersonation {
     pub user: Text,
-    /// In the order in which they are named; there may be none.
+    /// The groups in the order in which they are named; there may be none.
     pub groups: Sequence<Text>,
 }
 
-/// Why it is not known whom a request is to be made as.
+/// Why the identity that a request asks to act as is not known.
 #[derive(Clone, Copy, Debug, PartialEq, Eq, Error)]
 pub enum ImpersonationError {
     /// Groups without a user, two users, another field of the family, or a value that is empty or no UTF-8.
     #[error("the impersonation headers name nobody")]
     BadHeaders,
-    /// A growth was refused.
+    /// An allocation fails.
     #[error("out of memory")]
     Memory,
 }

@@ -18,7 +18,7 @@ pub fn written_paths_are_read()
         → info method (written set names ++ 63 ∷ query) ≡ attributes_by method (written set names) names (query_pairs query) }
 {}
 
-/// The scheme and the authority of an absolute target mean nothing; without a path it is as one with the path `/`.
+/// The scheme and the authority of an absolute target do not count; without a path it is as one with the path `/`.
 pub fn authorities_mean_nothing()
     ensures path { (method : Method) (authority rest : List ℕ) → is_authority authority ≡ true
         → info method (codes "http://" ++ (authority ++ 47 ∷ rest)) ≡ info method (47 ∷ rest) }

@@ -1,4 +1,4 @@
-//! The attributes of a request, from its method and target, and whom its header fields name to be impersonated.
+//! The attributes of a request, from its method and target, and the impersonation that its header fields ask for.
 #![tactic(auto)]
 
 pub mod attributes;

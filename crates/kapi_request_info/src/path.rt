@@ -30,7 +30,7 @@ pub fn segments(alloc: Global, path: &[u8]) -> Result<Vec<Text>, InfoError>
     texts(alloc, segments)
 }
 
-/// What stands between the slashes of a path, behind the first, decoded. A `%` without two hexadecimal digits behind it stays as it is.
+/// The decoded texts between the slashes of a path, behind the first. A `%` that begins no escape stays as it is.
 fn pieces(alloc: Global, path: &[u8]) -> Result<Vec<Sequence<u8>>, Memory>
     ensures { IfOk result (λ v. v.items ≡ pieces_of path.now) }
 {
@@ -96,7 +96,7 @@ fn all_name_something(segments: &[Sequence<u8>]) -> bool
         .all(|segment| names_something(segment.as_slice()))
 }
 
-/// An empty segment and the dot segments name nothing, and a slash inside a segment is no part of a name (RFC 3986 section 3.3).
+/// Whether a segment is not empty, no dot segment, and without a slash inside (RFC 3986 section 3.3).
 fn names_something(segment: &[u8]) -> bool
     ensures { result ≡ names_something_of segment.now }
 {
@@ -111,7 +111,7 @@ fn has_slash(segment: &[u8]) -> bool
     segment.iter().any(|byte| *byte == b'/')
 }
 
-/// Behind each `%` stand two hexadecimal digits (RFC 3986 section 2.1).
+/// Whether each `%` is followed by two hexadecimal digits (RFC 3986 section 2.1).
 #[tactic(auto, unfolding(crate::specs::Path::has_whole_escapes))]
 fn has_whole_escapes(path: &[u8]) -> bool
     ensures { result ≡ has_whole_escapes_of path.now }

@@ -22,7 +22,7 @@ impl TryCopy for QueryPair {
     }
 }
 
-/// The value of the first pair with that key; takes no memory.
+/// The value of the first pair with that key; allocates nothing.
 #[tactic(auto, unfolding(crate::specs::Query::query_value))]
 pub fn query_value<'a>(query: &'a [QueryPair], key: &str) -> Option<&'a str>
     ensures { option_copied result ≡ query_value_of query.now key.now }

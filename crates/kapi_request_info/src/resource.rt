@@ -15,7 +15,8 @@ use kapi_rules::{Point, ResourcePoint, UrlPoint};
 use kapi_text::{Memory, Sequence, Text};
 use std::alloc::Global;
 
-/// The attributes of a request by the segments of its path: `/api/VERSION/..` and `/apis/GROUP/VERSION/..` are about a resource.
+/// The attributes of a request by the segments of its path: `/api/VERSION/..` and `/apis/GROUP/VERSION/..` are about a
+/// resource.
 #[tactic(auto, unfolding(crate::specs::Resource::attributes_by))]
 pub fn attributes_by(
     alloc: Global,
@@ -37,7 +38,7 @@ pub fn attributes_by(
     }
 }
 
-/// A request about a resource of a group and version.
+/// The attributes of a request about a resource of a group and version.
 fn resource_attributes(
     alloc: Global,
     method: Method,
@@ -65,7 +66,8 @@ fn resource_attributes(
     })
 }
 
-/// Below `namespaces/NAME` stand the resources of that namespace, but for the namespace's own subresources.
+/// The namespace and the parts from the resource on: below `namespaces/NAME` are the resources of that namespace, but
+/// for the namespace's own subresources.
 #[tactic(auto, unfolding(crate::specs::Resource::namespace_and_parts))]
 fn namespace_and_parts(rest: &[Text]) -> (&str, &[Text])
     ensures { (result.0.now, result.1.now) ≡ namespace_and_parts_of rest.now }
@@ -95,7 +97,7 @@ fn part(parts: &[Text], index: usize) -> &str
     }
 }
 
-/// The verb of a request about a resource of this name, which is empty for a collection, and the name that it then has.
+/// The verb and the name of a request about a resource of this name, which is empty for a collection.
 #[tactic(auto, unfolding(crate::specs::Resource::verb_and_name))]
 fn verb_and_name<'a>(
     method: Method,
@@ -125,7 +127,7 @@ fn verb_and_name<'a>(
     }
 }
 
-/// A collection is listed or watched, narrowed to the name that a field selector gives.
+/// The verb and the name of a read of a collection, narrowed to the name that a field selector specifies.
 #[tactic(auto, unfolding(crate::specs::Resource::collection_read))]
 fn collection_read(query: &[QueryPair]) -> Result<(&'static str, &str), InfoError>
     ensures { Gives fault_of (λ p. (p.0.now, p.1.now)) result (collection_read_of query.now) }
@@ -170,7 +172,7 @@ fn selector_name(query: &[QueryPair]) -> &str
     }
 }
 
-/// A request about no resource: its path has its segments decoded.
+/// The attributes of a request about no resource: its path has its segments decoded.
 fn url_attributes(
     alloc: Global,
     method: Method,

@@ -4,10 +4,10 @@ ghost use Rattle.std.specs.List.{list_any};
 ghost use Rattle.std.specs.Option.{option_copied};
 ghost use Rattle.kapi_request_info.specs.Selector.{is_selectable as is_selectable_of, behind as behind_of, named as named_of, named_behind as named_behind_of, selected_name as selected_name_of};
 
-use kapi_names::check_rbac_name;
+use kapi_model::check_rbac_name;
 
-/// The name that a field selector asks for: `metadata.name==NAME` or `metadata.name=NAME`, NAME a path segment without a
-/// byte that selectors part or escape by; takes no memory.
+/// The name that a field selector asks for: `metadata.name==NAME` or `metadata.name=NAME`, NAME a path segment without
+/// a byte that selectors part or escape by; allocates nothing.
 #[tactic(auto, unfolding(crate::specs::Selector::selected_name))]
 pub fn selected_name(selector: &str) -> Option<&str>
     ensures { option_copied result ≡ selected_name_of selector.now }
@@ -24,7 +24,7 @@ fn named_behind<'a>(selector: &'a str, prefix: &str) -> Option<&'a str>
     }
 }
 
-/// What follows a prefix, where the text begins with it.
+/// The text behind a prefix, where the text begins with it.
 pub fn behind<'a>(text: &'a str, prefix: &str) -> Option<&'a str>
     ensures { option_copied result ≡ behind_of text.now prefix.now }
 {

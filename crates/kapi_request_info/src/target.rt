@@ -31,14 +31,14 @@ fn has_target_bytes(target: &[u8]) -> bool
     target.iter().all(|byte| is_target_byte(*byte))
 }
 
-/// A target is written in visible ASCII and has no fragment (RFC 9112 section 3.2; RFC 3986 sections 2 and 3.5).
+/// Whether a byte may be in a target: visible ASCII but `#` (RFC 9112 section 3.2; RFC 3986 sections 2 and 3.5).
 fn is_target_byte(byte: u8) -> bool
     ensures { result ≡ is_target_byte_of byte }
 {
     byte >= 0x21 && (byte <= 0x7e && byte != b'#')
 }
 
-/// A target from its path on: itself, or what follows the authority of an absolute one.
+/// A target from its path on: itself, or the text behind the authority of an absolute one.
 #[tactic(auto, unfolding(crate::specs::Target::path_on))]
 fn path_on(target: &[u8]) -> Option<&[u8]>
     ensures { option_copied result ≡ path_on_of target.now }
@@ -53,7 +53,7 @@ fn path_on(target: &[u8]) -> Option<&[u8]>
     None
 }
 
-/// An authority ends before the first `/` or `?` (RFC 3986 section 3.2).
+/// The text behind an authority, which ends before the first `/` or `?` (RFC 3986 section 3.2).
 fn behind_authority(rest: &[u8]) -> &[u8]
     ensures { result.now ≡ behind_authority_of rest.now }
 {
@@ -63,7 +63,7 @@ fn behind_authority(rest: &[u8]) -> &[u8]
     }
 }
 
-/// What stands before the first `?`, and the query behind it, which is empty where there is none (RFC 3986 section 3.4).
+/// The text before the first `?`, and the query behind it, which is empty where there is none (RFC 3986 section 3.4).
 fn split_query(text: &[u8]) -> (&[u8], &[u8])
     ensures before { result.0.now ≡ before_first (λ b. b == 63) text.now }
     ensures after { result.1.now ≡ after_first (λ b. b == 63) text.now }
@@ -74,7 +74,7 @@ fn split_query(text: &[u8]) -> (&[u8], &[u8])
     }
 }
 
-/// An absent path is `/` (RFC 9110 section 4.2.3).
+/// The path, or `/` where it is absent (RFC 9110 section 4.2.3).
 fn path_or_root(path: &[u8]) -> &[u8]
     ensures { result.now ≡ path_or_root_of path.now }
 {

@@ -4,10 +4,10 @@ use Rattle.std.proofs.Math.Dec.{eqb-suc-zero}
 use Rattle.std.specs.Option.{option_and_then}
 use Rattle.serde_json.specs.Data.{Data, string, object, Members, no_members, put}
 use Rattle.serde_json.specs.Find.{get_member}
-use Rattle.kapi_object.proofs.Puts.{put_if_here, put_if_other, put_other, text_there, text_round, list_there, listed_round}
-use Rattle.kapi_object.specs.Contents.{list_value, put_text, put_texts, text_at, text_if, text_value, texts_at, write_items}
-use Rattle.kapi_object.specs.Tree.{unless_null}
-use Rattle.kapi_rbac_types.specs.declared.identity.Identity.{Identity}
+use Rattle.kapi_tree.proofs.Puts.{put_if_here, put_if_other, put_other, text_there, text_round, list_there, listed_round}
+use Rattle.kapi_tree.specs.Contents.{list_value, put_text, put_texts, text_at, text_if, text_value, texts_at, write_items}
+use Rattle.kapi_tree.specs.Tree.{unless_null}
+use Rattle.kapi_model.specs.declared.identity.Identity.{Identity}
 use Rattle.kapi_rules.specs.declared.point.ResourcePoint.{ResourcePoint}
 use Rattle.kapi_rules.specs.declared.point.UrlPoint.{UrlPoint}
 use Rattle.kapi_rules.specs.declared.point.Point.TheVariants as point
@@ -19,7 +19,7 @@ use Rattle.kapi_reviews.specs.Questions.{asked_identity, resource_point, url_poi
 
 -- ---- texts
 
--- a text that was put where nothing stood
+-- a text that was put at a key without a value
 pub here : (k s : List ℕ) (ms : Members) → get_member k ms ≡ None → text_at k (object (put_text k s ms)) ≡ s
 here k s ms h = ap (λ o. text_if (option_and_then unless_null o)) (put_if_here k (text_value s) ms h) ∙ ap text_if (text_there s) ∙ text_round s
 
@@ -27,7 +27,7 @@ here k s ms h = ap (λ o. text_if (option_and_then unless_null o)) (put_if_here 
 under : (q k s : List ℕ) (ms : Members) → bytes_eq q k ≡ false → text_at q (object (put_text k s ms)) ≡ text_at q (object ms)
 under q k s ms h = ap (λ o. text_if (option_and_then unless_null o)) (put_if_other q k (text_value s) ms h)
 
--- nothing, also when another text was put
+-- a key without a value, also when another text was put
 still_none : (q k s : List ℕ) (ms : Members) → bytes_eq q k ≡ false → get_member q ms ≡ None → get_member q (put_text k s ms) ≡ None
 still_none q k s ms h e = put_if_other q k (text_value s) ms h ∙ e
 
@@ -51,7 +51,7 @@ with_subresource ns p = put_text (codes "subresource") p.subresource (with_resou
 abbrev whole : List ℕ → ResourcePoint → Members
 whole ns p = put_text (codes "name") p.name (with_subresource ns p)
 
--- what stands below the resource is found in the whole
+-- the members below the resource are found in the whole
 under_resource : (q : List ℕ) (ns : List ℕ) (p : ResourcePoint) → bytes_eq q (codes "name") ≡ false → bytes_eq q (codes "subresource") ≡ false
     → text_at q (object (whole ns p)) ≡ text_at q (object (with_resource ns p))
 under_resource q ns p h k = under q (codes "name") p.name (with_subresource ns p) h ∙ under q (codes "subresource") p.subresource (with_resource ns p) k
@@ -104,7 +104,7 @@ name_again ns p =
     (still_none (codes "name") (codes "subresource") p.subresource (with_resource ns p) refl
     (still_none (codes "name") (codes "resource") p.resource (with_group ns p) refl (no_text_in_group (codes "name") ns p refl refl refl)))
 
--- nothing stands behind the slash, so what is told as the subresource is it
+-- there is no text behind the slash, so the subresource is the one that is named as such
 told_subresource : (s after : List ℕ) → after ≡ [] → (if length s == 0 then after else s) ≡ s
 told_subresource [] after h = h
 told_subresource (x ∷ s) after h = rw (eqb-suc-zero (length s)) refl

@@ -4,11 +4,11 @@ use Rattle.std.specs.Option.{option_and_then, unwrap_or}
 use Rattle.serde_json.proofs.Views.{get_member-put}
 use Rattle.serde_json.specs.Data.{Data, null, object, string, Members, no_members, put}
 use Rattle.serde_json.specs.Find.{get, get_member}
-use Rattle.kapi_object.proofs.Puts.{put_other}
-use Rattle.kapi_object.specs.Contents.{text_at, text_if}
-use Rattle.kapi_object.specs.Tree.{unless_null}
+use Rattle.kapi_tree.proofs.Puts.{put_other}
+use Rattle.kapi_tree.specs.Contents.{text_at, text_if}
+use Rattle.kapi_tree.specs.Tree.{unless_null}
 use Rattle.kapi_policy.specs.Objects.{PolicyObjects}
-use Rattle.kapi_rbac_types.specs.declared.identity.Identity.{Identity}
+use Rattle.kapi_model.specs.declared.identity.Identity.{Identity}
 use Rattle.kapi_rules.specs.declared.point.ResourcePoint.{ResourcePoint}
 use Rattle.kapi_rules.specs.declared.point.UrlPoint.{UrlPoint}
 use Rattle.kapi_rules.specs.declared.point.Point.TheVariants as point
@@ -88,7 +88,7 @@ top kind = put (codes "kind") (string (kind_text kind)) (put (codes "apiVersion"
 abbrev with_metadata : ReviewKind → List ℕ → Members
 with_metadata kind ns = put (codes "metadata") (object (metadata_members kind ns)) (top kind)
 
--- what stands at `spec` of a review
+-- the value at `spec` of a review
 spec_there : (kind : ReviewKind) (ns : List ℕ) (ms : Members) (status : Data) → at (codes "spec") (review_tree kind ns (object ms) status) ≡ object ms
 unfolding review_tree
 spec_there kind ns ms status =
@@ -100,7 +100,7 @@ question_there : (kind : ReviewKind) (ns : List ℕ) (q : Question) (status : Da
 unfolding question_tree
 question_there kind ns q status = spec_there kind ns _ status
 
--- the namespace that a local review stands in
+-- the namespace that a local review is in
 namespace_there : (kind : ReviewKind) (ns : List ℕ) (spec status : Data) → is_local kind ≡ true → namespace_of (review_tree kind ns spec status) ≡ ns
 unfolding review_tree
 namespace_there kind ns spec status h =

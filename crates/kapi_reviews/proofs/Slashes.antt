@@ -1,12 +1,12 @@
--- What stands before and after the first slash of a text.
+-- The texts before and after the first slash of a text.
 use Rattle.std.proofs.Common.{◌≡◌, ℕ, suc, ◌+◌, List, [], ◌∷◌, length, take, Bool, true, false, not, cond, ◌||◌, ◌==◌, refl, arith}
 use Rattle.std.proofs.Math.Seq.{take-length}
 use Rattle.std.proofs.Math.ListN.{drop_of_length-le}
 use Rattle.std.specs.List.{list_any, position_or_len}
 use Rattle.std.specs.Prelude.{codes, if◌then◌else◌}
 use Rattle.serde_json.specs.Data.{Data}
-use Rattle.kapi_object.specs.Contents.{text_at}
-use Rattle.kapi_rbac_types.specs.declared.identity.Identity.{Identity}
+use Rattle.kapi_tree.specs.Contents.{text_at}
+use Rattle.kapi_model.specs.declared.identity.Identity.{Identity}
 use Rattle.kapi_rules.specs.Points.{HasPlainResource}
 use Rattle.kapi_reviews.specs.declared.kind.ReviewKind.{ReviewKind}
 use Rattle.kapi_reviews.specs.declared.question.Question.{Question}
@@ -57,7 +57,7 @@ whole_position p (x ∷ xs) =
       | false ↦ λ h. let e : position_or_len p xs ≡ length xs = whole_position p xs h in omega (arith, e)
     ]
 
--- what stands before a slash has none to be split at
+-- the text before a slash has none to be split at
 pub before_once : (s : List ℕ) → before_slash (before_slash s) ≡ before_slash s
 before_once s = all_before (before_slash s) (whole_position (λ b. b == 47) (before_slash s) (no_slash_before s))
 

@@ -1,16 +1,16 @@
--- How the answer to a review is written: texts and lists that are empty are left out, unless it is said otherwise.
+-- The text of the answer to a review: texts and lists that are empty are left out, unless a comment says otherwise.
 use Rattle.std.specs.Prelude.{ℕ, List, ◌++◌, length, Bool, false, not, ◌==◌, if◌then◌else◌, Option, Some, None, option_map, codes, decimal}
 use Rattle.std.specs.List.{filter}
 use Rattle.serde_json.specs.Data.{Data, boolean, string, array, object, Members, no_members, put}
-use Rattle.kapi_names.specs.declared.policy_rule.PolicyRule.{PolicyRule}
-use Rattle.kapi_names.specs.Kinds.{role_kind_text}
-use Rattle.kapi_object.specs.Contents.{put_text, put_texts, write_items}
-use Rattle.kapi_object.specs.Tree.{put_if}
+use Rattle.kapi_model.specs.declared.policy_rule.PolicyRule.{PolicyRule}
+use Rattle.kapi_model.specs.Kinds.{role_kind_text}
+use Rattle.kapi_tree.specs.Contents.{put_text, put_texts, write_items}
+use Rattle.kapi_tree.specs.Tree.{put_if}
 use Rattle.kapi_policy.specs.declared.decision.BindingKind.{BindingKind}
 use Rattle.kapi_policy.specs.declared.decision.BindingKind.TheVariants as binding
 use Rattle.kapi_policy.specs.Decided.{Decided, allowed, masters, denied, Granted}
 use Rattle.kapi_policy.specs.Laws.{is_allowed}
-use Rattle.kapi_rbac_types.specs.declared.identity.Identity.{Identity}
+use Rattle.kapi_model.specs.declared.identity.Identity.{Identity}
 use Rattle.kapi_rules.specs.declared.point.Point.{Point}
 use Rattle.kapi_rules.specs.declared.point.Point.TheVariants as point
 use Rattle.kapi_reviews.specs.declared.kind.ReviewKind.{ReviewKind}
@@ -24,7 +24,7 @@ abbrev pub attributes_key : Point → List ℕ
 attributes_key (point.Resource p) = codes "resourceAttributes"
 attributes_key (point.Url p) = codes "nonResourceAttributes"
 
--- the attributes of a point, and of a resource the namespace
+-- the attributes of a point, with the namespace of a resource
 unfoldable pub attributes_members : List ℕ → Point → Members
 attributes_members namespace (point.Resource p) =
     put_text (codes "name") p.name
@@ -35,7 +35,7 @@ attributes_members namespace (point.Resource p) =
     (put_text (codes "namespace") namespace no_members)))))
 attributes_members namespace (point.Url p) = put_text (codes "verb") p.verb (put_text (codes "path") p.path no_members)
 
--- the user and the groups, in a review that tells them
+-- the user and the groups, in a review that names them
 abbrev pub subject_members : ReviewKind → Identity → Members
 subject_members kind identity =
     if tells_subject kind then put_texts (codes "groups") identity.groups (put_text (codes "user") identity.user no_members) else no_members
@@ -47,7 +47,7 @@ question_tree kind q =
 
 -- ---- `status`
 
--- a kind of bindings as objects tell it
+-- a kind of bindings as objects write it
 abbrev pub binding_text : BindingKind → List ℕ
 binding_text binding.RoleBinding = codes "RoleBinding"
 binding_text binding.ClusterRoleBinding = codes "ClusterRoleBinding"
@@ -76,7 +76,7 @@ put_list key ss ms = put key (array (write_items string ss)) ms
 abbrev pub is_url_rule : PolicyRule → Bool
 is_url_rule r = not (length r.non_resource_urls == 0)
 
--- as it is written
+-- a rule of URLs as it is written
 unfoldable pub url_rule_tree : PolicyRule → Data
 url_rule_tree r = object (put_list (codes "verbs") r.verbs (put_list (codes "nonResourceURLs") r.non_resource_urls no_members))
 
@@ -97,7 +97,7 @@ rules_tree rules =
 
 -- ---- the whole
 
--- the namespace of a review that stands in one; there is no other metadata
+-- the namespace of a review that is in one; there is no other metadata
 abbrev pub metadata_members : ReviewKind → List ℕ → Members
 metadata_members kind namespace = if is_local kind then put_text (codes "namespace") namespace no_members else no_members
 

@@ -1,12 +1,12 @@
 -- What is wrong with a review, in the order of its members.
 use Rattle.std.specs.Prelude.{ℕ, List, [], ◌∷◌, ◌++◌, length, Bool, not, ◌||◌, ◌==◌, if◌then◌else◌, Option, Some, None, codes}
 use Rattle.serde_json.specs.Data.{Data, string, object}
-use Rattle.kapi_names.specs.declared.fault.FieldFault.{FieldFault}
-use Rattle.kapi_names.specs.declared.fault.Cause.TheVariants.{Required, NotAllowedHere, WrongType, BadValue}
-use Rattle.kapi_names.specs.declared.row.Schema.TheVariants as schema
-use Rattle.kapi_names.specs.Cause.{fault}
-use Rattle.kapi_object.specs.Tree.{member_of, metadata_member}
-use Rattle.kapi_object.specs.Contents.{text_if}
+use Rattle.kapi_model.specs.declared.fault.FieldFault.{FieldFault}
+use Rattle.kapi_model.specs.declared.fault.FaultKind.TheVariants.{Required, NotAllowedHere, WrongType, BadValue}
+use Rattle.kapi_model.specs.declared.row.Schema.TheVariants as schema
+use Rattle.kapi_model.specs.FaultKind.{fault}
+use Rattle.kapi_tree.specs.Tree.{member_of, metadata_member}
+use Rattle.kapi_tree.specs.Contents.{text_if}
 use Rattle.kapi_admission.specs.declared.text_rule.TextRule.{TextRule}
 use Rattle.kapi_admission.specs.declared.text_rule.TextRule.TheVariants as rule
 use Rattle.kapi_admission.specs.declared.typed_list.Need.TheVariants as need
@@ -18,15 +18,15 @@ use Rattle.kapi_reviews.specs.Kinds.{asks_rules, is_local, tells_subject}
 
 -- ---- members of attributes
 
--- where the attributes of a resource stand
+-- the path of the attributes of a resource
 abbrev pub resource_path : List ℕ
 resource_path = codes "spec.resourceAttributes"
 
--- where those of a path stand
+-- the path of the attributes of a URL
 abbrev pub url_path : List ℕ
 url_path = codes "spec.nonResourceAttributes"
 
--- what is wrong with a value where a text may stand that was found right or not
+-- what is wrong with a value where a text may be that was found right or not
 unfoldable pub judged_faults : Bool → List ℕ → Option Data → List FieldFault
 judged_faults right field None = []
 judged_faults right field (Some (string s)) = if right then [] else fault field BadValue ∷ []
@@ -84,12 +84,12 @@ abbrev pub given_url_faults : Data → List FieldFault
 given_url_faults (object ms) = url_member_faults (object ms)
 given_url_faults _ = fault url_path WrongType ∷ []
 
--- what is wrong with the attributes of a path; where they may not be, nothing in them is looked at
+-- what is wrong with the attributes of a path; where they may not be, their members are not checked
 unfoldable pub url_faults : Bool → Option Data → List FieldFault
 url_faults forbidden None = []
 url_faults forbidden (Some d) = if forbidden then fault url_path NotAllowedHere ∷ [] else given_url_faults d
 
--- a user must be told where no group is
+-- a user must be named where no group is
 abbrev pub user_rule : Data → TextRule
 user_rule spec = if is_given (member_of (codes "groups") spec) then rule.Any else rule.NotEmpty
 
@@ -106,24 +106,24 @@ access_faults kind namespace spec =
     ++ url_faults (forbids_url kind spec) (member_of (codes "nonResourceAttributes") spec)
     ++ (if tells_subject kind then subject_faults spec else [])
 
--- what is wrong with the members of `spec`; a review of rules tells a namespace
+-- what is wrong with the members of `spec`; a review of rules names a namespace
 abbrev pub spec_member_faults : ReviewKind → List ℕ → Data → List FieldFault
 spec_member_faults kind namespace spec =
     if asks_rules kind then text_faults_at rule.NotEmpty (codes "spec") (codes "namespace") spec else access_faults kind namespace spec
 
 -- ---- reviews
 
--- what is wrong with a `spec`, in a review that stands in the namespace
+-- what is wrong with a `spec`, in a review in the namespace
 abbrev pub given_spec_faults : ReviewKind → List ℕ → Data → List FieldFault
 given_spec_faults kind namespace (object ms) = spec_member_faults kind namespace (object ms)
 given_spec_faults kind namespace _ = fault (codes "spec") WrongType ∷ []
 
--- the same where there may be none
+-- what is wrong with a `spec` that may be missing
 unfoldable pub spec_faults : ReviewKind → List ℕ → Option Data → List FieldFault
 spec_faults kind namespace None = fault (codes "spec") Required ∷ []
 spec_faults kind namespace (Some d) = given_spec_faults kind namespace d
 
--- the namespace that a review stands in
+-- the namespace that a review is in
 abbrev pub namespace_of : Data → List ℕ
 namespace_of tree = text_if (metadata_member (codes "namespace") tree)
 

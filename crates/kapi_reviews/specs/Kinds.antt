@@ -4,14 +4,14 @@ use Rattle.std.specs.Str.{bytes_eq}
 use Rattle.kapi_reviews.specs.declared.kind.ReviewKind.{ReviewKind}
 use Rattle.kapi_reviews.specs.declared.kind.ReviewKind.TheVariants as kind
 
--- a kind as objects tell it
+-- a kind as objects write it
 abbrev pub kind_text : ReviewKind → List ℕ
 kind_text kind.SelfSubjectAccessReview = codes "SelfSubjectAccessReview"
 kind_text kind.SubjectAccessReview = codes "SubjectAccessReview"
 kind_text kind.LocalSubjectAccessReview = codes "LocalSubjectAccessReview"
 kind_text kind.SelfSubjectRulesReview = codes "SelfSubjectRulesReview"
 
--- the kind that a text tells, if any
+-- the kind that a text names, if any
 abbrev pub kind_of : List ℕ → Option ReviewKind
 kind_of s =
     if bytes_eq s (codes "SelfSubjectAccessReview") then Some kind.SelfSubjectAccessReview
@@ -25,12 +25,12 @@ abbrev pub asks_rules : ReviewKind → Bool
 asks_rules kind.SelfSubjectRulesReview = true
 asks_rules _ = false
 
--- a review that stands in a namespace
+-- a review that is in a namespace
 abbrev pub is_local : ReviewKind → Bool
 is_local kind.LocalSubjectAccessReview = true
 is_local _ = false
 
--- a review that tells a user and groups; each other asks for whoever asks
+-- a review that names a user and groups; each other is about the caller
 abbrev pub tells_subject : ReviewKind → Bool
 tells_subject kind.SubjectAccessReview = true
 tells_subject kind.LocalSubjectAccessReview = true

@@ -1,9 +1,9 @@
--- What a review of access asks: of whom, in which namespace, and which point.
+-- What a review of access asks: about which identity, in which namespace, and which point.
 use Rattle.std.specs.Prelude.{ℕ, List, [], if◌then◌else◌, codes, unwrap_or}
 use Rattle.serde_json.specs.Data.{Data, null}
-use Rattle.kapi_object.specs.Contents.{text_at, texts_at}
-use Rattle.kapi_object.specs.Tree.{member_of}
-use Rattle.kapi_rbac_types.specs.declared.identity.Identity.{Identity}
+use Rattle.kapi_tree.specs.Contents.{text_at, texts_at}
+use Rattle.kapi_tree.specs.Tree.{member_of}
+use Rattle.kapi_model.specs.declared.identity.Identity.{Identity}
 use Rattle.kapi_rules.specs.declared.point.Point.{Point}
 use Rattle.kapi_rules.specs.declared.point.Point.TheVariants as point
 use Rattle.kapi_reviews.specs.declared.kind.ReviewKind.{ReviewKind}
@@ -15,12 +15,12 @@ use Rattle.kapi_reviews.specs.Kinds.{is_local, tells_subject}
 abbrev pub at : List ℕ → Data → Data
 at key d = unwrap_or (member_of key d) null
 
--- whoever asks, or the user and the groups that the review tells, with nothing added
+-- the caller, or the user and the groups that the review names, with nothing added
 abbrev pub asked_identity : ReviewKind → Identity → Data → Identity
 asked_identity kind caller spec =
     if tells_subject kind then record { user = text_at (codes "user") spec; groups = texts_at (codes "groups") spec } else caller
 
--- the namespace that the attributes tell, in a local review the one that it stands in
+-- the namespace that the attributes name, in a local review the one that it is in
 abbrev pub asked_namespace : ReviewKind → List ℕ → Data → List ℕ
 asked_namespace kind namespace d = if is_local kind then namespace else text_at (codes "namespace") d
 

@@ -1,11 +1,11 @@
--- What a review is answered.
+-- The answers to reviews.
 use Rattle.std.specs.Prelude.{ℕ, List, length, ◌==◌, if◌then◌else◌, Option, Some, None, Result, Ok, Err, codes}
 use Rattle.serde_json.specs.Data.{Data, object, no_members}
-use Rattle.kapi_names.specs.declared.fault.FieldFault.{FieldFault}
-use Rattle.kapi_object.specs.Contents.{text_at, put_text}
+use Rattle.kapi_model.specs.declared.fault.FieldFault.{FieldFault}
+use Rattle.kapi_tree.specs.Contents.{text_at, put_text}
 use Rattle.kapi_policy.specs.Decided.{decided, held}
 use Rattle.kapi_policy.specs.Objects.{PolicyObjects}
-use Rattle.kapi_rbac_types.specs.declared.identity.Identity.{Identity}
+use Rattle.kapi_model.specs.declared.identity.Identity.{Identity}
 use Rattle.kapi_reviews.specs.declared.kind.ReviewKind.{ReviewKind}
 use Rattle.kapi_reviews.specs.declared.question.Question.{Question}
 use Rattle.kapi_reviews.specs.declared.review_error.ReviewError.{ReviewError}
@@ -15,7 +15,7 @@ use Rattle.kapi_reviews.specs.Faults.{namespace_of, review_faults}
 use Rattle.kapi_reviews.specs.Kinds.{asks_rules}
 use Rattle.kapi_reviews.specs.Questions.{at, question}
 
--- the faults that an error tells; want of memory is none
+-- the faults that an error reports; running out of memory is none
 abbrev pub told : ReviewError → Option (List FieldFault)
 told (error.Invalid faults) = Some faults
 told error.Memory = None
@@ -28,7 +28,7 @@ decided_of objects q = decision_tree (decided objects q.identity q.namespace q.p
 unfoldable pub access_answer : PolicyObjects → ReviewKind → List ℕ → Question → Data
 access_answer objects kind namespace q = review_tree kind namespace (question_tree kind q) (decided_of objects q)
 
--- the answer to a review of rules: the namespace, and what whoever asks holds there
+-- the answer to a review of rules: the namespace, and the rules that the caller holds there
 unfoldable pub rules_answer : PolicyObjects → Identity → ReviewKind → List ℕ → List ℕ → Data
 rules_answer objects caller kind namespace asked =
     review_tree kind namespace (object (put_text (codes "namespace") asked no_members)) (rules_tree (held objects caller asked))
@@ -37,7 +37,7 @@ rules_answer objects caller kind namespace asked =
 abbrev pub asked : ReviewKind → Identity → Data → Question
 asked kind caller tree = question kind (namespace_of tree) caller (at (codes "spec") tree)
 
--- the answer to a review without faults that stands in the namespace
+-- the answer to a review without faults in the namespace
 unfoldable pub spec_answer : PolicyObjects → Identity → ReviewKind → List ℕ → Data → Data
 spec_answer objects caller kind namespace spec =
     if asks_rules kind then rules_answer objects caller kind namespace (text_at (codes "namespace") spec)

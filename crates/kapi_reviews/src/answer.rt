@@ -1,4 +1,4 @@
-//! How the answer to a review is written.
+//! The text of the answer to a review.
 ghost use Rattle.std.specs.Prelude.{◌≡◌, IfOk, OnOk};
 ghost use Rattle.serde_json.specs.View.{view, members_view};
 ghost use Rattle.kapi_policy.specs.Views.{decision_of};
@@ -7,11 +7,11 @@ ghost use Rattle.kapi_reviews.specs.Answers as written;
 use crate::kind::ReviewKind;
 use crate::question::Question;
 use crate::reasons::reason;
-use kapi_object::tree_form::{put_text, put_texts, text_value};
+use kapi_model::Identity;
 use kapi_policy::Decision;
-use kapi_rbac_types::Identity;
 use kapi_rules::{Point, ResourcePoint, UrlPoint};
 use kapi_text::Memory;
+use kapi_tree::tree_form::{put_text, put_texts, text_value};
 use serde_json::{Map, Value, put};
 use std::alloc::Global;
 
@@ -61,7 +61,7 @@ fn url_members(
     Ok(members)
 }
 
-/// The attributes of a point, and of a resource the namespace.
+/// The attributes of a point, with the namespace of a resource.
 fn attributes_members(
     alloc: Global,
     namespace: &str,
@@ -75,7 +75,7 @@ fn attributes_members(
     }
 }
 
-/// The user and the groups, in a review that tells them.
+/// The user and the groups, in a review that names them.
 fn subject_members(
     alloc: Global,
     kind: ReviewKind,
@@ -126,7 +126,7 @@ pub fn decision_tree(alloc: Global, decision: &Decision<'_>) -> Result<Value, Me
     Ok(Value::Object(members))
 }
 
-/// The namespace of a review that stands in one.
+/// The namespace of a review that is in one.
 fn metadata_members(
     alloc: Global,
     kind: ReviewKind,

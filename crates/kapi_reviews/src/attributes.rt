@@ -1,23 +1,23 @@
-//! What the attributes of a review tell.
+//! What the attributes of a review specify.
 ghost use Rattle.std.specs.Prelude.{◌≡◌, option_map};
 ghost use Rattle.std.specs.List.{after_first, before_first};
 ghost use Rattle.serde_json.specs.View.{view};
-ghost use Rattle.kapi_object.specs.Tree.{member_of};
+ghost use Rattle.kapi_tree.specs.Tree.{member_of};
 ghost use Rattle.kapi_reviews.specs.Attributes as told;
 
 use crate::kind::ReviewKind;
 use kapi_admission::table_faults::text_in;
-use kapi_object::member;
+use kapi_tree::member;
 use serde_json::Value;
 
-/// Whether something stands at a key.
+/// Whether a key has a value.
 pub fn has(tree: &Value, key: &str) -> bool
     ensures { result ≡ told.has key.now (view tree.now) }
 {
     member(tree, key).is_some()
 }
 
-/// Whether something stands at a key, and is not the empty text.
+/// Whether a key has a value that is not the empty text.
 fn is_told(tree: &Value, key: &str) -> bool
     ensures { result ≡ told.is_told (member_of key.now (view tree.now)) }
 {
@@ -34,7 +34,7 @@ fn has_slash(text: &str) -> bool
     text.as_bytes().iter().any(|byte| *byte == b'/')
 }
 
-/// What stands before the first slash, and what after it.
+/// The text before the first slash, and the text after it.
 #[tactic(auto, using(crate::proofs::Slashes::all_before, crate::proofs::Slashes::none_after))]
 fn split_at_slash(text: &str) -> (&str, &str)
     ensures before { result.0.now ≡ told.before_slash text.now }
@@ -60,7 +60,7 @@ pub fn resource_and_subresource(attributes: &Value) -> (&str, &str)
     }
 }
 
-/// Whether the resource has no slash, or one where no subresource is told.
+/// Whether the resource has no slash, or one where no subresource is named.
 pub fn is_right_resource(attributes: &Value) -> bool
     ensures { result ≡ told.is_right_resource (view attributes.now) }
 {
@@ -76,7 +76,7 @@ pub fn is_right_subresource(attributes: &Value) -> bool
     !has_slash(text_in(attributes, "subresource"))
 }
 
-/// Whether the namespace of a local review is the one that it stands in, where any is told.
+/// Whether the namespace of a local review is the one that it is in, where any is named.
 pub fn is_right_namespace(kind: ReviewKind, namespace: &str, attributes: &Value) -> bool
     ensures { result ≡ told.is_right_namespace kind namespace.now (view attributes.now) }
 {

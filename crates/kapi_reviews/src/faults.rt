@@ -1,8 +1,8 @@
 //! What is wrong with a review, in the order of its members.
 ghost use Rattle.std.specs.Prelude.{◌≡◌, ◌++◌, ◌∷◌, [], codes, IfOk, OnOk};
 ghost use Rattle.serde_json.specs.View.{view};
-ghost use Rattle.kapi_names.specs.Cause.{fault};
-ghost use Rattle.kapi_object.specs.Tree.{member_of};
+ghost use Rattle.kapi_model.specs.FaultKind.{fault};
+ghost use Rattle.kapi_tree.specs.Tree.{member_of};
 ghost use Rattle.kapi_reviews.specs.Faults as wrong;
 
 use crate::attributes::{has, is_right_namespace, is_right_resource, is_right_subresource};
@@ -10,17 +10,17 @@ use crate::kind::ReviewKind;
 use kapi_admission::collect_faults;
 use kapi_admission::text_rule::{TextRule, push_text_faults_at};
 use kapi_admission::typed_list::{Need, is_given, push_list_faults_at};
-use kapi_names::{Cause, FieldFault, Schema};
-use kapi_object::member;
-use kapi_object::tree::member_of_metadata;
+use kapi_model::{FaultKind, FieldFault, Schema};
 use kapi_text::{Memory, Text};
+use kapi_tree::member;
+use kapi_tree::tree::member_of_metadata;
 use serde_json::Value;
 use std::alloc::Global;
 
-/// Where the attributes of a resource stand.
+/// The path of the attributes of a resource.
 const RESOURCE: &str = "spec.resourceAttributes";
 
-/// Where those of a path stand.
+/// The path of the attributes of a URL.
 const URL: &str = "spec.nonResourceAttributes";
 
 /// Adds a fault.
@@ -28,7 +28,7 @@ fn push_fault(
     alloc: Global,
     faults: &mut Vec<FieldFault>,
     field: &str,
-    cause: Cause,
+    cause: FaultKind,
 ) -> Result<(), Memory>
     ensures { OnOk result (faults.new.items ≡ faults.old.items ++ fault field.now cause ∷ []) }
 {
@@ -37,7 +37,7 @@ fn push_fault(
     Ok(())
 }
 
-/// Adds a fault where another value than a text stands at a key, or a text that was not found right.
+/// Adds a fault where a key has another value than a text, or a text that was not found right.
 #[tactic(auto, unfolding(crate::specs::Faults::judged_faults))]
 fn push_judged_faults(
     alloc: Global,
@@ -55,10 +55,10 @@ fn push_judged_faults(
             if is_right {
                 Ok(())
             } else {
-                push_fault(alloc, faults, field, Cause::BadValue)
+                push_fault(alloc, faults, field, FaultKind::BadValue)
             }
         }
-        Some(_other) => push_fault(alloc, faults, field, Cause::WrongType),
+        Some(_other) => push_fault(alloc, faults, field, FaultKind::WrongType),
         None => Ok(()),
     }
 }
@@ -160,7 +160,7 @@ fn push_given_resource_faults(
     if tree.is_object() {
         push_resource_member_faults(alloc, faults, kind, namespace, tree)
     } else {
-        push_fault(alloc, faults, RESOURCE, Cause::WrongType)
+        push_fault(alloc, faults, RESOURCE, FaultKind::WrongType)
     }
 }
 
@@ -180,7 +180,7 @@ fn push_resource_faults(
         return push_given_resource_faults(alloc, faults, kind, namespace, tree);
     }
     if needs_resource(kind, spec) {
-        return push_fault(alloc, faults, RESOURCE, Cause::Required);
+        return push_fault(alloc, faults, RESOURCE, FaultKind::Required);
     }
     Ok(())
 }
@@ -202,7 +202,7 @@ fn push_given_url_faults(
     if tree.is_object() {
         push_url_member_faults(alloc, faults, tree)
     } else {
-        push_fault(alloc, faults, URL, Cause::WrongType)
+        push_fault(alloc, faults, URL, FaultKind::WrongType)
     }
 }
 
@@ -221,13 +221,13 @@ fn push_url_faults(
         return Ok(());
     };
     if forbids_url(kind, spec) {
-        push_fault(alloc, faults, URL, Cause::NotAllowedHere)
+        push_fault(alloc, faults, URL, FaultKind::NotAllowedHere)
     } else {
         push_given_url_faults(alloc, faults, tree)
     }
 }
 
-/// A user must be told where no group is.
+/// The rule of the user: one must be named where no group is.
 fn user_rule(spec: &Value) -> TextRule
     ensures { result ≡ wrong.user_rule (view spec.now) }
 {
@@ -302,7 +302,7 @@ fn push_given_spec_faults(
     if spec.is_object() {
         push_spec_member_faults(alloc, faults, kind, namespace, spec)
     } else {
-        push_fault(alloc, faults, "spec", Cause::WrongType)
+        push_fault(alloc, faults, "spec", FaultKind::WrongType)
     }
 }
 
@@ -319,11 +319,11 @@ fn push_spec_faults(
 {
     match member(tree, "spec") {
         Some(spec) => push_given_spec_faults(alloc, faults, kind, namespace_of(tree), spec),
-        None => push_fault(alloc, faults, "spec", Cause::Required),
+        None => push_fault(alloc, faults, "spec", FaultKind::Required),
     }
 }
 
-/// The namespace that a review stands in; the empty text where it tells none.
+/// The namespace that a review is in; the empty text where it names none.
 pub fn namespace_of(tree: &Value) -> &str
     ensures { result.now ≡ wrong.namespace_of (view tree.now) }
 {

@@ -1,13 +1,13 @@
 /// The four kinds of reviews.
 #[derive(Clone, Copy, Debug, PartialEq, Eq)]
 pub enum ReviewKind {
-    /// Whether whoever asks may do something.
+    /// Asks whether the caller may do something.
     SelfSubjectAccessReview,
-    /// Whether a user with some groups may do something.
+    /// Asks whether a user with some groups may do something.
     SubjectAccessReview,
-    /// The same in the namespace of the review.
+    /// Asks whether a user with some groups may do something in the namespace of the review.
     LocalSubjectAccessReview,
-    /// The rules that whoever asks holds in a namespace.
+    /// Asks for the rules that the caller holds in a namespace.
     SelfSubjectRulesReview,
 }
 
@@ -15,7 +15,7 @@ impl ReviewKind {
     ghost use Rattle.std.specs.Prelude.{◌≡◌};
     ghost use Rattle.kapi_reviews.specs.Kinds as kinds;
 
-    /// The kind as objects tell it.
+    /// The kind as objects write it.
     pub fn as_str(self) -> &'static str
         ensures { result.now ≡ kinds.kind_text self }
     {
@@ -27,7 +27,7 @@ impl ReviewKind {
         }
     }
 
-    /// The kind that a text tells, if any.
+    /// The kind that a text names, if any.
     pub fn read(text: &str) -> Option<ReviewKind>
         ensures { result ≡ kinds.kind_of text.now }
     {
@@ -50,7 +50,7 @@ impl ReviewKind {
         }
     }
 
-    /// Whether the review stands in a namespace.
+    /// Whether the review is in a namespace.
     pub fn is_local(self) -> bool
         ensures { result ≡ kinds.is_local self }
     {
@@ -60,7 +60,7 @@ impl ReviewKind {
         }
     }
 
-    /// Whether the review tells a user and groups.
+    /// Whether the review names a user and groups.
     pub fn tells_subject(self) -> bool
         ensures { result ≡ kinds.tells_subject self }
     {

@@ -2,20 +2,20 @@
 ghost use Rattle.std.specs.Prelude.{◌≡◌, false, Some, Ok};
 ghost use Rattle.serde_json.specs.Data.{Data, boolean};
 ghost use Rattle.kapi_policy.specs.Objects.{PolicyObjects};
-ghost use Rattle.kapi_rbac_types.specs.declared.identity.Identity.{Identity};
+ghost use Rattle.kapi_model.specs.declared.identity.Identity.{Identity};
 ghost use Rattle.kapi_rules.specs.Points.{HasPlainResource};
 ghost use Rattle.kapi_reviews.specs.declared.kind.ReviewKind.{ReviewKind};
 ghost use Rattle.kapi_reviews.specs.Kinds.{asks_rules};
 ghost use Rattle.kapi_reviews.specs.Laws.{may, said};
 ghost use Rattle.kapi_reviews.specs.Reviews.{asked, reviewed};
 
-/// The resource that a review asks about never has a slash, whatever the review tells.
+/// The resource that a review asks about never has a slash, whatever the review specifies.
 pub fn the_resource_that_is_asked_about_has_no_slash()
     ensures { (kind : ReviewKind) (caller : Identity) (tree : Data) → HasPlainResource (asked kind caller tree).point }
 {}
 
-/// A review of access says that what it asks is allowed just where whoever it asks about is of the group `system:masters`, or a rule that
-/// he holds there allows it.
+/// A review of access says that what it asks is allowed just where the identity that it asks about is of the group
+/// `system:masters`, or holds a rule there that allows it.
 pub fn what_is_held_is_said_to_be_allowed()
     ensures { (objects : PolicyObjects) (caller : Identity) (kind : ReviewKind) (tree d : Data)
         → asks_rules kind ≡ false → reviewed objects caller kind tree ≡ Ok d

@@ -1,5 +1,5 @@
-//! Reviews: whether somebody may do something, and by which rule; and the rules that whoever asks holds (Kubernetes API,
-//! authorization.k8s.io/v1).
+//! Reviews: whether an identity may do something, and by which rule; and the rules that the caller holds (Kubernetes
+//! API, authorization.k8s.io/v1).
 #![tactic(auto)]
 
 mod answer;

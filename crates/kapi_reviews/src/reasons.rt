@@ -35,7 +35,8 @@ fn grant_text(alloc: Global, grant: &Grant<'_>) -> Result<String, Memory>
     Ok(text)
 }
 
-/// Why the point is allowed, if it is: by `RoleBinding BINDING, ROLE-KIND ROLE, rule INDEX`, or by `group system:masters`.
+/// Why the point is allowed, if it is: by `RoleBinding BINDING, ROLE-KIND ROLE, rule INDEX`, or by `group
+/// system:masters`.
 pub fn reason(alloc: Global, decision: &Decision<'_>) -> Result<Option<Text>, Memory>
     ensures { IfOk result (λ o. o ≡ written.reason_of (decision_of decision.now)) }
 {

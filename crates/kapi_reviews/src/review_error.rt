@@ -1,6 +1,6 @@
 ghost use Rattle.std.specs.Prelude.{◌≡◌};
 
-use kapi_names::FieldFault;
+use kapi_model::FieldFault;
 use kapi_text::Sequence;
 use std::alloc::AllocError;
 use thiserror::Error;
@@ -11,7 +11,7 @@ pub enum ReviewError {
     /// Members of the review are at fault: each fault in order.
     #[error("the review is invalid")]
     Invalid(Sequence<FieldFault>),
-    #[error("want of memory")]
+    #[error("out of memory")]
     Memory,
 }
 

@@ -1,10 +1,10 @@
 //! Reviews and their answers.
 ghost use Rattle.std.specs.Prelude.{◌≡◌, IfOk, codes};
 ghost use Rattle.serde_json.specs.Data.{object, no_members};
-ghost use Rattle.kapi_object.specs.Contents.{put_text, text_at};
+ghost use Rattle.kapi_tree.specs.Contents.{put_text, text_at};
 ghost use Rattle.serde_json.specs.View.{view};
 ghost use Rattle.kapi_text.specs.Gives.{Gives};
-ghost use Rattle.kapi_object.specs.Object.{tree_of};
+ghost use Rattle.kapi_tree.specs.Object.{tree_of};
 ghost use Rattle.kapi_reviews.specs.Questions as asks;
 ghost use Rattle.kapi_reviews.specs.Reviews as answers;
 ghost use Rattle.kapi_reviews.specs.Reviews.{reviewed, told};
@@ -16,11 +16,11 @@ use crate::question::read_question;
 use crate::review_error::ReviewError;
 use crate::rules::rules_tree;
 use kapi_admission::table_faults::text_in;
-use kapi_object::tree_form::put_text;
-use kapi_object::{Object, member};
+use kapi_model::Identity;
 use kapi_policy::Policy;
-use kapi_rbac_types::Identity;
 use kapi_text::{Memory, Sequence};
+use kapi_tree::tree_form::put_text;
+use kapi_tree::{Object, member};
 use serde_json::{Map, Value};
 use std::alloc::Global;
 
@@ -56,7 +56,7 @@ fn namespace_tree(alloc: Global, namespace: &str) -> Result<Value, Memory>
     Ok(Value::Object(members))
 }
 
-/// The answer to a review of rules: the namespace, and what whoever asks holds there.
+/// The answer to a review of rules: the namespace, and the rules that the caller holds there.
 #[tactic(auto, unfolding(crate::specs::Reviews::rules_answer))]
 fn rules_answer<P: Policy>(
     alloc: Global,
@@ -94,9 +94,9 @@ fn answer<P: Policy>(
     }
 }
 
-/// The answer to a review that `caller` makes, or the whole list of its faults in order. A local review stands in the namespace that
-/// its metadata tells. The answer is an object of its own: `spec` has what was understood of the review, and `status` the answer; what
-/// else the review had is left out. Nothing is changed.
+/// The answer to a review that `caller` makes, or the whole list of its faults in order. A local review is in the
+/// namespace that its metadata names. The answer is an object of its own: `spec` has what was understood of the review,
+/// and `status` the answer; all else of the review is left out. Nothing is changed.
 #[tactic(auto, unfolding(crate::specs::Reviews::reviewed), using(crate::proofs::Written::answer_has_no_float, crate::proofs::Written::answer_in_order))]
 pub fn review<P: Policy>(
     alloc: Global,

@@ -1,4 +1,4 @@
--- What stands before the first element that passes a test, from its position.
+-- The elements before the first one that passes a test, from its position.
 use Rattle.std.proofs.Common.{◌≡◌, ℕ, Bool, true, false, cond, List, length, take, Some, None, refl, sym, ap}
 use Rattle.std.specs.List.{position, position_or_len, before_first}
 use Rattle.std.proofs.Math.Dec.{ltb}

@@ -1,4 +1,4 @@
--- What the header fields of a request must keep.
+-- The rules that the header fields of a request must keep.
 use Rattle.std.specs.Prelude.{ℕ, ◌==◌, Bool, true, false, not, ◌&&◌, ◌||◌, if◌then◌else◌, List, find, codes, Option, Some, None, Result, Ok, Err}
 use Rattle.std.specs.List.{list_all, before_first}
 use Rattle.std.specs.Str.{str_eq_ignore_ascii_case}
@@ -19,7 +19,7 @@ is_uncoded h = not (is_named (codes "content-encoding") h) || str_eq_ignore_asci
 abbrev pub media_type : List ℕ → List ℕ
 media_type value = trim_ows (before_first (λ b. b == 59) value)
 
--- the first field that tells the media type (RFC 9110 section 8.3)
+-- the first field that names the media type (RFC 9110 section 8.3)
 abbrev pub content_type : List Header → Option Header
 content_type headers = find (is_named (codes "content-type")) headers
 
@@ -45,7 +45,7 @@ is_merge_patch_type (Some h) = is_of_type (codes "application/merge-patch+json")
 abbrev pub is_merge_patch : List Header → Bool
 is_merge_patch headers = is_merge_patch_type (content_type headers)
 
--- the body has the type that the method reads; a read and a deletion look at none
+-- the body has the type that the method reads; for a read and a deletion the type is not checked
 unfoldable pub is_typed : Method → List Header → Bool
 is_typed Get headers = true
 is_typed Post headers = is_json headers

@@ -1,12 +1,12 @@
--- What the query of a request may ask for (Kubernetes, 'Kubernetes API Concepts', 'Dry-run' and 'Resource versions'; 'Labels and
--- Selectors'; 'Field Selectors').
+-- What the query of a request may ask for (Kubernetes, 'Kubernetes API Concepts', 'Dry-run' and 'Resource versions';
+-- 'Labels and Selectors'; 'Field Selectors').
 use Rattle.std.specs.Prelude.{ℕ, ◌==◌, Bool, not, ◌&&◌, nat_le, nat_lt, if◌then◌else◌, List, [], length, codes, unwrap_or, Option, Some, None, Result, Ok, Err, ok_or}
 use Rattle.std.specs.Char.{is_ascii_digit}
 use Rattle.std.specs.List.{list_all}
 use Rattle.std.specs.Str.{bytes_eq}
 use Rattle.std.specs.Str.Parse.{digits_value}
-use Rattle.kapi_names.specs.SelectorText.{Fault, selector_of}
-use Rattle.kapi_names.specs.declared.selector.Selector.{Selector}
+use Rattle.kapi_model.specs.SelectorText.{Fault, selector_of}
+use Rattle.kapi_model.specs.declared.selector.Selector.{Selector}
 use Rattle.kapi_reply.specs.Refusals.{asked_for}
 use Rattle.kapi_reply.specs.declared.refusal.BadWord.TheVariants as word
 use Rattle.kapi_reply.specs.declared.refusal.Refusal.TheVariants as refusal
@@ -23,15 +23,15 @@ use Rattle.kapi_text.specs.Gives.{◌>>=◌}
 unfoldable pub asked : List QueryPair → List ℕ → List ℕ
 asked query key = unwrap_or (query_value query key) []
 
--- what is asked for is not served
+-- the refusal of an option that is not served
 abbrev pub bad_option : Refused
 bad_option = asked_for (refusal.BadRequest word.Option)
 
--- what is asked for cannot be read
+-- the refusal of a query that cannot be read
 abbrev pub bad_query : Refused
 bad_query = asked_for (refusal.BadRequest word.Query)
 
--- that something is not asked for
+-- refused where the flag says that the option is set
 abbrev pub unless : Bool → Refused → Result (Unit {0}) Refused
 unless asked refused = if asked then Err refused else Ok tt
 
@@ -59,14 +59,14 @@ is_other_match text = nat_lt 0 (length text) && not (bytes_eq text (codes "NotOl
 unfoldable pub no_other_match : List QueryPair → Result (Unit {0}) Refused
 no_other_match query = unless (is_other_match (asked query (codes "resourceVersionMatch"))) bad_option
 
--- a list is told at once, and as it stands
+-- a list is answered at once, and as it is
 unfoldable pub whole_list : List QueryPair → Result (Unit {0}) Refused
 whole_list query = do
   c ← no_continuation query
   i ← no_initial_events query
   no_other_match query
 
--- the label selector that was read
+-- the label selector that was read, or its refusal
 abbrev pub selector_or_refused : Result Selector Fault → Result Selector Refused
 selector_or_refused (Ok selector) = Ok selector
 selector_or_refused (Err fault) = Err bad_query
@@ -75,11 +75,11 @@ selector_or_refused (Err fault) = Err bad_query
 unfoldable pub selector_asked : List QueryPair → Result Selector Refused
 selector_asked query = selector_or_refused (selector_of (asked query (codes "labelSelector")))
 
--- the name that a field selector selects; all where it is empty
+-- the name that a field selector selects; the filter of all names where it is empty
 unfoldable pub name_selected : List ℕ → Result (List ℕ) Refused
 name_selected text = if length text == 0 then Ok [] else ok_or (selected_name text) bad_query
 
--- the name that is asked for; all where it is empty
+-- the name that is asked for; all names where it is empty
 unfoldable pub name_asked : List QueryPair → Result (List ℕ) Refused
 name_asked query = name_selected (asked query (codes "fieldSelector"))
 
@@ -90,7 +90,7 @@ filtered query = do
   name ← name_asked query
   Ok (record { selector = selector; name = name; since = 0 })
 
--- all of them
+-- the filter of all objects
 abbrev pub everything : Filter
 everything = record { selector = record { match_labels = []; match_expressions = [] }; name = []; since = 0 }
 
@@ -98,20 +98,20 @@ everything = record { selector = record { match_labels = []; match_expressions =
 abbrev pub revision : List ℕ → Option ℕ
 revision text = if nat_lt 0 (length text) && (nat_le (length text) 15 && list_all is_ascii_digit text) then Some (digits_value 10 text) else None
 
--- a revision that is reached
+-- a revision that was reached
 abbrev pub reached : ℕ → ℕ → Result (Unit {0}) Refused
 reached current asked = if nat_le asked current then Ok tt else Err (asked_for (refusal.NotYetReached (record { asked = asked; current = current })))
 
--- the same, where it is one
+-- a revision that was reached, where a query value is one
 abbrev pub reached_if : ℕ → Option ℕ → Result (Unit {0}) Refused
 reached_if current None = Err bad_query
 reached_if current (Some asked) = reached current asked
 
--- the revision that a text asks for; an empty one asks for none
+-- the revision that a text asks for was reached; an empty text asks for none
 unfoldable pub version_reached : ℕ → List ℕ → Result (Unit {0}) Refused
 version_reached current text = if length text == 0 then Ok tt else reached_if current (revision text)
 
--- the same, of a query
+-- the revision that a query asks for was reached
 abbrev pub version_asked : ℕ → List QueryPair → Result (Unit {0}) Refused
 version_asked current query = version_reached current (asked query (codes "resourceVersion"))
 
@@ -127,7 +127,7 @@ listed current query = do
 unfoldable pub revision_asked : List QueryPair → ℕ
 revision_asked query = unwrap_or (revision (asked query (codes "resourceVersion"))) 0
 
--- a watch: what a list may be asked for, and the revision from which on changes are shown
+-- a watch: the filter of a list, and the revision from which on changes are shown
 unfoldable pub watched : ℕ → List QueryPair → Result Filter Refused
 watched current query = do
   filter ← listed current query

@@ -16,6 +16,6 @@ abbrev pub route_data : Route → Routed
 route_data route.Health = health
 route_data (route.Resource r) = resource (resource_data r)
 
--- what was found is what the definition gives
+-- what was found is what the definition returns
 abbrev pub Routes : Result Route Refused → Result Routed Refused → Type 0
 Routes result given = Gives (λ e. Some e) route_data result given

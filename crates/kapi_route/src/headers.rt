@@ -4,11 +4,12 @@ ghost use Rattle.std.specs.List.{list_all, before_first};
 ghost use Rattle.kapi_route.specs.Headers as fields;
 ghost use Rattle.kapi_route.specs.Headers.{media_typed};
 
-use kapi_http::{Header, Method, is_same, trimmed};
+use kapi_http::{Header, Method, eq_ignore_ascii_case, trim_ows};
 use kapi_reply::{Refusal, Refused};
 use kapi_request_info::is_named;
 
-/// The body's encoding and media type (RFC 9110 sections 8.3 and 8.4): no coding but `identity`, and the type that the method reads.
+/// Checks the body's encoding and media type (RFC 9110 sections 8.3 and 8.4): no coding but `identity`, and the type
+/// that the method reads.
 #[tactic(auto, unfolding(crate::specs::Headers::media_typed))]
 pub fn check_media_type(method: Method, headers: &[Header]) -> Result<(), Refused>
     ensures { result ≡ media_typed method headers.now }
@@ -29,10 +30,11 @@ fn are_uncoded(headers: &[Header]) -> bool
 fn is_uncoded(header: &Header) -> bool
     ensures { result ≡ fields.is_uncoded header.now }
 {
-    !is_named(header, b"content-encoding") || is_same(header.value.as_slice(), b"identity")
+    !is_named(header, b"content-encoding")
+        || eq_ignore_ascii_case(header.value.as_slice(), b"identity")
 }
 
-/// No body of a read or of a deletion has a type of its own.
+/// Whether the body has the type that the method reads; for a read and a deletion the type is not checked.
 #[tactic(auto, unfolding(crate::specs::Headers::is_typed))]
 fn is_typed(method: Method, headers: &[Header]) -> bool
     ensures { result ≡ fields.is_typed method headers.now }
@@ -77,14 +79,14 @@ fn content_type(headers: &[Header]) -> Option<&Header>
 fn is_of_type(header: &Header, name: &[u8]) -> bool
     ensures { result ≡ fields.is_of_type name.now header.now }
 {
-    is_same(media_type(header.value.as_slice()), name)
+    eq_ignore_ascii_case(media_type(header.value.as_slice()), name)
 }
 
-/// What stands before the parameters, without the white space before the semicolon.
+/// The text before the parameters, without the white space before the semicolon.
 fn media_type(value: &[u8]) -> &[u8]
     ensures { result.now ≡ fields.media_type value.now }
 {
-    trimmed(before_semicolon(value))
+    trim_ows(before_semicolon(value))
 }
 
 fn before_semicolon(value: &[u8]) -> &[u8]
@@ -99,7 +101,7 @@ fn before_semicolon(value: &[u8]) -> &[u8]
     }
 }
 
-/// Where the first semicolon stands.
+/// The index of the first semicolon.
 fn semicolon_at(value: &[u8]) -> Option<usize>
     ensures found { result ≡ position (λ b. b == 59) value.now }
     ensures within { IfSome result (λ at. at < length value.now) }

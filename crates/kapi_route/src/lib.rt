@@ -1,4 +1,4 @@
-//! What a request is about beside its attributes: the row of its resource, the place, what is to be done there, and its header fields.
+//! The route of a request: its resource type, its place, its action, and the checks of its query and header fields.
 #![tactic(auto)]
 
 pub mod headers;

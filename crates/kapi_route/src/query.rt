@@ -1,12 +1,12 @@
-//! What the query of a request may ask for (Kubernetes, 'Kubernetes API Concepts', 'Dry-run' and 'Resource versions'; 'Labels
-//! and Selectors'; 'Field Selectors').
+//! What the query of a request may ask for (Kubernetes, 'Kubernetes API Concepts', 'Dry-run' and 'Resource versions';
+//! 'Labels and Selectors'; 'Field Selectors').
 ghost use Rattle.std.specs.Prelude.{◌≡◌, Some};
 ghost use Rattle.kapi_reply.specs.Refusals.{refused_by};
 ghost use Rattle.kapi_route.specs.Query as queries;
 ghost use Rattle.kapi_text.specs.Gives.{Gives};
 
 use crate::route::Action;
-use kapi_names::{Selector, SelectorError};
+use kapi_model::{Selector, SelectorError};
 use kapi_reply::{BadWord, CheckError, Refusal, Refused, Revisions};
 use kapi_request_info::{QueryPair, query_value, selected_name};
 use kapi_text::{Sequence, Text, are_digits, number};
@@ -16,9 +16,9 @@ use std::alloc::Global;
 #[derive(Debug, Drop)]
 pub struct Filter {
     pub selector: Selector,
-    /// Empty for all names.
+    /// The name, empty for all names.
     pub name: Text,
-    /// The revision after which a watch shows each change; 0 where it shows first what is there.
+    /// The revision after which a watch shows each change; 0 where it first shows the stored objects.
     pub since: u64,
 }
 
@@ -43,7 +43,7 @@ pub fn check_query(
     }
 }
 
-/// An object is read as it stands.
+/// Checks the query of a read of one object at the current revision.
 fn check_read(alloc: Global, current: u64, query: &[QueryPair]) -> Result<Filter, CheckError>
     ensures { Gives refused_by (λ f. f) result (queries.read current query.now) }
 {
@@ -51,18 +51,19 @@ fn check_read(alloc: Global, current: u64, query: &[QueryPair]) -> Result<Filter
     Ok(everything(alloc))
 }
 
-/// The first check that fails decides: the options, the selectors, the revision.
+/// Checks the query of a list. The first check that fails decides: the options, the selectors, the revision.
 #[tactic(auto, unfolding(crate::specs::Query::listed))]
 fn check_list(alloc: Global, current: u64, query: &[QueryPair]) -> Result<Filter, CheckError>
     ensures { Gives refused_by (λ f. f) result (queries.listed current query.now) }
 {
-    refuse_part_list(query)?;
+    check_list_options(query)?;
     let filter = read_filter(alloc, query)?;
     check_version(current, query)?;
     Ok(filter)
 }
 
-/// What a list may be asked for, and the revision from which on changes are shown; that they are all kept is not looked at here.
+/// Checks the query of a watch: the filter of a list, and the revision from which on changes are shown; whether they
+/// are all kept is checked later.
 #[tactic(auto, unfolding(crate::specs::Query::watched))]
 fn check_watch(alloc: Global, current: u64, query: &[QueryPair]) -> Result<Filter, CheckError>
     ensures { Gives refused_by (λ f. f) result (queries.watched current query.now) }
@@ -90,7 +91,7 @@ fn check_deletions(alloc: Global, query: &[QueryPair]) -> Result<Filter, CheckEr
     read_filter(alloc, query)
 }
 
-/// A write of one object is made, and no dry run.
+/// Checks the query of a write of one object: no dry run is served.
 fn check_write(alloc: Global, query: &[QueryPair]) -> Result<Filter, CheckError>
     ensures { Gives refused_by (λ f. f) result (queries.written query.now) }
 {
@@ -135,9 +136,9 @@ fn refuse_dry_run(query: &[QueryPair]) -> Result<(), Refused>
     refuse_option(query, "dryRun")
 }
 
-/// A list is told at once, and as it stands.
+/// Checks that a list is answered at once, and as it is.
 #[tactic(auto, unfolding(crate::specs::Query::whole_list))]
-fn refuse_part_list(query: &[QueryPair]) -> Result<(), Refused>
+fn check_list_options(query: &[QueryPair]) -> Result<(), Refused>
     ensures { result ≡ queries.whole_list query.now }
 {
     refuse_continuation(query)?;
@@ -170,7 +171,7 @@ fn refuse_other_match(query: &[QueryPair]) -> Result<(), Refused>
     }
 }
 
-/// Only NotOlderThan is served: the current state is not older than a revision that is reached.
+/// Whether another match is asked for than NotOlderThan: the current state is never older than a reached revision.
 fn is_other_match(text: &str) -> bool
     ensures { result ≡ queries.is_other_match text.now }
 {
@@ -190,7 +191,7 @@ fn read_filter(alloc: Global, query: &[QueryPair]) -> Result<Filter, CheckError>
     })
 }
 
-/// The label selector that is asked for; a text that is none is a bad query.
+/// The label selector that is asked for; a text that is no selector is a bad query.
 #[tactic(auto, unfolding(crate::specs::Query::selector_asked))]
 fn read_selector(alloc: Global, query: &[QueryPair]) -> Result<Selector, CheckError>
     ensures { Gives refused_by (λ s. s) result (queries.selector_asked query.now) }
@@ -209,7 +210,7 @@ fn name_asked(query: &[QueryPair]) -> Result<&str, Refused>
     name_in(asked(query, "fieldSelector"))
 }
 
-/// The name that a field selector selects; all where it is empty.
+/// The name that a field selector selects; all names where it is empty.
 #[tactic(auto, unfolding(crate::specs::Query::name_selected))]
 fn name_in(text: &str) -> Result<&str, Refused>
     ensures { Gives (λ e. Some e) (λ name. name.now) result (queries.name_selected text.now) }
@@ -223,7 +224,7 @@ fn name_in(text: &str) -> Result<&str, Refused>
     }
 }
 
-/// The filter that lets all objects through; takes no memory.
+/// The filter that lets all objects through; allocates nothing.
 fn everything(alloc: Global) -> Filter
     ensures { result ≡ queries.everything }
 {
@@ -243,7 +244,7 @@ fn check_version(current: u64, query: &[QueryPair]) -> Result<(), Refused>
     check_version_text(current, asked(query, "resourceVersion"))
 }
 
-/// A revision that is asked for must be reached; an empty text asks for none.
+/// Checks that a revision that is asked for was reached; an empty text asks for none.
 #[tactic(auto, unfolding(crate::specs::Query::version_reached))]
 fn check_version_text(current: u64, text: &str) -> Result<(), Refused>
     ensures { result ≡ queries.version_reached current text.now }
@@ -258,7 +259,7 @@ fn check_version_text(current: u64, text: &str) -> Result<(), Refused>
     }
 }
 
-/// How many digits a revision may have.
+/// The largest number of digits of a revision.
 const REVISION_DIGITS: usize = 15;
 
 /// The revision that 1 to 15 decimal digits write.

@@ -5,7 +5,7 @@ ghost use Rattle.kapi_route.specs.Route.{routed};
 ghost use Rattle.kapi_route.specs.Routes.{Routes};
 
 use kapi_http::Method;
-use kapi_names::ResourceRow;
+use kapi_model::ResourceRow;
 use kapi_reply::{Place, Refusal, Refused};
 use kapi_request_info::Attributes;
 use kapi_rules::{Point, ResourcePoint};
@@ -18,7 +18,7 @@ pub enum Part {
     Status,
 }
 
-/// What is to be done at a place (Kubernetes, 'Kubernetes API Concepts', API verbs).
+/// The action at a place (Kubernetes, 'Kubernetes API Concepts', API verbs).
 #[derive(Clone, Copy, Debug, PartialEq, Eq)]
 pub enum Action {
     Create,
@@ -31,7 +31,7 @@ pub enum Action {
     Watch,
 }
 
-/// A resource request that is served: its row, what it is about and what is to be done.
+/// A resource request that is served: its resource type, its point and its action.
 #[derive(Clone, Copy)]
 pub struct ResourceRoute<'a> {
     pub row: &'a ResourceRow,
@@ -42,12 +42,12 @@ pub struct ResourceRoute<'a> {
 /// A request that is served.
 #[derive(Clone, Copy)]
 pub enum Route<'a> {
-    /// Whether the server is well.
+    /// A health request.
     Health,
     Resource(ResourceRoute<'a>),
 }
 
-/// Finds the row, the place and the action of a request.
+/// Finds the resource type, the place and the action of a request.
 #[tactic(auto, unfolding(crate::specs::Route::routed))]
 pub fn find_route<'a>(
     table: &'a [ResourceRow],
@@ -76,7 +76,7 @@ fn path_route<'a>(method: Method, path: &str) -> Result<Route<'a>, Refused>
     }
 }
 
-/// The paths that tell whether the server is well (Kubernetes, 'Kubernetes API health endpoints').
+/// Whether a path is one of health requests (Kubernetes, 'Kubernetes API health endpoints').
 fn is_health(path: &str) -> bool
     ensures { result ≡ routes.is_health path.now }
 {
@@ -95,7 +95,7 @@ fn health_route<'a>(method: Method) -> Result<Route<'a>, Refused>
     }
 }
 
-/// The row of the request's group, version and resource.
+/// The resource type of the request's group, version and resource.
 fn find_row<'a>(
     table: &'a [ResourceRow],
     attributes: &Attributes,
@@ -128,7 +128,7 @@ fn route_on_row<'a>(
     Ok(Route::Resource(ResourceRoute { row, point, action }))
 }
 
-/// What the path stands for on a row.
+/// The place of a path for a resource type.
 #[tactic(auto, unfolding(crate::specs::Route::place_on))]
 fn place_on(row: &ResourceRow, attributes: &Attributes, point: &ResourcePoint) -> Option<Place>
     ensures { result ≡ routes.place_on row.now attributes.now point.now }
@@ -140,14 +140,14 @@ fn place_on(row: &ResourceRow, attributes: &Attributes, point: &ResourcePoint) -
     }
 }
 
-/// Whether the row is one of reviews (Kubernetes API, authorization.k8s.io/v1).
+/// Whether the resource type is one of reviews (Kubernetes API, authorization.k8s.io/v1).
 pub fn is_of_reviews(row: &ResourceRow) -> bool
     ensures { result ≡ routes.is_of_reviews row.now }
 {
     row.group.as_str() == "authorization.k8s.io"
 }
 
-/// Reviews are made in a namespace exactly where the row has namespaces, and none has a name.
+/// The place of reviews, which are made in a namespace exactly where the resource type has them, and have no name.
 fn reviews_place(row: &ResourceRow, attributes: &Attributes) -> Option<Place>
     ensures { result ≡ routes.reviews_place row.now attributes.now }
 {
@@ -159,7 +159,7 @@ fn reviews_place(row: &ResourceRow, attributes: &Attributes) -> Option<Place>
     }
 }
 
-/// What the path stands for: one part is a collection, two are an object, three are its subresource.
+/// The place of a path: one part is a collection, two are an object, three are its subresource.
 #[tactic(auto, unfolding(crate::specs::Route::place_of))]
 fn place_of(row: &ResourceRow, attributes: &Attributes, point: &ResourcePoint) -> Option<Place>
     ensures { result ≡ routes.place_of row.now attributes.now point.now }
@@ -177,7 +177,7 @@ fn place_of(row: &ResourceRow, attributes: &Attributes, point: &ResourcePoint) -
     }
 }
 
-/// The collections of a namespaced resource are those of one namespace and that of them all.
+/// The place of a collection: for a namespaced resource type that of one namespace or of all.
 #[tactic(auto, unfolding(crate::specs::Route::collection_of))]
 fn collection_of(row: &ResourceRow, attributes: &Attributes) -> Option<Place>
     ensures { result ≡ routes.collection_of row.now attributes.now }
@@ -191,7 +191,7 @@ fn collection_of(row: &ResourceRow, attributes: &Attributes) -> Option<Place>
     }
 }
 
-/// The status is the only subresource.
+/// The place of a subresource: the status is the only one.
 fn subresource_of(row: &ResourceRow, point: &ResourcePoint) -> Option<Place>
     ensures { result ≡ routes.subresource_of row.now point.now }
 {
@@ -202,7 +202,7 @@ fn subresource_of(row: &ResourceRow, point: &ResourcePoint) -> Option<Place>
     }
 }
 
-/// Where an object is named, a namespace must stand in the path exactly where the resource lives in namespaces.
+/// Whether the path of an object has a namespace exactly where the resource type lives in namespaces.
 fn has_right_namespace(row: &ResourceRow, attributes: &Attributes, point: &ResourcePoint) -> bool
     ensures { result ≡ routes.has_right_namespace row.now attributes.now point.now }
 {
@@ -214,7 +214,7 @@ fn has_right_namespace(row: &ResourceRow, attributes: &Attributes, point: &Resou
     }
 }
 
-/// The path of a namespace names it twice over: as the object and as the namespace.
+/// Whether a path names a namespace twice: as the object and as the namespace.
 fn is_own_namespace(row: &ResourceRow, attributes: &Attributes, point: &ResourcePoint) -> bool
     ensures { result ≡ routes.is_own_namespace row.now attributes.now point.now }
 {

@@ -1,4 +1,4 @@
--- What covers what: each part of an atom covers itself, covers what is covered by what it covers, and matches what that matches.
+-- Each part of an atom covers itself, covers what a covered part covers, and matches what a covered part matches.
 use Rattle.std.proofs.Common.{◌≡◌, ℕ, ◌==◌, nat_eq, Bool, true, false, ◌&&◌, ◌||◌, ◌⊎◌, inl, inr, List, [], ◌∷◌, ◌++◌, length, drop, Option, Some, None, refl, ap, ◌∙◌, append_assoc}
 use Rattle.std.proofs.Math.Dec.{eqb-suc-zero}
 use Rattle.std.proofs.lemmas.Bool.{and_parts, or_cases}
@@ -49,7 +49,7 @@ word_onward x y z h k = by_case (or_cases (bytes_eq x star) (bytes_eq x y) h)
 
 -- ---- resources
 
--- the first slash of a joined text is that one, where none stands before it
+-- the first slash of a joined text is the joining one, where the first text has none
 slash_joined : (resource subresource : List ℕ) → after_slash resource ≡ None → after_slash (resource ++ 47 ∷ subresource) ≡ Some subresource
 slash_joined [] subresource plain = refl
 slash_joined (b ∷ resource) subresource plain = by_byte (b == 47) refl (slash_joined resource subresource)
@@ -75,7 +75,7 @@ any_with_is entry (Some s) h = rw (same entry (42 ∷ 47 ∷ s) h) refl
 any_with_same : (entry : List ℕ) (s t : List ℕ) (o : Option (List ℕ)) → o ≡ Some s → is_any_with entry o ≡ true → s ≡ t → bytes_eq entry (42 ∷ 47 ∷ t) ≡ true
 any_with_same entry s t o is h e = let there = rw is at h in rw (← e) there
 
--- what matches a subresource is `*`, or has it behind its first slash
+-- an entry that matches a subresource is `*`, or has the subresource behind its first slash
 subresource_cases : (b r s : List ℕ) → after_slash r ≡ None → subresource_matches b r s ≡ true → (b ≡ star) ⊎ (after_slash b ≡ Some s)
 subresource_cases b r s plain h = by_case (or_cases (word_matches b (r ++ 47 ∷ s)) (bytes_eq b (42 ∷ 47 ∷ s)) h)
   where
@@ -94,7 +94,7 @@ star_matches a r (c ∷ s) all = rw (eqb-suc-zero (length s), all) refl
 any_matches : (a r s : List ℕ) (n : ℕ) → n ≡ length s → (n == 0) ≡ false → bytes_eq a (42 ∷ 47 ∷ s) ≡ true → resource_matches a r s ≡ true
 any_matches a r s n is some e = rw (← is, some) (right (word_matches a (r ++ 47 ∷ s)) (bytes_eq a (42 ∷ 47 ∷ s)) e)
 
--- a resource entry matches what an entry matches that it covers, on a resource without a slash
+-- a resource entry matches what a covered entry matches, on a resource without a slash
 resource_onward : (a b r s : List ℕ) → after_slash r ≡ None → resource_covers a b ≡ true → resource_matches b r s ≡ true → resource_matches a r s ≡ true
 resource_onward a b r s plain h k = by_case (or_cases (word_matches a b) (is_any_with a (after_slash b)) h)
   where
@@ -174,7 +174,7 @@ stars_left (b ∷ text) = by_case (all_stars (b ∷ text)) refl (stars_left text
     by_case true t more = rw t refl
     by_case false t more = rw t (ap (λ r. (b == 42) && r) more ∙ t)
 
--- what stands before the last stars of a text, and then another text: only that one's stars are last
+-- the text before the last stars of a text, and then another text: only that one's stars are last
 stars_behind : (text more : List ℕ) → without_stars (without_stars text ++ more) ≡ without_stars text ++ without_stars more
 stars_behind [] more = refl
 stars_behind (b ∷ text) more = by_case (all_stars (b ∷ text)) refl (stars_behind text more)
@@ -284,7 +284,7 @@ pub and_false : (t : Bool) → (t && false) ≡ false
 and_false true = refl
 and_false false = refl
 
--- an atom allows what the rule allows that is made of it alone
+-- an atom allows what the rule of the atom alone allows
 pub alone_allows : (a : Atom) (p : Point) → allows (rule_of a) p ≡ atom_allows a p
 alone_allows (atom.Resource a) (point.Resource p) =
     rw (or_false (word_matches a.verb p.verb), or_false (word_matches a.group p.group), or_false (resource_matches a.resource p.resource p.subresource))

@@ -2,7 +2,7 @@
 use Rattle.std.proofs.Common.{◌≡◌, Bool, true, false, not, ◌||◌, ◌⊎◌, inl, inr, List, [], ◌∷◌, ◌++◌, refl, sym, ◌∙◌}
 use Rattle.std.proofs.lemmas.Bool.{or_cases}
 use Rattle.std.specs.List.{filter, flat_map, fold, list_any}
-use Rattle.kapi_names.specs.declared.policy_rule.PolicyRule.{PolicyRule}
+use Rattle.kapi_model.specs.declared.policy_rule.PolicyRule.{PolicyRule}
 use Rattle.kapi_rules.proofs.Covers.{implies_allows}
 use Rattle.kapi_rules.proofs.Parts.{allowed_by_atom, any_flat_map, any_same}
 use Rattle.kapi_rules.specs.Atoms.{atom_allows, atoms, implies}
@@ -79,7 +79,7 @@ rules_by_atoms : (rules : List PolicyRule) (p : Point) → list_any (λ a. atom_
 rules_by_atoms rules p =
     any_flat_map (λ a. atom_allows a p) atoms rules ∙ any_same _ _ rules (λ rule. allowed_by_atom rule p)
 
--- a rule that implies an atom allows what that allows
+-- a rule that implies an atom allows what the atom allows
 rule_allows : (rule : PolicyRule) (b : Atom) (p : Point) → HasPlainResource p → atom_allows b p ≡ true → rule_implies rule b ≡ true → allows rule p ≡ true
 unfolding rule_implies
 rule_allows rule b p plain h implied =

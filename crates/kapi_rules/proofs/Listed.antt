@@ -4,7 +4,7 @@ use Rattle.std.proofs.lemmas.Bool.{and_parts}
 use Rattle.std.proofs.lemmas.List.Folds.{list_any-append, list_any_at}
 use Rattle.std.proofs.lemmas.List.Quantifiers.{all_pairs_push}
 use Rattle.std.specs.List.{AllPairs, filter, flat_map, fold, list_any}
-use Rattle.kapi_names.specs.declared.policy_rule.PolicyRule.{PolicyRule}
+use Rattle.kapi_model.specs.declared.policy_rule.PolicyRule.{PolicyRule}
 use Rattle.kapi_rules.proofs.Covers.{and_false, both, itself, or_false, same}
 use Rattle.kapi_rules.proofs.Law.{any_weaker}
 use Rattle.kapi_rules.specs.Atoms.{atoms, resource_atom, url_atom}

@@ -1,9 +1,10 @@
--- A rule by its atoms: some atom passes a test made of tests of the parts just where each list has an entry that passes its own.
+-- A rule by its atoms: some atom passes a test made of tests of the parts just where each list has an entry that passes
+-- its own.
 use Rattle.std.proofs.Common.{◌≡◌, ℕ, Bool, true, false, ◌&&◌, ◌||◌, List, [], ◌∷◌, length, map, refl, ap, ◌∙◌}
 use Rattle.std.proofs.Math.Dec.{eqb-suc-zero}
 use Rattle.std.proofs.lemmas.List.Folds.{list_any-append}
 use Rattle.std.specs.List.{flat_map, list_any}
-use Rattle.kapi_names.specs.declared.policy_rule.PolicyRule.{PolicyRule}
+use Rattle.kapi_model.specs.declared.policy_rule.PolicyRule.{PolicyRule}
 use Rattle.kapi_rules.specs.Atoms.{atom_allows, atoms, group_atoms, implies, listed_cover, lists_cover, names_allow, names_cover, names_of, resource_atom, resource_atoms, resource_covers, url_atom, url_atoms, verb_atoms}
 use Rattle.kapi_rules.specs.Entries.{names_match, resource_matches, url_matches, word_matches}
 use Rattle.kapi_rules.specs.Missing.{rule_implies}

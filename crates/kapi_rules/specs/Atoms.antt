@@ -1,8 +1,9 @@
--- The atoms of a rule, and when one implies another. Kubernetes breaks rules down alike where it checks for escalation ('Using RBAC Authorization', Restrictions on role creation or update).
+-- The atoms of a rule, and when one implies another. Kubernetes breaks rules down alike where it checks for escalation
+-- ('Using RBAC Authorization', Restrictions on role creation or update).
 use Rattle.std.specs.Prelude.{ℕ, ◌==◌, Bool, true, false, ◌&&◌, ◌||◌, if◌then◌else◌, List, [], ◌∷◌, ◌++◌, length, map, Option, Some, None}
 use Rattle.std.specs.List.{flat_map, list_any}
 use Rattle.std.specs.Str.{bytes_eq}
-use Rattle.kapi_names.specs.declared.policy_rule.PolicyRule.{PolicyRule}
+use Rattle.kapi_model.specs.declared.policy_rule.PolicyRule.{PolicyRule}
 use Rattle.kapi_rules.specs.Entries.{word_matches, resource_matches, url_matches}
 use Rattle.kapi_rules.specs.declared.atom.Atom.{Atom}
 use Rattle.kapi_rules.specs.declared.atom.Atom.TheVariants as atom
@@ -20,7 +21,7 @@ resource_atom verb group resource names =
 abbrev pub url_atom : List ℕ → List ℕ → Atom
 url_atom verb url = atom.Url (record { verb = verb; url = url })
 
--- all names once where the list is empty, and else each name of it
+-- all names once where the list is empty, and else each name of the list
 abbrev pub names_of : List (List ℕ) → List Names
 names_of listed = if length listed == 0 then names.All ∷ [] else map names.One listed
 
@@ -49,12 +50,12 @@ abbrev pub after_slash : List ℕ → Option (List ℕ)
 after_slash [] = None
 after_slash (b ∷ text) = if b == 47 then Some text else after_slash text
 
--- the entry is `*/` and then that text
+-- the entry is `*/` and then the text
 abbrev pub is_any_with : List ℕ → Option (List ℕ) → Bool
 is_any_with entry None = false
 is_any_with entry (Some subresource) = bytes_eq entry (42 ∷ 47 ∷ subresource)
 
--- a resource entry covers another: `*` all, `*/SUBRESOURCE` what has that behind its first slash, and each entry itself
+-- a resource entry covers itself, `*` covers all, and `*/SUBRESOURCE` all with that text behind their first slash
 abbrev pub resource_covers : List ℕ → List ℕ → Bool
 resource_covers entry covered = word_matches entry covered || is_any_with entry (after_slash covered)
 
@@ -105,12 +106,12 @@ lists_cover rule (atom.Resource b) =
 lists_cover rule (atom.Url b) =
     list_any (λ e. word_matches e b.verb) rule.verbs && list_any (λ e. url_matches e b.url) rule.non_resource_urls
 
--- the list of names that those names alone are
+-- the list of names of an atom: none where it has all names
 abbrev pub only_names : Names → List (List ℕ)
 only_names names.All = []
 only_names (names.One name) = name ∷ []
 
--- the rule that is made of the atom alone
+-- the rule that has the atom alone
 abbrev pub rule_of : Atom → PolicyRule
 rule_of (atom.Resource a) = record {
   verbs = a.verb ∷ [];

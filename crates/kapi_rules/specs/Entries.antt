@@ -1,9 +1,10 @@
--- How the entries of a rule match (Kubernetes, 'Using RBAC Authorization': Role example, Referring to resources, Referring to non-resource URLs).
+-- How the entries of a rule match (Kubernetes, 'Using RBAC Authorization': Role example, Referring to resources,
+-- Referring to non-resource URLs).
 use Rattle.std.specs.Prelude.{ℕ, ◌==◌, nat_eq, Bool, ◌&&◌, ◌||◌, if◌then◌else◌, List, [], ◌∷◌, ◌++◌, length}
 use Rattle.std.specs.List.{list_all, list_any, starts_with, ends_with}
 use Rattle.std.specs.Str.{bytes_eq}
 
--- the entry `*`, which stands for all
+-- the entry `*`, which matches all
 abbrev pub star : List ℕ
 star = 42 ∷ []
 
@@ -30,7 +31,7 @@ abbrev pub without_stars : List ℕ → List ℕ
 without_stars [] = []
 without_stars (b ∷ text) = if list_all (λ c. c == 42) (b ∷ text) then [] else b ∷ without_stars text
 
--- a URL entry with a star at its end: the path begins with what stands before the last stars
+-- a URL entry with a star at its end: the path begins with the text before the last stars
 abbrev pub beginning_matches : List ℕ → List ℕ → Bool
 beginning_matches entry path = ends_with nat_eq entry star && starts_with nat_eq path (without_stars entry)
 

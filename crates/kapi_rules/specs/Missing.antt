@@ -2,7 +2,7 @@
 use Rattle.std.specs.Prelude.{◌≡◌, Bool, true, false, not, ◌&&◌, if◌then◌else◌, List, [], ◌∷◌, ◌++◌}
 use Rattle.std.specs.List.{filter, flat_map, fold, list_any}
 use Rattle.std.specs.Str.{bytes_eq}
-use Rattle.kapi_names.specs.declared.policy_rule.PolicyRule.{PolicyRule}
+use Rattle.kapi_model.specs.declared.policy_rule.PolicyRule.{PolicyRule}
 use Rattle.kapi_rules.specs.Atoms.{atoms, implies}
 use Rattle.kapi_rules.specs.Points.{HasPlainResource}
 use Rattle.kapi_rules.specs.Rules.{allows}
@@ -12,11 +12,11 @@ use Rattle.kapi_rules.specs.declared.atom.Names.{Names}
 use Rattle.kapi_rules.specs.declared.atom.Names.TheVariants as names
 use Rattle.kapi_rules.specs.declared.point.Point.{Point}
 
--- some atom of the rule implies that one
+-- some atom of the rule implies the atom
 unfoldable pub rule_implies : PolicyRule → Atom → Bool
 rule_implies rule wanted = list_any (λ a. implies a wanted) (atoms rule)
 
--- no atom of the rules implies that one
+-- no atom of the rules implies the atom
 abbrev pub is_missing : List PolicyRule → Atom → Bool
 is_missing held wanted = not (list_any (λ rule. rule_implies rule wanted) held)
 
@@ -35,11 +35,11 @@ same_atom (atom.Resource a) (atom.Url b) = false
 same_atom (atom.Url a) (atom.Resource b) = false
 same_atom (atom.Url a) (atom.Url b) = bytes_eq a.verb b.verb && bytes_eq a.url b.url
 
--- the list with that atom at its end, unless it stands in it
+-- the list with the atom at its end, unless it is already in the list
 abbrev pub with_atom : List Atom → Atom → List Atom
 with_atom found a = if list_any (λ f. same_atom f a) found then found else found ++ a ∷ []
 
--- each atom once, where it stands first
+-- each atom once, at its first place
 unfoldable pub each_once : List Atom → List Atom
 each_once list = fold with_atom [] list
 

@@ -3,11 +3,12 @@ ghost use Rattle.std.specs.Prelude.{◌≡◌, ◌++◌, IfOk, OnOk, map};
 ghost use Rattle.std.specs.List.{flat_map};
 ghost use Rattle.kapi_rules.specs.Atoms.{atoms as atoms_of, group_atoms, resource_atom as named_atom, resource_atoms, url_atoms, verb_atoms};
 
-use kapi_names::PolicyRule;
+use kapi_model::PolicyRule;
 use kapi_text::{Memory, Text, TryCopy};
 use std::alloc::{AllocError, Global};
 
-/// The smallest part of a rule: one entry of each list, taken literally, so that the verb `*` is an entry and not all verbs.
+/// The smallest part of a rule: one entry of each list, taken literally, so that the verb `*` is an entry and not all
+/// verbs.
 #[derive(Debug, Drop)]
 pub enum Atom {
     Resource(ResourceAtom),
@@ -23,10 +24,10 @@ pub struct ResourceAtom {
     pub names: Names,
 }
 
-/// The names that an atom speaks of.
+/// The names of an atom.
 #[derive(Debug, Drop)]
 pub enum Names {
-    /// Of a rule that lists no names.
+    /// The names of a rule that lists no names.
     All,
     One(Text),
 }
@@ -76,8 +77,8 @@ impl TryCopy for Atom {
     }
 }
 
-/// The atoms of a rule: for each group, each resource, each verb and each name (or once for all names, where none is listed);
-/// then for each URL and each verb.
+/// The atoms of a rule: for each group, each resource, each verb and each name (or once for all names, where none is
+/// listed); then for each URL and each verb.
 #[tactic(auto, unfolding(crate::specs::Atoms::atoms))]
 pub fn atoms(alloc: Global, rule: &PolicyRule) -> Result<Vec<Atom>, Memory>
     ensures { IfOk result (λ v. v.items ≡ atoms_of rule.now) }

@@ -8,8 +8,8 @@ use crate::atom::{Atom, Names, ResourceAtom, UrlAtom};
 use crate::entries::{is_listed, url_matches, word_matches};
 use kapi_text::Text;
 
-/// Whether an atom implies another: both are of one sort, and each part of the first covers that of the second. The resource
-/// `*/SUBRESOURCE` covers each resource that has just that behind its first slash.
+/// Whether an atom implies another: both are of one sort, and each part of the first covers that of the second. The
+/// resource `*/SUBRESOURCE` covers each resource with exactly that subresource behind its first slash.
 pub fn implies(a: &Atom, b: &Atom) -> bool
     ensures { result ≡ atom_implies a.now b.now }
 {
@@ -35,14 +35,14 @@ fn url_implies(a: &UrlAtom, b: &UrlAtom) -> bool
     word_matches(a.verb.as_str(), b.verb.as_str()) && url_matches(a.url.as_str(), b.url.as_str())
 }
 
-/// A resource entry covers another.
+/// Whether a resource entry covers another.
 pub fn resource_covers(entry: &str, covered: &str) -> bool
     ensures { result ≡ entry_covers entry.now covered.now }
 {
     word_matches(entry, covered) || is_any_with_rest(entry.as_bytes(), covered.as_bytes())
 }
 
-// The entry is `*/` and what stands behind the first slash of the other, which is looked for only where the entry begins so.
+// Whether the entry is `*/` and the text behind the first slash of the other, which is sought only behind `*/`.
 fn is_any_with_rest(entry: &[u8], covered: &[u8]) -> bool
     ensures { result ≡ is_any_with entry.now (behind_slash covered.now) }
 {
@@ -61,7 +61,7 @@ fn is_rest(subresource: &[u8], covered: &[u8]) -> bool
     }
 }
 
-// What stands behind the first slash, if there is one.
+// The text behind the first slash, if there is one.
 fn after_slash(text: &[u8]) -> Option<&[u8]>
     ensures { option_copied result ≡ behind_slash text.now }
 {
@@ -75,7 +75,7 @@ fn after_slash(text: &[u8]) -> Option<&[u8]>
     None
 }
 
-// All names cover every name, and a name itself alone.
+// Whether names cover others: all names cover every name, and a name itself alone.
 fn names_cover(names: &Names, covered: &Names) -> bool
     ensures { result ≡ names_cover_names names.now covered.now }
 {
@@ -86,7 +86,7 @@ fn names_cover(names: &Names, covered: &Names) -> bool
     }
 }
 
-/// Some entry that lists resources covers another.
+/// Whether some entry that lists resources covers another.
 pub fn some_resource_covers(entries: &[Text], covered: &str) -> bool
     ensures { result ≡ list_any (λ e. entry_covers e covered.now) entries.now }
 {
@@ -95,7 +95,7 @@ pub fn some_resource_covers(entries: &[Text], covered: &str) -> bool
         .any(|entry| resource_covers(entry.as_str(), covered))
 }
 
-/// A list of names covers the names in it, and the empty list all names and each.
+/// Whether a list of names covers others: it covers the names in it, and the empty list all names and each.
 pub fn some_name_covers(names: &[Text], covered: &Names) -> bool
     ensures { result ≡ listed_cover names.now covered.now }
 {

@@ -6,14 +6,14 @@ ghost use Rattle.kapi_rules.specs.Entries.{beginning_matches as beginning_entry_
 
 use kapi_text::Text;
 
-/// An entry that lists verbs or groups: `*`, or the very word.
+/// Whether an entry that lists verbs or groups matches: `*`, or the very word.
 pub fn word_matches(entry: &str, word: &str) -> bool
     ensures { result ≡ word_entry_matches entry.now word.now }
 {
     entry == "*" || entry == word
 }
 
-/// Some entry that lists verbs or groups matches.
+/// Whether some entry that lists verbs or groups matches.
 pub fn some_word_matches(entries: &[Text], word: &str) -> bool
     ensures { result ≡ list_any (λ e. word_entry_matches e word.now) entries.now }
 {
@@ -22,7 +22,8 @@ pub fn some_word_matches(entries: &[Text], word: &str) -> bool
         .any(|entry| word_matches(entry.as_str(), word))
 }
 
-/// An entry that lists resources, such as `pods`, `pods/log`, `*/log` and `*`. The subresource is empty where there is none.
+/// Whether an entry that lists resources matches, such as `pods`, `pods/log`, `*/log` and `*`. An absent subresource is
+/// empty.
 pub fn resource_matches(entry: &str, resource: &str, subresource: &str) -> bool
     ensures { result ≡ resource_entry_matches entry.now resource.now subresource.now }
 {
@@ -33,7 +34,7 @@ pub fn resource_matches(entry: &str, resource: &str, subresource: &str) -> bool
     }
 }
 
-// `*`, `RESOURCE/SUBRESOURCE` or `*/SUBRESOURCE`.
+// Whether an entry matches a subresource: `*`, `RESOURCE/SUBRESOURCE` or `*/SUBRESOURCE`.
 fn subresource_matches(entry: &str, resource: &str, subresource: &str) -> bool
     ensures { result ≡ subresource_entry_matches entry.now resource.now subresource.now }
 {
@@ -41,7 +42,7 @@ fn subresource_matches(entry: &str, resource: &str, subresource: &str) -> bool
     (entry == "*" || is_joined(bytes, resource.as_bytes(), last)) || is_joined(bytes, b"*", last)
 }
 
-// The text is `FIRST/LAST`.
+// Whether the text is `FIRST/LAST`.
 #[tactic(auto, using(crate::proofs::Texts::bytes_eq_append))]
 fn is_joined(text: &[u8], first: &[u8], last: &[u8]) -> bool
     ensures { result ≡ bytes_eq text.now (first.now ++ 47 ∷ last.now) }
@@ -62,35 +63,35 @@ fn is_slash_and(text: &[u8], last: &[u8]) -> bool
     }
 }
 
-/// Some entry that lists resources matches.
+/// Whether some entry that lists resources matches.
 pub fn some_resource_matches(entries: &[Text], resource: &str, subresource: &str) -> bool
     ensures { result ≡ list_any (λ e. resource_entry_matches e resource.now subresource.now) entries.now }
 {
     entries.iter().any(|entry| resource_matches(entry.as_str(), resource, subresource))
 }
 
-/// A list of names matches the names in it, and the empty list all names.
+/// Whether a list of names matches: the names in it, and the empty list all names.
 pub fn is_name_matched(names: &[Text], name: &str) -> bool
     ensures { result ≡ names_match names.now name.now }
 {
     names.is_empty() || is_listed(names, name)
 }
 
-/// The name is in the list.
+/// Whether the name is in the list.
 pub fn is_listed(names: &[Text], name: &str) -> bool
     ensures { result ≡ list_any (λ n. bytes_eq n name.now) names.now }
 {
     names.iter().any(|listed| listed.as_str() == name)
 }
 
-/// An entry that lists URLs: the very path, or a beginning of it and a star, as `/healthz*`.
+/// Whether an entry that lists URLs matches: the very path, or a beginning of it and a star, as `/healthz*`.
 pub fn url_matches(entry: &str, path: &str) -> bool
     ensures { result ≡ url_entry_matches entry.now path.now }
 {
     entry == path || beginning_matches(entry.as_bytes(), path.as_bytes())
 }
 
-// The entry ends in a star, and the path begins with what stands before its last stars.
+// Whether the entry ends in a star, and the path begins with the text before its last stars.
 fn beginning_matches(entry: &[u8], path: &[u8]) -> bool
     ensures { result ≡ beginning_entry_matches entry.now path.now }
 {
@@ -109,7 +110,7 @@ fn without_stars(text: &[u8]) -> &[u8]
     front
 }
 
-// What stands before the last byte where that is a star; without it the text has no stars at its end.
+// The text before the last byte where that is a star; without it the text has no stars at its end.
 #[tactic(auto, using(crate::proofs::Texts::without_stars_kept))]
 fn before_last_star(text: &[u8]) -> Option<&[u8]>
     ensures { MatchOption result (without_last_stars text.now ≡ text.now) (λ front. text.now ≡ front.now ++ 42 ∷ []) }
@@ -120,7 +121,7 @@ fn before_last_star(text: &[u8]) -> Option<&[u8]>
     }
 }
 
-/// Some entry that lists URLs matches.
+/// Whether some entry that lists URLs matches.
 pub fn some_url_matches(entries: &[Text], path: &str) -> bool
     ensures { result ≡ list_any (λ e. url_entry_matches e path.now) entries.now }
 {

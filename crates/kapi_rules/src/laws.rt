@@ -2,7 +2,7 @@
 ghost use Rattle.std.specs.Prelude.{◌≡◌, ◌∷◌, ◌&&◌, List, [], codes, false, true};
 ghost use Rattle.std.specs.Bool.{Decides};
 ghost use Rattle.std.specs.List.{AllPairs, flat_map, list_any};
-ghost use Rattle.kapi_names.specs.declared.policy_rule.PolicyRule.{PolicyRule};
+ghost use Rattle.kapi_model.specs.declared.policy_rule.PolicyRule.{PolicyRule};
 ghost use Rattle.kapi_rules.specs.Atoms.{atom_allows, atoms as atoms_of, implies as atom_implies, rule_of};
 ghost use Rattle.kapi_rules.specs.Missing.{is_missing, missing as missing_of, same_atom};
 ghost use Rattle.kapi_rules.specs.Points.{HasPlainResource};
@@ -17,25 +17,26 @@ pub fn implying_is_a_preorder()
     ensures onward { (a b c : Atom) → atom_implies a b ≡ true → atom_implies b c ≡ true → atom_implies a c ≡ true }
 {}
 
-/// An atom allows every point that an atom allows which it implies, where the point's resource has no slash.
+/// An atom allows every point that an implied atom allows, where the point's resource has no slash.
 pub fn implying_atoms_allow_more()
     ensures { (a b : Atom) (p : Point) → HasPlainResource p → atom_implies a b ≡ true → atom_allows b p ≡ true → atom_allows a p ≡ true }
 {}
 
-/// With a slash in a point's resource this fails: nothing of `a/b` is missing beside `*/b`, which does not allow the resource `a/b`.
+/// For a resource with a slash the law fails: nothing of `a/b` is missing beside `*/b`, which does not allow it.
 pub fn resources_with_slashes_are_not_covered()
     ensures covered { missing_of (get_on (codes "*/b") ∷ []) (get_on (codes "a/b") ∷ []) ≡ [] }
     ensures wanted { rule_allows (get_on (codes "a/b")) (get_of (codes "a/b")) ≡ true }
     ensures held { rule_allows (get_on (codes "*/b")) (get_of (codes "a/b")) ≡ false }
 {}
 
-/// A rule allows a point just where one of its atoms does, and an atom allows what a rule does that is made of it alone.
+/// A rule allows a point just where one of its atoms does, and an atom allows what a rule of that atom alone does.
 pub fn rules_are_their_atoms()
     ensures parts { (rule : PolicyRule) (p : Point) → list_any (λ a. atom_allows a p) (atoms_of rule) ≡ rule_allows rule p }
     ensures alone { (a : Atom) (p : Point) → rule_allows (rule_of a) p ≡ atom_allows a p }
 {}
 
-/// The missing list has just the wanted atoms that no atom of a held rule implies, and no two of its atoms are the same.
+/// The missing list has just the wanted atoms that no atom of a held rule implies, and no two of its atoms are the
+/// same.
 pub fn missing_atoms_are_listed_once()
     ensures same { (a b : Atom) → Decides (same_atom a b) (a ≡ b) }
     ensures listed { (held wanted : List PolicyRule) (b : Atom)

@@ -1,4 +1,4 @@
-//! Points, and what rules say of them: which they allow, and the atoms that they are made of.
+//! Points, and rules: which points a rule allows, and the atoms that it is made of.
 #![tactic(auto)]
 
 mod atom;

@@ -4,7 +4,7 @@ ghost use Rattle.kapi_rules.specs.Rules.{allows as rule_allows};
 
 use crate::entries::{is_name_matched, some_resource_matches, some_url_matches, some_word_matches};
 use crate::point::{Point, ResourcePoint, UrlPoint};
-use kapi_names::PolicyRule;
+use kapi_model::PolicyRule;
 
 /// Whether a rule allows a point (Kubernetes, 'Using RBAC Authorization').
 pub fn allows(rule: &PolicyRule, point: &Point) -> bool

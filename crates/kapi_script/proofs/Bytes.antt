@@ -1,14 +1,14 @@
 -- Lines, byte by byte.
 use Rattle.std.proofs.Common.{◌≡◌, ◌==◌, ℕ, ◌+◌, All, false, List, [], ◌∷◌, ◌++◌, Option, Result, Ok, Err, refl, sym, arith, subst, ap, ◌∙◌, Some, None, OnOk, IfErr, take, append-nil, append_assoc, ◌<◌, ◌≤◌, length, drop, get_or, drop-cons, add-one}
 use Rattle.std.specs.Io.KnownBytes.{Consumes, IsAtEnd}
-use Rattle.kapi_core.specs.Stands.{Stands}
+use Rattle.kapi_core.specs.Refines.{Refines}
 use Rattle.std.proofs.lemmas.List.{drop_all}
 use Rattle.std.proofs.lemmas.List.Elements.{All-append, All-cons, All-nil}
 use Rattle.std.proofs.lemmas.List.Splits.{slice_split_at, slice_split_none}
 use Rattle.kapi_core.specs.Running.{Running}
 use Rattle.kapi_core.specs.Machine.{Machine}
 use Rattle.kapi_script.specs.Scripts.{lines, said, first_bad_from}
-use Rattle.kapi_script.specs.Playing.{Play, ReachedBy, Reading, ReadsOn, Goes, Ends}
+use Rattle.kapi_script.specs.Private.Playing.{Play, ReachedBy, Reading, ReadsOn, Goes, Ends}
 use Rattle.kapi_script.specs.declared.script.Script.{Script}
 use Rattle.kapi_script.specs.declared.script.ScriptFault.{ScriptFault}
 use Rattle.kapi_script.specs.declared.script.ScriptFault.TheVariants as fault
@@ -120,7 +120,7 @@ ends_failed all unread before core s d fault.Write h = tt
 ends_failed all unread before core s d fault.Memory h = tt
 
 -- at the start nothing was read
-pub at_start : (m : Machine) (text before items : List ℕ) (core : Running) (c : Option (List ℕ)) → items ≡ [] → Stands core m → c ≡ Some before
+pub at_start : (m : Machine) (text before items : List ℕ) (core : Running) (c : Option (List ℕ)) → items ≡ [] → Refines core m → c ≡ Some before
     → All (λ b. (b == 10) ≡ false) items × ReachedBy (record { begun = m; lines = lines text }) (lines (items ++ text)) 0 core before c
 at_start m text before items core c none stands e =
     line_begins (record { begun = m; lines = lines text }) text before items 0 core c none (

@@ -1,6 +1,6 @@
 -- What the end of a script says.
 use Rattle.std.proofs.Common.{◌≡◌, ℕ, List, Option, Some, None, Result, Ok, Err, OnOk}
-use Rattle.kapi_script.specs.Playing.{Ends}
+use Rattle.kapi_script.specs.Private.Playing.{Ends}
 use Rattle.kapi_core.specs.Machine.{Machine}
 use Rattle.kapi_script.specs.Scripts.{IsAnsweredBy, lines}
 use Rattle.kapi_script.specs.declared.script.ScriptFault.{ScriptFault}

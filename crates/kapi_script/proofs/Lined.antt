@@ -2,11 +2,11 @@
 use Rattle.std.proofs.Common.{◌≡◌, ℕ, ◌+◌, Bool, true, false, List, [], ◌∷◌, ◌++◌, Option, Some, None, Result, Ok, Err, OnOk, IfErr, refl, sym, ap, ◌∙◌, subst, append_assoc, append-nil}
 use Rattle.std.specs.Io.KnownBytes.{Appends}
 use Rattle.kapi_core.specs.Machine.{Machine}
-use Rattle.kapi_core.specs.Stands.{Stands}
+use Rattle.kapi_core.specs.Refines.{Refines}
 use Rattle.kapi_core.specs.Running.{Running}
 use Rattle.kapi_script.specs.AnswerLines.{answer_line, refused_line}
 use Rattle.kapi_script.specs.Scripts.{line_of, is_bad, written_for, after_line, said, first_bad_from}
-use Rattle.kapi_script.specs.Playing.{Play, Plays, played_text, is_bad_play, Reached, ReachedBy, Stopped, Goes}
+use Rattle.kapi_script.specs.Private.Playing.{Play, Plays, played_text, is_bad_play, Reached, ReachedBy, Stopped, Goes}
 use Rattle.kapi_script.specs.declared.script.Played.{Played}
 use Rattle.kapi_script.specs.declared.script.Played.TheVariants as played
 use Rattle.kapi_script.specs.declared.script.ScriptFault.{ScriptFault}
@@ -29,9 +29,9 @@ bad_first : (n : ℕ) (line : List ℕ) (rest : List (List ℕ)) → is_bad (lin
 unfolding first_bad_from
 bad_first n line rest e = rw e refl
 
--- a line was played, or refused for want of memory
+-- a line was played, or refused as it ran out of memory
 reached_more : (all : Play) (rest : List (List ℕ)) (n : ℕ) (old new : Running) (line written text : List ℕ) (r : Bool) (h : Reached all (line ∷ rest) n old written)
-    → is_bad (line_of line) ≡ false → text ≡ written_for (line_of line) r h.machine → Stands new (after_line (line_of line) r h.machine)
+    → is_bad (line_of line) ≡ false → text ≡ written_for (line_of line) r h.machine → Refines new (after_line (line_of line) r h.machine)
     → Reached all rest (n + 1) new (written ++ text)
 reached_more all rest n old new line written text r h good e stands = record {
   machine = after_line (line_of line) r h.machine;
@@ -55,10 +55,10 @@ held before written text (Some xs) None e h = absurd h
 held before written text (Some xs) (Some ys) e h =
     ap Some (h ∙ ap (λ l. l ++ text) (some_is xs (before ++ written) e) ∙ append_assoc before written text)
 
--- the same of what a writer holds
+-- a writer holds its old bytes and then what was written
 reached_by : (all : Play) (rest : List (List ℕ)) (n : ℕ) (old new : Running) (line before text : List ℕ) (r : Bool) (c d : Option (List ℕ)) → is_bad (line_of line) ≡ false
     → Appends c d text → (h : ReachedBy all (line ∷ rest) n old before c) → text ≡ written_for (line_of line) r h.1.machine
-    → Stands new (after_line (line_of line) r h.1.machine) → ReachedBy all rest (n + 1) new before d
+    → Refines new (after_line (line_of line) r h.1.machine) → ReachedBy all rest (n + 1) new before d
 reached_by all rest n old new line before text r c d good wrote h e stands =
     (h.0 ++ text, reached_more all rest n old new line h.0 text r h.1 good e stands, held before h.0 text c d h.2 wrote)
 

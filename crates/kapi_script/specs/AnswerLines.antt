@@ -7,7 +7,7 @@ use Rattle.kapi_core.specs.declared.event.Output.{Output}
 use Rattle.kapi_core.specs.declared.event.Turned.{Turned}
 use Rattle.kapi_lines.specs.Escapes.{escaped}
 
--- bytes that go out; `last` where the connection ends with them
+-- bytes that are sent; `last` where the connection ends with them
 unfoldable pub output_line : Output → List ℕ
 output_line output = ((if output.close then codes "last " else codes "out ") ++ escaped output.bytes) ++ codes "\n"
 
@@ -26,6 +26,6 @@ answer_line told.TooMany = codes "error TooMany\n"
 answer_line told.Full = codes "error Full\n"
 answer_line told.Ended = codes "error Ended\n"
 
--- to an event that was refused for want of memory
+-- the line for an event that is refused as the machine is out of memory
 abbrev pub refused_line : List ℕ
 refused_line = codes "error Memory\n"

@@ -5,28 +5,15 @@ use Rattle.std.specs.List.{list_all, position, slice_split, starts_with}
 use Rattle.std.specs.Option.{option_map}
 use Rattle.std.specs.Str.{bytes_eq, is_utf8}
 use Rattle.std.specs.Str.Parse.{digits_value}
-use Rattle.kapi_rbac_types.specs.declared.identity.Identity.{Identity}
+use Rattle.kapi_model.specs.declared.identity.Identity.{Identity}
 use Rattle.kapi_core.specs.declared.event.ConnId.{ConnId}
 use Rattle.kapi_core.specs.declared.event.Event.{Event}
 use Rattle.kapi_core.specs.declared.event.Event.TheVariants as event
 use Rattle.kapi_lines.specs.Escapes.{unescaped}
+use Rattle.kapi_lines.specs.Identities.{named_identity}
 use Rattle.kapi_lines.specs.Words.{begins}
 
--- the names of `USER` or `USER,GROUP,..`
-abbrev pub names_in : List ℕ → List (List ℕ)
-names_in s = slice_split (λ b. b == 44) s
-
--- the identity of a user and his groups
-abbrev pub identity_of : List (List ℕ) → Identity
-identity_of [] = record { user = []; groups = [] }
-identity_of (user ∷ groups) = record { user = user; groups = groups }
-
--- the identity that names in UTF-8 tell, none of them empty
-unfoldable pub named_identity : List ℕ → Option Identity
-named_identity s =
-    if is_utf8 s && list_all (λ name. not (length name == 0)) (names_in s) then Some (identity_of (names_in s)) else None
-
--- a connection of such an identity
+-- a connection of an identity that is named
 unfoldable pub open_event : List ℕ → Option Event
 open_event s = option_map (λ identity. event.Open identity) (named_identity s)
 

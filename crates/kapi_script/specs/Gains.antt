@@ -1,4 +1,5 @@
--- The events that the lines of a script make (Kubernetes, 'Using RBAC Authorization', 'Privilege escalation prevention and bootstrapping').
+-- The events that the lines of a script make (Kubernetes, 'Using RBAC Authorization', 'Privilege escalation prevention
+-- and bootstrapping').
 use Rattle.std.specs.Prelude.{ℕ, Bool, if◌then◌else◌, List, [], ◌∷◌, ◌++◌, drop, take}
 use Rattle.kapi_aggregation.specs.Roles.{roles_in}
 use Rattle.kapi_core.specs.Gains.{NobodyGains, acting_in}
@@ -6,7 +7,7 @@ use Rattle.kapi_core.specs.Machine.{Machine, after, policy_of}
 use Rattle.kapi_core.specs.declared.event.Event.{Event}
 use Rattle.kapi_script.specs.Scripts.{Line, bad, is_bad, is_refused, line_of, lines, skipped, start, told}
 
--- the event that a line makes; none where memory ran out at it
+-- the event that a line makes; none where it runs out of memory
 abbrev pub made_by : Line → Bool → List Event
 made_by skipped refused = []
 made_by bad refused = []
@@ -21,11 +22,11 @@ made (l ∷ ls) refused = if is_bad (line_of l) then [] else made_by (line_of l)
 abbrev pub machine_at : List ℕ → List Bool → ℕ → Machine
 machine_at text refused count = after start (made (take count (lines text)) refused)
 
--- the events that the lines behind them make
+-- the events that the lines behind so many lines of a script make
 abbrev pub made_from : List ℕ → List Bool → ℕ → List Event
 made_from text refused count = made (drop count (lines text)) (drop count refused)
 
--- nobody gains by these lines what none of those who act in them held before them
+-- nobody gains by these lines what none of the identities acting in them held before them
 abbrev pub NobodyGainsFrom : List ℕ → List Bool → ℕ → Type 0
 NobodyGainsFrom text refused count =
     NobodyGains (roles_in (machine_at text refused count).store.objects) (acting_in (machine_at text refused count) (made_from text refused count))

@@ -1,6 +1,5 @@
 pub mod Events
 pub mod AnswerLines
-pub mod ProgramTable
 pub mod Scripts
-pub mod Playing
+pub mod Private
 pub mod Gains

@@ -1,4 +1,4 @@
--- What a script is answered: line by line, by the machine that is data.
+-- The answers to a script: line by line, by the model.
 use Rattle.std.specs.Prelude.{◌≡◌, ℕ, ◌+◌, ◌==◌, Bool, true, false, ◌||◌, if◌then◌else◌, List, [], ◌∷◌, ◌++◌, length, slice_index, drop, Option, Some, None}
 use Rattle.std.specs.List.{slice_split}
 use Rattle.kapi_core.specs.Machine.{Machine, step}
@@ -6,7 +6,7 @@ use Rattle.kapi_core.specs.Opening.{opening}
 use Rattle.kapi_core.specs.declared.event.Event.{Event}
 use Rattle.kapi_script.specs.AnswerLines.{answer_line, refused_line}
 use Rattle.kapi_script.specs.Events.{line_event}
-use Rattle.kapi_script.specs.ProgramTable.{program_rows}
+use Rattle.kapi_core.specs.ProgramTable.{program_rows}
 
 -- lines end at LF; the last may lack it
 abbrev pub lines : List ℕ → List (List ℕ)
@@ -18,7 +18,7 @@ pub data Line : Type 0 where
   bad : Line
   told : Event → Line
 
--- a line is the event that was read of it, if one was
+-- the line of the event that was read, if one was
 abbrev pub told_if : Option Event → Line
 told_if None = bad
 told_if (Some e) = told e
@@ -33,7 +33,7 @@ is_bad skipped = false
 is_bad bad = true
 is_bad (told e) = false
 
--- what is written for a line, and the machine after it; where memory ran out, the event was not made
+-- what is written for a line, and the machine after it; where it runs out of memory, the event was not made
 abbrev pub written_for : Line → Bool → Machine → List ℕ
 written_for skipped refused m = []
 written_for bad refused m = []
@@ -45,12 +45,12 @@ after_line skipped refused m = m
 after_line bad refused m = m
 after_line (told e) refused m = if refused then m else (step m e).1
 
--- whether memory ran out at the first line
+-- whether the first line runs out of memory
 abbrev pub is_refused : List Bool → Bool
 is_refused [] = false
 is_refused (r ∷ rs) = r
 
--- what is written for lines, up to the first bad one; `refused` says of each line whether memory ran out at it
+-- what is written for lines, up to the first bad one; `refused` says of each line whether it runs out of memory
 unfoldable pub said : Machine → List (List ℕ) → List Bool → List ℕ
 said m [] refused = []
 said m (l ∷ ls) refused =
@@ -70,12 +70,12 @@ start = opening program_rows 0
 abbrev pub first_bad : List ℕ → Option ℕ
 first_bad text = first_bad_from 1 (lines text)
 
--- behind what was written before stands what a machine answers to the lines of a script, for some lines at which memory ran out; and
--- the first bad line is that one, or there is none
+-- behind what was written before come the answers of a machine to the lines of a script, some of which run out of
+-- memory; and the first bad line has that number, or there is none
 abbrev pub IsAnsweredBy : Machine → List ℕ → List ℕ → Option (List ℕ) → Option ℕ → Type 0
 IsAnsweredBy m text before contents number =
     (refused : List Bool) × (contents ≡ Some (before ++ said m (lines text) refused)) × (first_bad text ≡ number)
 
--- the same of the machine that a script is played on
+-- behind what was written before come the answers of the machine that a script is played on to the script's lines
 abbrev pub IsAnswered : List ℕ → List ℕ → Option (List ℕ) → Option ℕ → Type 0
 IsAnswered text before contents number = IsAnsweredBy start text before contents number

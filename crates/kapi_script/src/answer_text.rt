@@ -7,7 +7,7 @@ use kapi_core::{Answer, ConnId, Output, Turned};
 use kapi_lines::write_escaped;
 use std::io::{self, Write};
 
-/// Writes the line of an answer, with its end. Takes no memory.
+/// Writes the line of an answer, with its end. Allocates nothing.
 #[tactic(auto, unfolding(crate::specs::AnswerLines::answer_line))]
 pub fn write_answer<W: Write>(writer: &mut W, answer: &Answer) -> io::Result<()>
     ensures { OnOk result (Appends (W.contents writer.old) (W.contents writer.new) (answer_line answer.now)) }

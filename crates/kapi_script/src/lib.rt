@@ -5,8 +5,5 @@ mod answer_text;
 pub mod laws;
 mod line;
 mod script;
-mod table;
 
-pub use line::read_identity;
 pub use script::{ScriptFault, play_script, script_run};
-pub use table::program_table;

@@ -2,29 +2,28 @@ ghost use Rattle.std.specs.Prelude.{◌≡◌, ◌+◌, ◌<◌, ◌≤◌, ◌+
 ghost use Rattle.kapi_script.specs.declared.script.ScriptFault.TheVariants as Fault;
 ghost use Rattle.std.specs.Io.KnownBytes.{Appends, Consumes, IsAtEnd};
 ghost use Rattle.kapi_core.specs.Machine.{Machine};
-ghost use Rattle.kapi_core.specs.Stands.{Keeps, Stands, Steps};
-ghost use Rattle.kapi_script.specs.Playing.{is_bad_play, Ends, Goes, Play, Plays, ReachedBy, Reading, ReadsOn, played_text};
+ghost use Rattle.kapi_core.specs.Refines.{Keeps, Refines, Steps};
+ghost use Rattle.kapi_script.specs.Private.Playing.{is_bad_play, Ends, Goes, Play, Plays, ReachedBy, Reading, ReadsOn, played_text};
 ghost use Rattle.kapi_policy.specs.Objects.{no_objects};
 ghost use Rattle.kapi_script.specs.Gains.{NobodyGainsFrom};
 ghost use Rattle.kapi_script.specs.Scripts.{IsAnswered, IsAnsweredBy};
 
 use crate::answer_text::write_answer;
 use crate::line::parse_line;
-use crate::table::program_table;
-use kapi_core::{Answer, Core};
+use kapi_core::{Answer, Core, program_table};
 use kapi_policy::Policy;
 use kapi_text::Memory;
 use std::alloc::Global;
 use std::io::{self, Read, Write};
 use thiserror::Error;
 
-/// How many bytes are read at a time.
+/// The number of bytes that are read at a time.
 const READ_SIZE: usize = 65_536;
 
-/// How many reads a script may take.
+/// The number of reads that a script may take.
 const READS: u64 = 4_294_967_296;
 
-/// Why a script was not played to its end. The answers before it are written.
+/// Why a script was not played to its end. The answers before the fault are written.
 #[derive(Clone, Copy, Debug, PartialEq, Eq, Error)]
 pub enum ScriptFault {
     /// A line of no known form; the first line is 1.
@@ -59,11 +58,11 @@ struct Script {
 /// What was made of a line.
 #[derive(Drop)]
 pub enum Played {
-    /// It is empty or a comment.
+    /// The line is empty or a comment.
     Skipped,
-    /// It has no known form.
+    /// The line has no known form.
     Bad,
-    /// Memory ran out, and nothing was changed.
+    /// An allocation failed, and nothing was changed.
     Refused,
     Told(Answer),
 }
@@ -92,7 +91,7 @@ fn is_bad(played: &Played) -> bool
     matches!(played, Played::Bad)
 }
 
-/// Writes the line that answers a line, if it has one, and hands it on at once.
+/// Writes the line that answers a line, if it has one, and flushes the writer.
 fn write_played<W: Write>(writer: &mut W, played: &Played) -> Result<(), ScriptFault>
     ensures text { OnOk result (Appends (W.contents writer.old) (W.contents writer.new) (played_text played.now)) }
     ensures fault { IfErr result (λ e. e ≡ Fault.Write) }
@@ -191,7 +190,7 @@ fn play_bytes<P: Policy + Drop, W: Write>(
     Ok(())
 }
 
-/// The last line may lack its end.
+/// Plays the last line, which may lack its end.
 fn end_script<P: Policy + Drop, W: Write>(
     alloc: Global,
     core: &mut Core<P>,
@@ -205,15 +204,16 @@ fn end_script<P: Policy + Drop, W: Write>(
     play_line(alloc, core, script.lines, script.line.as_slice(), writer)
 }
 
-/// Plays the events that a reader gives, line by line, on a machine that decides by the given policy, which is still empty, and writes
-/// the answers as they are made.
+/// Plays the events of a reader, line by line, on a machine that decides by the given policy, which is still empty, and
+/// writes the answers as they are made.
 ///
-/// Whatever stands before them in the script, and wherever memory runs out in it, nobody gains by the lines of it that follow what
-/// no actor held: where the aggregated cluster roles then have their unions, and all who act in these lines are harmless then.
+/// From any line of the script on, and wherever an allocation fails, nobody gains by the lines that follow what no
+/// actor held: where the aggregated cluster roles then have their unions, and all identities acting in the lines are
+/// unprivileged.
 ///
 /// # Errors
-/// `BadLine` at the first line of no known form; `Read` where the reader fails or gives 2^32 pieces or more;
-/// `Write` where the writer fails; `Memory` where memory runs out outside an event.
+/// `BadLine` at the first line of no known form; `Read` where the reader fails or returns 2^32 pieces or more;
+/// `Write` where the writer fails; `Memory` where an allocation fails outside an event.
 pub fn script_run<P: Policy + Drop, R: Read, W: Write>(
     alloc: Global,
     policy: P,
@@ -233,19 +233,19 @@ pub fn script_run<P: Policy + Drop, R: Read, W: Write>(
     play_script(alloc, &mut core, reader, writer)
 }
 
-/// Plays the events that a reader gives, line by line, on a machine, and writes the answers as they are made.
+/// Plays the events of a reader, line by line, on a machine, and writes the answers as they are made.
 ///
 /// # Errors
-/// As of `script_run`.
+/// The errors of `script_run`.
 pub fn play_script<P: Policy + Drop, R: Read, W: Write>(
     alloc: Global,
     core: &mut Core<P>,
     reader: &mut R,
     writer: &mut W,
 ) -> Result<(), ScriptFault>
-    ensures played { (m : Machine) (text before : List ℕ) → Stands core.old m → R.remaining reader.old ≡ Some text
+    ensures played { (m : Machine) (text before : List ℕ) → Refines core.old m → R.remaining reader.old ≡ Some text
         → W.contents writer.old ≡ Some before → OnOk result (IsAnsweredBy m text before (W.contents writer.new) None) }
-    ensures bad { (m : Machine) (text before : List ℕ) (number : ℕ) → Stands core.old m → R.remaining reader.old ≡ Some text
+    ensures bad { (m : Machine) (text before : List ℕ) (number : ℕ) → Refines core.old m → R.remaining reader.old ≡ Some text
         → W.contents writer.old ≡ Some before → result ≡ Err (Fault.BadLine number)
         → IsAnsweredBy m text before (W.contents writer.new) (Some number) }
     ensures whole { OnOk result (IsAtEnd (R.remaining reader.new)) }

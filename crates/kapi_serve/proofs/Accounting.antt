@@ -6,7 +6,7 @@ use Rattle.kapi_core.specs.declared.event.Answer.{Answer}
 use Rattle.kapi_core.specs.declared.event.Answer.TheVariants as answer
 use Rattle.kapi_core.specs.declared.event.ConnId.{ConnId}
 use Rattle.kapi_core.specs.declared.event.Event.TheVariants as event
-use Rattle.kapi_rbac_types.specs.declared.identity.Identity.{Identity}
+use Rattle.kapi_model.specs.declared.identity.Identity.{Identity}
 use Rattle.kapi_serve.specs.declared.port.Entry.{Entry}
 use Rattle.kapi_serve.specs.declared.port.Entry.TheVariants as entry
 use Rattle.kapi_serve.specs.Account.{Account, AreTheirs, Made, Talk, Visit, accepted_by, answered_to, closes, fed_to, present, read_from, talks, visits}
@@ -33,7 +33,7 @@ account_same ds es ls ms visits_same talks_same a = record {
   theirs = subst (λ vs. AreTheirs vs a.given) (sym visits_same) a.theirs;
 }
 
--- where nothing comes
+-- the account holds where nothing comes
 holds_nothing : (n : ℕ) (s : List Seat) → Holds n s [] []
 unfolding visits talks present AreTheirs read_from accepted_by fed_to answered_to
 holds_nothing n s = record {
@@ -98,12 +98,12 @@ holds_ended n p x f b ds es ls ms up sits l h =
           ((passes c away).0 ∙ none.0, (passes c away).1 ∙ none.1);
     }
 
--- nothing, or nothing of what follows
+-- a choice is nothing, where it is nothing or the rest is
 if_nothing : (b : Bool) (xs : List ℕ) → (b ≡ false → xs ≡ []) → (if b then [] else xs) ≡ []
 if_nothing true xs h = refl
 if_nothing false xs h = h refl
 
--- nothing comes of a slot where a client connects, nor of another of which nothing comes
+-- nothing is read from a slot where a client connects, nor from another of which nothing comes
 opened_nothing : (slot k : ℕ) (who : Identity) (es : List Entry) → ((slot == k) ≡ false → (read_from k es ≡ []) × (accepted_by k es ≡ []))
     → (read_from k (entry.Opened slot who ∷ es) ≡ []) × (accepted_by k (entry.Opened slot who ∷ es) ≡ [])
 unfolding read_from accepted_by
@@ -143,16 +143,16 @@ holds_opened n s slot who conn es ms sits free next h =
           ((passes c different).0 ∙ none.0, (passes c different).1 ∙ none.1);
     }
 
--- what a client is who is ended at once
+-- the visit of a client that is ended at once
 abbrev no_visit : Identity → Visit
 no_visit who = record { identity = who; ended_at_once = true; read = []; accepted = [] }
 
--- he is a visit, of which nothing is read or accepted
+-- a client that is ended at once is a visit, of which nothing is read or accepted
 visits_at_once : (slot : ℕ) (who : Identity) (es : List Entry) → visits (entry.Opened slot who ∷ entry.Ended slot ∷ es) ≡ no_visit who ∷ visits es
 unfolding visits read_from accepted_by
 visits_at_once slot who es = rw (eq-eqb slot slot refl)
 
--- of other slots no more is read or accepted
+-- from other slots no more is read or accepted
 skips_at_once : (slot : ℕ) (who : Identity) (es : List Entry) → Skips slot (entry.Opened slot who ∷ entry.Ended slot ∷ es) es
 skips_at_once slot who es =
     let rest : List Entry = entry.Ended slot ∷ es in
@@ -178,7 +178,7 @@ holds_at_once n p s slot who es ls ms up sits free passes account h =
           (passed.0 ∙ none.0, passed.1 ∙ none.1);
     }
 
--- there were too many
+-- a client is rejected, as there were too many
 account_shunned : (slot : ℕ) (who : Identity) (es : List Entry) (ms : List Made) → Account es ms
     → Account (entry.Opened slot who ∷ entry.Ended slot ∷ es) (record { event = event.Open who; answer = answer.TooMany } ∷ ms)
 unfolding talks present AreTheirs
@@ -192,7 +192,7 @@ account_shunned slot who es ms a =
           (record { identity = refl; refused = []; read = refl; only_closed = λ h. refl; left = []; accepted = refl }, a.theirs);
     }
 
--- there was no memory for him
+-- a client is dropped, as no memory could be allocated for it
 account_lost : (slot : ℕ) (who : Identity) (es : List Entry) (ms : List Made) → Account es ms → Account (entry.Opened slot who ∷ entry.Ended slot ∷ es) ms
 unfolding present AreTheirs
 account_lost slot who es ms a =
@@ -221,7 +221,7 @@ holds_turned n p s x es ms up sits h =
           (passed.0 ∙ none.0, passed.1 ∙ none.1);
     }
 
--- it holds of all that acts do
+-- the account holds of all that acts do
 holds : (acts : List Act) (m : Machine) (s t : List Seat) → Sits m.next_id s → Follows s acts t → answers_of (made_in acts) ≡ answers m (events_of (made_in acts))
     → Holds m.next_id s (entries_in acts) (made_in acts)
 unfolding entries_in made_in Follows answers
@@ -299,7 +299,7 @@ holds (turns x ∷ acts) m s t sits follows told =
     let h : Holds p.next_id u es ms = holds acts p u t seated follows.2 (rest_same x (step m event.Turn).0 (answers_of ms) (answers p (events_of ms)) told) in
     holds_turned m.next_id p.next_id s x es ms up sits (subst (λ v. Holds p.next_id v es ms) follows.1 h)
 
--- each client's connection is his, and what was read from him was fed to it, and what he accepted was answered there
+-- each client's connection is its own: what was read from it was fed, and what it accepted was answered there
 pub accounts : (m : Machine) (acts : List Act) (t : List Seat) → Follows [] acts t → answers_of (made_in acts) ≡ answers m (events_of (made_in acts))
     → Account (entries_in acts) (made_in acts)
 accounts m acts t follows told = (holds acts m [] t (nobody_sits m.next_id) follows told).account

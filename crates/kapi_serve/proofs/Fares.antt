@@ -1,10 +1,10 @@
--- How what comes of the ports is each client's.
+-- What comes of the ports belongs to its client.
 use Rattle.std.proofs.Common.{◌≡◌, ℕ, ◌==◌, Bool, true, false, List, [], ◌∷◌, ◌++◌, refl, sym, ap, ◌∙◌, append_assoc}
 use Rattle.std.proofs.lemmas.List.{append-nil}
 use Rattle.kapi_core.specs.declared.event.Answer.{Answer}
 use Rattle.kapi_core.specs.declared.event.ConnId.{ConnId}
 use Rattle.kapi_core.specs.declared.event.Event.TheVariants as event
-use Rattle.kapi_rbac_types.specs.declared.identity.Identity.{Identity}
+use Rattle.kapi_model.specs.declared.identity.Identity.{Identity}
 use Rattle.kapi_serve.specs.declared.port.Entry.{Entry}
 use Rattle.kapi_serve.specs.declared.port.Entry.TheVariants as entry
 use Rattle.kapi_serve.specs.Account.{Made, accepted_by, answered_to, closes, fed_to, read_from}
@@ -58,7 +58,7 @@ passes_nothing id ns = λ c off. (refl, refl, λ h. h)
 
 -- ---- how clients fare
 
--- what is read from a client is fed to him, but for a piece that closes him, and what he accepts is owed to him first
+-- what is read from a client is fed to its connection, but for a piece that closes it; what it accepts is owed first
 pub record Fares (x : Seat) (es : List Entry) (ms : List Made) : Type 0 where
   pub refused : List ℕ
   pub read : read_from x.slot es ≡ fed_to x.conn ms ++ refused
@@ -66,12 +66,12 @@ pub record Fares (x : Seat) (es : List Entry) (ms : List Made) : Type 0 where
   pub left : List ℕ
   pub owed : x.owed ++ answered_to x.conn ms ≡ accepted_by x.slot es ++ left
 
--- so fare all of them
+-- all clients fare so: their bytes are fed and owed
 unfoldable pub AllFare : List Seat → List Entry → List Made → Type 0
 AllFare [] es ms = Unit {0}
 AllFare (x ∷ xs) es ms = Fares x es ms × AllFare xs es ms
 
--- where nothing comes
+-- a client fares so where nothing comes
 fares_nothing : (x : Seat) → Fares x [] []
 unfolding read_from accepted_by fed_to answered_to closes
 fares_nothing x = record { refused = []; read = refl; only_closed = λ h. refl; left = x.owed; owed = append-nil x.owed }
@@ -81,7 +81,7 @@ unfolding AllFare
 all_fare_nothing [] = tt
 all_fare_nothing (x ∷ s) = (fares_nothing x, all_fare_nothing s)
 
--- what is another's passes by
+-- what belongs to another client leaves this one as it was
 fares_beside : (slot id : ℕ) (x : Seat) (ds es : List Entry) (ls ms : List Made) → Skips slot ds es → Passes id ls ms
     → (x.slot == slot) ≡ false → (x.conn.0 == id) ≡ false → Fares x es ms → Fares x ds ls
 fares_beside slot id x ds es ls ms skips passes off away f =
@@ -102,7 +102,7 @@ all_fare_beside slot id [] ds es ls ms skips passes off away f = tt
 all_fare_beside slot id (x ∷ s) ds es ls ms skips passes off away f =
     (fares_beside slot id x ds es ls ms skips passes off.0 away.0 f.0, all_fare_beside slot id s ds es ls ms skips passes off.1 away.1 f.1)
 
--- those of lists that are joined
+-- the clients of lists that are joined fare so
 pub fare_front : (s t : List Seat) (es : List Entry) (ms : List Made) → AllFare (s ++ t) es ms → AllFare s es ms
 unfolding AllFare
 fare_front [] t es ms f = tt
@@ -118,7 +118,7 @@ unfolding AllFare
 fare_both [] t es ms f g = g
 fare_both (x ∷ s) t es ms f g = (f.0, fare_both s t es ms f.1 g)
 
--- one client among others, by whom all passes
+-- one client among others, whom all passes by
 pub fare_among : (n : ℕ) (x : Seat) (f b : List Seat) (ds es : List Entry) (ls ms : List Made) → Sits n (f ++ x ∷ b) → Skips x.slot ds es → Passes x.conn.0 ls ms
     → AllFare f es ms → AllFare b es ms → Fares x ds ls → AllFare (f ++ x ∷ b) ds ls
 unfolding AllFare
@@ -172,7 +172,7 @@ fares_left x ds es ls ms l unread unaccepted unfed unanswered =
       owed = ap (λ r. x.owed ++ r) answered ∙ l.owed ∙ ap (λ r. r ++ l.left) (sym accepted);
     }
 
--- a turn is nobody's
+-- a turn belongs to no client
 pub all_fare_turned : (s : List Seat) (x : Answer) (es : List Entry) (ms : List Made) → AllFare s es ms → AllFare s es (record { event = event.Turn; answer = x } ∷ ms)
 unfolding AllFare fed_to answered_to closes
 all_fare_turned [] x es ms f = tt

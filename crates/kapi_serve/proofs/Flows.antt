@@ -11,13 +11,13 @@ use Rattle.kapi_serve.specs.declared.port.Entry.TheVariants as entry
 use Rattle.kapi_serve.specs.Account.{Made, accepted_by, answered_by, answered_to, closes, fed_by, fed_to, is_close_of, read_from, talk_if, talks, visits}
 use Rattle.kapi_serve.specs.Acts.{AreTo, IsTo, StayOn, end_of}
 
--- what differs does so the other way round
+-- numbers that differ do so the other way round
 pub differs_back : (a b : ℕ) → (a == b) ≡ false → (b == a) ≡ false
 differs_back a b h = ne_eqb b a (λ e. eqb-false a b h (sym e))
 
 -- ---- entries of one slot
 
--- what is read on it is joined
+-- what is read on a slot is joined
 pub read_on : (slot : ℕ) (es fs : List Entry) → StayOn slot es → read_from slot (es ++ fs) ≡ read_from slot es ++ read_from slot fs
 unfolding read_from StayOn
 read_on slot [] fs on = refl
@@ -27,7 +27,7 @@ read_on slot (entry.Gave s bytes ∷ es) fs on =
 read_on slot (entry.Took s bytes ∷ es) fs on = read_on slot es fs on.1
 read_on slot (entry.Ended s ∷ es) fs on = elim on [ ]
 
--- what is accepted on it is joined
+-- what is accepted on a slot is joined
 pub accepted_on : (slot : ℕ) (es fs : List Entry) → StayOn slot es → accepted_by slot (es ++ fs) ≡ accepted_by slot es ++ accepted_by slot fs
 unfolding accepted_by StayOn
 accepted_on slot [] fs on = refl
@@ -37,7 +37,7 @@ accepted_on slot (entry.Took s bytes ∷ es) fs on =
     rw (eq-eqb s slot on.0) (ap (λ r. bytes ++ r) (accepted_on slot es fs on.1) ∙ sym (append_assoc bytes (accepted_by slot es) (accepted_by slot fs)))
 accepted_on slot (entry.Ended s ∷ es) fs on = elim on [ ]
 
--- nothing of it is read on another
+-- entries of a slot read nothing on another
 pub read_off : (slot k : ℕ) (es fs : List Entry) → (slot == k) ≡ false → StayOn slot es → read_from k (es ++ fs) ≡ read_from k fs
 unfolding read_from StayOn
 read_off slot k [] fs off on = refl
@@ -46,7 +46,7 @@ read_off slot k (entry.Gave s bytes ∷ es) fs off on = rw (ap (λ n. n == k) on
 read_off slot k (entry.Took s bytes ∷ es) fs off on = read_off slot k es fs off on.1
 read_off slot k (entry.Ended s ∷ es) fs off on = elim on [ ]
 
--- nothing of it is accepted on another
+-- entries of a slot accept nothing on another
 pub accepted_off : (slot k : ℕ) (es fs : List Entry) → (slot == k) ≡ false → StayOn slot es → accepted_by k (es ++ fs) ≡ accepted_by k fs
 unfolding accepted_by StayOn
 accepted_off slot k [] fs off on = refl
@@ -55,7 +55,7 @@ accepted_off slot k (entry.Gave s bytes ∷ es) fs off on = accepted_off slot k 
 accepted_off slot k (entry.Took s bytes ∷ es) fs off on = rw (ap (λ n. n == k) on.0 ∙ off) (accepted_off slot k es fs off on.1)
 accepted_off slot k (entry.Ended s ∷ es) fs off on = elim on [ ]
 
--- no client connects with them
+-- no client connects with the entries of a slot
 pub visits_on : (slot : ℕ) (es fs : List Entry) → StayOn slot es → visits (es ++ fs) ≡ visits fs
 unfolding visits StayOn
 visits_on slot [] fs on = refl
@@ -66,7 +66,7 @@ visits_on slot (entry.Ended s ∷ es) fs on = elim on [ ]
 
 -- ---- the end of a slot
 
--- nothing comes of the slot then, where nothing did without it, and the others go on as before
+-- after the end of a slot nothing comes of it, where nothing did before, and the other slots go on as before
 pub read_end : (slot : ℕ) (b : Bool) (fs : List Entry) → read_from slot fs ≡ [] → read_from slot (end_of slot b ++ fs) ≡ []
 unfolding read_from
 read_end slot true fs none = rw (eq-eqb slot slot refl)
@@ -124,7 +124,7 @@ either_still : (a b c : Bool) → (a || b) ≡ true → (b ≡ true → c ≡ tr
 either_still true b c h on = refl
 either_still false b c h on = on h
 
--- what was closed stays so
+-- a connection that was closed stays closed
 pub closes_still : (c : ConnId) (ms ns : List Made) → closes c ms ≡ true → closes c (ms ++ ns) ≡ true
 unfolding closes
 closes_still c [] ns h = absurd (cc)
@@ -138,13 +138,13 @@ fed_by_other conn c (event.Feed d piece) answer.Done off to = rw (ap (λ k. k.0 
 fed_by_other conn c (event.Feed d piece) _ off to = refl
 fed_by_other conn c _ _ off to = refl
 
--- nor does it answer it
+-- an event of a connection answers no other
 answered_by_other : (conn c : ConnId) (e : Event) (x : Answer) → (conn.0 == c.0) ≡ false → IsTo conn e → answered_by c e x ≡ []
 answered_by_other conn c (event.Serve d) (answer.Sent output) off to = rw (ap (λ k. k.0 == c.0) to ∙ off)
 answered_by_other conn c (event.Pump d) (answer.Sent output) off to = rw (ap (λ k. k.0 == c.0) to ∙ off)
 answered_by_other conn c _ _ off to = refl
 
--- nor does it ask for one
+-- an event of a connection asks for none
 no_talk : (conn : ConnId) (e : Event) (x : Answer) (rest : List Made) → IsTo conn e → talk_if e x rest ≡ []
 no_talk conn (event.Open who) x rest to = elim to [ ]
 no_talk conn _ x rest to = refl

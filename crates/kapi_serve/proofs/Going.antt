@@ -1,10 +1,11 @@
--- How what was done is joined.
+-- Results of acts, joined.
 use Rattle.std.proofs.Common.{◌≡◌, ℕ, List, [], ◌∷◌, ◌++◌, refl, sym, ap, ◌∙◌, subst, append_assoc, Option, None, Some, Err}
 use Rattle.std.specs.Prelude.{⊤}
 use Rattle.std.proofs.lemmas.List.{append-nil, map-append}
+use Rattle.kapi_core.proofs.Gains.{events_gain}
 use Rattle.kapi_core.specs.Machine.{Machine, step, answers, after}
 use Rattle.kapi_core.specs.Running.{Running}
-use Rattle.kapi_core.specs.Stands.{Keeps, Makes, Opens, RunsOut, Stands, TakesIn, sent_if, turned_if}
+use Rattle.kapi_core.specs.Refines.{Keeps, Makes, Opens, RunsOut, Refines, TakesIn, sent_if, turned_if}
 use Rattle.kapi_core.specs.declared.event.ConnId.{ConnId}
 use Rattle.kapi_core.specs.declared.event.Event.{Event}
 use Rattle.kapi_core.specs.declared.event.Event.TheVariants as event
@@ -16,13 +17,14 @@ use Rattle.kapi_core.specs.declared.event.Output.{Output}
 use Rattle.kapi_core.specs.declared.event.Turned.{Turned}
 use Rattle.kapi_http.specs.declared.inbox.FeedError.{FeedError}
 use Rattle.kapi_http.specs.declared.inbox.FeedError.TheVariants as fed
-use Rattle.kapi_rbac_types.specs.declared.identity.Identity.{Identity}
+use Rattle.kapi_model.specs.declared.identity.Identity.{Identity}
 use Rattle.kapi_policy.specs.declared.change.PolicyChange.{PolicyChange}
 use Rattle.kapi_desk.specs.Boards.{Board}
 use Rattle.kapi_serve.specs.Account.{Made}
 use Rattle.kapi_serve.specs.Acts.{Act, Deals, Does, Follows, IsFree, Leaves, Seat, answers_of, ends, entries_in, entries_of, events_of, loses, made_in, made_of, opens, serves, shuns, turns}
 use Rattle.kapi_serve.specs.Goes.{Closes, Goes, Moves, Runs, Serves, Writes, step_in, steps_in}
-use Rattle.kapi_serve.specs.Shows.{Shows, step_of, unpublished}
+use Rattle.kapi_desk.specs.Steps.{step_of}
+use Rattle.kapi_serve.specs.Shows.{Shows, unpublished}
 use Rattle.kapi_serve.specs.declared.port.Entry.{Entry}
 use Rattle.kapi_serve.specs.declared.port.Entry.TheVariants as entry
 use Rattle.kapi_serve.proofs.Accounting.{accounts}
@@ -54,7 +56,7 @@ runs_more a b c xs ys r s = λ m h.
     let second = s (after m (events_of xs)) first.1 in
     let same = sym (events_more xs ys) in (
       replies_more xs ys ∙ (λ j. first.0 j ++ second.0 j) ∙ sym (answers_more m (events_of xs) (events_of ys)) ∙ ap (λ es. answers m es) same,
-      subst (λ es. Stands c (after m es)) same (subst (λ n. Stands c n) (sym (after_more m (events_of xs) (events_of ys))) second.1),
+      subst (λ es. Refines c (after m es)) same (subst (λ n. Refines c n) (sym (after_more m (events_of xs) (events_of ys))) second.1),
     )
 
 runs_nothing : (a : Running) → Runs a a []
@@ -172,16 +174,16 @@ moves_on a b c s t u T U V h i j m n = record {
   told = told_more T U V h i j m.acts n.acts m.told n.told;
 }
 
--- whatever the history is, where it stays the same
+-- a move holds for any history that stays the same
 pub moves_any : (a b : Running) (s t : List Seat) (T : Type 0) (h : List Entry) → Moves a b s t ⊤ ⊤ h h → Moves a b s t T T h h
 moves_any a b s t T h m = record { acts = m.acts; runs = m.runs; quiet = m.quiet; follows = m.follows; told = λ y. (y, (m.told tt).1) }
 
--- nothing was done, and nothing told
+-- nothing was done, and nothing recorded
 pub moves_still : (a : Running) (s t : List Seat) (T U : Type 0) (h k : List Entry) → t ≡ s → (U → T × (k ≡ h ++ [])) → Moves a a s t T U h k
 unfolding made_in entries_in Follows
 moves_still a s t T U h k same told = record { acts = []; runs = runs_nothing a; quiet = steps_none; follows = same; told = told }
 
--- what told before is told later
+-- a history that was recorded before is recorded later
 pub moves_before : (a b : Running) (s t : List Seat) (T U V : Type 0) (h k : List Entry) → (U → T) → Moves a b s t U V h k → Moves a b s t T V h k
 moves_before a b s t T U V h k first m = record { acts = m.acts; runs = m.runs; quiet = m.quiet; follows = m.follows; told = λ y. (first (m.told y).0, (m.told y).1) }
 
@@ -202,16 +204,16 @@ goes_nothing a d p s T h = record { acts = []; runs = runs_nothing a; shows = sh
 pub goes_moving : (a b : Running) (d : Board) (p : Option (List PolicyChange)) (s t : List Seat) (T U : Type 0) (h k : List Entry) → Moves a b s t T U h k → Goes a b d d p p s t T U h k
 goes_moving a b d p s t T U h k m = record { acts = m.acts; runs = m.runs; shows = shows_as d d p p _ _ (sym m.quiet) (shows_nothing d p); follows = m.follows; told = m.told }
 
--- nothing was done, and nothing told
+-- nothing was done, and nothing recorded
 pub goes_still : (a : Running) (d : Board) (p : Option (List PolicyChange)) (s t : List Seat) (T U : Type 0) (h k : List Entry) → t ≡ s → (U → T × (k ≡ h ++ [])) → Goes a a d d p p s t T U h k
 goes_still a d p s t T U h k same told = goes_moving a a d p s t T U h k (moves_still a s t T U h k same told)
 
--- no event, but publishing
+-- steps are published without an event
 pub goes_showing : (a : Running) (d e : Board) (p q : Option (List PolicyChange)) (s : List Seat) (T : Type 0) (h : List Entry) → Shows d e p q [] → Goes a a d e p q s s T T h h
 unfolding made_in entries_in Follows
 goes_showing a d e p q s T h shows = record { acts = []; runs = runs_nothing a; shows = shows_as d e p q _ _ (sym steps_none) shows; follows = refl; told = λ y. (y, sym (append-nil h)) }
 
--- no event, but writing
+-- bytes are written without an event
 pub goes_writing : (a : Running) (d : Board) (p : Option (List PolicyChange)) (front back : List Seat) (x y : Seat) (T U : Type 0) (h k : List Entry) → Writes x y T U h k
     → Goes a a d d p p (front ++ x ∷ back) (front ++ y ∷ back) T U h k
 goes_writing a d p front back x y T U h k w = record {
@@ -243,14 +245,14 @@ goes_on a b c d e f p q r s t u T U V h i j m n = record {
   told = told_more T U V h i j m.acts n.acts m.told n.told;
 }
 
--- whatever the history is, where it stays the same
+-- a result holds for any history that stays the same
 pub goes_any : (a b : Running) (d e : Board) (p q : Option (List PolicyChange)) (s t : List Seat) (T : Type 0) (h : List Entry) → Goes a b d e p q s t ⊤ ⊤ h h → Goes a b d e p q s t T T h h
 goes_any a b d e p q s t T h m = record { acts = m.acts; runs = m.runs; shows = m.shows; follows = m.follows; told = λ y. (y, (m.told tt).1) }
 
 pub goes_to : (a b : Running) (d e : Board) (p q : Option (List PolicyChange)) (s t u : List Seat) (T U : Type 0) (h k : List Entry) → t ≡ u → Goes a b d e p q s t T U h k → Goes a b d e p q s u T U h k
 goes_to a b d e p q s t u T U h k same m = subst (λ x. Goes a b d e p q s x T U h k) same m
 
--- by other names of the same clients
+-- a move holds by other names of the same clients
 pub moves_as : (a b : Running) (s t u v : List Seat) (T U : Type 0) (h k : List Entry) → u ≡ s → v ≡ t → Moves a b s t T U h k → Moves a b u v T U h k
 moves_as a b s t u v T U h k same too m = subst (λ x. Moves a b x v T U h k) (sym same) (subst (λ x. Moves a b s x T U h k) (sym too) m)
 
@@ -278,7 +280,7 @@ pub goes_unturned : (a b : Running) (d : Board) (p : Option (List PolicyChange))
 goes_unturned a b d p s h o makes none = goes_moving a b d p s s ⊤ ⊤ h h (moves_act a b s s ⊤ ⊤ h h (turns (turned_if o)) (runs_one a b event.Turn (turned_if o) makes)
     (steps_one (turned_if o) ∙ ap (λ x. step_in (turned_if x)) none) refl (λ y. (y, sym (append-nil h))))
 
--- memory ran out
+-- a turn ran out of memory
 pub goes_out : (a b : Running) (d : Board) (p : Option (List PolicyChange)) (s : List Seat) (h : List Entry) (ev : Event) → RunsOut a b ev → Goes a b d d p p s s ⊤ ⊤ h h
 goes_out a b d p s h ev out = goes_moving a b d p s s ⊤ ⊤ h h (moves_kept a b s ⊤ h (λ m k. (out m k).0))
 
@@ -288,7 +290,7 @@ goes_out a b d p s h ev out = goes_moving a b d p s s ⊤ ⊤ h h (moves_kept a 
 does_for : (front back : List Seat) (x y : Seat) (entries : List Entry) (made : List Made) → Deals x y entries made → Does (front ++ x ∷ back) (serves x y entries made) (front ++ y ∷ back)
 does_for front back x y entries made deals = (front, back, refl, refl, deals)
 
--- a step of his, whose changes are published
+-- a step of a client, whose changes are published
 goes_for : (a b : Running) (d e : Board) (p q : Option (List PolicyChange)) (front back : List Seat) (x y : Seat) (h : List Entry) (ev : Event) (out : Output) → Makes a b ev (answer.Sent out)
     → Shows d e p q (step_of out.policy_changes) → Deals x y [] (record { event = ev; answer = answer.Sent out } ∷ []) → Goes a b d e p q (front ++ x ∷ back) (front ++ y ∷ back) ⊤ ⊤ h h
 goes_for a b d e p q front back x y h ev out makes shows deals =
@@ -301,38 +303,38 @@ makes_sent a b ev o out makes some = subst (λ x. Makes a b ev (sent_if x)) some
 makes_nothing : (a b : Running) (ev : Event) (o : Option Output) → Makes a b ev (sent_if o) → o ≡ None → Makes a b ev answer.Nothing
 makes_nothing a b ev o makes none = subst (λ x. Makes a b ev (sent_if x)) none makes
 
--- he is answered
+-- a client is answered
 pub goes_served : (a b : Running) (d e : Board) (p q : Option (List PolicyChange)) (front back : List Seat) (x y : Seat) (h : List Entry) (o : Option Output) (out : Output)
     → Makes a b (event.Serve x.conn) (sent_if o) → o ≡ Some out → Shows d e p q (step_of out.policy_changes) → y.slot ≡ x.slot → y.conn ≡ x.conn → y.owed ≡ x.owed ++ out.bytes
     → Goes a b d e p q (front ++ x ∷ back) (front ++ y ∷ back) ⊤ ⊤ h h
 goes_served a b d e p q front back x y h o out makes some shows slot conn owed =
     goes_for a b d e p q front back x y h (event.Serve x.conn) out (makes_sent a b (event.Serve x.conn) o out makes some) shows (deals_served x y out slot conn owed)
 
--- he is shown an event
+-- a client is shown an event
 pub goes_shown : (a b : Running) (d e : Board) (p q : Option (List PolicyChange)) (front back : List Seat) (x y : Seat) (h : List Entry) (o : Option Output) (out : Output)
     → Makes a b (event.Pump x.conn) (sent_if o) → o ≡ Some out → Shows d e p q (step_of out.policy_changes) → y.slot ≡ x.slot → y.conn ≡ x.conn → y.owed ≡ x.owed ++ out.bytes
     → Goes a b d e p q (front ++ x ∷ back) (front ++ y ∷ back) ⊤ ⊤ h h
 goes_shown a b d e p q front back x y h o out makes some shows slot conn owed =
     goes_for a b d e p q front back x y h (event.Pump x.conn) out (makes_sent a b (event.Pump x.conn) o out makes some) shows (deals_shown x y out slot conn owed)
 
--- one quiet event of his
+-- one quiet event of a client
 moves_for : (a b : Running) (front back : List Seat) (x y : Seat) (h : List Entry) (e : Event) (z : Answer) → Makes a b e z → step_in z ≡ [] → Deals x y [] (record { event = e; answer = z } ∷ [])
     → Moves a b (front ++ x ∷ back) (front ++ y ∷ back) ⊤ ⊤ h h
 moves_for a b front back x y h e z makes none deals =
     moves_act a b (front ++ x ∷ back) (front ++ y ∷ back) ⊤ ⊤ h h (serves x y [] (record { event = e; answer = z } ∷ [])) (runs_one a b e z makes) (steps_one z ∙ none)
     (does_for front back x y [] _ deals) (λ u. (u, sym (append-nil h)))
 
--- there is no request of his
+-- there is no request of the client
 pub moves_unserved : (a b : Running) (front back : List Seat) (x : Seat) (h : List Entry) (o : Option Output) → Makes a b (event.Serve x.conn) (sent_if o) → o ≡ None
     → Moves a b (front ++ x ∷ back) (front ++ x ∷ back) ⊤ ⊤ h h
 moves_unserved a b front back x h o makes none = moves_for a b front back x x h (event.Serve x.conn) answer.Nothing (makes_nothing a b (event.Serve x.conn) o makes none) refl (deals_unserved x)
 
--- there is no event for him
+-- there is no event for the client
 pub moves_unshown : (a b : Running) (front back : List Seat) (x : Seat) (h : List Entry) (o : Option Output) → Makes a b (event.Pump x.conn) (sent_if o) → o ≡ None
     → Moves a b (front ++ x ∷ back) (front ++ x ∷ back) ⊤ ⊤ h h
 moves_unshown a b front back x h o makes none = moves_for a b front back x x h (event.Pump x.conn) answer.Nothing (makes_nothing a b (event.Pump x.conn) o makes none) refl (deals_unshown x)
 
--- his connection is closed, and what is pending goes out
+-- a client's connection is closed, and what is pending is sent
 pub moves_closed : (a b : Running) (front back : List Seat) (x y : Seat) (h : List Entry) → Makes a b (event.Close x.conn) answer.Done → y ≡ x → Moves a b (front ++ x ∷ back) (front ++ y ∷ back) ⊤ ⊤ h h
 moves_closed a b front back x y h makes same = moves_for a b front back x y h (event.Close x.conn) answer.Done makes refl (deals_closed x y same)
 
@@ -342,12 +344,12 @@ pub writes_nothing : (x y : Seat) (T : Type 0) (h : List Entry) → y ≡ x → 
 unfolding made_in entries_in Follows
 writes_nothing x y T h same = record { acts = []; idle = refl; follows = λ front back. ap (λ z. front ++ z ∷ back) same; told = λ z. (z, sym (append-nil h)) }
 
--- none of his bytes was accepted
+-- none of a client's bytes was accepted
 pub writes_still : (x y : Seat) (T U : Type 0) (h k : List Entry) → y ≡ x → (U → T × (k ≡ h ++ [])) → Writes x y T U h k
 unfolding made_in entries_in Follows
 writes_still x y T U h k same told = record { acts = []; idle = refl; follows = λ front back. ap (λ z. front ++ z ∷ back) same; told = told }
 
--- he accepted bytes
+-- a client accepted bytes
 pub writes_took : (x y : Seat) (T U : Type 0) (h k : List Entry) (bytes : List ℕ) → y.slot ≡ x.slot → y.conn ≡ x.conn → x.owed ≡ bytes ++ y.owed → (U → T × (k ≡ h ++ entry.Took x.slot bytes ∷ []))
     → Writes x y T U h k
 writes_took x y T U h k bytes slot conn owed told =
@@ -369,12 +371,12 @@ writes_on x y z T U V h i j m n = record {
 
 -- ---- clients come, are read, and leave
 
--- a client was opened a connection, or there were too many, or memory ran out and his slot was ended
+-- a client was opened a connection, or it was rejected or dropped and its slot was ended
 pub moves_opened : (a b : Running) (s : List Seat) (T U : Type 0) (h k : List Entry) (slot : ℕ) (who : Identity) (id : ConnId) → IsFree slot s → Makes a b (event.Open who) (answer.Opened id)
     → (U → T × (k ≡ h ++ entry.Opened slot who ∷ [])) → Moves a b s (s ++ record { slot = slot; conn = id; owed = [] } ∷ []) T U h k
 moves_opened a b s T U h k slot who id free makes told = moves_act a b s _ T U h k (opens slot who id) (runs_one a b (event.Open who) (answer.Opened id) makes) (steps_one (answer.Opened id)) (free, refl) told
 
--- behind his entry his slot was ended
+-- behind a client's entry its slot was ended
 ended_too : (T U : Type 0) (h i k : List Entry) (slot : ℕ) (who : Identity) → (T → i ≡ h ++ entry.Opened slot who ∷ []) → (U → T × (k ≡ i ++ entry.Ended slot ∷ [])) → U
     → T × (k ≡ h ++ entry.Opened slot who ∷ entry.Ended slot ∷ [])
 ended_too T U h i k slot who first second y =
@@ -392,7 +394,7 @@ moves_unopened a b s T U h i k slot who refused.TooMany free made first second =
     moves_act a b s s T U h k (shuns slot who) (runs_one a b (event.Open who) answer.TooMany made) (steps_one answer.TooMany) (free, refl) (ended_too T U h i k slot who first second)
 moves_unopened a b s T U h i k slot who refused.Memory free out first second = moves_lost a b s T U h i k slot who free (λ m y. (out m y).0) first second
 
--- a piece of his was fed
+-- a piece of a client was fed
 pub moves_fed : (a b : Running) (front back : List Seat) (x : Seat) (T U : Type 0) (h k : List Entry) (piece : List ℕ) → Makes a b (event.Feed x.conn piece) answer.Done
     → (U → T × (k ≡ h ++ entry.Gave x.slot piece ∷ [])) → Moves a b (front ++ x ∷ back) (front ++ x ∷ back) T U h k
 moves_fed a b front back x T U h k piece makes told =
@@ -400,12 +402,12 @@ moves_fed a b front back x T U h k piece makes told =
     moves_act a b _ _ T U h k (serves x x (entry.Gave x.slot piece ∷ []) made) (runs_one a b (event.Feed x.conn piece) answer.Done makes) (steps_one answer.Done)
     (does_for front back x x _ made (deals_fed x piece)) told
 
--- the end of his bytes was read
+-- the end of a client's bytes was read
 pub moves_end : (a : Running) (front back : List Seat) (x : Seat) (T U : Type 0) (h k : List Entry) → (U → T × (k ≡ h ++ entry.Gave x.slot [] ∷ [])) → Moves a a (front ++ x ∷ back) (front ++ x ∷ back) T U h k
 unfolding steps_in
 moves_end a front back x T U h k told = moves_act a a _ _ T U h k (serves x x (entry.Gave x.slot [] ∷ []) []) (runs_nothing a) refl (does_for front back x x _ [] (deals_end x)) told
 
--- his connection was closed, and his slot ended or to be opened again
+-- a client's connection was closed, and its slot ended or to be opened again
 pub moves_forgotten : (a b : Running) (front back : List Seat) (x : Seat) (h : List Entry) → Makes a b (event.Close x.conn) answer.Done → Moves a b (front ++ x ∷ back) (front ++ back) ⊤ ⊤ h h
 moves_forgotten a b front back x h makes =
     let made = record { event = event.Close x.conn; answer = answer.Done } ∷ [] in
@@ -419,14 +421,14 @@ moves_ended a b front back x T U h k c =
     let made = record { event = event.Close x.conn; answer = answer.Done } ∷ [] in
     moves_act a b _ _ T U h k (ends x (entry.Ended x.slot ∷ []) made) (runs_one a b (event.Close x.conn) answer.Done c.makes) (steps_one answer.Done) (front, back, refl, refl, leaves_ended x) c.told
 
--- a piece of his was read, and his slot was ended
+-- a piece of a client was read, and its slot was ended
 gave_ended : (T U : Type 0) (h i k : List Entry) (slot : ℕ) (piece : List ℕ) → (T → i ≡ h ++ entry.Gave slot piece ∷ []) → (U → T × (k ≡ i ++ entry.Ended slot ∷ [])) → U
     → T × (k ≡ h ++ entry.Gave slot piece ∷ entry.Ended slot ∷ [])
 gave_ended T U h i k slot piece first second y =
     let b = second y in
     (b.0, b.1 ∙ ap (λ es. es ++ entry.Ended slot ∷ []) (first b.0) ∙ append_assoc h (entry.Gave slot piece ∷ []) (entry.Ended slot ∷ []))
 
--- a piece of his was not taken in
+-- a piece of a client was not taken in
 moves_out_with : (a c : Running) (front back : List Seat) (x : Seat) (T U : Type 0) (h i k : List Entry) (piece : List ℕ) (made : List Made) → Runs a c made → steps_in (answers_of made) ≡ []
     → Leaves x (entry.Gave x.slot piece ∷ entry.Ended x.slot ∷ []) made → (T → i ≡ h ++ entry.Gave x.slot piece ∷ []) → (U → T × (k ≡ i ++ entry.Ended x.slot ∷ []))
     → Moves a c (front ++ x ∷ back) (front ++ back) T U h k
@@ -445,7 +447,8 @@ moves_refused a b c front back x T U h i k piece fed.Memory out closes first =
 
 -- ---- the whole
 
--- where nothing was unpublished before, the published steps are all but at most the last; and who began with no client accounts for all
+-- where nothing was unpublished before, the published steps are all but at most the last; a server that began with no
+-- client accounts for all bytes
 pub goes_serves : (a b : Running) (d e : Board) (q : Option (List PolicyChange)) (t : List Seat) (T U : Type 0) (h k : List Entry) → d.waiting ≡ [] → Goes a b d e None q [] t T U h k → Serves a b d e U h k
 goes_serves a b d e q t T U h k none s = record {
   made = made_in s.acts;
@@ -458,6 +461,7 @@ goes_serves a b d e q t T U h k none s = record {
   entries = entries_in s.acts;
   told = λ y. (s.told y).1;
   account = λ m y. accounts m s.acts t s.follows (s.runs m y).0;
+  gains = λ m refines. events_gain a m (events_of (made_in s.acts)) refines;
 }
   where
     published : e.list ++ unpublished e q ≡ d.list ++ steps_by s.acts

@@ -2,14 +2,14 @@
 use Rattle.std.proofs.Common.{◌≡◌, ℕ, ◌≤◌, List, [], ◌∷◌, ◌++◌, length, drop, take, min, ◌+◌, sym, ap, ◌∙◌, append_assoc, arith, inl, inr}
 use Rattle.std.proofs.lemmas.Bool.{cases_lt}
 use Rattle.std.proofs.lemmas.List.{append-nil, drop-drop, drop_all, length-drop, take-append-drop}
-use Rattle.kapi_serve.specs.Pieces.{joined}
+use Rattle.kapi_serve.specs.Private.Pieces.{joined}
 
 -- a piece more
 pub joined_push : (pieces : List (List ℕ)) (piece : List ℕ) → joined (pieces ++ piece ∷ []) ≡ joined pieces ++ piece
 joined_push [] piece = append-nil piece
 joined_push (p ∷ pieces) piece = ap (λ xs. p ++ xs) (joined_push pieces piece) ∙ sym (append_assoc p (joined pieces) piece)
 
--- behind other bytes
+-- a piece is pushed behind other bytes
 pub owed_push : (front : List ℕ) (pieces : List (List ℕ)) (piece : List ℕ) → front ++ joined (pieces ++ piece ∷ []) ≡ (front ++ joined pieces) ++ piece
 owed_push front pieces piece = ap (λ xs. front ++ xs) (joined_push pieces piece) ∙ sym (append_assoc front (joined pieces) piece)
 
@@ -17,11 +17,11 @@ owed_push front pieces piece = ap (λ xs. front ++ xs) (joined_push pieces piece
 pub owed_none : (head : List ℕ) (pieces : List (List ℕ)) → head ≡ [] → pieces ≡ [] → drop 0 head ++ joined pieces ≡ []
 owed_none head pieces empty none = (λ j. empty j ++ joined (none j))
 
--- the next piece takes the place of a head that has gone out
+-- the next piece takes the place of a head that was sent
 pub owed_next : (head : List ℕ) (sent : ℕ) (piece : List ℕ) (old new : List (List ℕ)) → length head ≤ sent → old ≡ piece ∷ new → drop 0 piece ++ joined new ≡ drop sent head ++ joined old
 owed_next head sent piece old new out next = sym (λ j. drop_all sent head out j ++ joined (next j))
 
--- some of the head has gone out
+-- some of the head was sent
 taken : (xs : List ℕ) (sent count : ℕ) (rest : List ℕ) → drop sent xs ++ rest ≡ take count (drop sent xs) ++ (drop (sent + count) xs ++ rest)
 taken xs sent count rest = ap (λ ys. ys ++ rest) (sym (take-append-drop count (drop sent xs))) ∙ append_assoc (take count (drop sent xs)) (drop count (drop sent xs)) rest
     ∙ ap (λ ys. take count (drop sent xs) ++ (ys ++ rest)) (drop-drop count sent xs)

@@ -1,4 +1,4 @@
--- Where a client stands among the others.
+-- The place of a client among the others.
 use Rattle.std.proofs.Common.{◌≡◌, ℕ, zero, suc, ◌<◌, ◌+◌, ◌==◌, true, false, not, List, [], ◌∷◌, ◌++◌, length, set, get_or, refl, sym, ap, ◌∙◌, subst, arith, Option, Some, None, cond}
 use Rattle.std.specs.Prelude.{IfSome}
 use Rattle.std.specs.List.{position, position_from, remove}
@@ -8,41 +8,41 @@ use Rattle.std.proofs.lemmas.Iterator.Adapters.{position_from-zero}
 use Rattle.std.proofs.lemmas.List.Quantifiers.{position-Some}
 use Rattle.kapi_serve.specs.declared.client.Client.{Client}
 use Rattle.kapi_serve.specs.Acts.{IsFree, Seat}
-use Rattle.kapi_serve.specs.Clients.{others, seat_of, seats_of}
+use Rattle.kapi_serve.specs.Private.Clients.{others, seat_of, seats_of}
 use Rattle.kapi_serve.specs.Goes.{IsAt}
 
--- the first, or that one where there is none
+-- the first client, or the given one where there is none
 abbrev head_of : Seat → List Seat → Seat
 head_of x [] = x
 head_of x (y ∷ ys) = y
 
--- those behind the first
+-- the clients behind the first
 abbrev tail_of : List Seat → List Seat
 tail_of [] = []
 tail_of (x ∷ xs) = xs
 
--- the one behind so many
+-- the client behind so many
 pub is_at_get : (cs : List Client) (front : List Seat) (x : Seat) (back : List Seat) (d : Client) → seats_of cs ≡ front ++ x ∷ back → seat_of (get_or cs (length front) d) ≡ x
 is_at_get [] [] x back d is = absurd (cc)
 is_at_get [] (f ∷ fs) x back d is = absurd (cc)
 is_at_get (c ∷ cs) [] x back d is = ap (λ xs. head_of x xs) is
 is_at_get (c ∷ cs) (f ∷ fs) x back d is = is_at_get cs fs x back d (ap tail_of is)
 
--- without it
+-- the clients without one of them
 pub is_at_remove : (cs : List Client) (front : List Seat) (x : Seat) (back : List Seat) → seats_of cs ≡ front ++ x ∷ back → seats_of (remove cs (length front)) ≡ front ++ back
 is_at_remove [] [] x back is = absurd (cc)
 is_at_remove [] (f ∷ fs) x back is = absurd (cc)
 is_at_remove (c ∷ cs) [] x back is = ap tail_of is
 is_at_remove (c ∷ cs) (f ∷ fs) x back is = (λ j. head_of f (is j) ∷ is_at_remove cs fs x back (ap tail_of is) j)
 
--- with another in its place
+-- the clients with another in the place of one
 pub is_at_set : (cs : List Client) (front : List Seat) (x : Seat) (back : List Seat) (c : Client) → seats_of cs ≡ front ++ x ∷ back → seats_of (set cs (length front) c) ≡ front ++ seat_of c ∷ back
 is_at_set [] [] x back c is = absurd (cc)
 is_at_set [] (f ∷ fs) x back c is = absurd (cc)
 is_at_set (y ∷ cs) [] x back c is = ap (λ xs. seat_of c ∷ tail_of xs) is
 is_at_set (y ∷ cs) (f ∷ fs) x back c is = (λ j. head_of f (is j) ∷ is_at_set cs fs x back c (ap tail_of is) j)
 
--- each stands somewhere
+-- each client has a place
 pub stands_at : (cs : List Client) (i : ℕ) (d : Client) → i < length cs → (front : List Seat) × (x : Seat) × (back : List Seat) × IsAt i (seats_of cs) front x back × (x ≡ seat_of (get_or cs i d))
 stands_at [] i d below = absurd (omega (arith, below))
 stands_at (c ∷ cs) zero d below = ([], seat_of c, seats_of cs, (refl, refl), refl)
@@ -50,7 +50,7 @@ stands_at (c ∷ cs) (suc i) d below =
     let k = stands_at cs i d (omega (arith, below)) in
     (seat_of c ∷ k.0, k.1, k.2, (ap (λ xs. seat_of c ∷ xs) k.3.0, ap suc k.3.1), k.4)
 
--- none of a slot is found
+-- no client of a slot is found
 pub none_on : (cs : List Client) (slot i : ℕ) → position_from (λ c. c.slot == slot) i cs ≡ None → IsFree slot (seats_of cs)
 unfolding IsFree
 none_on [] slot i none = tt
@@ -68,11 +68,11 @@ at_remove cs i front x back at = subst (λ n. seats_of (remove cs n) ≡ front +
 pub at_set : (cs : List Client) (i : ℕ) (front : List Seat) (x : Seat) (back : List Seat) (c : Client) → IsAt i (seats_of cs) front x back → seats_of (set cs i c) ≡ front ++ seat_of c ∷ back
 at_set cs i front x back c at = subst (λ n. seats_of (set cs n c) ≡ front ++ seat_of c ∷ back) at.1 (is_at_set cs front x back c at.0)
 
--- one in whose place another of the same seat is put
+-- a client in whose place another of the same seat is put
 pub seats_same : (cs : List Client) (i : ℕ) (c d : Client) → seat_of c ≡ seat_of (get_or cs i d) → seats_of (set cs i c) ≡ seats_of cs
 seats_same cs i c d same = map-set_same seat_of cs i c d same
 
--- the first of a slot stands somewhere
+-- the first client of a slot has a place
 pub found_at : (cs : List Client) (slot : ℕ) (r : Option ℕ) → r ≡ position (λ c. c.slot == slot) cs
     → IfSome r (λ i. (front : List Seat) × (x : Seat) × (back : List Seat) × IsAt i (seats_of cs) front x back × (x.slot ≡ slot))
 found_at cs slot None is = tt
@@ -90,6 +90,6 @@ pub others_left : (slot : ℕ) (front : List Seat) (x : Seat) (back : List Seat)
 others_left slot [] x back is = ap (λ b. cond (not b) (x ∷ others slot back) (others slot back)) (sym (eq-eqb x.slot slot is))
 others_left slot (f ∷ front) x back is = ap (λ xs. cond (not (f.slot == slot)) (f ∷ xs) xs) (others_left slot front x back is)
 
--- as told of the clients
+-- the clients are the others after the end of one
 pub others_ended : (slot : ℕ) (s t front : List Seat) (x : Seat) (back : List Seat) → s ≡ front ++ x ∷ back → t ≡ front ++ back → x.slot ≡ slot → others slot t ≡ others slot s
 others_ended slot s t front x back is left at = ap (λ xs. others slot xs) left ∙ others_left slot front x back at ∙ ap (λ xs. others slot xs) (sym is)

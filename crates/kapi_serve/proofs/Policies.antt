@@ -10,16 +10,16 @@ use Rattle.kapi_core.specs.declared.event.Answer.{Answer}
 use Rattle.kapi_core.specs.declared.event.Event.{Event}
 use Rattle.kapi_desk.proofs.Lists.{after_more}
 use Rattle.kapi_desk.specs.Boards.{Board}
-use Rattle.kapi_desk.specs.Steps.{after, after_changes}
-use Rattle.kapi_loading.proofs.Loaded.{same_changes}
+use Rattle.kapi_policy.specs.Steps.{after_changes}
+use Rattle.kapi_desk.specs.Steps.{after}
 use Rattle.kapi_loading.specs.Loading.{Publishes}
 use Rattle.kapi_policy.specs.Objects.{PolicyObjects}
 use Rattle.kapi_policy.specs.declared.change.PolicyChange.{PolicyChange}
-use Rattle.kapi_policy_runs.specs.States.{AreInOrder}
+use Rattle.kapi_gains.specs.StoredStates.{AreInOrder}
 use Rattle.kapi_stored_policy.proofs.Writes.{stands_in_order}
 use Rattle.kapi_serve.specs.Goes.{steps_in}
 use Rattle.kapi_serve.specs.Policies.{ShowsPolicies}
-use Rattle.kapi_serve.specs.Shows.{step_of}
+use Rattle.kapi_desk.specs.Steps.{step_of}
 
 -- a policy after some steps is one that the machine had after some of the events
 IsHad : Machine → List Event → PolicyObjects → List (List PolicyChange) → Type 0
@@ -37,7 +37,7 @@ before_it objects new m es later (c ∷ cs) same had s r rest is =
     let first : s ≡ c ∷ cs = cc is in
     (k.0, ap (λ t. after (after_changes t objects) r) first ∙ ap (λ o. after o r) (sym same) ∙ k.1)
 
--- the first of the steps that answers tell
+-- the first of the steps that answers report
 first_steps : (m : Machine) (es : List Event) → AreInOrder m.store.objects → (r rest : List (List PolicyChange)) → r ++ rest ≡ steps_in (answers m es) → IsHad m es (policy_of m) r
 unfolding steps_in answers machine_after IsHad after
 first_steps m es sorted [] rest is = (0, refl)
@@ -45,11 +45,11 @@ first_steps m [] sorted (s ∷ r) rest is = absurd (cc is)
 first_steps m (e ∷ es) sorted (s ∷ r) rest is =
     let next : Machine = (step m e).1 in
     let told : List PolicyChange = changes_told (step m e).0 in
-    let same : policy_of next ≡ after_changes told (policy_of m) = event_tells m e sorted ∙ same_changes told (policy_of m) in
+    let same : policy_of next ≡ after_changes told (policy_of m) = event_tells m e sorted in
     let k = before_it (policy_of m) (policy_of next) next es (steps_in (answers next es)) told same (λ r rest is. first_steps next es (event_goes m e sorted).order r rest is) s r rest is in
     (suc k.0, k.1)
 
--- those that a desk has published since it had published the machine's policy
+-- the steps that a desk has published since it had published the machine's policy
 pub policies_shown : (core : Running) (board next : Board) (events : List Event) (told : List Answer) (left : List (List PolicyChange)) → next.opening ≡ board.opening
     → ((m : Machine) → Publishes core board m → told ≡ answers m events) → next.list ++ left ≡ board.list ++ steps_in told → ShowsPolicies core board next events
 unfolding IsHad

@@ -1,4 +1,4 @@
--- What is done for one client, and where he stands among the others.
+-- What is done for one client, and its place among the others.
 use Rattle.std.proofs.Common.{◌≡◌, ℕ, ◌==◌, true, false, ◌||◌, if◌then◌else◌, List, [], ◌∷◌, ◌++◌, refl, sym, ap, ◌∙◌}
 use Rattle.std.proofs.lemmas.List.{append-nil}
 use Rattle.std.proofs.lemmas.Bool.{eq-eqb}
@@ -14,13 +14,13 @@ use Rattle.kapi_serve.specs.declared.port.Entry.TheVariants as entry
 same : (n : ℕ) → (n == n) ≡ true
 same n = eq-eqb n n refl
 
--- of a slot or connection that is itself
+-- the choice of a slot or connection that is the client's own
 chosen : (n : ℕ) (xs ys : List ℕ) → (if n == n then xs else ys) ≡ xs
 chosen n xs ys = ap (λ b. if b then xs else ys) (same n)
 
 -- ---- what is done
 
--- he accepted bytes
+-- a client accepted bytes
 pub deals_took : (x y : Seat) (bytes : List ℕ) → y.slot ≡ x.slot → y.conn ≡ x.conn → x.owed ≡ bytes ++ y.owed → Deals x y (entry.Took x.slot bytes ∷ []) []
 unfolding read_from accepted_by fed_to answered_to StayOn AreTo
 deals_took x y bytes slot conn owed = record {
@@ -44,7 +44,7 @@ deals_fed x piece = record {
   owed = append-nil x.owed;
 }
 
--- the end of his bytes was read
+-- the end of a client's bytes was read
 pub deals_end : (x : Seat) → Deals x x (entry.Gave x.slot [] ∷ []) []
 unfolding read_from accepted_by fed_to answered_to StayOn AreTo
 deals_end x = record {
@@ -56,7 +56,7 @@ deals_end x = record {
   owed = append-nil x.owed;
 }
 
--- he is answered
+-- a client is answered
 pub deals_served : (x y : Seat) (output : Output) → y.slot ≡ x.slot → y.conn ≡ x.conn → y.owed ≡ x.owed ++ output.bytes
     → Deals x y [] (record { event = event.Serve x.conn; answer = answer.Sent output } ∷ [])
 unfolding read_from accepted_by fed_to answered_to StayOn AreTo
@@ -69,7 +69,7 @@ deals_served x y output slot conn owed = record {
   owed = ap (λ xs. x.owed ++ xs) (append-nil _ ∙ chosen x.conn.0 output.bytes []) ∙ sym owed;
 }
 
--- he is shown an event
+-- a client is shown an event
 pub deals_shown : (x y : Seat) (output : Output) → y.slot ≡ x.slot → y.conn ≡ x.conn → y.owed ≡ x.owed ++ output.bytes
     → Deals x y [] (record { event = event.Pump x.conn; answer = answer.Sent output } ∷ [])
 unfolding read_from accepted_by fed_to answered_to StayOn AreTo
@@ -82,17 +82,17 @@ deals_shown x y output slot conn owed = record {
   owed = ap (λ xs. x.owed ++ xs) (append-nil _ ∙ chosen x.conn.0 output.bytes []) ∙ sym owed;
 }
 
--- there is no request of his
+-- there is no request of the client
 pub deals_unserved : (x : Seat) → Deals x x [] (record { event = event.Serve x.conn; answer = answer.Nothing } ∷ [])
 unfolding read_from accepted_by fed_to answered_to StayOn AreTo
 deals_unserved x = record { slot = refl; conn = refl; on = tt; to = (refl, tt); read = refl; owed = append-nil x.owed }
 
--- there is no event for him
+-- there is no event for the client
 pub deals_unshown : (x : Seat) → Deals x x [] (record { event = event.Pump x.conn; answer = answer.Nothing } ∷ [])
 unfolding read_from accepted_by fed_to answered_to StayOn AreTo
 deals_unshown x = record { slot = refl; conn = refl; on = tt; to = (refl, tt); read = refl; owed = append-nil x.owed }
 
--- his connection is closed, and what is pending goes out
+-- a client's connection is closed, and what is pending is sent
 pub deals_closed : (x y : Seat) → y ≡ x → Deals x y [] (record { event = event.Close x.conn; answer = answer.Done } ∷ [])
 unfolding read_from accepted_by fed_to answered_to StayOn AreTo
 deals_closed x y is = record {
@@ -104,14 +104,14 @@ deals_closed x y is = record {
   owed = append-nil x.owed ∙ ap (λ z. z.owed) (sym is);
 }
 
--- ---- how he leaves
+-- ---- how a client leaves
 
--- his connection is closed
+-- a client's connection is closed
 closed_one : (conn : ConnId) → closes conn (record { event = event.Close conn; answer = answer.Done } ∷ []) ≡ true
 unfolding closes
 closed_one conn = ap (λ b. b || false) (same conn.0)
 
--- his slot is ended
+-- a client's slot is ended
 pub leaves_ended : (x : Seat) → Leaves x (entry.Ended x.slot ∷ []) (record { event = event.Close x.conn; answer = answer.Done } ∷ [])
 unfolding read_from accepted_by fed_to answered_to StayOn AreTo
 leaves_ended x = record {
@@ -127,7 +127,7 @@ leaves_ended x = record {
   owed = append-nil x.owed;
 }
 
--- his slot is opened again
+-- a client's slot is opened again
 pub leaves_forgotten : (x : Seat) → Leaves x [] (record { event = event.Close x.conn; answer = answer.Done } ∷ [])
 unfolding read_from accepted_by fed_to answered_to StayOn AreTo
 leaves_forgotten x = record {
@@ -143,7 +143,7 @@ leaves_forgotten x = record {
   owed = append-nil x.owed;
 }
 
--- a piece of his is not taken in, since memory ran out
+-- a piece of a client is not taken in, since an allocation fails
 pub leaves_starved : (x : Seat) (piece : List ℕ) → Leaves x (entry.Gave x.slot piece ∷ entry.Ended x.slot ∷ []) (record { event = event.Close x.conn; answer = answer.Done } ∷ [])
 unfolding read_from accepted_by fed_to answered_to StayOn AreTo
 leaves_starved x piece = record {
@@ -159,7 +159,7 @@ leaves_starved x piece = record {
   owed = append-nil x.owed;
 }
 
--- a piece of his is too long for his connection
+-- a piece of a client is too long for its connection
 pub leaves_full : (x : Seat) (piece : List ℕ)
     → Leaves x (entry.Gave x.slot piece ∷ entry.Ended x.slot ∷ []) (record { event = event.Feed x.conn piece; answer = answer.Full } ∷ record { event = event.Close x.conn; answer = answer.Done } ∷ [])
 unfolding read_from accepted_by fed_to answered_to closes StayOn AreTo
@@ -176,7 +176,7 @@ leaves_full x piece = record {
   owed = append-nil x.owed;
 }
 
--- his connection has ended before a piece of his
+-- a client's connection has ended before a piece
 pub leaves_late : (x : Seat) (piece : List ℕ)
     → Leaves x (entry.Gave x.slot piece ∷ entry.Ended x.slot ∷ []) (record { event = event.Feed x.conn piece; answer = answer.Ended } ∷ record { event = event.Close x.conn; answer = answer.Done } ∷ [])
 unfolding read_from accepted_by fed_to answered_to closes StayOn AreTo

@@ -1,4 +1,4 @@
--- Which slots and connections there are.
+-- The slots and connections that there are.
 use Rattle.std.proofs.Common.{◌≡◌, ℕ, ◌+◌, ◌<◌, ◌≤◌, ◌==◌, false, List, [], ◌∷◌, ◌++◌, refl, sym, ap, ◌∙◌, subst, arith}
 use Rattle.std.proofs.lemmas.Bool.{ne_eqb}
 use Rattle.kapi_serve.specs.Acts.{IsFree, Seat}
@@ -6,22 +6,22 @@ use Rattle.kapi_serve.proofs.Flows.{differs_back}
 
 -- ---- lists of numbers
 
--- none of them is this one
+-- none of the numbers is this one
 unfoldable pub IsNew : ℕ → List ℕ → Type 0
 IsNew n [] = Unit {0}
 IsNew n (k ∷ ks) = ((k == n) ≡ false) × IsNew n ks
 
--- they differ
+-- the numbers differ
 unfoldable pub AreApart : List ℕ → Type 0
 AreApart [] = Unit {0}
 AreApart (k ∷ ks) = IsNew k ks × AreApart ks
 
--- they are below a number
+-- the numbers are below a limit
 unfoldable pub AreBelow : ℕ → List ℕ → Type 0
 AreBelow n [] = Unit {0}
 AreBelow n (k ∷ ks) = (k < n) × AreBelow n ks
 
--- a number that none of them is
+-- a number that none of the numbers is
 pub new_at : (n k : ℕ) (ks ls : List ℕ) → IsNew n (ks ++ k ∷ ls) → (k == n) ≡ false
 unfolding IsNew
 new_at n k [] ls h = h.0
@@ -84,11 +84,11 @@ unfolding AreBelow
 below_up n p [] up h = tt
 below_up n p (k ∷ ks) up h = let less : k < n = h.0 in let here : k < p = omega arith in (here, below_up n p ks up h.1)
 
--- what is less is another
+-- a number that is less is another
 pub less_differs : (k n : ℕ) → k < n → (k == n) ≡ false
 less_differs k n less = ne_eqb k n (λ e. let same : k ≡ n = e in omega arith)
 
--- numbers below one are others
+-- numbers below a limit are others than the limit
 new_above : (n : ℕ) (ks : List ℕ) → AreBelow n ks → IsNew n ks
 unfolding AreBelow IsNew
 new_above n [] h = tt
@@ -96,17 +96,17 @@ new_above n (k ∷ ks) h = (less_differs k n h.0, new_above n ks h.1)
 
 -- ---- seats
 
--- their slots
+-- the slots of clients
 unfoldable pub slots : List Seat → List ℕ
 slots [] = []
 slots (x ∷ xs) = x.slot ∷ slots xs
 
--- the numbers of their connections
+-- the numbers of the clients' connections
 unfoldable pub ids : List Seat → List ℕ
 ids [] = []
 ids (x ∷ xs) = x.conn.0 ∷ ids xs
 
--- those of lists that are joined
+-- the slots of lists that are joined
 pub slots_more : (s t : List Seat) → slots (s ++ t) ≡ slots s ++ slots t
 unfolding slots
 slots_more [] t = refl
@@ -193,6 +193,6 @@ slot_is_new n x f b h = apart_at x.slot (slots f) (slots b) (subst (λ ks. AreAp
 pub id_is_new : (n : ℕ) (x : Seat) (f b : List Seat) → Sits n (f ++ x ∷ b) → IsNew x.conn.0 (ids f ++ ids b)
 id_is_new n x f b h = apart_at x.conn.0 (ids f) (ids b) (subst (λ ks. AreApart ks) (ids_with x f b) h.ids_apart)
 
--- and each has a number that was given
+-- each of the other connections has a number that was given
 pub id_is_below : (n : ℕ) (x : Seat) (f b : List Seat) → Sits n (f ++ x ∷ b) → x.conn.0 < n
 id_is_below n x f b h = below_at n x.conn.0 (ids f) (ids b) (subst (λ ks. AreBelow n ks) (ids_with x f b) h.ids_below)

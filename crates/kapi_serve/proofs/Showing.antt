@@ -1,10 +1,11 @@
--- How steps come to stand behind the others.
+-- Steps that are published behind the others.
 use Rattle.std.proofs.Common.{◌≡◌, ◌↔◌, ◌≤◌, ◌<◌, Bool, true, false, List, [], ◌∷◌, ◌++◌, length, refl, sym, ap, ◌∙◌, subst, append_assoc, length-append, Option, None, Some, arith}
 use Rattle.std.specs.Option.{option_to_list}
 use Rattle.std.proofs.lemmas.List.{append-nil}
 use Rattle.kapi_policy.specs.declared.change.PolicyChange.{PolicyChange}
 use Rattle.kapi_desk.specs.Boards.{Board}
-use Rattle.kapi_serve.specs.Shows.{IsPrompt, Shows, Takes, all_steps, step_of, unpublished}
+use Rattle.kapi_desk.specs.Steps.{step_of}
+use Rattle.kapi_serve.specs.Shows.{IsPrompt, Shows, Takes, all_steps, unpublished}
 
 -- nothing waits where none is pending
 pub none_waits : (ws : List (List PolicyChange)) (b : Bool) → ((b ≡ true) ↔ (0 < length ws)) → b ≡ false → ws ≡ []
@@ -22,7 +23,7 @@ shows_empty d k cs none = subst (λ xs. Shows d d k k (step_of xs)) (sym none) (
 pub shows_as : (d e : Board) (k q : Option (List PolicyChange)) (xs ys : List (List PolicyChange)) → xs ≡ ys → Shows d e k q xs → Shows d e k q ys
 shows_as d e k q xs ys same s = subst (λ zs. Shows d e k q zs) same s
 
--- one after the other
+-- steps are published one after the other
 pub shows_on : (d e f : Board) (p q r : Option (List PolicyChange)) (xs ys : List (List PolicyChange)) → Shows d e p q xs → Shows e f q r ys → Shows d f p r (xs ++ ys)
 shows_on d e f p q r xs ys s t = record {
   opening = t.opening ∙ s.opening;
@@ -42,16 +43,16 @@ prompt_none d none k gone = subst (λ q. IsPrompt d q) (sym gone) (subst (λ ws.
 all_published : (d : Board) → d.waiting ≡ [] → (k : Option (List PolicyChange)) → k ≡ None → all_steps d k ≡ d.list
 all_published d none k gone = ap (λ q. all_steps d q) gone ∙ ap (λ ws. d.list ++ (ws ++ [])) none ∙ append-nil d.list
 
--- the desk took it
-pub shows_taken : (d e : Board) (k : Option (List PolicyChange)) (cs : List PolicyChange) → d.waiting ≡ [] → k ≡ None → Takes d e cs true → Shows d e k k (cs ∷ [])
+-- the desk took the step
+shows_taken : (d e : Board) (k : Option (List PolicyChange)) (cs : List PolicyChange) → d.waiting ≡ [] → k ≡ None → Takes d e cs None → Shows d e k k (cs ∷ [])
 shows_taken d e k cs none gone took = record {
   opening = took.0;
   all = ap (λ q. all_steps e q) gone ∙ ap (λ ws. e.list ++ ws) (append-nil e.waiting) ∙ took.1 ∙ ap (λ xs. xs ++ cs ∷ []) (sym (all_published d none k gone));
   prompt = λ h. subst (λ q. IsPrompt e q) (sym gone) (subst (λ ws. length ws ≤ 1) (sym (append-nil e.waiting)) took.2);
 }
 
--- it is kept
-pub shows_kept : (d e : Board) (k : Option (List PolicyChange)) (cs : List PolicyChange) → d.waiting ≡ [] → k ≡ None → Takes d e cs false → Shows d e k (Some cs) (cs ∷ [])
+-- the step is kept
+shows_kept : (d e : Board) (k : Option (List PolicyChange)) (cs : List PolicyChange) → d.waiting ≡ [] → k ≡ None → e ≡ d → Shows d e k (Some cs) (cs ∷ [])
 shows_kept d e k cs none gone same =
     let P : Board → Type 0 = λ b. Shows d b k (Some cs) (cs ∷ []) in
     subst P (sym same) (record {
@@ -59,6 +60,13 @@ shows_kept d e k cs none gone same =
       all = ap (λ ws. d.list ++ (ws ++ cs ∷ [])) none ∙ ap (λ xs. xs ++ cs ∷ []) (sym (all_published d none k gone));
       prompt = λ h. subst (λ ws. length (ws ++ cs ∷ []) ≤ 1) (sym none) (omega arith);
     })
+
+-- the desk took the step, or the step is kept
+pub shows_taken_or_kept : (d e : Board) (k q : Option (List PolicyChange)) (cs : List PolicyChange) → d.waiting ≡ [] → k ≡ None → Takes d e cs q → Shows d e k q (cs ∷ [])
+shows_taken_or_kept d e k None cs none gone took =
+    subst (λ q. Shows d e k q (cs ∷ [])) gone (shows_taken d e k cs none gone took)
+shows_taken_or_kept d e k (Some back) cs none gone (same, is) =
+    subst (λ b. Shows d e k (Some b) (cs ∷ [])) (sym is) (shows_kept d e k cs none gone same)
 
 -- what waited is published
 pub shows_waiting : (d e : Board) (k : Option (List PolicyChange)) → e.opening ≡ d.opening → e.list ≡ d.list ++ d.waiting → e.waiting ≡ [] → Shows d e k k []
@@ -69,7 +77,7 @@ shows_waiting d e k opening list none =
       prompt = λ h. subst (λ ws. length (ws ++ option_to_list k) ≤ 1) (sym none) (omega (arith, length-append d.waiting (option_to_list k), h));
     }
 
--- it still waits
+-- the step still waits
 pub shows_same : (d e : Board) (k : Option (List PolicyChange)) → e.opening ≡ d.opening → e.list ≡ d.list → e.waiting ≡ d.waiting → Shows d e k k []
 shows_same d e k opening list waiting = record {
   opening = opening;

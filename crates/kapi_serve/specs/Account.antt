@@ -1,11 +1,11 @@
--- The account of a server: which bytes of its ports are whose, and what was made of them.
+-- The account of a server: to which client each byte of its ports belongs, and what was made of it.
 use Rattle.std.specs.Prelude.{◌≡◌, ℕ, ◌==◌, Bool, true, false, ◌||◌, if◌then◌else◌, List, [], ◌∷◌, ◌++◌, Option, Some, None}
 use Rattle.kapi_core.specs.declared.event.Answer.{Answer}
 use Rattle.kapi_core.specs.declared.event.Answer.TheVariants as answer
 use Rattle.kapi_core.specs.declared.event.ConnId.{ConnId}
 use Rattle.kapi_core.specs.declared.event.Event.{Event}
 use Rattle.kapi_core.specs.declared.event.Event.TheVariants as event
-use Rattle.kapi_rbac_types.specs.declared.identity.Identity.{Identity}
+use Rattle.kapi_model.specs.declared.identity.Identity.{Identity}
 use Rattle.kapi_serve.specs.declared.port.Entry.{Entry}
 use Rattle.kapi_serve.specs.declared.port.Entry.TheVariants as entry
 
@@ -24,7 +24,7 @@ read_from slot (entry.Gave s bytes ∷ rest) = if s == slot then bytes ++ read_f
 read_from slot (entry.Took s bytes ∷ rest) = read_from slot rest
 read_from slot (entry.Ended s ∷ rest) = if s == slot then [] else read_from slot rest
 
--- the bytes that it accepted until then
+-- the bytes that a slot accepted until it is ended or opened again
 unfoldable pub accepted_by : ℕ → List Entry → List ℕ
 accepted_by slot [] = []
 accepted_by slot (entry.Opened s who ∷ rest) = if s == slot then [] else accepted_by slot rest
@@ -37,7 +37,7 @@ abbrev pub is_ended_next : ℕ → List Entry → Bool
 is_ended_next slot (entry.Ended s ∷ rest) = s == slot
 is_ended_next slot _ = false
 
--- a client: who he is, whether his slot was ended at once, what was read from him, and what he accepted
+-- a client: its identity, whether its slot was ended at once, what was read from it, and what it accepted
 pub record Visit : Type 0 where
   pub identity : Identity
   pub ended_at_once : Bool
@@ -75,17 +75,17 @@ unfoldable pub fed_to : ConnId → List Made → List ℕ
 fed_to conn [] = []
 fed_to conn (m ∷ rest) = fed_by conn m.event m.answer ++ fed_to conn rest
 
--- the bytes that were answered to it, joined
+-- the bytes that were answered to a connection, joined
 unfoldable pub answered_to : ConnId → List Made → List ℕ
 answered_to conn [] = []
 answered_to conn (m ∷ rest) = answered_by conn m.event m.answer ++ answered_to conn rest
 
--- whether it was closed
+-- whether a connection was closed
 unfoldable pub closes : ConnId → List Made → Bool
 closes conn [] = false
 closes conn (m ∷ rest) = is_close_of conn m.event || closes conn rest
 
--- a connection that was asked for: for whom, what was fed to it, what was answered, and whether it was closed
+-- a connection that was asked for: its identity, what was fed to it, what was answered, and whether it was closed
 pub record Talk : Type 0 where
   pub identity : Identity
   pub fed : List ℕ
@@ -109,8 +109,8 @@ talks (m ∷ rest) = talk_if m.event m.answer rest ++ talks rest
 
 -- ---- the account
 
--- a client's connection is opened for him; what was read from him was fed to it, but for a piece that it did not take in, which closes
--- it; what he accepted is a beginning of what was answered
+-- a client's connection is opened for its identity; what was read from the client was fed to the connection, but for a
+-- piece that it did not take in, which closes it; what the client accepted is a beginning of what was answered
 pub record Fits (v : Visit) (t : Talk) : Type 0 where
   pub identity : v.identity ≡ t.identity
   pub refused : List ℕ
@@ -119,8 +119,8 @@ pub record Fits (v : Visit) (t : Talk) : Type 0 where
   pub left : List ℕ
   pub accepted : t.answered ≡ v.accepted ++ left
 
--- each client's connection is his; where memory ran out at his entry he has none, and his slot was ended at once, so nothing was read
--- from him
+-- each client's connection is its own; a client whose entry ran out of memory has none, and its slot was ended at once,
+-- so nothing was read from it
 unfoldable pub AreTheirs : List Visit → List (Option Talk) → Type 0
 AreTheirs [] [] = Unit {0}
 AreTheirs [] (g ∷ gs) = ⊥
@@ -128,7 +128,7 @@ AreTheirs (v ∷ vs) [] = ⊥
 AreTheirs (v ∷ vs) (None ∷ gs) = (v.ended_at_once ≡ true) × AreTheirs vs gs
 AreTheirs (v ∷ vs) (Some t ∷ gs) = Fits v t × AreTheirs vs gs
 
--- those that there are
+-- the connections that there are
 unfoldable pub present : List (Option Talk) → List Talk
 present [] = []
 present (None ∷ gs) = present gs

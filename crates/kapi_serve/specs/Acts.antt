@@ -5,12 +5,12 @@ use Rattle.kapi_core.specs.declared.event.Answer.TheVariants as answer
 use Rattle.kapi_core.specs.declared.event.ConnId.{ConnId}
 use Rattle.kapi_core.specs.declared.event.Event.{Event}
 use Rattle.kapi_core.specs.declared.event.Event.TheVariants as event
-use Rattle.kapi_rbac_types.specs.declared.identity.Identity.{Identity}
+use Rattle.kapi_model.specs.declared.identity.Identity.{Identity}
 use Rattle.kapi_serve.specs.declared.port.Entry.{Entry}
 use Rattle.kapi_serve.specs.declared.port.Entry.TheVariants as entry
 use Rattle.kapi_serve.specs.Account.{Made, accepted_by, answered_to, closes, fed_to, read_from}
 
--- a client: his slot, his connection, and the bytes that he was answered and has not accepted
+-- a client: its slot, its connection, and the bytes that it was answered and has not accepted
 pub record Seat : Type 0 where
   pub slot : ℕ
   pub conn : ConnId
@@ -21,7 +21,7 @@ unfoldable pub IsFree : ℕ → List Seat → Type 0
 IsFree slot [] = Unit {0}
 IsFree slot (x ∷ xs) = ((x.slot == slot) ≡ false) × IsFree slot xs
 
--- they are of one slot, which stays its client's
+-- the entries are of one slot, which stays its client's
 unfoldable pub StayOn : ℕ → List Entry → Type 0
 StayOn slot [] = Unit {0}
 StayOn slot (entry.Opened s who ∷ rest) = ⊥
@@ -38,12 +38,12 @@ IsTo conn (event.Pump c) = c ≡ conn
 IsTo conn event.Turn = ⊥
 IsTo conn (event.Close c) = c ≡ conn
 
--- they are events of one connection
+-- the events are of one connection
 unfoldable pub AreTo : ConnId → List Made → Type 0
 AreTo conn [] = Unit {0}
 AreTo conn (m ∷ rest) = IsTo conn m.event × AreTo conn rest
 
--- what was read from a client was fed to his connection, and what he accepted was owed to him first
+-- what was read from a client was fed to its connection, and what it accepted was owed to it first
 pub record Deals (x y : Seat) (entries : List Entry) (made : List Made) : Type 0 where
   pub slot : y.slot ≡ x.slot
   pub conn : y.conn ≡ x.conn
@@ -74,9 +74,9 @@ pub record Leaves (x : Seat) (entries : List Entry) (made : List Made) : Type 0 
 pub data Act : Type 0 where
   -- a client gets a connection
   opens : ℕ → Identity → ConnId → Act
-  -- there are too many
+  -- a client is rejected, as there are too many connections
   shuns : ℕ → Identity → Act
-  -- there is no memory for him
+  -- a client is dropped, as no memory can be allocated for it
   loses : ℕ → Identity → Act
   -- something is done for a client
   serves : Seat → Seat → List Entry → List Made → Act
@@ -85,7 +85,7 @@ pub data Act : Type 0 where
   -- the controller may write
   turns : Answer → Act
 
--- what it adds to the history of the ports
+-- what an act adds to the history of the ports
 abbrev pub entries_of : Act → List Entry
 entries_of (opens slot who conn) = entry.Opened slot who ∷ []
 entries_of (shuns slot who) = entry.Opened slot who ∷ entry.Ended slot ∷ []
@@ -94,7 +94,7 @@ entries_of (serves x y entries made) = entries
 entries_of (ends x entries made) = entries
 entries_of (turns answer) = []
 
--- the events that it makes
+-- the events that an act makes
 abbrev pub made_of : Act → List Made
 made_of (opens slot who conn) = record { event = event.Open who; answer = answer.Opened conn } ∷ []
 made_of (shuns slot who) = record { event = event.Open who; answer = answer.TooMany } ∷ []
@@ -103,7 +103,7 @@ made_of (serves x y entries made) = made
 made_of (ends x entries made) = made
 made_of (turns a) = record { event = event.Turn; answer = a } ∷ []
 
--- which clients there are then
+-- the clients after an act
 abbrev pub Does : List Seat → Act → List Seat → Type 0
 Does s (opens slot who conn) t = IsFree slot s × (t ≡ s ++ record { slot = slot; conn = conn; owed = [] } ∷ [])
 Does s (shuns slot who) t = IsFree slot s × (t ≡ s)
@@ -112,25 +112,25 @@ Does s (serves x y entries made) t = (front : List Seat) × (back : List Seat) �
 Does s (ends x entries made) t = (front : List Seat) × (back : List Seat) × (s ≡ front ++ x ∷ back) × (t ≡ front ++ back) × Leaves x entries made
 Does s (turns answer) t = t ≡ s
 
--- the history that they add
+-- the history that acts add
 unfoldable pub entries_in : List Act → List Entry
 entries_in [] = []
 entries_in (a ∷ rest) = entries_of a ++ entries_in rest
 
--- the events that they make
+-- the events that acts make
 unfoldable pub made_in : List Act → List Made
 made_in [] = []
 made_in (a ∷ rest) = made_of a ++ made_in rest
 
--- which clients there are after them
+-- the clients after some acts
 unfoldable pub Follows : List Seat → List Act → List Seat → Type 0
 Follows s [] t = t ≡ s
 Follows s (a ∷ rest) t = (u : List Seat) × Does s a u × Follows u rest t
 
--- their events alone
+-- the events without their answers
 abbrev pub events_of : List Made → List Event
 events_of made = map (λ m. m.event) made
 
--- their answers alone
+-- the answers without their events
 abbrev pub answers_of : List Made → List Answer
 answers_of made = map (λ m. m.answer) made

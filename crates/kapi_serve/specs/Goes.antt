@@ -1,9 +1,10 @@
 -- What the server makes of the machine and of the desk.
 use Rattle.std.specs.Prelude.{◌≡◌, ℕ, ◌≤◌, List, [], ◌∷◌, ◌++◌, length, Option}
 use Rattle.kapi_policy.specs.declared.change.PolicyChange.{PolicyChange}
+use Rattle.kapi_core.specs.Gains.{NobodyGainsDuring}
 use Rattle.kapi_core.specs.Machine.{Machine, after, answers}
 use Rattle.kapi_core.specs.Running.{Running}
-use Rattle.kapi_core.specs.Stands.{Makes, Stands}
+use Rattle.kapi_core.specs.Refines.{Makes, Refines}
 use Rattle.kapi_core.specs.Telling.{changes_told}
 use Rattle.kapi_core.specs.declared.event.Event.TheVariants as event
 use Rattle.kapi_core.specs.declared.event.Answer.{Answer}
@@ -12,35 +13,36 @@ use Rattle.kapi_desk.specs.Boards.{Board}
 use Rattle.kapi_serve.specs.Account.{Account, Made}
 use Rattle.kapi_serve.specs.Acts.{Act, Follows, Seat, answers_of, entries_in, events_of, made_in}
 use Rattle.kapi_serve.specs.Policies.{ShowsPolicies}
-use Rattle.kapi_serve.specs.Shows.{Shows, step_of}
+use Rattle.kapi_desk.specs.Steps.{step_of}
+use Rattle.kapi_serve.specs.Shows.{Shows}
 use Rattle.kapi_serve.specs.declared.port.Entry.{Entry}
 use Rattle.kapi_serve.specs.declared.port.Entry.TheVariants as entry
 
 -- the events were made on the machine, and answered as they say
 abbrev pub Runs : Running → Running → List Made → Type 0
-Runs old new made = (m : Machine) → Stands old m → (answers_of made ≡ answers m (events_of made)) × Stands new (after m (events_of made))
+Runs old new made = (m : Machine) → Refines old m → (answers_of made ≡ answers m (events_of made)) × Refines new (after m (events_of made))
 
--- the step of an answer
+-- the step of policy changes in an answer
 abbrev pub step_in : Answer → List (List PolicyChange)
 step_in a = step_of (changes_told a)
 
--- the steps of answers, in order
+-- the steps of policy changes in answers, in order
 unfoldable pub steps_in : List Answer → List (List PolicyChange)
 steps_in [] = []
 steps_in (a ∷ rest) = step_in a ++ steps_in rest
 
--- so many clients stand in front of one
+-- so many clients come before one
 abbrev pub IsAt : ℕ → List Seat → List Seat → Seat → List Seat → Type 0
 IsAt index seats front x back = (seats ≡ front ++ x ∷ back) × (length front ≡ index)
 
--- bytes that a client was owed went out to him
+-- bytes that a client was owed were sent to it
 pub record Writes (x y : Seat) (T U : Type 0) (history next : List Entry) : Type 0 where
   pub acts : List Act
   pub idle : made_in acts ≡ []
   pub follows : (front back : List Seat) → Follows (front ++ x ∷ back) acts (front ++ y ∷ back)
   pub told : U → T × (next ≡ history ++ entries_in acts)
 
--- a client's connection was closed and his slot ended
+-- a client's connection was closed and its slot ended
 pub record Closes (old new : Running) (x : Seat) (T U : Type 0) (history next : List Entry) : Type 0 where
   pub makes : Makes old new (event.Close x.conn) answer.Done
   pub told : U → T × (next ≡ history ++ entry.Ended x.slot ∷ [])
@@ -61,9 +63,10 @@ pub record Goes (old new : Running) (board next : Board) (p q : Option (List Pol
   pub follows : Follows s acts t
   pub told : U → T × (later ≡ history ++ entries_in acts)
 
--- what a server did: its events are one list, after which the machine is that of their run; the desk has published the steps of
--- their answers in order, all but at most the last, so what it publishes is a policy that the machine had; and where the ports tell what
--- they gave and took, that and the events are accounted for
+-- what a server did: its events are one list, after which the machine is that of their run; the desk has published the
+-- steps of their answers in order, all but at most the last, so what it publishes is a policy that the machine had; and
+-- where the ports report what they read and wrote, the bytes and the events are accounted for; from any moment on nobody
+-- gains by the events that follow
 pub record Serves (old new : Running) (board next : Board) (tells : Type 0) (history later : List Entry) : Type 0 where
   pub made : List Made
   pub runs : Runs old new made
@@ -74,4 +77,5 @@ pub record Serves (old new : Running) (board next : Board) (tells : Type 0) (his
   pub policies : ShowsPolicies old board next (events_of made)
   pub entries : List Entry
   pub told : tells → later ≡ history ++ entries
-  pub account : (m : Machine) → Stands old m → Account entries made
+  pub account : (m : Machine) → Refines old m → Account entries made
+  pub gains : (m : Machine) → Refines old m → NobodyGainsDuring m (events_of made)

@@ -1,10 +1,8 @@
 pub mod Ports
-pub mod Pieces
 pub mod Shows
 pub mod Policies
 pub mod Goes
 pub mod Account
 pub mod Acts
-pub mod Clients
-pub mod Turns
+pub mod Private
 pub mod Listening

@@ -1,7 +1,7 @@
--- The ports that sockets listen on, and who their clients are.
+-- The ports that sockets listen on, and the identities of their clients.
 use Rattle.std.specs.Prelude.{◌≡◌, ℕ, List, map, Option, Some}
 use Rattle.kapi_aggregation.specs.Members.{Has}
-use Rattle.kapi_rbac_types.specs.declared.identity.Identity.{Identity}
+use Rattle.kapi_model.specs.declared.identity.Identity.{Identity}
 use Rattle.kapi_serve.specs.declared.port.PortEvent.{PortEvent}
 use Rattle.kapi_serve.specs.declared.port.PortEvent.TheVariants as event
 use Rattle.kapi_serve.specs.declared.listener.Listener.{Listener}
@@ -10,6 +10,6 @@ use Rattle.kapi_serve.specs.declared.listener.Listener.{Listener}
 abbrev pub doors : List Listener → List (ℕ × Identity)
 doors listeners = map (λ l. (l.port, l.identity)) listeners
 
--- a client who has connected is the identity of one of the ports
+-- the identity of a client that has connected is that of one of the ports
 abbrev pub CameByDoor : List Listener → Option PortEvent → Type 0
 CameByDoor listeners happened = (slot : ℕ) (identity : Identity) → happened ≡ Some (event.Opened slot identity) → (port : ℕ) × Has (doors listeners) (port, identity)

@@ -9,8 +9,8 @@ use Rattle.kapi_desk.specs.Steps.{after}
 use Rattle.kapi_loading.specs.Loading.{Publishes}
 use Rattle.kapi_policy.specs.declared.change.PolicyChange.{PolicyChange}
 
--- where a desk had published the policy of the machine, each list of steps that was published since is the policy that the machine had
--- after some of the events: so whoever learns the list decides as the machine did then
+-- where a desk had published the policy of the machine, each list of steps that was published since is the policy that
+-- the machine had after some of the events: a reader of the list decides as the machine did then
 abbrev pub ShowsPolicies : Running → Board → Board → List Event → Type 0
 ShowsPolicies core board next events =
     (m : Machine) → Publishes core board m → (seen : List (List PolicyChange)) → Begins board.list seen → Begins seen next.list

@@ -11,7 +11,7 @@ abbrev pub opened : Option PortEvent → List Entry
 opened (Some (event.Opened slot identity)) = entry.Opened slot identity ∷ []
 opened _ = []
 
--- the bytes that a read gave
+-- the bytes that a read returned
 abbrev pub gave : ℕ → List ℕ → Result ℕ PortFault → List Entry
 gave slot bytes (Ok n) = entry.Gave slot (take n bytes) ∷ []
 gave slot bytes (Err fault) = []

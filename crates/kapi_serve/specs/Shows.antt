@@ -1,13 +1,8 @@
 -- Steps of policy changes, and how far a desk has published them.
-use Rattle.std.specs.Prelude.{◌≡◌, ◌≤◌, Bool, true, false, List, [], ◌∷◌, ◌++◌, length, Option}
+use Rattle.std.specs.Prelude.{◌≡◌, ◌≤◌, List, [], ◌∷◌, ◌++◌, length, Option, Some, None}
 use Rattle.std.specs.Option.{option_to_list}
 use Rattle.kapi_policy.specs.declared.change.PolicyChange.{PolicyChange}
 use Rattle.kapi_desk.specs.Boards.{Board}
-
--- what is published of the policy changes of one event: one step, where there are some
-abbrev pub step_of : List PolicyChange → List (List PolicyChange)
-step_of [] = []
-step_of (c ∷ cs) = (c ∷ cs) ∷ []
 
 -- the steps that are yet to be published
 abbrev pub unpublished : Board → Option (List PolicyChange) → List (List PolicyChange)
@@ -27,7 +22,7 @@ pub record Shows (old new : Board) (p q : Option (List PolicyChange)) (steps : L
   pub all : all_steps new q ≡ all_steps old p ++ steps
   pub prompt : IsPrompt old p → IsPrompt new q
 
--- a desk on which nothing waits has taken a step, or was left as it was
-abbrev pub Takes : Board → Board → List PolicyChange → Bool → Type 0
-Takes old new step true = (new.opening ≡ old.opening) × (new.list ++ new.waiting ≡ old.list ++ step ∷ []) × (length new.waiting ≤ 1)
-Takes old new step false = new ≡ old
+-- a desk on which nothing waits has taken a step, or was left as it was and handed the step back
+abbrev pub Takes : Board → Board → List PolicyChange → Option (List PolicyChange) → Type 0
+Takes old new step None = (new.opening ≡ old.opening) × (new.list ++ new.waiting ≡ old.list ++ step ∷ []) × (length new.waiting ≤ 1)
+Takes old new step (Some back) = (new ≡ old) × (back ≡ step)

@@ -20,21 +20,21 @@ impl Awake {
         }
     }
 
-    /// How many they are.
+    /// The number of connections.
     pub(crate) fn len(&self) -> usize
         ensures { result ≡ length self.now.numbers.items }
     {
         self.numbers.len()
     }
 
-    /// Makes room for one more than so many.
+    /// Makes room for one connection more than so many.
     pub(crate) fn reserve(&mut self, count: usize) -> Result<(), Memory>
         ensures { self.new.numbers.items ≡ self.old.numbers.items }
     {
         self.numbers.reserve(count.saturating_add(1))
     }
 
-    /// Takes a connection in, if it is not there. No memory is taken where there is room.
+    /// Takes a connection in, if it is not there. Nothing is allocated where there is room.
     pub(crate) fn add(&mut self, id: ConnId) -> Result<(), Memory>
         ensures there { OnOk result (Contains self.new.numbers.items id.0) }
         ensures err { OnErr result (self.new.numbers.items ≡ self.old.numbers.items) }
@@ -45,14 +45,14 @@ impl Awake {
         }
     }
 
-    /// The one at a position.
+    /// The connection at a position.
     pub(crate) fn get(&self, position: usize) -> Option<ConnId>
         ensures { IfSome result (λ id. HoldsAt (λ number. number ≡ id.0) self.now.numbers.items position) }
     {
         Some(ConnId(*self.numbers.get(position)?))
     }
 
-    /// Takes the one at a position away, if there is one.
+    /// Takes the connection at a position away, if there is one.
     pub(crate) fn remove(&mut self, position: usize)
         ensures { self.new.numbers.items ≡ remove self.old.numbers.items position }
     {

@@ -1,10 +1,11 @@
 ghost use Rattle.std.specs.Prelude.{◌≡◌, ◌<◌, List, [], ◌∷◌, ◌++◌, None, true, ⊤};
 ghost use Rattle.std.specs.VecDeque.{deque_len, deque_capacity};
 ghost use Rattle.kapi_serve.specs.Acts.{Seat};
-ghost use Rattle.kapi_serve.specs.Clients.{seat_of};
+ghost use Rattle.kapi_serve.specs.Private.Clients.{seat_of};
 ghost use Rattle.kapi_serve.specs.Goes.{Goes, Moves, Writes};
-ghost use Rattle.kapi_serve.specs.Pieces.{owed};
-ghost use Rattle.kapi_serve.specs.Shows.{Shows, step_of};
+ghost use Rattle.kapi_serve.specs.Private.Pieces.{owed};
+ghost use Rattle.kapi_desk.specs.Steps.{step_of};
+ghost use Rattle.kapi_serve.specs.Shows.{Shows};
 ghost use Rattle.kapi_serve.specs.declared.port.Entry.{Entry as AnEntry};
 
 use crate::pending::Pending;
@@ -15,18 +16,18 @@ use kapi_desk::Desk;
 use kapi_policy::Policy;
 use std::sync::Wait;
 
-/// How far a connection is.
+/// The state of a connection.
 #[derive(Clone, Copy, Debug, PartialEq, Eq)]
 pub(crate) enum Phase {
-    /// Its bytes are read and served.
+    /// The client's bytes are read and served.
     Open,
     /// The client's bytes have ended; the whole requests among them are still served.
     Ending,
-    /// The machine has closed it, and the pending bytes go out.
+    /// The machine has closed the connection, and the pending bytes are still sent.
     Closed,
 }
 
-/// What came of writing.
+/// The result of writing.
 #[derive(Clone, Copy, Debug, PartialEq, Eq)]
 pub(crate) enum Flushed {
     /// Nothing was accepted.
@@ -44,15 +45,15 @@ pub struct Client {
     pub(crate) phase: Phase,
     /// Bytes came since the machine last found no request.
     pub(crate) fed: bool,
-    /// A watch of it runs.
+    /// A watch of the connection runs.
     pub(crate) watching: bool,
-    /// The slot takes no bytes until it tells so.
+    /// The slot takes no bytes until it reports that it does.
     pub(crate) blocked: bool,
     pub(crate) pending: Pending,
 }
 
 impl Client {
-    /// Whether nothing can be done before its slot tells something.
+    /// Whether nothing can be done before the slot reports something.
     pub(crate) fn is_quiet(&self) -> bool {
         self.phase == Phase::Open && !self.fed && !self.watching && self.pending.is_empty()
     }
@@ -72,7 +73,7 @@ impl Client {
         unreachable!()
     }
 
-    /// One write. One that takes no byte is as one that would block.
+    /// Makes one write. A write that takes no byte is as one that would block.
     fn write<Q: Ports>(&mut self, ports: &mut Q) -> Flushed
         ensures { Writes (seat_of self.old) (seat_of self.new) (Q.tells ports.old) (Q.tells ports.new) (Q.history ports.old) (Q.history ports.new) }
     {
@@ -91,7 +92,7 @@ impl Client {
         }
     }
 
-    /// The slot takes no bytes now.
+    /// Notes that the slot takes no bytes now.
     fn block(&mut self) -> Flushed
         ensures { seat_of self.new ≡ seat_of self.old }
     {
@@ -115,7 +116,8 @@ impl Client {
         publishing.is_free(desk)
     }
 
-    /// Answers the next request. Whether there was one. At the end of the client's bytes the connection is closed when there is none.
+    /// Answers the next request, and returns whether there was one. At the end of the client's bytes the connection is
+    /// closed when there is none.
     pub(crate) fn serve<R: Wait, P: Policy + Drop>(
         &mut self,
         rt: &R,
@@ -146,7 +148,7 @@ impl Client {
         }
     }
 
-    /// Shows the next event of the connection's watch. Whether there was one.
+    /// Shows the next event of the connection's watch, and returns whether there was one.
     pub(crate) fn pump<R: Wait, P: Policy + Drop>(
         &mut self,
         rt: &R,
@@ -174,7 +176,7 @@ impl Client {
         }
     }
 
-    /// Puts what the machine answered to the pending bytes, and publishes what it changed.
+    /// Puts the machine's answer to the pending bytes, and publishes what it changed in the policy.
     fn send<R: Wait>(
         &mut self,
         rt: &R,
@@ -212,7 +214,7 @@ impl Client {
         }
     }
 
-    /// Whether nothing is left to be done, or nothing can be after what came of writing.
+    /// Whether nothing is left to be done, or nothing can be done after the result of writing.
     pub(crate) fn is_over(&self, flushed: Flushed) -> bool {
         flushed == Flushed::Failed || self.phase == Phase::Closed && self.pending.is_empty()
     }

@@ -1,7 +1,7 @@
 ghost use Rattle.std.specs.Prelude.{◌≡◌, ◌<◌, ◌+◌, List, [], ◌∷◌, ◌++◌, None, IfSome, OnOk, ◌==◌, length, vec_len, vec_capacity, ⊤};
 ghost use Rattle.std.specs.List.{HoldsAt, position};
 ghost use Rattle.kapi_serve.specs.Acts.{IsFree, Seat};
-ghost use Rattle.kapi_serve.specs.Clients.{others, seats_of};
+ghost use Rattle.kapi_serve.specs.Private.Clients.{others, seats_of};
 ghost use Rattle.kapi_serve.specs.Goes.{Closes, IsAt, Moves};
 ghost use Rattle.kapi_serve.specs.declared.client.Phase.TheVariants as phase;
 ghost use Rattle.kapi_serve.specs.declared.port.Entry.{Entry as AnEntry};
@@ -12,8 +12,8 @@ use crate::client::{Client, Phase};
 use crate::pending::Pending;
 use crate::port::{PortFault, Ports};
 use kapi_core::{ConnId, Core};
+use kapi_model::Identity;
 use kapi_policy::Policy;
-use kapi_rbac_types::Identity;
 use kapi_text::Memory;
 use std::alloc::Global;
 
@@ -22,11 +22,11 @@ use std::alloc::Global;
 pub(crate) struct Clients {
     alloc: Global,
     pub(crate) list: Vec<Client>,
-    /// Those at which something may be done before their slots tell anything.
+    /// The connections at which something may be done before their slots report anything.
     pub(crate) awake: Awake,
 }
 
-/// What came of a read.
+/// The result of a read.
 #[derive(Clone, Copy, Debug, PartialEq, Eq)]
 pub(crate) enum Pulled {
     /// Bytes were fed to the machine.
@@ -46,7 +46,7 @@ impl Clients {
         }
     }
 
-    /// The place of one of those awake, if it is still there.
+    /// The place of one of the awake connections, if it is still there.
     pub(crate) fn awake_at(&self, position: usize) -> Option<usize>
         ensures { IfSome result (λ i. i < length self.now.list.items) }
     {
@@ -56,7 +56,7 @@ impl Clients {
             .ok()
     }
 
-    /// Lets one of those awake sleep, if nothing can be done at it. The position of the next one.
+    /// Lets one of the awake connections sleep, if nothing can be done at it. Returns the position of the next one.
     pub(crate) fn pass(&mut self, position: usize) -> usize
         ensures { self.new.list ≡ self.old.list }
     {
@@ -89,7 +89,7 @@ impl Clients {
         }
     }
 
-    /// Makes room for one more.
+    /// Makes room for one connection more.
     fn reserve(&mut self) -> Result<(), Memory>
         ensures items { self.new.list.items ≡ self.old.list.items }
         ensures room { OnOk result (vec_len self.new.list < vec_capacity self.new.list) }
@@ -140,7 +140,7 @@ impl Clients {
         }
     }
 
-    /// Closes a connection and ends its slot. What was pending does not go out.
+    /// Closes a connection and ends its slot. The pending bytes are not sent.
     pub(crate) fn end<P: Policy + Drop, Q: Ports>(
         &mut self,
         core: &mut Core<P>,
@@ -157,7 +157,7 @@ impl Clients {
         ports.end(client.slot);
     }
 
-    /// A slot takes bytes again.
+    /// Notes that a slot takes bytes again.
     pub(crate) fn unblock(&mut self, slot: usize)
         ensures { seats_of self.new.list.items ≡ seats_of self.old.list.items }
     {
@@ -166,7 +166,7 @@ impl Clients {
         }
     }
 
-    /// Each slot may take bytes again.
+    /// Notes that each slot may take bytes again.
     pub(crate) fn unblock_all(&mut self)
         ensures { seats_of self.new.list.items ≡ seats_of self.old.list.items }
     {
@@ -175,7 +175,7 @@ impl Clients {
         }
     }
 
-    /// Reads a piece from a slot and feeds it. A connection that cannot be noted among those awake is closed, as one that takes no piece.
+    /// Reads a piece from a slot and feeds it. A connection that cannot be noted as awake is closed.
     pub(crate) fn pull<P: Policy + Drop, Q: Ports>(
         &mut self,
         core: &mut Core<P>,
@@ -210,7 +210,7 @@ impl Clients {
         }
     }
 
-    /// The client's bytes have ended.
+    /// Notes that the client's bytes have ended.
     fn reach_end(&mut self, index: usize)
         requires { index < length self.old.list.items }
         ensures { seats_of self.new.list.items ≡ seats_of self.old.list.items }

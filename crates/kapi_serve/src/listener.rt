@@ -1,6 +1,6 @@
 ghost use Rattle.std.specs.Prelude.{◌≡◌, ◌≤◌};
 
-use kapi_rbac_types::Identity;
+use kapi_model::Identity;
 use mio::net::TcpListener;
 use std::io::ErrorKind;
 
@@ -13,18 +13,18 @@ pub(crate) struct Listener {
     pub(crate) identity: Identity,
     /// A client may wait to be accepted.
     pub(crate) waiting: bool,
-    /// So many clients may still be taken in in this round.
+    /// The number of clients that may still be accepted in this round.
     pub(crate) left: usize,
     ghost few: { left ≤ 16 },
 }
 
 impl Listener {
-    /// A client may be taken in now.
+    /// Whether a client may be accepted now.
     pub(crate) fn has_turn(&self) -> bool {
         self.waiting && self.left > 0
     }
 
-    /// No client is taken in in this round any more.
+    /// Accepts no client any more in this round.
     pub(crate) fn pause(&mut self, error: ErrorKind)
         ensures { (self.new.port ≡ self.old.port) × (self.new.identity ≡ self.old.identity) }
     {

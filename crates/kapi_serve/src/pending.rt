@@ -1,19 +1,19 @@
 ghost use Rattle.std.specs.Prelude.{◌≡◌, ◌≤◌, ◌<◌, ◌++◌, [], drop, take, length, OnOk};
 ghost use Rattle.std.specs.VecDeque.{deque_len, deque_capacity};
-ghost use Rattle.kapi_serve.specs.Pieces.{owed};
+ghost use Rattle.kapi_serve.specs.Private.Pieces.{owed};
 
 use kapi_text::{Memory, Sequence};
 use std::alloc::Global;
 use std::collections::VecDeque;
 
-/// At so many pending bytes a connection is neither served nor pumped.
+/// The number of pending bytes at which a connection is neither served nor pumped.
 const PENDING_LIMIT: usize = 1_048_576;
 
-/// The bytes that are yet to go out on a connection, in their order.
+/// The bytes that are yet to be sent on a connection, in their order.
 #[derive(Drop)]
 pub struct Pending {
     head: Sequence<u8>,
-    /// So many bytes of the head have gone out.
+    /// The number of bytes of the head that were sent.
     sent: usize,
     behind: VecDeque<Sequence<u8>>,
     /// How many bytes are pending, at most the greatest number.
@@ -59,12 +59,12 @@ impl Pending {
         self.behind.push_back_reserved(bytes);
     }
 
-    /// Whether all bytes have gone out.
+    /// Whether all bytes were sent.
     pub(crate) fn is_empty(&self) -> bool {
         self.sent >= self.head.as_slice().len() && self.behind.is_empty()
     }
 
-    /// Lets the next bytes stand at the head, if the head has gone out.
+    /// Lets the next bytes become the head, if the head was sent.
     #[tactic(auto, using(crate::proofs::Joining::owed_next))]
     pub(crate) fn advance(&mut self)
         ensures { owed self.new ≡ owed self.old }
@@ -88,7 +88,7 @@ impl Pending {
         }
     }
 
-    /// So many of the next bytes have gone out.
+    /// Notes that so many of the next bytes were sent.
     #[tactic(auto, using(crate::proofs::Joining::owed_pass))]
     pub(crate) fn pass(&mut self, count: usize)
         requires { count ≤ length (drop self.old.sent self.old.head) }

@@ -3,10 +3,10 @@ ghost use Rattle.kapi_serve.specs.Ports.{gave, opened, took};
 ghost use Rattle.kapi_serve.specs.declared.port.Entry.TheVariants as entry;
 ghost use Rattle.kapi_serve.specs.declared.port.PortFault.TheVariants as fault;
 
-use kapi_rbac_types::Identity;
+use kapi_model::Identity;
 use kapi_text::Sequence;
 
-/// What ports have to tell. A slot is the number of a connection among them, free again once it is ended.
+/// The events of ports. A slot is the number of a connection among them, free again once it is ended.
 #[derive(Debug, Drop)]
 pub enum PortEvent {
     /// A client has connected on this slot, under this identity.
@@ -15,20 +15,20 @@ pub enum PortEvent {
     Readable(usize),
     /// The slot may take bytes again.
     Writable(usize),
-    /// A while has passed in which nothing happened.
+    /// Some time has passed in which nothing happened.
     Idle,
 }
 
-/// Why a slot gave or took nothing.
+/// Why a slot read or wrote nothing.
 #[derive(Clone, Copy, Debug, PartialEq, Eq)]
 pub enum PortFault {
-    /// There is nothing now, and an event tells when there may be.
+    /// There is nothing now, and an event reports when there may be.
     WouldBlock,
     /// The slot is broken.
     Failed,
 }
 
-/// What a call on ports gave or took. Ports that tell their history keep it.
+/// What a call on ports read or wrote. Ports that report their history keep it.
 #[derive(Debug, Drop)]
 pub enum Entry {
     /// A client has connected.
@@ -46,16 +46,16 @@ pub trait Ports {
     ghost use Rattle.std.specs.Prelude.{ℕ, List};
     ghost use Rattle.kapi_serve.specs.declared.port.Entry.{Entry as AnEntry};
 
-    /// What the calls gave and took so far.
+    /// What the calls read and wrote so far.
     ghost history: { Self → List AnEntry };
 
-    /// What shows that all calls so far told the history, where they did.
+    /// Evidence that all calls so far reported the history, where they did.
     ghost tells: { Self → Type 0 } = { λ ports. ⊥ };
 
     /// How often a slot has failed.
     ghost failures: { Self → ℕ };
 
-    /// What happens next; none where nothing will any more.
+    /// The next event; none where there will be none any more.
     fn next(&mut self) -> Option<PortEvent>
         ensures told { tells self.new → tells self.old × (history self.new ≡ history self.old ++ opened result) };
 

@@ -1,24 +1,23 @@
 ghost use Rattle.std.specs.Prelude.{◌≡◌, List, Option, [], ◌∷◌, None, true, false, ⊤};
 ghost use Rattle.kapi_policy.specs.declared.change.PolicyChange.{PolicyChange as AChange};
-ghost use Rattle.kapi_desk.specs.Steps.{AreDeletions, IsStep};
 ghost use Rattle.kapi_serve.specs.Acts.{Seat};
 ghost use Rattle.kapi_serve.specs.Goes.{Goes};
-ghost use Rattle.kapi_serve.specs.Shows.{Shows, Takes, step_of};
+ghost use Rattle.kapi_desk.specs.Steps.{step_of};
+ghost use Rattle.kapi_serve.specs.Shows.{Shows, Takes};
 ghost use Rattle.kapi_serve.specs.declared.port.Entry.{Entry as AnEntry};
 
 use kapi_core::Core;
 use kapi_desk::{Desk, PublishError};
-use kapi_policy::{Policy, PolicyChange};
-use kapi_text::Sequence;
+use kapi_policy::{Policy, PolicyStep};
 use std::sync::Wait;
 
-/// So many turns are made at most after a step that changed the policy.
+/// The largest number of turns after a step that changed the policy.
 const TURNS: u32 = 64;
 
 /// What is left to be done of the steps that were made: the changes that the desk did not take, and turns.
 #[derive(Drop)]
 pub struct Publishing {
-    kept: Option<Sequence<PolicyChange>>,
+    kept: Option<PolicyStep>,
     turns: u32,
 }
 
@@ -38,54 +37,46 @@ impl Publishing {
         ensures kept { result ≡ true → self.now.kept ≡ None }
     {
         match &self.kept {
-            Some(_changes) => false,
+            Some(_step) => false,
             None => !waits(desk),
         }
     }
 
-    /// Publishes what the step of a client changed, if it changed anything. Turns follow it.
-    pub(crate) fn publish_step<R: Wait>(
-        &mut self,
-        rt: &R,
-        desk: &mut Desk,
-        changes: Sequence<PolicyChange>,
-    )
+    /// Publishes what the step of a client changed in the policy, if anything. Turns follow it.
+    pub(crate) fn publish_step<R: Wait>(&mut self, rt: &R, desk: &mut Desk, step: PolicyStep)
         requires waiting { desk.old.waiting ≡ [] }
         requires kept { self.old.kept ≡ None }
-        ensures { Shows desk.old desk.new self.old.kept self.new.kept (step_of changes) }
+        ensures { Shows desk.old desk.new self.old.kept self.new.kept (step_of step) }
     {
-        if !changes.as_slice().is_empty() {
+        if !step.as_slice().is_empty() {
             self.turns = TURNS;
         }
-        self.publish(rt, desk, changes);
+        self.publish(rt, desk, step);
     }
 
-    /// Publishes what a step changed, if it changed anything.
-    fn publish<R: Wait>(&mut self, rt: &R, desk: &mut Desk, changes: Sequence<PolicyChange>)
+    /// Publishes what a step changed in the policy, if anything.
+    fn publish<R: Wait>(&mut self, rt: &R, desk: &mut Desk, step: PolicyStep)
         requires waiting { desk.old.waiting ≡ [] }
         requires kept { self.old.kept ≡ None }
-        ensures { Shows desk.old desk.new self.old.kept self.new.kept (step_of changes) }
+        ensures { Shows desk.old desk.new self.old.kept self.new.kept (step_of step) }
     {
-        if changes.as_slice().is_empty() {
+        if step.as_slice().is_empty() {
             return;
         }
-        self.show(rt, desk, changes);
+        self.show(rt, desk, step);
     }
 
-    /// Publishes a step, or keeps it.
-    #[tactic(auto, using(crate::proofs::Showing::shows_taken, crate::proofs::Showing::shows_kept))]
-    fn show<R: Wait>(&mut self, rt: &R, desk: &mut Desk, changes: Sequence<PolicyChange>)
+    /// Publishes a step, or keeps it where the desk is out of memory.
+    #[tactic(auto, using(crate::proofs::Showing::shows_taken_or_kept))]
+    fn show<R: Wait>(&mut self, rt: &R, desk: &mut Desk, step: PolicyStep)
         requires waiting { desk.old.waiting ≡ [] }
         requires kept { self.old.kept ≡ None }
-        ensures { Shows desk.old desk.new self.old.kept self.new.kept (changes ∷ []) }
+        ensures { Shows desk.old desk.new self.old.kept self.new.kept (step ∷ []) }
     {
-        if takes(rt, desk, changes.as_slice()) {
-            return;
-        }
-        self.kept = Some(changes);
+        self.kept = refused(rt, desk, step);
     }
 
-    /// Tries again to publish what was refused.
+    /// Tries again to publish a step that was refused.
     #[tactic(auto, using(crate::proofs::Showing::shows_on_nothing, crate::proofs::Showing::shows_again))]
     pub(crate) fn retry<R: Wait>(&mut self, rt: &R, desk: &mut Desk)
         ensures { Shows desk.old desk.new self.old.kept self.new.kept [] }
@@ -95,12 +86,12 @@ impl Publishing {
             return;
         }
         match self.kept.take() {
-            Some(changes) => self.show(rt, desk, changes),
+            Some(step) => self.show(rt, desk, step),
             None => {}
         }
     }
 
-    /// Makes the turns that are due, while they are published. Whether one was made.
+    /// Makes the turns that are due, while they are published, and returns whether one was made.
     pub(crate) fn make_turns<R: Wait, P: Policy + Drop>(
         &mut self,
         rt: &R,
@@ -119,7 +110,7 @@ impl Publishing {
         made
     }
 
-    /// Makes a turn, if one is due and may be made. Where memory runs out it is tried again later.
+    /// Makes a turn, if one is due and may be made. Where an allocation fails it is tried again later.
     fn make_turn<R: Wait, P: Policy + Drop>(
         &mut self,
         rt: &R,
@@ -168,38 +159,14 @@ fn retry<R: Wait>(rt: &R, desk: &mut Desk)
     }
 }
 
-/// Publishes a step. Whether the desk took it; it may still wait there. A list of changes that is no step, which the machine never
-/// makes, is not taken.
-fn takes<R: Wait>(rt: &R, desk: &mut Desk, changes: &[PolicyChange]) -> bool
+/// Publishes a step. The desk takes it, where it may still wait, or hands it back.
+fn refused<R: Wait>(rt: &R, desk: &mut Desk, step: PolicyStep) -> Option<PolicyStep>
     requires { desk.old.waiting ≡ [] }
-    ensures { Takes desk.old desk.new changes.now result }
+    ensures { Takes desk.old desk.new step result }
 {
-    if !is_step(changes) {
-        return false;
+    match desk.publish(rt, step) {
+        Ok(_count) => None,
+        Err(PublishError::Pending) => None,
+        Err(PublishError::Memory(step)) => Some(step),
     }
-    match desk.publish(rt, changes) {
-        Ok(_count) => true,
-        Err(PublishError::Pending) => true,
-        Err(PublishError::Memory) => false,
-    }
-}
-
-/// Whether they are one change and then deletions.
-fn is_step(changes: &[PolicyChange]) -> bool
-    ensures { result ≡ true → IsStep changes.now }
-{
-    match changes {
-        [_first, deletions @ ..] => are_deletions(deletions),
-        [] => true,
-    }
-}
-
-fn are_deletions(changes: &[PolicyChange]) -> bool
-    ensures { result ≡ true → AreDeletions changes.now }
-{
-    let mut left = changes;
-    while let [PolicyChange::Delete(_), later @ ..] = left {
-        left = later;
-    }
-    left.is_empty()
 }

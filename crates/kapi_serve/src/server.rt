@@ -1,6 +1,6 @@
 ghost use Rattle.std.specs.Prelude.{◌≡◌, List, [], ◌∷◌, ◌++◌, Some, ⊤};
 ghost use Rattle.kapi_serve.specs.Acts.{Seat};
-ghost use Rattle.kapi_serve.specs.Clients.{seat_of, seats_of};
+ghost use Rattle.kapi_serve.specs.Private.Clients.{seat_of, seats_of};
 ghost use Rattle.kapi_serve.specs.Goes.{Goes, Serves};
 ghost use Rattle.kapi_serve.specs.Ports.{opened};
 ghost use Rattle.kapi_serve.specs.declared.port.Entry.{Entry as AnEntry};
@@ -14,7 +14,7 @@ use kapi_desk::Desk;
 use kapi_policy::Policy;
 use std::sync::Wait;
 
-/// So many bytes are read at a time.
+/// The number of bytes that are read at a time.
 const READ_SIZE: usize = 65_536;
 
 /// The connections, and what is left to be published.
@@ -24,8 +24,8 @@ pub struct Server {
     publishing: Publishing,
 }
 
-/// Serves the clients of ports until these have no more to tell: each byte read is fed to the machine, each answer goes out in order,
-/// and each step that changed the policy is published before the next one is made.
+/// Serves the clients of ports until the ports have no more events: each byte read is fed to the machine, each answer
+/// is sent in order, and each step that changed the policy is published before the next one is made.
 pub fn serve_loop<R: Wait, P: Policy + Drop, Q: Ports>(
     rt: &R,
     core: &mut Core<P>,
@@ -49,7 +49,7 @@ pub fn serve_loop<R: Wait, P: Policy + Drop, Q: Ports>(
 }
 
 impl Server {
-    /// Does all that an event of the ports gives rise to.
+    /// Does all that an event of the ports requires.
     fn react<R: Wait, P: Policy + Drop, Q: Ports>(
         &mut self,
         rt: &R,
@@ -66,7 +66,7 @@ impl Server {
         self.settle(rt, core, desk, ports);
     }
 
-    /// Takes in what an event tells.
+    /// Takes in an event of the ports.
     fn take<R: Wait, P: Policy + Drop, Q: Ports>(
         &mut self,
         rt: &R,
@@ -86,7 +86,7 @@ impl Server {
         }
     }
 
-    /// Reads a slot until it would block, at its end, or at the end of its connection. All that can be done is done after each piece.
+    /// Reads a slot until it would block, at its end, or at the end of its connection, and settles after each piece.
     fn read<R: Wait, P: Policy + Drop, Q: Ports>(
         &mut self,
         rt: &R,
@@ -123,7 +123,7 @@ impl Server {
         }
     }
 
-    /// Goes once over the connections at which something may be done. Whether anything was.
+    /// Goes once over the connections at which something may be done, and returns whether anything was done.
     fn round<R: Wait, P: Policy + Drop, Q: Ports>(
         &mut self,
         rt: &R,
@@ -142,7 +142,7 @@ impl Server {
         done
     }
 
-    /// Writes, serves and pumps one of the connections awake, and makes the turns that follow. Whether anything was done.
+    /// Writes, serves and pumps an awake connection, and makes the turns that follow. Whether anything was done.
     fn visit<R: Wait, P: Policy + Drop, Q: Ports>(
         &mut self,
         rt: &R,
@@ -167,7 +167,7 @@ impl Server {
     }
 }
 
-/// Serves and pumps a connection, and makes the turns that follow. Whether anything was done.
+/// Serves and pumps a connection, and makes the turns that follow. Returns whether anything was done.
 fn answer<R: Wait, P: Policy + Drop>(
     rt: &R,
     core: &mut Core<P>,

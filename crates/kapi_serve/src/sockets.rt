@@ -6,7 +6,7 @@ ghost use Rattle.kapi_serve.specs.declared.port.PortFault.TheVariants as fault;
 use crate::listener::Listener;
 use crate::port::{PortEvent, PortFault, Ports};
 use crate::stream::Stream;
-use kapi_rbac_types::Identity;
+use kapi_model::Identity;
 use kapi_text::TryCopy;
 use mio::event::Event;
 use mio::net::TcpListener;
@@ -16,19 +16,19 @@ use std::io::{self, ErrorKind};
 use std::net::{Ipv4Addr, Net, SocketAddr};
 use std::time::{Clock, Duration};
 
-/// So many events are taken from one wait.
+/// The largest number of events that are taken from one wait.
 const EVENTS: usize = 256;
 
-/// So many milliseconds a wait lasts at most.
+/// The longest wait, in milliseconds.
 const WAIT: u64 = 100;
 
-/// So many sockets of clients are open at most.
+/// The largest number of open sockets of clients.
 const MOST_OPEN: usize = 320;
 
-/// So many clients are taken in before the open ones have their turn again.
+/// The number of clients that are accepted before the open ones have their turn again.
 const MOST_ACCEPTED: usize = 16;
 
-/// Ports over sockets of this machine. They go in rounds: each slot that is ready has one turn, and then a few clients are taken in.
+/// Ports over sockets of this machine. In each round every ready slot has one turn, then a few clients are accepted.
 #[derive(Drop)]
 pub struct Sockets<C: Clock + Drop> {
     alloc: Global,
@@ -40,7 +40,7 @@ pub struct Sockets<C: Clock + Drop> {
     streams: Vec<Option<Stream>>,
     /// The slots from this one on have not had their turn in this round.
     turn: usize,
-    /// When the round began.
+    /// The time at which the round began.
     now: Duration,
     failures: u64,
 }
@@ -63,8 +63,8 @@ impl<C: Clock + Drop> Sockets<C> {
         })
     }
 
-    /// Listens on a port of 127.0.0.1 for clients of this identity, and answers the port. A free one is taken for 0. All listeners are
-    /// made before the first client is waited for.
+    /// Listens on a port of 127.0.0.1 for clients of this identity, and returns the port. A free port is taken for 0.
+    /// All listeners are made before the first client is waited for.
     pub fn listen<N: Net>(&mut self, net: &N, port: u16, identity: Identity) -> io::Result<u16>
         ensures { OnOk result (doors self.new.listeners.items ≡ doors self.old.listeners.items ++ (port, identity) ∷ []) }
     {
@@ -104,7 +104,7 @@ impl<C: Clock + Drop> Sockets<C> {
         }
     }
 
-    /// Takes one client in, if one waits and a slot is free. Where none is, a client that takes nothing loses its own.
+    /// Accepts one client, if one waits and a slot is free. Where none is, a client that takes nothing loses its slot.
     fn accept(&mut self) -> Option<PortEvent>
         ensures doors { doors self.new.listeners.items ≡ doors self.old.listeners.items }
         ensures identity { CameByDoor self.old.listeners.items result }
@@ -123,7 +123,7 @@ impl<C: Clock + Drop> Sockets<C> {
         None
     }
 
-    /// Takes a client of this listener in; where none comes, the listener has no more of this round.
+    /// Accepts a client of this listener; where none comes, the listener has no more turns in this round.
     fn accept_or_pause(&mut self, index: usize, slot: usize) -> Option<PortEvent>
         requires listener { index < vec_len self.old.listeners }
         requires slot { slot < vec_len self.old.streams }
@@ -190,7 +190,7 @@ impl<C: Clock + Drop> Sockets<C> {
         None
     }
 
-    /// What is left to be told in this round.
+    /// The next event that is left in this round.
     fn go_on(&mut self) -> Option<PortEvent>
         ensures doors { doors self.new.listeners.items ≡ doors self.old.listeners.items }
         ensures identity { CameByDoor self.old.listeners.items result }
@@ -215,7 +215,7 @@ impl<C: Clock + Drop> Sockets<C> {
         Some(())
     }
 
-    /// Each listener may take in as many clients as any other.
+    /// Lets each listener accept as many clients as any other.
     fn allow(&mut self)
         ensures { doors self.new.listeners.items ≡ doors self.old.listeners.items }
     {
@@ -225,7 +225,7 @@ impl<C: Clock + Drop> Sockets<C> {
         }
     }
 
-    /// What a stream's error means. A slot fails only where that can be counted.
+    /// The fault of a stream's error. A slot fails only where that can be counted.
     fn fault(&mut self, error: Option<io::Error>) -> PortFault
         ensures { result ≡ fault.Failed → self.old.failures < self.new.failures }
     {
@@ -242,7 +242,7 @@ impl<C: Clock + Drop> Sockets<C> {
     }
 }
 
-/// Notes what events tell.
+/// Notes the readiness that events report.
 fn note_all(listeners: &mut Vec<Listener>, streams: &mut Vec<Option<Stream>>, events: &Events)
     ensures { doors listeners.new.items ≡ doors listeners.old.items }
 {
@@ -251,7 +251,7 @@ fn note_all(listeners: &mut Vec<Listener>, streams: &mut Vec<Option<Stream>>, ev
     }
 }
 
-/// Notes what an event tells.
+/// Notes the readiness that an event reports.
 fn note(listeners: &mut Vec<Listener>, streams: &mut Vec<Option<Stream>>, event: &Event)
     ensures { doors listeners.new.items ≡ doors listeners.old.items }
 {

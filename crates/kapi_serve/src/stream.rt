@@ -1,5 +1,5 @@
 ghost use Rattle.std.specs.Prelude.{◌≡◌, ◌+◌, ◌≤◌, None, Some, true, false, IfOk, IsErr, length};
-ghost use Rattle.kapi_serve.specs.Turns.{turn_of};
+ghost use Rattle.kapi_serve.specs.Private.Turns.{turn_of};
 
 use crate::port::PortEvent;
 use mio::event::Event;
@@ -8,26 +8,26 @@ use std::io::{self, ErrorKind, Read, Write};
 use std::net::Shutdown;
 use std::time::Duration;
 
-/// So many bytes of a client are read before the others have their turn.
+/// The number of bytes of a client that are read before the others have their turn.
 const READ_SHARE: usize = 2_048;
 
-/// So many bytes are written to a client before the others have their turn.
+/// The number of bytes that are written to a client before the others have their turn.
 const WRITE_SHARE: usize = 32_768;
 
-/// So many seconds a client may take nothing of what is written to it, where others need its socket.
+/// The number of seconds that a client may take nothing of what is written to it, where others need its socket.
 const PATIENCE: u64 = 60;
 
 /// The socket of a client, and what is left of its share.
 #[derive(Drop)]
 pub(crate) struct Stream {
     socket: TcpStream,
-    /// It may have bytes, or their end.
+    /// The socket may have bytes, or their end.
     readable: bool,
-    /// It may take bytes again.
+    /// The socket may take bytes again.
     writable: bool,
     read_left: usize,
     write_left: usize,
-    /// The socket has taken nothing since then.
+    /// The time since which the socket has taken nothing.
     blocked_since: Option<Duration>,
     ghost shares: { (read_left ≤ 2_048) × (write_left ≤ 32_768) },
 }
@@ -44,7 +44,7 @@ impl Stream {
         }
     }
 
-    /// Notes what an event tells.
+    /// Notes the readiness that an event reports.
     pub(crate) fn note(&mut self, event: &Event) {
         if event.is_writable() && self.blocked_since.is_some() {
             self.writable = true;
@@ -54,7 +54,7 @@ impl Stream {
         }
     }
 
-    /// What the stream on this slot can be asked for, if it can be. Its share is whole then.
+    /// The event of the stream on this slot, if it is ready. Its share is whole then.
     pub(crate) fn take_turn(&mut self, slot: usize) -> Option<PortEvent>
         ensures { result ≡ turn_of slot self.old.writable self.old.readable }
     {
@@ -71,7 +71,7 @@ impl Stream {
         None
     }
 
-    /// Reads within the share. When it is used up, or what is written waits for its own turn, reading goes on at the next turn.
+    /// Reads within the share. When it is used up, or writes wait for their turn, reading goes on at the next turn.
     pub(crate) fn read(&mut self, buffer: &mut [u8]) -> io::Result<usize>
         ensures len { length buffer.new ≡ length buffer.old }
         ensures bound { IfOk result (λ n. n ≤ length buffer.new) }
@@ -88,7 +88,7 @@ impl Stream {
         Ok(count)
     }
 
-    /// Writes within the share. When it is used up, writing goes on at the next turn.
+    /// Writes within the share. When the share is used up, writing goes on at the next turn.
     pub(crate) fn write(&mut self, bytes: &[u8], now: Duration) -> io::Result<usize>
         ensures bound { IfOk result (λ n. n ≤ length bytes.now) }
         ensures share { IfOk result (λ n. n + self.new.write_left ≡ self.old.write_left) }

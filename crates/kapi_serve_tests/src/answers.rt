@@ -3,11 +3,10 @@ ghost use Rattle.std.specs.Prelude.{◌≡◌, []};
 use kapi_audit::{AnswerFault, answer_run};
 use kapi_desk::{Desk, Seat};
 use kapi_loading::{Started, start};
-use kapi_policy::{NamespacedName, PolicyChange, PolicyKey};
+use kapi_policy::{NamespacedName, PolicyChange, PolicyKey, PolicyStep};
 use kapi_text::Text;
 use std::alloc::{AllocError, Global};
 use std::io::{self, Read, Write};
-use std::slice;
 use std::sync::Wait;
 use std::test::Fail;
 
@@ -17,7 +16,7 @@ const OBJECTS: &str =
 {"apiVersion":"rbac.authorization.k8s.io/v1","kind":"RoleBinding","metadata":{"name":"b","namespace":"default"},"roleRef":{"kind":"Role","name":"r"},"subjects":[{"kind":"User","name":"ann"}]}
 "#;
 
-/// Of ann and of bob, a comment, an empty line, what is no question, and of a master in a line without its end.
+/// Questions of ann, of bob and of a master, whose line has no end; a comment, an empty line, and no question.
 const QUESTIONS: &str =
     r#"{"user":"ann","resourceAttributes":{"namespace":"default","verb":"get","resource":"pods"}}
 {"user":"bob","resourceAttributes":{"namespace":"default","verb":"get","resource":"pods"}}
@@ -26,7 +25,7 @@ const QUESTIONS: &str =
 odd
 {"user":"root","groups":["system:masters"],"nonResourceAttributes":{"verb":"get","path":"/x"}}"#;
 
-/// Gives and takes nothing.
+/// Ports that read and write nothing.
 #[derive(Drop)]
 struct Broken;
 
@@ -46,7 +45,7 @@ impl Write for Broken {
     }
 }
 
-/// What a seat tells of questions.
+/// The reports of a seat on questions.
 fn told(alloc: Global, seat: &mut Seat, questions: &str) -> Result<String, Fail> {
     let mut reader = questions.as_bytes();
     let mut writer = Vec::new(alloc);
@@ -65,18 +64,20 @@ fn binding_is_deleted(alloc: Global) -> Result<PolicyChange, AllocError> {
     })))
 }
 
-/// Publishes the deletion of the binding `b`. How many changes are published then.
+/// Publishes the deletion of the binding `b`, and returns how many changes are published then.
 fn publish_deletion<R: Wait>(rt: &R, alloc: Global, desk: &mut Desk) -> Result<u64, Fail>
     requires { desk.old.waiting ≡ [] }
 {
     let deleted = binding_is_deleted(alloc)?;
-    match desk.publish(rt, slice::from_ref(&deleted)) {
+    let mut changes = Vec::with_capacity(alloc, 1)?;
+    changes.push(deleted)?;
+    match desk.publish(rt, PolicyStep::of(changes)) {
         Ok(count) => Ok(count),
         Err(_refused) => Err(Fail::new("not published")),
     }
 }
 
-/// What is told before and after the deletion.
+/// The reports before and after the deletion.
 fn told_twice<R: Wait>(
     rt: &R,
     alloc: Global,

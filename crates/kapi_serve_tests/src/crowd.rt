@@ -1,11 +1,11 @@
-//! As many clients as are served, and one more.
+//! The largest number of clients, and one more.
 use crate::fixture::{CREATE, CREATED, GET, GOT, master, serve};
 use crate::memory::{Memory, Mishap};
 use std::alloc::{AllocError, Global};
 use std::sync::Wait;
 use std::test::Fail;
 
-/// So many connections are open at most.
+/// The largest number of open connections.
 const OPEN: usize = 256;
 
 /// All clients connect and stay, one more than there may be; the first creates what the others ask for.
@@ -20,7 +20,7 @@ fn crowd<R: Wait>(alloc: Global, rt: &R) -> Result<Memory, AllocError> {
     Ok(ports)
 }
 
-/// How many slots were ended.
+/// The number of slots that were ended.
 fn ended(ports: &Memory) -> usize {
     (0..=OPEN).filter(|slot| ports.has_ended(*slot)).count()
 }

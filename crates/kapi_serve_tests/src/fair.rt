@@ -14,7 +14,7 @@ const GET: &str = "GET /api/v1/namespaces/default/configmaps HTTP/1.1\r\nHost: a
 #[derive(Drop)]
 struct UntilSecond<C: Clock + Drop> {
     sockets: Sockets<C>,
-    /// So many bytes of the first client were read.
+    /// The number of bytes of the first client that were read.
     read: usize,
     over: bool,
 }

@@ -1,23 +1,22 @@
 ghost use Rattle.std.specs.Prelude.{◌≡◌, [], IfOk};
 
-use kapi_core::Core;
+use kapi_core::{Core, program_table};
 use kapi_desk::{Desk, Seat};
 use kapi_index::IndexedPolicy;
-use kapi_rbac_types::Identity;
-use kapi_script::program_table;
+use kapi_model::Identity;
 use kapi_serve::{Ports, serve_loop};
 use kapi_text::{Sequence, Text};
 use std::alloc::{AllocError, Global};
 use std::sync::Wait;
 
-/// Creates the ConfigMap `a`.
+/// A request that creates the ConfigMap `a`.
 pub const CREATE: &[u8] =
     b"POST /api/v1/namespaces/default/configmaps HTTP/1.1\r\nHost: a\r\nContent-Type: application/json\r\nContent-Length: 79\r\n\r\n{\"apiVersion\":\"v1\",\"kind\":\"ConfigMap\",\"metadata\":{\"name\":\"a\"},\"data\":{\"k\":\"v\"}}";
 
 pub const CREATED: &[u8] =
     b"HTTP/1.1 201 Created\r\nContent-Type: application/json\r\nContent-Length: 168\r\n\r\n{\"apiVersion\":\"v1\",\"data\":{\"k\":\"v\"},\"kind\":\"ConfigMap\",\"metadata\":{\"name\":\"a\",\"namespace\":\"default\",\"resourceVersion\":\"6\",\"uid\":\"00000000-0000-4000-8000-000000000006\"}}";
 
-/// Asks for the ConfigMap `a`.
+/// A request for the ConfigMap `a`.
 pub const GET: &[u8] = b"GET /api/v1/namespaces/default/configmaps/a HTTP/1.1\r\nHost: a\r\n\r\n";
 
 pub const GOT: &[u8] =
@@ -27,7 +26,7 @@ pub const GOT: &[u8] =
 pub const WATCHED: &str =
     "HTTP/1.1 200 OK\r\nContent-Type: application/json\r\nTransfer-Encoding: chunked\r\n\r\n";
 
-/// Asks for what nobody but the masters may get.
+/// A request for an object that only the masters may get.
 pub const FORBIDDEN: &[u8] =
     b"GET /api/v1/namespaces/default/widgets/x HTTP/1.1\r\nHost: a\r\n\r\n";
 
@@ -39,7 +38,7 @@ pub fn user(alloc: Global, user: &str) -> Result<Identity, AllocError> {
     })
 }
 
-/// A user and his group.
+/// A user and the user's group.
 pub fn identity(alloc: Global, user: &str, group: &str) -> Result<Identity, AllocError> {
     let mut groups: Vec<Text> = Vec::new(alloc);
     groups.push(Text::copy_of(alloc, group)?)?;
@@ -73,7 +72,7 @@ pub fn reply(alloc: Global, status: &str, body: &str) -> Result<String, AllocErr
     )
 }
 
-/// Serves the clients of ports until these have no more to tell.
+/// Serves the clients of ports until the ports have no more events.
 pub fn serve<R: Wait, P: Ports>(alloc: Global, rt: &R, ports: &mut P) -> Result<(), AllocError> {
     let mut core = core(alloc)?;
     let (mut desk, seats) = desk(alloc, rt)?;

@@ -1,4 +1,5 @@
-//! Tests of the server's loop, over ports in memory and over sockets of this machine, and of the answers to a client's questions.
+//! Tests of the server's loop, over ports in memory and over sockets of this machine, and of the answers to a client's
+//! questions.
 #![tactic(auto)]
 
 #[cfg(test)]

@@ -26,16 +26,16 @@ use std::time::Clock;
 const QUESTION: &[u8] =
     b"{\"user\":\"ann\",\"resourceAttributes\":{\"namespace\":\"default\",\"verb\":\"get\",\"resource\":\"pods\"}}\n";
 
-/// So many questions are asked of a seat at most.
+/// The largest number of questions to a seat.
 const QUESTIONS: u32 = 200_000;
 
-/// The same question once, and then again and again until the clients are done.
+/// A question once, and then again and again until the clients are done.
 #[derive(Drop)]
 struct Questions<'o> {
     over: &'o AtomicBool,
-    /// So many were asked.
+    /// The number of questions so far.
     asked: u32,
-    /// What is still to be read of the last one.
+    /// The rest of the last question that is still to be read.
     rest: &'static [u8],
 }
 
@@ -60,7 +60,7 @@ impl Read for Questions<'_> {
     }
 }
 
-/// A seat, and what it told; nothing where it could not be read.
+/// A seat, and its reports; none where they could not be read.
 #[derive(Drop)]
 struct Asked {
     seat: Seat,
@@ -81,7 +81,7 @@ fn ask(alloc: Global, mut seat: Seat, over: &AtomicBool) -> Asked {
     Asked { seat, told }
 }
 
-/// The number at the front of a line, where the line is what ann is told after so many changes.
+/// The number at the front of a line, where the line is the report for ann after so many changes.
 fn number_of(line: &str) -> Option<u64> {
     let (number, decision) = line.split_once(' ')?;
     let number = number.parse::<u64>().ok()?;
@@ -97,7 +97,7 @@ fn number_of(line: &str) -> Option<u64> {
     }
 }
 
-/// Whether there are lines, each is what ann is told after its number of changes, and no number falls.
+/// Whether there are lines, each is the report for ann after its number of changes, and no number falls.
 fn is_right(told: &str) -> bool {
     let mut last = 0;
     for line in told.lines() {
@@ -109,7 +109,7 @@ fn is_right(told: &str) -> bool {
     !told.is_empty()
 }
 
-/// Whether a seat that is told nothing denies ann after all changes.
+/// Whether a seat denies ann after all changes.
 fn has_seen_all(alloc: Global, seat: &mut Seat) -> Result<bool, AllocError> {
     let pods = Point::Resource(ResourcePoint {
         verb: Text::copy_of(alloc, "get")?,
@@ -125,7 +125,7 @@ fn has_seen_all(alloc: Global, seat: &mut Seat) -> Result<bool, AllocError> {
     ))
 }
 
-/// How many seats told what they should, and have seen all in the end.
+/// The number of seats whose reports are right, and that have seen all in the end.
 fn count_right(alloc: Global, asked: Vec<Asked>) -> Result<usize, AllocError> {
     let mut count = 0usize;
     for Asked { mut seat, told } in asked {
@@ -140,10 +140,10 @@ fn count_right(alloc: Global, asked: Vec<Asked>) -> Result<usize, AllocError> {
     Ok(count)
 }
 
-/// What came of the clients and of the seats.
+/// The results of the clients and of the seats.
 type Outcome = (io::Result<()>, Result<Vec<Asked>, AllocError>);
 
-/// The clients play their scene, and two more threads ask the seats until they have.
+/// Plays the scene of the clients, while two more threads ask the seats until the clients are done.
 fn play_and_ask<R: Threads + Sync + Net<Listener = TcpListener, Stream = TcpStream>>(
     rt: &R,
     alloc: Global,
@@ -157,7 +157,7 @@ fn play_and_ask<R: Threads + Sync + Net<Listener = TcpListener, Stream = TcpStre
     )
 }
 
-/// The loop runs in this thread, and the clients and askers in others.
+/// Runs the loop in this thread, and the clients and askers in others.
 fn serve_beside<
     R: Threads + Wait + Sync + Net<Listener = TcpListener, Stream = TcpStream>,
     P: Ports,
@@ -180,7 +180,7 @@ fn serve_beside<
     outcome
 }
 
-/// How many seats were right while clients of two ports of 127.0.0.1 were served.
+/// The number of seats that were right while clients of two ports of 127.0.0.1 were served.
 fn serve_and_ask<
     R: Threads + Wait + Sync + Clock + Net<Listener = TcpListener, Stream = TcpStream>,
 >(

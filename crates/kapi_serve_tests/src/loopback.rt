@@ -12,9 +12,9 @@ use std::time::Clock;
 #[derive(Drop)]
 pub struct UntilIdle<'o, C: Clock + Drop> {
     sockets: Sockets<C>,
-    /// The clients are done.
+    /// Set when the clients are done.
     over: &'o AtomicBool,
-    /// So many times nothing may happen after that.
+    /// The number of times that nothing may happen once the clients are done.
     idle: u32,
 }
 

@@ -2,11 +2,11 @@
 ghost use Rattle.std.specs.Prelude.{◌≡◌, ◌<◌, ◌≤◌, length};
 ghost use Rattle.kapi_serve.specs.declared.port.PortFault.TheVariants as fault;
 
-use kapi_rbac_types::Identity;
+use kapi_model::Identity;
 use kapi_serve::{PortEvent, PortFault, Ports};
 use std::alloc::{AllocError, Global};
 
-/// What one call on the ports does in place of passing all.
+/// What one call on the ports does instead of letting all bytes pass.
 #[derive(Clone, Copy, Debug, PartialEq, Eq)]
 pub enum Mishap {
     Nothing,
@@ -18,11 +18,11 @@ pub enum Mishap {
 /// How a client takes what it is sent.
 #[derive(Clone, Copy, Debug, PartialEq, Eq)]
 enum Pace {
-    /// At once; its own bytes end.
+    /// The client takes bytes at once; its own bytes end.
     Prompt,
-    /// At once; its own bytes do not end.
+    /// The client takes bytes at once; its own bytes do not end.
     Lasting,
-    /// Not before so few events are left; its own bytes do not end.
+    /// The client takes no bytes before so few events are left; its own bytes do not end.
     Slow(usize),
 }
 
@@ -44,9 +44,9 @@ pub struct Memory {
     talks: Vec<Talk>,
     opened: usize,
     asked: usize,
-    /// So many events follow.
+    /// The number of events that follow.
     left: usize,
-    /// What the call of this number does.
+    /// The number of the call with a mishap, and the mishap.
     mishap: (usize, Mishap),
     pub calls: usize,
     failures: u64,
@@ -66,22 +66,22 @@ impl Memory {
         }
     }
 
-    /// So many events follow when all clients have connected.
+    /// Sets the number of events that follow when all clients have connected.
     pub fn set_events(&mut self, events: usize) {
         self.left = events;
     }
 
-    /// One client more, who sends these bytes and then ends.
+    /// Adds a client that sends these bytes and then ends.
     pub fn talk(&mut self, identity: Identity, sends: &[u8]) -> Result<(), AllocError> {
         self.add(identity, sends, Pace::Prompt)
     }
 
-    /// One client more, who sends these bytes and stays.
+    /// Adds a client that sends these bytes and stays.
     pub fn lasting_talk(&mut self, identity: Identity, sends: &[u8]) -> Result<(), AllocError> {
         self.add(identity, sends, Pace::Lasting)
     }
 
-    /// One client more, who sends these bytes, and takes nothing until so few events are left.
+    /// Adds a client that sends these bytes, and takes nothing until so few events are left.
     pub fn slow_talk(
         &mut self,
         identity: Identity,
@@ -127,7 +127,7 @@ impl Memory {
         }
     }
 
-    /// What this call does.
+    /// The mishap of this call.
     fn call(&mut self) -> Mishap
         ensures { self.new.failures ≡ self.old.failures }
     {
@@ -172,7 +172,7 @@ impl Memory {
     }
 }
 
-/// How many of so many bytes pass.
+/// The number of bytes that pass, of so many.
 fn passing(mishap: Mishap, count: usize) -> usize
     ensures { result ≤ count }
 {
@@ -183,7 +183,7 @@ fn passing(mishap: Mishap, count: usize) -> usize
 }
 
 impl Talk {
-    /// Whether it takes nothing while so many events are left.
+    /// Whether the client takes nothing while so many events are left.
     fn is_stalled(&self, left: usize) -> bool {
         match self.pace {
             Pace::Prompt | Pace::Lasting => false,
@@ -191,7 +191,7 @@ impl Talk {
         }
     }
 
-    /// Whether its bytes have not ended, but no more come.
+    /// Whether the client's bytes have not ended, but no more come.
     fn waits(&self) -> bool {
         self.pace != Pace::Prompt && self.left().is_empty()
     }
@@ -204,7 +204,7 @@ impl Talk {
         }
     }
 
-    /// Gives the client's next bytes; how many they are.
+    /// Reads the client's next bytes, and returns how many they are.
     fn give(&mut self, mishap: Mishap, buffer: &mut [u8]) -> usize
         ensures len { length buffer.new ≡ length buffer.old }
         ensures bound { result ≤ length buffer.new }
@@ -218,7 +218,7 @@ impl Talk {
         count
     }
 
-    /// Takes bytes for the client; how many they are.
+    /// Writes bytes to the client, and returns how many it takes.
     fn take(&mut self, mishap: Mishap, bytes: &[u8]) -> usize
         ensures { result ≤ length bytes.now }
     {

@@ -1,4 +1,4 @@
-//! Ports that tell their history.
+//! Ports that report their history.
 ghost use Rattle.std.specs.Prelude.{◌≡◌, ◌++◌, [], ◌∷◌, false};
 ghost use Rattle.kapi_serve.specs.Ports.{opened};
 ghost use Rattle.kapi_serve.specs.declared.port.Entry.TheVariants as entry;
@@ -10,7 +10,7 @@ use kapi_text::{Sequence, TryCopy};
 use std::alloc::{AllocError, Global};
 use std::test::Fail;
 
-/// What calls on ports gave and took, as long as there is memory for it.
+/// What calls on ports read and wrote, as long as there is memory for it.
 #[derive(Drop)]
 pub struct Record {
     alloc: Global,
@@ -66,7 +66,7 @@ impl Record {
     }
 }
 
-/// Ports that tell their history.
+/// Ports that report their history.
 #[derive(Drop)]
 pub struct Recorded<Q: Ports + Drop> {
     pub ports: Q,

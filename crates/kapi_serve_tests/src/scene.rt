@@ -1,4 +1,4 @@
-//! What the clients of a server on 127.0.0.1 ask, and what they are told.
+//! The requests of the clients of a server on 127.0.0.1, and the replies.
 use crate::fixture::{CREATE, CREATED, FORBIDDEN, GET, GOT, reply};
 use std::alloc::{AllocError, Global};
 use std::io::{self, ErrorKind, Read, Write};
@@ -6,18 +6,18 @@ use std::net::{Ipv4Addr, Net, SocketAddr, TcpListener, TcpStream};
 use std::sync::atomic::{AtomicBool, Ordering};
 use std::time::Duration;
 
-/// So many seconds a client waits for a reply.
+/// The number of seconds that a client waits for a reply.
 const PATIENCE: u64 = 20;
 
-/// What bob is told who may not do it.
+/// The reply to bob, who may not make the request.
 const REFUSED: &[u8] =
     b"HTTP/1.1 403 Forbidden\r\nContent-Type: application/json\r\nContent-Length: 285\r\n\r\n{\"apiVersion\":\"v1\",\"code\":403,\"details\":{\"causes\":[{\"message\":\"[\\\"get\\\",\\\"\\\",\\\"widgets\\\",\\\"\\\",\\\"x\\\"]\",\"reason\":\"MissingPermission\"}],\"kind\":\"widgets\",\"name\":\"x\"},\"kind\":\"Status\",\"message\":\"bob may not do this in namespace default\",\"metadata\":{},\"reason\":\"Forbidden\",\"status\":\"Failure\"}";
 
-/// What a master is told, since there is no such resource.
+/// The reply to a master, since there is no such resource.
 const MISSING: &[u8] =
     b"HTTP/1.1 404 Not Found\r\nContent-Type: application/json\r\nContent-Length: 168\r\n\r\n{\"apiVersion\":\"v1\",\"code\":404,\"details\":{\"kind\":\"widgets\",\"name\":\"x\"},\"kind\":\"Status\",\"message\":\"no such resource\",\"metadata\":{},\"reason\":\"NotFound\",\"status\":\"Failure\"}";
 
-/// The ports on which the clients have their identities, and where they tell that they are done.
+/// The ports of the identities of the clients, and the flag that they set when they are done.
 #[derive(Clone, Copy)]
 pub struct Clients<'o> {
     pub root: u16,
@@ -30,7 +30,7 @@ struct Part {
     resource: &'static str,
     kind: &'static str,
     name: &'static str,
-    /// Its members behind the metadata, as they are told.
+    /// The members of the object behind its metadata, as replies show them.
     members: &'static str,
 }
 
@@ -49,7 +49,7 @@ const BINDING: Part = Part {
 };
 
 impl Part {
-    /// The request that creates it.
+    /// The request that creates the object.
     fn creation(&self, alloc: Global) -> Result<String, AllocError> {
         let (resource, name, members) = (self.resource, self.name, self.members);
         let body = format!(in alloc; r#"{{"metadata":{{"name":"{name}"}},{members}}}"#)?;
@@ -59,7 +59,7 @@ impl Part {
         )
     }
 
-    /// The reply to its creation, which makes this revision.
+    /// The reply to the object's creation, at this revision.
     fn created(&self, alloc: Global, revision: u64) -> Result<String, AllocError> {
         let (kind, name, members) = (self.kind, self.name, self.members);
         let body = format!(in alloc;
@@ -68,7 +68,7 @@ impl Part {
         reply(alloc, "201 Created", body.as_str())
     }
 
-    /// The request that deletes it.
+    /// The request that deletes the object.
     fn deletion(&self, alloc: Global) -> Result<String, AllocError> {
         let (resource, name) = (self.resource, self.name);
         format!(in alloc;
@@ -76,7 +76,7 @@ impl Part {
         )
     }
 
-    /// The reply to its deletion, where its creation made this revision.
+    /// The reply to the object's deletion, where its creation had this revision.
     fn deleted(&self, alloc: Global, revision: u64) -> Result<String, AllocError> {
         let (resource, name) = (self.resource, self.name);
         let body = format!(in alloc;
@@ -120,7 +120,7 @@ fn unmake(alloc: Global, root: &mut TcpStream, part: &Part, revision: u64) -> io
     exchange(alloc, root, request.as_bytes(), reply.as_bytes())
 }
 
-/// An object is made and told to the masters alone, and who may not ask for another is refused.
+/// An object is created and shown to the masters alone; bob, who may not ask for another, is refused.
 fn ask_for_objects(alloc: Global, root: &mut TcpStream, bob: &mut TcpStream) -> io::Result<()> {
     exchange(alloc, root, CREATE, CREATED)?;
     exchange(alloc, root, GET, GOT)?;
@@ -150,7 +150,7 @@ fn play_all<R: Net<Listener = TcpListener, Stream = TcpStream>>(
     change_policy(alloc, &mut root)
 }
 
-/// The clients ask, and then tell that they are done, whatever came of it.
+/// Plays the clients' requests, and sets the flag that they are done, whatever the result.
 pub fn play<R: Net<Listener = TcpListener, Stream = TcpStream>>(
     rt: &R,
     alloc: Global,

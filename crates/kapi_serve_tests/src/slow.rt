@@ -9,10 +9,10 @@ use std::test::Fail;
 const WATCH: &[u8] =
     b"GET /api/v1/namespaces/default/configmaps?watch=1&resourceVersion=5 HTTP/1.1\r\nHost: a\r\n\r\n";
 
-/// Two objects of so many bytes are more than is kept for a client.
+/// The size in bytes of an object; two such objects are more than is kept for a client.
 const LARGE: usize = 600_000;
 
-/// So many changes the window does not hold.
+/// A number of changes that is more than the window holds.
 const CHANGES: usize = 1_025;
 
 /// Creates a ConfigMap of that name, with so many letters.
@@ -38,7 +38,7 @@ fn changes(alloc: Global) -> Result<String, AllocError> {
     Ok(text)
 }
 
-/// What the watcher got who took nothing while the changes were made.
+/// The bytes of a watcher that took nothing while the changes were made.
 fn slow_watcher<R: Wait>(alloc: Global, rt: &R) -> Result<Memory, AllocError> {
     let mut ports = Memory::new(alloc, (0, Mishap::Nothing));
     ports.slow_talk(master(alloc)?, WATCH, 20)?;

@@ -11,7 +11,7 @@ const OBJECTS: &[u8] =
 const FAULTY: &[u8] =
     b"{\"apiVersion\":\"v1\",\"kind\":\"ConfigMap\",\"metadata\":{\"name\":\"a\",\"namespace\":\"default\"}}\nobject";
 
-/// How many seats a start with one gives.
+/// The number of seats of a start with one seat.
 fn seats<R: Wait>(alloc: Global, rt: &R, objects: &[u8]) -> Result<usize, StartError> {
     let Started { core, desk, seats } = start(alloc, rt, objects, 0, 1)?;
     let count = seats.len();

@@ -4,10 +4,10 @@ use std::alloc::{AllocError, Global};
 use std::sync::Wait;
 use std::test::Fail;
 
-/// So many calls on the ports at least are made by `two_clients`.
+/// The least number of calls on the ports in `two_clients`.
 const CALLS: usize = 6;
 
-/// Two clients, of whom the first creates and the second may not do what it asks; one call on the ports has a mishap.
+/// Two clients: the first creates an object, the second may not do what it asks; one call on the ports has a mishap.
 fn two_clients<R: Wait>(
     alloc: Global,
     rt: &R,
@@ -31,7 +31,7 @@ fn answers_are_written(rt: HostRuntime) -> Result<(), Fail> {
     Ok(())
 }
 
-/// How many of the clients got less than the whole, of which what they got is the beginning; 3 where it is not.
+/// The number of clients that got a true beginning of the whole; 3 where some client got other bytes.
 fn cut_short(whole: &Memory, ports: &Memory) -> u32 {
     let mut count = 0u32;
     for slot in 0..2 {

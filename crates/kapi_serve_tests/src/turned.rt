@@ -8,7 +8,8 @@ use std::test::Fail;
 const WATCH: &[u8] =
     b"GET /apis/rbac.authorization.k8s.io/v1/clusterroles?watch=1&resourceVersion=5 HTTP/1.1\r\nHost: a\r\n\r\n";
 
-/// Creates the aggregated role `sum` and the role `part`, whose rules it takes, asks for `sum`, deletes `part` and asks again.
+/// Creates the aggregated role `sum` and the role `part`, whose rules it takes, asks for `sum`, deletes `part` and asks
+/// again.
 const WRITES: &[u8] =
     b"POST /apis/rbac.authorization.k8s.io/v1/clusterroles HTTP/1.1\r\nHost: a\r\nContent-Length: 165\r\n\r\n{\"aggregationRule\":{\"clusterRoleSelectors\":[{\"matchLabels\":{\"agg\":\"m\"}}]},\"apiVersion\":\"rbac.authorization.k8s.io/v1\",\"kind\":\"ClusterRole\",\"metadata\":{\"name\":\"sum\"}}\
 POST /apis/rbac.authorization.k8s.io/v1/clusterroles HTTP/1.1\r\nHost: a\r\nContent-Length: 180\r\n\r\n{\"apiVersion\":\"rbac.authorization.k8s.io/v1\",\"kind\":\"ClusterRole\",\"metadata\":{\"labels\":{\"agg\":\"m\"},\"name\":\"part\"},\"rules\":[{\"apiGroups\":[\"\"],\"resources\":[\"pods\"],\"verbs\":[\"get\"]}]}\
@@ -42,7 +43,7 @@ fn event(alloc: Global, object: String, change: &str) -> Result<String, AllocErr
     format!(in alloc; "{length:x}\r\n{text}\r\n")
 }
 
-/// What the watcher is told: the turns are among the changes.
+/// The events that the watcher gets: the turns are among the changes.
 fn shown(alloc: Global) -> Result<String, AllocError> {
     let mut text = String::from_str(alloc, WATCHED)?;
     text.push_str(event(alloc, sum(alloc, 6, "[]")?, "ADDED")?.as_str())?;
@@ -53,7 +54,7 @@ fn shown(alloc: Global) -> Result<String, AllocError> {
     Ok(text)
 }
 
-/// What the writer is told: the turn has been made when he asks.
+/// The replies to the writer: the turn was made when the writer asks.
 fn replied(alloc: Global) -> Result<String, AllocError> {
     let mut text = reply(alloc, "201 Created", sum(alloc, 6, "[]")?.as_str())?;
     text.push_str(reply(alloc, "201 Created", part(alloc, 7)?.as_str())?.as_str())?;
@@ -63,7 +64,7 @@ fn replied(alloc: Global) -> Result<String, AllocError> {
     Ok(text)
 }
 
-/// A watcher and a writer, both of whom stay; one call on the ports has a mishap.
+/// A watcher and a writer, which both stay; one call on the ports has a mishap.
 fn watched<R: Wait>(alloc: Global, rt: &R, mishap: (usize, Mishap)) -> Result<Memory, AllocError> {
     let mut ports = Memory::new(alloc, mishap);
     ports.lasting_talk(master(alloc)?, WATCH)?;
@@ -83,7 +84,7 @@ fn turns_are_shown_to_a_watcher_and_to_who_asks(rt: HostRuntime) -> Result<(), F
     Ok(())
 }
 
-/// So many calls on the ports at least are made by `watched`.
+/// The least number of calls on the ports in `watched`.
 const CALLS: usize = 12;
 
 /// Which of so many calls change what is got where they have this mishap.

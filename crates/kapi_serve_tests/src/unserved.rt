@@ -1,4 +1,4 @@
-//! Clients who send more than is kept of what cannot be served.
+//! Clients that send more than is kept of what cannot be served.
 use crate::fixture::{CREATE, CREATED, GOT, WATCHED, master, reply, serve};
 use crate::memory::{Memory, Mishap};
 use std::alloc::{AllocError, Global};
@@ -6,7 +6,7 @@ use std::str;
 use std::sync::Wait;
 use std::test::Fail;
 
-/// So many bytes of a connection that are not yet served are kept.
+/// The number of unserved bytes of a connection that are kept.
 const KEPT: usize = 2_097_152;
 
 const WATCH: &str =
@@ -15,7 +15,7 @@ const WATCH: &str =
 const ADDED: &str =
     "c3\r\n{\"object\":{\"apiVersion\":\"v1\",\"data\":{\"k\":\"v\"},\"kind\":\"ConfigMap\",\"metadata\":{\"name\":\"a\",\"namespace\":\"default\",\"resourceVersion\":\"6\",\"uid\":\"00000000-0000-4000-8000-000000000006\"}},\"type\":\"ADDED\"}\n\r\n";
 
-/// A watcher, on whose connection nothing is served, sends so many bytes more. Another client creates what he watches.
+/// A watcher, on whose connection nothing is served, sends so many bytes more. Another client creates its object.
 fn watcher<R: Wait>(alloc: Global, rt: &R, count: usize) -> Result<Memory, AllocError> {
     let mut sends = String::from_str(alloc, WATCH)?;
     sends.push_str("a".repeat(alloc, count)?.as_str())?;
@@ -41,10 +41,10 @@ fn a_watcher_who_sends_too_much_is_closed(rt: HostRuntime) -> Result<(), Fail> {
     Ok(())
 }
 
-/// Two replies that tell so many letters are more than waits for a client who is served.
+/// The number of letters of an object; two replies with such objects are more than waits for a client that is served.
 const LETTERS: usize = 600_000;
 
-/// A head that is served is at most so long.
+/// The largest length of a head that is served.
 const HEAD: usize = 16_384;
 
 /// The text of the second object, a large one.
@@ -83,7 +83,7 @@ fn long_request(alloc: Global) -> Result<String, AllocError> {
     format!(in alloc; "{begin}{letters}{end}")
 }
 
-/// A client who takes nothing for a while asks for more than waits for him. Then he sends as many bytes as are kept, and these.
+/// A client that takes nothing for a while asks for more than waits for it. Then it sends what is kept, and these.
 fn deaf<R: Wait>(alloc: Global, rt: &R, more: &str) -> Result<Memory, AllocError> {
     let mut sends = large_requests(alloc)?;
     sends.push_str(long_request(alloc)?.repeat(alloc, KEPT / HEAD)?.as_str())?;

@@ -23,7 +23,7 @@ key_total = laws.total-law
 bytes_same : (xs ys : List ℕ) → slice_cmp nat_cmp xs ys ≡ Equal → xs ≡ ys
 bytes_same xs ys h = (bytes_eq-Decides xs ys).0 (sym (is_eq-slice_cmp xs ys) ∙ ap is_eq h)
 
--- of two comparisons that are equal together, each is
+-- of two comparisons that are equal together, each is equal
 both_equal : (a b : Ordering) → ordering_then a b ≡ Equal → (a ≡ Equal) × (b ≡ Equal)
 both_equal Less b h = absurd (cc h)
 both_equal Equal b h = (refl, h)
@@ -57,18 +57,18 @@ module _ {X : Type 0} (p : Key × X → Bool) where
         | false ↦ filter_sorted es h.1
       ]
 
-  -- so no key stands twice among them
+  -- each key is once among keys in order
   pub filter_distinct : (es : List (Key × X)) → IsStrictlySortedBy key_cmp (keys_of es) → IsDistinct is_key (keys_of (filter p es))
   filter_distinct es h = IsDistinct-from_sorted key_cmp (keys_of (filter p es)) (filter_sorted es h)
 
--- one key stands once
+-- a single key is there once
 pub one_distinct : (ks : List Key) (k : Key) → ks ≡ k ∷ [] → IsDistinct is_key ks
 unfolding IsStrictlySortedBy
 one_distinct ks k is =
     let P : List Key → Type 0 = λ ks. IsDistinct is_key ks in
     let sorted : IsStrictlySortedBy key_cmp (k ∷ []) = (tt, tt) in subst P (sym is) (IsDistinct-from_sorted key_cmp (k ∷ []) sorted)
 
--- of two keys in order each stands once
+-- of two keys in order each is there once
 pub two_distinct : (ks : List Key) (k l : Key) → ks ≡ k ∷ l ∷ [] → key_cmp k l ≡ Less → IsDistinct is_key ks
 unfolding IsStrictlySortedBy
 two_distinct ks k l is less =

@@ -1,4 +1,4 @@
--- What may be listed lies between the first key and the end.
+-- The keys that may be listed lie between the first key and the end.
 use Rattle.std.proofs.Common.{◌≡◌, ℕ, Bool, true, false, ◌&&◌, ◌||◌, cond, List, [], ◌∷◌, Option, None, Some, refl, sym, ap, codes}
 use Rattle.std.specs.List.{filter, list_any}
 use Rattle.std.specs.Ordering.{nat_cmp, is_gt, is_le, ordering_then, ordering_reverse}
@@ -10,18 +10,18 @@ use Rattle.std.specs.Cmp.{first_so, second_so, nat_cmp_total}
 use Rattle.std.specs.Cmp.Lexicographic.{slice_cmp}
 use Rattle.std.specs.Str.{bytes_eq}
 use Rattle.std.proofs.lemmas.Slice.Eq.{bytes_eq-Decides}
-use Rattle.kapi_object.specs.Object.{tree_of}
-use Rattle.kapi_names.specs.Selector.{matches}
-use Rattle.kapi_object.specs.Tree.{in_metadata}
-use Rattle.kapi_object.specs.declared.object.Object.{Object}
-use Rattle.kapi_names.specs.declared.row.ResourceRow.{ResourceRow}
-use Rattle.kapi_names.specs.declared.selector.Selector.{Selector}
+use Rattle.kapi_tree.specs.Object.{tree_of}
+use Rattle.kapi_model.specs.Selector.{matches}
+use Rattle.kapi_tree.specs.Tree.{in_metadata}
+use Rattle.kapi_tree.specs.declared.object.Object.{Object}
+use Rattle.kapi_model.specs.declared.row.ResourceRow.{ResourceRow}
+use Rattle.kapi_model.specs.declared.selector.Selector.{Selector}
 use Rattle.kapi_store.specs.declared.key.Key.{Key}
 use Rattle.kapi_store.specs.Keys.{key_cmp}
 use Rattle.kapi_store.specs.State.{held, live}
 use Rattle.kapi_store.proofs.SlotSteps.{own_reverse}
 use Rattle.kapi_store.specs.Listing.{is_asked, is_within, is_listed, listed_objects}
-use Rattle.kapi_store.specs.Span.{after, first_key, end_key, is_of, namespace_start, namespace_end}
+use Rattle.kapi_store.specs.Private.Span.{after, first_key, end_key, is_of, namespace_start, namespace_end}
 
 byte_same : (b : ℕ) → nat_cmp b b ≡ Equal
 byte_same b = own_reverse (nat_cmp b b) (nat_cmp_total.antisymm b b)
@@ -112,7 +112,7 @@ module _ {K X : Type 0} (r : K → Bool) (p : K × X → Bool) (in_range : (e : 
         ]
       ] refl
 
--- what is listed lies in the range, so that nothing else need be looked at
+-- what is listed lies in the range, so that nothing else need be read
 pub listed_between : (row : ResourceRow) (namespace : List ℕ) (selector : Selector) (name : List ℕ) (es : List (Key × Option Object))
     → listed_objects row namespace selector name (live (entries_between key_cmp (Included (first_key row namespace name)) (Excluded (end_key row namespace name)) es))
     ≡ listed_objects row namespace selector name (live es)
@@ -123,7 +123,7 @@ listed_between row namespace selector name es =
     (λ e. λ h. within_is_between row namespace name e.0 (first_so (is_within row namespace name e.0) (matches selector (in_metadata (codes "labels") (tree_of e.1))) h))
     es
 
--- what is of the row's resource in the namespace
+-- the keys of the resource type in the namespace
 of_parts : (row : ResourceRow) (namespace : List ℕ) (k : Key) → is_of row namespace k ≡ true → (k.group ≡ row.group) × (k.resource ≡ row.plural) × (k.namespace ≡ namespace)
 of_parts row namespace k h =
     let names : Bool = bytes_eq row.plural k.resource && bytes_eq k.namespace namespace in
@@ -160,7 +160,7 @@ module _ {K X : Type 0} (r : K → Bool) (p : K × X → Bool) (in_range : (e : 
         ]
       ] refl
 
--- what stands in the namespace lies in the range
+-- the keys of the namespace lie in the range
 pub standing_between : (row : ResourceRow) (namespace : List ℕ) (es : List (Key × Option Object))
     → list_any (λ e. is_of row namespace e.0) (live (entries_between key_cmp (Included (namespace_start row namespace)) (Excluded (namespace_end row namespace)) es))
     ≡ list_any (λ e. is_of row namespace e.0) (live es)

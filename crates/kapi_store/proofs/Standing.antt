@@ -1,12 +1,12 @@
--- What stands in a namespace, row by row.
+-- The objects of a namespace, resource type by resource type.
 use Rattle.std.proofs.Common.{◌≡◌, ℕ, Bool, true, false, ◌&&◌, ◌||◌, List, [], ◌∷◌, refl, ap, ◌∙◌, sym}
 use Rattle.std.specs.List.{list_any}
 use Rattle.std.specs.Str.{bytes_eq}
-use Rattle.kapi_object.specs.declared.object.Object.{Object}
-use Rattle.kapi_names.specs.declared.row.ResourceRow.{ResourceRow}
+use Rattle.kapi_tree.specs.declared.object.Object.{Object}
+use Rattle.kapi_model.specs.declared.row.ResourceRow.{ResourceRow}
 use Rattle.kapi_store.specs.declared.key.Key.{Key}
 use Rattle.kapi_store.specs.Plain.{plain_of, trees, is_namespaced, holds_objects}
-use Rattle.kapi_store.specs.Span.{is_of, row_holds}
+use Rattle.kapi_store.specs.Private.Span.{is_of, row_holds}
 use Rattle.kapi_store.specs.State.{State, objects}
 
 or_swap : (a b c : Bool) → (a || (b || c)) ≡ (b || (a || c))
@@ -15,7 +15,7 @@ or_swap true false c = refl
 or_swap false true c = refl
 or_swap false false c = refl
 
--- one row and one object
+-- one resource type and one object
 one_more : (scoped group plural inside others more rest : Bool)
     → ((scoped && ((group && (plural && inside)) || more)) || ((others && inside) || rest)) ≡ ((((group && (plural && scoped)) || others) && inside) || ((scoped && more) || rest))
 one_more false false plural inside others more rest = refl
@@ -56,7 +56,7 @@ any_trees : (p : Key → Bool) (os : List (Key × Object)) → list_any (λ e. p
 any_trees p [] = refl
 any_trees p (e ∷ os) = ap (λ b. p e.0 || b) (any_trees p os)
 
--- a namespace holds an object where an object of one of the rows stands in it
+-- a namespace holds an object where it holds one of a resource type
 pub holds_by_rows : (s : State) (namespace : List ℕ) → list_any (row_holds (objects s) namespace) s.table ≡ holds_objects (plain_of s) namespace
 holds_by_rows s namespace =
     all_rows namespace s.table (objects s) ∙ any_trees (λ k. is_namespaced s.table k && bytes_eq k.namespace namespace) (objects s)

@@ -1,4 +1,4 @@
--- What holds of every store, from one change to the next, and what it stands for.
+-- What holds of every store, from one change to the next, and the model that it refines.
 use Rattle.std.proofs.Common.{◌≡◌, ℕ, suc, ◌+◌, ◌-◌, ◌≤◌, ◌<◌, min, max, Ok, Err, List, [], ◌∷◌, ◌++◌, Option, None, IsSome, length, map, drop, refl, sym, ap, ◌∙◌, subst, arith, append_assoc}
 use Rattle.std.specs.Prelude.{nat_lt}
 use Rattle.std.specs.List.{filter}
@@ -6,16 +6,15 @@ use Rattle.std.specs.List.Sorted.{IsStrictlySortedBy}
 use Rattle.std.proofs.lemmas.Bool.{lt-ltb, le-ltb}
 use Rattle.std.specs.Map.{keys_of, lookup}
 use Rattle.std.proofs.lemmas.List.{map-append, length-append, length-map, length-drop}
-use Rattle.kapi_object.specs.declared.object.Object.{Object}
-use Rattle.kapi_names.specs.declared.row.ResourceRow.{ResourceRow}
+use Rattle.kapi_tree.specs.declared.object.Object.{Object}
+use Rattle.kapi_model.specs.declared.row.ResourceRow.{ResourceRow}
 use Rattle.kapi_store.specs.declared.change.Change.{Change}
 use Rattle.kapi_store.specs.declared.key.Key.{Key}
-use Rattle.kapi_store.specs.declared.store.TheConstants.{LAST_REVISION}
-use Rattle.kapi_store.specs.declared.window.TheConstants.{WINDOW}
+use Rattle.kapi_store.specs.Limits.{last_revision, window_limit}
 use Rattle.kapi_store.specs.Keys.{key_cmp, is_key}
 use Rattle.kapi_store.specs.Changes.{placed, placed_all, left_by, last_of, Follow, revision_of, AreRemovals}
 use Rattle.kapi_store.specs.State.{State, objects, live, IsSpare, HasSlot, Same, Fits, IsStore}
-use Rattle.kapi_store.specs.Plain.{Plain, PlainChange, StandsFor, plain_of, plain_change, changes_after, opened, written, trees, trees_left_by}
+use Rattle.kapi_store.specs.Plain.{Plain, PlainChange, RefinesPlain, plain_of, plain_change, changes_after, opened, written, trees, trees_left_by}
 use Rattle.kapi_store.proofs.Keys.{key_total}
 use Rattle.kapi_store.proofs.SlotSteps.{live_sorted, spare_bound}
 use Rattle.kapi_store.proofs.Writes.{placed_all_append, removals_slot}
@@ -23,7 +22,7 @@ use Rattle.kapi_store.proofs.Trees.{placed_all_trees}
 use Rattle.kapi_store.proofs.Windows.{last_last, last_none, last_shorter, last_map, numbered_after, Follow_append, Follow_drop, Follow_map}
 
 -- the store without objects and changes
-pub new_store : (s : State) → s.slots ≡ [] → s.window ≡ [] → s.revision ≡ s.first → s.first ≤ LAST_REVISION → IsStore s
+pub new_store : (s : State) → s.slots ≡ [] → s.window ≡ [] → s.revision ≡ s.first → s.first ≤ last_revision → IsStore s
 unfolding live Follow IsStrictlySortedBy IsSpare
 new_store s slots window revision last = record {
   slots = rw slots tt;
@@ -38,13 +37,13 @@ new_store s slots window revision last = record {
 
 -- one change more
 pub next_store : (s t : State) (c : Change) → IsStore s → IsStrictlySortedBy key_cmp (keys_of t.slots) → IsSpare t.spare t.slots
-    → t.window ≡ last_of WINDOW (s.window ++ c ∷ []) → t.first ≡ s.first → t.revision ≡ c.revision → c.revision ≡ s.revision + 1 → c.revision ≤ LAST_REVISION → IsStore t
+    → t.window ≡ last_of window_limit (s.window ++ c ∷ []) → t.first ≡ s.first → t.revision ≡ c.revision → c.revision ≡ s.revision + 1 → c.revision ≤ last_revision → IsStore t
 unfolding Follow
 next_store s t c h sorted spare window first revision next last =
-    let counted : length s.window ≡ min WINDOW (s.revision - s.first) = h.counted in
+    let counted : length s.window ≡ min window_limit (s.revision - s.first) = h.counted in
     let begun : s.first ≤ s.revision = h.begun in
     let all : length (s.window ++ c ∷ []) ≡ length s.window + 1 = length-append s.window (c ∷ []) in
-    let over : ℕ = length (s.window ++ c ∷ []) - WINDOW in
+    let over : ℕ = length (s.window ++ c ∷ []) - window_limit in
     let len : length (drop over (s.window ++ c ∷ [])) ≡ length (s.window ++ c ∷ []) - over = length-drop over (s.window ++ c ∷ []) in
     let kept : length t.window ≡ length (s.window ++ c ∷ []) - over = ap length window ∙ len in
     let before : ℕ = s.revision - length s.window in
@@ -70,9 +69,9 @@ pub moved_store : (s t : State) → IsStore s → IsStrictlySortedBy key_cmp (ke
     → t.window ≡ s.window → t.first ≡ s.first → t.revision ≡ s.revision → IsStore t
 moved_store s t h sorted spare window first revision =
     let P : List Change → Type 0 = λ cs. Follow revision_of (s.revision - length cs) cs in
-    let counted : length s.window ≡ min WINDOW (s.revision - s.first) = h.counted in
+    let counted : length s.window ≡ min window_limit (s.revision - s.first) = h.counted in
     let begun : s.first ≤ s.revision = h.begun in
-    let limited : s.revision ≤ LAST_REVISION = h.limited in
+    let limited : s.revision ≤ last_revision = h.limited in
     let len : length t.window ≡ length s.window = ap length window in
     record {
       slots = sorted;
@@ -86,12 +85,12 @@ moved_store s t h sorted spare window first revision =
     }
 
 -- a prepared change
-pub fits_one : (s : State) (cs : List Change) (c : Change) → cs ≡ c ∷ [] → c.revision ≡ s.revision + 1 → c.revision ≤ LAST_REVISION
+pub fits_one : (s : State) (cs : List Change) (c : Change) → cs ≡ c ∷ [] → c.revision ≡ s.revision + 1 → c.revision ≤ last_revision
     → (IsSome c.new → IsSome (lookup (is_key c.key) s.slots)) → Fits s cs
 unfolding Follow HasSlot
 fits_one s cs c is next last slot = let P : List Change → Type 0 = λ cs. Fits s cs in subst P (sym is) record {
   next = (next, tt);
-  last = let k : s.revision + 1 ≤ LAST_REVISION = omega arith in k;
+  last = let k : s.revision + 1 ≤ last_revision = omega arith in k;
   slot = slot;
 }
 
@@ -100,12 +99,12 @@ pub fits_none : (s : State) (cs : List Change) → IsStore s → cs ≡ [] → F
 unfolding Follow HasSlot
 fits_none s cs h is = let P : List Change → Type 0 = λ cs. Fits s cs in subst P (sym is) record {
   next = tt;
-  last = let k : s.revision ≤ LAST_REVISION = h.limited in omega arith;
+  last = let k : s.revision ≤ last_revision = h.limited in omega arith;
   slot = tt;
 }
 
 -- a prepared removal
-pub fits_removals : (s : State) (cs : List Change) → Follow revision_of s.revision cs → AreRemovals cs → s.revision + length cs ≤ LAST_REVISION → Fits s cs
+pub fits_removals : (s : State) (cs : List Change) → Follow revision_of s.revision cs → AreRemovals cs → s.revision + length cs ≤ last_revision → Fits s cs
 fits_removals s cs next removals last = record { next = next; last = last; slot = removals_slot s.slots cs removals }
 
 -- the first of several changes is the next one
@@ -113,16 +112,16 @@ pub fits_first : (s : State) (c : Change) (cs : List Change) → Fits s (c ∷ c
 unfolding Follow HasSlot
 fits_first s c cs h = record {
   next = (h.next.0, tt);
-  last = let k : s.revision + suc (length cs) ≤ LAST_REVISION = h.last in omega arith;
+  last = let k : s.revision + suc (length cs) ≤ last_revision = h.last in omega arith;
   slot = h.slot;
 }
 
--- after it the others are the next ones
+-- after the first change the others are the next ones
 pub fits_rest : (s t : State) (c : Change) (cs : List Change) → Fits s (c ∷ cs) → AreRemovals cs → t.revision ≡ s.revision + 1 → Fits t cs
 unfolding Follow
 fits_rest s t c cs h removals revision = record {
   next = rw revision h.next.1;
-  last = let k : s.revision + suc (length cs) ≤ LAST_REVISION = h.last in omega arith;
+  last = let k : s.revision + suc (length cs) ≤ last_revision = h.last in omega arith;
   slot = removals_slot t.slots cs removals;
 }
 
@@ -135,8 +134,8 @@ same_plain s t h = λ i. record {
   revision = h.revision i;
 }
 
--- what it stands for, where nothing was changed
-pub same_stands : (s t : State) → Same s t → (history : List PlainChange) (p : Plain) → StandsFor s history p → StandsFor t history p
+-- the model that a store refines, where nothing was changed
+pub same_stands : (s t : State) → Same s t → (history : List PlainChange) (p : Plain) → RefinesPlain s history p → RefinesPlain t history p
 same_stands s t h history p stands = record {
   plain = same_plain s t h ∙ stands.plain;
   window = ap (map plain_change) h.window ∙ stands.window;
@@ -146,7 +145,7 @@ same_stands s t h history p stands = record {
 }
 
 -- a store at its start
-pub opened_stands : (s : State) (table : List ResourceRow) (first : ℕ) → s.table ≡ table → s.slots ≡ [] → s.first ≡ first → s.revision ≡ first → s.window ≡ [] → StandsFor s [] (opened table first)
+pub opened_stands : (s : State) (table : List ResourceRow) (first : ℕ) → s.table ≡ table → s.slots ≡ [] → s.first ≡ first → s.revision ≡ first → s.window ≡ [] → RefinesPlain s [] (opened table first)
 unfolding live placed_all Follow
 opened_stands s table first is none begun at nothing = record {
   plain = λ i. record { table = is i; objects = ap (λ es. trees (live es)) none i; first = begun i; revision = at i };
@@ -166,16 +165,16 @@ written_plain s t cs objs revision table first = λ i. record {
   revision = (revision ∙ ap (λ n. s.revision + n) (sym (length-map cs plain_change))) i;
 }
 
--- what it stands for, after some changes
+-- the model that a store refines, after some changes
 pub written_stands : (s t : State) (cs : List Change) → objects t ≡ placed_all (left_by cs) (objects s) → t.revision ≡ s.revision + length cs
-    → last_of WINDOW t.window ≡ last_of WINDOW (s.window ++ cs) → (length s.window ≤ WINDOW → length t.window ≤ WINDOW) → t.table ≡ s.table → t.first ≡ s.first → Follow revision_of s.revision cs
-    → (history : List PlainChange) (p : Plain) → StandsFor s history p → StandsFor t (history ++ map plain_change cs) (written (map plain_change cs) p)
+    → last_of window_limit t.window ≡ last_of window_limit (s.window ++ cs) → (length s.window ≤ window_limit → length t.window ≤ window_limit) → t.table ≡ s.table → t.first ≡ s.first → Follow revision_of s.revision cs
+    → (history : List PlainChange) (p : Plain) → RefinesPlain s history p → RefinesPlain t (history ++ map plain_change cs) (written (map plain_change cs) p)
 written_stands s t cs objs revision last kept table first next history p stands =
-    let few : length (map plain_change s.window) ≡ length (last_of WINDOW history) = ap length stands.window in
+    let few : length (map plain_change s.window) ≡ length (last_of window_limit history) = ap length stands.window in
     let len : length (map plain_change s.window) ≡ length s.window = length-map s.window plain_change in
-    let most : length (last_of WINDOW history) ≡ length history - (length history - WINDOW) = length-drop (length history - WINDOW) history in
-    let within : length t.window ≤ WINDOW = kept (omega arith) in
-    let window : t.window ≡ last_of WINDOW (s.window ++ cs) = sym (last_none WINDOW t.window within) ∙ last in
+    let most : length (last_of window_limit history) ≡ length history - (length history - window_limit) = length-drop (length history - window_limit) history in
+    let within : length t.window ≤ window_limit = kept (omega arith) in
+    let window : t.window ≡ last_of window_limit (s.window ++ cs) = sym (last_none window_limit t.window within) ∙ last in
     let made : List PlainChange = map plain_change cs in
     let at : s.revision ≡ p.first + length history = ap (λ p. p.revision) stands.plain ∙ stands.counted in
     let P : ℕ → Type 0 = λ n. Follow (λ c. c.revision) n made in
@@ -183,8 +182,8 @@ written_stands s t cs objs revision last kept table first next history p stands 
     let counted : p.revision ≡ p.first + length history = stands.counted in
     record {
       plain = written_plain s t cs objs revision table first ∙ ap (written made) stands.plain;
-      window = ap (map plain_change) window ∙ last_map plain_change WINDOW (s.window ++ cs) ∙ ap (last_of WINDOW) (map-append plain_change s.window cs)
-          ∙ ap (λ h. last_of WINDOW (h ++ made)) stands.window ∙ last_last WINDOW history made;
+      window = ap (map plain_change) window ∙ last_map plain_change window_limit (s.window ++ cs) ∙ ap (last_of window_limit) (map-append plain_change s.window cs)
+          ∙ ap (λ h. last_of window_limit (h ++ made)) stands.window ∙ last_last window_limit history made;
       made = ap (placed_all (trees_left_by made)) stands.made
           ∙ sym (ap (λ ws. placed_all ws []) (map-append (λ c. (c.key, c.new)) history made) ∙ placed_all_append (trees_left_by history) (trees_left_by made) []);
       numbered = Follow_append (λ c. c.revision) p.first history made stands.numbered (subst P at (Follow_map plain_change (λ c. c.revision) s.revision cs next));
@@ -192,15 +191,15 @@ written_stands s t cs objs revision last kept table first next history p stands 
     }
 
 -- of the changes that are kept, those after a revision
-pub window_after : (s : State) (limit count : ℕ) → IsStore s → s.first ≤ limit → count ≡ s.revision - limit → count ≤ WINDOW
+pub window_after : (s : State) (limit count : ℕ) → IsStore s → s.first ≤ limit → count ≡ s.revision - limit → count ≤ window_limit
     → last_of count s.window ≡ filter (λ c. nat_lt limit c.revision) s.window
 window_after s limit count h first is few =
-    let counted : length s.window ≡ min WINDOW (s.revision - s.first) = h.counted in
+    let counted : length s.window ≡ min window_limit (s.revision - s.first) = h.counted in
     let begun : s.first ≤ s.revision = h.begun in
     numbered_after revision_of limit count (s.revision - length s.window) s.window h.numbered (omega arith) (omega arith)
 
 -- of all changes ever, those after a revision
-pub history_after : (s : State) (limit count : ℕ) (history : List PlainChange) (p : Plain) → StandsFor s history p → s.first ≤ limit → count ≡ s.revision - limit → count ≤ WINDOW
+pub history_after : (s : State) (limit count : ℕ) (history : List PlainChange) (p : Plain) → RefinesPlain s history p → s.first ≤ limit → count ≡ s.revision - limit → count ≤ window_limit
     → changes_after history p limit ≡ Ok (map plain_change (last_of count s.window))
 unfolding changes_after
 history_after s limit count history p stands first is few =
@@ -208,15 +207,15 @@ history_after s limit count history p stands first is few =
     let at : s.revision ≡ p.revision = ap (λ p. p.revision) stands.plain in
     let counted : p.revision ≡ p.first + length history = stands.counted in
     let kept : map plain_change (last_of count s.window) ≡ last_of count history
-    = last_map plain_change count s.window ∙ ap (last_of count) stands.window ∙ last_shorter count WINDOW history few in
+    = last_map plain_change count s.window ∙ ap (last_of count) stands.window ∙ last_shorter count window_limit history few in
     let all : last_of count history ≡ filter (λ c. nat_lt limit c.revision) history
     = numbered_after (λ c. c.revision) limit count p.first history stands.numbered (omega arith) (omega arith) in
-    rw (le-ltb limit (max (p.revision - WINDOW) p.first) (omega arith)) (ap Ok (sym (kept ∙ all)))
+    rw (le-ltb limit (max (p.revision - window_limit) p.first) (omega arith)) (ap Ok (sym (kept ∙ all)))
 
 -- some of them may be kept no longer
-pub history_gone : (s : State) (limit : ℕ) (history : List PlainChange) (p : Plain) → StandsFor s history p → limit < max (s.revision - WINDOW) s.first → changes_after history p limit ≡ Err tt
+pub history_gone : (s : State) (limit : ℕ) (history : List PlainChange) (p : Plain) → RefinesPlain s history p → limit < max (s.revision - window_limit) s.first → changes_after history p limit ≡ Err tt
 unfolding changes_after
 history_gone s limit history p stands below =
     let from : s.first ≡ p.first = ap (λ p. p.first) stands.plain in
     let at : s.revision ≡ p.revision = ap (λ p. p.revision) stands.plain in
-    rw (lt-ltb limit (max (p.revision - WINDOW) p.first) (omega arith)) refl
+    rw (lt-ltb limit (max (p.revision - window_limit) p.first) (omega arith)) refl

@@ -7,10 +7,10 @@ use Rattle.std.specs.Map.{remove_entry, lookup}
 use Rattle.std.specs.Option.{is_some}
 use Rattle.std.proofs.lemmas.Map.Made.{lookup-map_values}
 use Rattle.std.specs.BTreeMap.{insert_entry}
-use Rattle.kapi_object.specs.declared.object.Object.{Object}
-use Rattle.kapi_object.specs.Object.{tree_of}
-use Rattle.kapi_names.specs.declared.row.ResourceRow.{ResourceRow}
-use Rattle.kapi_names.specs.declared.selector.Selector.{Selector}
+use Rattle.kapi_tree.specs.declared.object.Object.{Object}
+use Rattle.kapi_tree.specs.Object.{tree_of}
+use Rattle.kapi_model.specs.declared.row.ResourceRow.{ResourceRow}
+use Rattle.kapi_model.specs.declared.selector.Selector.{Selector}
 use Rattle.kapi_store.specs.declared.key.Key.{Key}
 use Rattle.kapi_store.specs.declared.change.Change.{Change}
 use Rattle.kapi_store.specs.Keys.{key_cmp, is_key}

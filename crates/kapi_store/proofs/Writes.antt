@@ -2,17 +2,17 @@
 use Rattle.std.proofs.Common.{◌≡◌, ℕ, ◌+◌, List, [], ◌∷◌, ◌++◌, Option, None, Some, Ok, false, IsSome, option_map, map, refl, sym, ap, ◌∙◌, subst, append_assoc}
 use Rattle.std.specs.Map.{lookup}
 use Rattle.std.proofs.lemmas.List.{map-append}
-use Rattle.kapi_object.specs.Object.{tree_of}
+use Rattle.kapi_tree.specs.Object.{tree_of}
 use Rattle.kapi_store.specs.Keys.{is_key}
 use Rattle.serde_json.specs.Data.{Data}
 use Rattle.kapi_store.specs.Same.{same_tree}
 use Rattle.kapi_store.specs.Stamps.{with_stamps_of, replaced_tree}
 use Rattle.kapi_store.specs.Plain.{Plain, PlainChange, plain_change, trees, removals, revisions_left, replaced}
 use Rattle.kapi_store.proofs.Trees.{lookup_trees}
-use Rattle.kapi_object.specs.declared.object.Object.{Object}
+use Rattle.kapi_tree.specs.declared.object.Object.{Object}
 use Rattle.kapi_store.specs.declared.key.Key.{Key}
 use Rattle.kapi_store.specs.declared.change.Change.{Change}
-use Rattle.kapi_store.specs.Changes.{placed, placed_all, left_by, AreRemovals, IsWrite}
+use Rattle.kapi_store.specs.Changes.{placed, placed_all, left_by, AreRemovals, IsStep, IsWrite}
 use Rattle.kapi_store.specs.State.{HasSlot}
 
 pub placed_all_append : {X : Type 0} (vs ws : List (Key × Option X)) (os : List (Key × X)) → placed_all (vs ++ ws) os ≡ placed_all ws (placed_all vs os)
@@ -24,6 +24,12 @@ pub removals_write : (cs : List Change) → AreRemovals cs → IsWrite None cs
 unfolding AreRemovals IsWrite
 removals_write [] h = tt
 removals_write (c ∷ cs) h = (sym h.0, h.1)
+
+-- removals are one step
+pub removals_alone : (cs : List Change) → AreRemovals cs → IsStep cs
+removals_alone [] h = tt
+removals_alone (c ∷ []) h = tt
+removals_alone (c ∷ d ∷ cs) h = h
 
 pub removals_slot : (slots : List (Key × Option Object)) (cs : List Change) → AreRemovals cs → HasSlot slots cs
 unfolding AreRemovals HasSlot

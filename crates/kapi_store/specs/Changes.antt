@@ -2,7 +2,7 @@
 use Rattle.std.specs.Prelude.{◌≡◌, ℕ, ◌+◌, ◌-◌, List, [], ◌∷◌, Option, None, Some, map, length, drop}
 use Rattle.std.specs.Map.{remove_entry}
 use Rattle.std.specs.BTreeMap.{insert_entry}
-use Rattle.kapi_object.specs.declared.object.Object.{Object}
+use Rattle.kapi_tree.specs.declared.object.Object.{Object}
 use Rattle.kapi_store.specs.declared.key.Key.{Key}
 use Rattle.kapi_store.specs.declared.change.Change.{Change}
 use Rattle.kapi_store.specs.Keys.{key_cmp, is_key}
@@ -13,7 +13,7 @@ module _ {X : Type 0} where
   placed k (Some x) os = insert_entry key_cmp os k x
   placed k None os = remove_entry (is_key k) os
 
-  -- the same for several keys, one after the other
+  -- a map in which several keys have these values, or none, put one after the other
   unfoldable pub placed_all : List (Key × Option X) → List (Key × X) → List (Key × X)
   placed_all [] os = os
   placed_all (w ∷ ws) os = placed_all ws (placed w.0 w.1 os)
@@ -40,10 +40,11 @@ unfoldable pub AreRemovals : List Change → Type 0
 AreRemovals [] = Unit {0}
 AreRemovals (c ∷ cs) = (c.new ≡ None) × AreRemovals cs
 
--- one step: a change, and after it only removals; or nothing
+-- one step: nothing, one change, or removals alone
 abbrev pub IsStep : List Change → Type 0
 IsStep [] = Unit {0}
-IsStep (c ∷ cs) = AreRemovals cs
+IsStep (c ∷ []) = Unit {0}
+IsStep (c ∷ d ∷ cs) = AreRemovals (c ∷ d ∷ cs)
 
 -- a write is one change that leaves this object or none, and then removals; or nothing
 unfoldable pub IsWrite : Option Object → List Change → Type 0

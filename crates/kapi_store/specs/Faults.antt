@@ -1,9 +1,9 @@
--- Why a write is refused, as definitions say it: want of memory is none of them.
+-- Why a write is refused, as definitions say it: running out of memory is no such fault.
 use Rattle.std.specs.Prelude.{ℕ, List, Option, Some, None}
 use Rattle.kapi_store.specs.declared.error.StoreError.{StoreError}
 use Rattle.kapi_store.specs.declared.error.StoreError.TheVariants as error
 
--- the cases of a refusal, of a conflict with the version that stands
+-- the cases of a refusal, and of a conflict with the stored version
 pub data StoreFault : Type 0 where
   Exists : StoreFault
   Missing : StoreFault
@@ -12,7 +12,7 @@ pub data StoreFault : Type 0 where
   NamespaceNotEmpty : StoreFault
   RevisionsUsedUp : StoreFault
 
--- the fault that an error tells
+-- the fault that an error reports
 abbrev pub fault_of : StoreError → Option StoreFault
 fault_of error.Exists = Some Exists
 fault_of error.Missing = Some Missing

@@ -1,3 +1,4 @@
+pub mod Limits
 pub mod Keys
 pub mod Stamps
 pub mod Same
@@ -8,4 +9,4 @@ pub mod Lent
 pub mod Faults
 pub mod Plain
 pub mod Listing
-pub mod Span
+pub mod Private

@@ -1,4 +1,5 @@
--- The store as data: a map of trees and a counter; what each call makes of them, beside the list of all changes ever.
+-- The model of the store: a map of trees and a counter; what each call makes of them, beside the list of all changes
+-- ever.
 use Rattle.std.specs.Prelude.{◌≡◌, ℕ, ◌+◌, ◌-◌, max, nat_lt, nat_le, Bool, true, false, not, ◌&&◌, if◌then◌else◌, List, [], ◌∷◌, ◌++◌, Option, None, Some, map, length, Result, Ok, Err, codes, unwrap_or, option_map, option_and_then, is_some}
 use Rattle.std.specs.List.{filter, list_any, list_all}
 use Rattle.std.specs.Str.{bytes_eq}
@@ -6,17 +7,16 @@ use Rattle.std.specs.Map.{lookup}
 use Rattle.serde_json.specs.Data.{Data}
 use Rattle.serde_json.specs.Find.{as_str}
 use Rattle.kapi_text.specs.Gives.{◌>>=◌}
-use Rattle.kapi_object.specs.Given.{given_of}
-use Rattle.kapi_object.specs.Object.{tree_of}
-use Rattle.kapi_object.specs.Tree.{in_metadata}
-use Rattle.kapi_object.specs.declared.given.GivenText.{GivenText}
-use Rattle.kapi_object.specs.declared.given.GivenText.TheVariants as given
-use Rattle.kapi_object.specs.declared.object.Object.{Object}
-use Rattle.kapi_names.specs.declared.row.ResourceRow.{ResourceRow}
+use Rattle.kapi_tree.specs.Given.{given_of}
+use Rattle.kapi_tree.specs.Object.{tree_of}
+use Rattle.kapi_tree.specs.Tree.{in_metadata}
+use Rattle.kapi_tree.specs.declared.given.GivenText.{GivenText}
+use Rattle.kapi_tree.specs.declared.given.GivenText.TheVariants as given
+use Rattle.kapi_tree.specs.declared.object.Object.{Object}
+use Rattle.kapi_model.specs.declared.row.ResourceRow.{ResourceRow}
 use Rattle.kapi_store.specs.declared.key.Key.{Key}
 use Rattle.kapi_store.specs.declared.change.Change.{Change}
-use Rattle.kapi_store.specs.declared.store.TheConstants.{LAST_REVISION}
-use Rattle.kapi_store.specs.declared.window.TheConstants.{WINDOW}
+use Rattle.kapi_store.specs.Limits.{last_revision, window_limit}
 use Rattle.kapi_store.specs.Keys.{is_key, namespace_key}
 use Rattle.kapi_store.specs.Stamps.{created_tree, replaced_tree, with_stamps_of, version_in}
 use Rattle.kapi_store.specs.Same.{same_tree}
@@ -62,18 +62,18 @@ trees_left_by cs = map (λ c. (c.key, c.new)) cs
 abbrev pub written : List PlainChange → Plain → Plain
 written cs s = record s { objects = placed_all (trees_left_by cs) s.objects; revision = s.revision + length cs }
 
--- a running store stands for the plain one that all the changes of a history made: the map is what they make of the
+-- a running store refines the model that all the changes of a history made: the map is what the changes make of the
 -- empty one, they are numbered from the first revision on, and the store keeps the last of them
-pub record StandsFor (s : State) (history : List PlainChange) (p : Plain) : Type 0 where
+pub record RefinesPlain (s : State) (history : List PlainChange) (p : Plain) : Type 0 where
   pub plain : plain_of s ≡ p
-  pub window : map plain_change s.window ≡ last_of WINDOW history
+  pub window : map plain_change s.window ≡ last_of window_limit history
   pub made : p.objects ≡ placed_all (trees_left_by history) []
   pub numbered : Follow (λ c. c.revision) p.first history
   pub counted : p.revision ≡ p.first + length history
 
 -- the lowest revision after which all changes are kept
 abbrev pub window_start : Plain → ℕ
-window_start s = max (s.revision - WINDOW) s.first
+window_start s = max (s.revision - window_limit) s.first
 
 -- the changes of a history after a revision; none where some of them may be kept no longer (Kubernetes, 'Efficient
 -- detection of changes': 410 Gone)
@@ -86,7 +86,7 @@ changes_after history s revision =
 unfoldable pub has_object : Key → Plain → Bool
 has_object k s = is_some (lookup (is_key k) s.objects)
 
--- whether the objects of the key's resource live in namespaces, by the table; those of an unknown resource do not
+-- whether the objects of the key's resource type live in namespaces, by the table; those of an unknown type do not
 abbrev pub is_namespaced : List ResourceRow → Key → Bool
 is_namespaced table k = list_any (λ row. bytes_eq row.group k.group && (bytes_eq row.plural k.resource && row.namespaced)) table
 
@@ -94,13 +94,13 @@ is_namespaced table k = list_any (λ row. bytes_eq row.group k.group && (bytes_e
 unfoldable pub has_namespace : Key → Plain → Bool
 has_namespace k s = if is_namespaced s.table k then has_object (namespace_key k.namespace) s else true
 
--- that an object can be created at the key
+-- an object can be created at the key
 unfoldable pub free_place : Plain → Key → Result (Unit {0}) StoreFault
 free_place s k = if has_namespace k s then (if has_object k s then Err Exists else Ok tt) else Err NoNamespace
 
--- that so many revisions are left
+-- so many revisions are left
 unfoldable pub revisions_left : Plain → ℕ → Result (Unit {0}) StoreFault
-revisions_left s count = if nat_le (s.revision + count) LAST_REVISION then Ok tt else Err RevisionsUsedUp
+revisions_left s count = if nat_le (s.revision + count) last_revision then Ok tt else Err RevisionsUsedUp
 
 -- the change by which a revision creates an object
 abbrev pub creation_at : Key → Data → ℕ → PlainChange
@@ -114,7 +114,7 @@ creation_in_place s k tree = revisions_left s 1 >>= λ _. Ok (creation_at k tree
 abbrev pub creation : Plain → Key → Data → Result (List PlainChange) StoreFault
 creation s k tree = free_place s k >>= λ _. creation_in_place s k tree
 
--- whether a write with this given version may change what stands at the current one (Kubernetes, 'Kubernetes API
+-- whether a write with this given version may change the object of the current one (Kubernetes, 'Kubernetes API
 -- Concepts', resource versions): none is given, or an empty one, or the current one
 abbrev pub admits : List ℕ → GivenText → Bool
 admits current given.Absent = true
@@ -122,7 +122,7 @@ admits current (given.Text []) = true
 admits current (given.Text (b ∷ bs)) = bytes_eq (b ∷ bs) current
 admits current given.Mistyped = false
 
--- the tree that stands, if the given version admits a write
+-- the stored tree, if the given version admits a write
 abbrev pub admitted : Option Data → GivenText → Result Data StoreFault
 admitted None version = Err Missing
 admitted (Some old) version = if admits (version_in old) version then Ok old else Err (Conflict (version_in old))
@@ -135,7 +135,7 @@ replaceable s k version = admitted (lookup (is_key k) s.objects) version
 abbrev pub replacement_at : Key → Data → Data → ℕ → PlainChange
 replacement_at k old tree revision = record { revision = revision; key = k; old = Some old; new = Some (replaced_tree revision old tree) }
 
--- the changes of a replacement of what stands: none where the tree, with the old stamps, is the one that stands
+-- the changes of a replacement of the stored tree: none where the new tree, with the old stamps, equals the stored one
 abbrev pub replaced : Plain → Key → Data → Data → Result (List PlainChange) StoreFault
 replaced s k tree old =
     if same_tree (with_stamps_of old tree) old then Ok [] else
@@ -149,15 +149,15 @@ replacement s k tree = replaceable s k (given_of tree).resource_version >>= repl
 abbrev pub is_namespace : Key → Bool
 is_namespace k = bytes_eq k.group [] && (bytes_eq k.resource (codes "namespaces") && bytes_eq k.namespace [])
 
--- whether an object of a namespaced resource stands in the namespace
+-- whether the namespace holds an object of a namespaced resource type
 abbrev pub holds_objects : Plain → List ℕ → Bool
 holds_objects s namespace = list_any (λ e. is_namespaced s.table e.0 && bytes_eq e.0.namespace namespace) s.objects
 
--- whether the key is of a Namespace object, and an object stands in that namespace
+-- whether the key is of a Namespace object, and that namespace holds an object
 abbrev pub is_full_namespace : Plain → Key → Bool
 is_full_namespace s k = is_namespace k && holds_objects s k.name
 
--- that the objects at the keys can be removed: all of them exist, and no namespace among them holds an object
+-- the objects at the keys can be removed: all of them exist, and no namespace among them holds an object
 unfoldable pub removable : Plain → List Key → Result (Unit {0}) StoreFault
 removable s ks =
     if list_all (λ k. has_object k s) ks then

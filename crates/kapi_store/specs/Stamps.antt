@@ -3,8 +3,8 @@ use Rattle.std.specs.Prelude.{ℕ, zero, suc, ◌/◌, ◌%◌, false, List, [],
 use Rattle.std.specs.Fmt.{digit_glyph, decimal}
 use Rattle.serde_json.specs.Data.{Data}
 use Rattle.serde_json.specs.Find.{as_str}
-use Rattle.kapi_object.specs.Object.{stamped_tree}
-use Rattle.kapi_object.specs.Tree.{in_metadata}
+use Rattle.kapi_tree.specs.Object.{stamped_tree}
+use Rattle.kapi_tree.specs.Tree.{in_metadata}
 
 -- the last hexadecimal digits of a number, so many, in lower case
 unfoldable pub hex_digits : ℕ → ℕ → List ℕ
@@ -31,10 +31,10 @@ uid_in tree = metadata_text (codes "uid") tree
 abbrev pub version_in : Data → List ℕ
 version_in tree = metadata_text (codes "resourceVersion") tree
 
--- a tree as it stands where nothing else is changed: with the old one's unique id and version
+-- a tree where nothing else is changed: with the old one's unique id and version
 abbrev pub with_stamps_of : Data → Data → Data
 with_stamps_of old tree = stamped_tree (uid_in old) (version_in old) tree
 
--- a tree as its write at a revision over an old one leaves it: with the old one's unique id, and then that version
+-- a tree as its write at a revision over an old one leaves it: with the old one's unique id, at that revision
 abbrev pub replaced_tree : ℕ → Data → Data → Data
 replaced_tree revision old tree = stamped_tree (uid_in old) (decimal revision) (with_stamps_of old tree)

@@ -2,16 +2,15 @@
 use Rattle.std.specs.Prelude.{◌≡◌, ℕ, ◌+◌, ◌-◌, ◌≤◌, min, List, [], ◌∷◌, Option, None, Some, IsSome, length}
 use Rattle.std.specs.List.Sorted.{IsStrictlySortedBy}
 use Rattle.std.specs.Map.{lookup, keys_of}
-use Rattle.kapi_object.specs.declared.object.Object.{Object}
-use Rattle.kapi_names.specs.declared.row.ResourceRow.{ResourceRow}
+use Rattle.kapi_tree.specs.declared.object.Object.{Object}
+use Rattle.kapi_model.specs.declared.row.ResourceRow.{ResourceRow}
 use Rattle.kapi_store.specs.declared.key.Key.{Key}
 use Rattle.kapi_store.specs.declared.change.Change.{Change}
-use Rattle.kapi_store.specs.declared.store.TheConstants.{LAST_REVISION}
-use Rattle.kapi_store.specs.declared.window.TheConstants.{WINDOW}
+use Rattle.kapi_store.specs.Limits.{last_revision, window_limit}
 use Rattle.kapi_store.specs.Keys.{key_cmp, is_key}
 use Rattle.kapi_store.specs.Changes.{revision_of, Follow}
 
--- the table, the slots (a key with an object, or one kept for an object to come), the key of the slot that may be empty,
+-- the table, the slots (a key with an object, or one reserved for a new object), the key of the slot that may be empty,
 -- the first and the current revision, and the last changes, the oldest first
 pub record State : Type 0 where
   pub table : List ResourceRow
@@ -57,7 +56,7 @@ HasSlot slots (c ∷ cs) = IsSome c.new → IsSome (lookup (is_key c.key) slots)
 -- the store is as it was when the changes were prepared
 pub record Fits (s : State) (cs : List Change) : Type 0 where
   pub next : Follow revision_of s.revision cs
-  pub last : s.revision + length cs ≤ LAST_REVISION
+  pub last : s.revision + length cs ≤ last_revision
   pub slot : HasSlot s.slots cs
 
 -- what holds of every store: its keys are in order, each once, at most one slot is empty, and the changes that are kept
@@ -68,6 +67,6 @@ pub record IsStore (s : State) : Type 0 where
   pub spare : IsSpare s.spare s.slots
   pub bounded : length s.slots ≤ length (objects s) + 1
   pub numbered : Follow revision_of (s.revision - length s.window) s.window
-  pub counted : length s.window ≡ min WINDOW (s.revision - s.first)
+  pub counted : length s.window ≡ min window_limit (s.revision - s.first)
   pub begun : s.first ≤ s.revision
-  pub limited : s.revision ≤ LAST_REVISION
+  pub limited : s.revision ≤ last_revision

@@ -1,11 +1,11 @@
 use crate::key::Key;
-use kapi_object::Object;
 use kapi_text::Memory;
+use kapi_tree::Object;
 use std::alloc::Global;
 use std::marker::Model;
 use std::rc::Rc;
 
-/// An object with several owners: the map, the changes and whoever shows them.
+/// An object with several owners: the map, the changes and their readers.
 #[derive(Debug, Drop)]
 pub struct Shared {
     owner: Rc<Object>,
@@ -13,8 +13,8 @@ pub struct Shared {
 
 impl Model for Shared {
     ghost use Rattle.std.specs.Coded.{codes};
-    ghost use Rattle.kapi_object.specs.declared.object.Object.{Object};
-    ghost use Rattle.kapi_object.specs.contracts.object.Object as held;
+    ghost use Rattle.kapi_tree.specs.declared.object.Object.{Object};
+    ghost use Rattle.kapi_tree.specs.contracts.object.Object as held;
 
     ghost Value = { Object };
 

@@ -11,19 +11,19 @@ pub enum StoreError {
     /// No object is at the place.
     #[error("the object does not exist")]
     Missing,
-    /// The write is for another version than the one that stands, which is this.
+    /// The write is for another version than the stored one, which is given here.
     #[error("the object is at another version")]
     Conflict(Text),
     /// The place is in a namespace that does not exist.
     #[error("the namespace does not exist")]
     NoNamespace,
-    /// Objects stand in the namespace that would be removed.
+    /// The namespace that would be removed holds objects.
     #[error("the namespace still holds objects")]
     NamespaceNotEmpty,
-    /// The counter stands at the largest revision, or too close to it.
+    /// The counter has reached the largest revision, or is too close to it.
     #[error("no revision is left")]
     RevisionsUsedUp,
-    /// A growth was refused.
+    /// An allocation fails.
     #[error("out of memory")]
     Memory,
 }

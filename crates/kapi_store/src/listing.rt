@@ -1,14 +1,14 @@
 //! Lists: the objects of a resource, of one namespace or name or of all.
 
 ghost use Rattle.std.specs.Prelude.{◌≡◌, IfOk, map};
-ghost use Rattle.kapi_object.specs.Object.{tree_of};
+ghost use Rattle.kapi_tree.specs.Object.{tree_of};
 ghost use Rattle.kapi_store.specs.State.{live};
 ghost use Rattle.kapi_store.specs.Listing.{is_asked as is_asked_of, is_within as is_within_of, is_listed as is_listed_of, listed_objects, shown};
-ghost use Rattle.kapi_store.specs.Span.{after as after_text, first_key as first_key_of, end_key as end_key_of};
+ghost use Rattle.kapi_store.specs.Private.Span.{after as after_text, first_key as first_key_of, end_key as end_key_of};
 
 use crate::change::Shared;
 use crate::key::Key;
-use kapi_names::{ResourceRow, Selector};
+use kapi_model::{ResourceRow, Selector};
 use kapi_text::{Memory, Text};
 use std::alloc::Global;
 use std::collections::BTreeMap;
@@ -24,21 +24,21 @@ pub struct Listed<'a> {
 #[derive(Clone, Copy)]
 pub(crate) struct Selection<'a> {
     pub row: &'a ResourceRow,
-    /// Empty for all namespaces.
+    /// The namespace, empty for all namespaces.
     pub namespace: &'a str,
     pub selector: &'a Selector,
-    /// Empty for all names.
+    /// The name, empty for all names.
     pub name: &'a str,
 }
 
-/// Whether a text is the one that is asked for; where that is empty, any text is.
+/// Whether a text is the one that is asked for; where an empty text is asked for, any text is.
 fn is_asked(asked: &str, text: &Text) -> bool
     ensures { result ≡ is_asked_of asked.now text.now }
 {
     asked.is_empty() || asked == text.as_str()
 }
 
-/// The first text after this one.
+/// The first text after a text, in the order of bytes.
 pub(crate) fn after(alloc: Global, text: &str) -> Result<Text, Memory>
     ensures { IfOk result (λ t. t ≡ after_text text.now) }
 {
@@ -48,7 +48,7 @@ pub(crate) fn after(alloc: Global, text: &str) -> Result<Text, Memory>
 }
 
 impl<'a> Selection<'a> {
-    /// Whether the key is one of those that are asked for.
+    /// Whether the key is within the selection.
     fn is_within(&self, key: &Key) -> bool
         ensures { result ≡ is_within_of self.now.row.now self.now.namespace.now self.now.name.now key.now }
     {
@@ -66,7 +66,7 @@ impl<'a> Selection<'a> {
     }
 
     /// The first key that may be listed.
-    #[tactic(auto, unfolding(crate::specs::Span::first_key))]
+    #[tactic(auto, unfolding(crate::specs::Private::Span::first_key))]
     fn first_key(&self, alloc: Global) -> Result<Key, Memory>
         ensures { IfOk result (λ k. k ≡ first_key_of self.now.row.now self.now.namespace.now self.now.name.now) }
     {
@@ -84,7 +84,7 @@ impl<'a> Selection<'a> {
     }
 
     /// The first key after all that may be listed.
-    #[tactic(auto, unfolding(crate::specs::Span::end_key, crate::specs::Span::first_key))]
+    #[tactic(auto, unfolding(crate::specs::Private::Span::end_key, crate::specs::Private::Span::first_key))]
     fn end_key(&self, alloc: Global) -> Result<Key, Memory>
         ensures { IfOk result (λ k. k ≡ end_key_of self.now.row.now self.now.namespace.now self.now.name.now) }
     {
@@ -100,7 +100,7 @@ impl<'a> Selection<'a> {
     }
 
     /// The objects that are listed, in the order of their keys; only slots between the first and the last key
-    /// that may be listed are looked at.
+    /// that may be listed are read.
     #[tactic(auto, unfolding(crate::specs::State::live))]
     pub(crate) fn list_in<'s>(
         &self,

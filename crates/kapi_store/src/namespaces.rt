@@ -1,15 +1,15 @@
-//! What stands in a namespace.
+//! The objects of a namespace.
 
 ghost use Rattle.std.specs.Prelude.{◌≡◌, IfOk};
 ghost use Rattle.std.specs.List.{list_any};
 ghost use Rattle.kapi_store.specs.State.{live};
 ghost use Rattle.kapi_store.specs.Plain.{is_namespace as is_namespace_of};
-ghost use Rattle.kapi_store.specs.Span.{is_of as is_of_row, row_holds, namespace_start as namespace_start_of, namespace_end as namespace_end_of};
+ghost use Rattle.kapi_store.specs.Private.Span.{is_of as is_of_row, row_holds, namespace_start as namespace_start_of, namespace_end as namespace_end_of};
 
 use crate::change::Shared;
 use crate::key::Key;
 use crate::listing::after;
-use kapi_names::ResourceRow;
+use kapi_model::ResourceRow;
 use kapi_text::{Memory, Text, TryCopy};
 use std::alloc::Global;
 use std::collections::BTreeMap;
@@ -22,14 +22,14 @@ pub fn is_namespace(key: &Key) -> bool
         && (key.resource.as_str() == "namespaces" && key.namespace.as_str() == "")
 }
 
-/// Whether the key is of the row's resource, in the namespace.
+/// Whether the key is of the resource type, in the namespace.
 fn is_of(row: &ResourceRow, namespace: &Text, key: &Key) -> bool
     ensures { result ≡ is_of_row row.now namespace.now key.now }
 {
     row.group == key.group && (row.plural == key.resource && key.namespace == *namespace)
 }
 
-/// The first key of the row's resource in the namespace.
+/// The first key of the resource type in the namespace.
 fn namespace_start(alloc: Global, row: &ResourceRow, namespace: &Text) -> Result<Key, Memory>
     ensures { IfOk result (λ k. k ≡ namespace_start_of row.now namespace.now) }
 {
@@ -41,7 +41,7 @@ fn namespace_start(alloc: Global, row: &ResourceRow, namespace: &Text) -> Result
     })
 }
 
-/// The first key after all of the row's resource in the namespace.
+/// The first key after all of the resource type in the namespace.
 fn namespace_end(alloc: Global, row: &ResourceRow, namespace: &Text) -> Result<Key, Memory>
     ensures { IfOk result (λ k. k ≡ namespace_end_of row.now namespace.now) }
 {
@@ -53,7 +53,7 @@ fn namespace_end(alloc: Global, row: &ResourceRow, namespace: &Text) -> Result<K
     })
 }
 
-/// Whether an object of the row's resource stands in the namespace. No other object is looked at.
+/// Whether the namespace holds an object of the resource type. No other object is read.
 #[tactic(auto, unfolding(crate::specs::State::live))]
 fn stands_in(
     alloc: Global,
@@ -73,7 +73,7 @@ fn stands_in(
     Ok(false)
 }
 
-/// Whether the row's resource is namespaced, and an object of it stands in the namespace.
+/// Whether the resource type is namespaced, and the namespace holds an object of it.
 fn row_stands_in(
     alloc: Global,
     slots: &BTreeMap<Key, Option<Shared>>,
@@ -89,7 +89,7 @@ fn row_stands_in(
     }
 }
 
-/// Whether an object of one of the table's namespaced resources stands in the namespace.
+/// Whether the namespace holds an object of one of the table's namespaced resource types.
 pub fn any_stands_in(
     alloc: Global,
     slots: &BTreeMap<Key, Option<Shared>>,

@@ -8,11 +8,11 @@ use std::marker::Model;
 
 /// A write that is prepared: the changes that `Store::commit` will make, with all their memory.
 ///
-/// One that is dropped changes nothing that is seen; the slot that it made is taken out by the next creation.
+/// A prepared write that is dropped changes nothing that is seen; the next creation takes out the slot that it made.
 #[derive(Debug, Drop)]
 pub struct Ready {
     list: Vec<Change>,
-    /// The map's owner of the first change's new object; no other change has a new object.
+    /// The map's share of the first change's new object; no other change has a new object.
     kept: Option<Shared>,
 }
 
@@ -21,7 +21,7 @@ impl Model for Ready {
     ghost use Rattle.kapi_store.specs.declared.change.Change.{Change};
     ghost use Rattle.std.specs.Coded.{codes};
     ghost use Rattle.kapi_store.specs.contracts.change.Change as changed;
-    ghost use Rattle.kapi_store.specs.Changes.{IsWrite};
+    ghost use Rattle.kapi_store.specs.Changes.{IsStep, IsWrite};
 
     ghost Value = { List Change };
 
@@ -29,7 +29,7 @@ impl Model for Ready {
 
     ghost view = { λ r. r.list.items };
 
-    ghost invariant = { λ r. IsWrite r.kept r.list.items };
+    ghost invariant = { λ r. IsWrite r.kept r.list.items × IsStep r.list.items };
 }
 
 impl Ready {
@@ -42,7 +42,7 @@ impl Ready {
     ghost use Rattle.kapi_store.specs.State.{live};
     ghost use Rattle.kapi_store.specs.Plain.{plain_change, trees, removals as removals_of};
 
-    /// The changes that `Store::commit` will make, in order: none, or one and then removals alone.
+    /// The changes that `Store::commit` will make, in order: none, one, or removals alone.
     #[tactic(auto, unfolding(crate::specs::Changes::IsWrite))]
     pub fn changes(&self) -> &[Change]
         ensures list { result.now ≡ self.now }
@@ -51,7 +51,7 @@ impl Ready {
         self.list.as_slice()
     }
 
-    /// The write that changes nothing. Takes no memory.
+    /// The write that changes nothing. Allocates nothing.
     #[tactic(auto, unfolding(crate::specs::Changes::IsWrite))]
     pub(crate) fn nothing(alloc: Global) -> Ready
         ensures { result ≡ [] }
@@ -105,7 +105,7 @@ impl Ready {
         Ok(Ready { list, kept: None })
     }
 
-    /// The changes, and the map's owner of the first one's new object.
+    /// The changes, and the map's share of the first one's new object.
     pub(crate) fn into_parts(self) -> (Vec<Change>, Option<Shared>)
         ensures list { result.0.items ≡ self }
         ensures kept { IsWrite result.1 self }

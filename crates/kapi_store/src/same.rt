@@ -1,4 +1,4 @@
-//! Equality of trees, without memory.
+//! Equality of trees, without allocation.
 
 ghost use Rattle.std.specs.Prelude.{◌≡◌};
 ghost use Rattle.serde_json.specs.View.{view, items_view, members_view, number_view};

@@ -1,4 +1,4 @@
-//! The map's slots: a key with an object, or a key whose place is kept for an object to come.
+//! The map's slots: a key with an object, or a key that is reserved for a new object.
 
 ghost use Rattle.std.specs.Prelude.{◌≡◌, None, IsSome, OnOk, IfOk, option_copied, OnErr, Option, Some};
 ghost use Rattle.std.specs.List.Sorted.{IsStrictlySortedBy};
@@ -61,7 +61,7 @@ fn drop_slot(slots: &mut BTreeMap<Key, Option<Shared>>, key: &Key)
     drop(slots.remove(key));
 }
 
-/// Puts the object into its slot, or takes the slot out where there is none.
+/// Puts the object into its slot, or takes the slot out where there is no object.
 #[tactic(auto, unfolding(crate::specs::Changes::placed))]
 pub fn place(slots: &mut BTreeMap<Key, Option<Shared>>, key: &Key, object: Option<Shared>)
     requires ordered { IsStrictlySortedBy key_cmp (keys_of slots.old.entries) }
@@ -118,9 +118,8 @@ fn make_slot(slots: &mut BTreeMap<Key, Option<Shared>>, key: Key) -> Result<(), 
     Ok(())
 }
 
-/// Makes a slot for an object at the key, in the place of the one that an earlier write left empty. The objects stay
-/// as they are.
-pub fn keep_place(
+/// Makes a slot for an object at the key, in place of the slot that an earlier write left empty. The objects stay.
+pub fn reserve_slot(
     alloc: Global,
     slots: &mut BTreeMap<Key, Option<Shared>>,
     spare: &mut Option<Key>,

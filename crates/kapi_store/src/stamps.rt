@@ -5,8 +5,8 @@ ghost use Rattle.serde_json.specs.Find.{as_str};
 ghost use Rattle.serde_json.specs.View.{view};
 ghost use Rattle.std.specs.Bool.{Decides};
 ghost use Rattle.std.specs.Fmt.{decimal};
-ghost use Rattle.kapi_object.specs.Object.{tree_of, stamped_tree};
-ghost use Rattle.kapi_object.specs.Tree.{in_metadata};
+ghost use Rattle.kapi_tree.specs.Object.{tree_of, stamped_tree};
+ghost use Rattle.kapi_tree.specs.Tree.{in_metadata};
 ghost use Rattle.kapi_store.specs.Stamps.{uid_of, created_tree, uid_in, version_in};
 ghost use Rattle.kapi_store.specs.Plain.{admits as admits_of, admitted as admitted_of};
 ghost use Rattle.kapi_text.specs.Gives.{Gives};
@@ -17,8 +17,8 @@ ghost use Rattle.kapi_store.specs.Stamps.{metadata_text as metadata_text_of, wit
 use crate::change::Shared;
 use crate::error::StoreError;
 use crate::same::is_same;
-use kapi_object::{GivenText, Object};
 use kapi_text::{Memory, Text};
+use kapi_tree::{GivenText, Object};
 use serde_json::Value;
 use std::alloc::Global;
 
@@ -64,7 +64,7 @@ pub fn version(object: &Object) -> &str
     metadata_text(object, "resourceVersion")
 }
 
-/// The object as it stands where nothing else is changed: with the old one's unique id and version.
+/// The object where nothing else is changed: with the old one's unique id and version.
 pub fn with_stamps_of(alloc: Global, object: Object, old: &Shared) -> Result<Object, Memory>
     ensures { IfOk result (λ o. tree_of o ≡ with_stamps_of_tree (tree_of old.now) (tree_of object)) }
 {
@@ -94,7 +94,7 @@ pub fn is_unchanged(object: &Object, old: &Shared) -> bool
     is_same(object.as_tree(), old.get().as_tree())
 }
 
-/// Whether a write with this given version may change what stands at the current one.
+/// Whether a write with this given version may change the object of the current one.
 pub fn admits(current: &str, given: &GivenText) -> bool
     ensures { result ≡ admits_of current.now given.now }
 {
@@ -105,7 +105,7 @@ pub fn admits(current: &str, given: &GivenText) -> bool
     }
 }
 
-/// The object that stands, if the given version admits a write.
+/// The stored object, if the given version admits a write.
 pub fn admitted<'a>(
     alloc: Global,
     object: &'a Shared,

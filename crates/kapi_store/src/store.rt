@@ -5,12 +5,12 @@ use crate::listing::{Listed, Selection};
 use crate::namespaces::{any_stands_in, is_namespace};
 use crate::ready::Ready;
 use crate::rows::is_namespaced;
-use crate::slots::{find, keep_place, place};
+use crate::slots::{find, place, reserve_slot};
 use crate::stamps::{admitted, at_revision, created, is_unchanged, with_stamps_of};
 use crate::window::{Changes, WINDOW, Window};
-use kapi_names::{ResourceRow, Selector};
-use kapi_object::{GivenText, Object};
+use kapi_model::{ResourceRow, Selector};
 use kapi_text::{Memory, Sequence, Text, TryCopy};
+use kapi_tree::{GivenText, Object};
 use std::alloc::Global;
 use std::collections::BTreeMap;
 use std::marker::Model;
@@ -47,7 +47,7 @@ impl Drop for Store {
 
 impl Model for Store {
     ghost use Rattle.std.specs.Coded.{codes};
-    ghost use Rattle.kapi_object.specs.contracts.object.Object as held;
+    ghost use Rattle.kapi_tree.specs.contracts.object.Object as held;
     ghost use Rattle.kapi_store.specs.contracts.change.Change as changed;
     ghost use Rattle.kapi_store.specs.State.{State, IsStore};
 
@@ -68,15 +68,15 @@ impl Store {
     ghost use Rattle.std.specs.Map.{lookup, keys_of};
     ghost use Rattle.serde_json.specs.Data.{Data};
     ghost use Rattle.kapi_text.specs.Gives.{Gives};
-    ghost use Rattle.kapi_object.specs.Given.{given_of};
-    ghost use Rattle.kapi_object.specs.Object.{tree_of};
+    ghost use Rattle.kapi_tree.specs.Given.{given_of};
+    ghost use Rattle.kapi_tree.specs.Object.{tree_of};
     ghost use Rattle.kapi_store.specs.Keys.{is_key};
     ghost use Rattle.kapi_store.specs.Changes.{placed, placed_all, left_by, last_of};
     ghost use Rattle.kapi_store.specs.State.{objects as objects_of, Same, Fits, IsStore};
     ghost use Rattle.kapi_store.specs.Lent.{changes_of};
     ghost use Rattle.kapi_store.specs.Faults.{fault_of};
     ghost use Rattle.kapi_store.specs.Stamps.{with_stamps_of as with_stamps};
-    ghost use Rattle.kapi_store.specs.Plain.{Plain, PlainChange, StandsFor, plain_of, plain_change, has_object as has_object_at, has_namespace as has_namespace_of, free_place, revisions_left, creation, creation_in_place, replacement, removal, opened, written, trees};
+    ghost use Rattle.kapi_store.specs.Plain.{Plain, PlainChange, RefinesPlain, plain_of, plain_change, has_object as has_object_at, has_namespace as has_namespace_of, free_place, revisions_left, creation, creation_in_place, replacement, removal, opened, written, trees};
     ghost use Rattle.kapi_store.specs.Plain.{changes_after as changes_after_in, replaceable as replaceable_at, holds_objects as holds_objects_in, is_full_namespace, removable, replaced, window_start as window_start_of};
     ghost use Rattle.kapi_store.specs.Listing.{listed_objects, listed_trees, shown};
 
@@ -89,7 +89,7 @@ impl Store {
         ensures first { IfOk result (λ s. s.first ≡ first) }
         ensures revision { IfOk result (λ s. s.revision ≡ first) }
         ensures window { IfOk result (λ s. s.window ≡ []) }
-        ensures stands { IfOk result (λ s. StandsFor s [] (opened table first)) }
+        ensures stands { IfOk result (λ s. RefinesPlain s [] (opened table first)) }
     {
         Ok(Store {
             alloc,
@@ -109,7 +109,7 @@ impl Store {
         self.table.as_slice()
     }
 
-    /// The object at the key, if any. Takes no memory.
+    /// The object at the key, if any. Allocates nothing.
     pub fn get(&self, key: &Key) -> Option<&Object>
         ensures object { option_copied result ≡ lookup (is_key key.now) (objects_of self.now) }
         ensures tree { option_map (λ o. tree_of o.now) result ≡ lookup (is_key key.now) (plain_of self.now).objects }
@@ -121,10 +121,10 @@ impl Store {
     }
 
     /// The objects of a resource that are in the namespace and of the name, or in all and of any where the text is
-    /// empty, and whose labels the selector means (Kubernetes, 'Labels and Selectors'), in the order of their keys.
+    /// empty, and whose labels the selector matches (Kubernetes, 'Labels and Selectors'), in the order of their keys.
     ///
-    /// It looks at the objects between the first and the last key that may be listed, and at no others. For a resource
-    /// that is cluster-scoped the caller passes an empty namespace: no object of it is in one. No key stands twice.
+    /// The call reads the objects between the first and the last key that may be listed, and no others. For a resource
+    /// that is cluster-scoped the caller passes an empty namespace: no object of it is in one. Each key is listed once.
     #[tactic(auto, using(crate::proofs::Trees::listed_objects_trees))]
     pub fn list<'a>(
         &'a self,
@@ -146,7 +146,7 @@ impl Store {
         selection.list_in(self.alloc, &self.slots)
     }
 
-    /// The revision of the last change, or the first one where there is none. Takes no memory.
+    /// The revision of the last change, or the first one where there is none. Allocates nothing.
     pub fn revision(&self) -> u64
         ensures number { result ≡ self.now.revision }
         ensures store { IsStore self.now }
@@ -162,11 +162,11 @@ impl Store {
     }
 
     /// The changes after a revision, the oldest first; none where some of them may be kept no longer: where the
-    /// revision is below the first one, or below the current one less `WINDOW`. Takes no memory.
+    /// revision is below the first one, or below the current one less `WINDOW`. Allocates nothing.
     pub fn changes_after(&self, revision: u64) -> Result<Changes<'_>, TooOld>
         ensures too_old { IsErr result ↔ (revision < max (self.now.revision - WINDOW) self.now.first) }
         ensures changes { IfOk result (λ c. changes_of c ≡ filter (λ d. nat_lt revision d.revision) self.now.window) }
-        ensures all { (history : List PlainChange) (p : Plain) → StandsFor self.now history p
+        ensures all { (history : List PlainChange) (p : Plain) → RefinesPlain self.now history p
             → Gives (λ _. Some tt) (λ c. map plain_change (changes_of c)) result (changes_after_in history p revision) }
     {
         if revision < self.first {
@@ -179,7 +179,7 @@ impl Store {
         Ok(self.window.last(count as usize))
     }
 
-    /// Whether there is an object at the key. Takes no memory.
+    /// Whether there is an object at the key. Allocates nothing.
     pub fn has_object(&self, key: &Key) -> bool
         ensures { result ≡ has_object_at key.now (plain_of self.now) }
     {
@@ -197,7 +197,7 @@ impl Store {
         Ok(self.has_object(&Key::of_namespace(self.alloc, &key.namespace)?))
     }
 
-    /// That an object can be created at the key; refused, in this order, where its namespace is missing
+    /// Checks that an object can be created at the key; refused, in this order, where its namespace is missing
     /// (`NoNamespace`) and where an object is at the key (`Exists`).
     #[tactic(auto, unfolding(crate::specs::Plain::free_place))]
     pub fn check_place(&self, key: &Key) -> Result<(), StoreError>
@@ -212,7 +212,7 @@ impl Store {
         Ok(())
     }
 
-    /// That so many revisions are left (`RevisionsUsedUp`). Takes no memory.
+    /// Checks that so many revisions are left (`RevisionsUsedUp`). Allocates nothing.
     #[tactic(auto, unfolding(crate::specs::Plain::revisions_left))]
     pub fn check_revisions(&self, count: u64) -> Result<(), StoreError>
         ensures gives { Gives fault_of (λ u. u) result (revisions_left (plain_of self.now) count) }
@@ -238,8 +238,8 @@ impl Store {
         }
     }
 
-    /// Prepares the creation of an object: makes every growth that it needs, and changes neither objects nor
-    /// revision nor changes.
+    /// Prepares the creation of an object: makes every allocation that it needs, and leaves objects, revision and
+    /// changes.
     ///
     /// The object gets the uid and the resourceVersion of the next revision. Refused, in this order, where its
     /// namespace is missing (`NoNamespace`), where an object is at the key (`Exists`), and where no revision
@@ -253,7 +253,7 @@ impl Store {
         self.create_in_place(key, object)
     }
 
-    /// The same at a place that is free, as `check_place` tells: it is not looked up again.
+    /// Prepares the creation of an object at a place that `check_place` found free: it is not looked up again.
     pub fn create_in_place(&mut self, key: Key, object: Object) -> Result<Ready, StoreError>
         requires { free_place (plain_of self.old) key ≡ Ok tt }
         ensures gives { Gives fault_of (map plain_change) result (creation_in_place (plain_of self.old) key (tree_of object)) }
@@ -270,11 +270,11 @@ impl Store {
             new: Some(new),
         };
         let ready = Ready::of_one(self.alloc, change)?;
-        keep_place(self.alloc, &mut self.slots, &mut self.spare, key)?;
+        reserve_slot(self.alloc, &mut self.slots, &mut self.spare, key)?;
         Ok(ready)
     }
 
-    /// Prepares the replacement of the object at the key: makes every growth that it needs, and changes nothing.
+    /// Prepares the replacement of the object at the key: makes every allocation that it needs, and changes nothing.
     ///
     /// The new object gets the old one's uid and the next revision as its resourceVersion. Where it is the old object
     /// but for uid and resourceVersion, nothing would change: the write then has no changes and takes no revision.
@@ -300,7 +300,7 @@ impl Store {
         self.replaceable(key, &given.resource_version)
     }
 
-    /// Prepares the replacement of an object that stands.
+    /// Prepares the replacement of a stored object.
     fn replace_old(&self, key: Key, object: Object, old: &Shared) -> Result<Ready, StoreError>
         requires { IsSome (lookup (is_key key) self.now.slots) }
         ensures gives { Gives fault_of (map plain_change) result (replaced (plain_of self.now) key (tree_of object) (tree_of old.now)) }
@@ -323,8 +323,8 @@ impl Store {
         Ok(Ready::of_one(self.alloc, change)?)
     }
 
-    /// Whether an object of a namespaced resource stands in the namespace. It looks at the first object of each such
-    /// resource there, and at no others.
+    /// Whether the namespace holds an object of a namespaced resource type. The call reads the first object of each
+    /// such resource type there, and no others.
     #[tactic(auto, using(crate::proofs::Standing::holds_by_rows))]
     fn holds_objects(&self, namespace: &Text) -> Result<bool, Memory>
         ensures { IfOk result (λ b. b ≡ holds_objects_in (plain_of self.now) namespace.now) }
@@ -332,7 +332,7 @@ impl Store {
         any_stands_in(self.alloc, &self.slots, self.table.as_slice(), namespace)
     }
 
-    /// Whether the key is of a Namespace object, and an object stands in that namespace.
+    /// Whether the key is of a Namespace object, and that namespace holds an object.
     fn is_full(&self, key: &Key) -> Result<bool, Memory>
         ensures { IfOk result (λ b. b ≡ is_full_namespace (plain_of self.now) key.now) }
     {
@@ -362,7 +362,7 @@ impl Store {
         keys.iter().all(|key| self.has_object(key))
     }
 
-    /// That the objects at the keys can be removed; refused, in this order, where one of them does not exist
+    /// Checks that the objects at the keys can be removed; refused, in this order, where one of them does not exist
     /// (`Missing`) and where one is a namespace that holds an object (`NamespaceNotEmpty`).
     #[tactic(auto, unfolding(crate::specs::Plain::removable))]
     fn check_removal(&self, keys: &[Key]) -> Result<(), StoreError>
@@ -377,11 +377,11 @@ impl Store {
         Ok(())
     }
 
-    /// Prepares the removal of the objects at the keys, one revision each: makes every growth that it needs, and
+    /// Prepares the removal of the objects at the keys, one revision each: makes every allocation that it needs, and
     /// changes nothing. The empty list changes nothing.
     ///
-    /// Refused, in this order, where one of the objects does not exist (`Missing`), where one is a namespace in which
-    /// an object stands, be it one of those to be removed (`NamespaceNotEmpty`), and where fewer revisions are left
+    /// Refused, in this order, where one of the objects does not exist (`Missing`), where one is a namespace that
+    /// holds an object, be it one of those to be removed (`NamespaceNotEmpty`), and where fewer revisions are left
     /// than there are keys (`RevisionsUsedUp`).
     pub fn remove(&self, keys: Vec<Key>) -> Result<Ready, StoreError>
         requires { IsDistinct is_key keys.items }
@@ -393,15 +393,15 @@ impl Store {
         Ok(Ready::removals(self.alloc, &self.slots, self.revision, keys)?)
     }
 
-    /// Makes the changes of a prepared write. Takes no memory and cannot fail.
+    /// Makes the changes of a prepared write. Allocates nothing and cannot fail.
     pub fn commit(&mut self, ready: Ready)
         requires { Fits self.old ready }
         ensures objects { objects_of self.new ≡ placed_all (left_by ready) (objects_of self.old) }
         ensures revision { self.new.revision ≡ self.old.revision + length ready }
         ensures table { self.new.table ≡ self.old.table }
         ensures first { self.new.first ≡ self.old.first }
-        ensures stands { (history : List PlainChange) (p : Plain) → StandsFor self.old history p
-            → StandsFor self.new (history ++ map plain_change ready) (written (map plain_change ready) p) }
+        ensures stands { (history : List PlainChange) (p : Plain) → RefinesPlain self.old history p
+            → RefinesPlain self.new (history ++ map plain_change ready) (written (map plain_change ready) p) }
     {
         let (list, mut kept) = ready.into_parts();
         for change in list {

@@ -36,7 +36,7 @@ impl Window {
     ghost use Rattle.kapi_store.specs.Changes.{last_of};
     ghost use Rattle.kapi_store.specs.Lent.{changes_of};
 
-    /// No change yet, with the memory for all that will be kept.
+    /// A window without changes, with the memory for all that will be kept.
     pub(crate) fn new(alloc: Global) -> Result<Window, Memory>
         ensures { IfOk result (λ w. w ≡ []) }
     {
@@ -45,7 +45,7 @@ impl Window {
         })
     }
 
-    /// Keeps one change more, in the place of the oldest where the ring is full. Takes no memory.
+    /// Keeps one change more, in the place of the oldest where the ring is full. Allocates nothing.
     pub(crate) fn note(&mut self, change: Change)
         ensures { self.new ≡ last_of WINDOW (self.old ++ change ∷ []) }
     {
@@ -96,7 +96,7 @@ impl<'a> Changes<'a> {
         self.window.len().saturating_sub(self.skipped)
     }
 
-    /// The change at the index, counted from the oldest. Takes no memory.
+    /// The change at the index, counted from the oldest. Allocates nothing.
     pub fn get(&self, index: usize) -> Option<&'a Change>
         ensures { option_copied result ≡ slice_get (changes_of self.now) index }
     {

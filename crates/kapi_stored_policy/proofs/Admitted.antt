@@ -1,4 +1,4 @@
--- What a write sets in an object leaves it of its row and without faults.
+-- What a write sets in an object leaves it of its resource type and without faults.
 use Rattle.std.proofs.Common.{◌≡◌, ◌∙◌, ℕ, List, [], ◌∷◌, ◌++◌, Bool, true, false, not, ◌||◌, Some, refl, sym, ap, true≢false, codes, length, ◌==◌, bytes_eq, if◌then◌else◌}
 use Rattle.std.proofs.lemmas.Map.Text.{is_eq-slice_cmp}
 use Rattle.std.proofs.lemmas.Slice.Eq.{bytes_eq-Decides}
@@ -10,13 +10,13 @@ use Rattle.std.specs.declared.cmp.Ordering.TheVariants.{Less, Equal, Greater}
 use Rattle.serde_json.proofs.Views.{get_member-put}
 use Rattle.serde_json.specs.Data.{Data, string, object, Members, no_members, member, put}
 use Rattle.serde_json.specs.Find.{get, get_member}
-use Rattle.kapi_names.specs.declared.row.ResourceRow.{ResourceRow}
-use Rattle.kapi_names.specs.declared.row.Schema.{Schema}
-use Rattle.kapi_names.specs.declared.row.Schema.TheVariants as schema
-use Rattle.kapi_object.proofs.Puts.{put_other}
-use Rattle.kapi_object.specs.Contents.{content_of, text_if}
-use Rattle.kapi_object.specs.Object.{stamped_tree}
-use Rattle.kapi_object.specs.Tree.{in_metadata, member_of, members_or_none, metadata_of, unless_null, with_text, without, without_member}
+use Rattle.kapi_model.specs.declared.row.ResourceRow.{ResourceRow}
+use Rattle.kapi_model.specs.declared.row.Schema.{Schema}
+use Rattle.kapi_model.specs.declared.row.Schema.TheVariants as schema
+use Rattle.kapi_tree.proofs.Puts.{put_other}
+use Rattle.kapi_tree.specs.Contents.{content_of, text_if}
+use Rattle.kapi_tree.specs.Object.{stamped_tree}
+use Rattle.kapi_tree.specs.Tree.{in_metadata, member_of, members_or_none, metadata_of, unless_null, with_text, without, without_member}
 use Rattle.kapi_admission.proofs.Clean.{kept_tree_has_no_fault}
 use Rattle.kapi_admission.proofs.CleanLists.{parts, both}
 use Rattle.kapi_admission.specs.Admission.{faults_on, kept_metadata, kept_tree, version_of}

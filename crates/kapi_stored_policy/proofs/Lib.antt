@@ -4,3 +4,4 @@ pub mod Writes
 pub mod Steps
 pub mod Admitted
 pub mod Sound
+pub mod Granted

@@ -9,7 +9,7 @@ use Rattle.std.specs.declared.cmp.Ordering.{Ordering}
 use Rattle.std.specs.declared.cmp.Ordering.TheVariants.{Equal}
 use Rattle.std.proofs.Math.Dec.{eqb-suc-zero}
 use Rattle.std.proofs.lemmas.Slice.Eq.{bytes_eq-Decides}
-use Rattle.kapi_names.specs.Kinds.{rbac_group}
+use Rattle.kapi_model.specs.Kinds.{rbac_group}
 use Rattle.kapi_policy.specs.Objects.{name_cmp, place_cmp}
 use Rattle.kapi_policy.specs.declared.change.NamespacedName.{NamespacedName}
 use Rattle.kapi_store.specs.Keys.{key_cmp}
@@ -26,14 +26,14 @@ resource_of kind.RoleBinding = codes "rolebindings"
 resource_of kind.ClusterRole = codes "clusterroles"
 resource_of kind.ClusterRoleBinding = codes "clusterrolebindings"
 
--- the namespaces in which it may stand
+-- the namespaces in which an object of a kind may be
 abbrev IsIn : PolicyKind → List ℕ → Type 0
 IsIn kind.Role namespace = Unit {0}
 IsIn kind.RoleBinding namespace = Unit {0}
 IsIn kind.ClusterRole namespace = namespace ≡ []
 IsIn kind.ClusterRoleBinding namespace = namespace ≡ []
 
--- a key at which an object of a kind stands
+-- a key at which an object of a kind is
 abbrev IsPlace : PolicyKind → Key → Type 0
 IsPlace of k = (k.group ≡ rbac_group) × (k.resource ≡ resource_of of) × IsIn of k.namespace
 
@@ -45,7 +45,7 @@ nothing [] h = refl
 nothing (b ∷ s) h = absurd (let never = sym (eqb-suc-zero (length s)) ∙ h in cc never)
 
 module _ (k : Key) (of : PolicyKind) (group : k.group ≡ rbac_group) where
-  -- what it is, where it is that kind
+  -- the key's group, resource and namespace, where it is of that kind
   is_one : (one : PolicyKind) → Some one ≡ Some of → k.resource ≡ resource_of one → IsIn one k.namespace → IsPlace of k
   is_one one h resource inside = let P : PolicyKind → Type 0 = λ p. IsPlace p k in let it : one ≡ of = cc h in subst P it (group, resource, inside)
 
@@ -72,7 +72,7 @@ module _ (k : Key) (of : PolicyKind) (group : k.group ≡ rbac_group) where
   by_role true at h = is_one kind.Role h (same k.resource (codes "roles") at) tt
   by_role false at h = by_binding (bytes_eq k.resource (codes "rolebindings")) refl h
 
--- what a key is at which an object of a kind stands
+-- the parts of a key at which an object of a kind is
 is_place : (k : Key) (of : PolicyKind) → policy_kind k ≡ Some of → IsPlace of k
 unfolding policy_kind
 is_place k of h = by_group (bytes_eq k.group rbac_group) refl h
@@ -102,7 +102,7 @@ by_place k l of left right =
     sym (ap (λ o. ordering_then o (ordering_then (slice_cmp nat_cmp k.resource l.resource) (place_cmp (place_of k) (place_of l)))) group
     ∙ ap (λ o. ordering_then o (place_cmp (place_of k) (place_of l))) resource)
 
--- where they are in no namespace, by name
+-- keys of one kind in no namespace are compared by name
 pub by_name : (k l : Key) (of : PolicyKind) → policy_kind k ≡ Some of → policy_kind l ≡ Some of → k.namespace ≡ [] → l.namespace ≡ [] → name_cmp k.name l.name ≡ key_cmp k l
 by_name k l of left right here there =
     let namespace : slice_cmp nat_cmp k.namespace l.namespace ≡ Equal = level k.namespace l.namespace [] here there in

@@ -7,10 +7,10 @@ use Rattle.std.specs.declared.cmp.Ordering.{Ordering}
 use Rattle.std.specs.declared.cmp.Ordering.TheVariants.{Less, Equal, Greater}
 use Rattle.serde_json.specs.Data.{Data}
 use Rattle.kapi_text.specs.Gives.{◌>>=◌}
-use Rattle.kapi_names.specs.declared.fault.FieldFault.{FieldFault}
-use Rattle.kapi_names.specs.declared.row.ResourceRow.{ResourceRow}
-use Rattle.kapi_object.specs.Object.{stamped_tree}
-use Rattle.kapi_object.specs.Given.{given_of}
+use Rattle.kapi_model.specs.declared.fault.FieldFault.{FieldFault}
+use Rattle.kapi_model.specs.declared.row.ResourceRow.{ResourceRow}
+use Rattle.kapi_tree.specs.Object.{stamped_tree}
+use Rattle.kapi_tree.specs.Given.{given_of}
 use Rattle.kapi_admission.specs.Admission.{faults_on}
 use Rattle.kapi_rbac_types.specs.Trees.{read_as}
 use Rattle.kapi_store.proofs.Keys.{key_same}
@@ -127,6 +127,6 @@ pub stored_reads : {X : Type 0} (f : Data → X) (os : List (Key × Data)) (k : 
 stored_reads f os k of d h is at =
     let P : Option PolicyKind → Type 0 = λ o. IsSoundAt o d in sound_reads f of d (subst P at (found_sound k os d h is))
 
--- an object of a row is sound where its kind stands
+-- an object of a resource type has no faults where its kind is stored
 pub object_sound : (row : ResourceRow) (of : PolicyKind) (d : Data) → row.schema ≡ schema_of of → IsObjectOf row d → IsSoundAt (Some of) d
 object_sound row of d is h = ap (λ s. faults_on s d) (sym is) ∙ h.clean

@@ -2,14 +2,16 @@
 use Rattle.std.proofs.Common.{◌≡◌, List, [], ◌∷◌, ◌++◌, Option, None, Some, map, option_map, refl, sym, ap, subst}
 use Rattle.std.specs.List.{flat_map}
 use Rattle.serde_json.specs.Data.{Data}
-use Rattle.kapi_object.specs.Object.{tree_of}
+use Rattle.kapi_tree.specs.Object.{tree_of}
 use Rattle.kapi_policy.specs.declared.change.PolicyChange.{PolicyChange}
 use Rattle.kapi_store.specs.Changes.{AreRemovals, IsStep}
 use Rattle.kapi_store.specs.Plain.{plain_change}
 use Rattle.kapi_store.specs.declared.change.Change.{Change}
 use Rattle.kapi_store.specs.declared.key.Key.{Key}
 use Rattle.kapi_stored_policy.specs.Kind.{policy_kind}
-use Rattle.kapi_stored_policy.specs.Reading.{AreDeletions, IsPolicyStep, changes_at, key_at, policy_changes}
+use Rattle.kapi_policy.proofs.Steps.{deletions_step}
+use Rattle.kapi_policy.specs.Steps.{AreDeletions, IsStep as IsPolicyStep}
+use Rattle.kapi_stored_policy.specs.Reading.{changes_at, key_at, policy_changes}
 use Rattle.kapi_stored_policy.specs.declared.kind.PolicyKind.{PolicyKind}
 
 -- a removal is a deletion, if it is of a policy object
@@ -25,21 +27,16 @@ removals_delete [] h = tt
 removals_delete (c ∷ cs) h =
     deletions_after (policy_kind c.key) c.key (option_map tree_of c.new) (ap (option_map tree_of) h.0) (policy_changes (map plain_change cs)) (removals_delete cs h.1)
 
--- deletions are a step
-deletions_step : (cs : List PolicyChange) → AreDeletions cs → IsPolicyStep cs
-unfolding AreDeletions
-deletions_step [] h = tt
-deletions_step (c ∷ cs) h = h.1
-
--- so are a change and deletions
-one_step : (o : Option PolicyKind) (k : Key) (left : Option Data) (cs : List PolicyChange) → AreDeletions cs → IsPolicyStep (changes_at o k left ++ cs)
-one_step None k left cs h = deletions_step cs h
-one_step (Some of) k left cs h = h
+-- one change, of a policy object or of none, is a step
+one_step : (o : Option PolicyKind) (k : Key) (left : Option Data) → IsPolicyStep (changes_at o k left ++ [])
+one_step None k left = tt
+one_step (Some of) k left = tt
 
 policy_step : (cs : List Change) → IsStep cs → IsPolicyStep (policy_changes (map plain_change cs))
 unfolding policy_changes
 policy_step [] h = tt
-policy_step (c ∷ cs) h = one_step (policy_kind c.key) c.key (option_map tree_of c.new) (policy_changes (map plain_change cs)) (removals_delete cs h)
+policy_step (c ∷ []) h = one_step (policy_kind c.key) c.key (option_map tree_of c.new)
+policy_step (c ∷ d ∷ cs) h = deletions_step (policy_changes (map plain_change (c ∷ d ∷ cs))) (removals_delete (c ∷ d ∷ cs) h)
 
 -- the policy changes of a step of the store are a step
 pub changes_step : (cs : List Change) (changes : List PolicyChange) → changes ≡ policy_changes (map plain_change cs) → IsStep cs → IsPolicyStep changes

@@ -12,13 +12,14 @@ use Rattle.kapi_policy.specs.declared.change.PolicyChange.{PolicyChange}
 use Rattle.kapi_store.proofs.Keys.{key_total}
 use Rattle.kapi_store.specs.Changes.{placed, placed_all}
 use Rattle.kapi_store.specs.Keys.{key_cmp, is_key}
-use Rattle.kapi_store.specs.Plain.{Plain, PlainChange, StandsFor, trees_left_by, written}
+use Rattle.kapi_store.specs.Plain.{Plain, PlainChange, RefinesPlain, trees_left_by, written}
 use Rattle.kapi_store.specs.State.{State}
 use Rattle.kapi_store.specs.declared.key.Key.{Key}
 use Rattle.kapi_stored_policy.proofs.Collected.{put_elsewhere, put_there, removed_elsewhere, removed_there, collected_in_order}
 use Rattle.kapi_stored_policy.proofs.Places.{roles_ordered, role_bindings_ordered, cluster_roles_ordered, cluster_role_bindings_ordered}
 use Rattle.kapi_stored_policy.specs.Kind.{place_of, policy_kind}
-use Rattle.kapi_stored_policy.specs.Reading.{after_changes, changes_at, policy_changes, policy_objects, role_at, role_binding_at, cluster_role_at, cluster_role_binding_at, role_place, role_binding_place, cluster_role_place, cluster_role_binding_place}
+use Rattle.kapi_policy.specs.Steps.{after_changes}
+use Rattle.kapi_stored_policy.specs.Reading.{changes_at, policy_changes, policy_objects, role_at, role_binding_at, cluster_role_at, cluster_role_binding_at, role_place, role_binding_place, cluster_role_place, cluster_role_binding_place}
 use Rattle.kapi_stored_policy.specs.declared.kind.PolicyKind.{PolicyKind}
 use Rattle.kapi_stored_policy.specs.declared.kind.PolicyKind.TheVariants as kind
 
@@ -99,7 +100,7 @@ unfolding placed
 placed_read k (Some tree) os h = put_read k tree os h (policy_kind k) refl
 placed_read k None os h = removed_read k os (policy_kind k) refl
 
--- the keys are in order after it
+-- the keys are in order after a change
 pub placed_keeps : (k : Key) (left : Option Data) (os : List (Key × Data)) → IsStrictlySortedBy key_cmp (keys_of os) → IsStrictlySortedBy key_cmp (keys_of (placed k left os))
 unfolding placed
 placed_keeps k (Some tree) os h = put_keeps key_cmp key_total os k tree h
@@ -122,7 +123,7 @@ policy_after (c ∷ cs) os h =
     ∙ ap (after_changes (policy_changes cs)) (placed_read c.key c.new os h)
     ∙ sym (changes_apart (policy_kind c.key) c.key c.new (policy_changes cs) (policy_objects os))
 
--- it is in the order of its names
+-- the policy after a write is in the order of its names
 pub policy_in_order : (os : List (Key × Data)) → IsStrictlySortedBy key_cmp (keys_of os) → IsInOrder (policy_objects os)
 unfolding policy_objects
 policy_in_order os h = record {
@@ -139,14 +140,14 @@ placed_all_keeps [] os h = h
 placed_all_keeps (w ∷ ws) os h = placed_all_keeps ws (placed w.0 w.1 os) (placed_keeps w.0 w.1 os h)
 
 -- the objects of a store are in the order of their keys
-pub stands_in_order : (s : State) (history : List PlainChange) (p : Plain) → StandsFor s history p → IsStrictlySortedBy key_cmp (keys_of p.objects)
+pub stands_in_order : (s : State) (history : List PlainChange) (p : Plain) → RefinesPlain s history p → IsStrictlySortedBy key_cmp (keys_of p.objects)
 unfolding IsStrictlySortedBy
 stands_in_order s history p stands =
     let P : List (Key × Data) → Type 0 = λ os. IsStrictlySortedBy key_cmp (keys_of os) in
     subst P (sym stands.made) (placed_all_keeps (trees_left_by history) [] tt)
 
 -- the policy that a store's objects are is kept by the write and its policy changes
-pub policy_written : (s : State) (history changes : List PlainChange) (p : Plain) (old new : PolicyObjects) → StandsFor s history p
+pub policy_written : (s : State) (history changes : List PlainChange) (p : Plain) (old new : PolicyObjects) → RefinesPlain s history p
     → old ≡ policy_objects p.objects → new ≡ after_changes (policy_changes changes) old → new ≡ policy_objects (written changes p).objects
 policy_written s history changes p old new stands before made =
     made ∙ ap (after_changes (policy_changes changes)) before ∙ sym (policy_after changes p.objects (stands_in_order s history p stands))

@@ -1,7 +1,7 @@
 -- Which keys are places of policy objects (Kubernetes API, rbac.authorization.k8s.io/v1).
 use Rattle.std.specs.Prelude.{ℕ, ◌==◌, if◌then◌else◌, List, length, Option, Some, None, codes}
 use Rattle.std.specs.Str.{bytes_eq}
-use Rattle.kapi_names.specs.Kinds.{rbac_group}
+use Rattle.kapi_model.specs.Kinds.{rbac_group}
 use Rattle.kapi_store.specs.declared.key.Key.{Key}
 use Rattle.kapi_policy.specs.declared.change.NamespacedName.{NamespacedName}
 use Rattle.kapi_stored_policy.specs.declared.kind.PolicyKind.{PolicyKind}
@@ -16,7 +16,7 @@ cluster_kind k =
     else None))
     else None
 
--- the kind of the policy object that stands at a key, if it is the place of one
+-- the kind of the policy object at a key, if the key is the place of one
 unfoldable pub policy_kind : Key → Option PolicyKind
 policy_kind k =
     if bytes_eq k.group rbac_group then

@@ -1,4 +1,5 @@
--- The policy that the stored objects are (Kubernetes API, rbac.authorization.k8s.io/v1), and what a write changes in it.
+-- The policy that the stored objects are (Kubernetes API, rbac.authorization.k8s.io/v1), and what a write changes in
+-- it.
 use Rattle.std.specs.Prelude.{◌≡◌, ℕ, List, [], ◌∷◌, Option, Some, None}
 use Rattle.std.specs.List.{flat_map, fold}
 use Rattle.serde_json.specs.Data.{Data}
@@ -25,44 +26,44 @@ module _ {K X : Type 0} where
   entry_if None x es = es
   entry_if (Some k) x es = (k, x) ∷ es
 
-  -- what the objects are read as whose keys are places of the kind, in their order
+  -- the objects whose keys are places of the kind, as they are read, in their order
   unfoldable pub collected : (Key → Option K) → (Data → X) → List (Key × Data) → List (K × X)
   collected place read [] = []
   collected place read (e ∷ os) = entry_if (place e.0) (read e.1) (collected place read os)
 
--- the place of a role, where that is the kind that stands at a key
+-- the place of a role, where the kind is that of roles
 abbrev pub role_at : Option PolicyKind → Key → Option NamespacedName
 role_at (Some kind.Role) k = Some (place_of k)
 role_at _ k = None
 
--- that of a role binding
+-- the place of a role binding, where the kind is that of role bindings
 abbrev pub role_binding_at : Option PolicyKind → Key → Option NamespacedName
 role_binding_at (Some kind.RoleBinding) k = Some (place_of k)
 role_binding_at _ k = None
 
--- the name of a cluster role
+-- the name of a cluster role, where the kind is that of cluster roles
 abbrev pub cluster_role_at : Option PolicyKind → Key → Option (List ℕ)
 cluster_role_at (Some kind.ClusterRole) k = Some k.name
 cluster_role_at _ k = None
 
--- that of a cluster role binding
+-- the name of a cluster role binding, where the kind is that of cluster role bindings
 abbrev pub cluster_role_binding_at : Option PolicyKind → Key → Option (List ℕ)
 cluster_role_binding_at (Some kind.ClusterRoleBinding) k = Some k.name
 cluster_role_binding_at _ k = None
 
--- the places of the four kinds
+-- the place of a role, where the key is one of a role
 abbrev pub role_place : Key → Option NamespacedName
 role_place k = role_at (policy_kind k) k
 
--- of role bindings
+-- the place of a role binding, where the key is one of a role binding
 abbrev pub role_binding_place : Key → Option NamespacedName
 role_binding_place k = role_binding_at (policy_kind k) k
 
--- of cluster roles
+-- the name of a cluster role, where the key is one of a cluster role
 abbrev pub cluster_role_place : Key → Option (List ℕ)
 cluster_role_place k = cluster_role_at (policy_kind k) k
 
--- of cluster role bindings
+-- the name of a cluster role binding, where the key is one of a cluster role binding
 abbrev pub cluster_role_binding_place : Key → Option (List ℕ)
 cluster_role_binding_place k = cluster_role_binding_at (policy_kind k) k
 
@@ -96,7 +97,7 @@ abbrev pub change_at : PolicyKind → Key → Option Data → PolicyChange
 change_at of k (Some tree) = change.Put (put_at of k tree)
 change_at of k None = change.Delete (key_at of k)
 
--- what it changes at a key: nothing where no policy object stands there
+-- what a write that leaves a tree, or none, changes at a key: nothing where the key is no place of a policy object
 abbrev pub changes_at : Option PolicyKind → Key → Option Data → List PolicyChange
 changes_at (Some of) k left = change_at of k left ∷ []
 changes_at None k left = []
@@ -108,17 +109,3 @@ policy_change c = changes_at (policy_kind c.key) c.key c.new
 -- what the changes of a write change in the policy, in their order
 unfoldable pub policy_changes : List PlainChange → List PolicyChange
 policy_changes cs = flat_map policy_change cs
-
--- the policy after some changes
-unfoldable pub after_changes : List PolicyChange → PolicyObjects → PolicyObjects
-after_changes cs objects = fold (λ now c. applied c now) objects cs
-
--- all changes are deletions
-unfoldable pub AreDeletions : List PolicyChange → Type 0
-AreDeletions [] = Unit {0}
-AreDeletions (c ∷ cs) = ((k : PolicyKey) × (c ≡ change.Delete k)) × AreDeletions cs
-
--- the changes of one step: one, and after it only deletions; or none
-abbrev pub IsPolicyStep : List PolicyChange → Type 0
-IsPolicyStep [] = Unit {0}
-IsPolicyStep (c ∷ cs) = AreDeletions cs

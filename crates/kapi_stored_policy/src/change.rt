@@ -1,28 +1,30 @@
 ghost use Rattle.std.specs.Prelude.{◌≡◌, ◌++◌, IfOk, OnOk, map, option_map};
-ghost use Rattle.kapi_object.specs.Object.{tree_of};
+ghost use Rattle.kapi_tree.specs.Object.{tree_of};
 ghost use Rattle.kapi_store.specs.Changes.{IsStep};
 ghost use Rattle.kapi_store.specs.Plain.{plain_change};
 ghost use Rattle.kapi_stored_policy.specs.Kind as kind;
 ghost use Rattle.kapi_stored_policy.specs.Reading as reading;
-ghost use Rattle.kapi_stored_policy.specs.Reading.{IsPolicyStep};
 
 use crate::kind::{PolicyKind, policy_kind};
-use kapi_object::Object;
-use kapi_policy::{NamespacedName, PolicyChange, PolicyKey, PolicyPut};
-use kapi_rbac_types::{ClusterRole, ClusterRoleBinding, Role, RoleBinding};
+use kapi_model::{ClusterRole, ClusterRoleBinding, Role, RoleBinding};
+use kapi_policy::{NamespacedName, PolicyChange, PolicyKey, PolicyPut, PolicyStep};
+use kapi_rbac_types::{
+    admitted_cluster_role, admitted_cluster_role_binding, admitted_role, admitted_role_binding,
+};
 use kapi_store::{Change, Key};
 use kapi_text::{Memory, TryCopy};
+use kapi_tree::Object;
 use std::alloc::Global;
 
-/// What the changes of a write change in the policy, in their order: of each role and binding that is written a put, of each that is
-/// removed a deletion. The objects are admitted ones.
+/// The changes of the policy by the changes of a write, in their order: a put for each role and binding that is
+/// written, a deletion for each that is removed. The objects are admitted ones.
 #[tactic(auto, using(crate::proofs::Steps::changes_step))]
-pub fn policy_changes(alloc: Global, changes: &[Change]) -> Result<Vec<PolicyChange>, Memory>
-    ensures gives { IfOk result (λ v. v.items ≡ reading.policy_changes (map plain_change changes.now)) }
-    ensures step { IfOk result (λ v. IsStep changes.now → IsPolicyStep v.items) }
+pub fn policy_changes(alloc: Global, changes: &[Change]) -> Result<PolicyStep, Memory>
+    requires { IsStep changes.now }
+    ensures { IfOk result (λ s. s ≡ reading.policy_changes (map plain_change changes.now)) }
 {
     let found = collect(alloc, changes)?;
-    Ok(found)
+    Ok(PolicyStep::of(found))
 }
 
 #[tactic(auto, unfolding(crate::specs::Reading::policy_changes))]
@@ -59,19 +61,19 @@ fn put_at(alloc: Global, kind: PolicyKind, key: &Key, object: &Object) -> Result
 {
     match kind {
         PolicyKind::Role => {
-            let role = Role::of_admitted(alloc, object)?;
+            let role = admitted_role(alloc, object)?;
             Ok(PolicyPut::Role(place_of(alloc, key)?, role))
         }
         PolicyKind::RoleBinding => {
-            let binding = RoleBinding::of_admitted(alloc, object)?;
+            let binding = admitted_role_binding(alloc, object)?;
             Ok(PolicyPut::RoleBinding(place_of(alloc, key)?, binding))
         }
         PolicyKind::ClusterRole => {
-            let role = ClusterRole::of_admitted(alloc, object)?;
+            let role = admitted_cluster_role(alloc, object)?;
             Ok(PolicyPut::ClusterRole(key.name.copy(alloc)?, role))
         }
         PolicyKind::ClusterRoleBinding => {
-            let binding = ClusterRoleBinding::of_admitted(alloc, object)?;
+            let binding = admitted_cluster_role_binding(alloc, object)?;
             Ok(PolicyPut::ClusterRoleBinding(key.name.copy(alloc)?, binding))
         }
     }

@@ -12,7 +12,7 @@ pub enum PolicyKind {
     ClusterRoleBinding,
 }
 
-/// The kind of the policy object that stands at a key, if it is the place of one.
+/// The kind of the policy object at a key, if the key is the place of one.
 #[tactic(auto, unfolding(crate::specs::Kind::policy_kind))]
 pub fn policy_kind(key: &Key) -> Option<PolicyKind>
     ensures { result ≡ kind.policy_kind key.now }
@@ -27,7 +27,7 @@ pub fn policy_kind(key: &Key) -> Option<PolicyKind>
     }
 }
 
-/// Objects of these kinds are in no namespace.
+/// The kind of a key whose objects are in no namespace.
 fn cluster_kind(key: &Key) -> Option<PolicyKind>
     ensures { result ≡ kind.cluster_kind key.now }
 {

@@ -3,10 +3,10 @@ ghost use Rattle.std.specs.Prelude.{◌≡◌, ℕ, List, [], Some, Ok, IfOk, co
 ghost use Rattle.std.specs.List.Sorted.{IsStrictlySortedBy};
 ghost use Rattle.std.specs.Map.{keys_of, lookup};
 ghost use Rattle.serde_json.specs.Data.{Data, object, put, Members};
-ghost use Rattle.kapi_names.specs.declared.row.ResourceRow.{ResourceRow};
-ghost use Rattle.kapi_names.specs.declared.row.Schema.TheVariants as schema;
-ghost use Rattle.kapi_object.specs.Object.{stamped_tree};
-ghost use Rattle.kapi_object.specs.Tree.{with_text, without_member};
+ghost use Rattle.kapi_model.specs.declared.row.ResourceRow.{ResourceRow};
+ghost use Rattle.kapi_model.specs.declared.row.Schema.TheVariants as schema;
+ghost use Rattle.kapi_tree.specs.Object.{stamped_tree};
+ghost use Rattle.kapi_tree.specs.Tree.{with_text, without_member};
 ghost use Rattle.kapi_admission.specs.Admission.{faults_on, kept_tree};
 ghost use Rattle.kapi_rbac_types.specs.Trees.{read_as, role_of, cluster_role_of, role_binding_of, cluster_role_binding_of};
 ghost use Rattle.kapi_policy.specs.Laws.{IsInOrder};
@@ -18,7 +18,8 @@ ghost use Rattle.kapi_stored_policy.specs.Admitted.{AreSound, IsObjectOf, IsSoun
 ghost use Rattle.kapi_stored_policy.specs.Kind.{policy_kind};
 ghost use Rattle.kapi_stored_policy.specs.declared.kind.PolicyKind.{PolicyKind};
 ghost use Rattle.kapi_stored_policy.specs.declared.kind.PolicyKind.TheVariants as kind;
-ghost use Rattle.kapi_stored_policy.specs.Reading.{after_changes, policy_changes, policy_objects};
+ghost use Rattle.kapi_policy.specs.Steps.{after_changes};
+ghost use Rattle.kapi_stored_policy.specs.Reading.{policy_changes, policy_objects};
 
 /// The policy that the objects are after a write is the policy that they were before it with the changes of that write.
 #[tactic(auto, using(crate::proofs::Writes::policy_after))]
@@ -33,12 +34,12 @@ pub fn the_policy_is_in_order()
     ensures { (os : List (Key × Data)) → IsStrictlySortedBy key_cmp (keys_of os) → IsInOrder (policy_objects os) }
 {}
 
-/// What is kept of a body without faults is an object of its row: of its kind and version, and without faults.
+/// What is kept of a body without faults is an object of its resource type: of its kind and version, without faults.
 pub fn what_is_admitted_is_of_its_row()
     ensures { (row : ResourceRow) (body : Data) → faults_on row.schema body ≡ [] → IsObjectOf row (kept_tree row body) }
 {}
 
-/// It stays one with a unique id and a version, in a namespace, with any status and without one.
+/// An object stays one of its resource type with a unique id and a version, in a namespace, with any status or none.
 pub fn an_object_stays_of_its_row()
     ensures stamped { (row : ResourceRow) (uid version : List ℕ) (tree : Data) → IsObjectOf row tree → IsObjectOf row (stamped_tree uid version tree) }
     ensures in_namespace { (row : ResourceRow) (namespace : List ℕ) (tree : Data) → IsObjectOf row tree
@@ -48,7 +49,7 @@ pub fn an_object_stays_of_its_row()
     ensures without_status { (row : ResourceRow) (tree : Data) → IsObjectOf row tree → IsObjectOf row (without_member (codes "status") tree) }
 {}
 
-/// Where an object of a row is written at the place of a role or binding, it is sound there, if that is what the row is of.
+/// An object of a resource type that is written at the place of its kind of role or binding has no faults there.
 #[tactic(auto, using(crate::proofs::Sound::object_sound))]
 pub fn an_object_is_sound_at_its_place()
     ensures { (row : ResourceRow) (of : PolicyKind) (tree : Data) → row.schema ≡ schema_of of → IsObjectOf row tree → IsSoundAt (Some of) tree }
@@ -64,7 +65,7 @@ pub fn writes_leave_roles_and_bindings_sound()
     ensures removal { (s : Plain) (ks : List Key) → AreSound s.objects → IfOk (removal s ks) (λ cs. AreSound (written cs s).objects) }
 {}
 
-/// What is then stored at the place of a role or binding is read as one: no fault is found.
+/// A role or binding that is stored so is read as one: no fault is found.
 pub fn a_stored_role_or_binding_is_read()
     ensures role { (os : List (Key × Data)) (k : Key) (tree : Data) → AreSound os → lookup (is_key k) os ≡ Some tree
         → policy_kind k ≡ Some kind.Role → read_as schema.Role role_of tree ≡ Ok (role_of tree) }

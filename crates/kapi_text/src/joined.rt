@@ -11,7 +11,7 @@ fn is_then(text: &[u8], separator: u8, last: &[u8]) -> bool
     }
 }
 
-/// Whether the text is the first one, the separator, and the last one. Takes no memory.
+/// Whether the text is the first one, the separator, and the last one. Allocates nothing.
 #[tactic(auto, using(crate::proofs::Prefixes::bytes_eq_append))]
 pub fn is_joined(text: &[u8], first: &[u8], separator: u8, last: &[u8]) -> bool
     ensures { result ≡ bytes_eq text.now (first.now ++ separator ∷ last.now) }

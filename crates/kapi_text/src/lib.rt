@@ -1,4 +1,4 @@
-//! Texts and lists as contracts see them, and want of memory.
+//! Texts and lists as contracts see them, and failed allocations.
 #![tactic(auto)]
 
 pub mod digits;
@@ -12,5 +12,5 @@ pub use sequence::{Sequence, TryCopy};
 use std::alloc::AllocError;
 pub use text::Text;
 
-/// Want of memory: a growth was refused, and nothing was changed.
+/// An allocation fails, and nothing was changed.
 pub type Memory = AllocError;

@@ -5,7 +5,7 @@ use std::marker::Model;
 
 /// A value that can be copied where there is memory for the copy, which then equals its source.
 pub trait TryCopy {
-    /// The copy, or want of memory.
+    /// The copy, or `AllocError` where an allocation fails.
     fn copy(&self, alloc: Global) -> Result<Self, AllocError>
         ensures { IfOk result (λ x. x ≡ self.now) };
 }
@@ -31,7 +31,7 @@ impl<T> Model for Sequence<T> {
 }
 
 impl<T> Sequence<T> {
-    /// Takes a vector over; takes no memory.
+    /// Takes a vector over; allocates nothing.
     pub fn new(items: Vec<T>) -> Sequence<T>
         ensures { result ≡ items.items }
     {
@@ -45,7 +45,7 @@ impl<T> Sequence<T> {
         self.items.as_slice()
     }
 
-    /// Gives the vector back; takes no memory.
+    /// Returns the vector; allocates nothing.
     pub fn into_vec(self) -> Vec<T>
         ensures { result.items ≡ self }
     {

@@ -20,14 +20,14 @@ impl Model for Text {
 }
 
 impl Text {
-    /// Takes a string over; takes no memory.
+    /// Takes a string over; allocates nothing.
     pub fn new(string: String) -> Text
         ensures { result ≡ string_bytes string }
     {
         Text { string }
     }
 
-    /// A text of its own with the same bytes.
+    /// An owned text with the same bytes.
     pub fn copy_of(alloc: Global, text: &str) -> Result<Text, AllocError>
         ensures { IfOk result (λ t. t ≡ text.now) }
     {
@@ -43,7 +43,7 @@ impl Text {
         self.string.as_str()
     }
 
-    /// Gives the string back; takes no memory.
+    /// Returns the string; allocates nothing.
     pub fn into_string(self) -> String
         ensures { string_bytes result ≡ self }
     {

@@ -16,8 +16,8 @@ use Rattle.kapi_transcript.specs.declared.request.Request.{Request}
 use Rattle.kapi_transcript.specs.declared.wanted.Wanted.{Wanted}
 use Rattle.kapi_lines.specs.Words.{begins}
 
--- a case that is being read: its file, whether rights are looked at anew, its script and wants so far, for whom its connections were opened in their order, the connection
--- that was taken last, and whether a header field may follow
+-- a case that is being read: its file, whether it rechecks rights, its script and wants so far, the identities of its
+-- connections in their order, the connection that was taken last, and whether a header field may follow
 pub record PlainDraft : Type 0 where
   pub load : Option Loaded
   pub rechecks : Bool
@@ -50,7 +50,7 @@ event d n text = record d { script = d.script ++ record { number = n; text = tex
 abbrev pub opened_by : List ℕ → List (List ℕ)
 opened_by text = if begins text (codes "open ") then drop 5 text ∷ [] else []
 
--- a line of a script, as it stands
+-- a line of a script, as it is
 abbrev pub raw : PlainDraft → ℕ → List ℕ → PlainDraft
 raw d n text = record (event d n text) { opened = d.opened ++ opened_by text }
 
@@ -92,7 +92,7 @@ pumped_on d l (Some k) = event d l.number (number_line (codes "pump ") k)
 abbrev pub pumped : PlainDraft → NumberedLine → PlainDraft
 pumped d l = pumped_on d l d.taken
 
--- the rights of watches are looked at anew, where no event stands before the line
+-- the rights of watches are rechecked, where no event comes before the line
 abbrev pub rechecked : PlainDraft → NumberedLine → PlainDraft
 rechecked d l = if length d.script == 0 then record d { rechecks = true; fields = false } else raw d l.number l.text
 
@@ -104,7 +104,7 @@ wants d n wanted = record d { wants = d.wants ++ record { number = n; events = l
 abbrev pub field : PlainDraft → NumberedLine → PlainDraft
 field d l = if d.fields then d else raw d l.number l.text
 
--- the case after a line of that form, before those that follow
+-- the case after a line of that form, before the lines that follow
 abbrev pub drafted : PlainDraft → NumberedLine → Form → List NumberedLine → PlainDraft
 drafted d l (form.Actor names) later = acted d l.number names
 drafted d l (form.Request r) later = asked d l r later
@@ -122,7 +122,7 @@ ended d form.Begin = case_of d ∷ []
 ended d (form.Load name) = case_of d ∷ []
 ended d f = []
 
--- the case that is being read after a line of that form, before those that follow
+-- the case that is being read after a line of that form, before the lines that follow
 abbrev pub next : PlainDraft → NumberedLine → Form → List NumberedLine → PlainDraft
 next d l form.Begin later = fresh None
 next d l (form.Load name) later = fresh (Some (record { number = l.number; name = name }))

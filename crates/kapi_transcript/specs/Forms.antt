@@ -13,7 +13,7 @@ use Rattle.kapi_lines.specs.Words.{begins}
 abbrev pub plain_form : List ℕ → Form
 plain_form line = if is_field line then form.Field else form.Event
 
--- a request, where a method stands first
+-- a request, where the line begins with a method
 abbrev pub request_form : List ℕ → Option (List ℕ × List ℕ) → Form
 request_form line None = plain_form line
 request_form line (Some p) = form.Request (request_of p.0 p.1)

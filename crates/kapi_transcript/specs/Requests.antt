@@ -1,4 +1,4 @@
--- Requests as a transcript writes them, and the bytes that they stand for (RFC 9112, section 3).
+-- Requests as a transcript writes them, and the bytes that they are written for (RFC 9112, section 3).
 use Rattle.std.specs.Prelude.{ℕ, ◌==◌, if◌then◌else◌, ◌+◌, List, [], ◌∷◌, ◌++◌, length, take, drop, codes, Option, Some, None}
 use Rattle.std.specs.Fmt.{decimal}
 use Rattle.std.specs.List.{position}
@@ -9,7 +9,7 @@ use Rattle.kapi_transcript.specs.declared.request.Request.{Request}
 use Rattle.kapi_lines.specs.Escapes.{escaped}
 use Rattle.kapi_lines.specs.Words.{begins}
 
--- the method that a line begins with, and what stands behind it and a space
+-- the method that a line begins with, and the text behind it and a space
 unfoldable pub request_line : List ℕ → Option (List ℕ × List ℕ)
 request_line l =
     if begins l (codes "GET ") then Some (codes "GET", drop 4 l)
@@ -32,7 +32,7 @@ behind text (Some at) = drop (at + 1) text
 abbrev pub target_in : List ℕ → List ℕ
 target_in text = up_to text (position (λ b. b == 32) text)
 
--- the body is all that stands behind it
+-- the body is all text behind the target
 abbrev pub body_in : List ℕ → List ℕ
 body_in text = behind text (position (λ b. b == 32) text)
 
@@ -40,7 +40,7 @@ body_in text = behind text (position (λ b. b == 32) text)
 abbrev pub request_of : List ℕ → List ℕ → Request
 request_of method rest = record { method = method; target = target_in rest; body = body_in rest }
 
--- a patch is a merge patch (RFC 7396)
+-- the media type of a method's body: a patch is a merge patch (RFC 7396)
 abbrev pub media_of : List ℕ → List ℕ
 media_of method = if bytes_eq method (codes "PATCH") then codes "Content-Type: application/merge-patch+json\r\n" else []
 

@@ -10,7 +10,7 @@ sent_of line =
     if begins line (codes "out ") then unescaped (drop 4 line)
     else (if begins line (codes "last ") then unescaped (drop 5 line) else None)
 
--- the body of a reply: what stands behind its first empty line (RFC 9112, section 2.1)
+-- the body of a reply: the text behind its first empty line (RFC 9112, section 2.1)
 abbrev pub body_of : List ℕ → Option (List ℕ)
 body_of [] = None
 body_of (b ∷ bs) = if starts_with nat_eq (b ∷ bs) (codes "\r\n\r\n") then Some (drop 4 (b ∷ bs)) else body_of bs

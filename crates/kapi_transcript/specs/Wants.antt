@@ -1,4 +1,4 @@
--- What a transcript wants of an answer, and when an answer is so.
+-- What a transcript wants of an answer, and when an answer is as wanted.
 use Rattle.std.specs.Prelude.{ℕ, ◌==◌, nat_eq, nat_lt, Bool, true, false, ◌&&◌, ◌||◌, if◌then◌else◌, List, [], ◌∷◌, ◌++◌, length, take, drop, codes, Option, Some, None}
 use Rattle.std.specs.Char.{is_ascii_digit}
 use Rattle.std.specs.List.{list_all, starts_with}
@@ -30,7 +30,7 @@ wanted_of l =
 
 -- ---- when it is met
 
--- the text stands somewhere in the bytes
+-- the bytes contain the text
 abbrev pub contains : List ℕ → List ℕ → Bool
 contains [] text = length text == 0
 contains (b ∷ bs) text = starts_with nat_eq (b ∷ bs) text || contains bs text
@@ -39,12 +39,12 @@ contains (b ∷ bs) text = starts_with nat_eq (b ∷ bs) text || contains bs tex
 abbrev pub kept_byte : ℕ → List ℕ → List ℕ
 kept_byte b bs = if b == 92 && starts_with nat_eq bs (codes "\"") then [] else b ∷ []
 
--- the bytes without the backslashes that stand before a quote
+-- the bytes without the backslashes before a quote
 abbrev pub unquoted : List ℕ → List ℕ
 unquoted [] = []
 unquoted (b ∷ bs) = kept_byte b bs ++ unquoted bs
 
--- the text stands in the bytes, as they are or without the backslashes before their quotes
+-- the bytes contain the text, as they are or without the backslashes before their quotes
 abbrev pub shows : List ℕ → List ℕ → Bool
 shows bytes text = contains bytes text || contains (unquoted bytes) text
 
@@ -52,7 +52,7 @@ shows bytes text = contains bytes text || contains (unquoted bytes) text
 abbrev pub has_code : List ℕ → List ℕ → Bool
 has_code bytes code = begins bytes (codes "HTTP/1.1 ") && starts_with nat_eq (drop 9 bytes) code
 
--- there is a body, and it is that one
+-- there is a body, and it is the given one
 abbrev pub is_body : Option (List ℕ) → List ℕ → Bool
 is_body None text = false
 is_body (Some body) text = bytes_eq body text
@@ -68,7 +68,7 @@ meets (wants.Body text) bytes = has_body bytes text
 meets (wants.Text text) bytes = shows bytes text
 meets (wants.Line text) bytes = false
 
--- bytes were sent, and are so
+-- bytes were sent, and are as wanted
 abbrev pub is_met_by : Wanted → Option (List ℕ) → Bool
 is_met_by wanted None = false
 is_met_by wanted (Some bytes) = meets wanted bytes

@@ -8,7 +8,7 @@ pub struct Loaded {
     pub name: Sequence<u8>,
 }
 
-/// A line of a case's script, and the line of the transcript that it stands for.
+/// A line of a case's script, and the line of the transcript that it is made from.
 #[derive(Drop)]
 pub struct Event {
     pub number: usize,
@@ -27,7 +27,7 @@ pub struct Want {
 #[derive(Drop)]
 pub struct Case {
     pub load: Option<Loaded>,
-    /// The rights of watches are looked at anew at each of their events.
+    /// The rights of watches are rechecked at each of their events.
     pub rechecks: bool,
     pub script: Sequence<Event>,
     pub wants: Sequence<Want>,

@@ -24,7 +24,7 @@ pub struct Draft {
     opened: Vec<Sequence<u8>>,
     /// The connection that was taken last.
     taken: Option<usize>,
-    /// Whether a header field may stand on the next line.
+    /// Whether a header field may be on the next line.
     fields: bool,
 }
 
@@ -90,7 +90,7 @@ impl Draft {
         Ok(())
     }
 
-    /// Adds a line of a script as it stands.
+    /// Adds a line of a script as it is.
     fn push_line(&mut self, alloc: Global, number: usize, text: &[u8]) -> Result<(), Memory>
         ensures { OnOk result (draft_of self.new ≡ cased.raw (draft_of self.old) number text.now) }
     {
@@ -131,7 +131,7 @@ impl Draft {
         self.push_event(line.number, word_line(alloc, b"pump ", connection)?)
     }
 
-    /// Has the rights of watches looked at anew; behind an event it is a line of the script.
+    /// Sets that the rights of watches are rechecked; behind an event the line is one of the script.
     fn push_recheck(&mut self, alloc: Global, line: &Line<'_>) -> Result<(), Memory>
         ensures { OnOk result (draft_of self.new ≡ cased.rechecked (draft_of self.old) (line_of line.now)) }
     {
@@ -157,7 +157,7 @@ impl Draft {
         Ok(())
     }
 
-    /// Passes over a header field of a request; elsewhere it is a line of the script.
+    /// Passes over a header field of a request; elsewhere the line is one of the script.
     fn push_field(&mut self, alloc: Global, line: &Line<'_>) -> Result<(), Memory>
         ensures { OnOk result (draft_of self.new ≡ cased.field (draft_of self.old) (line_of line.now)) }
     {
@@ -167,7 +167,7 @@ impl Draft {
         self.push_line(alloc, line.number, line.text)
     }
 
-    /// Adds a line of that form, before those that follow.
+    /// Adds a line of that form, before the lines that follow.
     fn push(
         &mut self,
         alloc: Global,
@@ -223,7 +223,7 @@ fn begin(
     Ok(())
 }
 
-/// Reads a line of that form, before those that follow.
+/// Reads a line of that form, before the lines that follow.
 fn read_form(
     alloc: Global,
     cases: &mut Vec<Case>,
@@ -245,7 +245,7 @@ fn read_form(
     }
 }
 
-/// Reads a line, before those that follow.
+/// Reads a line, before the lines that follow.
 fn read_line(
     alloc: Global,
     cases: &mut Vec<Case>,

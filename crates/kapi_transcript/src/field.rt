@@ -14,7 +14,7 @@ pub fn is_field(line: &[u8]) -> bool
     }
 }
 
-/// Where a byte stands first.
+/// The index of the first such byte.
 pub fn place_of(bytes: &[u8], wanted: u8) -> Option<usize>
     ensures found { result ≡ position (λ b. b == wanted) bytes.now }
     ensures within { IfSome result (λ at. at < length bytes.now) }

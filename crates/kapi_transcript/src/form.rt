@@ -19,13 +19,13 @@ pub enum Form {
     Load(Sequence<u8>),
     /// `as USER` or `as USER,GROUP,..`: the connection of that identity.
     Actor(Sequence<u8>),
-    /// `METHOD TARGET` or `METHOD TARGET BODY`: a request on it.
+    /// `METHOD TARGET` or `METHOD TARGET BODY`: a request on the connection that was taken last.
     Request(Request),
     /// `Name: value`: a further header field of the request above.
     Field,
     /// `pump`: the next event of the connection's watch.
     Pump,
-    /// `recheck`: the rights of watches are looked at anew in this case.
+    /// `recheck`: the rights of watches are rechecked in this case.
     Recheck,
     /// What is wanted of the last answer.
     Want(Wanted),
@@ -59,7 +59,7 @@ pub fn parse_form(alloc: Global, line: &[u8]) -> Result<Form, Memory>
     }
 }
 
-/// The form of a line that begins with none of these words.
+/// The form of a line that begins with no word of a transcript.
 fn line_form(alloc: Global, line: &[u8]) -> Result<Form, Memory>
     ensures { IfOk result (λ f. f ≡ line_form_of line.now) }
 {

@@ -1,4 +1,4 @@
-//! Transcripts: requests and events with the answers that are wanted of them, a line each, and the scripts that they stand for.
+//! Transcripts: requests and events with the answers that are wanted of them, and the scripts that are made from them.
 #![tactic(auto)]
 
 mod case;

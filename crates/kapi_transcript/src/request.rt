@@ -19,7 +19,7 @@ pub struct Request {
     pub body: Sequence<u8>,
 }
 
-/// The method that a line begins with, and what stands behind it and a space.
+/// The method that a line begins with, and the text behind it and a space.
 #[tactic(auto, unfolding(crate::specs::Requests::request_line))]
 pub fn request_line(line: &[u8]) -> Option<(&'static [u8], &[u8])>
     ensures { option_map {U = List ℕ × List ℕ} (λ p. (p.0.now, p.1.now)) result ≡ request_line_of line.now }
@@ -65,7 +65,7 @@ fn parted(text: &[u8]) -> (&[u8], &[u8])
     }
 }
 
-/// The header field that a method asks for beside the others.
+/// The header field that a method needs beside the others.
 fn media(method: &[u8]) -> &'static [u8]
     ensures { result.now ≡ media_of method.now }
 {
@@ -101,7 +101,7 @@ pub fn request_bytes(
     Ok(text)
 }
 
-/// Appends the header fields that stand first.
+/// Appends the header fields at the front.
 fn push_fields(text: &mut Vec<u8>, later: &[Line<'_>]) -> Result<(), Memory>
     ensures { OnOk result (text.new.items ≡ text.old.items ++ field_lines (map line_of later.now)) }
 {

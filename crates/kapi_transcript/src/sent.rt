@@ -18,7 +18,7 @@ pub fn sent(alloc: Global, line: &[u8]) -> Result<Option<Vec<u8>>, Memory>
     Ok(None)
 }
 
-/// The body of a reply: what stands behind its first empty line.
+/// The body of a reply: the text behind its first empty line.
 pub fn body(reply: &[u8]) -> Option<&[u8]>
     ensures { option_map (λ s. s.now) result ≡ body_of reply.now }
 {

@@ -73,7 +73,7 @@ fn reply_with(alloc: Global, code: &[u8], behind: &[u8]) -> Result<Option<Wanted
     }
 }
 
-/// Whether the line of an answer is as it is wanted.
+/// Whether the line of an answer is as wanted.
 pub fn is_met(alloc: Global, wanted: &Wanted, line: &[u8]) -> Result<bool, Memory>
     ensures { IfOk result (λ b. b ≡ is_met_of wanted.now line.now) }
 {
@@ -83,7 +83,7 @@ pub fn is_met(alloc: Global, wanted: &Wanted, line: &[u8]) -> Result<bool, Memor
     }
 }
 
-/// Whether the bytes that an answer sent are as they are wanted; nothing is met where it sent none.
+/// Whether the bytes that an answer sent are as wanted; nothing is met where it sent none.
 fn is_met_by_sent(alloc: Global, wanted: &Wanted, line: &[u8]) -> Result<bool, Memory>
     ensures { IfOk result (λ b. b ≡ wants.is_met_by wanted.now (sent_of line.now)) }
 {
@@ -93,7 +93,7 @@ fn is_met_by_sent(alloc: Global, wanted: &Wanted, line: &[u8]) -> Result<bool, M
     }
 }
 
-/// Whether bytes that were sent are as they are wanted.
+/// Whether bytes that were sent are as wanted.
 fn meets(alloc: Global, wanted: &Wanted, bytes: &[u8]) -> Result<bool, Memory>
     ensures { IfOk result (λ b. b ≡ wants.meets wanted.now bytes.now) }
 {
@@ -128,7 +128,7 @@ fn has_body(bytes: &[u8], text: &[u8]) -> bool
     }
 }
 
-/// Whether the text stands in the bytes, as they are or without the backslashes before their quotes.
+/// Whether the bytes contain the text, as they are or without the backslashes before their quotes.
 fn shows(alloc: Global, bytes: &[u8], text: &[u8]) -> Result<bool, Memory>
     ensures { IfOk result (λ b. b ≡ shows_of bytes.now text.now) }
 {
@@ -139,7 +139,7 @@ fn shows(alloc: Global, bytes: &[u8], text: &[u8]) -> Result<bool, Memory>
     Ok(contains(unquoted.as_slice(), text))
 }
 
-/// Whether the text stands somewhere in the bytes.
+/// Whether the bytes contain the text.
 fn contains(bytes: &[u8], text: &[u8]) -> bool
     ensures { result ≡ wants.contains bytes.now text.now }
 {
@@ -153,7 +153,7 @@ fn contains(bytes: &[u8], text: &[u8]) -> bool
     text.is_empty()
 }
 
-/// The bytes without the backslashes that stand before a quote.
+/// The bytes without the backslashes before a quote.
 fn unquoted(alloc: Global, bytes: &[u8]) -> Result<Vec<u8>, Memory>
     ensures { IfOk result (λ v. v.items ≡ unquoted_of bytes.now) }
 {

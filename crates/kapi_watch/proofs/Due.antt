@@ -14,13 +14,13 @@ module _ {X : Type 0} where
       drop_more xs i x (slice_get_within xs i x h) ∙ ap (λ y. y ∷ drop (i + 1) xs) (get_or_from_slice_get xs i x x h)
 
 module _ {X Y : Type 0} (f : X → Option Y) where
-  -- the first that items give is what the first of them gives, if anything
+  -- the first event of items is that of the first item, if it has one
   pub first_found : {Z : Type 0} (v : Z → Y) (found : Option Z) (x : X) (xs : List X) → option_map v found ≡ f x → is_some found ≡ true
       → option_map v found ≡ slice_get (filter_map f (x ∷ xs)) 0
   first_found v (Some z) x xs e is = rw (sym e) refl
   first_found v None x xs e is = cc
 
-  -- else it is what the others give first
+  -- where the first item has no event, the first event is that of the others
   pub first_passed : {Z : Type 0} (v : Z → Y) (found : Option Z) (x : X) (xs : List X) → option_map v found ≡ f x → is_some found ≡ false
       → slice_get (filter_map f xs) 0 ≡ slice_get (filter_map f (x ∷ xs)) 0
   first_passed v None x xs e is = rw (sym e) refl
@@ -38,7 +38,7 @@ module _ {X Y : Type 0} (number : X → ℕ) (f : X → Option (ℕ × Y)) (own 
   past_all limit before (x ∷ xs) le h =
       rw (lt-ltb limit (number x) (omega arith)) (ap (λ l. x ∷ l) (past_all limit (before + 1) xs (omega arith) h.1))
 
-  -- none is past the last
+  -- no item is past the last
   pub past_none : (limit before : ℕ) (xs : List X) → before + length xs ≤ limit → Follow number before xs → past limit xs ≡ []
   unfolding Follow
   past_none limit before [] le h = refl
@@ -51,14 +51,14 @@ module _ {X Y : Type 0} (number : X → ℕ) (f : X → Option (ℕ × Y)) (own 
   past_no : (limit : ℕ) (x : X) (xs : List X) → number x ≤ limit → past limit (x ∷ xs) ≡ past limit xs
   past_no limit x xs le = rw (le-ltb limit (number x) le) refl
 
-  -- what stands behind the first that the items past a limit give
+  -- what is behind the first event of the items past a limit
   pub record Behind (limit before : ℕ) (xs : List X) (e : ℕ × Y) (es : List (ℕ × Y)) : Type 0 where
     pub over : before < e.0
     pub ahead : limit < e.0
     pub within : e.0 ≤ before + length xs
     pub rest : filter_map f (past e.0 xs) ≡ es
 
-  -- the same behind an item more that gives nothing
+  -- what is behind the first event stays behind an item more that has none
   behind_more : (limit before : ℕ) (x : X) (xs : List X) (e : ℕ × Y) (es : List (ℕ × Y)) → number x ≡ before + 1
       → Behind limit (before + 1) xs e es → Behind limit before (x ∷ xs) e es
   behind_more limit before x xs e es is b =
@@ -71,7 +71,7 @@ module _ {X Y : Type 0} (number : X → ℕ) (f : X → Option (ℕ × Y)) (own 
         rest = ap (filter_map f) (past_no e.0 x xs (omega arith)) ∙ b.rest;
       }
 
-  -- behind the first item, where that gives something
+  -- what is behind the first event is behind the first item, where that has one
   behind_here : (limit before : ℕ) (x : X) (xs : List X) (e : ℕ × Y) (es : List (ℕ × Y)) → limit < number x → Follow number before (x ∷ xs)
       → f x ≡ Some e → filter_map f (past limit xs) ≡ es → Behind limit before (x ∷ xs) e es
   unfolding Follow
@@ -95,7 +95,7 @@ module _ {X Y : Type 0} (number : X → ℕ) (f : X → Option (ℕ × Y)) (own 
       let rest : filter_map f (past limit xs) ≡ es = cc in
       behind_here limit before x xs e es lt h (is ∙ ap Some first) rest
 
-  -- the first that is given, and what is given past it
+  -- the first event, and the events past it
   pub behind_first : (limit before : ℕ) (xs : List X) (e : ℕ × Y) (es : List (ℕ × Y)) → Follow number before xs → filter_map f (past limit xs) ≡ e ∷ es
       → Behind limit before xs e es
   unfolding Follow

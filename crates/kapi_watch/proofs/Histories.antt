@@ -4,14 +4,14 @@ use Rattle.std.specs.List.{AllByRecursion, IsDistinct}
 use Rattle.std.specs.Map.{lookup, remove_entry}
 use Rattle.serde_json.specs.Data.{Data}
 use Rattle.kapi_text.specs.Gives.{◌>>=◌}
-use Rattle.kapi_object.specs.Given.{given_of}
-use Rattle.kapi_object.specs.declared.given.GivenText.{GivenText}
+use Rattle.kapi_tree.specs.Given.{given_of}
+use Rattle.kapi_tree.specs.declared.given.GivenText.{GivenText}
 use Rattle.kapi_store.proofs.Keys.{key_same, key_total}
 use Rattle.kapi_store.proofs.Windows.{Follow_append}
 use Rattle.kapi_store.specs.Changes.{placed, placed_all, Follow}
 use Rattle.kapi_store.specs.Faults.{StoreFault, Exists, NoNamespace, Conflict}
 use Rattle.kapi_store.specs.Keys.{is_key, key_cmp}
-use Rattle.kapi_store.specs.Plain.{Plain, PlainChange, StandsFor, trees_left_by, admitted, admits, creation_at, creation_in_place, free_place, has_namespace, has_object, removable, removals, replaced, replacement_at, revisions_left}
+use Rattle.kapi_store.specs.Plain.{Plain, PlainChange, RefinesPlain, trees_left_by, admitted, admits, creation_at, creation_in_place, free_place, has_namespace, has_object, removable, removals, replaced, replacement_at, revisions_left}
 use Rattle.kapi_store.specs.Same.{same_tree}
 use Rattle.kapi_store.specs.Stamps.{version_in, with_stamps_of}
 use Rattle.kapi_store.specs.State.{State}
@@ -43,7 +43,7 @@ next_one : (s : Plain) (c : PlainChange) → c.revision ≡ s.revision + 1 → c
 unfolding AreMadeOf Follow
 next_one s c is old new = record { made = (old, new, tt); next = (is, tt) }
 
--- they go on with the history that made the store's objects, and that its revision counts
+-- changes that come next go on with the history that made the store's objects, and that its revision counts
 pub counted_goes_on : (h cs : List PlainChange) (s : Plain) → s.objects ≡ placed_all (trees_left_by h) [] → s.revision ≡ s.first + length h → IsHistory s.first h → AreNext s cs
     → IsHistory s.first (h ++ cs)
 counted_goes_on h cs s made counted k n =
@@ -54,7 +54,7 @@ counted_goes_on h cs s made counted k n =
       numbered = Follow_append (λ c. c.revision) s.first h cs k.numbered (subst Q counted n.next);
     }
 
-next_goes_on : (store : State) (h cs : List PlainChange) (s : Plain) → StandsFor store h s → IsHistory s.first h → AreNext s cs → IsHistory s.first (h ++ cs)
+next_goes_on : (store : State) (h cs : List PlainChange) (s : Plain) → RefinesPlain store h s → IsHistory s.first h → AreNext s cs → IsHistory s.first (h ++ cs)
 next_goes_on store h cs s stands k n = counted_goes_on h cs s stands.made stands.counted k n
 
 -- ---- a creation
@@ -130,7 +130,7 @@ replaced_goes_on store h cs s stands k w = next_goes_on store h cs s stands k (r
 
 -- ---- a removal
 
--- each removal takes out what stood at its key before all of them, since the keys differ
+-- each removal takes out the object that its key had before all of them, since the keys differ
 removals_made : (os left : List (Key × Data)) (revision : ℕ) (ks : List Key) → IsDistinct is_key ks → AllByRecursion (λ k. lookup (is_key k) os ≡ lookup (is_key k) left) ks
     → AreMadeOf left (removals os revision ks)
 unfolding AreMadeOf placed removals IsDistinct

@@ -56,7 +56,7 @@ up_to_front number limit before (x ∷ xs) ys is h =
 
 -- ---- the objects that changes make
 
--- they are in the order of their keys, and each tells the namespace and the name of its own
+-- the objects are in the order of their keys, and each has the namespace and the name of its own
 pub record Keeps (os : List (Key × Data)) : Type 0 where
   pub sorted : IsStrictlySortedBy key_cmp (keys_of os)
   pub named : AllByRecursion (λ e. IsNamedBy e.0 e.1) os
@@ -86,11 +86,11 @@ unfolding AreMadeOf placed_all
 after_first [] ys os k m = record { keeps = k; made = m }
 after_first (c ∷ xs) ys os k m = after_first xs ys (placed c.key c.new os) (keeps_placed c.key c.new os m.1 k) m.2
 
--- so are those that a history made
+-- the objects that a history made are in order and named by their keys
 pub history_keeps : (first : ℕ) (h : List PlainChange) → IsHistory first h → Keeps (objects_after h)
 history_keeps first h k = let P : List PlainChange → Type 0 = AreMadeOf [] in (after_first h [] [] keeps_none (subst P (sym (append-nil h)) k.made)).keeps
 
--- what stands at a key tells that key's namespace and name, where all do
+-- the tree at a key has that key's namespace and name, where all do
 pub standing_is_named : (k : Key) (tree : Data) (os : List (Key × Data)) → AllByRecursion (λ e. IsNamedBy e.0 e.1) os → lookup (is_key k) os ≡ Some tree → IsNamedBy k tree
 standing_is_named k tree os named is = lookup_all key_cmp key_total key_same (λ e. IsNamedBy e.0 e.1) k tree os named is
 
@@ -121,7 +121,7 @@ module _ (scope : Scope) where
         | false ↦ λ is. filter_insert_other key_cmp key_total key_same takes k tree os s is
       ] refl
 
-  -- where nothing is selected of what stands at a key, nothing is taken out there
+  -- where the object of a key is not selected, nothing is taken out there
   selected_none : (k : Key) (tree : Data) → selected scope k (Some tree) ≡ None → takes (k, tree) ≡ false
   selected_none k tree none =
       elim (takes (k, tree)) as (λ b. (if b then Some tree else None) ≡ None → b ≡ false) [ true ↦ λ e. absurd (cc e) | false ↦ λ e. refl ] none
@@ -145,7 +145,7 @@ module _ (scope : Scope) where
         | false ↦ λ leaves_it. λ e. absurd (cc e)
       ] refl is
 
-  -- its place is its key, and it is so with another version
+  -- the place of a new tree is its key, also with another version
   place_new : (k : Key) (o : Option Data) (tree : Data) → IfSome o (IsNamedBy k) → selected scope k o ≡ Some tree → place_in scope tree ≡ k
   place_new k o tree named is =
       let c = chosen_is k o tree is in
@@ -198,7 +198,7 @@ module _ (scope : Scope) where
         | false ↦ λ is. places os h.1
       ] refl
 
-  -- its trees, added one after the other, are the list
+  -- the trees of a list, added one after the other, are the list
   added : (revision : ℕ) (es fs : List (Key × Data)) → IsStrictlySortedBy key_cmp (keys_of (es ++ fs)) → AllByRecursion (λ e. place_in scope e.1 ≡ e.0) fs
       → all_on_top scope es (events_in (first_due revision (trees_in fs))) ≡ es ++ fs
   unfolding placed
@@ -250,7 +250,7 @@ due_is_the_list first h scope revision k =
 
 -- ---- the lists are the store's
 
--- up to the revision that counts a part of a history, that is that part
+-- the changes up to the revision that counts a part of a history are that part
 up_to_counted : (h more : List PlainChange) (s : Plain) → s.revision ≡ s.first + length h → IsHistory s.first (h ++ more) → up_to s.revision (h ++ more) ≡ h
 up_to_counted h more s counted k = up_to_front (λ c. c.revision) s.revision s.first h more counted k.numbered
 
@@ -271,7 +271,7 @@ store_showed store h more s scope stands k =
 
 -- ---- a watch that shows what is listed first
 
--- it first makes the list at its start
+-- a watch that shows the objects first makes the list at its start
 first_made : (revision : ℕ) (scope : Scope) (os : List (Key × Data)) → Keeps os → all_on_top scope [] (events_in (first_due revision (trees_in (listed scope os)))) ≡ listed scope os
 first_made revision scope os k =
     added scope revision [] (listed scope os) (filter_sorted key_cmp key_total key_same (takes scope) os k.sorted) (places scope os k.named)

@@ -1,4 +1,4 @@
--- Maps in the order of their keys, and some of their entries: what a write makes of both.
+-- Maps in the order of their keys, and some of their entries, after a write.
 use Rattle.std.proofs.Common.{◌≡◌, Bool, true, false, cond, List, [], ◌∷◌, ◌++◌, None, Some, refl, sym, ap, ◌∙◌, subst}
 use Rattle.std.specs.Ordering.{match_ordering, is_eq, ordering_reverse}
 use Rattle.std.specs.declared.cmp.Ordering.{Ordering}
@@ -77,7 +77,7 @@ module _ {K X : Type 0} where
     found_later k e es is = rw is refl
 
   module _ (cmp : K → K → Ordering) (total : IsTotalOrder cmp) (same : (a b : K) → cmp a b ≡ Equal → a ≡ b) where
-    -- below the first key is below all; what is equal to the first is below the others
+    -- a key below the first key is below all; one equal to the first is below the others
     below_all : (k : K) (e : K × X) (es : List (K × X)) → IsStrictlySortedBy cmp (keys_of (e ∷ es)) → cmp k e.0 ≡ Less → AllByRecursion (λ y. cmp k y ≡ Less) (keys_of (e ∷ es))
     unfolding IsStrictlySortedBy
     below_all k e es s lt = (lt, above cmp total k e.0 (keys_of es) lt s.0)
@@ -112,7 +112,7 @@ module _ {K X : Type 0} where
           | false ↦ (remove_keys test (λ y. cmp e.0 y ≡ Less) es s.0, remove_sorted test es s.1)
         ]
 
-    -- what holds of each entry, over a write, and of what stands at a key
+    -- what holds of each entry, over a write, and of the value at a key
     pub insert_all : (P : K × X → Type 0) (k : K) (x : X) (es : List (K × X)) → P (k, x) → AllByRecursion P es → AllByRecursion P (insert_entry cmp es k x)
     insert_all P k x [] this h = (this, tt)
     insert_all P k x (e ∷ es) this h =
@@ -138,7 +138,7 @@ module _ {K X : Type 0} where
           | Greater ↦ λ is. λ there. lookup_all P k x es h.1 there
         ] refl at
 
-    -- to take out at one key leaves what stands at another
+    -- to take out at one key leaves the value at another
     pub lookup_other : (k l : K) (es : List (K × X)) → is_eq (cmp k l) ≡ false → lookup (is_at (cmp l)) (remove_entry (is_at (cmp k)) es) ≡ lookup (is_at (cmp l)) es
     lookup_other k l [] apart = refl
     lookup_other k l (e ∷ es) apart =
@@ -186,7 +186,7 @@ module _ {K X : Type 0} where
             | false ↦ sym (remove_absent (is_at (cmp k)) (filter p es) (none_below cmp k (filter p es) (filter_keys p (λ y. cmp k y ≡ Less) es (below_rest k e es s is))))
           ]
 
-      -- and where one that is not among them is
+      -- some entries, where an entry that is not among them is written
       pub filter_insert_other : (k : K) (x : X) (es : List (K × X)) → IsStrictlySortedBy cmp (keys_of es) → p (k, x) ≡ false
           → filter p (insert_entry cmp es k x) ≡ remove_entry (is_at (cmp k)) (filter p es)
       unfolding IsStrictlySortedBy
@@ -211,7 +211,7 @@ module _ {K X : Type 0} where
             | false ↦ rest
           ]
 
-      -- and where one is taken away
+      -- some entries, where one is taken away
       pub filter_remove : (k : K) (es : List (K × X)) → IsStrictlySortedBy cmp (keys_of es) → filter p (remove_entry (is_at (cmp k)) es) ≡ remove_entry (is_at (cmp k)) (filter p es)
       unfolding IsStrictlySortedBy
       filter_remove k [] s = refl
@@ -229,7 +229,7 @@ module _ {K X : Type 0} where
             | false ↦ rest
           ]
 
-      -- where what stands at a key is not among them, none of them stands there
+      -- where the entry of a key is not among some entries, none of them has the key
       pub filter_absent : (k : K) (es : List (K × X)) → IsStrictlySortedBy cmp (keys_of es) → ((x : X) → lookup (is_at (cmp k)) es ≡ Some x → p (k, x) ≡ false) → lookup (is_at (cmp k)) (filter p es) ≡ None
       unfolding IsStrictlySortedBy
       filter_absent k [] s h = refl

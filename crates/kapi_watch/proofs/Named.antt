@@ -1,4 +1,4 @@
--- The namespace and the name that a tree tells, when other texts of its metadata are written.
+-- The namespace and the name of a tree, when other texts of its metadata are written.
 use Rattle.std.proofs.Common.{◌≡◌, ◌&&◌, ℕ, true, false, List, [], Option, None, Some, option_map, codes, decimal, if◌then◌else◌, bytes_eq, refl, sym, ap, ◌∙◌}
 use Rattle.std.specs.Option.{option_and_then, unwrap_or}
 use Rattle.std.specs.Ordering.{nat_cmp, match_ordering}
@@ -10,10 +10,10 @@ use Rattle.std.proofs.lemmas.Slice.Eq.{bytes_eq-Decides}
 use Rattle.serde_json.proofs.Views.{get_member-put}
 use Rattle.serde_json.specs.Data.{Data, string, object, put, Members, no_members, member}
 use Rattle.serde_json.specs.Find.{as_str, get, get_member}
-use Rattle.kapi_names.specs.Selector.{matches}
-use Rattle.kapi_object.proofs.Puts.{put_other}
-use Rattle.kapi_object.specs.Object.{stamped_tree}
-use Rattle.kapi_object.specs.Tree.{in_metadata, members_or_none, metadata_of, with_text}
+use Rattle.kapi_model.specs.Selector.{matches}
+use Rattle.kapi_tree.proofs.Puts.{put_other}
+use Rattle.kapi_tree.specs.Object.{stamped_tree}
+use Rattle.kapi_tree.specs.Tree.{in_metadata, members_or_none, metadata_of, with_text}
 use Rattle.kapi_store.specs.Listing.{is_asked, is_listed, is_within}
 use Rattle.kapi_store.specs.Stamps.{created_tree, metadata_text, replaced_tree, uid_in, uid_of, version_in, with_stamps_of}
 use Rattle.kapi_store.specs.declared.key.Key.{Key}
@@ -43,7 +43,7 @@ text_stamped : (q uid version : List ℕ) (d : Data) → bytes_eq q (codes "reso
 text_stamped q uid version d apart apart_too =
     ap (λ o. unwrap_or (option_and_then as_str o) []) (in_text q (codes "resourceVersion") version (with_text (codes "uid") uid d) apart ∙ in_text q (codes "uid") uid d apart_too)
 
--- stamps change neither
+-- stamps change neither the namespace nor the name
 pub named_stamped : (k : Key) (uid version : List ℕ) (d : Data) → IsNamedBy k d → IsNamedBy k (stamped_tree uid version d)
 named_stamped k uid version d h = (text_stamped (codes "namespace") uid version d refl refl ∙ h.0, text_stamped (codes "name") uid version d refl refl ∙ h.1)
 
@@ -96,7 +96,7 @@ text_at_version q revision tree apart =
       | Some d ↦ ap (λ o. unwrap_or (option_and_then as_str o) []) (get_changed_there (codes "resourceVersion") (λ d. string (decimal revision)) q d apart)
     ]
 
--- another version changes neither
+-- another version changes neither the namespace nor the name
 pub named_at_version : (k : Key) (revision : ℕ) (tree : Data) → IsNamedBy k tree → IsNamedBy k (at_version revision tree)
 named_at_version k revision tree h = (text_at_version (codes "namespace") revision tree refl ∙ h.0, text_at_version (codes "name") revision tree refl ∙ h.1)
 

@@ -23,7 +23,7 @@ due_more h cs w =
     ap (λ l. map (λ tree. (w.start, Added tree)) w.first ++ l) (shown_more w w.start h cs)
     ∙ sym (append_assoc (map (λ tree. (w.start, Added tree)) w.first) (shown_all w.scope (later w.start h)) (shown_all w.scope (later w.start cs)))
 
--- a write leaves what a running watch stands for
+-- after a write a running watch still refines the model's
 pub stays : StaysOverWrites
 stays r h s w cs next k =
     let known : w.start ≤ s.revision = k.known in
@@ -67,7 +67,7 @@ due_stays (Made cs ∷ ts) h w n e is =
     due_stays ts (h ++ cs) w n e (ap (λ l. slice_get l n) (due_more h cs w) ∙ slice_more (due h w) (shown_all w.scope (later w.start cs)) n e is)
 due_stays (Pump ∷ ts) h w n e is = due_stays ts h w n e is
 
--- a pump that shows what comes next, and what is shown after it
+-- a pump that shows the next event, and what is shown after it
 pump_then : (h g : List PlainChange) (s : Plain) (w : PlainWatch) (rest : List Shown) (o : Option (ℕ × Shown)) (left : List Shown)
     → ((e : ℕ × Shown) → o ≡ Some e → slice_get (due g w) w.shown ≡ Some e)
     → still_due g (moved s w o) ≡ rest ++ left → still_due g w ≡ cons_option (option_map (λ e. e.1) o) rest ++ left

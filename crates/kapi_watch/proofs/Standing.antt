@@ -1,11 +1,11 @@
--- What a running watch stands for, from one pump to the next.
+-- The model that a running watch refines, from one pump to the next.
 use Rattle.std.proofs.Common.{◌≡◌, ℕ, zero, suc, ◌+◌, ◌≤◌, ◌<◌, Bool, true, false, List, [], ◌∷◌, ◌++◌, Option, None, Some, Result, Ok, Err, option_map, if◌then◌else◌, nat_lt, map, length, drop, slice_get, refl, sym, ap, ◌∙◌, subst, arith}
 use Rattle.std.proofs.Math.Dec.{eqb-suc-zero}
 use Rattle.std.proofs.lemmas.Bool.{lt-ltb, le-ltb, ltb-false}
 use Rattle.std.proofs.lemmas.List.{length-map}
 use Rattle.std.proofs.lemmas.Option.{slice_get_within, slice_get-map}
-use Rattle.kapi_object.specs.declared.object.Object.{Object}
-use Rattle.kapi_object.specs.Object.{tree_of}
+use Rattle.kapi_tree.specs.declared.object.Object.{Object}
+use Rattle.kapi_tree.specs.Object.{tree_of}
 use Rattle.kapi_store.specs.declared.key.Key.{Key}
 use Rattle.kapi_store.specs.Changes.{Follow}
 use Rattle.kapi_store.specs.Plain.{Plain, PlainChange, changes_after, trees}
@@ -13,8 +13,8 @@ use Rattle.kapi_watch.specs.declared.scope.Scope.{Scope}
 use Rattle.kapi_watch.specs.declared.watch.Watch.{Watch}
 use Rattle.kapi_watch.specs.Shown.{Shown, Added, shown_of, shown_by, selected}
 use Rattle.kapi_watch.specs.Watches.{PlainWatch, TooLarge, TooOld, WatchFault, is_gone, startable, shown_all, later, due, is_expired, pumped, moved, after_pump}
-use Rattle.kapi_watch.specs.Looked.{first_in, position_after, shown_in}
-use Rattle.kapi_watch.specs.Running.{IsFresh, StandsForWatch, watch_data}
+use Rattle.kapi_watch.specs.Private.Looked.{first_in, position_after, shown_in}
+use Rattle.kapi_watch.specs.Running.{IsFresh, RefinesWatch, watch_data}
 use Rattle.kapi_watch.proofs.Due.{drop_front, Behind, behind_first, past_none}
 
 module _ {X : Type 0} where
@@ -55,7 +55,7 @@ pub shown_own : (scope : Scope) (c : PlainChange) (e : ℕ × Shown) → shown_o
 unfolding shown_of
 shown_own scope c e is = own_pair c.revision (shown_by c.revision (selected scope c.key c.old) (selected scope c.key c.new)) e is
 
-module _ (r : Watch) (h : List PlainChange) (s : Plain) (w : PlainWatch) (k : StandsForWatch r h s w) where
+module _ (r : Watch) (h : List PlainChange) (s : Plain) (w : PlainWatch) (k : RefinesWatch r h s w) where
   as_many : length w.first ≡ length r.first
   as_many = ap length k.first ∙ length-map r.first tree_of
 
@@ -82,7 +82,7 @@ module _ (r : Watch) (h : List PlainChange) (s : Plain) (w : PlainWatch) (k : St
   first_pumped o at = rw (first_lasts (slice_get_within r.first r.told o at), first_at o at) refl
 
   first_moved : (o : Object) → slice_get r.first r.told ≡ Some o
-      → StandsForWatch (record r { told = r.told + 1 }) h s (record w { shown = w.shown + 1; position = w.start })
+      → RefinesWatch (record r { told = r.told + 1 }) h s (record w { shown = w.shown + 1; position = w.start })
   unfolding due
   first_moved o at =
       let lt : r.told < length r.first = slice_get_within r.first r.told o at in
@@ -105,13 +105,13 @@ module _ (r : Watch) (h : List PlainChange) (s : Plain) (w : PlainWatch) (k : St
         runs = k.runs;
       }
 
-  first_after : (o : Object) → slice_get r.first r.told ≡ Some o → StandsForWatch (record r { told = r.told + 1 }) h s (after_pump h s w)
+  first_after : (o : Object) → slice_get r.first r.told ≡ Some o → RefinesWatch (record r { told = r.told + 1 }) h s (after_pump h s w)
   first_after o at = rw (first_lasts (slice_get_within r.first r.told o at), first_at o at) (first_moved o at)
 
-  pub first_after_one : r.told < length r.first → StandsForWatch (record r { told = r.told + 1 }) h s (after_pump h s w)
+  pub first_after_one : r.told < length r.first → RefinesWatch (record r { told = r.told + 1 }) h s (after_pump h s w)
   first_after_one lt = let there = slice_some r.first r.told lt in first_after there.0 there.1
 
-  -- when they have been shown
+  -- the next event of a watch that has shown all first objects
   module _ (over : length r.first ≤ r.told) where
     rest_gone : is_expired s w ≡ is_gone s w.position
     unfolding is_expired
@@ -126,7 +126,7 @@ module _ (r : Watch) (h : List PlainChange) (s : Plain) (w : PlainWatch) (k : St
     rest_at = slice_zero (due h w) w.shown ∙ ap (λ l. slice_get l 0) rest_left
 
     rest_moved : (p n : ℕ) → drop n (due h w) ≡ shown_all w.scope (later p h) → n ≤ length (due h w) → w.shown ≤ n → p ≤ s.revision
-        → StandsForWatch (record r { position = p }) h s (record w { shown = n; position = p })
+        → RefinesWatch (record r { position = p }) h s (record w { shown = n; position = p })
     unfolding due
     rest_moved p n is within more le =
         let len : length w.first ≡ length r.first = as_many in
@@ -158,7 +158,7 @@ module _ (r : Watch) (h : List PlainChange) (s : Plain) (w : PlainWatch) (k : St
 
     module _ (numbered : Follow (λ c. c.revision) s.first h) (counted : s.revision ≡ s.first + length h) where
       by_found : (o : Option (ℕ × Shown)) → slice_get (shown_all w.scope (later w.position h)) 0 ≡ o
-          → StandsForWatch (record r { position = position_after s w.position (Ok o) }) h s (moved s w o)
+          → RefinesWatch (record r { position = position_after s w.position (Ok o) }) h s (moved s w o)
       by_found None is =
           let none : later s.revision h ≡ [] = past_none (λ c. c.revision) (shown_of w.scope) (shown_own w.scope) s.revision s.first h (omega arith) numbered in
           let left : shown_all w.scope (later w.position h) ≡ [] = slice_none (shown_all w.scope (later w.position h)) is in
@@ -172,19 +172,19 @@ module _ (r : Watch) (h : List PlainChange) (s : Plain) (w : PlainWatch) (k : St
           rest_moved e.0 (w.shown + 1) (drop_next (due h w) (drop 1 all) w.shown e (rest_left ∙ front) ∙ sym b.rest) (omega arith) (omega arith) (omega arith)
 
       by_gone_after : (b : Bool) → is_gone s w.position ≡ b
-          → StandsForWatch (record r { position = position_after s w.position (first_in w.scope (changes_after h s w.position)) }) h s (after_pump h s w)
+          → RefinesWatch (record r { position = position_after s w.position (first_in w.scope (changes_after h s w.position)) }) h s (after_pump h s w)
       unfolding changes_after
       by_gone_after true e = rw (rest_gone, e) (rest_moved w.position w.shown rest_left k.within (omega arith) k.stood)
       by_gone_after false e = rw (rest_gone, e, rest_at) (by_found (slice_get (shown_all w.scope (later w.position h)) 0) refl)
 
-      pub rest_after : StandsForWatch (record r { position = position_after s r.position (first_in r.scope (changes_after h s r.position)) }) h s (after_pump h s w)
+      pub rest_after : RefinesWatch (record r { position = position_after s r.position (first_in r.scope (changes_after h s r.position)) }) h s (after_pump h s w)
       rest_after =
-          let P : ℕ → Type 0 = λ p. StandsForWatch (record r { position = p }) h s (after_pump h s w) in
+          let P : ℕ → Type 0 = λ p. RefinesWatch (record r { position = p }) h s (after_pump h s w) in
           subst P (ap (λ p. position_after s p (first_in w.scope (changes_after h s w.position))) k.position ∙ ap (position_after s r.position) same_place)
           (by_gone_after (is_gone s w.position) refl)
 
 -- a watch that was just started
-pub starts : (r : Watch) (h : List PlainChange) (s : Plain) → IsFresh s r → StandsForWatch r h s (watch_data r)
+pub starts : (r : Watch) (h : List PlainChange) (s : Plain) → IsFresh s r → RefinesWatch r h s (watch_data r)
 unfolding due
 starts r h s (none, reached, runs) =
     let len : length (map tree_of r.first) ≡ length r.first = length-map r.first tree_of in

@@ -5,17 +5,17 @@ use Rattle.std.specs.Map.{lookup}
 use Rattle.serde_json.specs.Data.{Data}
 use Rattle.kapi_store.specs.Changes.{placed, Follow}
 use Rattle.kapi_store.specs.Keys.{is_key}
-use Rattle.kapi_store.specs.Plain.{Plain, PlainChange, StandsFor, creation, replacement, removal}
+use Rattle.kapi_store.specs.Plain.{Plain, PlainChange, RefinesPlain, creation, replacement, removal}
 use Rattle.kapi_store.specs.Stamps.{metadata_text}
 use Rattle.kapi_store.specs.State.{State}
 use Rattle.kapi_store.specs.declared.key.Key.{Key}
 
--- a tree tells the namespace and the name of the key
+-- a tree has the namespace and the name of the key in its metadata
 abbrev pub IsNamedBy : Key → Data → Type 0
 IsNamedBy k tree = (metadata_text (codes "namespace") tree ≡ k.namespace) × (metadata_text (codes "name") tree ≡ k.name)
 
--- changes that were made of these objects, one after the other: each tells what stood at its key before it, and a tree
--- that it leaves there tells that key's namespace and name
+-- changes that were made of these objects, one after the other: each has the old object of its key, and a tree
+-- that it leaves at the key has the key's namespace and name
 unfoldable pub AreMadeOf : List (Key × Data) → List PlainChange → Type 0
 AreMadeOf os [] = Unit {0}
 AreMadeOf os (c ∷ cs) = (c.old ≡ lookup (is_key c.key) os) × IfSome c.new (IsNamedBy c.key) × AreMadeOf (placed c.key c.new os) cs
@@ -25,19 +25,19 @@ pub record IsHistory (first : ℕ) (history : List PlainChange) : Type 0 where
   pub made : AreMadeOf [] history
   pub numbered : Follow (λ c. c.revision) first history
 
--- where no change was made, that is the history
+-- no change at all is a history
 abbrev pub NoChangeIsAHistory : Type 0
 NoChangeIsAHistory = (first : ℕ) → IsHistory first []
 
 -- changes that a store writes go on with its history
 abbrev pub GoesOn : (Plain → List PlainChange → Type 0) → Type 0
-GoesOn IsWritten = (store : State) (h cs : List PlainChange) (s : Plain) → StandsFor store h s → IsHistory s.first h → IsWritten s cs → IsHistory s.first (h ++ cs)
+GoesOn IsWritten = (store : State) (h cs : List PlainChange) (s : Plain) → RefinesPlain store h s → IsHistory s.first h → IsWritten s cs → IsHistory s.first (h ++ cs)
 
--- the changes of a creation of a tree that tells the namespace and the name of its key
+-- the changes of a creation of a tree that has the namespace and the name of its key
 abbrev pub IsCreation : Plain → List PlainChange → Type 0
 IsCreation s cs = (k : Key) × (tree : Data) × IsNamedBy k tree × (creation s k tree ≡ Ok cs)
 
--- the changes of a replacement by such a tree
+-- the changes of a replacement by a tree that has the namespace and the name of its key
 abbrev pub IsReplacement : Plain → List PlainChange → Type 0
 IsReplacement s cs = (k : Key) × (tree : Data) × IsNamedBy k tree × (replacement s k tree ≡ Ok cs)
 

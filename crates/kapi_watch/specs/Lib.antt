@@ -1,6 +1,6 @@
 pub mod Shown
 pub mod Watches
-pub mod Looked
+pub mod Private
 pub mod Running
 pub mod Text
 pub mod Runs

@@ -1,10 +1,10 @@
--- What the events of a watch make of a list, beside the list that stands in the store.
+-- What the events of a watch make of a list, beside the list of the store.
 use Rattle.std.specs.Prelude.{◌≡◌, ℕ, nat_le, List, [], ◌++◌, None, Some, codes, fold}
 use Rattle.std.specs.List.{filter}
 use Rattle.serde_json.specs.Data.{Data}
 use Rattle.kapi_store.specs.Changes.{placed, placed_all}
 use Rattle.kapi_store.specs.Listing.{listed_trees}
-use Rattle.kapi_store.specs.Plain.{Plain, PlainChange, StandsFor, plain_of, trees_left_by}
+use Rattle.kapi_store.specs.Plain.{Plain, PlainChange, RefinesPlain, plain_of, trees_left_by}
 use Rattle.kapi_store.specs.Stamps.{metadata_text}
 use Rattle.kapi_store.specs.State.{State}
 use Rattle.kapi_store.specs.declared.key.Key.{Key}
@@ -14,7 +14,7 @@ use Rattle.kapi_watch.specs.Shown.{Shown, Added, Modified, Deleted, Expired, Ref
 use Rattle.kapi_watch.specs.Watches.{started_at, started_now}
 use Rattle.kapi_watch.specs.Runs.{Step, HoldsOn, history_after, watch_after, shown_over, still_due}
 
--- the objects that stand after some changes
+-- the objects after some changes
 abbrev pub objects_after : List PlainChange → List (Key × Data)
 objects_after history = placed_all (trees_left_by history) []
 
@@ -34,7 +34,7 @@ list_at scope revision history = listed scope (objects_after (up_to revision his
 abbrev pub list_now : Scope → List PlainChange → List (Key × Data)
 list_now scope history = listed scope (objects_after history)
 
--- the place of a tree in a list of the scope's resource: by the namespace and the name that it tells
+-- the place of a tree in a list of the scope's resource: by the namespace and the name in its metadata
 abbrev pub place_in : Scope → Data → Key
 place_in scope tree = record {
   group = scope.row.group;
@@ -43,7 +43,7 @@ place_in scope tree = record {
   name = metadata_text (codes "name") tree;
 }
 
--- an event on top of a list: an object that was added or modified stands at its place, one that was deleted is taken away
+-- an event on top of a list: an added or modified object is put at its place, a deleted one is taken away
 abbrev pub on_top : Scope → List (Key × Data) → Shown → List (Key × Data)
 on_top scope list (Added tree) = placed (place_in scope tree) (Some tree) list
 on_top scope list (Modified tree) = placed (place_in scope tree) (Some tree) list
@@ -63,27 +63,28 @@ DueIsTheList = (first : ℕ) (h : List PlainChange) (scope : Scope) (revision : 
 -- what is due to a watch that was started on a store and shows first what was listed then is the list now, on top of
 -- nothing and whatever was changed since
 abbrev pub FirstIsTheList : Type 0
-FirstIsTheList = (store : State) (h more : List PlainChange) (s : Plain) (scope : Scope) → StandsFor store h s → IsHistory s.first (h ++ more)
+FirstIsTheList = (store : State) (h more : List PlainChange) (s : Plain) (scope : Scope) → RefinesPlain store h s → IsHistory s.first (h ++ more)
     → all_on_top scope [] (still_due (h ++ more) (started_now s scope)) ≡ list_now scope (h ++ more)
 
--- where nothing is due any more to a watch from a revision on, what it has shown while the window holds is the list now on
--- top of the list at that revision
+-- where nothing is due any more to a watch from a revision on, what it has shown while the window holds is the list now
+-- on top of the list at that revision
 abbrev pub ShownIsTheList : Type 0
 ShownIsTheList = (first : ℕ) (ts : List Step) (h : List PlainChange) (s : Plain) (scope : Scope) (revision : ℕ) → IsHistory first (history_after ts h)
     → HoldsOn ts h s (started_at scope revision) → still_due (history_after ts h) (watch_after ts h s (started_at scope revision)) ≡ []
     → all_on_top scope (list_at scope revision (history_after ts h)) (shown_over ts h s (started_at scope revision)) ≡ list_now scope (history_after ts h)
 
--- and the same of a watch that shows what is listed first
+-- where nothing is due any more to a watch that shows first what is listed, what it has shown while the window holds is
+-- the list now on top of nothing
 abbrev pub FirstShownIsTheList : Type 0
-FirstShownIsTheList = (store : State) (ts : List Step) (h : List PlainChange) (s : Plain) (scope : Scope) → StandsFor store h s → IsHistory s.first (history_after ts h)
+FirstShownIsTheList = (store : State) (ts : List Step) (h : List PlainChange) (s : Plain) (scope : Scope) → RefinesPlain store h s → IsHistory s.first (history_after ts h)
     → HoldsOn ts h s (started_now s scope) → still_due (history_after ts h) (watch_after ts h s (started_now s scope)) ≡ []
     → all_on_top scope [] (shown_over ts h s (started_now s scope)) ≡ list_now scope (history_after ts h)
 
--- the list now is the one that a store shows which stands for the history
+-- the list now is the list of a store that refines the history
 abbrev pub StoreShowsTheList : Type 0
-StoreShowsTheList = (store : State) (h : List PlainChange) (s : Plain) (scope : Scope) → StandsFor store h s → list_now scope h ≡ listed scope (plain_of store).objects
+StoreShowsTheList = (store : State) (h : List PlainChange) (s : Plain) (scope : Scope) → RefinesPlain store h s → list_now scope h ≡ listed scope (plain_of store).objects
 
--- the list at a revision is the one that the store showed when it stood at that, whatever was changed since
+-- the list at a revision is the one that the store showed when that was the current one, whatever was changed since
 abbrev pub StoreShowedTheList : Type 0
-StoreShowedTheList = (store : State) (h more : List PlainChange) (s : Plain) (scope : Scope) → StandsFor store h s → IsHistory s.first (h ++ more)
+StoreShowedTheList = (store : State) (h more : List PlainChange) (s : Plain) (scope : Scope) → RefinesPlain store h s → IsHistory s.first (h ++ more)
     → list_at scope store.revision (h ++ more) ≡ listed scope (plain_of store).objects

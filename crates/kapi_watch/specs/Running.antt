@@ -1,15 +1,15 @@
--- When a running watch stands for one that is data.
+-- When a running watch refines the model's.
 use Rattle.std.specs.Prelude.{◌≡◌, ◌≤◌, ◌<◌, false, List, ◌++◌, map, length, drop}
-use Rattle.kapi_object.specs.Object.{tree_of}
+use Rattle.kapi_tree.specs.Object.{tree_of}
 use Rattle.kapi_store.specs.Plain.{Plain, PlainChange}
 use Rattle.kapi_watch.specs.declared.watch.Place.{Place}
 use Rattle.kapi_watch.specs.declared.watch.Watch.{Watch}
 use Rattle.kapi_watch.specs.Shown.{Added}
 use Rattle.kapi_watch.specs.Watches.{PlainWatch, shown_all, later, due}
 
--- a running watch, which has shown so many of the objects that are shown first and was not stopped, stands for one that is data: what
--- is due to that one and was not shown is the rest of those objects, and what the changes after the position show
-pub record StandsForWatch (r : Watch) (history : List PlainChange) (s : Plain) (w : PlainWatch) : Type 0 where
+-- a running watch, which has shown so many of the first objects and was not stopped, refines the model's watch: what is
+-- due to the model's and was not shown is the rest of those objects, and what the changes after the position show
+pub record RefinesWatch (r : Watch) (history : List PlainChange) (s : Plain) (w : PlainWatch) : Type 0 where
   pub scope : w.scope ≡ r.scope
   pub position : w.position ≡ r.position
   pub first : w.first ≡ map tree_of r.first
@@ -25,14 +25,14 @@ pub record StandsForWatch (r : Watch) (history : List PlainChange) (s : Plain) (
 abbrev pub at_place : Watch → Place → Watch
 at_place r place = record r { told = place.told; position = place.position }
 
--- a running watch that has shown nothing yet, as data
+-- a running watch that has shown nothing yet, as the model's
 abbrev pub watch_data : Watch → PlainWatch
 watch_data r = record { scope = r.scope; first = map tree_of r.first; start = r.position; shown = r.told; position = r.position }
 
--- a running watch has shown nothing, stands at a revision that was reached, and was not stopped
+-- a running watch has shown nothing, is at a revision that was reached, and was not stopped
 abbrev pub IsFresh : Plain → Watch → Type 0
 IsFresh s r = (r.told ≡ 0) × (r.position ≤ s.revision) × (r.stopped ≡ false)
 
--- such a one stands for what it is as data
+-- a fresh running watch refines its own data
 abbrev pub StandsAtFirst : Type 0
-StandsAtFirst = (r : Watch) (history : List PlainChange) (s : Plain) → IsFresh s r → StandsForWatch r history s (watch_data r)
+StandsAtFirst = (r : Watch) (history : List PlainChange) (s : Plain) → IsFresh s r → RefinesWatch r history s (watch_data r)

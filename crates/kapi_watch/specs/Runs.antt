@@ -4,7 +4,7 @@ use Rattle.std.specs.List.{cons_option}
 use Rattle.kapi_store.specs.Changes.{Follow}
 use Rattle.kapi_store.specs.Plain.{Plain, PlainChange, written}
 use Rattle.kapi_watch.specs.declared.watch.Watch.{Watch}
-use Rattle.kapi_watch.specs.Running.{StandsForWatch}
+use Rattle.kapi_watch.specs.Running.{RefinesWatch}
 use Rattle.kapi_watch.specs.Shown.{Shown}
 use Rattle.kapi_watch.specs.Watches.{PlainWatch, due, is_expired, pumped, after_pump}
 
@@ -25,7 +25,7 @@ watch_after [] h s w = w
 watch_after (Made cs ∷ ts) h s w = watch_after ts (h ++ cs) (written cs s) w
 watch_after (Pump ∷ ts) h s w = watch_after ts h s (after_pump h s w)
 
--- what it shows, one after the other
+-- what a watch shows over some steps, one event after the other
 unfoldable pub shown_over : List Step → List PlainChange → Plain → PlainWatch → List Shown
 shown_over [] h s w = []
 shown_over (Made cs ∷ ts) h s w = shown_over ts (h ++ cs) (written cs s) w
@@ -37,7 +37,7 @@ HoldsOn [] h s w = Unit {0}
 HoldsOn (Made cs ∷ ts) h s w = HoldsOn ts (h ++ cs) (written cs s) w
 HoldsOn (Pump ∷ ts) h s w = (is_expired s w ≡ false) × HoldsOn ts h s (after_pump h s w)
 
--- what of all that is due a watch has not shown yet
+-- the events that are due to a watch and were not shown yet
 abbrev pub still_due : List PlainChange → PlainWatch → List Shown
 still_due h w = map (λ e. e.1) (drop w.shown (due h w))
 
@@ -46,11 +46,11 @@ abbrev pub ShowsWhatIsDue : Type 0
 ShowsWhatIsDue = (ts : List Step) (h : List PlainChange) (s : Plain) (w : PlainWatch) → HoldsOn ts h s w
     → still_due (history_after ts h) w ≡ shown_over ts h s w ++ still_due (history_after ts h) (watch_after ts h s w)
 
--- a write leaves what a running watch stands for
+-- after a write a running watch still refines the model's
 abbrev pub StaysOverWrites : Type 0
 StaysOverWrites = (r : Watch) (h : List PlainChange) (s : Plain) (w : PlainWatch) (cs : List PlainChange) → Follow (λ c. c.revision) s.revision cs
-    → StandsForWatch r h s w → StandsForWatch r (h ++ cs) (written cs s) w
+    → RefinesWatch r h s w → RefinesWatch r (h ++ cs) (written cs s) w
 
--- a watch that shows nothing has shown all that is due, and stands at the current revision
+-- a watch that shows nothing has shown all that is due, and is at the current revision
 abbrev pub EndsAtTheCurrent : Type 0
 EndsAtTheCurrent = (h : List PlainChange) (s : Plain) (w : PlainWatch) → pumped h s w ≡ None → (still_due h w ≡ []) × ((after_pump h s w).position ≡ s.revision)

@@ -1,8 +1,8 @@
--- What one change shows to who watches some of the objects (Kubernetes, 'Efficient detection of changes').
+-- What one change shows to a watch of some objects (Kubernetes, 'Efficient detection of changes').
 use Rattle.std.specs.Prelude.{ℕ, List, Option, None, Some, codes, decimal, if◌then◌else◌, option_map}
 use Rattle.std.specs.Str.{bytes_eq}
 use Rattle.serde_json.specs.Data.{Data, string, object, Members, no_members, member}
-use Rattle.kapi_object.specs.Object.{tree_of}
+use Rattle.kapi_tree.specs.Object.{tree_of}
 use Rattle.kapi_store.specs.declared.key.Key.{Key}
 use Rattle.kapi_store.specs.Listing.{is_listed}
 use Rattle.kapi_store.specs.Plain.{PlainChange}
@@ -11,8 +11,8 @@ use Rattle.kapi_watch.specs.declared.event.Event.TheVariants as event
 use Rattle.kapi_watch.specs.declared.scope.Found.{Found}
 use Rattle.kapi_watch.specs.declared.scope.Scope.{Scope}
 
--- what a watch shows: an object as it was created, or came to be selected; as it was changed; as it last stood; or that
--- the watch is at its end, since changes that it did not show may be kept no longer, or since whoever watches may not any more
+-- what a watch shows: an object as it was created, or came to be selected; as it was changed; as it last was; or its
+-- end, since changes that it did not show may be kept no longer, or since its identity may not watch any more
 pub data Shown : Type 0 where
   Added : Data → Shown
   Modified : Data → Shown
@@ -25,7 +25,7 @@ abbrev pub changed_at : List ℕ → (Data → Data) → Members → Members
 changed_at key change no_members = no_members
 changed_at key change (member k d ms) = member k (if bytes_eq k key then change d else d) (changed_at key change ms)
 
--- an object's value at this key is another; of anything else nothing is
+-- an object with its value at this key changed; anything else is unchanged
 abbrev pub with_changed : List ℕ → (Data → Data) → Data → Data
 with_changed key change (object ms) = object (changed_at key change ms)
 with_changed key change d = d
@@ -40,7 +40,8 @@ abbrev pub selected : Scope → Key → Option Data → Option Data
 selected s k None = None
 selected s k (Some tree) = if is_listed s.row s.namespace s.selector s.name k tree then Some tree else None
 
--- what is shown of a change at a revision, by the object that was selected before it and the one that is selected after it
+-- what is shown of a change at a revision, by the object that was selected before it and the one that is selected after
+-- it
 abbrev pub shown_by : ℕ → Option Data → Option Data → Option Shown
 shown_by revision None None = None
 shown_by revision None (Some new) = Some (Added new)
@@ -59,6 +60,6 @@ event_of (event.Deleted o revision) = Deleted (at_version revision (tree_of o.no
 event_of event.Expired = Expired
 event_of event.Refused = Refused
 
--- the same with its revision
+-- an event with its revision, as data
 abbrev pub found_of : Found → ℕ × Shown
 found_of f = (f.revision, event_of f.event)

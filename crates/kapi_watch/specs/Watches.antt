@@ -11,7 +11,7 @@ use Rattle.kapi_watch.specs.declared.scope.Scope.{Scope}
 use Rattle.kapi_watch.specs.Shown.{Shown, Added, Expired, shown_of}
 
 -- a watch: what it selects, the objects that are shown first, the revision at which it started, how many events it has
--- shown, and the revision at which it stands
+-- shown, and the revision that it has reached
 pub record PlainWatch : Type 0 where
   pub scope : Scope
   pub first : List Data
@@ -24,7 +24,7 @@ pub data WatchFault : Type 0 where
   TooOld : WatchFault
   TooLarge : WatchFault
 
--- the fault that an error tells
+-- the fault that an error reports
 abbrev pub fault_of : WatchError → Option WatchFault
 fault_of error.TooOld = Some TooOld
 fault_of error.TooLarge = Some TooLarge
@@ -56,7 +56,7 @@ startable s revision =
     if is_gone s revision then Err TooOld else
     Ok tt
 
--- a watch from such a revision on
+-- a watch from a revision on; 0 asks for what is listed now
 unfoldable pub watch_from : Plain → Scope → ℕ → PlainWatch
 watch_from s scope revision = if revision == 0 then started_now s scope else started_at scope revision
 
@@ -87,7 +87,7 @@ is_expired s w = not (nat_lt w.shown (length w.first)) && is_gone s w.position
 abbrev pub pumped : List PlainChange → Plain → PlainWatch → Option Shown
 pumped history s w = if is_expired s w then Some Expired else option_map (λ e. e.1) (slice_get (due history w) w.shown)
 
--- the watch that has shown one event more and stands at its revision; that has nothing to show stands at the current one
+-- the watch that has shown one event more, at its revision; with nothing to show, it has reached the current one
 abbrev pub moved : Plain → PlainWatch → Option (ℕ × Shown) → PlainWatch
 moved s w None = record w { position = s.revision }
 moved s w (Some e) = record w { shown = w.shown + 1; position = e.0 }

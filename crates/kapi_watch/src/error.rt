@@ -10,7 +10,7 @@ pub enum WatchError {
     /// The revision is above the current one.
     #[error("the revision is above the current one")]
     TooLarge,
-    /// A growth was refused.
+    /// An allocation fails.
     #[error("out of memory")]
     Memory,
 }

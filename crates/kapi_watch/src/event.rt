@@ -1,4 +1,4 @@
-use kapi_object::Object;
+use kapi_tree::Object;
 
 /// What a watch shows (Kubernetes, 'Efficient detection of changes').
 #[derive(Clone, Copy, Debug)]
@@ -7,10 +7,10 @@ pub enum Event<'a> {
     Added(&'a Object),
     /// The object was changed, and was and is selected.
     Modified(&'a Object),
-    /// The object, as it last stood, was removed, or is no longer selected; with the revision of that change.
+    /// The object, as it last was, was removed, or is no longer selected; with the revision of that change.
     Deleted(&'a Object, u64),
     /// Changes that were not shown may be kept no longer: the watch is at its end.
     Expired,
-    /// Whoever watches may not any more: the watch is at its end.
+    /// The watch's identity may not watch any more: the watch is at its end.
     Refused,
 }

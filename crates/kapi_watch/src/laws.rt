@@ -4,27 +4,27 @@ ghost use Rattle.kapi_watch.specs.Lists.{DueIsTheList, FirstIsTheList, FirstShow
 ghost use Rattle.kapi_watch.specs.Running.{StandsAtFirst};
 ghost use Rattle.kapi_watch.specs.Runs.{ShowsWhatIsDue, StaysOverWrites, EndsAtTheCurrent};
 
-/// While the window holds, whatever is written and whenever the watch is pumped, what was due to it is what it has shown, in
-/// order, and then what is still due: no event is shown twice or left out. Where it shows nothing, nothing is due any
-/// more, and it stands at the current revision.
+/// While the window holds, whatever is written and whenever the watch is pumped, what was due to it is what it has
+/// shown, in order, and then what is still due: no event is shown twice or left out. Where it shows nothing, nothing is
+/// due any more, and it has reached the current revision.
 pub fn nothing_is_shown_twice_or_left_out()
     ensures due { ShowsWhatIsDue }
     ensures end { EndsAtTheCurrent }
 {}
 
-/// A running watch that was just started stands for what it is as data.
+/// A running watch that was just started refines its own data.
 pub fn a_watch_begins()
     ensures { StandsAtFirst }
 {}
 
-/// A write, whose changes take the next revisions, leaves a running watch to stand for what it stood for.
+/// After a write, whose changes take the next revisions, a running watch still refines the model's watch.
 pub fn writes_leave_what_a_watch_stands_for()
     ensures { StaysOverWrites }
 {}
 
 /// What a watch from a revision on shows, on top of the list at that revision, is the list now, for the objects that it
-/// selects: so it is with all that is due to it, and with what it has shown while the window holds, once nothing is due any
-/// more. A watch that shows the objects first makes the list on top of nothing.
+/// selects. This holds of all that is due to it, and of what it has shown while the window holds, once nothing is due
+/// any more. A watch that shows the objects first makes the list on top of nothing.
 pub fn what_a_watch_shows_makes_the_list()
     ensures due { DueIsTheList }
     ensures shown { ShownIsTheList }
@@ -32,13 +32,13 @@ pub fn what_a_watch_shows_makes_the_list()
     ensures first_shown { FirstShownIsTheList }
 {}
 
-/// The list now is what the store lists; the list at a revision is what it listed when it stood at that.
+/// The list now is what the store lists; the list at a revision is what it listed when that was its current revision.
 pub fn the_lists_are_those_of_the_store()
     ensures now { StoreShowsTheList }
     ensures at { StoreShowedTheList }
 {}
 
-/// What a store writes is a history: no change is one, and one goes on by what creates, replaces or removes objects.
+/// The writes of a store make a history: no change is one, and creations, replacements and removals go on with it.
 pub fn a_store_writes_a_history()
     ensures none { NoChangeIsAHistory }
     ensures creation { GoesOn IsCreation }

@@ -1,4 +1,4 @@
-//! Watches: what the changes of a store show to who watches some of its objects.
+//! Watches: what the changes of a store show to a watch of some of its objects.
 #![tactic(auto)]
 
 pub mod error;

@@ -1,27 +1,27 @@
 //! What a watch selects, and what it shows of a change.
 ghost use Rattle.std.specs.Prelude.{◌≡◌, IfOk, map, option_map, slice_get};
 ghost use Rattle.std.specs.List.{filter_map};
-ghost use Rattle.kapi_object.specs.Object.{tree_of};
+ghost use Rattle.kapi_tree.specs.Object.{tree_of};
 ghost use Rattle.kapi_store.specs.Lent.{changes_of};
 ghost use Rattle.kapi_store.specs.Listing.{is_listed, is_asked as is_asked_of, is_within as is_within_of};
 ghost use Rattle.kapi_store.specs.Plain.{plain_change};
 ghost use Rattle.kapi_watch.specs.Shown.{selected as selected_of, shown_of, found_of};
 
 use crate::event::Event;
-use kapi_names::{ResourceRow, Selector};
-use kapi_object::Object;
+use kapi_model::{ResourceRow, Selector};
 use kapi_store::{Change, Changes, Key, Shared};
 use kapi_text::{Memory, Text, TryCopy};
+use kapi_tree::Object;
 use std::alloc::Global;
 
 /// Which objects a watch shows.
 #[derive(Debug, Drop)]
 pub struct Scope {
     pub row: ResourceRow,
-    /// Empty for all namespaces.
+    /// The namespace, empty for all namespaces.
     pub namespace: Text,
     pub selector: Selector,
-    /// Empty for all names.
+    /// The name, empty for all names.
     pub name: Text,
 }
 
@@ -32,7 +32,7 @@ pub struct Found<'a> {
     pub event: Event<'a>,
 }
 
-/// Whether a text is the one that is asked for; where that is empty, any text is.
+/// Whether a text is the one that is asked for; where an empty text is asked for, any text is.
 fn is_asked(asked: &Text, text: &Text) -> bool
     ensures { result ≡ is_asked_of asked.now text.now }
 {
@@ -40,7 +40,7 @@ fn is_asked(asked: &Text, text: &Text) -> bool
 }
 
 impl Scope {
-    /// Of a resource, in the namespace or in all, by labels, and of the name or any.
+    /// The scope of the objects of a resource type, in the namespace or in all, by labels, and of the name or any.
     pub fn new(
         alloc: Global,
         row: &ResourceRow,
@@ -58,7 +58,7 @@ impl Scope {
         })
     }
 
-    /// Whether the key is one of those that are watched.
+    /// Whether the key is within the scope.
     fn is_within(&self, key: &Key) -> bool
         ensures { result ≡ is_within_of self.now.row self.now.namespace self.now.name key.now }
     {
@@ -103,7 +103,7 @@ impl Scope {
         })
     }
 
-    /// The first that changes show, if anything; each of them is looked at once.
+    /// The first event that changes show, if any; each change is examined once.
     pub fn first_of<'a>(&self, changes: &Changes<'a>) -> Option<Found<'a>>
         ensures { option_map found_of result ≡ slice_get (filter_map (shown_of self.now) (map plain_change (changes_of changes.now))) 0 }
     {

@@ -2,14 +2,14 @@
 ghost use Rattle.std.specs.Prelude.{◌≡◌, IfOk, option_map};
 ghost use Rattle.serde_json.specs.Data.{Data};
 ghost use Rattle.serde_json.specs.Written.{compact_text};
-ghost use Rattle.kapi_object.specs.Object.{tree_of};
+ghost use Rattle.kapi_tree.specs.Object.{tree_of};
 ghost use Rattle.kapi_watch.specs.Shown.{at_version, event_of};
 ghost use Rattle.kapi_watch.specs.Text.{type_of, object_text_of, event_tree};
 
 use crate::event::Event;
 use crate::written::{quote, versioned_text};
-use kapi_object::Object;
 use kapi_text::Memory;
+use kapi_tree::Object;
 use std::alloc::Global;
 
 /// The text of an object with the revision as its version.
@@ -21,7 +21,7 @@ fn deleted_text(alloc: Global, object: &Object, revision: u64) -> Result<Vec<u8>
 }
 
 impl Event<'_> {
-    /// The type that the event tells.
+    /// The type of the event.
     pub fn kind(&self) -> &'static str
         ensures { result.now ≡ type_of (event_of self.now) }
     {
@@ -33,8 +33,8 @@ impl Event<'_> {
         }
     }
 
-    /// The text of the object that the event shows, written from the stored object, of which no copy is made; none of a watch that is
-    /// at its end, which is told by a status.
+    /// The text of the object that the event shows, written from the stored object, of which no copy is made; none of a
+    /// watch that is at its end, which is reported by a Status.
     pub fn object_text(&self, alloc: Global) -> Result<Option<Vec<u8>>, Memory>
         ensures { IfOk result (λ t. option_map (λ b. b.items) t ≡ object_text_of (event_of self.now)) }
     {
@@ -48,7 +48,7 @@ impl Event<'_> {
     }
 }
 
-/// The text of an event of a type that tells this text of an object.
+/// The text of an event of a type with this text of an object.
 pub fn event_text(alloc: Global, kind: &str, object: &[u8]) -> Result<Vec<u8>, Memory>
     ensures { (d : Data) → object.now ≡ compact_text d → IfOk result (λ b. b.items ≡ compact_text (event_tree kind.now d)) }
 {

@@ -1,22 +1,22 @@
 //! Watches of a store's changes.
 ghost use Rattle.std.specs.Prelude.{◌≡◌, true, false, List, IfOk, None, map, option_map, unwrap_or};
-ghost use Rattle.kapi_object.specs.Object.{tree_of};
+ghost use Rattle.kapi_tree.specs.Object.{tree_of};
 ghost use Rattle.kapi_store.specs.Listing.{shown as listed_of};
 ghost use Rattle.kapi_text.specs.Gives.{Gives};
-ghost use Rattle.kapi_store.specs.Plain.{Plain, PlainChange, StandsFor, changes_after, plain_of};
+ghost use Rattle.kapi_store.specs.Plain.{Plain, PlainChange, RefinesPlain, changes_after, plain_of};
 ghost use Rattle.kapi_watch.specs.Shown.{event_of};
-ghost use Rattle.kapi_watch.specs.Looked.{looked, first_in, shown_in};
+ghost use Rattle.kapi_watch.specs.Private.Looked.{looked, first_in, shown_in};
 ghost use Rattle.kapi_watch.specs.declared.event.Event.TheVariants as EventValue;
 
 use crate::error::WatchError;
 use crate::event::Event;
 use crate::scope::{Found, Scope};
-use kapi_names::{ResourceRow, Selector};
+use kapi_model::{ResourceRow, Selector};
 use kapi_store::{Listed, Shared, Store, TooOld};
 use kapi_text::{Memory, Sequence};
 use std::alloc::Global;
 
-/// A watch of a store: which objects it shows, those that it shows first, and where it stands.
+/// A watch of a store: the objects that it selects, the objects that it shows first, and its place.
 #[derive(Debug, Drop)]
 pub struct Watch {
     scope: Scope,
@@ -25,25 +25,25 @@ pub struct Watch {
     told: usize,
     /// The revision up to which all changes were shown.
     position: u64,
-    /// It was stopped, and shows nothing any more.
+    /// The watch was stopped, and shows nothing any more.
     stopped: bool,
 }
 
-/// Where a watch stands: how many of the first objects it has shown, and the revision up to which it has shown all changes.
+/// The place of a watch: how many of the first objects it has shown, and the revision up to which it has shown changes.
 #[derive(Clone, Copy, Debug)]
 pub struct Place {
     told: usize,
     position: u64,
 }
 
-/// What a watch shows next, if there is anything, and where it stands then.
+/// What a watch shows next, if there is anything, and the place that it has then.
 #[derive(Clone, Copy, Debug)]
 pub struct Next<'a> {
     pub event: Option<Event<'a>>,
     pub place: Place,
 }
 
-/// The objects of a list, each with one owner more.
+/// The objects of a list, each shared once more.
 fn objects_of(alloc: Global, listed: &[Listed<'_>]) -> Result<Sequence<Shared>, Memory>
     ensures { IfOk result (λ os. map tree_of os ≡ map (λ l. tree_of l.object.now) listed.now) }
 {
@@ -54,7 +54,7 @@ fn objects_of(alloc: Global, listed: &[Listed<'_>]) -> Result<Sequence<Shared>, 
     Ok(Sequence::new(objects))
 }
 
-/// The event of what was found; where changes are gone, that the watch is at its end.
+/// The event of what was found; where changes are gone, the end of the watch.
 fn event_in<'a>(found: &Result<Option<Found<'a>>, TooOld>) -> Option<Event<'a>>
     ensures { option_map event_of result ≡ shown_in (looked found.now) }
 {
@@ -67,15 +67,15 @@ fn event_in<'a>(found: &Result<Option<Found<'a>>, TooOld>) -> Option<Event<'a>>
 
 impl Watch {
     ghost use Rattle.kapi_watch.specs.Watches.{PlainWatch, fault_of, pumped, after_pump, startable, started, started_at, started_now, watch_from};
-    ghost use Rattle.kapi_watch.specs.Looked.{position_after};
-    ghost use Rattle.kapi_watch.specs.Running.{IsFresh, StandsForWatch, at_place, watch_data};
+    ghost use Rattle.kapi_watch.specs.Private.Looked.{position_after};
+    ghost use Rattle.kapi_watch.specs.Running.{IsFresh, RefinesWatch, at_place, watch_data};
 
-    /// A watch of the objects of a resource that are in the namespace and of the name, or in all and of any where the text
-    /// is empty, and whose labels the selector means.
+    /// A watch of the objects of a resource that are in the namespace and of the name, or in all and of any where the
+    /// text is empty, and whose labels the selector matches.
     ///
-    /// Without a revision, or with 0, it shows the objects that are there first and then each change after them; with
-    /// another one each change after that. Refused where that lies above the current one (`TooLarge`), and where some of
-    /// the changes may be kept no longer (`TooOld`), both before any memory is taken.
+    /// Without a revision, or with 0, it shows the stored objects first and then each change after them; with
+    /// another revision each change after it. Refused where the revision lies above the current one (`TooLarge`), and
+    /// where some of the changes may be kept no longer (`TooOld`), both before anything is allocated.
     pub fn start(
         alloc: Global,
         store: &Store,
@@ -94,8 +94,9 @@ impl Watch {
         Ok(Watch::begin(alloc, store, scope, revision)?)
     }
 
-    /// Whether a watch can start from a revision on: refused where that lies above the current one (`TooLarge`), and where
-    /// some of the changes after it may be kept no longer (`TooOld`). 0 asks for what is there. Takes no memory.
+    /// Whether a watch can start from a revision on: refused where it lies above the current one (`TooLarge`), and
+    /// where some of the changes after it may be kept no longer (`TooOld`). 0 asks for the stored objects. Allocates
+    /// nothing.
     #[tactic(auto, unfolding(crate::specs::Watches::startable))]
     pub fn check(store: &Store, revision: u64) -> Result<(), WatchError>
         ensures { Gives fault_of (λ u. u) result (startable (plain_of store.now) revision) }
@@ -159,32 +160,32 @@ impl Watch {
         }
     }
 
-    /// What it shows, and of which objects.
+    /// The scope of the watch.
     pub fn scope(&self) -> &Scope
         ensures { result.now ≡ self.now.scope }
     {
         &self.scope
     }
 
-    /// The revision at which the watch stands.
+    /// The revision of the watch's place.
     pub fn position(&self) -> u64
-        ensures { (history : List PlainChange) (s : Plain) (w : PlainWatch) → StandsForWatch self.now history s w → result ≡ w.position }
+        ensures { (history : List PlainChange) (s : Plain) (w : PlainWatch) → RefinesWatch self.now history s w → result ≡ w.position }
     {
         self.position
     }
 
-    /// What the watch shows next, if there is anything, and where it stands then: at the revision of that event, or at the current one
-    /// where there is nothing to show; a watch that is at its end stays where it is. Takes no memory, and changes nothing: `shown` moves
-    /// the watch on.
+    /// What the watch shows next, if there is anything, and the place that it has then: at the revision of that event,
+    /// or at the current one where there is nothing to show; a watch that is at its end keeps its place. Allocates
+    /// nothing, and changes nothing: `shown` moves the watch on.
     ///
-    /// First the objects that were there at its start. Then, where changes after its position may be kept no longer, that it is at
-    /// its end; else the first that these changes show. Each is looked at once, and nothing else of the store is. A watch that was
-    /// stopped shows nothing.
+    /// The objects that were there at its start come first. Then, where changes after its position may be kept no
+    /// longer, comes the end of the watch; else the first event that these changes show. Each change is examined once,
+    /// and nothing else of the store. A watch that was stopped shows nothing.
     pub fn next<'a>(&'a self, store: &'a Store) -> Next<'a>
-        ensures event { (history : List PlainChange) (s : Plain) (w : PlainWatch) → StandsFor store.now history s
-            → StandsForWatch self.now history s w → option_map event_of result.event ≡ pumped history s w }
-        ensures place { (history : List PlainChange) (s : Plain) (w : PlainWatch) → StandsFor store.now history s
-            → StandsForWatch self.now history s w → StandsForWatch (at_place self.now result.place) history s (after_pump history s w) }
+        ensures event { (history : List PlainChange) (s : Plain) (w : PlainWatch) → RefinesPlain store.now history s
+            → RefinesWatch self.now history s w → option_map event_of result.event ≡ pumped history s w }
+        ensures place { (history : List PlainChange) (s : Plain) (w : PlainWatch) → RefinesPlain store.now history s
+            → RefinesWatch self.now history s w → RefinesWatch (at_place self.now result.place) history s (after_pump history s w) }
         ensures stopped { self.now.stopped ≡ true → result.event ≡ None }
     {
         if self.stopped {
@@ -197,12 +198,12 @@ impl Watch {
         self.next_of_running(store)
     }
 
-    /// What a watch that was not stopped shows next, and where it stands then.
+    /// What a watch that was not stopped shows next, and the place that it has then.
     fn next_of_running<'a>(&'a self, store: &'a Store) -> Next<'a>
-        ensures event { (history : List PlainChange) (s : Plain) (w : PlainWatch) → StandsFor store.now history s
-            → StandsForWatch self.now history s w → option_map event_of result.event ≡ pumped history s w }
-        ensures place { (history : List PlainChange) (s : Plain) (w : PlainWatch) → StandsFor store.now history s
-            → StandsForWatch self.now history s w → StandsForWatch (at_place self.now result.place) history s (after_pump history s w) }
+        ensures event { (history : List PlainChange) (s : Plain) (w : PlainWatch) → RefinesPlain store.now history s
+            → RefinesWatch self.now history s w → option_map event_of result.event ≡ pumped history s w }
+        ensures place { (history : List PlainChange) (s : Plain) (w : PlainWatch) → RefinesPlain store.now history s
+            → RefinesWatch self.now history s w → RefinesWatch (at_place self.now result.place) history s (after_pump history s w) }
     {
         if let Some(object) = self.first.as_slice().get(self.told) {
             let place = Place {
@@ -227,14 +228,14 @@ impl Watch {
 
     /// What the changes after the position show first; refused where some of them may be kept no longer.
     fn look<'a>(&self, store: &'a Store) -> Result<Option<Found<'a>>, TooOld>
-        ensures { (history : List PlainChange) (s : Plain) → StandsFor store.now history s
+        ensures { (history : List PlainChange) (s : Plain) → RefinesPlain store.now history s
             → looked result ≡ first_in self.now.scope (changes_after history s self.now.position) }
     {
         let changes = store.changes_after(self.position)?;
         Ok(self.scope.first_of(&changes))
     }
 
-    /// The revision at which the watch stands when it has shown what was found.
+    /// The revision of the watch's place when it has shown what was found.
     fn position_past(&self, store: &Store, found: &Result<Option<Found<'_>>, TooOld>) -> u64
         ensures { result ≡ position_after (plain_of store.now) self.now.position (looked found.now) }
     {
@@ -245,7 +246,7 @@ impl Watch {
         }
     }
 
-    /// Moves the watch to where `next` says that it stands.
+    /// Moves the watch to the place that `next` returned.
     pub fn shown(&mut self, place: Place)
         ensures { self.new ≡ at_place self.old place }
     {
@@ -253,7 +254,7 @@ impl Watch {
         self.position = place.position;
     }
 
-    /// Stops the watch, since whoever watches may not any more: `next` shows nothing of it from now on. Takes no memory.
+    /// Stops the watch, as its identity may not watch any more: `next` shows nothing from now on. Allocates nothing.
     pub fn stop(&mut self) -> Event<'static>
         ensures told { result ≡ EventValue.Refused }
         ensures stops { self.new ≡ record self.old { stopped = true } }

@@ -1,4 +1,4 @@
-//! Trees as JSON text, with another version in their metadata than the one that they have.
+//! Trees as JSON text, with a given version in their metadata.
 ghost use Rattle.std.specs.Prelude.{◌≡◌, ◌++◌, [], ◌∷◌, false, if◌then◌else◌, IfOk, OnOk, codes};
 ghost use Rattle.std.specs.Str.{bytes_eq};
 ghost use Rattle.json.specs.Print.{quoted};
@@ -18,7 +18,7 @@ pub(crate) fn quote(alloc: Global, text: &str) -> Result<Vec<u8>, Memory>
     Value::try_from_str(alloc, text)?.to_vec(alloc)
 }
 
-/// Writes a member's key and the colon behind it: after a comma, where a member stands before it.
+/// Writes a member's key and the colon behind it: after a comma, where a member comes before it.
 fn push_key(alloc: Global, text: &mut Vec<u8>, later: bool, key: &str) -> Result<(), Memory>
     ensures { OnOk result (text.new.items ≡ text.old.items ++ (comma_if later ++ (quoted key.now ++ 58 ∷ []))) }
 {
@@ -40,7 +40,7 @@ fn push_value(alloc: Global, text: &mut Vec<u8>, value: &Value) -> Result<(), Me
     text.extend_from_slice(written.as_slice())
 }
 
-/// Writes the value of a member of the metadata; the version in its place, where it is that.
+/// Writes the value of a member of the metadata; the given version, where the member is the version.
 fn push_metadata_value(
     alloc: Global,
     text: &mut Vec<u8>,
@@ -82,7 +82,7 @@ fn push_metadata(
     Ok(())
 }
 
-/// Writes the value of a member of a tree; with this version, where it is the metadata.
+/// Writes the value of a member of a tree; with this version, where the member is the metadata.
 fn push_member_value(
     alloc: Global,
     text: &mut Vec<u8>,
@@ -125,7 +125,7 @@ fn push_members(
     Ok(())
 }
 
-/// A tree as JSON text, with this version in its metadata, where it has one there; the tree is not copied.
+/// A tree as JSON text, with this version in its metadata, where the metadata has one; the tree is not copied.
 pub(crate) fn versioned_text(alloc: Global, tree: &Value, version: &str) -> Result<Vec<u8>, Memory>
     requires { has_float (view tree.now) ≡ false }
     ensures { IfOk result (λ b. b.items

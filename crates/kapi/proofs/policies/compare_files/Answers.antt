@@ -9,7 +9,7 @@ pub returns-in-Ok : goal.returns-in-Ok
 unfolding compare_files
 returns-in-Ok g c =
     let h = c.in-Ok.ensures in
-    onward compared_told c.compare_after.result _ (λ b. as_second (machine_of c.args.after.now) >>= λ a. Ok (comparison c.args.form b a)) h.0 h.1 (c.compare_after.ensures h.0 h.2)
+    onward compared_told c.compare_after.result _ (λ b. as_second (machine_of c.args.after.now) >>= λ a. Ok (comparison c.args.form c.args.identities b a)) h.0 h.1 (c.compare_after.ensures h.0 h.2)
 
 pub returns-in-Err : goal.returns-in-Err
 unfolding compare_files

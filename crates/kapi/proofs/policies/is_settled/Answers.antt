@@ -1,5 +1,5 @@
 use Rattle.std.proofs.Common.{ap, sym, ◌∙◌}
-use Rattle.kapi_core.specs.Stands.{turned_if}
+use Rattle.kapi_core.specs.Refines.{turned_if}
 use Rattle.kapi.specs.Policies.{is_nothing}
 use Rattle.kapi.proofs.policies.is_settled.Goals as goal
 

@@ -1,11 +1,12 @@
-use Rattle.std.proofs.Common.{◌≡◌, take, map}
+use Rattle.std.proofs.Common.{◌≡◌, take}
 use Rattle.std.specs.List.{flat_map}
 use Rattle.kapi_rules.specs.Rules.{allows}
 use Rattle.kapi_policy.specs.Views.{binding_of}
-use Rattle.kapi_access.specs.Views.{way_of, ways_there}
+use Rattle.kapi_access.specs.Views.{ways_there}
+use Rattle.kapi_access.specs.Who.{first_ways}
 use Rattle.kapi_access.proofs.allowed.ways.Given as goal
 
 abbrev pub invariant-loop-binding : goal.invariant-loop-binding
 invariant-loop-binding g l =
-    map way_of l.list.items
-    ≡ flat_map (λ b. ways_there (g.P.Policy.content l.policy) (λ rule. allows rule l.point) l.namespace (binding_of b)) (take l.binding-index l.bindings)
+    l.found
+    ≡ first_ways (flat_map (λ b. ways_there (g.P.Policy.content l.policy) (λ rule. allows rule l.point) l.namespace (binding_of b)) (take l.binding-index l.bindings))

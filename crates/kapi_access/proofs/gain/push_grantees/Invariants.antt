@@ -9,4 +9,4 @@ use Rattle.kapi_access.proofs.gain.push_grantees.Given as goal
 abbrev pub invariant-loop-to : goal.invariant-loop-to
 invariant-loop-to g l =
     map gain_of l.list.items
-    ≡ map gain_of l.initial.list.items ++ flat_map (λ to. gained_as (g.P.Policy.content l.before) (alone l.other to) to (binding_of l.binding) l.rules) (take l.to-index l.grantees)
+    ≡ map gain_of l.initial.list.items ++ flat_map (λ to. gained_as (g.P.Policy.content l.before) (alone l.alone.identities l.alone.other to) to (binding_of l.binding) l.rules) (take l.to-index l.grantees)

@@ -1,4 +1,4 @@
-use Rattle.kapi_access.proofs.Harmless.{no_risk_acts}
+use Rattle.kapi_access.proofs.Unprivileged.{no_risk_acts}
 use Rattle.kapi_access.proofs.laws.nobody_gains_where_no_risk_acts.Goals as goal
 
 pub returns : goal.returns

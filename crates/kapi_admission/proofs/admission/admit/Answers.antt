@@ -4,8 +4,8 @@ use Rattle.kapi_admission.proofs.Clean.{none_if, kept_tree_has_no_fault}
 use Rattle.kapi_admission.specs.Admission.{faults_on}
 use Rattle.kapi_admission.proofs.KeptGiven.{given_of-kept_tree}
 use Rattle.kapi_admission.proofs.KeptHolds.{kept_tree_holds}
-use Rattle.kapi_object.proofs.NoFloats.{no_floats}
-use Rattle.kapi_object.proofs.Ordered.{keys_in_order}
+use Rattle.kapi_tree.proofs.NoFloats.{no_floats}
+use Rattle.kapi_tree.proofs.Ordered.{keys_in_order}
 use Rattle.kapi_admission.proofs.admission.admit.Goals as goal
 
 pub new-requires-2-clause-whole : goal.new-requires-2-clause-whole

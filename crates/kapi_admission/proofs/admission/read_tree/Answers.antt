@@ -1,8 +1,8 @@
 use Rattle.std.proofs.Common.{◌≡◌, None, refl, rules}
 use Rattle.serde_json.specs.View.{view}
-use Rattle.kapi_object.specs.Tree.{json_object}
+use Rattle.kapi_tree.specs.Tree.{json_object}
 use Rattle.kapi_admission.proofs.Bodies.{json_object_read, json_object_none}
-use Rattle.kapi_object.proofs.Ordered.{was_read_ordered}
+use Rattle.kapi_tree.proofs.Ordered.{was_read_ordered}
 use Rattle.kapi_admission.proofs.admission.read_tree.Goals as goal
 
 pub returns-then-is_object-clause-object : goal.returns-then-is_object-clause-object

@@ -1,6 +1,6 @@
 use Rattle.std.proofs.Common.{◌≡◌, ◌++◌, drop, map}
 use Rattle.serde_json.specs.View.{view, items_view}
-use Rattle.kapi_object.specs.Contents.{read_items}
+use Rattle.kapi_tree.specs.Contents.{read_items}
 use Rattle.kapi_admission.proofs.table_kept.kept_items.Given as goal
 
 abbrev pub invariant-loop-item : goal.invariant-loop-item

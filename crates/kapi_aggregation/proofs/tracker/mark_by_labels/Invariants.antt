@@ -1,6 +1,6 @@
 use Rattle.std.proofs.Common.{◌≡◌, map, take}
 use Rattle.std.specs.List.{fold}
-use Rattle.kapi_names.specs.Selector.{labels_of}
+use Rattle.kapi_model.specs.Selector.{labels_of}
 use Rattle.kapi_aggregation.specs.Marks.{Keeps, mark_taker}
 use Rattle.kapi_aggregation.specs.Views.{labelled}
 use Rattle.kapi_aggregation.proofs.tracker.mark_by_labels.Given as goal

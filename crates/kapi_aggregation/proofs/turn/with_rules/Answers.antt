@@ -1,6 +1,6 @@
-use Rattle.kapi_object.proofs.NoFloats.{no_floats}
-use Rattle.kapi_object.proofs.Ordered.{keys_in_order}
-use Rattle.kapi_object.specs.Object.{tree_of}
+use Rattle.kapi_tree.proofs.NoFloats.{no_floats}
+use Rattle.kapi_tree.proofs.Ordered.{keys_in_order}
+use Rattle.kapi_tree.specs.Object.{tree_of}
 use Rattle.kapi_aggregation.proofs.Rewritten.{with_rules_holds}
 use Rattle.kapi_aggregation.proofs.turn.with_rules.Goals as goal
 

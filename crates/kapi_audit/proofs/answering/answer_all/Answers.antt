@@ -1,7 +1,7 @@
 use Rattle.std.proofs.Common.{[], refl, subst, ◌∙◌}
 use Rattle.kapi_script.specs.Scripts.{lines}
 use Rattle.kapi_script.proofs.Bytes.{read_some, read_none}
-use Rattle.kapi_audit.specs.Reading.{Reading}
+use Rattle.kapi_audit.specs.Private.Reading.{Reading}
 use Rattle.kapi_audit.proofs.Telling.{at_start, last_line}
 use Rattle.kapi_audit.proofs.answering.answer_all.Goals as goal
 

@@ -1,6 +1,6 @@
 use Rattle.std.proofs.Common.{◌≡◌, ℕ, List, Some, length}
 use Rattle.kapi_script.specs.Scripts.{lines}
-use Rattle.kapi_audit.specs.Reading.{Reading}
+use Rattle.kapi_audit.specs.Private.Reading.{Reading}
 use Rattle.kapi_audit.proofs.answering.answer_all.Given as goal
 
 abbrev pub invariant-loop : goal.invariant-loop

@@ -1,6 +1,6 @@
 use Rattle.std.proofs.Common.{◌≡◌, ◌+◌, All, length}
 use Rattle.kapi_desk.specs.Boards.{chair, fresh}
-use Rattle.kapi_audit.specs.Readers.{AreReaders}
+use Rattle.kapi_audit.specs.Private.Readers.{AreReaders}
 use Rattle.kapi_audit.proofs.audit.told_readers.Given as goal
 
 abbrev pub invariant-loop-seat : goal.invariant-loop-seat

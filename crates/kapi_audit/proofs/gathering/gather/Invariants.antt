@@ -1,5 +1,5 @@
 use Rattle.std.proofs.Common.{ℕ, ◌+◌, List, Option, map}
-use Rattle.kapi_audit.specs.Sharing.{AreShares}
+use Rattle.kapi_audit.specs.Private.Sharing.{AreShares}
 use Rattle.kapi_audit.proofs.Shares.{Gathering}
 use Rattle.kapi_audit.proofs.gathering.gather.Given as goal
 

@@ -3,7 +3,7 @@ use Rattle.std.specs.Option.{option_copied_mut}
 use Rattle.kapi_http.specs.declared.inbox.FeedError.{FeedError}
 use Rattle.kapi_core.proofs.Feeding.{fed_from, memory_fits}
 use Rattle.kapi_core.proofs.links.feed_at.Goals as goal
-use Rattle.kapi_http.specs.declared.inbox.TheConstants.{KEPT_LIMIT}
+use Rattle.kapi_core.specs.Limits.{kept_limit}
 
 pub returns-in-Some : goal.returns-in-Some
 returns-in-Some c =
@@ -11,7 +11,7 @@ returns-in-Some c =
     let u = c.feed.new.self in
     let piece = c.args.piece.now in
     let Taken : Result (Unit {0}) FeedError → Type 0 = λ r. OnOk r (u ≡ record { kept = was.inbox.kept ++ piece; ended = false }) in
-    let Fitting : Result (Unit {0}) FeedError → Type 0 = λ r. OnOk r (length was.inbox.kept + length piece ≤ KEPT_LIMIT) in
+    let Fitting : Result (Unit {0}) FeedError → Type 0 = λ r. OnOk r (length was.inbox.kept + length piece ≤ kept_limit) in
     let Unchanged : Result (Unit {0}) FeedError → Type 0 = λ r. OnErr r (u ≡ was.inbox) in
     fed_from c.args.links.now.entries (c.get_mut.follows.lender (record { identity = was.identity; inbox = u; watching = was.watching })).entries c.args.id piece was u c.feed.result
     (sym c.get_mut.ensures.value ∙ ap option_copied_mut c.in-Some.is)

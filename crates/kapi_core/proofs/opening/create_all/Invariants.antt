@@ -2,7 +2,7 @@ use Rattle.std.proofs.Common.{map, take}
 use Rattle.std.specs.List.{fold}
 use Rattle.kapi_core.specs.Machine.{Machine}
 use Rattle.kapi_core.specs.Opening.{with_opening}
-use Rattle.kapi_core.specs.Openings.{Holds, opening_data}
+use Rattle.kapi_core.specs.Private.Openings.{Holds, opening_data}
 use Rattle.kapi_core.proofs.opening.create_all.Given as goal
 
 abbrev pub invariant-loop-object : goal.invariant-loop-object

@@ -1,7 +1,7 @@
 use Rattle.std.proofs.Common.{List, sym, ◌∙◌, subst}
 use Rattle.std.specs.List.{fold}
 use Rattle.kapi_core.specs.Opening.{OpeningObject, empty, opening, with_opening}
-use Rattle.kapi_core.specs.Openings.{Holds}
+use Rattle.kapi_core.specs.Private.Openings.{Holds}
 use Rattle.kapi_core.proofs.Openings.{opens_without_policy}
 use Rattle.kapi_core.proofs.opening.open_objects.Goals as goal
 

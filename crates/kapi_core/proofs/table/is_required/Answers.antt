@@ -1,6 +1,6 @@
 use Rattle.std.proofs.Common.{Bool, ◌∙◌, sym, ap}
 use Rattle.std.specs.List.{list_any}
-use Rattle.kapi_names.specs.declared.row.ResourceRow.{ResourceRow}
+use Rattle.kapi_model.specs.declared.row.ResourceRow.{ResourceRow}
 use Rattle.kapi_core.specs.Table.{is_row, row_of}
 use Rattle.kapi_core.proofs.Tables.{any_mapped}
 use Rattle.kapi_core.proofs.table.is_required.Goals as goal

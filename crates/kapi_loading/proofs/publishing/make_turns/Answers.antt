@@ -1,7 +1,8 @@
 use Rattle.std.proofs.Common.{◌∙◌, ap, arith, subst, Ok, ◌-◌, ◌+◌}
-use Rattle.kapi_loading.proofs.Loaded.{all_turned, no_turn_left, turn_made}
-use Rattle.kapi_core.specs.Stands.{Turns}
-use Rattle.kapi_desk.specs.Steps.{after, after_changes}
+use Rattle.kapi_loading.proofs.Loaded.{all_turned, no_turn_left, none_listed, turn_made, turns_listed}
+use Rattle.kapi_core.specs.Refines.{Turns}
+use Rattle.kapi_policy.specs.Steps.{after_changes}
+use Rattle.kapi_desk.specs.Steps.{after}
 use Rattle.kapi_loading.proofs.publishing.make_turns.Goals as goal
 
 pub loop-preserved : goal.loop-preserved
@@ -10,14 +11,22 @@ loop-preserved g c =
     let made = subst (λ t. Turns c.loop.core c.turn.new.self (Ok t)) c.in-Some.is c.in_ok-turned.ensures in (
       k.waiting,
       c.publish.ensures.opening ∙ c.loop.invariant.1,
-      λ m h. turn_made m (64 - c.loop.counter) (64 - (c.loop.counter + 1)) c.loop.core c.turn.new.self c.loop.desk c.publish.new.desk c.in-Some.turned (omega (arith, c.loop-test.true)) (c.loop.invariant.2 m h) made
-          (k.policy ∙ ap (λ cs. after_changes cs (after c.loop.desk.opening c.loop.desk.list)) c.as_slice.ensures),
+      λ m h. turn_made m (64 - c.loop.counter) (64 - (c.loop.counter + 1)) c.loop.core c.turn.new.self c.loop.desk c.publish.new.desk _ c.in-Some.turned (omega (arith, c.loop-test.true)) (c.loop.invariant.2 m h) made
+          k.list k.policy,
     )
 
 pub returns-in-None-clause-reaches : goal.returns-in-None-clause-reaches
 returns-in-None-clause-reaches g c =
     let none = subst (λ t. Turns c.loop.core c.turn.new.self (Ok t)) c.in-None.is c.in_ok-turned.ensures in
-    λ m h. no_turn_left m (64 - c.loop.counter) c.loop.core c.turn.new.self c.loop.desk (c.loop.invariant.2 m h) none
+    λ m h. no_turn_left m (64 - c.loop.counter) c.loop.core c.turn.new.self c.loop.desk _ (c.loop.invariant.2 m h) none
 
 pub returns-clause-reaches : goal.returns-clause-reaches
-returns-clause-reaches g c = λ m h. all_turned m (64 - c.loop.counter) c.loop.core c.loop.desk (omega (arith, c.loop-test.false)) (c.loop.invariant.2 m h)
+returns-clause-reaches g c = λ m h. all_turned m (64 - c.loop.counter) c.loop.core c.loop.desk _ (omega (arith, c.loop-test.false)) (c.loop.invariant.2 m h)
+
+pub returns-in-None-clause-steps : goal.returns-in-None-clause-steps
+returns-in-None-clause-steps g c =
+    let none = subst (λ t. Turns c.loop.core c.turn.new.self (Ok t)) c.in-None.is c.in_ok-turned.ensures in
+    λ m h. none_listed m (64 - c.loop.counter) c.loop.core c.turn.new.self c.loop.desk _ (c.loop.invariant.2 m h) none
+
+pub returns-clause-steps : goal.returns-clause-steps
+returns-clause-steps g c = λ m h. turns_listed m (64 - c.loop.counter) c.loop.core c.loop.desk _ (omega (arith, c.loop-test.false)) (c.loop.invariant.2 m h)

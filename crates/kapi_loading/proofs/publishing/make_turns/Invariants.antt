@@ -7,4 +7,4 @@ use Rattle.kapi_loading.proofs.publishing.make_turns.Given as goal
 abbrev pub invariant-loop : goal.invariant-loop
 invariant-loop g l =
     (l.desk.waiting ≡ []) × (l.desk.opening ≡ l.initial.desk.opening)
-    × ((m : Machine) → Publishes l.initial.core l.initial.desk m → TurnedUpTo m (64 - l.counter) l.core l.desk)
+    × ((m : Machine) → Publishes l.initial.core l.initial.desk m → TurnedUpTo m (64 - l.counter) l.core l.desk l.initial.desk.list)

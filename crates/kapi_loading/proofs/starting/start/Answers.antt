@@ -1,5 +1,5 @@
 use Rattle.std.proofs.Common.{Ok, Err, ap, map, ◌∙◌}
-use Rattle.kapi_loading.proofs.Begun.{begun}
+use Rattle.kapi_loading.proofs.Begun.{begun, begun_steps}
 use Rattle.kapi_loading.proofs.Served.{file_is_unopened}
 use Rattle.kapi_lines.specs.Lines.{line_of}
 use Rattle.kapi_loading.proofs.starting.start.Goals as goal
@@ -20,3 +20,9 @@ pub returns-in-Ok-clause-unopened : goal.returns-in-Ok-clause-unopened
 returns-in-Ok-clause-unopened g c =
     let r = returns-in-Ok-clause-machine g c in
     r.2.0.next_id ∙ (file_is_unopened c.args.first c.args.objects.now r.0 r.1).0
+
+pub returns-in-Ok-clause-steps : goal.returns-in-Ok-clause-steps
+returns-in-Ok-clause-steps g c =
+    let desk = c.in_ok-desk.ensures.desk in
+    begun_steps c.in_ok-core.core c.in_ok-desk.desk _ c.args.first _ _ c.args.objects.now c.in_ok-core.ensures.stands c.in_ok-program_table.ensures.rows (desk.0 ∙ c.in_ok-opening.ensures ∙ c.policy.ensures) desk.1
+    (ap (map line_of) c.as_slice.ensures.value ∙ c.in_ok-lines.ensures) (λ m h. c.in-Ok.ensures.steps m h)

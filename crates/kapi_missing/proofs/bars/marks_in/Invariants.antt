@@ -1,5 +1,5 @@
 use Rattle.std.proofs.Common.{◌≡◌, map, take}
-use Rattle.kapi_missing.specs.Bars.{meets, rule_in}
+use Rattle.kapi_missing.specs.Private.Bars.{meets, rule_in}
 use Rattle.kapi_missing.proofs.bars.marks_in.Given as goal
 
 abbrev pub invariant-loop-entry : goal.invariant-loop-entry

@@ -1,6 +1,6 @@
 use Rattle.std.proofs.Common.{◌≡◌, drop}
-use Rattle.kapi_missing.specs.Bars.{some_covers}
-use Rattle.kapi_missing.specs.Words.{texts_at}
+use Rattle.kapi_missing.specs.Private.Bars.{some_covers}
+use Rattle.kapi_missing.specs.Private.Words.{texts_at}
 use Rattle.kapi_missing.proofs.bars.some_starred_covers.Given as goal
 
 abbrev pub invariant-loop-entry : goal.invariant-loop-entry

@@ -1,6 +1,6 @@
 use Rattle.std.proofs.Common.{◌≡◌, ◌++◌, drop}
 use Rattle.std.specs.List.{filter}
-use Rattle.kapi_missing.specs.Words.{has_star, texts_at}
+use Rattle.kapi_missing.specs.Private.Words.{has_star, texts_at}
 use Rattle.kapi_missing.proofs.entries.starred_of.Given as goal
 
 abbrev pub invariant-loop-entry : goal.invariant-loop-entry

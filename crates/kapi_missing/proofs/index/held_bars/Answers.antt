@@ -1,7 +1,7 @@
 use Rattle.std.proofs.Common.{◌≡◌, ◌+◌, true, List, [], ◌∷◌, ◌++◌, take, subst, sym, arith}
 use Rattle.std.proofs.lemmas.Grind.{common_steps}
-use Rattle.kapi_names.specs.declared.policy_rule.PolicyRule.{PolicyRule}
-use Rattle.kapi_missing.specs.Index.{AreBars}
+use Rattle.kapi_model.specs.declared.policy_rule.PolicyRule.{PolicyRule}
+use Rattle.kapi_missing.specs.Private.Index.{AreBars}
 use Rattle.kapi_missing.proofs.index.held_bars.Goals as goal
 
 pub loop-rule-preserved : goal.loop-rule-preserved

@@ -1,5 +1,5 @@
 use Rattle.std.proofs.Common.{true, take}
-use Rattle.kapi_missing.specs.Index.{AreBars}
+use Rattle.kapi_missing.specs.Private.Index.{AreBars}
 use Rattle.kapi_missing.proofs.index.held_bars.Given as goal
 
 abbrev pub invariant-loop-rule : goal.invariant-loop-rule

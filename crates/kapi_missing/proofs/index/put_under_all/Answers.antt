@@ -3,7 +3,7 @@ use Rattle.std.proofs.lemmas.Grind.{common_steps}
 use Rattle.std.specs.List.{list_any}
 use Rattle.std.specs.Str.{bytes_eq}
 use Rattle.kapi_missing.proofs.Adding.{put_has, put_more}
-use Rattle.kapi_missing.specs.Index.{has_number, numbers_at}
+use Rattle.kapi_missing.specs.Private.Index.{has_number, numbers_at}
 use Rattle.kapi_missing.proofs.index.put_under_all.Goals as goal
 
 pub loop-entry-preserved : goal.loop-entry-preserved

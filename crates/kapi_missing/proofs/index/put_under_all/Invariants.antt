@@ -1,7 +1,7 @@
 use Rattle.std.proofs.Common.{◌≡◌, ℕ, ◌==◌, ◌&&◌, ◌||◌, List, take}
 use Rattle.std.specs.List.{list_any}
 use Rattle.std.specs.Str.{bytes_eq}
-use Rattle.kapi_missing.specs.Index.{has_number, numbers_at}
+use Rattle.kapi_missing.specs.Private.Index.{has_number, numbers_at}
 use Rattle.kapi_missing.proofs.index.put_under_all.Given as goal
 
 abbrev pub invariant-loop-entry : goal.invariant-loop-entry

@@ -1,5 +1,5 @@
 use Rattle.std.proofs.Common.{◌≡◌, take}
-use Rattle.kapi_missing.specs.Left.{parts_at}
+use Rattle.kapi_missing.specs.Private.Left.{parts_at}
 use Rattle.kapi_missing.proofs.left.pointers.Given as goal
 
 abbrev pub invariant-loop-marks : goal.invariant-loop-marks

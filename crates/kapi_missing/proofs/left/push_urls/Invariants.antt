@@ -1,5 +1,5 @@
 use Rattle.std.proofs.Common.{◌≡◌, ◌++◌, drop}
-use Rattle.kapi_missing.specs.Left.{each, near_url, parts_at}
+use Rattle.kapi_missing.specs.Private.Left.{each, near_url, parts_at}
 use Rattle.kapi_missing.proofs.left.push_urls.Given as goal
 
 abbrev pub invariant-loop-index : goal.invariant-loop-index

@@ -1,6 +1,6 @@
 use Rattle.std.proofs.Common.{◌≡◌, drop}
 use Rattle.std.specs.List.{list_any}
-use Rattle.kapi_missing.specs.Marks.{kept}
+use Rattle.kapi_missing.specs.Private.Marks.{kept}
 use Rattle.kapi_missing.proofs.marks.is_any_kept.Given as goal
 
 abbrev pub invariant-loop-position : goal.invariant-loop-position

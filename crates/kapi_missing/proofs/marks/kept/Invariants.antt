@@ -1,5 +1,5 @@
 use Rattle.std.proofs.Common.{◌≡◌, ◌++◌, drop}
-use Rattle.kapi_missing.specs.Marks.{kept}
+use Rattle.kapi_missing.specs.Private.Marks.{kept}
 use Rattle.kapi_missing.proofs.marks.kept.Given as goal
 
 abbrev pub invariant-loop-position : goal.invariant-loop-position

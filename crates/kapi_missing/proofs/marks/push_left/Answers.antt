@@ -1,7 +1,7 @@
 use Rattle.std.proofs.Common.{◌≡◌, false, arith}
 use Rattle.std.proofs.lemmas.Grind.{common_steps}
 use Rattle.kapi_missing.proofs.Pieces.{stays_whole}
-use Rattle.kapi_missing.specs.Marks.{is_some_piece}
+use Rattle.kapi_missing.specs.Private.Marks.{is_some_piece}
 use Rattle.kapi_missing.specs.declared.marks.Keep.TheVariants as keep
 use Rattle.kapi_missing.proofs.marks.push_left.Goals as goal
 

@@ -1,5 +1,5 @@
 use Rattle.std.proofs.Common.{◌≡◌, ℕ, not, ◌&&◌}
-use Rattle.kapi_missing.specs.Marks.{has, some_has}
+use Rattle.kapi_missing.specs.Private.Marks.{has, some_has}
 use Rattle.kapi_missing.proofs.marks.without.Given as goal
 
 abbrev pub invariant-loop-marks : goal.invariant-loop-marks

@@ -1,6 +1,6 @@
 use Rattle.std.proofs.Common.{◌≡◌, [], take}
 use Rattle.std.specs.List.{fold}
-use Rattle.kapi_missing.specs.Once.{HasThose, with_word}
+use Rattle.kapi_missing.specs.Private.Once.{HasThose, with_word}
 use Rattle.kapi_missing.proofs.once.once_words.Given as goal
 
 abbrev pub invariant-loop-word : goal.invariant-loop-word

@@ -1,7 +1,7 @@
 use Rattle.std.proofs.Common.{◌≡◌, ℕ, ◌||◌, false, List, [], ◌∷◌, ◌++◌, refl, ap, ◌∙◌}
 use Rattle.std.specs.Str.{bytes_eq}
 use Rattle.kapi_missing.proofs.Seen.{pushed}
-use Rattle.kapi_missing.specs.Words.{is_in}
+use Rattle.kapi_missing.specs.Private.Words.{is_in}
 use Rattle.kapi_missing.proofs.once.push_new.Goals as goal
 
 pub returns-in_ok-push : goal.returns-in_ok-push

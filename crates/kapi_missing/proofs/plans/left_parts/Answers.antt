@@ -1,7 +1,7 @@
 use Rattle.std.proofs.Common.{◌∙◌}
 use Rattle.kapi_rules.proofs.Covers.{or_false}
 use Rattle.kapi_missing.proofs.Both.{both_left}
-use Rattle.kapi_missing.specs.Marks.{has}
+use Rattle.kapi_missing.specs.Private.Marks.{has}
 use Rattle.kapi_missing.proofs.plans.left_parts.Goals as goal
 
 pub returns : goal.returns

@@ -1,7 +1,7 @@
 use Rattle.std.proofs.Common.{◌≡◌, Bool, true, false, ◌||◌, if◌then◌else◌, refl, ◌∙◌}
 use Rattle.std.proofs.lemmas.Map.Text.{is_eq-slice_cmp}
 use Rattle.std.specs.Str.{bytes_eq}
-use Rattle.kapi_missing.specs.Words.{is_in}
+use Rattle.kapi_missing.specs.Private.Words.{is_in}
 use Rattle.kapi_missing.proofs.words.add_word.Goals as goal
 
 there_or : (a b : Bool) → (if a then true else b) ≡ (a || b)

@@ -1,7 +1,7 @@
 use Rattle.std.proofs.Common.{◌≡◌, ℕ, List, take}
 use Rattle.std.specs.List.{list_any}
 use Rattle.std.specs.Str.{bytes_eq}
-use Rattle.kapi_missing.specs.Words.{is_in}
+use Rattle.kapi_missing.specs.Private.Words.{is_in}
 use Rattle.kapi_missing.proofs.words.words_of.Given as goal
 
 abbrev pub invariant-loop-entry : goal.invariant-loop-entry

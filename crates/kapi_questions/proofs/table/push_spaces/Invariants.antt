@@ -1,6 +1,6 @@
 use Rattle.std.proofs.Common.{◌≡◌, ◌++◌, replicate}
 use Rattle.kapi_questions.proofs.table.push_spaces.Given as goal
 
--- so many spaces are written
+-- the spaces that are written so far
 abbrev pub invariant-loop : goal.invariant-loop
 invariant-loop l = l.text.items ≡ l.initial.text.items ++ replicate l.counter 32

@@ -1,6 +1,6 @@
 use Rattle.std.proofs.Common.{arith, refl, subst, ◌∙◌}
 use Rattle.std.proofs.lemmas.List.{length-take}
-use Rattle.kapi_script.specs.Playing.{Reading}
+use Rattle.kapi_script.specs.Private.Playing.{Reading}
 use Rattle.kapi_script.proofs.Bytes.{read_some, read_none, on_ok, ends_failed}
 use Rattle.kapi_script.proofs.script.play_all.Goals as goal
 

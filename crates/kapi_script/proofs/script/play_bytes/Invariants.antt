@@ -1,5 +1,5 @@
 use Rattle.std.proofs.Common.{ℕ, ◌+◌, ◌≤◌, ◌++◌, List, drop}
-use Rattle.kapi_script.specs.Playing.{Play, Reading}
+use Rattle.kapi_script.specs.Private.Playing.{Play, Reading}
 use Rattle.kapi_script.proofs.script.play_bytes.Given as goal
 
 abbrev pub invariant-loop-byte : goal.invariant-loop-byte

@@ -1,5 +1,5 @@
 use Rattle.std.proofs.Common.{[], None, subst, sym, refl}
-use Rattle.kapi_serve.specs.Clients.{seats_of}
+use Rattle.kapi_serve.specs.Private.Clients.{seats_of}
 use Rattle.kapi_serve.specs.Goes.{Goes}
 use Rattle.kapi_serve.proofs.Going.{goes_as, goes_before, goes_nothing, goes_on, goes_serves, goes_still}
 use Rattle.kapi_serve.proofs.server.serve_loop.Goals as goal

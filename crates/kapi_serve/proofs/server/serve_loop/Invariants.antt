@@ -1,5 +1,5 @@
 use Rattle.std.proofs.Common.{None, []}
-use Rattle.kapi_serve.specs.Clients.{seats_of}
+use Rattle.kapi_serve.specs.Private.Clients.{seats_of}
 use Rattle.kapi_serve.specs.Goes.{Goes}
 use Rattle.kapi_serve.proofs.server.serve_loop.Given as goal
 

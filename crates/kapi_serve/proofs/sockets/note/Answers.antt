@@ -1,4 +1,4 @@
--- That a client may wait is no part of a port and its identity.
+-- The mark that a client may wait is no part of a port and its identity.
 use Rattle.std.proofs.Common.{refl, arith}
 use Rattle.kapi_serve.proofs.Listening.{doors_kept}
 use Rattle.kapi_serve.proofs.sockets.note.Goals as goal

@@ -1,7 +1,7 @@
 use Rattle.std.proofs.Common.{◌≡◌, drop}
 use Rattle.std.specs.List.{list_any}
 use Rattle.kapi_store.specs.State.{live}
-use Rattle.kapi_store.specs.Span.{row_holds}
+use Rattle.kapi_store.specs.Private.Span.{row_holds}
 use Rattle.kapi_store.proofs.namespaces.any_stands_in.Given as goal
 
 abbrev pub invariant-loop-row : goal.invariant-loop-row

@@ -3,7 +3,7 @@ use Rattle.std.specs.List.{list_any}
 use Rattle.std.specs.BTreeMap.Range.{entries_between}
 use Rattle.std.specs.declared.ops.Bound.TheVariants.{Included, Excluded}
 use Rattle.kapi_store.specs.Keys.{key_cmp}
-use Rattle.kapi_store.specs.Span.{is_of, namespace_start}
+use Rattle.kapi_store.specs.Private.Span.{is_of, namespace_start}
 use Rattle.kapi_store.specs.State.{live}
 use Rattle.kapi_store.proofs.Spans.{start_below_end, standing_between}
 use Rattle.kapi_store.proofs.namespaces.stands_in.Goals as goal
@@ -12,7 +12,7 @@ pub range-key-items-requires : goal.range-key-items-requires
 range-key-items-requires c =
     rw (c.in_ok-start.ensures, c.in_ok-end.ensures) (start_below_end c.args.row.now c.args.namespace.now)
 
--- the range shows all that stands in the namespace
+-- the range shows all objects of the namespace
 pub loop-key-init : goal.loop-key-init
 loop-key-init c =
     let row = c.args.row.now in

@@ -1,7 +1,7 @@
 use Rattle.std.proofs.Common.{◌≡◌}
 use Rattle.std.specs.List.{list_any}
 use Rattle.kapi_store.specs.State.{live}
-use Rattle.kapi_store.specs.Span.{is_of}
+use Rattle.kapi_store.specs.Private.Span.{is_of}
 use Rattle.kapi_store.proofs.namespaces.stands_in.Given as goal
 
 abbrev pub invariant-loop-key : goal.invariant-loop-key

@@ -1,5 +1,5 @@
 use Rattle.std.proofs.Common.{◌∙◌, List, Option, ap, sym, subst}
-use Rattle.kapi_object.specs.declared.object.Object.{Object}
+use Rattle.kapi_tree.specs.declared.object.Object.{Object}
 use Rattle.kapi_store.specs.declared.key.Key.{Key}
 use Rattle.kapi_store.specs.Keys.{key_cmp, is_key}
 use Rattle.kapi_store.specs.State.{live, IsSpare}

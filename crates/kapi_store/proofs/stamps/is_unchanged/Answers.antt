@@ -1,7 +1,7 @@
 use Rattle.std.proofs.Common.{◌≡◌, Bool, sym, subst, ap, ◌∙◌}
 use Rattle.std.specs.Bool.{Decides}
 use Rattle.serde_json.specs.View.{view}
-use Rattle.kapi_object.specs.Object.{tree_of}
+use Rattle.kapi_tree.specs.Object.{tree_of}
 use Rattle.kapi_store.specs.Same.{same_tree}
 use Rattle.kapi_store.proofs.Equality.{same_decides}
 use Rattle.kapi_store.proofs.stamps.is_unchanged.Goals as goal

@@ -1,5 +1,5 @@
 use Rattle.std.proofs.Common.{◌≡◌, map, take}
-use Rattle.kapi_object.specs.Object.{tree_of}
+use Rattle.kapi_tree.specs.Object.{tree_of}
 use Rattle.kapi_watch.proofs.watch.objects_of.Given as goal
 
 abbrev pub invariant-loop-one : goal.invariant-loop-one

@@ -1,5 +1,5 @@
 use Rattle.std.proofs.Common.{◌∙◌, List, ◌∷◌, ◌++◌, [], sym, ap, subst}
-use Rattle.kapi_names.specs.declared.policy_rule.PolicyRule.{PolicyRule}
+use Rattle.kapi_model.specs.declared.policy_rule.PolicyRule.{PolicyRule}
 use Rattle.kapi_aggregation.specs.Keyed.{HaveRules}
 use Rattle.kapi_aggregation.specs.Unions.{with_rule}
 use Rattle.kapi_aggregation.proofs.Keyed.{new_rule, old_rule, one_more, was_absent, was_there}

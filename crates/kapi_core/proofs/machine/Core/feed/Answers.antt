@@ -1,6 +1,6 @@
 use Rattle.std.proofs.Common.{subst}
 use Rattle.kapi_core.specs.Running.{Running}
-use Rattle.kapi_core.specs.Stands.{TakesIn}
+use Rattle.kapi_core.specs.Refines.{TakesIn}
 use Rattle.kapi_core.proofs.Feeding.{taken_in}
 use Rattle.kapi_core.proofs.machine.Core.feed.Goals as goal
 

@@ -1,6 +1,6 @@
 use Rattle.std.proofs.Common.{subst}
 use Rattle.kapi_core.specs.Running.{Running}
-use Rattle.kapi_core.specs.Stands.{Loads}
+use Rattle.kapi_core.specs.Refines.{Loads}
 use Rattle.kapi_core.proofs.Loads.{loaded}
 use Rattle.kapi_core.proofs.machine.Core.load.Goals as goal
 

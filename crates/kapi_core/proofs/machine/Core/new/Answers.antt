@@ -2,7 +2,7 @@ use Rattle.std.proofs.Common.{ℕ, List, ◌∙◌, ap, sym, subst}
 use Rattle.std.specs.Map.{keys_of}
 use Rattle.kapi_core.specs.Machine.{Link}
 use Rattle.kapi_core.specs.Opening.{empty, opening, opening_objects}
-use Rattle.kapi_core.specs.Stands.{AreLinks}
+use Rattle.kapi_core.specs.Refines.{AreLinks}
 use Rattle.kapi_core.proofs.AlikeLinks.{links_none}
 use Rattle.kapi_core.proofs.Opened.{opening_stands}
 use Rattle.kapi_core.proofs.Openings.{openings_same}

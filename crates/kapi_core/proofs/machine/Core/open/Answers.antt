@@ -2,16 +2,16 @@ use Rattle.std.proofs.Common.{◌≡◌, ◌+◌, true, ◌&&◌, length, nat_lt
 use Rattle.std.specs.BTreeMap.{insert_entry}
 use Rattle.std.specs.Ordering.{nat_cmp}
 use Rattle.kapi_core.specs.Running.{Running}
-use Rattle.kapi_core.specs.Stands.{Makes, RunsOut}
+use Rattle.kapi_core.specs.Refines.{Makes, RunsOut}
 use Rattle.kapi_core.specs.declared.event.Event.TheVariants as event
 use Rattle.kapi_core.specs.declared.event.Answer.TheVariants as told
-use Rattle.kapi_core.specs.declared.machine.TheConstants.{LAST_CONNECTION, OPEN_CONNECTIONS}
+use Rattle.kapi_core.specs.Limits.{last_connection, open_connections}
 use Rattle.kapi_core.proofs.RunsOut.{room_is_late}
 use Rattle.kapi_core.proofs.Steps.{made_for, opened, not_opened}
 use Rattle.kapi_core.proofs.machine.Core.open.Goals as goal
 
 abbrev HasRoom : Running → Type 0
-HasRoom r = (nat_lt (length r.connections) OPEN_CONNECTIONS && nat_le r.next_id LAST_CONNECTION) ≡ true
+HasRoom r = (nat_lt (length r.connections) open_connections && nat_le r.next_id last_connection) ≡ true
 
 pub returns-then-not-has_room : goal.returns-then-not-has_room
 returns-then-not-has_room g c = λ m h.

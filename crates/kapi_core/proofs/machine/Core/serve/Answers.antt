@@ -5,11 +5,11 @@ use Rattle.std.specs.Ordering.{nat_cmp}
 use Rattle.kapi_answer.specs.Outcomes.{answered_data}
 use Rattle.kapi_policy.specs.declared.change.PolicyChange.{PolicyChange}
 use Rattle.kapi_store.proofs.Stores.{same_stands}
-use Rattle.kapi_store.specs.Plain.{StandsFor, plain_of}
+use Rattle.kapi_store.specs.Plain.{RefinesPlain, plain_of}
 use Rattle.kapi_store.specs.State.{State}
 use Rattle.kapi_core.specs.Machine.{Machine}
 use Rattle.kapi_core.specs.Running.{Running}
-use Rattle.kapi_core.specs.Stands.{Makes, Sends}
+use Rattle.kapi_core.specs.Refines.{Makes, Sends}
 use Rattle.kapi_core.specs.declared.event.Event.TheVariants as event
 use Rattle.kapi_core.specs.declared.event.Answer.TheVariants as told
 use Rattle.kapi_core.proofs.RunsOut.{sends_err}
@@ -47,11 +47,11 @@ returns g c =
     let there = sym c.in-Some.ensures.value in
     let out = c.in_ok-reply.field-0 in
     let links = c.close_if.ensures
-    ∙ ap (λ es. if out.reply.close then remove_entry (is_at (nat_cmp c.args.conn.0)) es else es) (c.done_at.ensures c.in-Some.connection.now there) in
+    ∙ ap (λ es. if out.reply.close then remove_entry (is_at (nat_cmp c.args.conn.0)) es else es) (c.finish_request.ensures c.in-Some.connection.now there) in
     let Told : Running → List PolicyChange → Type 0 = λ r changes. Makes r next (event.Serve c.args.conn) (told.Sent (record { bytes = out.reply.bytes; close = out.reply.close; policy_changes = changes })) in
-    let P : Running → Type 0 = λ r. Told r c.new.result in
+    let P : Running → Type 0 = λ r. Told r c.in_ok-changes.changes in
     let Q : List PolicyChange → Type 0 = Told old in
-    subst P c.self.view_is (subst Q (sym (c.new.ensures ∙ c.in_ok-changes.ensures.made))
+    subst P c.self.view_is (subst Q (sym c.in_ok-changes.ensures.made)
     (λ m h. made_for old.store old.policy old.marks old.connections old.next_id old.rechecks m next.store next.policy next.marks next.connections next.next_id next.rechecks (event.Serve c.args.conn) _ h
     (served old.store next.store old.policy next.policy old.marks next.marks old.connections next.connections old.next_id old.rechecks c.args.conn c.in-Some.connection.now c.in-Some-2.item
     out.watch (answered_data out) there (is_idle c.in-Some.connection.now.watching (sym c.is_some.ensures ∙ c.if-is_some.false))
@@ -78,7 +78,7 @@ returns-in_err-changes g c =
     let old : Running = record { store = c.self.inside.store; policy = g.P.Policy.content c.self.inside.policy; marks = c.self.inside.tracker; connections = c.self.inside.connections.entries; next_id = c.self.inside.next_id; rechecks = c.self.inside.rechecks } in
     let next : Running = record old { store = c.make_write.new.store; policy = g.P.Policy.content c.make_write.new.policy; marks = c.make_write.new.tracker } in
     let P : Running → Type 0 = λ r. Sends r next (event.Serve c.args.conn) c.from_residual-in_err-changes.result in
-    let Kept : Machine → State → Type 0 = λ m s. StandsFor s m.changes m.store in
+    let Kept : Machine → State → Type 0 = λ m s. RefinesPlain s m.changes m.store in
     subst P c.self.view_is
     (sends_err old next (event.Serve c.args.conn) c.from_residual-in_err-changes.result c.from_residual-in_err-changes.ensures.0
     (λ m h. (

@@ -1,7 +1,7 @@
 use Rattle.std.proofs.Common.{Option, None, Ok, subst}
 use Rattle.kapi_aggregation.specs.declared.turn.Turn.{Turn}
 use Rattle.kapi_core.specs.Running.{Running}
-use Rattle.kapi_core.specs.Stands.{Turns}
+use Rattle.kapi_core.specs.Refines.{Turns}
 use Rattle.kapi_core.proofs.RunsOut.{turns_err}
 use Rattle.kapi_core.proofs.Turning.{IsDue, kept_due, nothing_turned, turned_into}
 use Rattle.kapi_core.proofs.machine.Core.turn.Goals as goal

@@ -1,4 +1,4 @@
-use Rattle.kapi_serve.specs.Clients.{seat_of}
+use Rattle.kapi_serve.specs.Private.Clients.{seat_of}
 use Rattle.kapi_serve.specs.Goes.{Writes}
 use Rattle.kapi_serve.proofs.client.Client.flush.Given as goal
 

@@ -1,5 +1,5 @@
 use Rattle.std.proofs.Common.{take, ◌++◌, refl, sym, ap, ◌∙◌}
-use Rattle.kapi_serve.specs.Pieces.{owed}
+use Rattle.kapi_serve.specs.Private.Pieces.{owed}
 use Rattle.kapi_serve.proofs.Going.{writes_nothing, writes_still, writes_took}
 use Rattle.kapi_serve.proofs.client.Client.write.Goals as goal
 

@@ -1,5 +1,5 @@
 use Rattle.std.proofs.Common.{ap, ◌∙◌}
-use Rattle.kapi_serve.specs.Clients.{seat_of, seats_of}
+use Rattle.kapi_serve.specs.Private.Clients.{seat_of, seats_of}
 use Rattle.kapi_serve.proofs.Going.{closes_of}
 use Rattle.kapi_serve.proofs.Placing.{at_get, at_remove}
 use Rattle.kapi_serve.proofs.clients.Clients.end.Goals as goal

@@ -1,6 +1,6 @@
 use Rattle.std.proofs.Common.{◌≡◌, ◌∙◌, ap, subst, refl, Err}
-use Rattle.kapi_serve.specs.Clients.{others, seat_of}
-use Rattle.kapi_core.specs.Stands.{Makes, TakesIn}
+use Rattle.kapi_serve.specs.Private.Clients.{others, seat_of}
+use Rattle.kapi_core.specs.Refines.{Makes, TakesIn}
 use Rattle.kapi_core.specs.declared.event.Event.TheVariants as event
 use Rattle.kapi_core.specs.declared.event.Answer.TheVariants as answer
 use Rattle.kapi_serve.proofs.Going.{moves_as, moves_fed, moves_refused}

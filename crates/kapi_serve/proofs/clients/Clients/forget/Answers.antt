@@ -1,6 +1,6 @@
 use Rattle.std.proofs.Common.{◌≡◌, ◌∙◌, ap, subst}
-use Rattle.kapi_serve.specs.Clients.{seat_of, seats_of}
-use Rattle.kapi_core.specs.Stands.{Makes}
+use Rattle.kapi_serve.specs.Private.Clients.{seat_of, seats_of}
+use Rattle.kapi_core.specs.Refines.{Makes}
 use Rattle.kapi_core.specs.declared.event.Event.TheVariants as event
 use Rattle.kapi_core.specs.declared.event.Answer.TheVariants as answer
 use Rattle.kapi_serve.proofs.Going.{moves_as, moves_forgotten, moves_nothing, moves_on}

@@ -1,5 +1,5 @@
 use Rattle.std.specs.Prelude.{List, length, ⊤}
-use Rattle.kapi_serve.specs.Clients.{seats_of}
+use Rattle.kapi_serve.specs.Private.Clients.{seats_of}
 use Rattle.kapi_serve.specs.Goes.{Moves}
 use Rattle.kapi_serve.specs.declared.port.Entry.{Entry}
 use Rattle.kapi_serve.proofs.clients.Clients.forget.Given as goal

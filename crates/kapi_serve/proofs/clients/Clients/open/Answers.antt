@@ -1,5 +1,5 @@
 use Rattle.std.proofs.Common.{◌++◌, [], ◌∷◌, ap, refl, ◌∙◌}
-use Rattle.kapi_serve.specs.Clients.{seats_of}
+use Rattle.kapi_serve.specs.Private.Clients.{seats_of}
 use Rattle.kapi_serve.proofs.Going.{moves_any, moves_as, moves_lost, moves_on, moves_opened, moves_unopened}
 use Rattle.kapi_serve.proofs.clients.Clients.open.Goals as goal
 

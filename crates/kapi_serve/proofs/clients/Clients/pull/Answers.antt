@@ -1,5 +1,5 @@
 use Rattle.std.proofs.Common.{◌≡◌, ◌++◌, [], ◌∷◌, take, ap, sym, refl, subst, ◌∙◌}
-use Rattle.kapi_serve.specs.Clients.{others, seats_of}
+use Rattle.kapi_serve.specs.Private.Clients.{others, seats_of}
 use Rattle.kapi_serve.specs.declared.port.Entry.TheVariants as entry
 use Rattle.kapi_serve.proofs.Going.{moves_as, moves_before, moves_end, moves_ended, moves_nothing, moves_on, moves_still}
 use Rattle.kapi_serve.proofs.Placing.{others_ended}

@@ -1,5 +1,5 @@
 use Rattle.std.proofs.Common.{ap}
-use Rattle.kapi_serve.specs.Clients.{seat_of}
+use Rattle.kapi_serve.specs.Private.Clients.{seat_of}
 use Rattle.kapi_serve.proofs.Placing.{seats_same}
 use Rattle.kapi_serve.proofs.clients.Clients.reach_end.Goals as goal
 

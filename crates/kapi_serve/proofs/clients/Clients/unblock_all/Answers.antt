@@ -1,6 +1,6 @@
 use Rattle.std.proofs.Common.{ap, ◌∙◌}
 use Rattle.std.proofs.lemmas.List.{length-set}
-use Rattle.kapi_serve.specs.Clients.{seat_of}
+use Rattle.kapi_serve.specs.Private.Clients.{seat_of}
 use Rattle.kapi_serve.proofs.Placing.{seats_same}
 use Rattle.kapi_serve.proofs.clients.Clients.unblock_all.Goals as goal
 

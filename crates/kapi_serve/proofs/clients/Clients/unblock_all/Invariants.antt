@@ -1,5 +1,5 @@
 use Rattle.std.specs.Prelude.{◌≡◌, length}
-use Rattle.kapi_serve.specs.Clients.{seats_of}
+use Rattle.kapi_serve.specs.Private.Clients.{seats_of}
 use Rattle.kapi_serve.proofs.clients.Clients.unblock_all.Given as goal
 
 abbrev pub invariant-loop-index : goal.invariant-loop-index

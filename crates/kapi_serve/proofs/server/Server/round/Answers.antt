@@ -1,5 +1,5 @@
 use Rattle.std.proofs.Common.{ap, sym}
-use Rattle.kapi_serve.specs.Clients.{seats_of}
+use Rattle.kapi_serve.specs.Private.Clients.{seats_of}
 use Rattle.kapi_serve.proofs.Going.{goes_any, goes_nothing, goes_on, goes_to}
 use Rattle.kapi_serve.proofs.server.Server.round.Goals as goal
 

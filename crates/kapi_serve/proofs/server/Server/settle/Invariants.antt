@@ -1,4 +1,4 @@
-use Rattle.kapi_serve.specs.Clients.{seats_of}
+use Rattle.kapi_serve.specs.Private.Clients.{seats_of}
 use Rattle.kapi_serve.specs.Goes.{Goes}
 use Rattle.kapi_serve.proofs.server.Server.settle.Given as goal
 

@@ -1,6 +1,6 @@
 use Rattle.std.proofs.Common.{◌≡◌, ◌++◌, ◌∷◌, set, sym, ap, ◌∙◌}
 use Rattle.kapi_serve.specs.Goes.{IsAt}
-use Rattle.kapi_serve.specs.Clients.{seat_of, seats_of}
+use Rattle.kapi_serve.specs.Private.Clients.{seat_of, seats_of}
 use Rattle.kapi_serve.proofs.Going.{goes_any, goes_as, goes_moving, goes_nothing, goes_on, goes_writing, moves_ended}
 use Rattle.kapi_serve.proofs.Placing.{at_set, stands_at}
 use Rattle.kapi_serve.proofs.server.Server.visit.Goals as goal

@@ -1,4 +1,4 @@
--- A free slot leaves the ports, so whoever is taken in came by one of them.
+-- A free slot leaves the ports, so a client that is accepted came by one of them.
 use Rattle.std.proofs.Common.{◌∙◌}
 use Rattle.kapi_serve.specs.Listening.{doors}
 use Rattle.kapi_serve.proofs.Listening.{came_same}

@@ -1,4 +1,4 @@
--- What is counted of a listener is no part of its port and its identity.
+-- The counts of a listener are no part of its port and its identity.
 use Rattle.std.proofs.Common.{refl, arith}
 use Rattle.kapi_serve.proofs.Listening.{doors_kept}
 use Rattle.kapi_serve.proofs.sockets.Sockets.accept_at.Goals as goal

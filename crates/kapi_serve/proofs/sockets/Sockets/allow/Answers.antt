@@ -1,4 +1,4 @@
--- So many clients are no part of a port and its identity.
+-- The number of clients that may be accepted is no part of a port and its identity.
 use Rattle.std.proofs.Common.{◌∙◌, refl, arith}
 use Rattle.kapi_serve.proofs.Listening.{doors_kept}
 use Rattle.kapi_serve.proofs.sockets.Sockets.allow.Goals as goal

@@ -2,7 +2,7 @@ use Rattle.std.proofs.Common.{◌≡◌, ap, ◌∙◌}
 use Rattle.std.specs.BTreeMap.Range.{entries_between}
 use Rattle.std.specs.declared.ops.Bound.TheVariants.{Included, Excluded}
 use Rattle.kapi_store.specs.Keys.{key_cmp}
-use Rattle.kapi_store.specs.Span.{first_key}
+use Rattle.kapi_store.specs.Private.Span.{first_key}
 use Rattle.kapi_store.specs.State.{live}
 use Rattle.kapi_store.specs.Listing.{listed_objects}
 use Rattle.kapi_store.proofs.Spans.{first_below_end, listed_between}

@@ -8,7 +8,7 @@ use Rattle.kapi_store.specs.Changes.{AreRemovals, Follow, revision_of}
 use Rattle.kapi_store.specs.State.{live}
 use Rattle.kapi_store.specs.Plain.{plain_change, trees, removals}
 use Rattle.kapi_store.proofs.Windows.{Follow_append}
-use Rattle.kapi_store.proofs.Writes.{removals_more, removals_step, removals_write}
+use Rattle.kapi_store.proofs.Writes.{removals_alone, removals_more, removals_step, removals_write}
 use Rattle.kapi_store.proofs.ready.Ready.removals.Goals as goal
 
 pub loop-key-init : goal.loop-key-init
@@ -48,7 +48,9 @@ loop-key-preserved c =
     }
 
 pub invariant_of-result : goal.invariant_of-result
-invariant_of-result c = removals_write c.loop-key.list.items c.loop-key.invariant.removals
+invariant_of-result c =
+    let removed : AreRemovals c.loop-key.list.items = c.loop-key.invariant.removals in
+    (removals_write c.loop-key.list.items removed, removals_alone c.loop-key.list.items removed)
 
 pub returns-clause-changes : goal.returns-clause-changes
 unfolding removals

@@ -2,7 +2,7 @@ use Rattle.std.proofs.Common.{◌≡◌, ℕ, ◌≤◌, ◌<◌, ◌-◌, max, 
 use Rattle.std.specs.Prelude.{nat_lt}
 use Rattle.std.specs.List.{filter}
 use Rattle.kapi_store.specs.declared.change.Change.{Change}
-use Rattle.kapi_store.specs.declared.window.TheConstants.{WINDOW}
+use Rattle.kapi_store.specs.Limits.{window_limit}
 use Rattle.kapi_store.specs.Changes.{last_of}
 use Rattle.kapi_store.specs.Lent.{changes_of}
 use Rattle.kapi_store.specs.Plain.{plain_change}

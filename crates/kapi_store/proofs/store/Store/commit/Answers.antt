@@ -2,7 +2,7 @@ use Rattle.std.proofs.Common.{◌≡◌, suc, ◌+◌, ◌++◌, ◌∷◌, [], 
 use Rattle.std.proofs.lemmas.Grind.{common_steps}
 use Rattle.std.specs.Vec.Iter.{into_iter_items}
 use Rattle.kapi_store.specs.declared.change.Change.{Change}
-use Rattle.kapi_store.specs.declared.window.TheConstants.{WINDOW}
+use Rattle.kapi_store.specs.Limits.{window_limit}
 use Rattle.kapi_store.specs.Changes.{placed_all, left_by, last_of, AreRemovals, IsWrite}
 use Rattle.kapi_store.specs.State.{objects, Fits}
 use Rattle.kapi_store.proofs.Writes.{removals_write}
@@ -36,9 +36,9 @@ loop-change-preserved c =
       fits = fits_rest _ _ c.in-Some.change left (subst Fitting all k.fits) removals m.revision;
       objects = ap (placed_all (left_by left)) m.objects ∙ ap (λ cs. placed_all (left_by cs) (objects c.loop-change.self)) (sym all) ∙ k.objects;
       revision = let len : length (into_iter_items c.loop-change.change-iterator) ≡ suc (length left) = ap length all in omega arith;
-      window = ap (λ cs. last_of WINDOW (cs ++ left)) m.window ∙ last_last WINDOW (c.loop-change.self.window ++ c.in-Some.change ∷ []) left
-          ∙ ap (last_of WINDOW) (append_assoc c.loop-change.self.window (c.in-Some.change ∷ []) left) ∙ ap (λ cs. last_of WINDOW (c.loop-change.self.window ++ cs)) (sym all) ∙ k.window;
-      kept = λ _. last_within WINDOW (c.loop-change.self.window ++ c.in-Some.change ∷ []) c.make.new.self.window m.window;
+      window = ap (λ cs. last_of window_limit (cs ++ left)) m.window ∙ last_last window_limit (c.loop-change.self.window ++ c.in-Some.change ∷ []) left
+          ∙ ap (last_of window_limit) (append_assoc c.loop-change.self.window (c.in-Some.change ∷ []) left) ∙ ap (λ cs. last_of window_limit (c.loop-change.self.window ++ cs)) (sym all) ∙ k.window;
+      kept = λ _. last_within window_limit (c.loop-change.self.window ++ c.in-Some.change ∷ []) c.make.new.self.window m.window;
       table = m.table ∙ k.table;
       first = m.first ∙ k.first;
     }
@@ -52,8 +52,8 @@ returns c =
     let objs : objects c.loop-change.self ≡ placed_all (left_by c.args.ready) (objects c.args.self.now)
     = ap (λ cs. placed_all (left_by cs) (objects c.loop-change.self)) (sym none) ∙ k.objects in
     let revision : c.loop-change.self.revision ≡ c.args.self.now.revision + length c.args.ready = omega arith in
-    let last : last_of WINDOW c.loop-change.self.window ≡ last_of WINDOW (c.args.self.now.window ++ c.args.ready)
-    = ap (last_of WINDOW) (sym (append-nil c.loop-change.self.window)) ∙ ap (λ cs. last_of WINDOW (c.loop-change.self.window ++ cs)) (sym none) ∙ k.window in
+    let last : last_of window_limit c.loop-change.self.window ≡ last_of window_limit (c.args.self.now.window ++ c.args.ready)
+    = ap (last_of window_limit) (sym (append-nil c.loop-change.self.window)) ∙ ap (λ cs. last_of window_limit (c.loop-change.self.window ++ cs)) (sym none) ∙ k.window in
     record {
       objects = objs;
       revision = revision;

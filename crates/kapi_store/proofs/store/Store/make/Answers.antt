@@ -1,6 +1,6 @@
 use Rattle.std.proofs.Common.{◌≡◌, ◌+◌, ◌≤◌, ◌∙◌, ap, sym, refl, subst, IsSome, Option, arith}
-use Rattle.kapi_object.specs.declared.object.Object.{Object}
-use Rattle.kapi_store.specs.declared.store.TheConstants.{LAST_REVISION}
+use Rattle.kapi_tree.specs.declared.object.Object.{Object}
+use Rattle.kapi_store.specs.Limits.{last_revision}
 use Rattle.std.specs.Map.{lookup}
 use Rattle.kapi_store.specs.Keys.{is_key}
 use Rattle.kapi_store.specs.Changes.{Follow}
@@ -22,7 +22,7 @@ unfolding Follow
 invariant_of-self c =
     let now : state_of c.self.inside ≡ c.args.self.now = c.self.view_is in
     let next : c.args.change.revision ≡ c.args.self.now.revision + 1 = c.requires.fits.next.0 in
-    let last : c.args.self.now.revision + 1 ≤ LAST_REVISION = c.requires.fits.last in
+    let last : c.args.self.now.revision + 1 ≤ last_revision = c.requires.fits.last in
     next_store (state_of c.self.inside) _ c.args.change c.self.invariant c.place.ensures.ordered
     (c.place.ensures.spare _ c.self.invariant.spare)
     c.note.ensures

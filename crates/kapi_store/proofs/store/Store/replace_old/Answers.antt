@@ -1,8 +1,8 @@
 use Rattle.std.proofs.Common.{◌≡◌, ◌+◌, ◌≤◌, [], Ok, true, false, IsSome, ap, sym, subst, refl, ◌∙◌, arith, rules}
 use Rattle.std.specs.Map.{lookup}
 use Rattle.std.specs.Fmt.{decimal}
-use Rattle.kapi_object.specs.Object.{tree_of, stamped_tree}
-use Rattle.kapi_store.specs.declared.store.TheConstants.{LAST_REVISION}
+use Rattle.kapi_tree.specs.Object.{tree_of, stamped_tree}
+use Rattle.kapi_store.specs.Limits.{last_revision}
 use Rattle.kapi_store.specs.Keys.{is_key}
 use Rattle.kapi_store.specs.Same.{same_tree}
 use Rattle.kapi_store.specs.Stamps.{with_stamps_of, uid_in}
@@ -46,7 +46,7 @@ returns-clause-gives c =
 pub returns-clause-fits : goal.returns-clause-fits
 returns-clause-fits c =
     let at : c.args.self.now.revision ≡ c.self.inside.revision = ap (λ s. s.revision) (sym c.self.view_is) in
-    let left : c.args.self.now.revision + 1 ≤ LAST_REVISION = c.in_ok-check_revisions.ensures.left in
+    let left : c.args.self.now.revision + 1 ≤ last_revision = c.in_ok-check_revisions.ensures.left in
     fits_one c.args.self.now _ _ c.in_ok-of_one.ensures (omega arith) (omega arith) (λ _. c.requires)
 
 -- no changes were prepared, and the trees are equal

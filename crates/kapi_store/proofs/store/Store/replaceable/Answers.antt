@@ -3,7 +3,7 @@ use Rattle.serde_json.specs.Data.{Data}
 use Rattle.std.specs.Map.{lookup}
 use Rattle.std.proofs.lemmas.Result.{IfOk-weaker}
 use Rattle.kapi_text.specs.Gives.{Gives}
-use Rattle.kapi_object.specs.Object.{tree_of}
+use Rattle.kapi_tree.specs.Object.{tree_of}
 use Rattle.kapi_store.specs.Faults.{fault_of}
 use Rattle.kapi_store.specs.Keys.{key_cmp, is_key}
 use Rattle.kapi_store.specs.Plain.{admitted, trees}

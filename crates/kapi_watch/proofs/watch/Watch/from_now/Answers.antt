@@ -1,6 +1,6 @@
 use Rattle.std.proofs.Common.{ℕ, List, map, ap, ◌∙◌}
 use Rattle.serde_json.specs.Data.{Data}
-use Rattle.kapi_object.specs.Object.{tree_of}
+use Rattle.kapi_tree.specs.Object.{tree_of}
 use Rattle.kapi_store.specs.declared.key.Key.{Key}
 use Rattle.kapi_store.specs.declared.listing.Listed.{Listed}
 use Rattle.kapi_store.specs.Listing.{listed_trees}

@@ -1,9 +1,9 @@
 use Rattle.std.proofs.Common.{◌≡◌, ◌≤◌, ◌<◌, ℕ, length, sym, ap, ◌∙◌, subst, arith, Some, slice_get, refl}
 use Rattle.std.proofs.lemmas.Option.{slice_get_read}
-use Rattle.kapi_object.specs.Object.{tree_of}
+use Rattle.kapi_tree.specs.Object.{tree_of}
 use Rattle.kapi_store.specs.Plain.{changes_after, plain_of}
-use Rattle.kapi_watch.specs.Looked.{first_in, position_after, shown_in}
-use Rattle.kapi_watch.specs.Running.{StandsForWatch}
+use Rattle.kapi_watch.specs.Private.Looked.{first_in, position_after, shown_in}
+use Rattle.kapi_watch.specs.Running.{RefinesWatch}
 use Rattle.kapi_watch.specs.Shown.{Added}
 use Rattle.kapi_watch.specs.Watches.{after_pump}
 use Rattle.kapi_watch.proofs.Standing.{first_after_one, first_pumped, rest_after, rest_pumped}
@@ -40,7 +40,7 @@ returns-clause-place c = λ history s w stands is.
     let len : length c.as_slice.result.now ≡ length r.first = ap length c.as_slice.ensures in
     let past : length c.as_slice.result.now ≤ r.told = l.3 in
     let over : length r.first ≤ r.told = omega arith in
-    let P : ℕ → Type 0 = λ p. StandsForWatch (record r { position = p }) history s (after_pump history s w) in
+    let P : ℕ → Type 0 = λ p. RefinesWatch (record r { position = p }) history s (after_pump history s w) in
     let stood = c.position_past.ensures
     ∙ ap (position_after (plain_of c.args.store.now) r.position) (c.look-found.ensures history s stands)
     ∙ ap (λ p. position_after p r.position (first_in r.scope (changes_after history s r.position))) stands.plain in

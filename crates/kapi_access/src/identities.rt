@@ -1,0 +1,8 @@
+/// About whom a question is.
+#[derive(Clone, Copy, Debug)]
+pub enum Identities {
+    /// All that can be: any user, in any groups or in none.
+    Any,
+    /// Those that authentication gives: each user with the groups that it has by itself (Kubernetes, 'Authenticating').
+    Usual,
+}

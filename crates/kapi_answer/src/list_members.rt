@@ -1,0 +1,57 @@
+//! Members and items of JSON texts, written one after the other.
+ghost use Rattle.std.specs.Prelude.{◌≡◌, ◌++◌, ◌∷◌, OnOk, IfOk};
+ghost use Rattle.json.specs.Print.{quoted};
+ghost use Rattle.kapi_tree.specs.Object.{tree_of};
+ghost use Rattle.serde_json.specs.Written.{comma_if, compact_text};
+
+use kapi_text::Memory;
+use kapi_tree::Object;
+use serde_json::Value;
+use std::alloc::Global;
+
+/// Writes a member whose value is a text behind the text so far: the key, a colon and the value.
+pub(crate) fn push_member(
+    alloc: Global,
+    text: &mut Vec<u8>,
+    before: &[u8],
+    key: &str,
+    value: &str,
+) -> Result<(), Memory>
+    ensures { OnOk result (text.new.items ≡ text.old.items ++ (before.now ++ (quoted key.now ++ 58 ∷ quoted value.now))) }
+{
+    text.extend_from_slice(before)?;
+    push_text(alloc, text, key)?;
+    text.push(b':')?;
+    push_text(alloc, text, value)
+}
+
+/// Writes a text as a JSON string.
+fn push_text(alloc: Global, text: &mut Vec<u8>, value: &str) -> Result<(), Memory>
+    ensures { OnOk result (text.new.items ≡ text.old.items ++ quoted value.now) }
+{
+    let quoted = quote(alloc, value)?;
+    text.extend_from_slice(quoted.as_slice())
+}
+
+/// A text as a JSON string.
+fn quote(alloc: Global, text: &str) -> Result<Vec<u8>, Memory>
+    ensures { IfOk result (λ b. b.items ≡ quoted text.now) }
+{
+    Value::try_from_str(alloc, text)?.to_vec(alloc)
+}
+
+/// Writes an object as an item of an array: after a comma, where an item comes before it.
+pub(crate) fn push_item(
+    alloc: Global,
+    text: &mut Vec<u8>,
+    later: bool,
+    object: &Object,
+) -> Result<(), Memory>
+    ensures { OnOk result (text.new.items ≡ text.old.items ++ (comma_if later ++ compact_text (tree_of object.now))) }
+{
+    if later {
+        text.push(b',')?;
+    }
+    let rendered = object.render(alloc)?;
+    text.extend_from_slice(rendered.as_slice())
+}

@@ -1,0 +1,37 @@
+-- A write of the store and of the policy, in one step.
+use Rattle.std.specs.Prelude.{◌≡◌, ℕ, ◌+◌, List, ◌++◌, Option, None, Some, Result, Ok, Err}
+use Rattle.std.specs.declared.alloc.AllocError.{AllocError}
+use Rattle.kapi_aggregation.specs.Marks.{Covers, CoversAsMuch, Tracked}
+use Rattle.kapi_aggregation.specs.Rewriting.{rewriting}
+use Rattle.kapi_aggregation.specs.Roles.{roles_in}
+use Rattle.kapi_aggregation.specs.declared.turn.Turn.{Turn}
+use Rattle.kapi_text.specs.Gives.{Fails}
+use Rattle.kapi_answer.specs.Load.{fault_told, loads}
+use Rattle.kapi_answer.specs.declared.loading.LoadError.{LoadError}
+use Rattle.kapi_policy.specs.declared.change.PolicyChange.{PolicyChange}
+use Rattle.kapi_policy.specs.Objects.{PolicyObjects}
+use Rattle.kapi_store.specs.Plain.{Plain, PlainChange, RefinesPlain, plain_of, written}
+use Rattle.kapi_store.specs.Faults.{StoreFault}
+use Rattle.kapi_store.specs.State.{Same, State}
+use Rattle.kapi_stored_policy.specs.Reading.{policy_changes, policy_objects}
+use Rattle.kapi_core.specs.declared.event.Turned.{Turned}
+
+-- a store and a policy that refined some objects, and marks that covered their cluster roles, refine and cover what
+-- these changes make of those objects
+abbrev pub Writes : State → PolicyObjects → Tracked → State → PolicyObjects → Tracked → List PlainChange → Type 0
+Writes s o ms t u ns changes = (cs : List PlainChange) (p : Plain) → RefinesPlain s cs p → o ≡ policy_objects p.objects → Covers ms (roles_in p.objects)
+    → RefinesPlain t (cs ++ changes) (written changes p) × (u ≡ policy_objects (written changes p).objects) × Covers ns (roles_in (written changes p).objects)
+
+-- what becomes of a store, a policy and the marks where an object is loaded; where it is refused nothing is changed
+abbrev pub LoadsInto : State → PolicyObjects → Tracked → State → PolicyObjects → Tracked → List ℕ → Result (List PolicyChange) LoadError → Type 0
+LoadsInto s o ms t u ns text (Ok made) =
+    (changes : List PlainChange) × (loads (plain_of s) text ≡ Ok changes) × (made ≡ policy_changes changes) × Writes s o ms t u ns changes
+LoadsInto s o ms t u ns text (Err e) = Fails (fault_told e) (loads (plain_of s) text) × Same s t × (u ≡ o) × CoversAsMuch ms ns
+
+-- what becomes of a store, a policy and the marks where a turn is made; where its write is refused nothing is changed
+abbrev pub TurnsInto : State → PolicyObjects → Tracked → State → PolicyObjects → Tracked → Turn → Result (Option Turned) AllocError → Type 0
+TurnsInto s o ms t u ns turn (Ok (Some turned)) =
+    (changes : List PlainChange) × (rewriting turn (plain_of s) ≡ Ok changes)
+    × (turned ≡ record { revision = s.revision + 1; name = turn.name; policy_changes = policy_changes changes }) × Writes s o ms t u ns changes
+TurnsInto s o ms t u ns turn (Ok None) = (fault : StoreFault) × (rewriting turn (plain_of s) ≡ Err fault) × (t ≡ s) × (u ≡ o) × CoversAsMuch ms ns
+TurnsInto s o ms t u ns turn (Err e) = (t ≡ s) × (u ≡ o) × CoversAsMuch ms ns

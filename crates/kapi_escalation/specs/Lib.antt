@@ -1,2 +1,0 @@
-pub mod Escalation
-pub mod Granted

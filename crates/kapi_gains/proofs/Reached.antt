@@ -1,0 +1,76 @@
+-- Runs, one after the other.
+use Rattle.std.proofs.Common.{◌≡◌, List, [], ◌∷◌, ◌++◌, refl, sym, subst}
+use Rattle.serde_json.specs.Data.{Data}
+use Rattle.kapi_model.specs.declared.identity.Identity.{Identity}
+use Rattle.kapi_store.specs.declared.key.Key.{Key}
+use Rattle.kapi_stored_policy.proofs.Writes.{policy_in_order}
+use Rattle.kapi_stored_policy.specs.Reading.{policy_objects}
+use Rattle.kapi_aggregation.specs.Roles.{roles_in}
+use Rattle.kapi_aggregation.specs.Unions.{IsSettled as AreUnions}
+use Rattle.kapi_gains.proofs.Elements.{has_left, has_right}
+use Rattle.kapi_gains.proofs.Law.{nobody_gains}
+use Rattle.kapi_gains.specs.Access.{GivesNothing, IsUnprivileged}
+use Rattle.kapi_aggregation.specs.Members.{Has}
+use Rattle.kapi_gains.specs.States.{PolicyState}
+use Rattle.kapi_gains.specs.Steps.{AreBy, IsBy, IsGuarded, KeepsLabels, Makes, PolicyStep, Runs, deletes, turns, writes}
+use Rattle.kapi_gains.proofs.StoredRoles.{labelled_are}
+use Rattle.kapi_gains.specs.Runs.{ObjectsReach, Reaches}
+use Rattle.kapi_gains.specs.StoredStates.{AreInOrder, policy_state}
+
+same_state : (s t : PolicyState) → t.objects ≡ s.objects → KeepsLabels s.labels t.labels → t ≡ s
+same_state s t objects labels = λ i. record { objects = objects i; labels = λ q. labels q i }
+
+joined : (s m t : PolicyState) (xs ys : List PolicyStep) → Runs s xs m → Runs m ys t → Runs s (xs ++ ys) t
+joined s m t [] ys h k = let P : PolicyState → Type 0 = λ p. Runs p ys t in subst P (same_state s m h.0 h.1) k
+joined s m t (x ∷ xs) ys h k = (h.0, (h.1.0, joined h.0 m t xs ys h.1.1 k))
+
+module _ (few many : List Identity) (among : (who : Identity) → Has few who → Has many who) where
+  wider : (step : PolicyStep) → IsBy few step → IsBy many step
+  wider (writes w) by = among w.writer by
+  wider (deletes k) by = tt
+  wider (turns name) by = tt
+
+  wider_all : (steps : List PolicyStep) → AreBy few steps → AreBy many steps
+  wider_all [] by = tt
+  wider_all (step ∷ steps) by = (wider step by.0, wider_all steps by.1)
+
+  -- a run is one by more acting identities as well
+  pub reaches_by : (s t : PolicyState) → Reaches few s t → Reaches many s t
+  reaches_by s t r = record { steps = r.steps; by = wider_all r.steps r.by; runs = r.runs }
+
+module _ (acting : List Identity) where
+  by_both : (xs ys : List PolicyStep) → AreBy acting xs → AreBy acting ys → AreBy acting (xs ++ ys)
+  by_both [] ys h k = k
+  by_both (x ∷ xs) ys h k = (h.0, by_both xs ys h.1 k)
+
+  -- no step
+  pub reaches_itself : (s : PolicyState) → Reaches acting s s
+  reaches_itself s = record { steps = []; by = tt; runs = (refl, λ q. refl) }
+
+  -- one step
+  pub reaches_next : (s t : PolicyState) (step : PolicyStep) → IsBy acting step → Makes s step t → Reaches acting s t
+  reaches_next s t step by makes = record { steps = step ∷ []; by = (by, tt); runs = (t, (makes, (refl, λ q. refl))) }
+
+  -- one run after the other
+  pub reaches_onward : (s m t : PolicyState) → Reaches acting s m → Reaches acting m t → Reaches acting s t
+  reaches_onward s m t first rest = record {
+    steps = first.steps ++ rest.steps;
+    by = by_both first.steps rest.steps first.by rest.by;
+    runs = joined s m t first.steps rest.steps first.runs rest.runs;
+  }
+
+  -- nobody gains by a run
+  pub reached_gives_nothing : (s t : PolicyState) → IsGuarded acting s → Reaches acting s t → GivesNothing acting s.objects t.objects
+  reached_gives_nothing s t guarded r = nobody_gains acting s t r.steps guarded r.by r.runs
+
+-- one run after the other, whichever identities made either
+pub reaches_both : (xs ys : List Identity) (s m t : PolicyState) → Reaches xs s m → Reaches ys m t → Reaches (xs ++ ys) s t
+reaches_both xs ys s m t first rest =
+    reaches_onward (xs ++ ys) s m t (reaches_by xs (xs ++ ys) (has_left xs ys) s m first) (reaches_by ys (xs ++ ys) (has_right xs ys) m t rest)
+
+-- nobody gains by a run of the policies of some objects
+pub objects_give_nothing : (acting : List Identity) (os now : List (Key × Data)) → AreInOrder os → AreUnions (roles_in os)
+    → ((who : Identity) → Has acting who → IsUnprivileged (policy_objects os) who) → ObjectsReach acting os now → GivesNothing acting (policy_objects os) (policy_objects now)
+objects_give_nothing acting os now sorted settled unprivileged reached =
+    reached_gives_nothing acting (policy_state os) (policy_state now)
+    (record { order = policy_in_order os sorted; settled = subst AreUnions (sym (labelled_are os sorted)) settled; unprivileged = unprivileged }) reached

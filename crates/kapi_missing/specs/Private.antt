@@ -1,0 +1,9 @@
+-- What contracts inside this crate alone cite: a caller need not read it.
+pub mod Once
+pub mod Words
+pub mod Marks
+pub mod Bars
+pub mod Masks
+pub mod Left
+pub mod Index
+pub mod Stopped

@@ -1,0 +1,35 @@
+use crate::aggregation_rule::AggregationRule;
+use crate::policy_rule::PolicyRule;
+use kapi_text::{Sequence, TryCopy};
+use std::alloc::{AllocError, Global};
+
+/// What is allowed in a namespace (Kubernetes API, `Role` of rbac.authorization.k8s.io/v1).
+#[derive(Debug, Drop)]
+pub struct Role {
+    pub rules: Sequence<PolicyRule>,
+}
+
+/// What is allowed in a namespace or cluster-wide, as it is bound (Kubernetes API, `ClusterRole` of
+/// rbac.authorization.k8s.io/v1).
+#[derive(Debug, Drop)]
+pub struct ClusterRole {
+    pub aggregation_rule: Option<AggregationRule>,
+    pub rules: Sequence<PolicyRule>,
+}
+
+impl TryCopy for Role {
+    fn copy(&self, alloc: Global) -> Result<Role, AllocError> {
+        Ok(Role {
+            rules: self.rules.copy(alloc)?,
+        })
+    }
+}
+
+impl TryCopy for ClusterRole {
+    fn copy(&self, alloc: Global) -> Result<ClusterRole, AllocError> {
+        Ok(ClusterRole {
+            aggregation_rule: self.aggregation_rule.copy(alloc)?,
+            rules: self.rules.copy(alloc)?,
+        })
+    }
+}

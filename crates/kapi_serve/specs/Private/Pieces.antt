@@ -1,0 +1,12 @@
+-- Bytes in pieces.
+use Rattle.std.specs.Prelude.{ℕ, List, [], ◌∷◌, ◌++◌, drop}
+use Rattle.kapi_serve.specs.declared.pending.Pending.{Pending}
+
+-- the bytes of pieces in their order
+abbrev pub joined : List (List ℕ) → List ℕ
+joined [] = []
+joined (piece ∷ pieces) = piece ++ joined pieces
+
+-- the bytes that are yet to be sent
+abbrev pub owed : Pending → List ℕ
+owed p = drop p.sent p.head ++ joined p.behind.items

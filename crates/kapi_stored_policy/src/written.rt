@@ -1,0 +1,122 @@
+ghost use Rattle.std.specs.Prelude.{◌≡◌, IfOk};
+ghost use Rattle.std.specs.Option.{option_map};
+ghost use Rattle.kapi_tree.specs.Object.{tree_of};
+ghost use Rattle.kapi_rbac_types.specs.Trees.{cluster_role_binding_of, cluster_role_of, role_binding_of, role_of};
+ghost use Rattle.kapi_stored_policy.specs.Kind as kind;
+ghost use Rattle.kapi_stored_policy.specs.Written as stored;
+ghost use Rattle.kapi_stored_policy.specs.Written.{versions_of};
+
+use crate::kind::PolicyKind;
+use kapi_guard::{Versions, WrittenObject};
+use kapi_model::{ClusterRole, ClusterRoleBinding, Role, RoleBinding};
+use kapi_policy::NamespacedName;
+use kapi_rbac_types::{
+    admitted_cluster_role, admitted_cluster_role_binding, admitted_role, admitted_role_binding,
+};
+use kapi_store::Key;
+use kapi_text::{Memory, TryCopy};
+use kapi_tree::Object;
+use std::alloc::Global;
+
+/// A role or binding that is written at a key: the old version, if there is one, and the new one, both admitted.
+pub fn written_at(
+    alloc: Global,
+    kind: PolicyKind,
+    key: &Key,
+    old: Option<&Object>,
+    new: &Object,
+) -> Result<WrittenObject, Memory>
+    ensures { IfOk result (λ w. w ≡ stored.written_at kind key.now (option_map (λ o. tree_of o.now) old.entry) (tree_of new.now)) }
+{
+    match kind {
+        PolicyKind::Role => {
+            let versions = roles(alloc, old, new)?;
+            Ok(WrittenObject::Role(place_of(alloc, key)?, versions))
+        }
+        PolicyKind::RoleBinding => {
+            let versions = role_bindings(alloc, old, new)?;
+            Ok(WrittenObject::RoleBinding(place_of(alloc, key)?, versions))
+        }
+        PolicyKind::ClusterRole => {
+            let versions = cluster_roles(alloc, old, new)?;
+            Ok(WrittenObject::ClusterRole(key.name.copy(alloc)?, versions))
+        }
+        PolicyKind::ClusterRoleBinding => {
+            let versions = cluster_role_bindings(alloc, old, new)?;
+            Ok(WrittenObject::ClusterRoleBinding(key.name.copy(alloc)?, versions))
+        }
+    }
+}
+
+fn place_of(alloc: Global, key: &Key) -> Result<NamespacedName, Memory>
+    ensures { IfOk result (λ p. p ≡ kind.place_of key.now) }
+{
+    Ok(NamespacedName {
+        namespace: key.namespace.copy(alloc)?,
+        name: key.name.copy(alloc)?,
+    })
+}
+
+fn roles(alloc: Global, old: Option<&Object>, new: &Object) -> Result<Versions<Role>, Memory>
+    ensures { IfOk result (λ v. v ≡ versions_of role_of (option_map (λ o. tree_of o.now) old.entry) (tree_of new.now)) }
+{
+    let old = match old {
+        Some(old) => Some(admitted_role(alloc, old)?),
+        None => None,
+    };
+    Ok(Versions {
+        old,
+        new: admitted_role(alloc, new)?,
+    })
+}
+
+fn cluster_roles(
+    alloc: Global,
+    old: Option<&Object>,
+    new: &Object,
+) -> Result<Versions<ClusterRole>, Memory>
+    ensures { IfOk result (λ v. v ≡ versions_of cluster_role_of (option_map (λ o. tree_of o.now) old.entry) (tree_of new.now)) }
+{
+    let old = match old {
+        Some(old) => Some(admitted_cluster_role(alloc, old)?),
+        None => None,
+    };
+    Ok(Versions {
+        old,
+        new: admitted_cluster_role(alloc, new)?,
+    })
+}
+
+fn role_bindings(
+    alloc: Global,
+    old: Option<&Object>,
+    new: &Object,
+) -> Result<Versions<RoleBinding>, Memory>
+    ensures { IfOk result (λ v. v ≡ versions_of role_binding_of (option_map (λ o. tree_of o.now) old.entry) (tree_of new.now)) }
+{
+    let old = match old {
+        Some(old) => Some(admitted_role_binding(alloc, old)?),
+        None => None,
+    };
+    Ok(Versions {
+        old,
+        new: admitted_role_binding(alloc, new)?,
+    })
+}
+
+fn cluster_role_bindings(
+    alloc: Global,
+    old: Option<&Object>,
+    new: &Object,
+) -> Result<Versions<ClusterRoleBinding>, Memory>
+    ensures { IfOk result (λ v. v ≡ versions_of cluster_role_binding_of (option_map (λ o. tree_of o.now) old.entry) (tree_of new.now)) }
+{
+    let old = match old {
+        Some(old) => Some(admitted_cluster_role_binding(alloc, old)?),
+        None => None,
+    };
+    Ok(Versions {
+        old,
+        new: admitted_cluster_role_binding(alloc, new)?,
+    })
+}

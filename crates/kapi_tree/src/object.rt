@@ -1,0 +1,136 @@
+ghost use Rattle.std.specs.Prelude.{◌≡◌, true, false};
+ghost use Rattle.serde_json.specs.View.{view};
+ghost use Rattle.serde_json.specs.Written.{has_float};
+ghost use Rattle.kapi_tree.specs.Order.{is_ordered};
+
+use crate::given::{Given, given_in};
+use crate::tree::{in_metadata, with_content, with_member_of, with_text, without_member};
+use kapi_model::Labels;
+use kapi_text::Memory;
+use serde_json::{Map, Value};
+use std::alloc::Global;
+
+/// A declared object: a JSON tree (RFC 8259) without any number that reads as a float, the members of each of its
+/// objects in the order of their keys.
+#[derive(Debug, Drop)]
+pub struct Object {
+    tree: Value,
+    ghost whole: { has_float (view tree) ≡ false },
+    ghost ordered: { is_ordered (view tree) ≡ true },
+}
+
+impl Object {
+    ghost use Rattle.std.specs.Prelude.{◌≡◌, true, false, codes, IfOk};
+    ghost use Rattle.serde_json.specs.View.{view, members_view};
+    ghost use Rattle.serde_json.specs.Written.{compact_text, members_have_float};
+    ghost use Rattle.kapi_tree.specs.Given.{given_of};
+    ghost use Rattle.kapi_tree.specs.Object.{tree_of, stamped_tree};
+    ghost use Rattle.kapi_tree.specs.Order.{is_ordered, in_order};
+    ghost use Rattle.kapi_model.specs.Selector.{labels_of};
+    ghost use Rattle.kapi_tree.specs.Tree as trees;
+
+    /// The object that an ordered tree without floats is.
+    pub fn new(tree: Value) -> Object
+        requires whole { has_float (view tree) ≡ false }
+        requires ordered { is_ordered (view tree) ≡ true }
+        ensures { tree_of result ≡ view tree }
+    {
+        Object { tree }
+    }
+
+    /// The object's tree as JSON text: compact, keys in the order of their bytes.
+    pub fn render(&self, alloc: Global) -> Result<Vec<u8>, Memory>
+        ensures text { IfOk result (λ b. b.items ≡ compact_text (tree_of self.now)) }
+        ensures ordered { is_ordered (tree_of self.now) ≡ true }
+    {
+        self.tree.to_vec(alloc)
+    }
+
+    /// A copy, equal to its source as a tree.
+    pub fn copy(&self, alloc: Global) -> Result<Object, Memory>
+        ensures { IfOk result (λ o. tree_of o ≡ tree_of self.now) }
+    {
+        Ok(Object {
+            tree: self.tree.clone()?,
+        })
+    }
+
+    /// What the object's metadata specifies as its name, its namespace and its resource version.
+    pub fn given(&self, alloc: Global) -> Result<Given, Memory>
+        ensures { IfOk result (λ g. g ≡ given_of (tree_of self.now)) }
+    {
+        given_in(alloc, &self.tree)
+    }
+
+    /// The object's labels, borrowed; allocates nothing.
+    pub fn labels(&self) -> Labels<'_>
+        ensures { labels_of result ≡ trees.in_metadata (codes "labels") (tree_of self.now) }
+    {
+        Labels::new(in_metadata(&self.tree, "labels"))
+    }
+
+    /// The object's tree, borrowed; allocates nothing.
+    pub fn as_tree(&self) -> &Value
+        ensures { view result.now ≡ tree_of self.now }
+    {
+        &self.tree
+    }
+
+    /// The object of the same version, kind and metadata that has these members beside them, and no other.
+    pub fn with_content(&self, alloc: Global, content: Map<String, Value>) -> Result<Object, Memory>
+        requires whole { members_have_float (members_view content.entries) ≡ false }
+        requires ordered { in_order (members_view content.entries) ≡ true }
+        ensures { IfOk result (λ o. tree_of o ≡ trees.with_content (members_view content.entries) (tree_of self.now)) }
+    {
+        Ok(Object {
+            tree: with_content(alloc, &self.tree, content)?,
+        })
+    }
+
+    /// The object without its member `status`; allocates nothing.
+    pub fn without_status(self) -> Object
+        ensures { tree_of result ≡ trees.without_member (codes "status") (tree_of self) }
+    {
+        Object {
+            tree: without_member(self.tree, "status"),
+        }
+    }
+
+    /// The object with another's status, and without one where the other has none (Kubernetes API conventions, 'Spec
+    /// and Status').
+    pub fn with_status_of(self, alloc: Global, other: &Object) -> Result<Object, Memory>
+        ensures { IfOk result (λ o. tree_of o ≡ trees.with_member_of (codes "status") (tree_of other.now) (tree_of self)) }
+    {
+        Ok(Object {
+            tree: with_member_of(alloc, self.tree, "status", &other.tree)?,
+        })
+    }
+
+    /// The object with a name: with that text as `metadata.name`.
+    pub fn named(self, alloc: Global, name: &str) -> Result<Object, Memory>
+        ensures { IfOk result (λ o. tree_of o ≡ trees.with_text (codes "name") name.now (tree_of self)) }
+    {
+        Ok(Object {
+            tree: with_text(alloc, self.tree, "name", name)?,
+        })
+    }
+
+    /// The object in a namespace: with that text as `metadata.namespace`.
+    pub fn in_namespace(self, alloc: Global, namespace: &str) -> Result<Object, Memory>
+        ensures { IfOk result (λ o. tree_of o ≡ trees.with_text (codes "namespace") namespace.now (tree_of self)) }
+    {
+        Ok(Object {
+            tree: with_text(alloc, self.tree, "namespace", namespace)?,
+        })
+    }
+
+    /// The object as a write leaves it: with its unique id and its resource version.
+    pub fn stamped(self, alloc: Global, uid: &str, version: &str) -> Result<Object, Memory>
+        ensures { IfOk result (λ o. tree_of o ≡ stamped_tree uid.now version.now (tree_of self)) }
+    {
+        let tree = with_text(alloc, self.tree, "uid", uid)?;
+        Ok(Object {
+            tree: with_text(alloc, tree, "resourceVersion", version)?,
+        })
+    }
+}

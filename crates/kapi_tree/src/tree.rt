@@ -1,0 +1,154 @@
+ghost use Rattle.kapi_tree.specs.Order.{is_ordered, in_order};
+ghost use Rattle.std.specs.Prelude.{◌≡◌, true, IfOk, OnOk, Some, option_map};
+ghost use Rattle.serde_json.specs.Find.{get};
+ghost use Rattle.serde_json.specs.Data.{object};
+ghost use Rattle.serde_json.specs.View.{view, members_view};
+ghost use Rattle.kapi_tree.specs.Tree.{metadata_of, metadata_member, member_of, members_or_none, put_if};
+ghost use Rattle.kapi_tree.specs.Tree as trees;
+ghost use Rattle.kapi_tree.specs.Tree.{without};
+
+use kapi_text::Memory;
+use serde_json::{Map, Value, put};
+use std::alloc::Global;
+
+/// The member of a key; null is as if the member were absent.
+pub fn member<'a>(tree: &'a Value, key: &str) -> Option<&'a Value>
+    ensures { option_map (λ v. view v.now) result ≡ member_of key.now (view tree.now) }
+{
+    match tree.get(key) {
+        Some(Value::Null) => None,
+        other => other,
+    }
+}
+
+/// The members of an object; none of anything else.
+pub fn into_members(alloc: Global, value: Value) -> Map<String, Value>
+    ensures { members_view result.entries ≡ members_or_none (Some (view value)) }
+{
+    match value {
+        Value::Object(members) => members,
+        _other => Map::new(alloc),
+    }
+}
+
+/// Whether an object has no members.
+#[tactic(auto, using(crate::proofs::Bodies::no_entries))]
+pub fn has_no_members(members: &Map<String, Value>) -> bool
+    ensures { result ≡ trees.is_empty_object (object (members_view members.now.entries)) }
+{
+    members.len() == 0
+}
+
+/// The value at a key of the tree's `metadata`, if that is an object and has one.
+pub fn in_metadata<'a>(tree: &'a Value, key: &str) -> Option<&'a Value>
+    ensures { option_map (λ v. view v.now) result ≡ trees.in_metadata key.now (view tree.now) }
+{
+    tree.get("metadata")?.get(key)
+}
+
+/// The member of a key of the tree's `metadata`; null is as if the member were absent.
+pub fn member_of_metadata<'a>(tree: &'a Value, key: &str) -> Option<&'a Value>
+    ensures { option_map (λ v. view v.now) result ≡ metadata_member key.now (view tree.now) }
+{
+    member(tree.get("metadata")?, key)
+}
+
+/// The members of an object's `metadata`, copied; none where it is missing or no object.
+fn metadata_copy(alloc: Global, tree: &Value) -> Result<Map<String, Value>, Memory>
+    ensures { IfOk result (λ m. members_view m.entries ≡ metadata_of (view tree.now)) }
+{
+    match tree.get("metadata") {
+        Some(metadata) => Ok(into_members(alloc, metadata.clone()?)),
+        None => Ok(Map::new(alloc)),
+    }
+}
+
+/// The tree with one text set in its metadata.
+pub fn with_text(alloc: Global, tree: Value, key: &str, text: &str) -> Result<Value, Memory>
+    ensures { IfOk result (λ v. view v ≡ trees.with_text key.now text.now (view tree)) }
+{
+    let mut metadata = metadata_copy(alloc, &tree)?;
+    let text = Value::String(String::from_str(alloc, text)?);
+    put(&mut metadata, alloc, key, text)?;
+    let mut members = into_members(alloc, tree);
+    put(&mut members, alloc, "metadata", Value::Object(metadata))?;
+    Ok(Value::Object(members))
+}
+
+/// Puts the member of a key of the tree among others, if the tree has it.
+fn put_from(
+    alloc: Global,
+    members: &mut Map<String, Value>,
+    tree: &Value,
+    key: &str,
+) -> Result<(), Memory>
+    ensures { OnOk result (members_view members.new.entries
+        ≡ put_if key.now (get key.now (view tree.now)) (members_view members.old.entries)) }
+{
+    match tree.get(key) {
+        Some(value) => put(members, alloc, key, value.clone()?),
+        None => Ok(()),
+    }
+}
+
+/// The object of the same version, kind and metadata that has these members beside them, and no other.
+#[tactic(auto, unfolding(crate::specs::Tree::with_content))]
+pub fn with_content(
+    alloc: Global,
+    tree: &Value,
+    content: Map<String, Value>,
+) -> Result<Value, Memory>
+    ensures { IfOk result (λ v. view v ≡ trees.with_content (members_view content.entries) (view tree.now)) }
+{
+    let mut members = content;
+    put_from(alloc, &mut members, tree, "apiVersion")?;
+    put_from(alloc, &mut members, tree, "kind")?;
+    put_from(alloc, &mut members, tree, "metadata")?;
+    Ok(Value::Object(members))
+}
+
+/// Takes the member of a key out.
+fn remove(members: &mut Map<String, Value>, key: &str)
+    requires { in_order (members_view members.old.entries) ≡ true }
+    ensures { members_view members.new.entries ≡ without key.now (members_view members.old.entries) }
+{
+    drop(members.remove(key));
+}
+
+/// The tree without the member of a key.
+pub fn without_member(tree: Value, key: &str) -> Value
+    requires { is_ordered (view tree) ≡ true }
+    ensures { view result ≡ trees.without_member key.now (view tree) }
+{
+    match tree {
+        Value::Object(mut members) => {
+            remove(&mut members, key);
+            Value::Object(members)
+        }
+        other => other,
+    }
+}
+
+/// The tree with another's value at a key, and without the key where the other has none.
+pub fn with_member_of(alloc: Global, tree: Value, key: &str, other: &Value) -> Result<Value, Memory>
+    requires { is_ordered (view tree) ≡ true }
+    ensures { IfOk result (λ v. view v ≡ trees.with_member_of key.now (view other.now) (view tree)) }
+{
+    let mut members = members_without(alloc, tree, key);
+    put_from(alloc, &mut members, other, key)?;
+    Ok(Value::Object(members))
+}
+
+/// The members of an object without the one of a key; none of anything else.
+fn members_without(alloc: Global, tree: Value, key: &str) -> Map<String, Value>
+    requires { is_ordered (view tree) ≡ true }
+    ensures { members_view result.entries ≡ without key.now (members_or_none (Some (view tree))) }
+{
+    match tree {
+        Value::Object(mut members) => {
+            remove(&mut members, key);
+            members
+        }
+        _other => Map::new(alloc),
+    }
+}
