@@ -1,0 +1,142 @@
+#!/usr/bin/env python3
+"""Runs the commands of docs/USING.md and docs/COMPARE.md as they stand there, and looks whether each line that a page shows as an answer is printed.
+
+usage: pages.py PROGRAM      PROGRAM is the built program; wants curl, and for its Python block the package kubernetes
+
+A block of a page is run where its first line is a command; the next block without commands is what the page shows. Blocks with kubectl, jq or make are
+left out. The server is started with the objects of the page, and with the options that a command `kapi serve` of the page has. An indented line that
+begins with `$` is a command, run in scripts/compare, and the indented lines below it are what it prints. Status 1 where a line lacks.
+"""
+import os
+import pathlib
+import re
+import shlex
+import subprocess
+import sys
+import tempfile
+import time
+import urllib.error
+import urllib.request
+
+HERE = pathlib.Path(__file__).resolve().parent.parent
+START = "kapi serve --load scripts/serve/objects.jsonl 8001=root,system:masters 8002=ann,system:authenticated"
+RUN, LEFT_OUT, SECONDS = ("curl ", "printf ", "kapi "), ("kubectl", "jq ", "make "), 3
+
+
+def blocks(page):
+    """The fenced blocks of a page, each as its language and its lines."""
+    for match in re.finditer(r"^```(\w*)\n(.*?)^```$", page, re.M | re.S):
+        yield match.group(1), match.group(2).splitlines()
+
+
+class Server:
+    def __init__(self, program):
+        self.program, self.process = program, None
+
+    def start(self, command):
+        """Starts the server anew, with the words of a command."""
+        self.stop()
+        words = [self.program, *[it for it in shlex.split(command)[1:] if it not in ("--first-revision", "clock")]]
+        self.process = subprocess.Popen(words, cwd=HERE, stdout=subprocess.DEVNULL)
+        for _ in range(100):
+            try:
+                urllib.request.urlopen("http://127.0.0.1:8001/healthz", timeout=5)
+                return
+            except (urllib.error.URLError, OSError):
+                time.sleep(0.1)
+        sys.exit(f"{command}: does not start")
+
+    def stop(self):
+        if self.process:
+            self.process.terminate()
+            self.process.wait()
+
+
+def run(server, lines, room):
+    """The lines that the commands of a block print. One that watches is left alone for a moment and then ended."""
+    printed, watches = [], []
+    for line in lines:
+        if line.startswith("kapi serve"):
+            server.start(line)
+        elif "watch=" in line:
+            file = tempfile.NamedTemporaryFile("w+", dir=room)
+            watches.append((file, subprocess.Popen(line.removesuffix("&"), shell=True, cwd=HERE, stdout=file)))
+            time.sleep(0.5)
+        else:
+            told = subprocess.run(line.replace("kapi ", f"{server.program} ", 1) if line.startswith("kapi ") else line, shell=True, cwd=HERE, capture_output=True, text=True, timeout=60)
+            printed += told.stdout.splitlines()
+    return printed, watches
+
+
+def ended(watches):
+    """What the watches have shown until now."""
+    time.sleep(0.5)
+    lines = []
+    for file, process in watches:
+        subprocess.run(["pkill", "-P", str(process.pid)], check=False)
+        process.terminate()
+        process.wait()
+        file.seek(0)
+        lines += file.read().splitlines()
+    return lines
+
+
+def is_run(lines):
+    return bool(lines) and lines[0].startswith(RUN) and not any(it in line for line in lines for it in LEFT_OUT)
+
+
+def looked_at(server, name, room):
+    """How many lines of a page were looked for, and those that lack."""
+    count, lacking, printed, watches = 0, [], [], []
+    for language, lines in blocks((HERE / name).read_text(encoding="utf-8")):
+        if language == "python":
+            told = subprocess.run([sys.executable, "-c", "\n".join(lines)], capture_output=True, text=True, timeout=60)
+            if "No module named" in told.stderr:
+                print(f"{name}: the Python block is left out, since the package kubernetes is not there")
+            printed = told.stdout.splitlines() or None
+        elif is_run(lines):
+            more, begun = run(server, lines, room)
+            printed = (printed or []) + more if watches else more
+            watches += begun
+        elif printed and not language:
+            printed += ended(watches)
+            watches = []
+            count += len(lines)
+            lacking += [it for it in lines if it not in printed]
+            printed = []
+    ended(watches)
+    return count, lacking
+
+
+def indented(program, name):
+    """How many lines below the indented commands of a page were looked for, and those that lack."""
+    count, lacking, printed = 0, [], []
+    for line in (HERE / name).read_text(encoding="utf-8").splitlines():
+        if line.startswith("    $ "):
+            words = line[6:].replace("kapi ", f"{shlex.quote(program)} ", 1)
+            printed = subprocess.run(words, shell=True, cwd=HERE / "scripts/compare", capture_output=True, text=True, timeout=60).stdout.splitlines()
+        elif line.startswith("    ") and printed:
+            count += 1
+            lacking += [] if line[4:] in printed else [line[4:]]
+        else:
+            printed = []
+    return count, lacking
+
+
+def main(program):
+    program = os.path.abspath(program)
+    server = Server(program)
+    with tempfile.TemporaryDirectory() as room:
+        try:
+            server.start(START)
+            pages = {"docs/USING.md": looked_at(server, "docs/USING.md", room), "docs/COMPARE.md": indented(program, "docs/COMPARE.md")}
+        finally:
+            server.stop()
+    for name, (count, lacking) in pages.items():
+        print(f"{name}: {count} lines looked for, {len(lacking)} lack")
+        print("".join(f"  {line}\n" for line in lacking), end="")
+    return 1 if any(lacking for _, lacking in pages.values()) else 0
+
+
+if __name__ == "__main__":
+    sys.exit(main(sys.argv[1]))

@@ -1,0 +1,64 @@
+#!/usr/bin/env python3
+"""Measures the questions about whole policies: processor time and memory of `kapi compare`, `who` and `risks` over policies of many bindings.
+
+usage: policies.py PROGRAM [BINDINGS..]     PROGRAM is the built program; 10,000 and 100,000 bindings if none are named
+
+Each binding gives a user of its own a role in one of 100 namespaces. The policy after has ten bindings more, of users who hold nothing.
+"""
+import json
+import os
+import pathlib
+import sys
+import tempfile
+
+NAMESPACES, CHANGED, QUESTIONS = 100, 10, 100
+ROLE = {"kind": "Role", "apiVersion": "rbac.authorization.k8s.io/v1", "rules": [{"verbs": ["get", "list"], "apiGroups": [""], "resources": ["pods"]}]}
+BINDING = {"kind": "RoleBinding", "apiVersion": "rbac.authorization.k8s.io/v1", "roleRef": {"kind": "Role", "name": "reader"}}
+
+
+def policy(file, count):
+    """Writes a policy of so many bindings."""
+    spaces = [f"n{it}" for it in range(NAMESPACES)]
+    objects = [{"apiVersion": "v1", "kind": "Namespace", "metadata": {"name": it}} for it in spaces]
+    objects += [{**ROLE, "metadata": {"name": "reader", "namespace": it}} for it in spaces]
+    objects += [
+        {**BINDING, "metadata": {"name": f"b{it:06}", "namespace": spaces[it % NAMESPACES]}, "subjects": [{"kind": "User", "name": f"user{it}"}]} for it in range(count)
+    ]
+    file.write_text("".join(json.dumps(it) + "\n" for it in objects), encoding="utf-8")
+
+
+def used(*words):
+    """Seconds of processor time and the most kB that a command takes, and its status."""
+    with open(os.devnull, "wb") as null:
+        child = os.posix_spawn(words[0], words, os.environ, file_actions=[(os.POSIX_SPAWN_DUP2, null.fileno(), 1)])
+    _, status, usage = os.wait4(child, 0)
+    return usage.ru_utime + usage.ru_stime, usage.ru_maxrss, os.waitstatus_to_exitcode(status)
+
+
+def measure(program, count, room):
+    before, after, none, one, many = (room / it for it in ("before", "after", "none", "one", "many"))
+    policy(before, count)
+    policy(after, count + CHANGED)
+    none.write_text("")
+    one.write_text("get pods n7\n")
+    many.write_text("get pods n7\n" * (QUESTIONS + 1))
+    load, load_memory, _ = used(program, "audit", str(before), str(none))
+    same, _, status = used(program, "compare", str(before), str(before))
+    assert status == 0, status
+    changed, memory, status = used(program, "compare", str(before), str(after))
+    assert status == 3, status
+    who = (used(program, "who", str(before), "--questions", str(many))[0] - used(program, "who", str(before), "--questions", str(one))[0]) / QUESTIONS
+    risks, _, _ = used(program, "risks", str(before))
+    print(f"{count:,} bindings: loaded in {load:.2f} s and {load_memory:,} kB")
+    print(f"  compare with itself {same:.2f} s, with {CHANGED} bindings more {changed:.2f} s and {memory:,} kB; above the loading of both {changed - 2 * load:.2f} s")
+    print(f"  who, a question {who * 1000:.2f} ms; risks above the loading {risks - load:.2f} s", flush=True)
+
+
+def main(program, *counts):
+    with tempfile.TemporaryDirectory() as room:
+        for count in counts or ("10000", "100000"):
+            measure(os.path.abspath(program), int(count), pathlib.Path(room))
+
+
+if __name__ == "__main__":
+    main(*sys.argv[1:])
