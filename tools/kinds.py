@@ -14,7 +14,7 @@ import tempfile
 import door
 
 CRATES = pathlib.Path(__file__).parent.parent / "crates"
-SOURCES = [CRATES / "kapi_core/src/resource.rt", CRATES / "kapi_script/src/table.rt"]
+SOURCES = [CRATES / "kapi_core/src/resource.rt", CRATES / "kapi_core/src/programs.rt"]
 
 
 def path(row, in_namespace):

@@ -3,7 +3,7 @@
 
 usage: pages.py PROGRAM      PROGRAM is the built program; wants curl, and for its Python block the package kubernetes
 
-A block of a page is run where its first line is a command; the next block without commands is what the page shows. Blocks with kubectl, jq or make are
+A block of a page is run where its first line is a command; the next block without commands is what the page shows. Lines with kubectl, jq or make are
 left out. The server is started with the objects of the page, and with the options that a command `kapi serve` of the page has. An indented line that
 begins with `$` is a command, run in scripts/compare, and the indented lines below it are what it prints. Status 1 where a line lacks.
 """
@@ -20,7 +20,8 @@ import urllib.request
 
 HERE = pathlib.Path(__file__).resolve().parent.parent
 START = "kapi serve --load scripts/serve/objects.jsonl 8001=root,system:masters 8002=ann,system:authenticated"
-RUN, LEFT_OUT, SECONDS = ("curl ", "printf ", "kapi "), ("kubectl", "jq ", "make "), 3
+RUN, LEFT_OUT = ("curl ", "printf ", "kapi "), ("kubectl", "jq ", "make ")
+COMMANDS = (*RUN, *LEFT_OUT, "echo ", "python3 ")
 
 
 def blocks(page):
@@ -81,8 +82,14 @@ def ended(watches):
     return lines
 
 
-def is_run(lines):
-    return bool(lines) and lines[0].startswith(RUN) and not any(it in line for line in lines for it in LEFT_OUT)
+def run_of(lines):
+    """The commands of a block that are run."""
+    return [it for it in lines if lines[0].startswith(RUN) and not any(word in it for word in LEFT_OUT)]
+
+
+def is_shown(lines):
+    """Whether the block is what a page shows, and no commands."""
+    return not lines[0].startswith(COMMANDS)
 
 
 def looked_at(server, name, room):
@@ -94,11 +101,11 @@ def looked_at(server, name, room):
             if "No module named" in told.stderr:
                 print(f"{name}: the Python block is left out, since the package kubernetes is not there")
             printed = told.stdout.splitlines() or None
-        elif is_run(lines):
-            more, begun = run(server, lines, room)
+        elif run_of(lines):
+            more, begun = run(server, run_of(lines), room)
             printed = (printed or []) + more if watches else more
             watches += begun
-        elif printed and not language:
+        elif printed and not language and is_shown(lines):
             printed += ended(watches)
             watches = []
             count += len(lines)

@@ -6,7 +6,7 @@ room=$(mktemp -d)
 trap 'rm -rf "$room"' EXIT
 wrong=0
 
-# sees NAME STATUS ERROR: the last run ended with that status and wrote just that line, or nothing, on standard error
+# sees NAME STATUS ERROR: the last run ended with that status and wrote just these lines, or nothing, on standard error
 sees() {
     if [ "$status" != "$2" ] || [ "$error" != "$3" ]; then
         echo "$1: status $status, standard error '$error'; wanted $2, '$3'"
@@ -16,21 +16,96 @@ sees() {
     fi
 }
 
+# runs WORD..: the status of the program and what it writes on standard error
+runs() {
+    error=$("$program" "$@" 2>&1 >/dev/null </dev/null); status=$?
+}
+
+# misused NAME FAULT USAGE: the last run named what is wrong in its words, as clap does
+misused() {
+    sees "$1" 2 "error: $2
+
+Usage: $3
+
+For more information, try '--help'."
+}
+
+# refused NAME VALUE ARGUMENT WANTED COMMAND: the last run named a value that is not of its form
+refused() {
+    sees "$1" 2 "error: invalid value '$2' for '$3': $4
+
+For more information, try 'kapi $5 --help'."
+}
+
 error=$(printf 'open a\nserve 0\n' | "$program" script 2>&1 >/dev/null); status=$?
 sees 'a script' 0 ''
 error=$(printf 'open a\n\nlist\n' | "$program" script 2>&1 >/dev/null); status=$?
-sees 'a bad line' 1 'bad line 3'
-error=$("$program" 2>&1 >/dev/null </dev/null); status=$?
-sees 'no command' 2 "$error"
-[ -n "$error" ] || { echo 'no command: nothing on standard error'; wrong=1; }
-error=$("$program" scribble 2>&1 >/dev/null </dev/null); status=$?
-sees 'another command' 2 "$error"
+sees 'a bad line' 1 "bad line 3
+  no event: open USER[,GROUP..], feed N TEXT, serve N, pump N, turn or close N, one space between words; try 'kapi script --help'"
+runs
+misused 'no command' "'kapi' requires a subcommand but one was not provided
+  [subcommands: script, audit, serve, replay, compare, who, risks, help]" 'kapi <COMMAND>'
+runs scribble
+misused 'another command' "unrecognized subcommand 'scribble'
+
+  tip: a similar subcommand exists: 'script'" 'kapi <COMMAND>'
+runs serve --lod x 8001=a
+misused 'an option that is not there' "unexpected argument '--lod' found
+
+  tip: a similar argument exists: '--load'" 'kapi serve --load <FILE> <PORT=USER[,GROUP..]>...'
+runs serve
+misused 'a server without ports' 'the following required arguments were not provided:
+  <PORT=USER[,GROUP..]>...' 'kapi serve <PORT=USER[,GROUP..]>...'
 for word in --help --version help; do
-    error=$("$program" $word 2>&1 >/dev/null </dev/null); status=$?
+    runs $word
     sees "kapi $word" 0 ''
 done
+for word in script audit serve replay compare who risks; do
+    runs $word --help
+    sees "kapi $word --help" 0 ''
+done
+
+# part COMMAND HEAD: the lines that stand indented below that line in a command's help
+part() {
+    "$program" $1 --help | awk -v head="$2" '/^[^ ]/ { inside = ($0 == head) } inside && sub(/^  /, "")'
+}
+
+# pasted COMMAND [SED]: the example of a command's help is run as it stands there, and prints into the file told
+pasted() {
+    part $1 'Example:' | sed "$2" > "$room/example"
+    (cd "$room/pasted" && PATH="$room/bin:$PATH" bash "$room/example") > "$room/told" 2> /dev/null
+}
+
+mkdir "$room/bin" "$room/pasted"
+ln -s "$program" "$room/bin/kapi"
+for word in script audit replay compare who risks; do
+    pasted $word ''
+    part $word 'It prints' > "$room/printed"
+    if [ -s "$room/printed" ] && cmp -s "$room/printed" "$room/told"; then
+        echo "the example of kapi $word: as it should be"
+    else
+        echo "the example of kapi $word: $(cat "$room/told")"
+        wrong=1
+    fi
+done
+pasted serve 's/8001/60011/; s/8002/60012/'
+case $(cat "$room/told") in
+    'listening 60011
+listening 60012
+{"apiVersion":"v1","data":{"k":"v"},"kind":"ConfigMap"'*'"code":403,'*) echo 'the example of kapi serve: as it should be' ;;
+    *) echo "the example of kapi serve: $(cat "$room/told")"; wrong=1 ;;
+esac
 error=$(printf 'open a\n' | "$program" script 2>&1 >/dev/full); status=$?
 sees 'answers that cannot be written' 1 'the answers cannot be written'
+full='kapi: what it prints cannot be written, as the disk is full'
+error=$("$program" --help 2>&1 >/dev/full </dev/null); status=$?
+sees 'help on a full disk' 1 "$full"
+error=$("$program" audit "$stored/policy.jsonl" "$stored/questions.jsonl" 2>&1 >/dev/full </dev/null); status=$?
+sees 'an audit on a full disk' 1 "$full"
+error=$("$program" risks "$stored/policy.jsonl" 2>&1 >/dev/full </dev/null); status=$?
+sees 'risks on a full disk' 1 "$full"
+error=$(timeout 20 "$program" serve 60003=a 2>&1 >/dev/full </dev/null); status=$?
+sees 'a server on a full disk' 1 "$full"
 
 # audits POLICY QUESTIONS [--readers N]: an audit's status, its standard error, and what it prints in the file answers
 audits() {
@@ -66,29 +141,60 @@ sees 'an audit of empty files' 0 ''
 answers 'an audit of empty files' "$room/empty"
 printf '\n# nothing\n{"kind":"Pod"}\n' > "$room/bad"
 audits "$room/bad" "$room/bad"
-sees 'a bad line of a policy' 1 'policy line 3'
+sees 'a bad line of a policy' 1 'policy line 3
+  apiVersion and kind: required, each a text'
 audits "$stored/policy.jsonl" "$room/bad"
-sees 'a bad question' 1 'question line 3'
+sees 'a bad question' 1 'question line 3
+  as the spec of a SubjectAccessReview: spec.resourceAttributes: required; spec.user: required'
 audits "$room/none" "$room/bad"
-sees 'a policy that is not there' 1 "$error"
-[ -n "$error" ] || { echo 'a policy that is not there: nothing on standard error'; wrong=1; }
-for words in '--readers 0' '--readers 17' '--readers x' '--readers +2' '--readers 0x2' '--readers 002' '--readers=' 'third'; do
-    audits "$room/empty" "$room/empty" $words
-    sees "an audit with $words" 2 "$error"
+sees 'a policy that is not there' 1 "$room/none: there is no such file"
+audits "$room" "$room/bad"
+sees 'a policy that is a directory' 1 "$room: it is a directory"
+
+# unloaded NAME LINE REASON: a policy of this line is not loaded for this reason
+unloaded() {
+    printf '%s\n' "$2" > "$room/line"
+    audits "$room/line" "$room/empty"
+    sees "$1" 1 "policy line 1
+  $3"
+}
+
+unloaded 'half an object' '{"kind":' "it is no whole JSON object; each line has one, as 'jq -c' writes it"
+unloaded 'no JSON' '{"kind":Role}' 'it is no JSON: the fault is at column 9'
+unloaded 'a list' '[]' 'it is JSON, and no object'
+unloaded 'a list of a cluster' '{"apiVersion":"v1","kind":"List","items":[]}' \
+    "kind 'List' of apiVersion 'v1' is not served; docs/PROFILE.md names those that are"
+unloaded 'a kind in another version' '{"apiVersion":"rbac.authorization.k8s.io/v1beta1","kind":"Role"}' \
+    "apiVersion: a Role has 'rbac.authorization.k8s.io/v1', and not 'rbac.authorization.k8s.io/v1beta1'"
+unloaded 'a review' '{"apiVersion":"authorization.k8s.io/v1","kind":"SubjectAccessReview","spec":{}}' \
+    'a SubjectAccessReview is answered and not kept, so none can be loaded'
+unloaded 'no namespace' '{"apiVersion":"v1","kind":"ConfigMap","metadata":{"name":"a"}}' \
+    'metadata.namespace: required, as objects of this kind live in a namespace'
+unloaded 'a namespace that is not there' '{"apiVersion":"v1","kind":"ConfigMap","metadata":{"name":"a","namespace":"shop"}}' 'namespaces shop not found'
+unloaded 'a namespace that is none' '{"apiVersion":"v1","kind":"ConfigMap","metadata":{"name":"a","namespace":"a/b?"}}' 'namespaces a/b? not found'
+unloaded 'an object twice' '{"apiVersion":"v1","kind":"Namespace","metadata":{"name":"default"}}' 'namespaces default already exists'
+unloaded 'a bad name' '{"apiVersion":"v1","kind":"Namespace","metadata":{"name":"A"}}' 'metadata.name: bad value'
+unloaded 'a number that is no integer' '{"apiVersion":"v1","kind":"Namespace","metadata":{"name":"a"},"spec":1.5}' \
+    'it has a number with a fraction or an exponent, or one of more than 64 bits'
+unloaded 'a role with faults' '{"apiVersion":"rbac.authorization.k8s.io/v1","kind":"Role","metadata":{"name":"r","namespace":"default"},"rules":[{"apiGroups":[""],"resources":["pods"]}]}' \
+    'rules[0].verbs: required'
+for readers in 0 17 x +2 0x2 002 '' ' 2' '2 '; do
+    audits "$room/empty" "$room/empty" "--readers=$readers"
+    refused "an audit of '$readers' readers" "$readers" '--readers <N>' 'a number from 1 to 16' audit
 done
-for readers in ' 2' '2 '; do
-    audits "$room/empty" "$room/empty" --readers "$readers"
-    sees "an audit of '$readers' readers" 2 "$error"
-done
+audits "$room/empty" "$room/empty" third
+misused 'an audit of three files' "unexpected argument 'third' found" 'kapi audit [OPTIONS] <POLICY> <QUESTIONS>'
 printf '# a comment\r\n\n{"apiVersion":"v1","kind":"Namespace","metadata":{"name":"a"}} \t\r\n' > "$room/lines"
 audits "$room/lines" "$room/empty"
 sees 'a comment, an empty line and an object, with CRLF' 0 ''
 for line in '\r\n' ' \n' '\t\r\n'; do
     printf "\n$line" > "$room/lines"
     audits "$room/lines" "$room/empty"
-    sees "a line of white space alone ($line)" 1 'policy line 2'
+    sees "a line of white space alone ($line)" 1 "policy line 2
+  it is no whole JSON object; each line has one, as 'jq -c' writes it"
     audits "$room/empty" "$room/lines"
-    sees "a question of white space alone ($line)" 1 'question line 2'
+    sees "a question of white space alone ($line)" 1 "question line 2
+  it is no whole JSON object; each line has one, as 'jq -c' writes it"
 done
 
 # replays FILE..: the status of a replay, its standard error, and what it prints in the file played
@@ -133,10 +239,10 @@ sees 'a transcript that is written' 1 ''
 printf 'as a\nGET /healthz\n' > "$room/wanted"
 sed -n '3s/^> out HTTP.*403.*/as it should be/p' "$room/played" | grep -q . || { echo 'a transcript that is written: line 3 is not the answer'; wrong=1; }
 replays "$room/none"
-sees 'a transcript that is not there' 1 "$error"
-[ -n "$error" ] || { echo 'a transcript that is not there: nothing on standard error'; wrong=1; }
+sees 'a transcript that is not there' 1 "$room/none: there is no such file"
 replays
-sees 'a replay of nothing' 2 "$error"
+misused 'a replay of nothing' 'the following required arguments were not provided:
+  <FILE>...' 'kapi replay <FILE>...'
 
 # asks WORD..: the status and standard error of a question about policies, and what it prints in the file told
 asks() {
@@ -233,26 +339,31 @@ sees 'risks of roles that are not settled' 0 ''
 grep -q '^The roles are not settled' "$room/told" || { echo 'risks of roles that are not settled: not told'; wrong=1; }
 
 asks compare "$room/bad" "$room/empty"
-sees 'a bad line of the first policy' 1 "$room/bad: policy line 3"
+reason='  apiVersion and kind: required, each a text'
+sees 'a bad line of the first policy' 1 "$room/bad: policy line 3
+$reason"
 asks compare "$room/empty" "$room/bad"
-sees 'a bad line of the second policy' 1 "$room/bad: policy line 3"
+sees 'a bad line of the second policy' 1 "$room/bad: policy line 3
+$reason"
 asks who "$room/bad" get pods
-sees 'a question about a bad policy' 1 "$room/bad: policy line 3"
+sees 'a question about a bad policy' 1 "$room/bad: policy line 3
+$reason"
 asks risks "$room/bad"
-sees 'risks of a bad policy' 1 "$room/bad: policy line 3"
+sees 'risks of a bad policy' 1 "$room/bad: policy line 3
+$reason"
 printf '# nothing\n\nget\n' > "$room/asked"
 asks who "$room/empty" --questions "$room/asked"
-sees 'a bad question about a policy' 1 "$room/asked: question line 3"
+sees 'a bad question about a policy' 1 "$room/asked: question line 3
+  a question is VERB RESOURCE [NAMESPACE [NAME]], with one space between words"
 for words in "compare $room/none $room/empty" "compare $room/empty $room/none" "who $room/none get pods" "who $room/empty --questions $room/none" "risks $room/none"; do
     asks $words
-    sees "kapi $words" 1 "$error"
-    case $error in "$room/none: "*) ;; *) echo "kapi $words: '$error'"; wrong=1 ;; esac
+    sees "kapi $words" 1 "$room/none: there is no such file"
 done
 for words in 'compare' 'compare a' 'compare a b c' 'compare --json a' 'compare --table a b' 'who' 'who a' 'who a get' 'who a get pods b' 'who a get pods --questions b' \
     'who a --questions b --namespace c' 'who a --questions b --name c' 'who a get pods --namespace' 'who --questions b' 'risks' 'risks a b' 'risks --json'; do
     asks $words
     sees "kapi $words" 2 "$error"
-    case $error in 'usage: kapi '*) ;; *) echo "kapi $words: '$error'"; wrong=1 ;; esac
+    case $error in 'error: '*"For more information, try '"*"--help'.") ;; *) echo "kapi $words: '$error'"; wrong=1 ;; esac
 done
 
 # The commands of docs/COMPARE.md print what stands below them there.
@@ -271,25 +382,29 @@ serves() {
 }
 
 serves --load "$room/none" 1=a
-sees 'objects that are not there' 1 "$error"
-[ -n "$error" ] || { echo 'objects that are not there: nothing on standard error'; wrong=1; }
+sees 'objects that are not there' 1 "$room/none: there is no such file"
 serves --load "$room/bad" 1=a
-sees 'a bad line of objects' 1 'load line 3'
+sees 'a bad line of objects' 1 "load line 3
+$reason"
 serves 60001=a 60001=b
-sees 'a port that is not to be had' 3 'cannot listen 60001'
+sees 'a port that is not to be had' 3 'cannot listen 60001: the port is in use'
 serves --answer 60001 60001=a
-sees 'a port for questions that is not to be had' 3 'cannot listen 60001'
-for word in 8001 0=a 65536=a 8001= =a 8001=a,; do
-    serves $word
-    sees "a server of $word" 2 "$error"
+sees 'a port for questions that is not to be had' 3 'cannot listen 60001: the port is in use'
+for word in 8001 0=a 65536=a 8001= =a 8001=a, +1=a 000001=a; do
+    serves 1=a $word
+    refused "a server of $word" "$word" 'PORT=USER[,GROUP..]' 'a port from 1 to 65535, a user, and any groups behind commas, as 8001=ann,dev' serve
 done
-for words in '--readers 0' '--readers 17' '--answer 0' '--answer +1' '--first-revision x' '--first-revision +1' '--first-revision 281474976710651'; do
-    serves $words 1=a
-    sees "a server with $words" 2 "$error"
+for readers in 0 17; do
+    serves --readers $readers 1=a
+    refused "a server with $readers readers" $readers '--readers <N>' 'a number from 1 to 16' serve
 done
-for word in +1=a 000001=a; do
-    serves $word
-    sees "a server of $word" 2 "$error"
+for port in 0 +1; do
+    serves --answer $port 1=a
+    refused "a server that answers on $port" $port '--answer <PORT>' 'a port is a number from 1 to 65535' serve
+done
+for first in x +1 281474976710651; do
+    serves --first-revision $first 1=a
+    refused "a server from $first on" $first '--first-revision <N|clock>' "'clock', or a number from 0 to 281474976710650" serve
 done
 
 # begins WORDS SENTENCE: a server with these words lists namespaces at a revision of that form

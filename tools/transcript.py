@@ -1,16 +1,33 @@
 #!/usr/bin/env python3
 """Shows a script as a transcript: each event with its answer under it, wrapped to be read. usage: transcript.py SCRIPT ANSWERS"""
+import re
 import sys
-import textwrap
+
+WIDTH = 100
+
+
+def pieces(text):
+    """The pieces of a line of a script: the lines of the head of a request or a reply, and its body, with single backslashes."""
+    head, _, body = text.partition("\\r\\n\\r\\n")
+    return [part.replace("\\\\", "\\") for part in head.split("\\r\\n") + ([body] if body else [])]
+
+
+def wrapped(part, first, later):
+    """A piece in lines of at most WIDTH, broken between words and, of JSON, behind a comma that stands in no text."""
+    spaced = re.sub(r',(?=["{\[])', ",\u200b", part) if part.startswith("{") else part
+    lines, line = [], ""
+    for word in spaced.replace(" ", " \u200b").split("\u200b"):
+        if line and len(later) + len((line + word).rstrip()) > WIDTH:
+            lines.append(line.rstrip())
+            line = ""
+        line += word
+    lines.append(line)
+    return "\n".join((first if number == 0 else later) + line for number, line in enumerate(lines))
 
 
 def shown(first, text):
-    """A line of a script, with its escaped line ends as line ends."""
-    head, _, body = text.partition("\\r\\n\\r\\n")
-    parts = head.split("\\r\\n") + ([body] if body else [])
-    for number, part in enumerate(parts):
-        mark = first if number == 0 else " " * len(first)
-        print(textwrap.fill(part, 100, initial_indent=mark, subsequent_indent=" " * (len(first) + 2), break_on_hyphens=False))
+    for number, part in enumerate(pieces(text)):
+        print(wrapped(part, first if number == 0 else " " * len(first), " " * (len(first) + 2)))
 
 
 def main():

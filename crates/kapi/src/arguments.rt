@@ -36,26 +36,58 @@ fn machines<'a>(alloc: Global) -> Result<Command<'a>, Memory>
         .subcommand(replay(alloc)?)
 }
 
+/// What `kapi script --help` shows below the options.
+const SCRIPT_FORMS: &str =
+    r#"One event a line, and one line answers each; empty lines and lines that begin with # are skipped.
+
+  open ann,dev          opens a connection of the user ann in the group dev. Answer: conn 0, its number; the next is 1
+  feed 0 TEXT           bytes come in on connection 0. Answer: ok. In TEXT \r\n ends a line, and \\ is a backslash
+  serve 0               answers the next whole request of connection 0. Answer: out and the reply, or none
+  pump 0                shows the next event of the watch of connection 0. Answer: out and the event, or none
+  turn                  fills the next aggregated cluster role that waits for it. Answer: turn REVISION NAME, or none
+  close 0               closes connection 0. Answer: ok
+
+'last' in place of 'out' tells that the connection has ended, 'error ..' that an event was refused.
+
+Example:
+  printf '%s\n' 'open root,system:masters' 'feed 0 GET /healthz HTTP/1.1\r\nHost: a\r\n\r\n' 'serve 0' | kapi script
+
+It prints
+  conn 0
+  ok
+  out HTTP/1.1 200 OK\r\nContent-Type: text/plain\r\nContent-Length: 2\r\n\r\nok
+
+Status 0 at the end of the script, 1 at a line that is no event. docs/PROFILE.md has each rule of scripts; docs/REPLAY.md shows
+transcripts, in which the same is written more shortly."#;
+
 fn script<'a>(alloc: Global) -> Command<'a>
     ensures app { app_of result ≡ script_app }
     ensures local { (out-Command result).has_globals ≡ false }
 {
-    Command::new(alloc, "script").about(
-        "Plays the events on standard input and prints their answers",
-    )
+    Command::new(alloc, "script")
+        .about("Plays the events on standard input and prints their answers")
+        .after_help(SCRIPT_FORMS)
 }
 
 /// What `kapi audit --help` shows below the arguments.
 const AUDIT_FORMS: &str =
     r#"Each file has one JSON object a line; empty lines and lines that begin with # are skipped. The first line is 1.
 
-POLICY: objects as a cluster gives them, namespaces first, as
-  {"apiVersion":"rbac.authorization.k8s.io/v1","kind":"Role","metadata":{"name":"r","namespace":"default"},"rules":[{"apiGroups":[""],"resources":["pods"],"verbs":["get"]}]}
+POLICY: objects as a cluster gives them, namespaces first. QUESTIONS: each the spec of a SubjectAccessReview.
 
-QUESTIONS: each the spec of a SubjectAccessReview, as
-  {"user":"ann","groups":["dev"],"resourceAttributes":{"namespace":"default","verb":"get","resource":"pods"}}
+One line answers each question: 'denied', 'allowed RoleBinding b, Role r, rule 0' or 'allowed group system:masters'.
 
-One line answers each question: 'denied', 'allowed RoleBinding b, Role r, rule 0' or 'allowed group system:masters'."#;
+Example:
+  printf '%s\n' \
+    '{"apiVersion":"rbac.authorization.k8s.io/v1","kind":"Role","metadata":{"name":"reader","namespace":"default"},"rules":[{"apiGroups":[""],"resources":["secrets"],"verbs":["get"]}]}' \
+    '{"apiVersion":"rbac.authorization.k8s.io/v1","kind":"RoleBinding","metadata":{"name":"readers","namespace":"default"},"roleRef":{"kind":"Role","name":"reader"},"subjects":[{"kind":"User","name":"ann"}]}' > policy.jsonl
+  printf '%s\n' '{"user":"ann","resourceAttributes":{"namespace":"default","verb":"get","resource":"secrets"}}' > questions.jsonl
+  kapi audit policy.jsonl questions.jsonl
+
+It prints
+  allowed RoleBinding readers, Role reader, rule 0
+
+docs/AUDIT.md tells how to take a policy out of a cluster."#;
 
 fn audit<'a>(alloc: Global) -> Result<Command<'a>, Memory>
     ensures { IfOk result (λ c. (app_of c ≡ audit_app) × ((out-Command c).has_globals ≡ false)) }
@@ -70,7 +102,7 @@ fn audit<'a>(alloc: Global) -> Result<Command<'a>, Memory>
 
 /// What `kapi serve --help` shows below the arguments.
 const SERVE_FORMS: &str =
-    r#"Each port stands on 127.0.0.1, and each of its clients is the user that its word names, in the groups behind him.
+    r#"Each port stands on 127.0.0.1, and each of its clients is the user that its word names, in the groups behind it.
 
 FILE has one JSON object a line, namespaces first; empty lines and lines that begin with # are skipped. The first line is 1.
 
@@ -84,10 +116,13 @@ With --answer, N threads answer questions while the server goes on, those of one
 SubjectAccessReview, as for kapi audit, and each answer behind the number of changes of the policy that it follows.
 
 Example:
-  kapi serve --load objects.jsonl --first-revision clock 8001=root,system:masters 8002=ann,dev
+  kapi serve --first-revision clock 8001=root,system:masters 8002=ann,dev & sleep 1
   curl -s 127.0.0.1:8001/api/v1/namespaces/default/configmaps -H 'Content-Type: application/json' \
     -d '{"apiVersion":"v1","kind":"ConfigMap","metadata":{"name":"a"},"data":{"k":"v"}}'
-  curl -s 127.0.0.1:8001/api/v1/namespaces/default/configmaps/a"#;
+  curl -s 127.0.0.1:8002/api/v1/namespaces/default/configmaps/a
+  kill $!
+
+The server prints a line for each port that it listens on. The last answer is a refusal, as ann has no role. docs/USING.md leads through a server with roles."#;
 
 /// `kapi serve` without its arguments.
 fn bare_serve<'a>(alloc: Global) -> Command<'a>
@@ -141,15 +176,18 @@ const REPLAY_FORMS: &str =
   recheck                                rights of watches are looked at anew in this case, as of kapi serve --recheck-watches
 
 Example:
-  # A reader reads, and deletes nothing.
-  load policy.jsonl
-  as ann
-  GET /api/v1/namespaces/shop/configmaps
-  = 200
-  DELETE /api/v1/namespaces/shop/configmaps/prices
-  = 403 ["delete","","configmaps","","prices"]
+  printf '%s\n' \
+    '{"apiVersion":"rbac.authorization.k8s.io/v1","kind":"Role","metadata":{"name":"reader","namespace":"default"},"rules":[{"apiGroups":[""],"resources":["secrets"],"verbs":["get"]}]}' \
+    '{"apiVersion":"rbac.authorization.k8s.io/v1","kind":"RoleBinding","metadata":{"name":"readers","namespace":"default"},"roleRef":{"kind":"Role","name":"reader"},"subjects":[{"kind":"User","name":"ann"}]}' > policy.jsonl
+  printf '%s\n' 'load policy.jsonl' 'as ann' \
+    'GET /api/v1/namespaces/default/secrets/token' '= 404' \
+    'DELETE /api/v1/namespaces/default/secrets/token' '= 403 ["delete","","secrets","","token"]' > support.txt
+  kapi replay support.txt
 
-Status 0 where every answer is as it is wanted, else 1."#;
+It prints
+  support.txt: 2 answers
+
+Status 0 where every answer is as it is wanted, else 1. docs/REPLAY.md has every line."#;
 
 fn replay<'a>(alloc: Global) -> Result<Command<'a>, Memory>
     ensures { IfOk result (λ c. (app_of c ≡ replay_app) × ((out-Command c).has_globals ≡ false)) }
@@ -174,9 +212,14 @@ A user is looked at without groups, a group by another user in it alone. With --
 accounts in their two groups besides, and the anonymous user in system:unauthenticated alone.
 
 Example:
-  kapi compare before.jsonl after.jsonl
+  printf '%s\n' \
+    '{"apiVersion":"rbac.authorization.k8s.io/v1","kind":"Role","metadata":{"name":"reader","namespace":"default"},"rules":[{"apiGroups":[""],"resources":["secrets"],"verbs":["get"]}]}' \
+    '{"apiVersion":"rbac.authorization.k8s.io/v1","kind":"RoleBinding","metadata":{"name":"readers","namespace":"default"},"roleRef":{"kind":"Role","name":"reader"},"subjects":[{"kind":"User","name":"ann"}]}' > policy.jsonl
+  kapi compare /dev/null policy.jsonl
+
+It prints
   SUBJECT   NAMESPACE  GAINS                 BY
-  User ann  shop       ["get","","secrets"]  RoleBinding readers, Role reader, rule 0
+  User ann  default    ["get","","secrets"]  RoleBinding readers, Role reader, rule 0
 
 Status 0 where nobody gains, 3 where somebody does, and 1 where a file is not loaded."#;
 
@@ -212,10 +255,16 @@ RESOURCE: pods, pods/log, deployments.apps, or a path that begins with a slash, 
 --questions: a file of questions, each a line VERB RESOURCE [NAMESPACE [NAME]], where the namespace * asks cluster-wide.
 
 Example:
-  kapi who policy.jsonl get secrets --namespace shop
-  SUBJECT               NAMESPACE  BINDING              RULE
-  Group system:masters  *          -                    everything
-  User ann              shop       RoleBinding readers  Role reader, rule 0"#;
+  printf '%s\n' \
+    '{"apiVersion":"rbac.authorization.k8s.io/v1","kind":"Role","metadata":{"name":"reader","namespace":"default"},"rules":[{"apiGroups":[""],"resources":["secrets"],"verbs":["get"]}]}' \
+    '{"apiVersion":"rbac.authorization.k8s.io/v1","kind":"RoleBinding","metadata":{"name":"readers","namespace":"default"},"roleRef":{"kind":"Role","name":"reader"},"subjects":[{"kind":"User","name":"ann"}]}' > policy.jsonl
+  kapi who policy.jsonl get secrets --namespace default
+
+It prints
+  SUBJECT               NAMESPACE  BINDING                           RULE
+  Group system:masters  *          -                                 everything
+  Group system:masters  *          ClusterRoleBinding cluster-admin  ClusterRole cluster-admin, rule 0
+  User ann              default    RoleBinding readers               Role reader, rule 0"#;
 
 fn who<'a>(alloc: Global) -> Result<Command<'a>, Memory>
     ensures { IfOk result (λ c. (app_of c ≡ who_app) × ((out-Command c).has_globals ≡ false)) }
@@ -273,10 +322,15 @@ Each line tells a user or group that may escalate or bind roles or impersonate, 
 rule that let it. The last line tells what holds of all others.
 
 Example:
+  printf '%s\n' '{"apiVersion":"rbac.authorization.k8s.io/v1","kind":"ClusterRoleBinding","metadata":{"name":"admins"},"roleRef":{"kind":"ClusterRole","name":"cluster-admin"},"subjects":[{"kind":"User","name":"olga"}]}' > policy.jsonl
   kapi risks policy.jsonl
-  SUBJECT               NAMESPACE  BINDING                    RULE
-  Group system:masters  *          -                          everything
-  User olga             *          ClusterRoleBinding admins  ClusterRole admin, rule 2"#;
+
+It prints
+  SUBJECT               NAMESPACE  BINDING                           RULE
+  Group system:masters  *          -                                 everything
+  User olga             *          ClusterRoleBinding admins         ClusterRole cluster-admin, rule 0
+  Group system:masters  *          ClusterRoleBinding cluster-admin  ClusterRole cluster-admin, rule 0
+  Nothing that all others write lets anybody do what neither that one nor any of them was allowed."#;
 
 fn risks<'a>(alloc: Global) -> Result<Command<'a>, Memory>
     ensures { IfOk result (λ c. (app_of c ≡ risks_app) × ((out-Command c).has_globals ≡ false)) }

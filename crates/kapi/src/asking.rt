@@ -1,12 +1,21 @@
 //! Questions about the policies of files.
 use crate::policies::{Answered, FilesFault, compare_files, risks_file, who_file, who_wanted};
 use crate::program::{CompareFiles, RisksFile, WhoQuestion, WhoWanted, WhoWords};
+use crate::telling::{tell_reason, tell_unread};
 use kapi_access::Identities;
 use kapi_questions::{Form, question_of};
+use kapi_reasons::object_reason;
 use std::fs::{self, Files};
 use std::io::{self, BufWriter, Write};
 use std::process::ExitCode;
 use std::sync::Wait;
+
+/// A file that was read, and its name.
+#[derive(Clone, Copy)]
+struct Source<'a> {
+    name: &'a str,
+    bytes: &'a [u8],
+}
 
 /// Prints what a policy allows that another did not: status 0 where nobody gains, 3 where somebody does, or 1 after a
 /// line on standard error.
@@ -34,7 +43,12 @@ pub fn run_compare<R: Files + Print + Eprint + AllocGlobal + Wait>(
             tell_unsettled(rt, files.after.as_str(), compared.after_settled)?;
             Ok(ExitCode::from(if compared.gains { 3 } else { 0 }))
         }
-        Err(fault) => refuse(rt, &fault, files.before.as_str(), files.after.as_str()),
+        Err(fault) => refuse(
+            rt,
+            fault,
+            &file_of(files.before.as_str(), before.as_slice()),
+            &file_of(files.after.as_str(), after.as_slice()),
+        ),
     }
 }
 
@@ -47,18 +61,20 @@ pub fn run_who<R: Files + Print + Eprint + AllocGlobal + Wait>(
     let Some(objects) = read(rt, policy)? else {
         return Ok(ExitCode::from(1));
     };
+    let policy = file_of(policy, objects.as_slice());
     match &words.question {
         WhoQuestion::Words(wanted) => {
-            let asked = ask_words(rt, form(words.json), objects.as_slice(), wanted);
-            tell_who(rt, policy, "", asked)
+            let asked = ask_words(rt, form(words.json), policy.bytes, wanted);
+            tell_who(rt, &policy, &file_of("", b"".as_slice()), asked)
         }
         WhoQuestion::File(file) => {
             let Some(lines) = read(rt, file.as_str())? else {
                 return Ok(ExitCode::from(1));
             };
             let form = form(words.json);
-            let asked = who_file(rt.alloc(), rt, form, objects.as_slice(), lines.as_slice());
-            tell_who(rt, policy, file.as_str(), asked)
+            let questions = file_of(file.as_str(), lines.as_slice());
+            let asked = who_file(rt.alloc(), rt, form, policy.bytes, questions.bytes);
+            tell_who(rt, &policy, &questions, asked)
         }
     }
 }
@@ -81,17 +97,17 @@ fn ask_words<R: AllocGlobal + Wait>(
 
 fn tell_who<R: Print + Eprint + AllocGlobal>(
     rt: &R,
-    policy: &str,
-    questions: &str,
+    policy: &Source<'_>,
+    questions: &Source<'_>,
     asked: Result<Answered, FilesFault>,
 ) -> io::Result<ExitCode> {
     match asked {
         Ok(answered) => {
             print(rt, answered.text.as_slice())?;
-            tell_unsettled(rt, policy, answered.settled)?;
+            tell_unsettled(rt, policy.name, answered.settled)?;
             Ok(ExitCode::SUCCESS)
         }
-        Err(fault) => refuse(rt, &fault, policy, questions),
+        Err(fault) => refuse(rt, fault, policy, questions),
     }
 }
 
@@ -109,8 +125,12 @@ pub fn run_risks<R: Files + Print + Eprint + AllocGlobal + Wait>(
             print(rt, text.as_slice())?;
             Ok(ExitCode::SUCCESS)
         }
-        Err(fault) => refuse(rt, &fault, policy, ""),
+        Err(fault) => refuse_policy(rt, fault, policy, objects.as_slice()),
     }
+}
+
+fn file_of<'a>(name: &'a str, bytes: &'a [u8]) -> Source<'a> {
+    Source { name, bytes }
 }
 
 fn form(json: bool) -> Form {
@@ -130,7 +150,7 @@ fn read<R: Files + Eprint + AllocGlobal>(rt: &R, file: &str) -> io::Result<Optio
     match fs::read(rt, file) {
         Ok(bytes) => Ok(Some(bytes)),
         Err(error) => {
-            eprintln!(rt; "{file}: {error}")?;
+            tell_unread(rt, file, &error)?;
             Ok(None)
         }
     }
@@ -149,13 +169,48 @@ fn tell_unsettled(rt: &impl Eprint, file: &str, settled: bool) -> io::Result<()>
     Ok(())
 }
 
-/// Reports a line of a file at fault, or that the program is out of memory: status 1.
-fn refuse(rt: &impl Eprint, fault: &FilesFault, first: &str, second: &str) -> io::Result<ExitCode> {
+/// Reports a line of a file at fault and the reason, or that the program is out of memory: status 1.
+fn refuse<R: Eprint + AllocGlobal>(
+    rt: &R,
+    fault: FilesFault,
+    first: &Source<'_>,
+    second: &Source<'_>,
+) -> io::Result<ExitCode> {
     match fault {
-        FilesFault::First(line) => eprintln!(rt; "{first}: policy line {line}")?,
-        FilesFault::Second(line) => eprintln!(rt; "{second}: policy line {line}")?,
-        FilesFault::Question(line) => eprintln!(rt; "{second}: question line {line}")?,
+        FilesFault::First(line) => tell_policy_line(rt, first.name, first.bytes, line)?,
+        FilesFault::Second(line) => tell_policy_line(rt, second.name, second.bytes, line)?,
+        FilesFault::Question(line) => {
+            let name = second.name;
+            eprintln!(rt; "{name}: question line {line}")?;
+            eprintln!(rt;
+                "  a question is VERB RESOURCE [NAMESPACE [NAME]], with one space between words"
+            )?;
+        }
         FilesFault::Memory => eprintln!(rt; "out of memory")?,
     }
     Ok(ExitCode::from(1))
+}
+
+/// Reports a line of the only policy at fault and the reason, or that the program is out of memory: status 1.
+fn refuse_policy<R: Eprint + AllocGlobal>(
+    rt: &R,
+    fault: FilesFault,
+    name: &str,
+    objects: &[u8],
+) -> io::Result<ExitCode> {
+    match fault {
+        FilesFault::First(line) => tell_policy_line(rt, name, objects, line)?,
+        _ => eprintln!(rt; "out of memory")?,
+    }
+    Ok(ExitCode::from(1))
+}
+
+fn tell_policy_line<R: Eprint + AllocGlobal>(
+    rt: &R,
+    name: &str,
+    objects: &[u8],
+    line: usize,
+) -> io::Result<()> {
+    eprintln!(rt; "{name}: policy line {line}")?;
+    tell_reason(rt, object_reason(rt.alloc(), objects, line))
 }

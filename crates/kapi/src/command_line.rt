@@ -209,14 +209,14 @@ fn is_given(words: &ArgMatches<'_>, name: &str) -> bool
 
 /// The value of that name, if it has one.
 #[tactic(auto, using(crate::proofs::Reading::first_value_rows))]
-fn value<'a>(words: &ArgMatches<'a>, name: &str) -> Option<&'a str>
+pub fn value<'a>(words: &ArgMatches<'a>, name: &str) -> Option<&'a str>
     ensures { option_map (λ s. s.now) result ≡ first_of name.now (rows_of (found_of words.now)) }
 {
     words.get_str(name)
 }
 
 /// The number behind `--readers`, where it is 1 to 16.
-fn readers(words: &ArgMatches<'_>) -> Option<usize>
+pub fn readers(words: &ArgMatches<'_>) -> Option<usize>
     ensures told { result ≡ readers_in (rows_of (found_of words.now)) }
     ensures few { IfSome result (λ n. (1 ≤ n) × (n ≤ 16)) }
 {
@@ -249,7 +249,7 @@ fn serve_options(alloc: Global, words: &ArgMatches<'_>) -> Result<ServeOptions, 
 }
 
 /// The port for questions, where one is specified.
-fn answer(words: &ArgMatches<'_>) -> Option<Option<u16>>
+pub fn answer(words: &ArgMatches<'_>) -> Option<Option<u16>>
     ensures { result ≡ answer_of (first_of (codes "answer") (rows_of (found_of words.now))) }
 {
     match value(words, "answer") {
@@ -259,7 +259,7 @@ fn answer(words: &ArgMatches<'_>) -> Option<Option<u16>>
 }
 
 /// The first revision that is specified, 0 where none is, and none where it is the clock's.
-fn first(words: &ArgMatches<'_>) -> Option<Option<u64>>
+pub fn first(words: &ArgMatches<'_>) -> Option<Option<u64>>
     ensures told { result ≡ first_of_word (first_of (codes "first-revision") (rows_of (found_of words.now))) }
     ensures small { IfSome result (λ first. IfSome first (λ n. n ≤ 281474976710650)) }
 {
@@ -309,7 +309,7 @@ fn each_listen(alloc: Global, words: &[&str]) -> Result<Vec<Listen>, CommandFaul
 
 /// `PORT=USER` or `PORT=USER,GROUP,..`.
 #[tactic(auto, unfolding(crate::specs::Listens::listen_of))]
-fn listen(alloc: Global, word: &str) -> Result<Listen, CommandFault>
+pub fn listen(alloc: Global, word: &str) -> Result<Listen, CommandFault>
     ensures { Reads (λ l. l) result (listen_of word.now) }
 {
     let (digits, names) = parted(word).ok_or(CommandFault::Words)?;

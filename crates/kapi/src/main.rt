@@ -16,12 +16,17 @@ mod policies;
 mod program;
 mod replaying;
 mod serving;
+mod system_reason;
+mod telling;
+mod wrong_words;
 
 use asking::{run_compare, run_risks, run_who};
+use clap::Error;
 use command_line::command;
 use kapi_audit::{AuditFault, NoGate, audit_run};
 use kapi_index::IndexedPolicy;
-use kapi_script::script_run;
+use kapi_reasons::{object_reason, question_reason};
+use kapi_script::{ScriptFault, script_run};
 use program::{AuditFiles, Command, CommandFault};
 use replaying::run_replay;
 use serving::run_serve;
@@ -31,9 +36,11 @@ use std::io::{self, BufWriter, Write};
 use std::process::ExitCode;
 use std::sync::Wait;
 use std::thread::Threads;
+use telling::{tell_reason, tell_stopped, tell_unread};
+use wrong_words::complaint;
 
 fn main(rt: HostRuntime) -> io::Result<ExitCode> {
-    match named_command(&rt) {
+    let ended = match named_command(&rt) {
         Ok(Command::Script) => run_script(&rt),
         Ok(Command::Audit(files)) => run_audit(&rt, &files),
         Ok(Command::Serve(options)) => run_serve(&rt, &options),
@@ -41,12 +48,19 @@ fn main(rt: HostRuntime) -> io::Result<ExitCode> {
         Ok(Command::Compare(files)) => run_compare(&rt, &files),
         Ok(Command::Who(words)) => run_who(&rt, &words),
         Ok(Command::Risks(file)) => run_risks(&rt, &file),
-        Ok(Command::Show(text)) => {
-            text.print(&rt)?;
-            Ok(ExitCode::SUCCESS)
-        }
-        Err(fault) => refuse(&rt, &fault),
+        Ok(Command::Show(text)) => show(&rt, &text),
+        Err(fault) => refuse(&rt, fault),
+    };
+    match ended {
+        Ok(status) => Ok(status),
+        Err(error) => tell_stopped(&rt, &error),
     }
+}
+
+/// Prints the text of help or of the version.
+fn show<R: Print + Eprint>(rt: &R, text: &Error) -> io::Result<ExitCode> {
+    text.print(rt)?;
+    Ok(ExitCode::SUCCESS)
 }
 
 /// The command that the words of the command line name.
@@ -56,7 +70,14 @@ fn named_command<R: Env + AllocGlobal>(rt: &R) -> Result<Command, CommandFault> 
     command(rt.alloc(), borrowed.as_slice())
 }
 
-/// Plays the script on standard input: status 0, or 1 after a line on standard error.
+/// What is wrong with the words of the command line.
+fn complained<R: Env + AllocGlobal>(rt: &R) -> Result<String, CommandFault> {
+    let words: Vec<String> = env::args(rt)?.collect(rt.alloc())?;
+    let borrowed: Vec<&str> = words.iter().map(|word| word.as_str()).collect(rt.alloc())?;
+    Ok(complaint(rt.alloc(), borrowed.as_slice())?)
+}
+
+/// Plays the script on standard input: status 0, or 1 after the fault and its reason on standard error.
 fn run_script<R: Input + Print + Eprint + AllocGlobal>(rt: &R) -> io::Result<ExitCode> {
     let mut reader = rt.reader();
     let mut writer = BufWriter::new(rt.alloc(), io::writer(rt))?;
@@ -69,23 +90,28 @@ fn run_script<R: Input + Print + Eprint + AllocGlobal>(rt: &R) -> io::Result<Exi
         Ok(()) => Ok(ExitCode::SUCCESS),
         Err(fault) => {
             eprintln!(rt; "{fault}")?;
+            if let ScriptFault::BadLine(_number) = fault {
+                eprintln!(rt;
+                    "  no event: open USER[,GROUP..], feed N TEXT, serve N, pump N, turn or close N, one space between words; try 'kapi script --help'"
+                )?;
+            }
             Ok(ExitCode::from(1))
         }
     }
 }
 
-/// Prints the answers to the questions: status 0, or 1 after a line on standard error.
+/// Prints the answers to the questions: status 0, or 1 after the fault and its reason on standard error.
 fn run_audit<R: Files + Print + Eprint + AllocGlobal + Threads + Wait + Sync>(
     rt: &R,
     files: &AuditFiles,
 ) -> io::Result<ExitCode> {
     let policy = match fs::read(rt, files.policy.as_str()) {
         Ok(policy) => policy,
-        Err(error) => return fail(rt, files.policy.as_str(), &error),
+        Err(error) => return tell_unread(rt, files.policy.as_str(), &error),
     };
     let questions = match fs::read(rt, files.questions.as_str()) {
         Ok(questions) => questions,
-        Err(error) => return fail(rt, files.questions.as_str(), &error),
+        Err(error) => return tell_unread(rt, files.questions.as_str(), &error),
     };
     match audit(rt, policy.as_slice(), questions.as_slice(), files.readers) {
         Ok(answers) => {
@@ -96,6 +122,15 @@ fn run_audit<R: Files + Print + Eprint + AllocGlobal + Threads + Wait + Sync>(
         }
         Err(fault) => {
             eprintln!(rt; "{fault}")?;
+            match fault {
+                AuditFault::PolicyLine(line) => {
+                    tell_reason(rt, object_reason(rt.alloc(), policy.as_slice(), line))?;
+                }
+                AuditFault::QuestionLine(line) => {
+                    tell_reason(rt, question_reason(rt.alloc(), questions.as_slice(), line))?;
+                }
+                AuditFault::Memory | AuditFault::Busy => {}
+            }
             Ok(ExitCode::from(1))
         }
     }
@@ -112,14 +147,14 @@ fn audit<R: AllocGlobal + Threads + Wait + Sync>(
     audit_run(rt.alloc(), rt, policy, questions, readers, &NoGate)
 }
 
-/// A file that cannot be read: status 1.
-fn fail(rt: &impl Eprint, file: &str, error: &io::Error) -> io::Result<ExitCode> {
-    eprintln!(rt; "{file}: {error}")?;
-    Ok(ExitCode::from(1))
-}
-
 /// A command line that names no program: status 2.
-fn refuse(rt: &impl Eprint, fault: &CommandFault) -> io::Result<ExitCode> {
-    eprintln!(rt; "{fault}")?;
+fn refuse<R: Env + Eprint + AllocGlobal>(rt: &R, fault: CommandFault) -> io::Result<ExitCode> {
+    match fault {
+        CommandFault::Words => match complained(rt) {
+            Ok(complaint) => rt.eprint(complaint)?,
+            Err(fault) => eprintln!(rt; "{fault}")?,
+        },
+        CommandFault::Memory => eprintln!(rt; "{fault}")?,
+    }
     Ok(ExitCode::from(2))
 }

@@ -123,7 +123,7 @@ pub struct Listen {
 /// Why a command line was not understood.
 #[derive(Clone, Copy, Debug, PartialEq, Eq, Error)]
 pub enum CommandFault {
-    #[error("usage: kapi script, kapi audit POLICY QUESTIONS [--readers N], N from 1 to 16, kapi replay [--write] FILE.., kapi compare [--json] [--usual-groups] BEFORE AFTER, kapi who [--json] POLICY VERB RESOURCE [--namespace NS] [--name NAME], kapi who [--json] POLICY --questions FILE, kapi risks [--json] POLICY, or kapi serve [--load FILE] [--first-revision N|clock] [--recheck-watches] [--answer PORT] [--readers N] PORT=USER[,GROUP..]..")]
+    #[error("the words of the command line are not understood; try 'kapi --help'")]
     Words,
     #[error("out of memory")]
     Memory,

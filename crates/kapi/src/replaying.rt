@@ -1,4 +1,5 @@
 use crate::program::ReplayOptions;
+use crate::telling::tell_unread;
 use kapi_replay::{NamedFile, loaded_names, replay_run};
 use kapi_text::{Memory, Sequence, Text};
 use std::alloc::Global;
@@ -17,10 +18,7 @@ pub fn run_replay<R: Files + Print + Eprint + AllocGlobal + Wait>(
     for name in options.files.iter() {
         match fs::read(rt, name.as_str()) {
             Ok(bytes) => transcripts.push(named(rt.alloc(), name.as_str(), bytes)?)?,
-            Err(error) => {
-                eprintln!(rt; "{name}: {error}")?;
-                return Ok(ExitCode::from(1));
-            }
+            Err(error) => return tell_unread(rt, name.as_str(), &error),
         }
     }
     let files = loaded_files(rt, transcripts.as_slice())?;

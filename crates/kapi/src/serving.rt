@@ -3,10 +3,13 @@ ghost use Rattle.kapi.specs.Doors.{doors_of};
 ghost use Rattle.kapi_serve.specs.Listening.{doors};
 
 use crate::answering::start_readers;
-use crate::beginning::begin;
+use crate::beginning::{BeginError, begin};
 use crate::program::{Listen, ServeOptions};
+use crate::system_reason::Reason;
+use crate::telling::{tell_reason, tell_unread};
 use kapi_desk::Seat;
-use kapi_loading::Started;
+use kapi_loading::{StartError, Started};
+use kapi_reasons::object_reason;
 use kapi_serve::{Sockets, serve_loop};
 use kapi_text::TryCopy;
 use std::fs::{self, Files};
@@ -17,9 +20,12 @@ use std::sync::Wait;
 use std::thread::Threads;
 use std::time::Clock;
 
-/// The port that cannot be listened on.
+/// The port that cannot be listened on, and why.
 #[derive(Clone, Copy, Debug)]
-struct Refused(u16);
+struct Refused {
+    port: u16,
+    error: io::Error,
+}
 
 /// Serves the ports for as long as clients can be waited for. Status 1 where the file cannot be loaded or the clock
 /// gives no first revision, 3 where a port cannot be listened on, 4 where the wait fails.
@@ -40,10 +46,7 @@ pub fn run_serve<
     let objects = match &options.load {
         Some(file) => match fs::read(rt, file.as_str()) {
             Ok(objects) => objects,
-            Err(error) => {
-                eprintln!(rt; "{file}: {error}")?;
-                return Ok(ExitCode::from(1));
-            }
+            Err(error) => return tell_unread(rt, file.as_str(), &error),
         },
         None => Vec::new(rt.alloc()),
     };
@@ -58,11 +61,21 @@ pub fn run_serve<
     };
     match begin(rt.alloc(), rt, objects.as_slice(), first, seconds, seats) {
         Ok(started) => serve_ports(rt, started, options),
-        Err(fault) => {
-            eprintln!(rt; "{fault}")?;
-            Ok(ExitCode::from(1))
-        }
+        Err(fault) => refuse_begin(rt, fault, objects.as_slice()),
     }
+}
+
+/// Reports why a server does not begin, and why a line of its objects is not loaded: status 1.
+fn refuse_begin<R: Eprint + AllocGlobal>(
+    rt: &R,
+    fault: BeginError,
+    objects: &[u8],
+) -> io::Result<ExitCode> {
+    eprintln!(rt; "{fault}")?;
+    if let BeginError::Start(StartError::Line(line)) = fault {
+        tell_reason(rt, object_reason(rt.alloc(), objects, line))?;
+    }
+    Ok(ExitCode::from(1))
 }
 
 /// Listens on each port and serves its clients; the desk is closed at the end.
@@ -127,7 +140,7 @@ fn listen_all<
             println!(rt; "listening {port}")?;
             Ok(Ok(sockets))
         }
-        Err(_error) => Ok(Err(Refused(port))),
+        Err(error) => Ok(Err(Refused { port, error })),
     }
 }
 
@@ -143,7 +156,10 @@ fn listen<R: Print + AllocGlobal + Clock + Clone + Drop + Net>(
         let identity = listen.identity.copy(rt.alloc())?;
         match sockets.listen(rt, listen.port, identity) {
             Ok(port) => println!(rt; "listening {port}")?,
-            Err(_error) => return Ok(Err(Refused(listen.port))),
+            Err(error) => {
+                let port = listen.port;
+                return Ok(Err(Refused { port, error }));
+            }
         }
     }
     Ok(Ok(sockets))
@@ -151,7 +167,8 @@ fn listen<R: Print + AllocGlobal + Clock + Clone + Drop + Net>(
 
 /// A port that cannot be listened on: status 3.
 fn refuse(rt: &impl Eprint, refused: Refused) -> io::Result<ExitCode> {
-    let port = refused.0;
-    eprintln!(rt; "cannot listen {port}")?;
+    let port = refused.port;
+    let reason = Reason(&refused.error);
+    eprintln!(rt; "cannot listen {port}: {reason}")?;
     Ok(ExitCode::from(3))
 }

@@ -1,5 +1,5 @@
 //! Tests of the libraries that no script can show: refused allocations, prepared writes that are not committed, the
-//! edges of the window of changes, requests cut at every byte, both policies over random changes, and copies.
+//! edges of the window of changes, requests cut at every byte, and copies.
 #![tactic(auto)]
 
 #[cfg(test)]

@@ -71,44 +71,6 @@ fn runs_a_create_and_a_get(rt: HostRuntime) -> Result<(), Fail> {
 }
 
 #[test]
-fn runs_10_000_events(rt: HostRuntime) -> Result<(), Fail> {
-    let alloc = rt.alloc();
-    let mut core = core_at(alloc, 0)?;
-    let mut events = Vec::new(alloc);
-    for _ in 0..10_000usize {
-        events.push(Event::Turn)?;
-    }
-    let outputs = core.run(events.as_slice());
-    assert!(rt; outputs.stopped.is_none());
-    let answers = outputs.answers.into_vec();
-    assert_eq!(rt; answers.len(), 10_000);
-    for answer in answers.as_slice() {
-        assert!(rt; matches!(answer, Answer::Nothing));
-    }
-    Ok(())
-}
-
-/// The bytes that are sent where each byte comes in a piece of its own.
-fn sent_byte_by_byte(alloc: Global, bytes: &[u8]) -> Result<Vec<u8>, Memory> {
-    let mut core = opened_at(alloc, 0)?;
-    let mut sent = Vec::new(alloc);
-    for byte in bytes {
-        sent.extend_from_slice(exchange(alloc, &mut core, 0, &[*byte])?.as_slice())?;
-    }
-    Ok(sent)
-}
-
-#[test]
-fn answers_alike_however_bytes_come(rt: HostRuntime) -> Result<(), Fail> {
-    let alloc = rt.alloc();
-    let mut both = Vec::from_slice(alloc, CREATE)?;
-    both.extend_from_slice(GET)?;
-    let sent = sent_byte_by_byte(alloc, both.as_slice())?;
-    assert_eq!(rt; sent.as_slice(), CREATED_AND_FOUND);
-    Ok(())
-}
-
-#[test]
 fn keeps_2_097_152_bytes(rt: HostRuntime) -> Result<(), Fail> {
     let alloc = rt.alloc();
     let mut core = opened_at(alloc, 0)?;

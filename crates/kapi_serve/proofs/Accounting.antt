@@ -1,5 +1,6 @@
 -- Each byte of the ports is accounted for.
-use Rattle.std.proofs.Common.{◌≡◌, ℕ, ◌+◌, ◌<◌, ◌≤◌, ◌==◌, Bool, true, false, if◌then◌else◌, List, [], ◌∷◌, ◌++◌, Option, Some, None, refl, sym, ap, ◌∙◌, subst, append_assoc, arith}
+use Rattle.std.proofs.Common.{◌≡◌, ℕ, ◌+◌, ◌<◌, ◌≤◌, ◌==◌, Bool, true, false, if◌then◌else◌, List, [], ◌∷◌, ◌++◌, Option, Some, None, refl, sym, ap, ◌∙◌, subst, append_assoc, arith, inl, inr}
+use Rattle.std.specs.Prelude.{◌⊎◌}
 use Rattle.std.proofs.lemmas.Bool.{eq-eqb}
 use Rattle.kapi_core.specs.Machine.{Machine, after, answers, step}
 use Rattle.kapi_core.specs.declared.event.Answer.{Answer}
@@ -9,7 +10,7 @@ use Rattle.kapi_core.specs.declared.event.Event.TheVariants as event
 use Rattle.kapi_model.specs.declared.identity.Identity.{Identity}
 use Rattle.kapi_serve.specs.declared.port.Entry.{Entry}
 use Rattle.kapi_serve.specs.declared.port.Entry.TheVariants as entry
-use Rattle.kapi_serve.specs.Account.{Account, AreTheirs, Made, Talk, Visit, accepted_by, answered_to, closes, fed_to, present, read_from, talks, visits}
+use Rattle.kapi_serve.specs.Account.{Account, AreTheirs, Made, Talk, Visit, accepted_by, answered_to, closes, fed_to, last_read, present, read_from, talks, visits}
 use Rattle.kapi_serve.specs.Acts.{Act, Deals, Follows, IsFree, Leaves, Seat, answers_of, end_of, ends, entries_in, events_of, loses, made_in, opens, serves, shuns, turns}
 use Rattle.kapi_serve.proofs.Flows.{differs_back, talks_on, visits_end, visits_on}
 use Rattle.kapi_serve.proofs.Numbers.{first_same, grows, grows_by, opened_next, rest_same, told_later}
@@ -109,6 +110,11 @@ opened_nothing : (slot k : ℕ) (who : Identity) (es : List Entry) → ((slot ==
 unfolding read_from accepted_by
 opened_nothing slot k who es h = (if_nothing (slot == k) (read_from k es) (λ off. (h off).0), if_nothing (slot == k) (accepted_by k es) (λ off. (h off).1))
 
+-- a piece that is the last one, whatever came before, is the last of the client
+one_at : (slot : ℕ) (refused : List ℕ) (es : List Entry) → (refused ≡ []) ⊎ ((last : List ℕ) → refused ≡ last_read slot last es) → (refused ≡ []) ⊎ (refused ≡ last_read slot [] es)
+one_at slot refused es (inl none) = inl none
+one_at slot refused es (inr is) = inr (is [])
+
 -- a client gets a connection
 holds_opened : (n : ℕ) (s : List Seat) (slot : ℕ) (who : Identity) (conn : ConnId) (es : List Entry) (ms : List Made) → Sits n s → IsFree slot s → conn.0 ≡ n
     → Holds (n + 1) (s ++ record { slot = slot; conn = conn; owed = [] } ∷ []) es ms
@@ -129,7 +135,7 @@ holds_opened n s slot who conn es ms sits free next h =
         given = Some talk ∷ h.account.given;
         all = ap (λ r. talk ∷ r) h.account.all;
         theirs = (
-          record { identity = refl; refused = mine.refused; read = mine.read; only_closed = mine.only_closed; left = mine.left; accepted = mine.owed },
+          record { identity = refl; refused = mine.refused; read = mine.read; one = one_at slot mine.refused es mine.one; only_closed = mine.only_closed; left = mine.left; accepted = mine.owed },
           h.account.theirs,
         );
       };
@@ -145,11 +151,11 @@ holds_opened n s slot who conn es ms sits free next h =
 
 -- the visit of a client that is ended at once
 abbrev no_visit : Identity → Visit
-no_visit who = record { identity = who; ended_at_once = true; read = []; accepted = [] }
+no_visit who = record { identity = who; ended_at_once = true; read = []; last = []; accepted = [] }
 
 -- a client that is ended at once is a visit, of which nothing is read or accepted
 visits_at_once : (slot : ℕ) (who : Identity) (es : List Entry) → visits (entry.Opened slot who ∷ entry.Ended slot ∷ es) ≡ no_visit who ∷ visits es
-unfolding visits read_from accepted_by
+unfolding visits read_from accepted_by last_read
 visits_at_once slot who es = rw (eq-eqb slot slot refl)
 
 -- from other slots no more is read or accepted
@@ -189,7 +195,7 @@ account_shunned slot who es ms a =
       given = given;
       all = ap (λ r. talk ∷ r) a.all;
       theirs = subst (λ vs. AreTheirs vs given) (sym (visits_at_once slot who es))
-          (record { identity = refl; refused = []; read = refl; only_closed = λ h. refl; left = []; accepted = refl }, a.theirs);
+          (record { identity = refl; refused = []; read = refl; one = inl refl; only_closed = λ h. refl; left = []; accepted = refl }, a.theirs);
     }
 
 -- a client is dropped, as no memory could be allocated for it

@@ -1,5 +1,5 @@
 -- What was read, accepted, fed and answered, where lists are joined.
-use Rattle.std.proofs.Common.{◌≡◌, ℕ, ◌==◌, Bool, true, false, ◌||◌, List, [], ◌∷◌, ◌++◌, refl, sym, ap, ◌∙◌, append_assoc}
+use Rattle.std.proofs.Common.{◌≡◌, ℕ, ◌==◌, Bool, true, false, ◌||◌, if◌then◌else◌, List, [], ◌∷◌, ◌++◌, refl, sym, ap, ◌∙◌, append_assoc}
 use Rattle.std.proofs.lemmas.Bool.{eq-eqb, eqb-false, ne_eqb}
 use Rattle.kapi_core.specs.declared.event.Answer.{Answer}
 use Rattle.kapi_core.specs.declared.event.Answer.TheVariants as answer
@@ -8,7 +8,7 @@ use Rattle.kapi_core.specs.declared.event.Event.{Event}
 use Rattle.kapi_core.specs.declared.event.Event.TheVariants as event
 use Rattle.kapi_serve.specs.declared.port.Entry.{Entry}
 use Rattle.kapi_serve.specs.declared.port.Entry.TheVariants as entry
-use Rattle.kapi_serve.specs.Account.{Made, accepted_by, answered_by, answered_to, closes, fed_by, fed_to, is_close_of, read_from, talk_if, talks, visits}
+use Rattle.kapi_serve.specs.Account.{Made, accepted_by, answered_by, answered_to, closes, fed_by, fed_to, is_close_of, last_read, read_from, talk_if, talks, visits}
 use Rattle.kapi_serve.specs.Acts.{AreTo, IsTo, StayOn, end_of}
 
 -- numbers that differ do so the other way round
@@ -55,6 +55,40 @@ accepted_off slot k (entry.Gave s bytes ∷ es) fs off on = accepted_off slot k 
 accepted_off slot k (entry.Took s bytes ∷ es) fs off on = rw (ap (λ n. n == k) on.0 ∙ off) (accepted_off slot k es fs off on.1)
 accepted_off slot k (entry.Ended s ∷ es) fs off on = elim on [ ]
 
+-- the last piece that is read on a slot
+pub last_on : (slot : ℕ) (last : List ℕ) (es fs : List Entry) → StayOn slot es → last_read slot last (es ++ fs) ≡ last_read slot (last_read slot last es) fs
+unfolding last_read StayOn
+last_on slot last [] fs on = refl
+last_on slot last (entry.Opened s who ∷ es) fs on = elim on [ ]
+last_on slot last (entry.Gave s bytes ∷ es) fs on = last_on slot (if s == slot then bytes else last) es fs on.1
+last_on slot last (entry.Took s bytes ∷ es) fs on = last_on slot last es fs on.1
+last_on slot last (entry.Ended s ∷ es) fs on = elim on [ ]
+
+pub last_off : (slot k : ℕ) (last : List ℕ) (es fs : List Entry) → (slot == k) ≡ false → StayOn slot es → last_read k last (es ++ fs) ≡ last_read k last fs
+unfolding last_read StayOn
+last_off slot k last [] fs off on = refl
+last_off slot k last (entry.Opened s who ∷ es) fs off on = elim on [ ]
+last_off slot k last (entry.Gave s bytes ∷ es) fs off on = ap (λ b. last_read k (if b then bytes else last) (es ++ fs)) (ap (λ n. n == k) on.0 ∙ off) ∙ last_off slot k last es fs off on.1
+last_off slot k last (entry.Took s bytes ∷ es) fs off on = last_off slot k last es fs off on.1
+last_off slot k last (entry.Ended s ∷ es) fs off on = elim on [ ]
+
+stay_front : (slot : ℕ) (es fs : List Entry) → StayOn slot (es ++ fs) → StayOn slot es
+unfolding StayOn
+stay_front slot [] fs on = tt
+stay_front slot (entry.Opened s who ∷ es) fs on = elim on [ ]
+stay_front slot (entry.Gave s bytes ∷ es) fs on = (on.0, stay_front slot es fs on.1)
+stay_front slot (entry.Took s bytes ∷ es) fs on = (on.0, stay_front slot es fs on.1)
+stay_front slot (entry.Ended s ∷ es) fs on = elim on [ ]
+
+-- a piece behind which nothing is read is the last one
+last_own : (slot : ℕ) (last piece : List ℕ) → last_read slot last (entry.Gave slot piece ∷ []) ≡ piece
+unfolding last_read
+last_own slot last piece = ap (λ b. if b then piece else last) (eq-eqb slot slot refl)
+
+pub last_piece : (slot : ℕ) (last : List ℕ) (front : List Entry) (piece : List ℕ) → StayOn slot (front ++ entry.Gave slot piece ∷ []) → last_read slot last (front ++ entry.Gave slot piece ∷ []) ≡ piece
+last_piece slot last front piece on =
+    last_on slot last front (entry.Gave slot piece ∷ []) (stay_front slot front (entry.Gave slot piece ∷ []) on) ∙ last_own slot (last_read slot last front) piece
+
 -- no client connects with the entries of a slot
 pub visits_on : (slot : ℕ) (es fs : List Entry) → StayOn slot es → visits (es ++ fs) ≡ visits fs
 unfolding visits StayOn
@@ -86,6 +120,16 @@ pub accepted_end_off : (slot k : ℕ) (b : Bool) (fs : List Entry) → (slot == 
 unfolding accepted_by
 accepted_end_off slot k true fs off = rw off
 accepted_end_off slot k false fs off = refl
+
+pub last_end : (slot : ℕ) (b : Bool) (last : List ℕ) (fs : List Entry) → b ≡ true → last_read slot last (end_of slot b ++ fs) ≡ last
+unfolding last_read
+last_end slot true last fs ends = ap (λ b. if b then last else last_read slot last fs) (eq-eqb slot slot refl)
+last_end slot false last fs ends = absurd (cc)
+
+pub last_end_off : (slot k : ℕ) (b : Bool) (last : List ℕ) (fs : List Entry) → (slot == k) ≡ false → last_read k last (end_of slot b ++ fs) ≡ last_read k last fs
+unfolding last_read
+last_end_off slot k true last fs off = ap (λ b. if b then last else last_read k last fs) off
+last_end_off slot k false last fs off = refl
 
 pub visits_end : (slot : ℕ) (b : Bool) (fs : List Entry) → visits (end_of slot b ++ fs) ≡ visits fs
 unfolding visits

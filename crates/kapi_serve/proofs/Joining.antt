@@ -1,7 +1,7 @@
 -- Pieces that are joined.
 use Rattle.std.proofs.Common.{◌≡◌, ℕ, ◌≤◌, List, [], ◌∷◌, ◌++◌, length, drop, take, min, ◌+◌, sym, ap, ◌∙◌, append_assoc, arith, inl, inr}
 use Rattle.std.proofs.lemmas.Bool.{cases_lt}
-use Rattle.std.proofs.lemmas.List.{append-nil, drop-drop, drop_all, length-drop, take-append-drop}
+use Rattle.std.proofs.lemmas.List.{append-nil, drop-drop, drop_all, length-append, length-drop, take-append-drop}
 use Rattle.kapi_serve.specs.Private.Pieces.{joined}
 
 -- a piece more
@@ -37,3 +37,11 @@ owed_pass head sent count next rest few is bound = elim (cases_lt sent (length h
       let all : next ≡ length head = omega (arith, is, bound, above) in
       ap (λ ys. ys ++ rest) (drop_all sent head above ∙ sym (drop_all next head (omega (arith, all)))) ∙ ap (λ n. take n (drop sent head) ++ (drop next head ++ rest)) (sym none)
 ]
+
+-- the count of a piece more is no more than the bytes
+pub counted_push : (head : List ℕ) (sent : ℕ) (old new : List (List ℕ)) (piece : List ℕ) (count next : ℕ) → count ≤ length (drop sent head ++ joined old) → new ≡ old ++ piece ∷ [] → next ≡ min (count + length piece) 18446744073709551615
+    → next ≤ length (drop sent head ++ joined new)
+counted_push head sent old new piece count next few is next_is =
+    let all : drop sent head ++ joined new ≡ (drop sent head ++ joined old) ++ piece = ap (λ ps. drop sent head ++ joined ps) is ∙ owed_push (drop sent head) old piece in
+    let long : length (drop sent head ++ joined new) ≡ length (drop sent head ++ joined old) + length piece = ap length all ∙ length-append (drop sent head ++ joined old) piece in
+    omega (arith, few, next_is, long)

@@ -10,3 +10,7 @@ pub mod Accounting
 pub mod Policies
 pub mod Going
 pub mod Listening
+pub mod Links
+pub mod Connections
+pub mod Standing
+pub mod Tending

@@ -1,5 +1,5 @@
 -- The ports that sockets listen on stay, whatever becomes of their clients.
-use Rattle.std.proofs.Common.{◌≡◌, ◌<◌, ℕ, zero, suc, List, [], ◌∷◌, Option, Some, inl, inr, length, slice_index_or, slice_set, ap, sym, subst, ◌∙◌, map, arith}
+use Rattle.std.proofs.Common.{◌≡◌, ◌<◌, ℕ, zero, suc, List, [], ◌∷◌, Option, Some, inl, inr, length, slice_index_or, slice_set, ap, sym, subst, ◌∙◌, arith}
 use Rattle.std.specs.Prelude.{HoldsAt}
 use Rattle.kapi_aggregation.specs.Members.{Has}
 use Rattle.kapi_model.specs.declared.identity.Identity.{Identity}

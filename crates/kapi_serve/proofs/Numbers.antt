@@ -1,23 +1,14 @@
 -- The numbers of connections count up.
-use Rattle.std.proofs.Common.{◌≡◌, ℕ, ◌+◌, ◌≤◌, Bool, true, false, if◌then◌else◌, List, [], ◌∷◌, ◌++◌, Option, Some, None, Result, Ok, Err, refl, ap, arith}
-use Rattle.kapi_aggregation.specs.declared.turn.Turn.{Turn}
-use Rattle.kapi_answer.specs.Watch.{PlainWatching}
-use Rattle.kapi_answer.specs.declared.watch.After.{After}
-use Rattle.kapi_answer.specs.declared.watch.After.TheVariants as becomes
-use Rattle.kapi_answer.specs.declared.watch.EventReply.{EventReply}
+use Rattle.std.proofs.Common.{◌≡◌, ℕ, ◌+◌, ◌≤◌, Bool, true, false, if◌then◌else◌, List, [], ◌∷◌, ◌++◌, refl, ap, arith}
 use Rattle.kapi_core.proofs.Effects.{Moves, effect}
 use Rattle.kapi_core.proofs.Effects as effects
-use Rattle.kapi_core.specs.Machine.{Link, Machine, after, after_event, after_serve, after_turn, answers, ended_if, feed_step, link_at, open_step, pump_shown, pump_step, pump_watch, serve_beside, serve_item, serve_step, step, turn_step, turned_by}
+use Rattle.kapi_core.specs.Machine.{Machine, after, answers, open_step, step}
 use Rattle.kapi_core.specs.declared.event.Answer.{Answer}
 use Rattle.kapi_core.specs.declared.event.Answer.TheVariants as told
 use Rattle.kapi_core.specs.declared.event.ConnId.{ConnId}
 use Rattle.kapi_core.specs.declared.event.Event.{Event}
 use Rattle.kapi_core.specs.declared.event.Event.TheVariants as event
-use Rattle.kapi_http.specs.declared.message.HttpFault.{HttpFault}
-use Rattle.kapi_http.specs.declared.message.HttpRequest.{HttpRequest}
 use Rattle.kapi_model.specs.declared.identity.Identity.{Identity}
-use Rattle.kapi_store.specs.Faults.{StoreFault}
-use Rattle.kapi_store.specs.Plain.{PlainChange}
 use Rattle.kapi_serve.specs.Account.{Made}
 use Rattle.kapi_serve.specs.Acts.{answers_of, events_of}
 

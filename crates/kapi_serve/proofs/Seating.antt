@@ -1,5 +1,5 @@
 -- What is done for one client, and its place among the others.
-use Rattle.std.proofs.Common.{◌≡◌, ℕ, ◌==◌, true, false, ◌||◌, if◌then◌else◌, List, [], ◌∷◌, ◌++◌, refl, sym, ap, ◌∙◌}
+use Rattle.std.proofs.Common.{◌≡◌, ℕ, ◌==◌, true, false, ◌||◌, if◌then◌else◌, List, [], ◌∷◌, ◌++◌, refl, sym, ap, ◌∙◌, inl, inr}
 use Rattle.std.proofs.lemmas.List.{append-nil}
 use Rattle.std.proofs.lemmas.Bool.{eq-eqb}
 use Rattle.kapi_core.specs.declared.event.Answer.TheVariants as answer
@@ -122,6 +122,7 @@ leaves_ended x = record {
   to = (refl, tt);
   refused = [];
   read = refl;
+  one = inl refl;
   closed = closed_one x.conn;
   left = x.owed;
   owed = append-nil x.owed;
@@ -138,6 +139,7 @@ leaves_forgotten x = record {
   to = (refl, tt);
   refused = [];
   read = refl;
+  one = inl refl;
   closed = closed_one x.conn;
   left = x.owed;
   owed = append-nil x.owed;
@@ -154,6 +156,7 @@ leaves_starved x piece = record {
   to = (refl, tt);
   refused = piece;
   read = chosen x.slot (piece ++ []) [] ∙ append-nil piece;
+  one = inr ([], refl, refl);
   closed = closed_one x.conn;
   left = x.owed;
   owed = append-nil x.owed;
@@ -171,6 +174,7 @@ leaves_full x piece = record {
   to = (refl, (refl, tt));
   refused = piece;
   read = chosen x.slot (piece ++ []) [] ∙ append-nil piece;
+  one = inr ([], refl, refl);
   closed = closed_one x.conn;
   left = x.owed;
   owed = append-nil x.owed;
@@ -188,6 +192,7 @@ leaves_late x piece = record {
   to = (refl, (refl, tt));
   refused = piece;
   read = chosen x.slot (piece ++ []) [] ∙ append-nil piece;
+  one = inr ([], refl, refl);
   closed = closed_one x.conn;
   left = x.owed;
   owed = append-nil x.owed;

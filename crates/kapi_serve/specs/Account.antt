@@ -1,5 +1,5 @@
 -- The account of a server: to which client each byte of its ports belongs, and what was made of it.
-use Rattle.std.specs.Prelude.{◌≡◌, ℕ, ◌==◌, Bool, true, false, ◌||◌, if◌then◌else◌, List, [], ◌∷◌, ◌++◌, Option, Some, None}
+use Rattle.std.specs.Prelude.{◌≡◌, ◌⊎◌, ℕ, ◌==◌, Bool, true, false, ◌||◌, if◌then◌else◌, List, [], ◌∷◌, ◌++◌, Option, Some, None}
 use Rattle.kapi_core.specs.declared.event.Answer.{Answer}
 use Rattle.kapi_core.specs.declared.event.Answer.TheVariants as answer
 use Rattle.kapi_core.specs.declared.event.ConnId.{ConnId}
@@ -24,6 +24,14 @@ read_from slot (entry.Gave s bytes ∷ rest) = if s == slot then bytes ++ read_f
 read_from slot (entry.Took s bytes ∷ rest) = read_from slot rest
 read_from slot (entry.Ended s ∷ rest) = if s == slot then [] else read_from slot rest
 
+-- the last piece that was read from a slot until it is ended or opened again, or the one before where none was
+unfoldable pub last_read : ℕ → List ℕ → List Entry → List ℕ
+last_read slot last [] = last
+last_read slot last (entry.Opened s who ∷ rest) = if s == slot then last else last_read slot last rest
+last_read slot last (entry.Gave s bytes ∷ rest) = last_read slot (if s == slot then bytes else last) rest
+last_read slot last (entry.Took s bytes ∷ rest) = last_read slot last rest
+last_read slot last (entry.Ended s ∷ rest) = if s == slot then last else last_read slot last rest
+
 -- the bytes that a slot accepted until it is ended or opened again
 unfoldable pub accepted_by : ℕ → List Entry → List ℕ
 accepted_by slot [] = []
@@ -37,17 +45,19 @@ abbrev pub is_ended_next : ℕ → List Entry → Bool
 is_ended_next slot (entry.Ended s ∷ rest) = s == slot
 is_ended_next slot _ = false
 
--- a client: its identity, whether its slot was ended at once, what was read from it, and what it accepted
+-- a client: its identity, whether its slot was ended at once, what was read from it, the last piece of that, and what
+-- it accepted
 pub record Visit : Type 0 where
   pub identity : Identity
   pub ended_at_once : Bool
   pub read : List ℕ
+  pub last : List ℕ
   pub accepted : List ℕ
 
 -- the clients that connected, in order
 unfoldable pub visits : List Entry → List Visit
 visits [] = []
-visits (entry.Opened slot who ∷ rest) = record { identity = who; ended_at_once = is_ended_next slot rest; read = read_from slot rest; accepted = accepted_by slot rest } ∷ visits rest
+visits (entry.Opened slot who ∷ rest) = record { identity = who; ended_at_once = is_ended_next slot rest; read = read_from slot rest; last = last_read slot [] rest; accepted = accepted_by slot rest } ∷ visits rest
 visits (entry.Gave slot bytes ∷ rest) = visits rest
 visits (entry.Took slot bytes ∷ rest) = visits rest
 visits (entry.Ended slot ∷ rest) = visits rest
@@ -109,12 +119,14 @@ talks (m ∷ rest) = talk_if m.event m.answer rest ++ talks rest
 
 -- ---- the account
 
--- a client's connection is opened for its identity; what was read from the client was fed to the connection, but for a
--- piece that it did not take in, which closes it; what the client accepted is a beginning of what was answered
+-- a client's connection is opened for its identity; what was read from the client was fed to the connection, but for
+-- the last piece, where it did not take that in, which closes it; what the client accepted is a beginning of what was
+-- answered
 pub record Fits (v : Visit) (t : Talk) : Type 0 where
   pub identity : v.identity ≡ t.identity
   pub refused : List ℕ
   pub read : v.read ≡ t.fed ++ refused
+  pub one : (refused ≡ []) ⊎ (refused ≡ v.last)
   pub only_closed : t.closed ≡ false → refused ≡ []
   pub left : List ℕ
   pub accepted : t.answered ≡ v.accepted ++ left

@@ -1,5 +1,5 @@
 -- What a server does at once, and which clients it has.
-use Rattle.std.specs.Prelude.{◌≡◌, ℕ, ◌==◌, Bool, true, false, List, [], ◌∷◌, ◌++◌, map}
+use Rattle.std.specs.Prelude.{◌≡◌, ◌⊎◌, ℕ, ◌==◌, Bool, true, false, List, [], ◌∷◌, ◌++◌, map}
 use Rattle.kapi_core.specs.declared.event.Answer.{Answer}
 use Rattle.kapi_core.specs.declared.event.Answer.TheVariants as answer
 use Rattle.kapi_core.specs.declared.event.ConnId.{ConnId}
@@ -57,7 +57,7 @@ abbrev pub end_of : ℕ → Bool → List Entry
 end_of slot true = entry.Ended slot ∷ []
 end_of slot false = []
 
--- a client's connection was closed, after a piece that was not taken in, if there was one
+-- a client's connection was closed; if a piece was not taken in, it is the last that was read, and the slot was ended
 pub record Leaves (x : Seat) (entries : List Entry) (made : List Made) : Type 0 where
   pub before : List Entry
   pub is_ended : Bool
@@ -66,6 +66,7 @@ pub record Leaves (x : Seat) (entries : List Entry) (made : List Made) : Type 0 
   pub to : AreTo x.conn made
   pub refused : List ℕ
   pub read : read_from x.slot before ≡ fed_to x.conn made ++ refused
+  pub one : (refused ≡ []) ⊎ ((front : List Entry) × (before ≡ front ++ entry.Gave x.slot refused ∷ []) × (is_ended ≡ true))
   pub closed : closes x.conn made ≡ true
   pub left : List ℕ
   pub owed : x.owed ++ answered_to x.conn made ≡ accepted_by x.slot before ++ left

@@ -4,5 +4,6 @@ pub mod Policies
 pub mod Goes
 pub mod Account
 pub mod Acts
+pub mod Rests
 pub mod Private
 pub mod Listening

@@ -2,3 +2,5 @@
 pub mod Pieces
 pub mod Clients
 pub mod Turns
+pub mod Stands
+pub mod Progresses

@@ -1,5 +1,6 @@
-ghost use Rattle.std.specs.Prelude.{◌≡◌, [], IfSome, OnErr, OnOk, length, remove};
+ghost use Rattle.std.specs.Prelude.{◌≡◌, ◌<◌, ◌≤◌, ℕ, [], IfSome, None, OnErr, OnOk, length, remove};
 ghost use Rattle.std.specs.List.{Contains, HoldsAt};
+ghost use Rattle.kapi_aggregation.specs.Members.{Has};
 
 use kapi_core::ConnId;
 use kapi_text::Memory;
@@ -37,6 +38,7 @@ impl Awake {
     /// Takes a connection in, if it is not there. Nothing is allocated where there is room.
     pub(crate) fn add(&mut self, id: ConnId) -> Result<(), Memory>
         ensures there { OnOk result (Contains self.new.numbers.items id.0) }
+        ensures others { (number : ℕ) → Has self.old.numbers.items number → Has self.new.numbers.items number }
         ensures err { OnErr result (self.new.numbers.items ≡ self.old.numbers.items) }
     {
         match self.numbers.binary_search(&id.0) {
@@ -47,7 +49,9 @@ impl Awake {
 
     /// The connection at a position.
     pub(crate) fn get(&self, position: usize) -> Option<ConnId>
-        ensures { IfSome result (λ id. HoldsAt (λ number. number ≡ id.0) self.now.numbers.items position) }
+        ensures id { IfSome result (λ id. HoldsAt (λ number. number ≡ id.0) self.now.numbers.items position) }
+        ensures inside { IfSome result (λ id. position < length self.now.numbers.items) }
+        ensures outside { result ≡ None → length self.now.numbers.items ≤ position }
     {
         Some(ConnId(*self.numbers.get(position)?))
     }

@@ -1,15 +1,20 @@
-ghost use Rattle.std.specs.Prelude.{◌≡◌, ◌<◌, List, [], ◌∷◌, ◌++◌, None, true, ⊤};
+ghost use Rattle.std.specs.Prelude.{◌≡◌, ◌⊎◌, ◌<◌, ◌≤◌, List, [], ◌∷◌, ◌++◌, None, true, false, if◌then◌else◌, ⊤};
 ghost use Rattle.std.specs.VecDeque.{deque_len, deque_capacity};
 ghost use Rattle.kapi_serve.specs.Acts.{Seat};
 ghost use Rattle.kapi_serve.specs.Private.Clients.{seat_of};
 ghost use Rattle.kapi_serve.specs.Goes.{Goes, Moves, Writes};
-ghost use Rattle.kapi_serve.specs.Private.Pieces.{owed};
+ghost use Rattle.kapi_serve.specs.Private.Pieces.{IsCounted, IsSent, owed};
+ghost use Rattle.kapi_serve.specs.Private.Stands.{Finishes, IsQuiet, IsServed, Keeps, Tends, Waits};
 ghost use Rattle.kapi_desk.specs.Steps.{step_of};
 ghost use Rattle.kapi_serve.specs.Shows.{Shows};
+ghost use Rattle.kapi_serve.specs.declared.client.Flushed.TheVariants as flush;
+ghost use Rattle.kapi_serve.specs.declared.client.Phase.TheVariants as phase;
 ghost use Rattle.kapi_serve.specs.declared.port.Entry.{Entry as AnEntry};
+ghost use Rattle.kapi_serve.specs.declared.progress.Progress.TheVariants as progress;
 
 use crate::pending::Pending;
 use crate::port::{PortFault, Ports};
+use crate::progress::Progress;
 use crate::publishing::Publishing;
 use kapi_core::{ConnId, Core, Output};
 use kapi_desk::Desk;
@@ -30,9 +35,10 @@ pub(crate) enum Phase {
 /// The result of writing.
 #[derive(Clone, Copy, Debug, PartialEq, Eq)]
 pub(crate) enum Flushed {
-    /// Nothing was accepted.
+    /// No bytes were accepted.
     Nothing,
-    Some,
+    /// Bytes were accepted.
+    Sent,
     /// The slot is broken.
     Failed,
 }
@@ -54,18 +60,22 @@ pub struct Client {
 
 impl Client {
     /// Whether nothing can be done before the slot reports something.
-    pub(crate) fn is_quiet(&self) -> bool {
+    pub(crate) fn is_quiet(&self) -> bool
+        ensures { result ≡ true → IsQuiet self.now }
+    {
         self.phase == Phase::Open && !self.fed && !self.watching && self.pending.is_empty()
     }
 
     /// Writes pending bytes until the slot takes no more.
     pub(crate) fn flush<R: Wait, Q: Ports>(&mut self, rt: &R, ports: &mut Q) -> Flushed
-        ensures { Writes (seat_of self.old) (seat_of self.new) (Q.tells ports.old) (Q.tells ports.new) (Q.history ports.old) (Q.history ports.new) }
+        ensures writes { Writes (seat_of self.old) (seat_of self.new) (Q.tells ports.old) (Q.tells ports.new) (Q.history ports.old) (Q.history ports.new) }
+        ensures keeps { Keeps self.old self.new }
+        ensures offered { result ≡ flush.Nothing → self.new.blocked ≡ false → IsSent self.new.pending }
     {
         let mut flushed = Flushed::Nothing;
         for _ in rt.forever() {
             match self.write(ports) {
-                Flushed::Some => flushed = Flushed::Some,
+                Flushed::Sent => flushed = Flushed::Sent,
                 Flushed::Nothing => return flushed,
                 Flushed::Failed => return Flushed::Failed,
             }
@@ -75,7 +85,9 @@ impl Client {
 
     /// Makes one write. A write that takes no byte is as one that would block.
     fn write<Q: Ports>(&mut self, ports: &mut Q) -> Flushed
-        ensures { Writes (seat_of self.old) (seat_of self.new) (Q.tells ports.old) (Q.tells ports.new) (Q.history ports.old) (Q.history ports.new) }
+        ensures writes { Writes (seat_of self.old) (seat_of self.new) (Q.tells ports.old) (Q.tells ports.new) (Q.history ports.old) (Q.history ports.new) }
+        ensures keeps { Keeps self.old self.new }
+        ensures offered { result ≡ flush.Nothing → self.new.blocked ≡ false → IsSent self.new.pending }
     {
         if self.blocked || self.pending.is_empty() {
             return Flushed::Nothing;
@@ -85,7 +97,7 @@ impl Client {
             Ok(0) => self.block(),
             Ok(count) => {
                 self.pending.pass(count);
-                Flushed::Some
+                Flushed::Sent
             }
             Err(PortFault::WouldBlock) => self.block(),
             Err(PortFault::Failed) => Flushed::Failed,
@@ -94,85 +106,102 @@ impl Client {
 
     /// Notes that the slot takes no bytes now.
     fn block(&mut self) -> Flushed
-        ensures { seat_of self.new ≡ seat_of self.old }
+        ensures seat { seat_of self.new ≡ seat_of self.old }
+        ensures keeps { Keeps self.old self.new }
+        ensures blocked { self.new.blocked ≡ true }
+        ensures nothing { result ≡ flush.Nothing }
     {
         self.blocked = true;
         Flushed::Nothing
     }
 
-    /// Whether the machine may answer more, and there is room for the answer.
+    /// Whether the machine may answer more before the slot takes bytes.
+    fn is_open(&self) -> bool
+        ensures going { result ≡ true → self.now.phase ≡ phase.Closed → ⊥ }
+        ensures full { result ≡ false → (self.now.phase ≡ phase.Closed) ⊎ (1048576 ≤ self.now.pending.count) }
+    {
+        self.phase != Phase::Closed && !self.pending.is_full()
+    }
+
+    /// Whether there is room for an answer, and all steps are published. If not, there was no memory for it.
     fn is_ready(&mut self, publishing: &Publishing, desk: &Desk) -> bool
         ensures room { result ≡ true → deque_len self.new.pending.behind < deque_capacity self.new.pending.behind }
         ensures waiting { result ≡ true → desk.now.waiting ≡ [] }
         ensures kept { result ≡ true → publishing.now.kept ≡ None }
-        ensures seat { seat_of self.new ≡ seat_of self.old }
+        ensures keeps { Keeps self.old self.new }
+        ensures waits { Waits self.old self.new }
     {
-        if self.phase == Phase::Closed || self.pending.is_full() {
-            return false;
-        }
         if self.pending.reserve().is_err() {
             return false;
         }
         publishing.is_free(desk)
     }
 
-    /// Answers the next request, and returns whether there was one. At the end of the client's bytes the connection is
-    /// closed when there is none.
+    /// Answers the next request. At the end of the client's bytes the connection is closed when there is none.
     pub(crate) fn serve<R: Wait, P: Policy + Drop>(
         &mut self,
         rt: &R,
         core: &mut Core<P>,
         desk: &mut Desk,
         publishing: &mut Publishing,
-    ) -> bool
-        ensures { (front back : List Seat) (h : List AnEntry) → Goes core.old core.new desk.old desk.new publishing.old.kept publishing.new.kept (front ++ seat_of self.old ∷ back) (front ++ seat_of self.new ∷ back) ⊤ ⊤ h h }
+    ) -> Progress
+        ensures goes { (front back : List Seat) (h : List AnEntry) → Goes core.old core.new desk.old desk.new publishing.old.kept publishing.new.kept (front ++ seat_of self.old ∷ back) (front ++ seat_of self.new ∷ back) ⊤ ⊤ h h }
+        ensures tends { Tends core.old core.new self.old self.new }
+        ensures still { result ≡ progress.Still → Waits self.old self.new × IsServed self.new }
     {
         if !self.fed {
-            return false;
+            return Progress::Still;
+        }
+        if !self.is_open() {
+            return Progress::Still;
         }
         if !self.is_ready(publishing, desk) {
-            return false;
+            return Progress::Starved;
         }
         match core.serve(self.id) {
             Ok(Some(output)) => {
                 self.watching = core.is_watching(self.id);
                 self.send(rt, desk, publishing, output);
-                true
+                Progress::Made
             }
             Ok(None) => {
                 self.fed = false;
-                self.finish(core);
-                false
+                self.finish(core)
             }
-            Err(_refused) => false,
+            Err(_refused) => Progress::Starved,
         }
     }
 
-    /// Shows the next event of the connection's watch, and returns whether there was one.
+    /// Shows the next event of the connection's watch.
     pub(crate) fn pump<R: Wait, P: Policy + Drop>(
         &mut self,
         rt: &R,
         core: &mut Core<P>,
         desk: &mut Desk,
         publishing: &mut Publishing,
-    ) -> bool
-        ensures { (front back : List Seat) (h : List AnEntry) → Goes core.old core.new desk.old desk.new publishing.old.kept publishing.new.kept (front ++ seat_of self.old ∷ back) (front ++ seat_of self.new ∷ back) ⊤ ⊤ h h }
+    ) -> Progress
+        ensures goes { (front back : List Seat) (h : List AnEntry) → Goes core.old core.new desk.old desk.new publishing.old.kept publishing.new.kept (front ++ seat_of self.old ∷ back) (front ++ seat_of self.new ∷ back) ⊤ ⊤ h h }
+        ensures tends { Tends core.old core.new self.old self.new }
+        ensures still { result ≡ progress.Still → Waits self.old self.new × Keeps self.old self.new }
     {
         if !self.watching {
-            return false;
+            return Progress::Still;
+        }
+        if !self.is_open() {
+            return Progress::Still;
         }
         if !self.is_ready(publishing, desk) {
-            return false;
+            return Progress::Starved;
         }
         match core.pump(self.id) {
             Ok(Some(output)) => {
                 self.fed = true;
                 self.watching = core.is_watching(self.id);
                 self.send(rt, desk, publishing, output);
-                true
+                Progress::Made
             }
-            Ok(None) => false,
-            Err(_refused) => false,
+            Ok(None) => Progress::Still,
+            Err(_refused) => Progress::Starved,
         }
     }
 
@@ -191,6 +220,9 @@ impl Client {
         ensures slot { self.new.slot ≡ self.old.slot }
         ensures id { self.new.id ≡ self.old.id }
         ensures owed { owed self.new.pending ≡ owed self.old.pending ++ output.bytes }
+        ensures phase { self.new.phase ≡ (if output.close then phase.Closed else self.old.phase) }
+        ensures fed { self.new.fed ≡ self.old.fed }
+        ensures counted { IsCounted self.old.pending → IsCounted self.new.pending }
     {
         let Output {
             bytes,
@@ -205,17 +237,26 @@ impl Client {
     }
 
     /// Closes the connection where the client's bytes have ended.
-    fn finish<P: Policy + Drop>(&mut self, core: &mut Core<P>)
-        ensures { (front back : List Seat) (h : List AnEntry) → Moves core.old core.new (front ++ seat_of self.old ∷ back) (front ++ seat_of self.new ∷ back) ⊤ ⊤ h h }
+    fn finish<P: Policy + Drop>(&mut self, core: &mut Core<P>) -> Progress
+        ensures moves { (front back : List Seat) (h : List AnEntry) → Moves core.old core.new (front ++ seat_of self.old ∷ back) (front ++ seat_of self.new ∷ back) ⊤ ⊤ h h }
+        ensures finishes { Finishes core.old core.new self.old self.new result }
     {
-        if self.phase == Phase::Ending {
-            core.close(self.id);
-            self.phase = Phase::Closed;
+        match self.phase {
+            Phase::Ending => {
+                core.close(self.id);
+                self.phase = Phase::Closed;
+                Progress::Made
+            }
+            Phase::Open => Progress::Still,
+            Phase::Closed => Progress::Still,
         }
     }
 
     /// Whether nothing is left to be done, or nothing can be done after the result of writing.
-    pub(crate) fn is_over(&self, flushed: Flushed) -> bool {
+    pub(crate) fn is_over(&self, flushed: Flushed) -> bool
+        ensures whole { result ≡ false → flushed ≡ flush.Failed → ⊥ }
+        ensures left { result ≡ false → self.now.phase ≡ phase.Closed → IsSent self.now.pending → ⊥ }
+    {
         flushed == Flushed::Failed || self.phase == Phase::Closed && self.pending.is_empty()
     }
 }

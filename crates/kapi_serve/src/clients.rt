@@ -1,8 +1,12 @@
-ghost use Rattle.std.specs.Prelude.{◌≡◌, ◌<◌, ◌+◌, List, [], ◌∷◌, ◌++◌, None, IfSome, OnOk, ◌==◌, length, vec_len, vec_capacity, ⊤};
-ghost use Rattle.std.specs.List.{HoldsAt, position};
+ghost use Rattle.std.specs.Prelude.{◌≡◌, ◌<◌, ◌+◌, ℕ, List, [], ◌∷◌, ◌++◌, drop, None, IfSome, OnOk, ◌==◌, length, suc, vec_len, vec_capacity, ⊤};
+ghost use Rattle.std.specs.List.{AllByRecursion, HoldsAt, position};
+ghost use Rattle.kapi_aggregation.specs.Members.{Has};
+ghost use Rattle.kapi_core.specs.Machine.{Machine};
 ghost use Rattle.kapi_serve.specs.Acts.{IsFree, Seat};
 ghost use Rattle.kapi_serve.specs.Private.Clients.{others, seats_of};
+ghost use Rattle.kapi_serve.specs.Private.Stands.{IsNew, IsNumbered, Rise, Stands, StandsOn};
 ghost use Rattle.kapi_serve.specs.Goes.{Closes, IsAt, Moves};
+ghost use Rattle.kapi_serve.specs.declared.client.Client.{Client as AClient};
 ghost use Rattle.kapi_serve.specs.declared.client.Phase.TheVariants as phase;
 ghost use Rattle.kapi_serve.specs.declared.port.Entry.{Entry as AnEntry};
 ghost use Rattle.kapi_serve.specs.declared.port.Entry.TheVariants as entry;
@@ -37,7 +41,8 @@ pub(crate) enum Pulled {
 
 impl Clients {
     pub(crate) fn new(alloc: Global) -> Clients
-        ensures { seats_of result.list.items ≡ [] }
+        ensures seats { seats_of result.list.items ≡ [] }
+        ensures stands { (m : Machine) → IsNumbered m → Stands m result.list.items result.awake.numbers.items }
     {
         Clients {
             alloc,
@@ -48,7 +53,10 @@ impl Clients {
 
     /// The place of one of the awake connections, if it is still there.
     pub(crate) fn awake_at(&self, position: usize) -> Option<usize>
-        ensures { IfSome result (λ i. i < length self.now.list.items) }
+        ensures bound { IfSome result (λ i. i < length self.now.list.items) }
+        ensures found { IfSome result (λ i. HoldsAt (λ client. HoldsAt (λ number. number ≡ client.id.0) self.now.awake.numbers.items position) self.now.list.items i) }
+        ensures inside { IfSome result (λ i. position < length self.now.awake.numbers.items) }
+        ensures absent { result ≡ None → Rise self.now.list.items → position < length self.now.awake.numbers.items → AllByRecursion (λ client. HoldsAt (λ number. number ≡ client.id.0 → ⊥) self.now.awake.numbers.items position) self.now.list.items }
     {
         let id = self.awake.get(position)?;
         self.list
@@ -58,10 +66,13 @@ impl Clients {
 
     /// Lets one of the awake connections sleep, if nothing can be done at it. Returns the position of the next one.
     pub(crate) fn pass(&mut self, position: usize) -> usize
-        ensures { self.new.list ≡ self.old.list }
+        ensures list { self.new.list ≡ self.old.list }
+        ensures stands { (m : Machine) → Stands m self.old.list.items self.old.awake.numbers.items → Stands m self.new.list.items self.new.awake.numbers.items }
+        ensures next { drop result self.new.awake.numbers.items ≡ drop (suc position) self.old.awake.numbers.items }
+        ensures left { position < length self.old.awake.numbers.items → length self.new.awake.numbers.items + suc position ≡ length self.old.awake.numbers.items + result }
     {
         match self.awake_at(position) {
-            Some(index) if !self.list[index].is_quiet() => position.saturating_add(1),
+            Some(index) if !self.list[index].is_quiet() => position + 1,
             _ => {
                 self.awake.remove(position);
                 position
@@ -77,7 +88,8 @@ impl Clients {
         slot: usize,
         identity: Identity,
     )
-        ensures { (h : List AnEntry) → (Q.tells ports.old → Q.history ports.old ≡ h ++ entry.Opened slot identity ∷ []) → Moves core.old core.new (seats_of self.old.list.items) (seats_of self.new.list.items) (Q.tells ports.old) (Q.tells ports.new) h (Q.history ports.new) }
+        ensures moves { (h : List AnEntry) → (Q.tells ports.old → Q.history ports.old ≡ h ++ entry.Opened slot identity ∷ []) → Moves core.old core.new (seats_of self.old.list.items) (seats_of self.new.list.items) (Q.tells ports.old) (Q.tells ports.new) h (Q.history ports.new) }
+        ensures stands { StandsOn core.old core.new self.old.list.items self.old.awake.numbers.items self.new.list.items self.new.awake.numbers.items }
     {
         self.forget(core, slot);
         if self.reserve().is_err() {
@@ -92,6 +104,7 @@ impl Clients {
     /// Makes room for one connection more.
     fn reserve(&mut self) -> Result<(), Memory>
         ensures items { self.new.list.items ≡ self.old.list.items }
+        ensures awake { self.new.awake.numbers.items ≡ self.old.awake.numbers.items }
         ensures room { OnOk result (vec_len self.new.list < vec_capacity self.new.list) }
     {
         self.awake.reserve(self.list.len())?;
@@ -100,7 +113,9 @@ impl Clients {
 
     fn add(&mut self, slot: usize, id: ConnId)
         requires { vec_len self.old.list < vec_capacity self.old.list }
-        ensures { seats_of self.new.list.items ≡ seats_of self.old.list.items ++ record { slot = slot; conn = id; owed = [] } ∷ [] }
+        ensures seats { seats_of self.new.list.items ≡ seats_of self.old.list.items ++ record { slot = slot; conn = id; owed = [] } ∷ [] }
+        ensures fresh { (client : AClient) × (self.new.list.items ≡ self.old.list.items ++ client ∷ []) × (client.id ≡ id) × IsNew client }
+        ensures awake { self.new.awake.numbers.items ≡ self.old.awake.numbers.items }
     {
         self.list.push_reserved(Client {
             slot,
@@ -133,6 +148,7 @@ impl Clients {
     fn forget<P: Policy + Drop>(&mut self, core: &mut Core<P>, slot: usize)
         ensures moves { (h : List AnEntry) → Moves core.old core.new (seats_of self.old.list.items) (seats_of self.new.list.items) ⊤ ⊤ h h }
         ensures free { IsFree slot (seats_of self.new.list.items) }
+        ensures stands { StandsOn core.old core.new self.old.list.items self.old.awake.numbers.items self.new.list.items self.new.awake.numbers.items }
     {
         while let Some(index) = self.place(slot) {
             let client = self.list.remove(index);
@@ -149,6 +165,8 @@ impl Clients {
     )
         requires { index < length self.old.list.items }
         ensures length { length self.new.list.items + 1 ≡ length self.old.list.items }
+        ensures awake { self.new.awake.numbers.items ≡ self.old.awake.numbers.items }
+        ensures stands { StandsOn core.old core.new self.old.list.items self.old.awake.numbers.items self.new.list.items self.old.awake.numbers.items }
         ensures seats { (front : List Seat) (x : Seat) (back : List Seat) → IsAt index (seats_of self.old.list.items) front x back → seats_of self.new.list.items ≡ front ++ back }
         ensures closes { (front : List Seat) (x : Seat) (back : List Seat) → IsAt index (seats_of self.old.list.items) front x back → Closes core.old core.new x (Q.tells ports.old) (Q.tells ports.new) (Q.history ports.old) (Q.history ports.new) }
     {
@@ -159,7 +177,8 @@ impl Clients {
 
     /// Notes that a slot takes bytes again.
     pub(crate) fn unblock(&mut self, slot: usize)
-        ensures { seats_of self.new.list.items ≡ seats_of self.old.list.items }
+        ensures seats { seats_of self.new.list.items ≡ seats_of self.old.list.items }
+        ensures stands { (m : Machine) → Stands m self.old.list.items self.old.awake.numbers.items → Stands m self.new.list.items self.new.awake.numbers.items }
     {
         if let Some(index) = self.place(slot) {
             self.list[index].blocked = false;
@@ -168,7 +187,8 @@ impl Clients {
 
     /// Notes that each slot may take bytes again.
     pub(crate) fn unblock_all(&mut self)
-        ensures { seats_of self.new.list.items ≡ seats_of self.old.list.items }
+        ensures seats { seats_of self.new.list.items ≡ seats_of self.old.list.items }
+        ensures stands { (m : Machine) → Stands m self.old.list.items self.old.awake.numbers.items → Stands m self.new.list.items self.new.awake.numbers.items }
     {
         for index in 0..self.list.len() {
             self.list[index].blocked = false;
@@ -185,6 +205,7 @@ impl Clients {
     ) -> Pulled
         ensures moves { Moves core.old core.new (seats_of self.old.list.items) (seats_of self.new.list.items) (Q.tells ports.old) (Q.tells ports.new) (Q.history ports.old) (Q.history ports.new) }
         ensures others { others slot (seats_of self.new.list.items) ≡ others slot (seats_of self.old.list.items) }
+        ensures stands { StandsOn core.old core.new self.old.list.items self.old.awake.numbers.items self.new.list.items self.new.awake.numbers.items }
     {
         let Some(index) = self.place(slot) else {
             return Pulled::Stopped;
@@ -213,7 +234,8 @@ impl Clients {
     /// Notes that the client's bytes have ended.
     fn reach_end(&mut self, index: usize)
         requires { index < length self.old.list.items }
-        ensures { seats_of self.new.list.items ≡ seats_of self.old.list.items }
+        ensures seats { seats_of self.new.list.items ≡ seats_of self.old.list.items }
+        ensures stands { HoldsAt (λ client. Has self.old.awake.numbers.items client.id.0) self.old.list.items index → (m : Machine) → Stands m self.old.list.items self.old.awake.numbers.items → Stands m self.new.list.items self.new.awake.numbers.items }
     {
         let client = &mut self.list[index];
         client.phase = Phase::Ending;
@@ -230,6 +252,7 @@ impl Clients {
     ) -> Pulled
         requires bound { index < length self.old.list.items }
         requires reading { HoldsAt (λ client. client.phase ≡ phase.Open) self.old.list.items index }
+        ensures stands { HoldsAt (λ client. Has self.old.awake.numbers.items client.id.0) self.old.list.items index → StandsOn core.old core.new self.old.list.items self.old.awake.numbers.items self.new.list.items self.new.awake.numbers.items }
         ensures others { (front : List Seat) (x : Seat) (back : List Seat) → IsAt index (seats_of self.old.list.items) front x back → others x.slot (seats_of self.new.list.items) ≡ others x.slot (seats_of self.old.list.items) }
         ensures moves { (front : List Seat) (x : Seat) (back : List Seat) → IsAt index (seats_of self.old.list.items) front x back → (h : List AnEntry) → (Q.tells ports.old → Q.history ports.old ≡ h ++ entry.Gave x.slot piece.now ∷ []) → Moves core.old core.new (seats_of self.old.list.items) (seats_of self.new.list.items) (Q.tells ports.old) (Q.tells ports.new) h (Q.history ports.new) }
     {

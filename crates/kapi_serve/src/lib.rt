@@ -11,6 +11,7 @@ mod clients;
 mod listener;
 mod pending;
 mod port;
+mod progress;
 mod publishing;
 mod server;
 mod sockets;

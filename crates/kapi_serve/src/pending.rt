@@ -1,6 +1,6 @@
-ghost use Rattle.std.specs.Prelude.{◌≡◌, ◌≤◌, ◌<◌, ◌++◌, [], drop, take, length, OnOk};
+ghost use Rattle.std.specs.Prelude.{◌≡◌, ◌≤◌, ◌<◌, ◌++◌, [], drop, take, length, nat_le, true, ◌↔◌, OnOk};
 ghost use Rattle.std.specs.VecDeque.{deque_len, deque_capacity};
-ghost use Rattle.kapi_serve.specs.Private.Pieces.{owed};
+ghost use Rattle.kapi_serve.specs.Private.Pieces.{IsCounted, IsSent, owed};
 
 use kapi_text::{Memory, Sequence};
 use std::alloc::Global;
@@ -23,7 +23,8 @@ pub struct Pending {
 impl Pending {
     #[tactic(auto, using(crate::proofs::Joining::owed_none))]
     pub(crate) fn new(alloc: Global) -> Pending
-        ensures { owed result ≡ [] }
+        ensures owed { owed result ≡ [] }
+        ensures counted { IsCounted result }
     {
         Pending {
             head: Sequence::new(Vec::new(alloc)),
@@ -33,13 +34,17 @@ impl Pending {
         }
     }
 
-    pub(crate) fn is_full(&self) -> bool {
+    /// Whether so many bytes are pending that no more are to be pushed.
+    pub(crate) fn is_full(&self) -> bool
+        ensures { result ≡ nat_le 1048576 self.now.count }
+    {
         self.count >= PENDING_LIMIT
     }
 
     /// Makes room for the bytes that are pushed next.
     pub(crate) fn reserve(&mut self) -> Result<(), Memory>
         ensures same { owed self.new ≡ owed self.old }
+        ensures count { self.new.count ≡ self.old.count }
         ensures room { OnOk result (deque_len self.new.behind < deque_capacity self.new.behind) }
     {
         self.behind.reserve(1)
@@ -49,7 +54,8 @@ impl Pending {
     #[tactic(auto, using(crate::proofs::Joining::owed_push))]
     pub(crate) fn push(&mut self, bytes: Sequence<u8>)
         requires { deque_len self.old.behind < deque_capacity self.old.behind }
-        ensures { owed self.new ≡ owed self.old ++ bytes }
+        ensures owed { owed self.new ≡ owed self.old ++ bytes }
+        ensures counted { IsCounted self.old → IsCounted self.new }
     {
         let count = bytes.as_slice().len();
         if count == 0 {
@@ -60,14 +66,17 @@ impl Pending {
     }
 
     /// Whether all bytes were sent.
-    pub(crate) fn is_empty(&self) -> bool {
+    pub(crate) fn is_empty(&self) -> bool
+        ensures { (result ≡ true) ↔ IsSent self.now }
+    {
         self.sent >= self.head.as_slice().len() && self.behind.is_empty()
     }
 
     /// Lets the next bytes become the head, if the head was sent.
     #[tactic(auto, using(crate::proofs::Joining::owed_next))]
     pub(crate) fn advance(&mut self)
-        ensures { owed self.new ≡ owed self.old }
+        ensures owed { owed self.new ≡ owed self.old }
+        ensures count { self.new.count ≡ self.old.count }
     {
         if self.sent < self.head.as_slice().len() {
             return;
@@ -92,7 +101,8 @@ impl Pending {
     #[tactic(auto, using(crate::proofs::Joining::owed_pass))]
     pub(crate) fn pass(&mut self, count: usize)
         requires { count ≤ length (drop self.old.sent self.old.head) }
-        ensures { owed self.old ≡ take count (drop self.old.sent self.old.head) ++ owed self.new }
+        ensures owed { owed self.old ≡ take count (drop self.old.sent self.old.head) ++ owed self.new }
+        ensures counted { IsCounted self.old → IsCounted self.new }
     {
         let end = self.head.as_slice().len();
         self.sent = self.sent.saturating_add(count).min(end);

@@ -3,9 +3,11 @@ ghost use Rattle.kapi_policy.specs.declared.change.PolicyChange.{PolicyChange as
 ghost use Rattle.kapi_serve.specs.Acts.{Seat};
 ghost use Rattle.kapi_serve.specs.Goes.{Goes};
 ghost use Rattle.kapi_desk.specs.Steps.{step_of};
+ghost use Rattle.kapi_serve.specs.Private.Stands.{PassesBy};
 ghost use Rattle.kapi_serve.specs.Shows.{Shows, Takes};
 ghost use Rattle.kapi_serve.specs.declared.port.Entry.{Entry as AnEntry};
 
+use crate::progress::Progress;
 use kapi_core::Core;
 use kapi_desk::{Desk, PublishError};
 use kapi_policy::{Policy, PolicyStep};
@@ -91,51 +93,54 @@ impl Publishing {
         }
     }
 
-    /// Makes the turns that are due, while they are published, and returns whether one was made.
+    /// Makes the turns that are due, while they are published.
     pub(crate) fn make_turns<R: Wait, P: Policy + Drop>(
         &mut self,
         rt: &R,
         core: &mut Core<P>,
         desk: &mut Desk,
-    ) -> bool
-        ensures { (s : List Seat) (h : List AnEntry) → Goes core.old core.new desk.old desk.new self.old.kept self.new.kept s s ⊤ ⊤ h h }
+    ) -> Progress
+        ensures goes { (s : List Seat) (h : List AnEntry) → Goes core.old core.new desk.old desk.new self.old.kept self.new.kept s s ⊤ ⊤ h h }
+        ensures passes { PassesBy core.old core.new }
     {
-        let mut made = false;
+        let mut progress = Progress::Still;
         for _ in 0..TURNS {
-            if !self.make_turn(rt, core, desk) {
-                return made;
+            let turned = self.make_turn(rt, core, desk);
+            progress = progress.and(turned);
+            if turned != Progress::Made {
+                return progress;
             }
-            made = true;
         }
-        made
+        progress
     }
 
-    /// Makes a turn, if one is due and may be made. Where an allocation fails it is tried again later.
+    /// Makes a turn, if one is due and may be made. Where there is no memory for it, it is tried again later.
     fn make_turn<R: Wait, P: Policy + Drop>(
         &mut self,
         rt: &R,
         core: &mut Core<P>,
         desk: &mut Desk,
-    ) -> bool
-        ensures { (s : List Seat) (h : List AnEntry) → Goes core.old core.new desk.old desk.new self.old.kept self.new.kept s s ⊤ ⊤ h h }
+    ) -> Progress
+        ensures goes { (s : List Seat) (h : List AnEntry) → Goes core.old core.new desk.old desk.new self.old.kept self.new.kept s s ⊤ ⊤ h h }
+        ensures passes { PassesBy core.old core.new }
     {
         if self.turns == 0 {
-            return false;
+            return Progress::Still;
         }
         if !self.is_free(desk) {
-            return false;
+            return Progress::Starved;
         }
         match core.turn() {
             Ok(Some(turned)) => {
                 self.turns = self.turns.saturating_sub(1);
                 self.publish(rt, desk, turned.policy_changes);
-                true
+                Progress::Made
             }
             Ok(None) => {
                 self.turns = 0;
-                false
+                Progress::Still
             }
-            Err(_refused) => false,
+            Err(_refused) => Progress::Starved,
         }
     }
 }

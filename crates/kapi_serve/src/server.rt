@@ -1,13 +1,16 @@
 ghost use Rattle.std.specs.Prelude.{◌≡◌, List, [], ◌∷◌, ◌++◌, Some, ⊤};
 ghost use Rattle.kapi_serve.specs.Acts.{Seat};
 ghost use Rattle.kapi_serve.specs.Private.Clients.{seat_of, seats_of};
+ghost use Rattle.kapi_serve.specs.Private.Stands.{IsServed, Settles, StandsOn, Tends, Visits, Waits};
 ghost use Rattle.kapi_serve.specs.Goes.{Goes, Serves};
 ghost use Rattle.kapi_serve.specs.Ports.{opened};
 ghost use Rattle.kapi_serve.specs.declared.port.Entry.{Entry as AnEntry};
+ghost use Rattle.kapi_serve.specs.declared.progress.Progress.TheVariants as progress;
 
 use crate::client::{Client, Flushed};
 use crate::clients::{Clients, Pulled};
 use crate::port::{PortEvent, Ports};
+use crate::progress::Progress;
 use crate::publishing::Publishing;
 use kapi_core::Core;
 use kapi_desk::Desk;
@@ -42,7 +45,9 @@ pub fn serve_loop<R: Wait, P: Policy + Drop, Q: Ports>(
     let mut buffer = [0u8; READ_SIZE];
     for _ in rt.forever() {
         match ports.next() {
-            Some(event) => server.react(rt, core, desk, ports, &mut buffer, event),
+            Some(event) => {
+                let _rest = server.react(rt, core, desk, ports, &mut buffer, event);
+            }
             None => return,
         }
     }
@@ -58,12 +63,13 @@ impl Server {
         ports: &mut Q,
         buffer: &mut [u8],
         event: PortEvent,
-    )
-        ensures { (h : List AnEntry) → (Q.tells ports.old → Q.history ports.old ≡ h ++ opened (Some event)) → Goes core.old core.new desk.old desk.new self.old.publishing.kept self.new.publishing.kept (seats_of self.old.clients.list.items) (seats_of self.new.clients.list.items) (Q.tells ports.old) (Q.tells ports.new) h (Q.history ports.new) }
+    ) -> Progress
+        ensures goes { (h : List AnEntry) → (Q.tells ports.old → Q.history ports.old ≡ h ++ opened (Some event)) → Goes core.old core.new desk.old desk.new self.old.publishing.kept self.new.publishing.kept (seats_of self.old.clients.list.items) (seats_of self.new.clients.list.items) (Q.tells ports.old) (Q.tells ports.new) h (Q.history ports.new) }
+        ensures settles { Settles core.old core.new self.old.clients.list.items self.old.clients.awake.numbers.items self.new.clients.list.items self.new.clients.awake.numbers.items (result ≡ progress.Still) }
     {
         self.publishing.retry(rt, desk);
         self.take(rt, core, desk, ports, buffer, event);
-        self.settle(rt, core, desk, ports);
+        self.settle(rt, core, desk, ports)
     }
 
     /// Takes in an event of the ports.
@@ -76,7 +82,8 @@ impl Server {
         buffer: &mut [u8],
         event: PortEvent,
     )
-        ensures { (h : List AnEntry) → (Q.tells ports.old → Q.history ports.old ≡ h ++ opened (Some event)) → Goes core.old core.new desk.old desk.new self.old.publishing.kept self.new.publishing.kept (seats_of self.old.clients.list.items) (seats_of self.new.clients.list.items) (Q.tells ports.old) (Q.tells ports.new) h (Q.history ports.new) }
+        ensures goes { (h : List AnEntry) → (Q.tells ports.old → Q.history ports.old ≡ h ++ opened (Some event)) → Goes core.old core.new desk.old desk.new self.old.publishing.kept self.new.publishing.kept (seats_of self.old.clients.list.items) (seats_of self.new.clients.list.items) (Q.tells ports.old) (Q.tells ports.new) h (Q.history ports.new) }
+        ensures stands { StandsOn core.old core.new self.old.clients.list.items self.old.clients.awake.numbers.items self.new.clients.list.items self.new.clients.awake.numbers.items }
     {
         match event {
             PortEvent::Opened(slot, identity) => self.clients.open(core, ports, slot, identity),
@@ -96,11 +103,14 @@ impl Server {
         slot: usize,
         buffer: &mut [u8],
     )
-        ensures { Goes core.old core.new desk.old desk.new self.old.publishing.kept self.new.publishing.kept (seats_of self.old.clients.list.items) (seats_of self.new.clients.list.items) (Q.tells ports.old) (Q.tells ports.new) (Q.history ports.old) (Q.history ports.new) }
+        ensures goes { Goes core.old core.new desk.old desk.new self.old.publishing.kept self.new.publishing.kept (seats_of self.old.clients.list.items) (seats_of self.new.clients.list.items) (Q.tells ports.old) (Q.tells ports.new) (Q.history ports.old) (Q.history ports.new) }
+        ensures stands { StandsOn core.old core.new self.old.clients.list.items self.old.clients.awake.numbers.items self.new.clients.list.items self.new.clients.awake.numbers.items }
     {
         for _ in rt.forever() {
             match self.clients.pull(core, ports, slot, buffer) {
-                Pulled::Fed => self.settle(rt, core, desk, ports),
+                Pulled::Fed => {
+                    let _rest = self.settle(rt, core, desk, ports);
+                }
                 Pulled::Stopped => return,
             }
         }
@@ -113,36 +123,41 @@ impl Server {
         core: &mut Core<P>,
         desk: &mut Desk,
         ports: &mut Q,
-    )
-        ensures { Goes core.old core.new desk.old desk.new self.old.publishing.kept self.new.publishing.kept (seats_of self.old.clients.list.items) (seats_of self.new.clients.list.items) (Q.tells ports.old) (Q.tells ports.new) (Q.history ports.old) (Q.history ports.new) }
+    ) -> Progress
+        ensures goes { Goes core.old core.new desk.old desk.new self.old.publishing.kept self.new.publishing.kept (seats_of self.old.clients.list.items) (seats_of self.new.clients.list.items) (Q.tells ports.old) (Q.tells ports.new) (Q.history ports.old) (Q.history ports.new) }
+        ensures settles { Settles core.old core.new self.old.clients.list.items self.old.clients.awake.numbers.items self.new.clients.list.items self.new.clients.awake.numbers.items (result ≡ progress.Still) }
     {
         for _ in rt.forever() {
-            if !self.round(rt, core, desk, ports) {
-                return;
+            let progress = self.round(rt, core, desk, ports);
+            if progress != Progress::Made {
+                return progress;
             }
         }
+        unreachable!()
     }
 
-    /// Goes once over the connections at which something may be done, and returns whether anything was done.
+    /// Goes once over the connections at which something may be done.
     fn round<R: Wait, P: Policy + Drop, Q: Ports>(
         &mut self,
         rt: &R,
         core: &mut Core<P>,
         desk: &mut Desk,
         ports: &mut Q,
-    ) -> bool
-        ensures { Goes core.old core.new desk.old desk.new self.old.publishing.kept self.new.publishing.kept (seats_of self.old.clients.list.items) (seats_of self.new.clients.list.items) (Q.tells ports.old) (Q.tells ports.new) (Q.history ports.old) (Q.history ports.new) }
+    ) -> Progress
+        ensures goes { Goes core.old core.new desk.old desk.new self.old.publishing.kept self.new.publishing.kept (seats_of self.old.clients.list.items) (seats_of self.new.clients.list.items) (Q.tells ports.old) (Q.tells ports.new) (Q.history ports.old) (Q.history ports.new) }
+        ensures settles { Settles core.old core.new self.old.clients.list.items self.old.clients.awake.numbers.items self.new.clients.list.items self.new.clients.awake.numbers.items (result ≡ progress.Still) }
     {
-        let mut done = self.publishing.make_turns(rt, core, desk);
+        let mut progress = self.publishing.make_turns(rt, core, desk);
         let mut position = 0;
-        for _ in 0..self.clients.awake.len() {
-            done |= self.visit(rt, core, desk, ports, position);
+        while position < self.clients.awake.len() {
+            let visited = self.visit(rt, core, desk, ports, position);
+            progress = progress.and(visited);
             position = self.clients.pass(position);
         }
-        done
+        progress
     }
 
-    /// Writes, serves and pumps an awake connection, and makes the turns that follow. Whether anything was done.
+    /// Writes, serves and pumps an awake connection, and makes the turns that follow.
     fn visit<R: Wait, P: Policy + Drop, Q: Ports>(
         &mut self,
         rt: &R,
@@ -150,35 +165,43 @@ impl Server {
         desk: &mut Desk,
         ports: &mut Q,
         position: usize,
-    ) -> bool
-        ensures { Goes core.old core.new desk.old desk.new self.old.publishing.kept self.new.publishing.kept (seats_of self.old.clients.list.items) (seats_of self.new.clients.list.items) (Q.tells ports.old) (Q.tells ports.new) (Q.history ports.old) (Q.history ports.new) }
+    ) -> Progress
+        ensures goes { Goes core.old core.new desk.old desk.new self.old.publishing.kept self.new.publishing.kept (seats_of self.old.clients.list.items) (seats_of self.new.clients.list.items) (Q.tells ports.old) (Q.tells ports.new) (Q.history ports.old) (Q.history ports.new) }
+        ensures visits { Visits core.old core.new self.old.clients.list.items self.new.clients.list.items self.old.clients.awake.numbers.items position (result ≡ progress.Still) }
+        ensures awake { self.new.clients.awake.numbers.items ≡ self.old.clients.awake.numbers.items }
     {
         let Some(index) = self.clients.awake_at(position) else {
-            return false;
+            return Progress::Still;
         };
         let client = &mut self.clients.list[index];
         let flushed = client.flush(rt, ports);
         if client.is_over(flushed) {
             self.clients.end(core, ports, index);
-            return true;
+            return Progress::Made;
         }
         let answered = answer(rt, core, desk, &mut self.publishing, client);
-        flushed == Flushed::Some || answered
+        match flushed {
+            Flushed::Sent => Progress::Made,
+            Flushed::Nothing => answered,
+            Flushed::Failed => answered,
+        }
     }
 }
 
-/// Serves and pumps a connection, and makes the turns that follow. Returns whether anything was done.
+/// Serves and pumps a connection, and makes the turns that follow.
 fn answer<R: Wait, P: Policy + Drop>(
     rt: &R,
     core: &mut Core<P>,
     desk: &mut Desk,
     publishing: &mut Publishing,
     client: &mut Client,
-) -> bool
-    ensures { (front back : List Seat) (h : List AnEntry) → Goes core.old core.new desk.old desk.new publishing.old.kept publishing.new.kept (front ++ seat_of client.old ∷ back) (front ++ seat_of client.new ∷ back) ⊤ ⊤ h h }
+) -> Progress
+    ensures goes { (front back : List Seat) (h : List AnEntry) → Goes core.old core.new desk.old desk.new publishing.old.kept publishing.new.kept (front ++ seat_of client.old ∷ back) (front ++ seat_of client.new ∷ back) ⊤ ⊤ h h }
+    ensures tends { Tends core.old core.new client.old client.new }
+    ensures still { result ≡ progress.Still → Waits client.old client.new × IsServed client.new }
 {
     let served = client.serve(rt, core, desk, publishing);
     let shown = client.pump(rt, core, desk, publishing);
     let turned = publishing.make_turns(rt, core, desk);
-    served || shown || turned
+    served.and(shown).and(turned)
 }

@@ -1,8 +1,12 @@
 use Rattle.kapi_serve.proofs.Going.{goes_on}
+use Rattle.kapi_serve.proofs.Tending.{answered_still, tends_by, tends_on}
 use Rattle.kapi_serve.proofs.server.answer.Goals as goal
 
-pub returns-then-shown : goal.returns-then-shown
-returns-then-shown g c = λ front back h. goes_on _ _ _ _ _ _ _ _ _ _ _ _ _ _ _ _ _ _ (goes_on _ _ _ _ _ _ _ _ _ _ _ _ _ _ _ _ _ _ (c.serve-served.ensures front back h) (c.pump-shown.ensures front back h)) (c.make_turns-turned.ensures _ h)
+pub returns-clause-goes : goal.returns-clause-goes
+returns-clause-goes g c = λ front back h. goes_on _ _ _ _ _ _ _ _ _ _ _ _ _ _ _ _ _ _ (goes_on _ _ _ _ _ _ _ _ _ _ _ _ _ _ _ _ _ _ (c.serve-served.ensures.goes front back h) (c.pump-shown.ensures.goes front back h)) (c.make_turns-turned.ensures.goes _ h)
 
-pub returns-else-shown : goal.returns-else-shown
-returns-else-shown g c = λ front back h. goes_on _ _ _ _ _ _ _ _ _ _ _ _ _ _ _ _ _ _ (goes_on _ _ _ _ _ _ _ _ _ _ _ _ _ _ _ _ _ _ (c.serve-served.ensures front back h) (c.pump-shown.ensures front back h)) (c.make_turns-turned.ensures _ h)
+pub returns-clause-tends : goal.returns-clause-tends
+returns-clause-tends g c = tends_by _ _ _ _ _ (tends_on _ _ _ _ _ _ c.serve-served.ensures.tends c.pump-shown.ensures.tends) c.make_turns-turned.ensures.passes
+
+pub returns-clause-still : goal.returns-clause-still
+returns-clause-still g c = answered_still _ _ _ _ _ _ _ _ c.and.ensures c.and-2.ensures c.serve-served.ensures.still c.pump-shown.ensures.still

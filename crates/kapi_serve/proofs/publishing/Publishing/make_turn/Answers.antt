@@ -1,18 +1,34 @@
 use Rattle.kapi_core.specs.declared.event.Event.TheVariants as event
 use Rattle.kapi_serve.proofs.Going.{goes_nothing, goes_out, goes_turned, goes_unturned}
+use Rattle.kapi_serve.proofs.Tending.{passes_nothing, passes_out, passes_turned}
 use Rattle.kapi_serve.proofs.publishing.Publishing.make_turn.Goals as goal
 
-pub returns-then-self-eq0 : goal.returns-then-self-eq0
-returns-then-self-eq0 g c = λ s h. goes_nothing _ _ _ s _ h
+pub returns-then-self-eq0-clause-goes : goal.returns-then-self-eq0-clause-goes
+returns-then-self-eq0-clause-goes g c = λ s h. goes_nothing _ _ _ s _ h
 
-pub returns-then-not-is_free : goal.returns-then-not-is_free
-returns-then-not-is_free g c = λ s h. goes_nothing _ _ _ s _ h
+pub returns-then-not-is_free-clause-goes : goal.returns-then-not-is_free-clause-goes
+returns-then-not-is_free-clause-goes g c = λ s h. goes_nothing _ _ _ s _ h
 
-pub returns-in-Ok-Some : goal.returns-in-Ok-Some
-returns-in-Ok-Some g c = λ s h. goes_turned _ _ _ _ _ _ s h c.in-Ok-Some.field-0 c.in-Ok-Some.turned c.in-Ok-Some.ensures (cc) c.publish.ensures
+pub returns-in-Ok-Some-clause-goes : goal.returns-in-Ok-Some-clause-goes
+returns-in-Ok-Some-clause-goes g c = λ s h. goes_turned _ _ _ _ _ _ s h c.in-Ok-Some.field-0 c.in-Ok-Some.turned c.in-Ok-Some.ensures (cc) c.publish.ensures
 
-pub returns-in-Ok-None : goal.returns-in-Ok-None
-returns-in-Ok-None g c = λ s h. goes_unturned _ _ _ _ s h c.in-Ok-None.field-0 c.in-Ok-None.ensures (cc)
+pub returns-in-Ok-None-clause-goes : goal.returns-in-Ok-None-clause-goes
+returns-in-Ok-None-clause-goes g c = λ s h. goes_unturned _ _ _ _ s h c.in-Ok-None.field-0 c.in-Ok-None.ensures (cc)
 
-pub returns-in-Err : goal.returns-in-Err
-returns-in-Err g c = λ s h. goes_out _ _ _ _ s h event.Turn c.in-Err.ensures
+pub returns-in-Err-clause-goes : goal.returns-in-Err-clause-goes
+returns-in-Err-clause-goes g c = λ s h. goes_out _ _ _ _ s h event.Turn c.in-Err.ensures
+
+pub returns-then-self-eq0-clause-passes : goal.returns-then-self-eq0-clause-passes
+returns-then-self-eq0-clause-passes g c = passes_nothing _
+
+pub returns-then-not-is_free-clause-passes : goal.returns-then-not-is_free-clause-passes
+returns-then-not-is_free-clause-passes g c = passes_nothing _
+
+pub returns-in-Ok-Some-clause-passes : goal.returns-in-Ok-Some-clause-passes
+returns-in-Ok-Some-clause-passes g c = passes_turned _ _ c.in-Ok-Some.field-0 c.in-Ok-Some.ensures
+
+pub returns-in-Ok-None-clause-passes : goal.returns-in-Ok-None-clause-passes
+returns-in-Ok-None-clause-passes g c = passes_turned _ _ c.in-Ok-None.field-0 c.in-Ok-None.ensures
+
+pub returns-in-Err-clause-passes : goal.returns-in-Err-clause-passes
+returns-in-Err-clause-passes g c = passes_out _ _ event.Turn c.in-Err.ensures

@@ -1,0 +1,103 @@
+//! What is wrong with words that ask for nothing.
+use crate::arguments::program;
+use crate::command_line::{answer, first, listen, readers, value};
+use crate::program::CommandFault;
+use clap::ArgMatches;
+use kapi_text::Memory;
+use std::alloc::Global;
+
+/// A value that is not of the wanted form.
+#[derive(Clone, Copy)]
+struct Wrong<'a> {
+    value: &'a str,
+    /// The argument as help shows it.
+    argument: &'static str,
+    wanted: &'static str,
+}
+
+/// What is wrong with the words of a command line that ask for nothing: lines with their ends, of which the first names
+/// the word. The first word is the program's name.
+pub fn complaint(alloc: Global, words: &[&str]) -> Result<String, Memory> {
+    let program = program(alloc)?;
+    match program.try_get_matches_from(words) {
+        Ok(matches) => value_complaint(alloc, &matches),
+        Err(error) => format!(in alloc; "{error}"),
+    }
+}
+
+/// What is wrong with the values of words that are well-formed as a command line.
+fn value_complaint(alloc: Global, matches: &ArgMatches<'_>) -> Result<String, Memory> {
+    let Some((name, words)) = matches.subcommand() else {
+        return String::from_str(
+            alloc,
+            "error: no command\n\nFor more information, try 'kapi --help'.\n",
+        );
+    };
+    match wrong_value(alloc, words) {
+        Some(wrong) => wrong_text(alloc, name, wrong),
+        None => format!(in alloc;
+            "error: a verb and a resource are needed, or --questions FILE and neither of them, --namespace nor --name\n\nFor more information, try 'kapi {name} --help'.\n"
+        ),
+    }
+}
+
+fn wrong_text(alloc: Global, name: &str, wrong: Wrong<'_>) -> Result<String, Memory> {
+    let value = wrong.value;
+    let argument = wrong.argument;
+    let wanted = wrong.wanted;
+    format!(in alloc;
+        "error: invalid value '{value}' for '{argument}': {wanted}\n\nFor more information, try 'kapi {name} --help'.\n"
+    )
+}
+
+/// The first value that is not of the wanted form, in the order in which they are read.
+fn wrong_value<'a>(alloc: Global, words: &ArgMatches<'a>) -> Option<Wrong<'a>> {
+    if answer(words).is_none() {
+        return wrong_at(
+            words,
+            "answer",
+            "--answer <PORT>",
+            "a port is a number from 1 to 65535",
+        );
+    }
+    if value(words, "readers").is_some() && readers(words).is_none() {
+        return wrong_at(words, "readers", "--readers <N>", "a number from 1 to 16");
+    }
+    if first(words).is_none() {
+        return wrong_at(
+            words,
+            "first-revision",
+            "--first-revision <N|clock>",
+            "'clock', or a number from 0 to 281474976710650",
+        );
+    }
+    wrong_listen(alloc, words)
+}
+
+fn wrong_at<'a>(
+    words: &ArgMatches<'a>,
+    name: &str,
+    argument: &'static str,
+    wanted: &'static str,
+) -> Option<Wrong<'a>> {
+    let value = value(words, name)?;
+    Some(Wrong {
+        value,
+        argument,
+        wanted,
+    })
+}
+
+/// The first word that is no port with its user.
+fn wrong_listen<'a>(alloc: Global, words: &ArgMatches<'a>) -> Option<Wrong<'a>> {
+    for word in words.get_strs("LISTEN")? {
+        if let Err(CommandFault::Words) = listen(alloc, word) {
+            return Some(Wrong {
+                value: *word,
+                argument: "PORT=USER[,GROUP..]",
+                wanted: "a port from 1 to 65535, a user, and any groups behind commas, as 8001=ann,dev",
+            });
+        }
+    }
+    None
+}

@@ -1,0 +1,155 @@
+//! Why an object is not loaded.
+ghost use Rattle.std.specs.Prelude.{◌≡◌, IfOk, string_bytes};
+ghost use Rattle.kapi_reasons.specs.Private.Requests as requests;
+
+use crate::asking::{Read, begun, read_line, refusal};
+use crate::words::text_at;
+use kapi_core::{Core, LoadError, program_table};
+use kapi_lines::numbered_lines;
+use kapi_model::{ResourceRow, check_namespace_name};
+use kapi_policy::PlainPolicy;
+use kapi_text::Memory;
+use serde_json::Value;
+use std::alloc::{AllocError, Global};
+
+/// Why the line of this number of a file of objects is not loaded, where the lines before it are. It is asked of a
+/// machine that has loaded these; the first line is 1.
+pub fn object_reason(alloc: Global, objects: &[u8], number: usize) -> Result<String, Memory> {
+    let lines = numbered_lines(alloc, objects)?;
+    let mut core = begun(alloc)?;
+    for line in lines.iter() {
+        if line.number == number {
+            return line_reason(alloc, &mut core, line.text);
+        }
+        if core.load(line.text).is_err() {
+            return Err(AllocError);
+        }
+    }
+    String::from_str(alloc, "the file has no such line")
+}
+
+/// Why a machine does not load a line.
+fn line_reason(alloc: Global, core: &mut Core<PlainPolicy>, line: &[u8]) -> Result<String, Memory> {
+    match read_line(alloc, line)? {
+        Read::Object(object) => match core.load(line) {
+            Ok(_step) => String::from_str(alloc, "no revision is left"),
+            Err(LoadError::Memory) => Err(AllocError),
+            Err(LoadError::UnknownKind) => kind_reason(alloc, &object),
+            Err(_refused) => place_reason(alloc, core, &object, line),
+        },
+        Read::Refused(reason) => Ok(reason),
+    }
+}
+
+/// Why an object is of no kind whose objects are kept.
+fn kind_reason(alloc: Global, object: &Value) -> Result<String, Memory> {
+    let version = text_at(object, "apiVersion");
+    let kind = text_at(object, "kind");
+    if version.is_empty() || kind.is_empty() {
+        return String::from_str(alloc, "apiVersion and kind: required, each a text");
+    }
+    let table = program_table(alloc)?;
+    match row_of(table.as_slice(), object) {
+        Some(row) => version_reason(alloc, row, version),
+        None => format!(in alloc;
+            "kind '{kind}' of apiVersion '{version}' is not served; docs/PROFILE.md names those that are"
+        ),
+    }
+}
+
+/// Why an object of this `apiVersion` is not kept, though its kind is served.
+fn version_reason(alloc: Global, row: &ResourceRow, given: &str) -> Result<String, Memory> {
+    let kind = row.kind.as_str();
+    let version = row.version.as_str();
+    let group = row.group.as_str();
+    let served = if group.is_empty() {
+        String::from_str(alloc, version)?
+    } else {
+        format!(in alloc; "{group}/{version}")?
+    };
+    if served.as_str() == given {
+        return format!(in alloc; "a {kind} is answered and not kept, so none can be loaded");
+    }
+    format!(in alloc; "apiVersion: a {kind} has '{served}', and not '{given}'")
+}
+
+/// The resource type of an object.
+fn row_of<'a>(table: &'a [ResourceRow], object: &Value) -> Option<&'a ResourceRow> {
+    let kind = text_at(object, "kind");
+    table.iter().find(|row| row.kind.as_str() == kind)
+}
+
+/// The namespace that an object names; empty where it names none.
+fn namespace_of(object: &Value) -> &str {
+    match object.get("metadata") {
+        Some(metadata) => text_at(metadata, "namespace"),
+        None => "",
+    }
+}
+
+/// Why an object of a kind that is kept cannot be created at its place.
+fn place_reason(
+    alloc: Global,
+    core: &mut Core<PlainPolicy>,
+    object: &Value,
+    line: &[u8],
+) -> Result<String, Memory> {
+    let table = program_table(alloc)?;
+    let Some(row) = row_of(table.as_slice(), object) else {
+        return kind_reason(alloc, object);
+    };
+    let namespace = namespace_of(object);
+    if row.namespaced && namespace.is_empty() {
+        return String::from_str(
+            alloc,
+            "metadata.namespace: required, as objects of this kind live in a namespace",
+        );
+    }
+    if row.namespaced && !check_namespace_name(namespace) {
+        return format!(in alloc; "namespaces {namespace} not found");
+    }
+    let target = collection(alloc, row, namespace)?;
+    match refusal(core, target.as_str(), line)? {
+        Some(reason) => Ok(reason),
+        None => String::from_str(
+            alloc,
+            "it cannot be created, and is too large for its fault to be named",
+        ),
+    }
+}
+
+/// The path below which the resources of a resource type's version stand.
+#[tactic(auto, unfolding(crate::specs::Private::Requests::root))]
+fn root(alloc: Global, row: &ResourceRow) -> Result<String, Memory>
+    ensures { IfOk result (λ s. string_bytes s ≡ requests.root row.now) }
+{
+    let version = row.version.as_str();
+    let group = row.group.as_str();
+    if group.is_empty() {
+        format!(in alloc; "/api/{version}")
+    } else {
+        format!(in alloc; "/apis/{group}/{version}")
+    }
+}
+
+/// The path of the place whose collections a resource type has: a namespace, or the cluster.
+#[tactic(auto, unfolding(crate::specs::Private::Requests::place))]
+fn place(alloc: Global, row: &ResourceRow, namespace: &str) -> Result<String, Memory>
+    ensures { IfOk result (λ s. string_bytes s ≡ requests.place row.now namespace.now) }
+{
+    let root = root(alloc, row)?;
+    if row.namespaced {
+        format!(in alloc; "{root}/namespaces/{namespace}")
+    } else {
+        Ok(root)
+    }
+}
+
+/// The path of the collection in which an object of a resource type is created.
+fn collection(alloc: Global, row: &ResourceRow, namespace: &str) -> Result<String, Memory>
+    ensures { IfOk result (λ s. string_bytes s ≡ requests.collection row.now namespace.now) }
+{
+    let place = place(alloc, row, namespace)?;
+    let plural = row.plural.as_str();
+    format!(in alloc; "{place}/{plural}")
+}

@@ -1,0 +1,685 @@
+-- What is kept of clients suits their connections over all that a server does.
+use Rattle.std.proofs.Common.{◌≡◌, ℕ, ◌+◌, ◌<◌, ◌≤◌, suc, Bool, true, false, if◌then◌else◌, List, [], ◌∷◌, ◌++◌, length, drop, get_or, set, Option, Some, None, Result, Ok, Err, inl, inr, refl, sym, ap, ◌∙◌, subst, arith}
+use Rattle.std.specs.Prelude.{◌⊎◌, OnOk, is_err}
+use Rattle.std.specs.List.{AllByRecursion, remove}
+use Rattle.std.specs.Map.{lookup}
+use Rattle.std.specs.BTreeMap.{is_at}
+use Rattle.std.specs.Ordering.{nat_cmp}
+use Rattle.std.proofs.lemmas.Bool.{cases_eq, cases_lt, true≢false}
+use Rattle.std.proofs.lemmas.List.{drop_all}
+use Rattle.kapi_aggregation.specs.Members.{Has}
+use Rattle.kapi_core.proofs.Effects.{number_of}
+use Rattle.kapi_core.specs.Machine.{Link, Machine, link_at, step}
+use Rattle.kapi_core.specs.Refines.{Keeps as Same, Makes, Opens, Refines, RunsOut, TakesIn, sent_if, turned_if}
+use Rattle.kapi_core.specs.Running.{Running}
+use Rattle.kapi_core.specs.declared.event.Answer.TheVariants as answer
+use Rattle.kapi_core.specs.declared.event.ConnId.{ConnId}
+use Rattle.kapi_core.specs.declared.event.Event.{Event}
+use Rattle.kapi_core.specs.declared.event.Event.TheVariants as event
+use Rattle.kapi_core.specs.declared.event.OpenError.{OpenError}
+use Rattle.kapi_core.specs.declared.event.OpenError.TheVariants as refused
+use Rattle.kapi_core.specs.declared.event.Output.{Output}
+use Rattle.kapi_core.specs.declared.event.Turned.{Turned}
+use Rattle.kapi_http.specs.declared.inbox.FeedError.{FeedError}
+use Rattle.kapi_http.specs.declared.inbox.FeedError.TheVariants as fed
+use Rattle.kapi_model.specs.declared.identity.Identity.{Identity}
+use Rattle.kapi_serve.specs.declared.client.Client.{Client}
+use Rattle.kapi_serve.specs.declared.client.Phase.{Phase}
+use Rattle.kapi_serve.specs.declared.client.Phase.TheVariants as phase
+use Rattle.kapi_serve.specs.declared.pending.Pending.{Pending}
+use Rattle.kapi_serve.specs.declared.progress.Progress.{Progress}
+use Rattle.kapi_serve.specs.declared.progress.Progress.TheVariants as progress
+use Rattle.kapi_serve.specs.Private.Pieces.{IsCounted, IsSent, joined, owed}
+use Rattle.kapi_serve.specs.Private.Progresses.{both}
+use Rattle.kapi_serve.specs.Private.Stands.{AreDue, Finishes, GoesOn, HasNoRequest, IsAwakeOrQuiet, IsNew, IsNumbered, IsQuiet, IsServed, Keeps, PassesBy, Rise, Settles, Stands, StandsOn, Stays, Suits, Tends, Visits, Waits}
+use Rattle.kapi_serve.specs.Rests.{AreAtRest, Rests}
+use Rattle.kapi_serve.proofs.Connections.{answered_nothing, answered_same, closed_gone, goes_both, goes_event, goes_none, gone_request, opened_request, pumped_request, request_answered, served_gone, shown_gone, stays_both, stays_none, turn_stays, unfed_stays, unserved_stays}
+use Rattle.kapi_serve.proofs.Numbers.{opened_next}
+use Rattle.kapi_serve.proofs.Standing.{each_at, each_both, each_left, each_more, each_only, each_put, each_kept, each_set, each_to, has_at, has_inside, has_next, has_removed, remove_past, rise_left, rise_more, rise_set}
+
+-- ---- progress
+
+pub both_still : (p q : Progress) → both p q ≡ progress.Still → (p ≡ progress.Still) × (q ≡ progress.Still)
+both_still progress.Made q is = absurd (cc)
+both_still progress.Still q is = (refl, is)
+both_still progress.Starved progress.Made is = absurd (cc)
+both_still progress.Starved progress.Still is = absurd (cc)
+both_still progress.Starved progress.Starved is = absurd (cc)
+
+pub made_not_still : progress.Made ≡ progress.Still → ⊥
+made_not_still e = absurd (cc)
+
+-- ---- phases
+
+pub open_not_ending : phase.Open ≡ phase.Ending → ⊥
+open_not_ending e = absurd (cc)
+
+pub open_not_closed : phase.Open ≡ phase.Closed → ⊥
+open_not_closed e = absurd (cc)
+
+pub closed_not_ending : phase.Closed ≡ phase.Ending → ⊥
+closed_not_ending e = absurd (cc)
+
+-- ---- one client
+
+pub waits_nothing : (c : Client) → Waits c c
+waits_nothing c = record { seat = refl; phase = refl; blocked = refl; count = refl }
+
+pub waits_on : (c d e : Client) → Waits c d → Waits d e → Waits c e
+waits_on c d e one other = record {
+  seat = other.seat ∙ one.seat;
+  phase = other.phase ∙ one.phase;
+  blocked = other.blocked ∙ one.blocked;
+  count = other.count ∙ one.count;
+}
+
+pub keeps_nothing : (c : Client) → Keeps c c
+keeps_nothing c = record { id = refl; phase = refl; fed = refl; watching = refl; counted = λ h. h }
+
+pub keeps_on : (c d e : Client) → Keeps c d → Keeps d e → Keeps c e
+keeps_on c d e one other = record {
+  id = other.id ∙ one.id;
+  phase = other.phase ∙ one.phase;
+  fed = other.fed ∙ one.fed;
+  watching = other.watching ∙ one.watching;
+  counted = λ h. other.counted (one.counted h);
+}
+
+-- a client of which the pending bytes are kept otherwise
+pub counted_same : (p q : Pending) → owed q ≡ owed p → q.count ≡ p.count → IsCounted p → IsCounted q
+counted_same p q same count few = let long : length (owed q) ≡ length (owed p) = ap length same in omega (arith, long, count, few)
+
+pub keeps_pending : (c : Client) (p : Pending) → (IsCounted c.pending → IsCounted p) → Keeps c (record c { pending = p })
+keeps_pending c p counted = record { id = refl; phase = refl; fed = refl; watching = refl; counted = counted }
+
+pub keeps_blocked : (c : Client) → Keeps c (record c { blocked = true })
+keeps_blocked c = record { id = refl; phase = refl; fed = refl; watching = refl; counted = λ h. h }
+
+pub waits_pending : (c : Client) (p : Pending) → owed p ≡ owed c.pending → p.count ≡ c.pending.count → Waits c (record c { pending = p })
+waits_pending c p same count = record { seat = ap (λ o. record { slot = c.slot; conn = c.id; owed = o }) same; phase = refl; blocked = refl; count = count }
+
+pub suits_same : (m n : Machine) (c : Client) → link_at c.id.0 n ≡ link_at c.id.0 m → m.next_id ≤ n.next_id → Suits m c → Suits n c
+suits_same m n c same next s = record {
+  unfed = λ e. subst (λ o. HasNoRequest c.id.0 o) (sym same) (s.unfed e);
+  closed = λ e. same ∙ s.closed e;
+  ending = s.ending;
+  counted = s.counted;
+  below = let less : c.id.0 < m.next_id = s.below in omega (arith, less, next);
+}
+
+pub suits_kept : (m : Machine) (c d : Client) → Keeps c d → Suits m c → Suits m d
+suits_kept m c d k s = record {
+  unfed = λ e. subst (λ i. HasNoRequest i.0 (link_at i.0 m)) (sym k.id) (s.unfed (sym k.fed ∙ e));
+  closed = λ e. subst (λ i. link_at i.0 m ≡ None) (sym k.id) (s.closed (sym k.phase ∙ e));
+  ending = λ e. k.fed ∙ s.ending (sym k.phase ∙ e);
+  counted = k.counted s.counted;
+  below = subst (λ i. i.0 < m.next_id) (sym k.id) s.below;
+}
+
+-- the connection of a client went on, and bytes came since a request was looked for
+suits_fed : (m n : Machine) (c d : Client) → GoesOn c.id.0 m n → Suits m c → d.id ≡ c.id → d.fed ≡ true → (d.phase ≡ phase.Closed → link_at c.id.0 n ≡ None) → IsCounted d.pending → Suits n d
+suits_fed m n c d g s same fed closed counted = record {
+  unfed = λ e. absurd (true≢false (sym fed ∙ e));
+  closed = λ e. subst (λ i. link_at i.0 n ≡ None) (sym same) (closed e);
+  ending = λ e. fed;
+  counted = counted;
+  below = subst (λ i. i.0 < n.next_id) (sym same) (let less : c.id.0 < m.next_id = s.below in omega (arith, less, g.next));
+}
+
+-- nothing was done
+pub tends_nothing : (a : Running) (c d : Client) → Keeps c d → Tends a a c d
+tends_nothing a c d k = λ m r n s. (m, r, goes_none c.id.0 m n, k.id, suits_kept m c d k s)
+
+-- an allocation failed
+pub tends_out : (a b : Running) (c d : Client) (e : Event) → RunsOut a b e → Keeps c d → Tends a b c d
+tends_out a b c d e out k = λ m r n s. (m, (out m r).0, goes_none c.id.0 m n, k.id, suits_kept m c d k s)
+
+-- a choice of phases is the closed one
+closes_if : (b : Bool) (p q : Phase) → p ≡ (if b then phase.Closed else q) → (q ≡ phase.Closed → ⊥) → p ≡ phase.Closed → b ≡ true
+closes_if true p q is going closed = refl
+closes_if false p q is going closed = absurd (going (sym is ∙ closed))
+
+-- something is sent
+tends_sent : (a b : Running) (c d : Client) (e : Event) (out : Output) → Makes a b e (answer.Sent out) → ((m : Machine) → number_of m e ≡ c.id.0)
+    → ((m : Machine) → answer.Sent out ≡ (step m e).0 → out.close ≡ true → IsNumbered m → link_at c.id.0 (step m e).1 ≡ None)
+    → d.id ≡ c.id → d.fed ≡ true → d.phase ≡ (if out.close then phase.Closed else c.phase) → (c.phase ≡ phase.Closed → ⊥) → (IsCounted c.pending → IsCounted d.pending) → Tends a b c d
+tends_sent a b c d e out makes number gone same fed becomes going counted = λ m r n s.
+    let g = goes_event m e c.id.0 (number m) n in
+    ((step m e).1, (makes m r).1, g, same, suits_fed m (step m e).1 c d g s same fed (λ closed. gone m (makes m r).0 (closes_if out.close d.phase c.phase becomes going closed) n) (counted s.counted))
+
+made_sent : (a b : Running) (e : Event) (o : Option Output) (out : Output) → Makes a b e (sent_if o) → o ≡ Some out → Makes a b e (answer.Sent out)
+made_sent a b e o out makes some = subst (λ x. Makes a b e (sent_if x)) some makes
+
+made_nothing : (a b : Running) (e : Event) (o : Option Output) → Makes a b e (sent_if o) → o ≡ None → Makes a b e answer.Nothing
+made_nothing a b e o makes none = subst (λ x. Makes a b e (sent_if x)) none makes
+
+-- a client is answered
+pub tends_served : (a b : Running) (c f d : Client) (o : Option Output) (out : Output) → Keeps c f → Makes a b (event.Serve f.id) (sent_if o) → o ≡ Some out → c.fed ≡ true → (f.phase ≡ phase.Closed → ⊥)
+    → d.id ≡ f.id → d.fed ≡ f.fed → d.phase ≡ (if out.close then phase.Closed else f.phase) → (IsCounted f.pending → IsCounted d.pending) → Tends a b c d
+tends_served a b c f d o out k makes some fed going same still becomes counted = λ m r n s.
+    let t = tends_sent a b f d (event.Serve f.id) out (made_sent a b (event.Serve f.id) o out makes some) (λ m. refl) (λ m h close n. served_gone m f.id out h close n) same (still ∙ k.fed ∙ fed) becomes going counted m r n (suits_kept m c f k s) in
+    (t.0, t.1, subst (λ i. GoesOn i.0 m t.0) k.id t.2, t.3 ∙ k.id, t.4)
+
+-- a client is shown an event
+pub tends_shown : (a b : Running) (c f d : Client) (o : Option Output) (out : Output) → Keeps c f → Makes a b (event.Pump f.id) (sent_if o) → o ≡ Some out → (f.phase ≡ phase.Closed → ⊥)
+    → d.id ≡ f.id → d.fed ≡ true → d.phase ≡ (if out.close then phase.Closed else f.phase) → (IsCounted f.pending → IsCounted d.pending) → Tends a b c d
+tends_shown a b c f d o out k makes some going same fed becomes counted = λ m r n s.
+    let t = tends_sent a b f d (event.Pump f.id) out (made_sent a b (event.Pump f.id) o out makes some) (λ m. refl) (λ m h close n. shown_gone m f.id out h close n) same fed becomes going counted m r n (suits_kept m c f k s) in
+    (t.0, t.1, subst (λ i. GoesOn i.0 m t.0) k.id t.2, t.3 ∙ k.id, t.4)
+
+-- there is no event for a client
+pub tends_unshown : (a b : Running) (c f : Client) (o : Option Output) → Keeps c f → Makes a b (event.Pump f.id) (sent_if o) → o ≡ None → (f.phase ≡ phase.Closed → ⊥) → Tends a b c f
+tends_unshown a b c f o k makes none going = λ m r n s.
+    let made = made_nothing a b (event.Pump f.id) o makes none in
+    let own = suits_kept m c f k s in
+    let g = goes_event m (event.Pump f.id) f.id.0 refl n in
+    let next : Machine = (step m (event.Pump f.id)).1 in (
+      next,
+      (made m r).1,
+      subst (λ i. GoesOn i.0 m next) k.id g,
+      k.id,
+      record {
+        unfed = λ e. pumped_request m f.id (made m r).0 (own.unfed e);
+        closed = λ e. absurd (going e);
+        ending = own.ending;
+        counted = own.counted;
+        below = let less : f.id.0 < m.next_id = own.below in omega (arith, less, g.next);
+      },
+    )
+
+-- there is no request of a client, and it may be closed
+pub tends_unserved : (a b x : Running) (c f d : Client) (o : Option Output) (p : Progress) → Keeps c f → Makes a b (event.Serve f.id) (sent_if o) → o ≡ None → (f.phase ≡ phase.Closed → ⊥)
+    → Finishes b x (record f { fed = false }) d p → Tends a x c d
+tends_unserved a b x c f d o p k makes none going (inl q) = λ m r n s.
+    let closes = q.2 in
+    let is = q.3 in
+    let served = made_nothing a b (event.Serve f.id) o makes none in
+    let own = suits_kept m c f k s in
+    let stays = unserved_stays m f.id (served m r).0 in
+    let there : Refines b m = subst (λ z. Refines b z) stays (served m r).1 in
+    let next : Machine = (step m (event.Close f.id)).1 in
+    let g = goes_event m (event.Close f.id) f.id.0 refl n in
+    let gone = closed_gone m f.id n in
+    let less : f.id.0 < m.next_id = own.below in
+    let under : f.id.0 < next.next_id = omega (arith, less, g.next) in (
+      next,
+      (closes m there).1,
+      subst (λ i. GoesOn i.0 m next) k.id g,
+      ap (λ z. z.id) is ∙ k.id,
+      subst (λ z. Suits next z) (sym is) (record {
+        unfed = λ e. gone_request f.id.0 (link_at f.id.0 next) gone;
+        closed = λ e. gone;
+        ending = λ e. absurd (closed_not_ending e);
+        counted = own.counted;
+        below = under;
+      }),
+    )
+tends_unserved a b x c f d o p k makes none going (inr q) = λ m r n s.
+    let is = q.3 in
+    let served = made_nothing a b (event.Serve f.id) o makes none in
+    let own = suits_kept m c f k s in
+    let stays = unserved_stays m f.id (served m r).0 in
+    let there : Refines b m = subst (λ z. Refines b z) stays (served m r).1 in (
+      m,
+      subst (λ z. Refines z m) (sym q.2) there,
+      goes_none c.id.0 m n,
+      ap (λ z. z.id) is ∙ k.id,
+      subst (λ z. Suits m z) (sym is) (record {
+        unfed = λ e. answered_nothing m f.id (served m r).0;
+        closed = λ e. absurd (going e);
+        ending = λ e. absurd (q.0 e);
+        counted = own.counted;
+        below = own.below;
+      }),
+    )
+
+-- a client whose bytes were looked at waits, if it was not closed
+pub finished_still : (b x : Running) (c f d : Client) (p : Progress) → Waits c f → Finishes b x (record f { fed = false }) d p → p ≡ progress.Still → Waits c d × IsServed d
+finished_still b x c f d p w (inl q) still = let made : p ≡ progress.Made = q.1 in absurd (cc)
+finished_still b x c f d p w (inr q) still = (
+  subst (λ z. Waits c z) (sym q.3) (record { seat = w.seat; phase = w.phase; blocked = w.blocked; count = w.count }),
+  λ less. inl (ap (λ z. z.fed) q.3),
+)
+
+-- a client that is not served as it is closed, or too much is owed to it
+pub unopen_served : (c : Client) → (c.phase ≡ phase.Closed) ⊎ (1048576 ≤ c.pending.count) → IsServed c
+unopen_served c (inl closed) = λ less. inr closed
+unopen_served c (inr full) = λ less. absurd (omega (arith, full, less))
+
+pub tends_on : (a b x : Running) (c d e : Client) → Tends a b c d → Tends b x d e → Tends a x c e
+tends_on a b x c d e one other = λ m r n s.
+    let t = one m r n s in
+    let u = other t.0 t.1 t.2.numbered t.4 in
+    (u.0, u.1, goes_both c.id.0 m t.0 u.0 t.2 (subst (λ i. GoesOn i.0 t.0 u.0) t.3 u.2), u.3 ∙ t.3, u.4)
+
+goes_by : (id : ℕ) (l m n : Machine) → GoesOn id l m → Stays m n → GoesOn id l n
+goes_by id l m n g s = record {
+  numbered = let P : List (ℕ × Link) → Type 0 = λ es. IsNumbered (record m { links = es }) in subst P (sym s.links) g.numbered;
+  others = λ q never. ap (λ es. lookup (is_at (nat_cmp q)) es) s.links ∙ g.others q never;
+  next = omega (arith, g.next, s.next);
+}
+
+link_by : (q : ℕ) (m n : Machine) → Stays m n → link_at q n ≡ link_at q m
+link_by q m n s = ap (λ es. lookup (is_at (nat_cmp q)) es) s.links
+
+-- turns follow
+pub tends_by : (a b x : Running) (c d : Client) → Tends a b c d → PassesBy b x → Tends a x c d
+tends_by a b x c d one by = λ m r n s.
+    let t = one m r n s in
+    let u = by t.0 t.1 in
+    (u.0, u.1, goes_by c.id.0 m t.0 u.0 t.2 u.2, t.3, suits_same t.0 u.0 d (link_by d.id.0 t.0 u.0 u.2) u.2.next t.4)
+
+-- a client that was served and then shown nothing
+pub served_kept : (d e : Client) → Waits d e → Keeps d e → IsServed d → IsServed e
+served_kept d e w k served = λ less. by_case (served (subst (λ n. n < 1048576) w.count less))
+  where
+    by_case : (d.fed ≡ false) ⊎ (d.phase ≡ phase.Closed) → (e.fed ≡ false) ⊎ (e.phase ≡ phase.Closed)
+    by_case (inl unfed) = inl (k.fed ∙ unfed)
+    by_case (inr closed) = inr (k.phase ∙ closed)
+
+-- a client that was served and shown nothing, and no turn was made
+pub answered_still : (p q r s t : Progress) (c d e : Client) → s ≡ both p q → t ≡ both s r → (p ≡ progress.Still → Waits c d × IsServed d) → (q ≡ progress.Still → Waits d e × Keeps d e) → t ≡ progress.Still
+    → Waits c e × IsServed e
+answered_still p q r s t c d e one other served shown still =
+    let all = both_still s r (sym other ∙ still) in
+    let two = both_still p q (sym one ∙ all.0) in
+    let w = served two.0 in
+    let k = shown two.1 in
+    (waits_on c d e w.0 k.0, served_kept d e k.0 k.1 w.1)
+
+-- ---- turns
+
+pub passes_nothing : (a : Running) → PassesBy a a
+passes_nothing a = λ m r. (m, r, stays_none m)
+
+pub passes_both : (a b x : Running) → PassesBy a b → PassesBy b x → PassesBy a x
+passes_both a b x one other = λ m r.
+    let t = one m r in
+    let u = other t.0 t.1 in
+    (u.0, u.1, stays_both m t.0 u.0 t.2 u.2)
+
+pub passes_turned : (a b : Running) (o : Option Turned) → Makes a b event.Turn (turned_if o) → PassesBy a b
+passes_turned a b o makes = λ m r. ((step m event.Turn).1, (makes m r).1, turn_stays m)
+
+pub passes_out : (a b : Running) (e : Event) → RunsOut a b e → PassesBy a b
+passes_out a b e out = λ m r. (m, (out m r).0, stays_none m)
+
+-- ---- a client rests
+
+-- all bytes were sent
+pub owed_sent : (p : Pending) → IsSent p → owed p ≡ []
+owed_sent p sent = λ j. drop_all p.sent p.head sent.0 j ++ joined (sent.1 j)
+
+rests_quiet : (m : Machine) (c : Client) → Suits m c → IsQuiet c → Rests m c
+rests_quiet m c s q = record {
+  offered = λ e. q.owed;
+  answered = λ less. request_answered m c.id (s.unfed q.fed);
+  ended = λ less e. open_not_ending (sym q.phase ∙ e);
+  closed = λ e. absurd (open_not_closed (sym q.phase ∙ e));
+}
+
+rests_same : (m n : Machine) (c : Client) → link_at c.id.0 n ≡ link_at c.id.0 m → Rests m c → Rests n c
+rests_same m n c same r = record { offered = r.offered; answered = λ less. answered_same m n c.id same (r.answered less); ended = r.ended; closed = r.closed }
+
+-- a client to which bytes were offered, which was served, and of which nothing was done
+pub rests_visited : (n : Machine) (f e : Client) → Suits n e → Waits f e → IsServed e → (f.blocked ≡ false → IsSent f.pending) → (f.phase ≡ phase.Closed → IsSent f.pending → ⊥) → Rests n e
+rests_visited n f e s w served sent over = record {
+  offered = λ free. ap (λ z. z.owed) w.seat ∙ owed_sent f.pending (sent (sym w.blocked ∙ free));
+  answered = λ less. by_case (served (under less));
+  ended = λ less ending. by_end ending (served (under less));
+  closed = λ closed. by_block e.blocked refl (sym w.phase ∙ closed);
+}
+  where
+    under : length (owed e.pending) < 1048576 → e.pending.count < 1048576
+    under less = let few : e.pending.count ≤ length (owed e.pending) = s.counted in omega (arith, few, less)
+
+    by_case : (e.fed ≡ false) ⊎ (e.phase ≡ phase.Closed) → (step n (event.Serve e.id)).0 ≡ answer.Nothing
+    by_case (inl unfed) = request_answered n e.id (s.unfed unfed)
+    by_case (inr closed) = request_answered n e.id (gone_request e.id.0 (link_at e.id.0 n) (s.closed closed))
+
+    by_end : e.phase ≡ phase.Ending → (e.fed ≡ false) ⊎ (e.phase ≡ phase.Closed) → ⊥
+    by_end ending (inl unfed) = true≢false (sym (s.ending ending) ∙ unfed)
+    by_end ending (inr closed) = closed_not_ending (sym closed ∙ ending)
+
+    by_block : (b : Bool) → e.blocked ≡ b → f.phase ≡ phase.Closed → e.blocked ≡ true
+    by_block true is closed = is
+    by_block false is closed = absurd (over closed (sent (sym w.blocked ∙ is)))
+
+-- ---- all clients
+
+pub on_nothing : (a : Running) (cs : List Client) (aw : List ℕ) → StandsOn a a cs aw cs aw
+on_nothing a cs aw = λ m r s. (m, r, s)
+
+pub on_kept : (a b : Running) (cs : List Client) (aw : List ℕ) → Same a b → StandsOn a b cs aw cs aw
+on_kept a b cs aw keeps = λ m r s. (m, keeps m r, s)
+
+pub on_both : (a b x : Running) (cs ds es : List Client) (aw bw xw : List ℕ) → StandsOn a b cs aw ds bw → StandsOn b x ds bw es xw → StandsOn a x cs aw es xw
+on_both a b x cs ds es aw bw xw one other = λ m r s.
+    let t = one m r s in
+    other t.0 t.1 t.2
+
+pub on_as : (a b : Running) (cs ds es : List Client) (aw bw xw : List ℕ) → StandsOn a b cs aw ds bw → es ≡ ds → xw ≡ bw → StandsOn a b cs aw es xw
+on_as a b cs ds es aw bw xw one same also = λ m r s.
+    let t = one m r s in
+    (t.0, t.1, subst (λ xs. Stands t.0 xs xw) (sym same) (subst (λ ks. Stands t.0 ds ks) (sym also) t.2))
+
+-- at first there are no clients
+pub stands_none : (m : Machine) (cs : List Client) (aw : List ℕ) → cs ≡ [] → IsNumbered m → Stands m cs aw
+unfolding Rise
+stands_none m cs aw none k = subst (λ xs. Stands m xs aw) (sym none) (record { numbered = k; suit = tt; rise = tt; asleep = tt })
+
+-- what stands on one machine stands on one with the same connections
+stands_by : (m n : Machine) (cs : List Client) (aw : List ℕ) → Stays m n → Stands m cs aw → Stands n cs aw
+stands_by m n cs aw by s = record {
+  numbered = let P : List (ℕ × Link) → Type 0 = λ es. IsNumbered (record m { links = es }) in subst P (sym by.links) s.numbered;
+  suit = each_to (λ c. Suits m c) (λ c. Suits n c) cs (λ c suits. suits_same m n c (link_by c.id.0 m n by) by.next suits) s.suit;
+  rise = s.rise;
+  asleep = s.asleep;
+}
+
+pub on_passing : (a b : Running) (cs : List Client) (aw : List ℕ) → PassesBy a b → StandsOn a b cs aw cs aw
+on_passing a b cs aw by = λ m r s.
+    let t = by m r in
+    (t.0, t.1, stands_by m t.0 cs aw t.2 s)
+
+awake_more : (aw bw : List ℕ) (cs : List Client) → ((k : ℕ) → Has aw k → Has bw k) → AllByRecursion (λ c. IsAwakeOrQuiet aw c) cs → AllByRecursion (λ c. IsAwakeOrQuiet bw c) cs
+awake_more aw bw cs more all = each_to (λ c. IsAwakeOrQuiet aw c) (λ c. IsAwakeOrQuiet bw c) cs (λ c h. by_case c h) all
+  where
+    by_case : (c : Client) → IsAwakeOrQuiet aw c → IsAwakeOrQuiet bw c
+    by_case c (inl has) = inl (more c.id.0 has)
+    by_case c (inr quiet) = inr quiet
+
+-- more connections are awake
+pub on_woken : (a : Running) (cs : List Client) (aw bw : List ℕ) → ((k : ℕ) → Has aw k → Has bw k) → StandsOn a a cs aw cs bw
+on_woken a cs aw bw more = λ m r s. (m, r, record { numbered = s.numbered; suit = s.suit; rise = s.rise; asleep = awake_more aw bw cs more s.asleep })
+
+-- one client is changed, which is awake
+pub stands_set : (m n : Machine) (cs : List Client) (aw bw : List ℕ) (i : ℕ) (d e : Client) → Stands m cs aw → i < length cs → GoesOn (get_or cs i d).id.0 m n → e.id ≡ (get_or cs i d).id → Suits n e
+    → Has bw e.id.0 → ((k : ℕ) → Has aw k → Has bw k) → Stands n (set cs i e) bw
+stands_set m n cs aw bw i d e s below g same suits awake more = record {
+  numbered = g.numbered;
+  suit = each_set (λ c. Suits m c) (λ c. Suits n c) cs i d e s.rise below (λ c never suits. suits_same m n c (g.others c.id.0 never) g.next suits) s.suit suits;
+  rise = rise_set cs i d e s.rise below same;
+  asleep = each_put (λ c. IsAwakeOrQuiet bw c) cs i e (awake_more aw bw cs more s.asleep) (inl awake);
+}
+
+-- one client leaves
+pub stands_left : (m n : Machine) (cs : List Client) (aw : List ℕ) (i : ℕ) (d : Client) → Stands m cs aw → i < length cs → GoesOn (get_or cs i d).id.0 m n → Stands n (remove cs i) aw
+stands_left m n cs aw i d s below g = record {
+  numbered = g.numbered;
+  suit = each_left (λ c. Suits m c) (λ c. Suits n c) cs i d s.rise below (λ c never suits. suits_same m n c (g.others c.id.0 never) g.next suits) s.suit;
+  rise = rise_left cs i s.rise;
+  asleep = each_kept (λ c. IsAwakeOrQuiet aw c) cs i s.asleep;
+}
+
+-- the next connection is opened or not
+stands_next : (m n : Machine) (cs : List Client) (aw : List ℕ) → Stands m cs aw → GoesOn m.next_id m n → Stands n cs aw
+stands_next m n cs aw s g = record {
+  numbered = g.numbered;
+  suit = each_to (λ c. Suits m c) (λ c. Suits n c) cs (λ c suits. suits_same m n c (g.others c.id.0 (λ same. let less : c.id.0 < m.next_id = suits.below in omega (arith, less, same))) g.next suits) s.suit;
+  rise = s.rise;
+  asleep = s.asleep;
+}
+
+-- a client comes
+stands_more : (m n : Machine) (cs : List Client) (aw : List ℕ) (e : Client) → Stands m cs aw → GoesOn m.next_id m n → e.id.0 ≡ m.next_id → Suits n e → IsQuiet e → Stands n (cs ++ e ∷ []) aw
+stands_more m n cs aw e s g next suits quiet =
+    let stands = stands_next m n cs aw s g in
+    record {
+      numbered = g.numbered;
+      suit = each_more (λ c. Suits n c) cs e stands.suit suits;
+      rise = rise_more cs e s.rise (each_to (λ c. Suits m c) (λ c. c.id.0 < e.id.0) cs (λ c has. let less : c.id.0 < m.next_id = has.below in omega (arith, less, next)) s.suit);
+      asleep = each_more (λ c. IsAwakeOrQuiet aw c) cs e s.asleep (inr quiet);
+    }
+
+-- a connection was opened for a client, or none
+pub on_opened : (a b : Running) (cs ds : List Client) (aw : List ℕ) (who : Identity) (id : ConnId) → Makes a b (event.Open who) (answer.Opened id) → (e : Client) × (ds ≡ cs ++ e ∷ []) × (e.id ≡ id) × IsNew e
+    → StandsOn a b cs aw ds aw
+on_opened a b cs ds aw who id makes fresh = λ m r s.
+    let e : Client = fresh.0 in
+    let new : IsNew e = fresh.3 in
+    let n : Machine = (step m (event.Open who)).1 in
+    let told = (makes m r).0 in
+    let g = goes_event m (event.Open who) m.next_id refl s.numbered in
+    let next = opened_next m who id (sym told) in
+    let at : e.id.0 ≡ m.next_id = ap (λ i. i.0) fresh.2 ∙ next.0 in
+    let suits : Suits n e = record {
+      unfed = λ u. subst (λ k. HasNoRequest k (link_at k n)) (sym at) (opened_request m who id told);
+      closed = λ closed. absurd (open_not_closed (sym new.quiet.phase ∙ closed));
+      ending = λ ending. absurd (open_not_ending (sym new.quiet.phase ∙ ending));
+      counted = new.counted;
+      below = let up : n.next_id ≡ m.next_id + 1 = next.1 in omega (arith, at, up);
+    } in
+    (n, (makes m r).1, subst (λ xs. Stands n xs aw) (sym fresh.1) (stands_more m n cs aw e s g at suits new.quiet))
+
+pub on_unopened : (a b : Running) (cs : List Client) (aw : List ℕ) (who : Identity) (o : OpenError) → Opens a b who (Err o) → StandsOn a b cs aw cs aw
+on_unopened a b cs aw who refused.TooMany makes = λ m r s. ((step m (event.Open who)).1, (makes m r).1, stands_next m (step m (event.Open who)).1 cs aw s (goes_event m (event.Open who) m.next_id refl s.numbered))
+on_unopened a b cs aw who refused.Memory out = λ m r s. (m, (out m r).0, s)
+
+-- a client's connection is closed
+pub on_closed : (a b : Running) (cs ds : List Client) (aw : List ℕ) (i : ℕ) (d : Client) → i < length cs → d ≡ get_or cs i d → ds ≡ remove cs i → Makes a b (event.Close d.id) answer.Done → StandsOn a b cs aw ds aw
+on_closed a b cs ds aw i d below is are makes = λ m r s.
+    let n : Machine = (step m (event.Close d.id)).1 in
+    let g = goes_event m (event.Close d.id) d.id.0 refl s.numbered in
+    (n, (makes m r).1, subst (λ xs. Stands n xs aw) (sym are) (stands_left m n cs aw i d s below (subst (λ c. GoesOn c.id.0 m n) is g)))
+
+-- a client's slot takes bytes again
+pub stands_free : (m : Machine) (cs : List Client) (aw : List ℕ) (i : ℕ) (c : Client) → i < length cs → c ≡ get_or cs i c → Stands m cs aw → Stands m (set cs i (record c { blocked = false })) aw
+stands_free m cs aw i c below is s =
+    let e : Client = record c { blocked = false } in
+    let own : Suits m c = subst (λ x. Suits m x) (sym is) (each_at (λ x. Suits m x) cs i c s.suit below) in
+    let awake : IsAwakeOrQuiet aw c = subst (λ x. IsAwakeOrQuiet aw x) (sym is) (each_at (λ x. IsAwakeOrQuiet aw x) cs i c s.asleep below) in
+    record {
+      numbered = s.numbered;
+      suit = each_put (λ x. Suits m x) cs i e s.suit (suits_kept m c e (record { id = refl; phase = refl; fed = refl; watching = refl; counted = λ h. h }) own);
+      rise = rise_set cs i c e s.rise below (ap (λ x. x.id) is);
+      asleep = each_put (λ x. IsAwakeOrQuiet aw x) cs i e s.asleep (by_case awake);
+    }
+  where
+    by_case : IsAwakeOrQuiet aw c → IsAwakeOrQuiet aw (record c { blocked = false })
+    by_case (inl has) = inl has
+    by_case (inr quiet) = inr (record { phase = quiet.phase; fed = quiet.fed; watching = quiet.watching; owed = quiet.owed })
+
+-- a client's bytes have ended
+pub stands_ended : (m : Machine) (cs : List Client) (aw : List ℕ) (i : ℕ) (c : Client) → i < length cs → c ≡ get_or cs i c → Has aw (get_or cs i c).id.0 → Stands m cs aw
+    → Stands m (set cs i (record c { phase = phase.Ending; fed = true })) aw
+stands_ended m cs aw i c below is has s =
+    let own : Suits m c = subst (λ x. Suits m x) (sym is) (each_at (λ x. Suits m x) cs i c s.suit below) in
+    stands_set m m cs aw aw i c (record c { phase = phase.Ending; fed = true }) s below (goes_none (get_or cs i c).id.0 m s.numbered) (ap (λ x. x.id) is)
+    (record { unfed = λ e. absurd (true≢false e); closed = λ e. absurd (closed_not_ending (sym e)); ending = λ e. refl; counted = own.counted; below = own.below }) (subst (λ x. Has aw x.id.0) (sym is) has) (λ k h. h)
+
+-- a piece of a client is fed
+pub on_fed : (a b : Running) (cs : List Client) (aw : List ℕ) (i : ℕ) (c : Client) (id : ConnId) (piece : List ℕ) → i < length cs → c ≡ get_or cs i c → id ≡ c.id → Has aw (get_or cs i c).id.0
+    → (get_or cs i c).phase ≡ phase.Open → Makes a b (event.Feed id piece) answer.Done → StandsOn a b cs aw (set cs i (record c { fed = true })) aw
+on_fed a b cs aw i c id piece below is same has reading makes = λ m r s.
+    let n : Machine = (step m (event.Feed id piece)).1 in
+    let g : GoesOn c.id.0 m n = goes_event m (event.Feed id piece) c.id.0 (ap (λ k. k.0) same) s.numbered in
+    let own : Suits m c = subst (λ x. Suits m x) (sym is) (each_at (λ x. Suits m x) cs i c s.suit below) in
+    let going : c.phase ≡ phase.Open = subst (λ x. x.phase ≡ phase.Open) (sym is) reading in (
+      n,
+      (makes m r).1,
+      stands_set m n cs aw aw i c (record c { fed = true }) s below (subst (λ x. GoesOn x.id.0 m n) is g) (ap (λ x. x.id) is)
+          (suits_fed m n c (record c { fed = true }) g own refl refl (λ closed. absurd (open_not_closed (sym going ∙ closed))) own.counted) (subst (λ x. Has aw x.id.0) (sym is) has) (λ k h. h),
+    )
+
+-- a piece of a client is not taken in
+pub on_refused : (a b : Running) (cs : List Client) (aw : List ℕ) (id : ConnId) (piece : List ℕ) (r : FeedError) → TakesIn a b id piece (Err r) → StandsOn a b cs aw cs aw
+on_refused a b cs aw id piece fed.Memory out = λ m r s. (m, (out m r).0, s)
+on_refused a b cs aw id piece fed.Full makes = λ m r s. (m, subst (λ q. Refines b q) (unfed_stays m id piece answer.Full (makes m r).0 (λ same. absurd (cc))) (makes m r).1, s)
+on_refused a b cs aw id piece fed.Ended makes = λ m r s. (m, subst (λ q. Refines b q) (unfed_stays m id piece answer.Ended (makes m r).0 (λ same. absurd (cc))) (makes m r).1, s)
+
+-- the connection at a place sleeps: its client is quiet, or there is none
+pub stands_asleep : (m : Machine) (cs : List Client) (aw : List ℕ) (p d : ℕ) → AllByRecursion (λ c. get_or aw p d ≡ c.id.0 → IsQuiet c) cs → Stands m cs aw → Stands m cs (remove aw p)
+stands_asleep m cs aw p d quiet s = record {
+  numbered = s.numbered;
+  suit = s.suit;
+  rise = s.rise;
+  asleep = each_both (λ c. get_or aw p d ≡ c.id.0 → IsQuiet c) (λ c. IsAwakeOrQuiet aw c) (λ c. IsAwakeOrQuiet (remove aw p) c) cs (λ c if_here h. by_case c if_here h) quiet s.asleep;
+}
+  where
+    by_place : (c : Client) → (get_or aw p d ≡ c.id.0 → IsQuiet c) → Has aw c.id.0 → (get_or aw p d ≡ c.id.0) ⊎ (get_or aw p d ≡ c.id.0 → ⊥) → IsAwakeOrQuiet (remove aw p) c
+    by_place c if_here has (inl same) = inr (if_here same)
+    by_place c if_here has (inr never) = inl (has_removed aw p c.id.0 d never has)
+
+    by_case : (c : Client) → (get_or aw p d ≡ c.id.0 → IsQuiet c) → IsAwakeOrQuiet aw c → IsAwakeOrQuiet (remove aw p) c
+    by_case c if_here (inl has) = by_place c if_here has (cases_eq (get_or aw p d) c.id.0)
+    by_case c if_here (inr quiet) = inr quiet
+
+-- the client of the number is quiet
+pub stands_quiet : (m : Machine) (cs : List Client) (aw : List ℕ) (p i : ℕ) (c : Client) → i < length cs → c ≡ get_or cs i c → ((d : Client) (x : ℕ) → get_or aw p x ≡ (get_or cs i d).id.0) → IsQuiet c → Stands m cs aw
+    → Stands m cs (remove aw p)
+stands_quiet m cs aw p i c below is at quiet s =
+    let own : IsQuiet (get_or cs i c) = subst (λ z. IsQuiet z) is quiet in
+    stands_asleep m cs aw p 0 (each_to (λ x. x.id.0 ≡ (get_or cs i c).id.0 → IsQuiet x) (λ x. get_or aw p 0 ≡ x.id.0 → IsQuiet x) cs (λ x f same. f (sym same ∙ at c 0)) (each_only (λ x. IsQuiet x) cs i c s.rise below own)) s
+
+-- no client has the number
+pub stands_absent : (m : Machine) (cs : List Client) (aw : List ℕ) (p : ℕ) → (Rise cs → p < length aw → AllByRecursion (λ c. (x : ℕ) → get_or aw p x ≡ c.id.0 → ⊥) cs) → Stands m cs aw → Stands m cs (remove aw p)
+stands_absent m cs aw p absent s = by_place (cases_lt p (length aw))
+  where
+    by_place : (p < length aw) ⊎ (length aw ≤ p) → Stands m cs (remove aw p)
+    by_place (inl inside) = stands_asleep m cs aw p 0 (each_to (λ c. (x : ℕ) → get_or aw p x ≡ c.id.0 → ⊥) (λ c. get_or aw p 0 ≡ c.id.0 → IsQuiet c) cs (λ c never same. absurd (never 0 same)) (absent s.rise inside)) s
+    by_place (inr past) = subst (λ ks. Stands m cs ks) (sym (remove_past aw p past)) s
+
+-- ---- visits
+
+-- at first each client is quiet or awake
+due_first : (m : Machine) (cs : List Client) (aw : List ℕ) → Stands m cs aw → AreDue m cs aw
+due_first m cs aw s = each_both (λ c. Suits m c) (λ c. IsAwakeOrQuiet aw c) (λ c. Rests m c ⊎ Has aw c.id.0) cs (λ c suits h. by_case c suits h) s.suit s.asleep
+  where
+    by_case : (c : Client) → Suits m c → IsAwakeOrQuiet aw c → Rests m c ⊎ Has aw c.id.0
+    by_case c suits (inl has) = inr has
+    by_case c suits (inr quiet) = inl (rests_quiet m c suits quiet)
+
+-- at last none is due
+due_last : (m : Machine) (cs : List Client) (rest : List ℕ) → rest ≡ [] → AreDue m cs rest → AreAtRest m cs
+due_last m cs rest none due = each_to (λ c. Rests m c ⊎ Has rest c.id.0) (λ c. Rests m c) cs (λ c h. by_case c h) due
+  where
+    by_case : (c : Client) → Rests m c ⊎ Has rest c.id.0 → Rests m c
+    by_case c (inl rests) = rests
+    by_case c (inr has) = absurd (subst (λ xs. Has xs c.id.0) none has)
+
+-- the same clients on a machine with the same connections
+due_by : (m n : Machine) (cs : List Client) (rest : List ℕ) → Stays m n → AreDue m cs rest → AreDue n cs rest
+due_by m n cs rest by due = each_to (λ c. Rests m c ⊎ Has rest c.id.0) (λ c. Rests n c ⊎ Has rest c.id.0) cs (λ c h. by_case c h) due
+  where
+    by_case : (c : Client) → Rests m c ⊎ Has rest c.id.0 → Rests n c ⊎ Has rest c.id.0
+    by_case c (inl rests) = inl (rests_same m n c (link_by c.id.0 m n by) rests)
+    by_case c (inr has) = inr has
+
+-- the client at a place rests, and the others as before
+due_set : (m n : Machine) (cs : List Client) (aw : List ℕ) (p i : ℕ) (d e : Client) → Rise cs → i < length cs → ((x : ℕ) → get_or aw p x ≡ (get_or cs i d).id.0) → GoesOn (get_or cs i d).id.0 m n → Rests n e
+    → AreDue m cs (drop p aw) → AreDue n (set cs i e) (drop (suc p) aw)
+due_set m n cs aw p i d e rise below at g rests due = each_set (λ c. Rests m c ⊎ Has (drop p aw) c.id.0) (λ c. Rests n c ⊎ Has (drop (suc p) aw) c.id.0) cs i d e rise below (λ c never h. by_case c never h) due (inl rests)
+  where
+    by_next : (c : Client) → (c.id.0 ≡ (get_or cs i d).id.0 → ⊥) → ((x : ℕ) → get_or aw p x ≡ c.id.0) ⊎ Has (drop (suc p) aw) c.id.0 → Rests n c ⊎ Has (drop (suc p) aw) c.id.0
+    by_next c never (inl same) = absurd (never (sym (same 0) ∙ at 0))
+    by_next c never (inr has) = inr has
+
+    by_case : (c : Client) → (c.id.0 ≡ (get_or cs i d).id.0 → ⊥) → Rests m c ⊎ Has (drop p aw) c.id.0 → Rests n c ⊎ Has (drop (suc p) aw) c.id.0
+    by_case c never (inl rests) = inl (rests_same m n c (g.others c.id.0 never) rests)
+    by_case c never (inr has) = by_next c never (has_next aw p c.id.0 has)
+
+-- no client has the number at a place
+due_absent : (m : Machine) (cs : List Client) (aw : List ℕ) (p : ℕ) → (p < length aw → AllByRecursion (λ c. (x : ℕ) → get_or aw p x ≡ c.id.0 → ⊥) cs) → AreDue m cs (drop p aw) → AreDue m cs (drop (suc p) aw)
+due_absent m cs aw p absent due = by_place (cases_lt p (length aw))
+  where
+    by_next : (c : Client) → ((x : ℕ) → get_or aw p x ≡ c.id.0 → ⊥) → ((x : ℕ) → get_or aw p x ≡ c.id.0) ⊎ Has (drop (suc p) aw) c.id.0 → Rests m c ⊎ Has (drop (suc p) aw) c.id.0
+    by_next c never (inl same) = absurd (never 0 (same 0))
+    by_next c never (inr has) = inr has
+
+    by_case : (c : Client) → ((x : ℕ) → get_or aw p x ≡ c.id.0 → ⊥) → Rests m c ⊎ Has (drop p aw) c.id.0 → Rests m c ⊎ Has (drop (suc p) aw) c.id.0
+    by_case c never (inl rests) = inl rests
+    by_case c never (inr has) = by_next c never (has_next aw p c.id.0 has)
+
+    by_past : (c : Client) → length aw ≤ p → Rests m c ⊎ Has (drop p aw) c.id.0 → Rests m c ⊎ Has (drop (suc p) aw) c.id.0
+    by_past c past (inl rests) = inl rests
+    by_past c past (inr has) = let inside : p < length aw = has_inside aw p c.id.0 has in absurd (omega (arith, past, inside))
+
+    by_place : (p < length aw) ⊎ (length aw ≤ p) → AreDue m cs (drop (suc p) aw)
+    by_place (inl inside) = each_both (λ c. (x : ℕ) → get_or aw p x ≡ c.id.0 → ⊥) (λ c. Rests m c ⊎ Has (drop p aw) c.id.0) (λ c. Rests m c ⊎ Has (drop (suc p) aw) c.id.0) cs (λ c never h. by_case c never h) (absent inside) due
+    by_place (inr past) = each_to (λ c. Rests m c ⊎ Has (drop p aw) c.id.0) (λ c. Rests m c ⊎ Has (drop (suc p) aw) c.id.0) cs (λ c h. by_past c past h) due
+
+-- no client was there to be visited
+pub visits_absent : (a : Running) (cs : List Client) (aw : List ℕ) (p : ℕ) (still : Type 0) → (Rise cs → p < length aw → AllByRecursion (λ c. (x : ℕ) → get_or aw p x ≡ c.id.0 → ⊥) cs) → Visits a a cs cs aw p still
+visits_absent a cs aw p still absent = λ m r s. (m, r, s, λ h due. due_absent m cs aw p (absent s.rise) due)
+
+-- something was done for a client, which may have left
+pub visits_made : (a b : Running) (cs ds : List Client) (aw : List ℕ) (p : ℕ) (still : Type 0) → (still → ⊥) → StandsOn a b cs aw ds aw → Visits a b cs ds aw p still
+visits_made a b cs ds aw p still never on = λ m r s.
+    let t = on m r s in
+    (t.0, t.1, t.2, λ h due. absurd (never h))
+
+-- a client was tended
+pub on_tended : (a b : Running) (cs : List Client) (aw : List ℕ) (p i : ℕ) (c e : Client) → i < length cs → p < length aw → ((d : Client) (x : ℕ) → get_or aw p x ≡ (get_or cs i d).id.0) → c ≡ get_or cs i c → Tends a b c e
+    → StandsOn a b cs aw (set cs i e) aw
+on_tended a b cs aw p i c e below inside at is tends = λ m r s.
+    let t = tends m r s.numbered (subst (λ z. Suits m z) (sym is) (each_at (λ x. Suits m x) cs i c s.suit below)) in
+    let same : e.id ≡ (get_or cs i c).id = t.3 ∙ ap (λ z. z.id) is in (
+      t.0,
+      t.1,
+      stands_set m t.0 cs aw aw i c e s below (subst (λ z. GoesOn z.id.0 m t.0) is t.2) same t.4
+          (has_at aw p e.id.0 0 inside (at c 0 ∙ ap (λ k. k.0) (sym same))) (λ k h. h),
+    )
+
+pub visits_tended : (a b : Running) (cs : List Client) (aw : List ℕ) (p i : ℕ) (c f e : Client) (still : Type 0) → i < length cs → p < length aw → ((d : Client) (x : ℕ) → get_or aw p x ≡ (get_or cs i d).id.0) → c ≡ get_or cs i c
+    → Tends a b c e → (still → Waits f e × IsServed e) → (f.blocked ≡ false → IsSent f.pending) → (f.phase ≡ phase.Closed → IsSent f.pending → ⊥) → Visits a b cs (set cs i e) aw p still
+visits_tended a b cs aw p i c f e still below inside at is tends rests sent over = λ m r s.
+    let t = tends m r s.numbered (subst (λ z. Suits m z) (sym is) (each_at (λ x. Suits m x) cs i c s.suit below)) in
+    let same : e.id ≡ (get_or cs i c).id = t.3 ∙ ap (λ z. z.id) is in
+    let g : GoesOn (get_or cs i c).id.0 m t.0 = subst (λ z. GoesOn z.id.0 m t.0) is t.2 in (
+      t.0,
+      t.1,
+      stands_set m t.0 cs aw aw i c e s below g same t.4 (has_at aw p e.id.0 0 inside (at c 0 ∙ ap (λ k. k.0) (sym same))) (λ k h. h),
+      λ h due. let w = rests h in due_set m t.0 cs aw p i c e s.rise below (at c) g (rests_visited t.0 f e t.4 w.0 w.1 sent over) due,
+    )
+
+-- ---- rounds
+
+-- the clients stand, and while nothing was done those that were visited rest
+pub record Round (a b : Running) (cs : List Client) (aw : List ℕ) (ds : List Client) (bw : List ℕ) (p : ℕ) (still : Type 0) : Type 0 where
+  pub goes : (m : Machine) → Refines a m → Stands m cs aw → (n : Machine) × Refines b n × Stands n ds bw × (still → AreDue n ds (drop p bw))
+
+pub round_first : (a b : Running) (cs : List Client) (aw : List ℕ) (still : Type 0) → PassesBy a b → Round a b cs aw cs aw 0 still
+round_first a b cs aw still by = record {
+  goes = λ m r s.
+      let t = by m r in
+      let stands = stands_by m t.0 cs aw t.2 s in
+      (t.0, t.1, stands, λ h. due_first t.0 cs aw stands);
+}
+
+-- one visit more, after which the connection may sleep
+pub round_next : (a b x : Running) (cs ds es fs : List Client) (aw bw vw xw : List ℕ) (p q : ℕ) (still now later : Type 0) → (later → still × now) → Round a b cs aw ds bw p still → Visits b x ds es bw p now → vw ≡ bw
+    → ((m : Machine) → Stands m es vw → Stands m fs xw) → fs ≡ es → drop q xw ≡ drop (suc p) vw → Round a x cs aw fs xw q later
+round_next a b x cs ds es fs aw bw vw xw p q still now later before one visit same sleeps are next = record {
+  goes = λ m r s.
+      let t = one.goes m r s in
+      let u = visit t.0 t.1 t.2 in
+      let rest : drop q xw ≡ drop (suc p) bw = next ∙ ap (λ ks. drop (suc p) ks) same in (
+        u.0,
+        u.1,
+        sleeps u.0 (subst (λ ks. Stands u.0 es ks) (sym same) u.2),
+        λ h. subst (λ ks. AreDue u.0 fs ks) (sym rest) (subst (λ xs. AreDue u.0 xs (drop (suc p) bw)) (sym are) (u.3 (before h).1 (t.3 (before h).0))),
+      );
+}
+
+pub round_last : (a b : Running) (cs ds : List Client) (aw bw : List ℕ) (p : ℕ) (still : Type 0) → length bw ≤ p → Round a b cs aw ds bw p still → Settles a b cs aw ds bw still
+round_last a b cs ds aw bw p still past one = λ m r s.
+    let t = one.goes m r s in
+    (t.0, t.1, t.2, λ h. due_last t.0 ds (drop p bw) (drop_all p bw past) (t.3 h))
+
+pub settles_on : (a b x : Running) (cs ds es : List Client) (aw bw xw : List ℕ) (still : Type 0) → StandsOn a b cs aw ds bw → Settles b x ds bw es xw still → Settles a x cs aw es xw still
+settles_on a b x cs ds es aw bw xw still one other = λ m r s.
+    let t = one m r s in
+    other t.0 t.1 t.2
+
+-- what settles stands
+pub on_settled : (a b : Running) (cs ds : List Client) (aw bw : List ℕ) (still : Type 0) → Settles a b cs aw ds bw still → StandsOn a b cs aw ds bw
+on_settled a b cs ds aw bw still one = λ m r s.
+    let t = one m r s in
+    (t.0, t.1, t.2)
+
+-- ---- results
+
+pub on_ok : {X E : Type 0} (r : Result X E) (P : Type 0) → OnOk r P → is_err r ≡ false → P
+on_ok (Ok x) P h fine = h
+on_ok (Err e) P h fine = absurd (true≢false fine)

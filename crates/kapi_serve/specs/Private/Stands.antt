@@ -1,0 +1,128 @@
+-- What the loop keeps of its clients, and how that suits the connections of the machine.
+use Rattle.std.specs.Prelude.{◌≡◌, ◌⊎◌, ◌<◌, ◌≤◌, ℕ, suc, true, false, List, [], ◌∷◌, drop, Option, None}
+use Rattle.std.specs.List.{AllByRecursion}
+use Rattle.std.specs.List.Sorted.{IsStrictlySortedBy}
+use Rattle.std.specs.Map.{keys_of}
+use Rattle.std.specs.Ordering.{nat_cmp}
+use Rattle.kapi_aggregation.specs.Members.{Has}
+use Rattle.kapi_core.specs.Machine.{Link, Machine, link_at, serve_step}
+use Rattle.kapi_core.specs.Refines.{Makes, Refines}
+use Rattle.kapi_core.specs.Running.{Running}
+use Rattle.kapi_core.specs.declared.event.Answer.TheVariants as answer
+use Rattle.kapi_core.specs.declared.event.Event.TheVariants as event
+use Rattle.kapi_serve.specs.Private.Clients.{seat_of}
+use Rattle.kapi_serve.specs.Private.Pieces.{IsCounted, owed}
+use Rattle.kapi_serve.specs.Rests.{AreAtRest, Rests}
+use Rattle.kapi_serve.specs.declared.client.Client.{Client}
+use Rattle.kapi_serve.specs.declared.client.Phase.TheVariants as phase
+use Rattle.kapi_serve.specs.declared.progress.Progress.{Progress}
+use Rattle.kapi_serve.specs.declared.progress.Progress.TheVariants as progress
+
+-- ---- one client
+
+-- the connection has no whole request that may be answered now, whatever the machine has besides
+abbrev pub HasNoRequest : ℕ → Option Link → Type 0
+HasNoRequest id l = (m : Machine) → (serve_step id l m).0 ≡ answer.Nothing
+
+-- what is kept of a client suits its connection
+pub record Suits (m : Machine) (c : Client) : Type 0 where
+  pub unfed : c.fed ≡ false → HasNoRequest c.id.0 (link_at c.id.0 m)
+  pub closed : c.phase ≡ phase.Closed → link_at c.id.0 m ≡ None
+  pub ending : c.phase ≡ phase.Ending → c.fed ≡ true
+  pub counted : IsCounted c.pending
+  pub below : c.id.0 < m.next_id
+
+-- the numbers of the open connections rise
+abbrev pub IsNumbered : Machine → Type 0
+IsNumbered m = IsStrictlySortedBy nat_cmp (keys_of m.links)
+
+-- the connection of a number went on, and no other
+pub record GoesOn (id : ℕ) (m n : Machine) : Type 0 where
+  pub numbered : IsNumbered n
+  pub others : (q : ℕ) → (q ≡ id → ⊥) → link_at q n ≡ link_at q m
+  pub next : m.next_id ≤ n.next_id
+
+-- no connection went on
+pub record Stays (m n : Machine) : Type 0 where
+  pub links : n.links ≡ m.links
+  pub next : m.next_id ≤ n.next_id
+
+-- the machine went on, and no connection
+abbrev pub PassesBy : Running → Running → Type 0
+PassesBy old new = (m : Machine) → Refines old m → (n : Machine) × Refines new n × Stays m n
+
+-- something was done for a client, of which is kept what suits its connection
+abbrev pub Tends : Running → Running → Client → Client → Type 0
+Tends old new c d = (m : Machine) → Refines old m → IsNumbered m → Suits m c → (n : Machine) × Refines new n × GoesOn c.id.0 m n × (d.id ≡ c.id) × Suits n d
+
+-- the same is kept of a client, which may have taken bytes
+pub record Keeps (c d : Client) : Type 0 where
+  pub id : d.id ≡ c.id
+  pub phase : d.phase ≡ c.phase
+  pub fed : d.fed ≡ c.fed
+  pub watching : d.watching ≡ c.watching
+  pub counted : IsCounted c.pending → IsCounted d.pending
+
+-- nothing is offered to a client or sent to it
+pub record Waits (c d : Client) : Type 0 where
+  pub seat : seat_of d ≡ seat_of c
+  pub phase : d.phase ≡ c.phase
+  pub blocked : d.blocked ≡ c.blocked
+  pub count : d.pending.count ≡ c.pending.count
+
+-- a client whose bytes have ended is closed, and another stays
+abbrev pub Finishes : Running → Running → Client → Client → Progress → Type 0
+Finishes old new c d result = ((c.phase ≡ phase.Ending) × (result ≡ progress.Made) × Makes old new (event.Close c.id) answer.Done × (d ≡ record c { phase = phase.Closed }))
+    ⊎ ((c.phase ≡ phase.Ending → ⊥) × (result ≡ progress.Still) × (new ≡ old) × (d ≡ c))
+
+-- a client's bytes were looked at, or it is closed, or too much is owed to it
+abbrev pub IsServed : Client → Type 0
+IsServed c = c.pending.count < 1048576 → (c.fed ≡ false) ⊎ (c.phase ≡ phase.Closed)
+
+-- ---- all clients
+
+-- nothing can be done at a client before its slot reports something
+pub record IsQuiet (c : Client) : Type 0 where
+  pub phase : c.phase ≡ phase.Open
+  pub fed : c.fed ≡ false
+  pub watching : c.watching ≡ false
+  pub owed : owed c.pending ≡ []
+
+-- a client that has just connected
+pub record IsNew (c : Client) : Type 0 where
+  pub quiet : IsQuiet c
+  pub counted : IsCounted c.pending
+
+-- the numbers of the connections rise
+unfoldable pub Rise : List Client → Type 0
+Rise [] = Unit {0}
+Rise (c ∷ cs) = AllByRecursion (λ d. c.id.0 < d.id.0) cs × Rise cs
+
+-- a client that sleeps is quiet
+abbrev pub IsAwakeOrQuiet : List ℕ → Client → Type 0
+IsAwakeOrQuiet awake c = Has awake c.id.0 ⊎ IsQuiet c
+
+-- what is kept of the clients suits their connections, which are in order, and those that sleep are quiet
+pub record Stands (m : Machine) (cs : List Client) (awake : List ℕ) : Type 0 where
+  pub numbered : IsNumbered m
+  pub suit : AllByRecursion (λ c. Suits m c) cs
+  pub rise : Rise cs
+  pub asleep : AllByRecursion (λ c. IsAwakeOrQuiet awake c) cs
+
+-- the machine goes on, and what is kept of the clients suits it again
+abbrev pub StandsOn : Running → Running → List Client → List ℕ → List Client → List ℕ → Type 0
+StandsOn old new cs awake ds later = (m : Machine) → Refines old m → Stands m cs awake → (n : Machine) × Refines new n × Stands n ds later
+
+-- each client rests, or is yet to be visited
+abbrev pub AreDue : Machine → List Client → List ℕ → Type 0
+AreDue m cs rest = AllByRecursion (λ c. Rests m c ⊎ Has rest c.id.0) cs
+
+-- the awake connection at a place was visited; where nothing could be done, its client rests
+abbrev pub Visits : Running → Running → List Client → List Client → List ℕ → ℕ → Type 0 → Type 0
+Visits old new cs ds awake place still = (m : Machine) → Refines old m → Stands m cs awake
+    → (n : Machine) × Refines new n × Stands n ds awake × (still → AreDue m cs (drop place awake) → AreDue n ds (drop (suc place) awake))
+
+-- the clients were gone over; where nothing could be done, all rest
+abbrev pub Settles : Running → Running → List Client → List ℕ → List Client → List ℕ → Type 0 → Type 0
+Settles old new cs awake ds later still = (m : Machine) → Refines old m → Stands m cs awake
+    → (n : Machine) × Refines new n × Stands n ds later × (still → AreAtRest n ds)
