@@ -30,11 +30,11 @@ PROGRAM = crates/kapi/out/kapi
 .PHONY: pages audit-demo compare-demo compare-random demo replay test kapi install serve serve-demo edits growths live missing rechecks hostile restart kubectl-demo statuses bench load
 
 demo:
-	@echo 'Compiles the program without proofs, about a minute, and plays scripts/demo.txt: each event (>) with its answer below.'
+	@echo 'Compiles the program without proofs, in one to three minutes, and plays scripts/demo.txt: each event (>) with its answer below.'
 	@answers=$$(mktemp) && (cd crates/kapi && sh ../../tools/try.sh -- script < ../../scripts/demo.txt) > $$answers && python3 tools/transcript.py scripts/demo.txt $$answers; status=$$?; rm -f $$answers; exit $$status
 
 replay:
-	@echo 'Compiles the program without proofs, about a minute, and plays scripts/replay/support.txt.'
+	@echo 'Compiles the program without proofs, in one to three minutes, and plays scripts/replay/support.txt.'
 	@cd crates/kapi && sh ../../tools/try.sh --data scripts/replay/policy.jsonl=../../scripts/replay/policy.jsonl --data support.txt=../../scripts/replay/support.txt -- replay support.txt
 
 test:
@@ -85,11 +85,11 @@ statuses: kapi
 	@sh tools/statuses.sh $(PROGRAM) && python3 tools/kinds.py $(PROGRAM)
 
 audit-demo:
-	@echo 'Compiles the program without proofs, about a minute, and answers scripts/audit/questions.jsonl, a line each.'
+	@echo 'Compiles the program without proofs, in one to three minutes, and answers scripts/audit/questions.jsonl, a line each.'
 	@cd crates/kapi && sh ../../tools/try.sh --data policy.jsonl=../../scripts/audit/policy.jsonl --data questions.jsonl=../../scripts/audit/questions.jsonl -- audit policy.jsonl questions.jsonl
 
 compare-demo:
-	@echo 'Compiles the program without proofs, about a minute, for each of three commands, and shows what it prints and its status.'
+	@echo 'Compiles the program without proofs, in one to three minutes, for each of three commands, and shows what it prints and its status.'
 	@cd crates/kapi && for words in 'compare before.jsonl after.jsonl' 'who after.jsonl get secrets --namespace shop' 'risks after.jsonl'; do echo "kapi $$words"; sh ../../tools/try.sh --data before.jsonl=../../scripts/compare/before.jsonl --data after.jsonl=../../scripts/compare/after.jsonl -- $$words; echo "status $$?"; done
 
 compare-random: kapi

@@ -11,7 +11,7 @@ done
 log=$(mktemp)
 trap 'rm -f "$log"; kill "$server" 2> /dev/null' EXIT
 trap 'exit 130' INT TERM
-echo 'Compiles the server without proofs: one to two minutes.'
+echo 'Compiles the server without proofs: one to three minutes.'
 rt try --seconds 600 --data objects.jsonl=../../scripts/serve/objects.jsonl -- serve --load objects.jsonl --first-revision clock \
     8001=root,system:masters 8002=ann,system:authenticated > "$log" 2>&1 &
 server=$!
