@@ -10,6 +10,7 @@ import http.client
 import itertools
 import json
 import pathlib
+import random
 import sys
 import tempfile
 import time
@@ -50,6 +51,28 @@ def names():
 
 def paths():
     return [{"verbs": ["get"], "nonResourceURLs": [f"/{it}"]} for it in entries(RULES)]
+
+
+def long_paths():
+    return {"verbs": ["get"], "nonResourceURLs": [f"/{it}" for it in entries(RULES)]}
+
+
+def split_whole():
+    return rule(entries(15, "v"), [""], ["pods"], entries(RULES // 2))
+
+
+def split():
+    """Rules of one name, two for each: some of 15 verbs, and the others."""
+    dice, verbs = random.Random(7), entries(15, "v")
+    for name in entries(RULES // 2):
+        some = set(dice.sample(verbs, 7))
+        yield rule([it for it in verbs if it in some], [""], ["pods"], [name])
+        yield rule([it for it in verbs if it not in some], [""], ["pods"], [name])
+
+
+def repeats():
+    """Rules of one name, and then ten rules of many of these."""
+    return names()[:7_000] + [rule(["get"], [""], ["pods"], entries(5_000)) for _ in range(10)]
 
 
 def elevens():
@@ -151,6 +174,10 @@ CASES = (
     (f"{RULES:,} rules against as many, by path", 0.5, lambda it: check(it, paths(), paths(), True)),
     ("14,641 rules against as many, eleven of each part", 0.5, lambda it: check(it, elevens(), elevens(), True)),
     (f"{RULES:,} names against as many rules", 0.5, lambda it: check(it, names(), [rule(["get"], [""], ["pods"], entries(RULES))], True)),
+    (f"{RULES:,} resources against as many rules", 0.5, lambda it: check(it, resources(), [rule(["get"], [""], entries(RULES))], True)),
+    (f"{RULES:,} paths against as many rules", 0.5, lambda it: check(it, paths(), [long_paths()], True)),
+    (f"{RULES // 2:,} names of 15 verbs against two rules for each", 0.5, lambda it: check(it, list(split()), [split_whole()], True)),
+    ("ten rules of 5,000 names behind 7,000 of one, none held", 0.5, lambda it: check(it, [], repeats(), False)),
     (f"{RULES:,} rules against one with as many names", 0.5, lambda it: check(it, [rule(["get"], [""], ["pods"], entries(RULES))], names(), True)),
     (f"a turn of {RULES:,} rules", 0.2, turn),
     (f"{WRITES:,} roles", None, lambda it: writes(it, f"{RBAC}/namespaces/default/roles")),

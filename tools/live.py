@@ -19,10 +19,22 @@ ROLE = {"metadata": {"name": "r"}, "rules": [{"verbs": ["get"], "apiGroups": [""
 BINDING = {"metadata": {"name": "b"}, "roleRef": {"kind": "Role", "name": "r"}, "subjects": [{"kind": "User", "name": "ann"}]}
 
 
+def reply_of(client):
+    """A whole reply: it may come in several pieces."""
+    reply = b""
+    while True:
+        head, found, body = reply.partition(b"\r\n\r\n")
+        if found and len(body) >= int(head.split(b"Content-Length: ")[1].split(b"\r\n")[0]):
+            return reply
+        piece = client.recv(65536)
+        assert piece, reply
+        reply += piece
+
+
 def request(client, method, path, item=None):
     body = json.dumps(item) if item else ""
     client.sendall(f"{method} {POLICY}{path} HTTP/1.1\r\nHost: a\r\nContent-Length: {len(body)}\r\n\r\n{body}".encode())
-    assert client.recv(65536)[:10] == b"HTTP/1.1 2", (method, path)
+    assert reply_of(client)[:10] == b"HTTP/1.1 2", (method, path)
 
 
 def change():

@@ -39,9 +39,43 @@ For more information, try 'kapi $5 --help'."
 
 error=$(printf 'open a\nserve 0\n' | "$program" script 2>&1 >/dev/null); status=$?
 sees 'a script' 0 ''
-error=$(printf 'open a\n\nlist\n' | "$program" script 2>&1 >/dev/null); status=$?
-sees 'a bad line' 1 "bad line 3
-  no event: open USER[,GROUP..], feed N TEXT, serve N, pump N, turn or close N, one space between words; try 'kapi script --help'"
+# unplayed NAME LINE REASON: a script of this line, behind others, is not played to its end for this reason
+unplayed() {
+    error=$(printf "open a\n\n# list\n$2" | "$program" script 2>&1 >/dev/null); status=$?
+    sees "$1" 1 "bad line 4
+  $3"
+}
+
+events="no event: open USER[,GROUP..], feed N TEXT, serve N, pump N, turn or close N, one space between words; try 'kapi script --help'"
+unplayed 'a bad line' 'list\n' "$events"
+unplayed 'a bad line without its end' 'list' "$events"
+unplayed 'a bad line before others' ' turn\nlist\nopen a\n' "$events"
+unplayed 'a word more than turn' 'turn 0\n' "$events"
+unplayed 'an event with CRLF' 'turn\r\n' 'the line ends with CR LF; a line of a script ends with LF alone'
+unplayed 'a number with CRLF' 'serve 0\r\n' 'the line ends with CR LF; a line of a script ends with LF alone'
+unplayed 'an open of nobody' 'open\n' 'too few words: open USER or open USER,GROUP,.. is wanted'
+unplayed 'an empty name' 'open a,,b\n' 'a name is empty: USER or USER,GROUP,.. is wanted'
+unplayed 'a name that is no UTF-8' 'open \377\n' 'a name is no UTF-8'
+unplayed 'a feed of nothing' 'feed 0\n' 'too few words: feed N TEXT is wanted'
+unplayed 'a feed without words' 'feed\n' 'too few words: feed N TEXT is wanted'
+unplayed 'a feed to no number' 'feed a GET\n' "the connection is no number of 1 to 18 digits; 'open' answers the number"
+unplayed 'a feed behind two spaces' 'feed  0 GET\n' "the connection is no number of 1 to 18 digits; 'open' answers the number"
+unplayed 'an escape that is none' 'feed 0 GET\\q\n' \
+    'a backslash in the text begins no escape; those are \\, \n, \r, \t and \x with two hexadecimal digits'
+unplayed 'half an escape' 'feed 0 GET\\x1\n' \
+    'a backslash in the text begins no escape; those are \\, \n, \r, \t and \x with two hexadecimal digits'
+for word in serve pump close; do
+    unplayed "a $word of nothing" "$word\n" 'too few words: the number of a connection is wanted, as in serve 0'
+    unplayed "a $word of no number" "$word x\n" "the connection is no number of 1 to 18 digits; 'open' answers the number"
+    unplayed "a $word of 19 digits" "$word 1234567890123456789\n" "the connection is no number of 1 to 18 digits; 'open' answers the number"
+    unplayed "a $word of two numbers" "$word 0 0\n" 'too many words or spaces: one number stands behind one space'
+done
+error=$({ yes '# a comment' | head -n 20000; echo 'open a'; yes '# another' | head -n 20000; printf 'close x'; } | "$program" script 2>&1 >/dev/null); status=$?
+sees 'a bad line far behind' 1 "bad line 40002
+  the connection is no number of 1 to 18 digits; 'open' answers the number"
+error=$({ printf 'open a\nfeed 0 '; head -c 200000 /dev/zero | tr '\0' 'a'; printf '\\q\nlist\n'; } | "$program" script 2>&1 >/dev/null); status=$?
+sees 'a bad line that is long' 1 'bad line 2
+  a backslash in the text begins no escape; those are \\, \n, \r, \t and \x with two hexadecimal digits'
 runs
 misused 'no command' "'kapi' requires a subcommand but one was not provided
   [subcommands: script, audit, serve, replay, compare, who, risks, help]" 'kapi <COMMAND>'
@@ -227,6 +261,69 @@ differs 'a header field of no request' '= 200\nHost: a' 4
 differs 'a file that is not there' 'load none' 3
 printf '{}\n' > "$room/objects"
 differs 'a file of no objects' "load $room/objects" 3
+
+# tells NAME LINES WHAT REASON: a transcript of these lines tells what is wrong with the last of them and why
+tells() {
+    printf "$2\n" > "$room/transcript"
+    replays "$room/transcript"
+    sees "$1" 1 ''
+    if [ "$(cat "$room/played")" != "$room/transcript:$(wc -l < "$room/transcript"): $3
+  $4
+$room/transcript: 0 answers, 1 not as wanted" ]; then
+        echo "$1: $(cat "$room/played")"
+        wrong=1
+    fi
+}
+
+# formless NAME LINES REASON: the last of these lines of a transcript has no known form for this reason
+formless() {
+    tells "$1" "$2" 'no known form' "$3"
+}
+
+begins='no line begins so; there are load, recheck, begin, as, GET, POST, PUT, PATCH, DELETE, pump, =, ==, ~, >, and the events open, feed, serve, pump, turn and close'
+asked="as root\nGET /healthz"
+formless 'an unknown word' "$asked\nlist" "$begins"
+formless 'a method that is not sent' "$asked\nHEAD /healthz" "$begins"
+formless 'a word more than begin' 'begin 2' "$begins"
+formless 'an empty name of an identity' 'as a,' 'a name is empty: USER or USER,GROUP,.. is wanted'
+formless 'an identity that is no UTF-8' 'as \377' 'a name is no UTF-8'
+formless 'no identity' 'as' 'an identity is wanted: as USER or as USER,GROUP,..'
+formless 'no file' 'load' 'a file is wanted: load FILE'
+for code in = =200 '= 20' '= 2000' '= 20x' '= 200\t'; do
+    formless "a code that is none ($code)" "$asked\n$code" 'a code of three digits is wanted: = CODE or = CODE TEXT'
+done
+for sign in == '~' '>'; do
+    formless "no text behind $sign" "$asked\n$sign" 'a space and a text are wanted behind the sign: == BODY, ~ TEXT or > LINE'
+done
+formless 'no target' "$asked\nPOST" 'a target is wanted: METHOD TARGET or METHOD TARGET BODY'
+formless 'a request of nobody' "$asked\nbegin\nGET /healthz" "nobody asks: 'as USER' or 'as USER,GROUP,..' comes before the first request of a case"
+formless 'a pump of nobody' 'pump' "nobody asks: 'as USER' or 'as USER,GROUP,..' comes before the first pump of a case"
+formless 'a header field without a request' 'as a\nHost: a' 'it is read as a header field, and there is no request directly above it'
+formless 'a recheck behind an event' "$asked\nrecheck" 'recheck comes before the first event of a case'
+formless 'a line with CRLF' 'begin\r' 'the line ends with CR LF; a line of a transcript ends with LF alone'
+formless 'an event of too few words' "$asked\nserve" 'too few words: the number of a connection is wanted, as in serve 0'
+formless 'an event of no number' "$asked\nclose a" "the connection is no number of 1 to 18 digits; 'open' answers the number"
+formless 'an event with a bad escape' "$asked\nfeed 0 \\\\q" \
+    'a backslash in the text begins no escape; those are \\, \n, \r, \t and \x with two hexadecimal digits'
+tells 'a file whose line has no kind' "load $room/objects" 'load line 1' 'apiVersion and kind: required, each a text'
+printf '%s\n' '{"apiVersion":"v1","kind":"Namespace","metadata":{"name":"shop"}}' '# a role' '' \
+    '{"apiVersion":"rbac.authorization.k8s.io/v1","kind":"Role","metadata":{"name":"r","namespace":"shop"},"rules":[{"apiGroups":[""],"resources":["pods"]}]}' \
+    '{"kind":' > "$room/objects"
+tells 'a file whose role has a fault' "# a case\nload $room/objects" 'load line 4' 'rules[0].verbs: required'
+printf '{"apiVersion":"v1","kind":"A\\nB\\u001b[1m"}\n' > "$room/objects"
+tells 'a file whose kind is no word' "load $room/objects" 'load line 1' \
+    "kind 'A?B?[1m' of apiVersion 'v1' is not served; docs/PROFILE.md names those that are"
+printf 'as a\nbegin\n= 200\n' > "$room/transcript"
+replays "$room/transcript"
+sees 'an answer that is wanted of nothing' 1 ''
+if [ "$(cat "$room/played")" != "$room/transcript:3
+  asked  nothing: no request or event comes before it in its case
+  wanted = 200
+  got    
+$room/transcript: 1 answers, 1 not as wanted" ]; then
+    echo "an answer that is wanted of nothing: $(cat "$room/played")"
+    wrong=1
+fi
 printf 'as a\nGET /healthz\n= 200\n' > "$room/first"
 printf 'as a\nGET /healthz\n= 403\n' > "$room/second"
 replays "$room/second" "$room/first"
@@ -386,6 +483,10 @@ sees 'objects that are not there' 1 "$room/none: there is no such file"
 serves --load "$room/bad" 1=a
 sees 'a bad line of objects' 1 "load line 3
 $reason"
+printf '{"apiVersion":"v1","kind":"Namespace","metadata":{"name":"%s"}}\n' shop web > "$room/two"
+serves --load "$room/two" --first-revision 281474976710649 1=a
+sees 'an object more than revisions' 1 'load line 2
+  no revision is left'
 serves 60001=a 60001=b
 sees 'a port that is not to be had' 3 'cannot listen 60001: the port is in use'
 serves --answer 60001 60001=a

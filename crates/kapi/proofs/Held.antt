@@ -19,15 +19,13 @@ use Rattle.kapi_questions.specs.Lines.{LineError, answered_lines, no_question}
 use Rattle.kapi_questions.specs.declared.answer.Form.{Form}
 use Rattle.kapi_questions.specs.declared.lines.LineFault.{LineFault}
 use Rattle.kapi_questions.specs.declared.lines.LineFault.TheVariants as line_fault
-use Rattle.kapi.specs.Policies.{Comparison, FilesError, Holds, Reply, as_first, as_question, as_second, comparison, fault_told, first_fault, is_settled, lines_on, question_fault, second_fault}
+use Rattle.kapi.specs.Policies.{Comparison, FilesError, Holds, IsLoaded, IsPolicyOf, Reply, as_first, as_question, as_second, comparison, fault_told, first_fault, is_settled, lines_on, question_fault, second_fault}
 use Rattle.kapi.specs.declared.policies.FilesFault.{FilesFault}
+use Rattle.kapi.specs.declared.policies.LoadedPolicy.{LoadedPolicy}
 
 -- a core that refines the machine of a file refines that of the first file
 pub core_first : (core : Running) (given : Result Machine FileFault) → Holds {E = StartError} loading.fault_told (Ok core) given → Holds {E = FilesFault} fault_told (Ok core) (as_first given)
 core_first core given (m, is, stands) = (m, ap as_first is, stands)
-
-pub core_second : (core : Running) (given : Result Machine FileFault) → Holds {E = StartError} loading.fault_told (Ok core) given → Holds {E = FilesFault} fault_told (Ok core) (as_second given)
-core_second core given (m, is, stands) = (m, ap as_second is, stands)
 
 pub fault_first : (e : StartError) (given : Result Machine FileFault) → Fails (loading.fault_told e) given → Fails (fault_told (first_fault e)) (as_first given)
 fault_first (start.Line n) given h = ap as_first h
@@ -51,16 +49,20 @@ pub onward : {X Y A : Type 0} (view : X → Y) (result : Result X FilesFault) (g
     → given ≡ Ok a → Gives fault_told view result (k a) → Gives fault_told view result (given >>= k)
 onward view result given k a is h = subst (λ r. Gives fault_told view result (r >>= k)) (sym is) h
 
+-- the policy of a file, field by field
+pub loaded_policy : (policy : PolicyObjects) (settled : Bool) (given : Result Machine FileFault) (m : Machine) → given ≡ Ok m → policy ≡ policy_of m → settled ≡ is_settled m
+    → IsLoaded {E = StartError} loading.fault_told (Ok (record { policy = policy; settled = settled })) given
+loaded_policy policy settled given m is p e = (m, is, record { policy = p; settled = e })
+
 -- the policies of a comparison are those of the machines
-pub compared : (f : Form) (who : Identities) (core_b core_a : Running) (b a : Machine) (text : List ℕ) (gains settled_b settled_a : Bool) → Refines core_b b → Refines core_a a
-    → text ≡ gains_text f (gained who core_b.policy core_a.policy) → gains ≡ not (length (gained who core_b.policy core_a.policy) == 0)
-    → settled_b ≡ is_settled b → settled_a ≡ is_settled a
-    → record { text = text; gains = gains; before_settled = settled_b; after_settled = settled_a } ≡ comparison f who b a
-compared f who core_b core_a b a text gains settled_b settled_a hb ha et eg eb ea =
-    let both : gained who core_b.policy core_a.policy ≡ gained who (policy_of b) (policy_of a) = ap₂ (gained who) hb.policy_is ha.policy_is in
+pub compared : (f : Form) (who : Identities) (before after : LoadedPolicy) (b a : Machine) (text : List ℕ) (gains : Bool) → IsPolicyOf before b → IsPolicyOf after a
+    → text ≡ gains_text f (gained who before.policy after.policy) → gains ≡ not (length (gained who before.policy after.policy) == 0)
+    → record { text = text; gains = gains; before_settled = before.settled; after_settled = after.settled } ≡ comparison f who b a
+compared f who before after b a text gains hb ha et eg =
+    let both : gained who before.policy after.policy ≡ gained who (policy_of b) (policy_of a) = ap₂ (gained who) hb.policy ha.policy in
     let te : text ≡ gains_text f (gained who (policy_of b) (policy_of a)) = et ∙ ap (gains_text f) both in
     let ge : gains ≡ not (length (gained who (policy_of b) (policy_of a)) == 0) = eg ∙ ap (λ l. not (length l == 0)) both in
-    λ i. record { text = te i; gains = ge i; before_settled = eb i; after_settled = ea i }
+    λ i. record { text = te i; gains = ge i; before_settled = hb.settled i; after_settled = ha.settled i }
 
 -- an answer of a text, by a policy that is settled or not
 abbrev pub reply : List ℕ → Bool → Reply

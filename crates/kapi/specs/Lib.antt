@@ -6,3 +6,4 @@ pub mod Doors
 pub mod Asked
 pub mod Lines
 pub mod Policies
+pub mod Endings

@@ -20,6 +20,7 @@ use Rattle.kapi_questions.specs.declared.question.Wanted.{Wanted}
 use Rattle.kapi.specs.declared.policies.Answered.{Answered}
 use Rattle.kapi.specs.declared.policies.Compared.{Compared}
 use Rattle.kapi.specs.declared.policies.FilesFault.{FilesFault}
+use Rattle.kapi.specs.declared.policies.LoadedPolicy.{LoadedPolicy}
 use Rattle.kapi.specs.declared.policies.FilesFault.TheVariants as fault
 use Rattle.kapi_loading.specs.declared.fault.StartError.{StartError}
 use Rattle.kapi_loading.specs.declared.fault.StartError.TheVariants as start
@@ -56,10 +57,29 @@ question_fault lined.Memory = fault.Memory
 
 -- ---- machines
 
+-- an answer says that nothing was done
+abbrev pub is_nothing : Answer → Bool
+is_nothing told.Nothing = true
+is_nothing _ = false
+
+-- no turn of a machine is due
+abbrev pub is_settled : Machine → Bool
+is_settled m = is_nothing (step m event.Turn).0
+
 -- a core refines the machine that is given, or that fault is why there is none
 abbrev pub Holds : {E F : Type 0} → (E → Option F) → Result Running E → Result Machine F → Type 0
 Holds told (Ok core) given = (m : Machine) × (given ≡ Ok m) × Refines core m
 Holds told (Err e) given = Fails (told e) given
+
+-- the policy is that of the machine, and settled where its roles are
+pub record IsPolicyOf (l : LoadedPolicy) (m : Machine) : Type 0 where
+  pub policy : l.policy ≡ policy_of m
+  pub settled : l.settled ≡ is_settled m
+
+-- the policy of the machine that is given, or that fault is why there is none
+abbrev pub IsLoaded : {E F : Type 0} → (E → Option F) → Result LoadedPolicy E → Result Machine F → Type 0
+IsLoaded told (Ok l) given = (m : Machine) × (given ≡ Ok m) × IsPolicyOf l m
+IsLoaded told (Err e) given = Fails (told e) given
 
 -- the machine of the first file
 abbrev pub as_first : Result Machine FileFault → Result Machine FilesError
@@ -70,15 +90,6 @@ as_first (Err (bad_line n)) = Err (first_line n)
 abbrev pub as_second : Result Machine FileFault → Result Machine FilesError
 as_second (Ok m) = Ok m
 as_second (Err (bad_line n)) = Err (second_line n)
-
--- an answer says that nothing was done
-abbrev pub is_nothing : Answer → Bool
-is_nothing told.Nothing = true
-is_nothing _ = false
-
--- no turn of a machine is due
-abbrev pub is_settled : Machine → Bool
-is_settled m = is_nothing (step m event.Turn).0
 
 -- ---- answers
 
@@ -98,13 +109,13 @@ comparison f who b a = record {
   after_settled = is_settled a;
 }
 
--- the comparison of a machine's policy with the policy that a file is
-abbrev pub compared_with : Form → Identities → Machine → List ℕ → Result Comparison FilesError
-compared_with f who b after = as_second (machine_of after) >>= λ a. Ok (comparison f who b a)
+-- the comparison of a machine's policy with that of a second file
+abbrev pub compared_to : Form → Identities → Machine → Result Machine FileFault → Result Comparison FilesError
+compared_to f who b second = as_second second >>= λ a. Ok (comparison f who b a)
 
 -- the comparison of the policies that two files are
 unfoldable pub compare_files : Form → Identities → List ℕ → List ℕ → Result Comparison FilesError
-compare_files f who before after = as_first (machine_of before) >>= λ b. compared_with f who b after
+compare_files f who before after = as_first (machine_of before) >>= λ b. compared_to f who b (machine_of after)
 
 -- a comparison, as data
 abbrev pub compared_told : Compared → Comparison

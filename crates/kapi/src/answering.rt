@@ -4,6 +4,7 @@ use kapi_desk::Seat;
 use std::alloc::Global;
 use std::io::{self, BufWriter, ErrorKind};
 use std::net::{TcpListener, TcpStream};
+use std::sync::Wait;
 use std::thread;
 use std::thread::Threads;
 use std::time::{Clock, Duration};
@@ -13,7 +14,7 @@ const PAUSE: u64 = 100;
 
 /// Starts a thread for each seat. A thread takes the clients of the listener one after the other and answers their
 /// questions; a fault of one client ends that client alone. The threads end with the program.
-pub fn start_readers<R: Threads + Clock + Clone + Drop + Send + 'static>(
+pub fn start_readers<R: Threads + Wait + Clock + Clone + Drop + Send + 'static>(
     rt: &R,
     alloc: Global,
     listener: &TcpListener,
@@ -21,25 +22,27 @@ pub fn start_readers<R: Threads + Clock + Clone + Drop + Send + 'static>(
 ) -> io::Result<()> {
     for seat in seats {
         let listener = listener.try_clone()?;
-        let clock = rt.clone()?;
-        if thread::spawn(rt, move || answer_clients(&clock, alloc, listener, seat)).is_err() {
+        let own = rt.clone()?;
+        if thread::spawn(rt, move || answer_clients(&own, alloc, &listener, seat)).is_err() {
             return Err(io::Error::from(ErrorKind::OutOfMemory));
         }
     }
     Ok(())
 }
 
-/// Answers the clients of a listener.
-fn answer_clients<C: Clock>(clock: &C, alloc: Global, listener: TcpListener, seat: Seat) {
+/// Answers the clients of a listener, one after the other, for as long as the program runs: what becomes of a client
+/// ends no reader, and neither does one that could not be accepted.
+fn answer_clients<R: Wait + Clock>(rt: &R, alloc: Global, listener: &TcpListener, seat: Seat) -> ! {
     let mut seat = seat;
-    for stream in listener.incoming() {
-        match stream {
-            Ok(stream) => {
+    for _ in rt.forever() {
+        match listener.accept() {
+            Ok((stream, _address)) => {
                 let _ended = answer_client(alloc, &mut seat, &stream);
             }
-            Err(_error) => thread::sleep(clock, Duration::from_millis(PAUSE)),
+            Err(_error) => thread::sleep(rt, Duration::from_millis(PAUSE)),
         }
     }
+    unreachable!()
 }
 
 /// Answers a client to the end of its lines, or to a line that is too long.

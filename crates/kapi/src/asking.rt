@@ -1,4 +1,5 @@
 //! Questions about the policies of files.
+use crate::ending::Ending;
 use crate::policies::{Answered, FilesFault, compare_files, risks_file, who_file, who_wanted};
 use crate::program::{CompareFiles, RisksFile, WhoQuestion, WhoWanted, WhoWords};
 use crate::telling::{tell_reason, tell_unread};
@@ -7,8 +8,8 @@ use kapi_questions::{Form, question_of};
 use kapi_reasons::object_reason;
 use std::fs::{self, Files};
 use std::io::{self, BufWriter, Write};
-use std::process::ExitCode;
 use std::sync::Wait;
+use std::thread::Threads;
 
 /// A file that was read, and its name.
 #[derive(Clone, Copy)]
@@ -19,15 +20,15 @@ struct Source<'a> {
 
 /// Prints what a policy allows that another did not: status 0 where nobody gains, 3 where somebody does, or 1 after a
 /// line on standard error.
-pub fn run_compare<R: Files + Print + Eprint + AllocGlobal + Wait>(
+pub fn run_compare<R: Files + Print + Eprint + AllocGlobal + Wait + Threads + Sync>(
     rt: &R,
     files: &CompareFiles,
-) -> io::Result<ExitCode> {
+) -> io::Result<Ending> {
     let Some(before) = read(rt, files.before.as_str())? else {
-        return Ok(ExitCode::from(1));
+        return Ok(Ending::Stopped);
     };
     let Some(after) = read(rt, files.after.as_str())? else {
-        return Ok(ExitCode::from(1));
+        return Ok(Ending::Stopped);
     };
     match compare_files(
         rt.alloc(),
@@ -41,7 +42,7 @@ pub fn run_compare<R: Files + Print + Eprint + AllocGlobal + Wait>(
             print(rt, compared.text.as_slice())?;
             tell_unsettled(rt, files.before.as_str(), compared.before_settled)?;
             tell_unsettled(rt, files.after.as_str(), compared.after_settled)?;
-            Ok(ExitCode::from(if compared.gains { 3 } else { 0 }))
+            Ok(Ending::of_comparison(compared.gains))
         }
         Err(fault) => refuse(
             rt,
@@ -56,10 +57,10 @@ pub fn run_compare<R: Files + Print + Eprint + AllocGlobal + Wait>(
 pub fn run_who<R: Files + Print + Eprint + AllocGlobal + Wait>(
     rt: &R,
     words: &WhoWords,
-) -> io::Result<ExitCode> {
+) -> io::Result<Ending> {
     let policy = words.policy.as_str();
     let Some(objects) = read(rt, policy)? else {
-        return Ok(ExitCode::from(1));
+        return Ok(Ending::Stopped);
     };
     let policy = file_of(policy, objects.as_slice());
     match &words.question {
@@ -69,7 +70,7 @@ pub fn run_who<R: Files + Print + Eprint + AllocGlobal + Wait>(
         }
         WhoQuestion::File(file) => {
             let Some(lines) = read(rt, file.as_str())? else {
-                return Ok(ExitCode::from(1));
+                return Ok(Ending::Stopped);
             };
             let form = form(words.json);
             let questions = file_of(file.as_str(), lines.as_slice());
@@ -100,12 +101,12 @@ fn tell_who<R: Print + Eprint + AllocGlobal>(
     policy: &Source<'_>,
     questions: &Source<'_>,
     asked: Result<Answered, FilesFault>,
-) -> io::Result<ExitCode> {
+) -> io::Result<Ending> {
     match asked {
         Ok(answered) => {
             print(rt, answered.text.as_slice())?;
             tell_unsettled(rt, policy.name, answered.settled)?;
-            Ok(ExitCode::SUCCESS)
+            Ok(Ending::Done)
         }
         Err(fault) => refuse(rt, fault, policy, questions),
     }
@@ -115,15 +116,15 @@ fn tell_who<R: Print + Eprint + AllocGlobal>(
 pub fn run_risks<R: Files + Print + Eprint + AllocGlobal + Wait>(
     rt: &R,
     file: &RisksFile,
-) -> io::Result<ExitCode> {
+) -> io::Result<Ending> {
     let policy = file.policy.as_str();
     let Some(objects) = read(rt, policy)? else {
-        return Ok(ExitCode::from(1));
+        return Ok(Ending::Stopped);
     };
     match risks_file(rt.alloc(), rt, form(file.json), objects.as_slice()) {
         Ok(text) => {
             print(rt, text.as_slice())?;
-            Ok(ExitCode::SUCCESS)
+            Ok(Ending::Done)
         }
         Err(fault) => refuse_policy(rt, fault, policy, objects.as_slice()),
     }
@@ -175,7 +176,7 @@ fn refuse<R: Eprint + AllocGlobal>(
     fault: FilesFault,
     first: &Source<'_>,
     second: &Source<'_>,
-) -> io::Result<ExitCode> {
+) -> io::Result<Ending> {
     match fault {
         FilesFault::First(line) => tell_policy_line(rt, first.name, first.bytes, line)?,
         FilesFault::Second(line) => tell_policy_line(rt, second.name, second.bytes, line)?,
@@ -188,7 +189,7 @@ fn refuse<R: Eprint + AllocGlobal>(
         }
         FilesFault::Memory => eprintln!(rt; "out of memory")?,
     }
-    Ok(ExitCode::from(1))
+    Ok(Ending::Stopped)
 }
 
 /// Reports a line of the only policy at fault and the reason, or that the program is out of memory: status 1.
@@ -197,12 +198,12 @@ fn refuse_policy<R: Eprint + AllocGlobal>(
     fault: FilesFault,
     name: &str,
     objects: &[u8],
-) -> io::Result<ExitCode> {
+) -> io::Result<Ending> {
     match fault {
         FilesFault::First(line) => tell_policy_line(rt, name, objects, line)?,
         _ => eprintln!(rt; "out of memory")?,
     }
-    Ok(ExitCode::from(1))
+    Ok(Ending::Stopped)
 }
 
 fn tell_policy_line<R: Eprint + AllocGlobal>(
@@ -212,5 +213,5 @@ fn tell_policy_line<R: Eprint + AllocGlobal>(
     line: usize,
 ) -> io::Result<()> {
     eprintln!(rt; "{name}: policy line {line}")?;
-    tell_reason(rt, object_reason(rt.alloc(), objects, line))
+    tell_reason(rt, object_reason(rt.alloc(), 0, objects))
 }

@@ -17,6 +17,18 @@ pub enum BeginError {
     Clock,
 }
 
+/// The revision after which a server's begin: the one that was specified, else the clock's.
+pub fn first_of(first: Option<u64>, seconds: u64) -> Option<u64>
+    requires first { IfSome first (λ n. n ≤ 281474976710650) }
+    ensures told { result ≡ first_given first seconds }
+    ensures small { IfSome result (λ n. n ≤ 281474976710650) }
+{
+    match first {
+        Some(first) => Some(first),
+        None => clock_revision(seconds),
+    }
+}
+
 /// The machine that a file of objects makes, whose revisions begin after `first`, or after the one that the clock gives
 /// so many seconds after the start of 1970.
 pub fn begin<R: Wait>(
@@ -33,9 +45,8 @@ pub fn begin<R: Wait>(
     ensures unopened { IfOk result (λ s. s.core.next_id ≡ 0) }
     ensures waiting { IfOk result (λ s. s.desk.waiting ≡ []) }
 {
-    let first = match first {
-        Some(first) => first,
-        None => clock_revision(seconds).ok_or(BeginError::Clock)?,
+    let Some(first) = first_of(first, seconds) else {
+        return Err(BeginError::Clock);
     };
     match start(alloc, rt, objects, first, seats) {
         Ok(started) => Ok(started),

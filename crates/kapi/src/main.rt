@@ -11,6 +11,8 @@ mod asking;
 mod beginning;
 mod bounded_lines;
 mod command_line;
+mod ending;
+mod kept_lines;
 mod numbers;
 mod policies;
 mod program;
@@ -23,10 +25,12 @@ mod wrong_words;
 use asking::{run_compare, run_risks, run_who};
 use clap::Error;
 use command_line::command;
+use ending::Ending;
 use kapi_audit::{AuditFault, NoGate, audit_run};
 use kapi_index::IndexedPolicy;
-use kapi_reasons::{object_reason, question_reason};
+use kapi_reasons::{object_reason, question_reason, script_reason};
 use kapi_script::{ScriptFault, script_run};
+use kept_lines::KeptLines;
 use program::{AuditFiles, Command, CommandFault};
 use replaying::run_replay;
 use serving::run_serve;
@@ -51,16 +55,17 @@ fn main(rt: HostRuntime) -> io::Result<ExitCode> {
         Ok(Command::Show(text)) => show(&rt, &text),
         Err(fault) => refuse(&rt, fault),
     };
-    match ended {
-        Ok(status) => Ok(status),
-        Err(error) => tell_stopped(&rt, &error),
-    }
+    let ending = match ended {
+        Ok(ending) => ending,
+        Err(error) => tell_stopped(&rt, &error)?,
+    };
+    Ok(ending.status())
 }
 
 /// Prints the text of help or of the version.
-fn show<R: Print + Eprint>(rt: &R, text: &Error) -> io::Result<ExitCode> {
+fn show<R: Print + Eprint>(rt: &R, text: &Error) -> io::Result<Ending> {
     text.print(rt)?;
-    Ok(ExitCode::SUCCESS)
+    Ok(Ending::Done)
 }
 
 /// The command that the words of the command line name.
@@ -78,8 +83,8 @@ fn complained<R: Env + AllocGlobal>(rt: &R) -> Result<String, CommandFault> {
 }
 
 /// Plays the script on standard input: status 0, or 1 after the fault and its reason on standard error.
-fn run_script<R: Input + Print + Eprint + AllocGlobal>(rt: &R) -> io::Result<ExitCode> {
-    let mut reader = rt.reader();
+fn run_script<R: Input + Print + Eprint + AllocGlobal>(rt: &R) -> io::Result<Ending> {
+    let mut reader = KeptLines::new(rt.alloc(), rt.reader());
     let mut writer = BufWriter::new(rt.alloc(), io::writer(rt))?;
     match script_run(
         rt.alloc(),
@@ -87,15 +92,13 @@ fn run_script<R: Input + Print + Eprint + AllocGlobal>(rt: &R) -> io::Result<Exi
         &mut reader,
         &mut writer,
     ) {
-        Ok(()) => Ok(ExitCode::SUCCESS),
+        Ok(()) => Ok(Ending::Done),
         Err(fault) => {
             eprintln!(rt; "{fault}")?;
             if let ScriptFault::BadLine(_number) = fault {
-                eprintln!(rt;
-                    "  no event: open USER[,GROUP..], feed N TEXT, serve N, pump N, turn or close N, one space between words; try 'kapi script --help'"
-                )?;
+                tell_reason(rt, script_reason(rt.alloc(), reader.lines()))?;
             }
-            Ok(ExitCode::from(1))
+            Ok(Ending::Stopped)
         }
     }
 }
@@ -104,7 +107,7 @@ fn run_script<R: Input + Print + Eprint + AllocGlobal>(rt: &R) -> io::Result<Exi
 fn run_audit<R: Files + Print + Eprint + AllocGlobal + Threads + Wait + Sync>(
     rt: &R,
     files: &AuditFiles,
-) -> io::Result<ExitCode> {
+) -> io::Result<Ending> {
     let policy = match fs::read(rt, files.policy.as_str()) {
         Ok(policy) => policy,
         Err(error) => return tell_unread(rt, files.policy.as_str(), &error),
@@ -118,20 +121,20 @@ fn run_audit<R: Files + Print + Eprint + AllocGlobal + Threads + Wait + Sync>(
             let mut writer = BufWriter::new(rt.alloc(), io::writer(rt))?;
             writer.write_all(answers.as_slice())?;
             writer.flush()?;
-            Ok(ExitCode::SUCCESS)
+            Ok(Ending::Done)
         }
         Err(fault) => {
             eprintln!(rt; "{fault}")?;
             match fault {
-                AuditFault::PolicyLine(line) => {
-                    tell_reason(rt, object_reason(rt.alloc(), policy.as_slice(), line))?;
+                AuditFault::PolicyLine(_line) => {
+                    tell_reason(rt, object_reason(rt.alloc(), 0, policy.as_slice()))?;
                 }
                 AuditFault::QuestionLine(line) => {
                     tell_reason(rt, question_reason(rt.alloc(), questions.as_slice(), line))?;
                 }
                 AuditFault::Memory | AuditFault::Busy => {}
             }
-            Ok(ExitCode::from(1))
+            Ok(Ending::Stopped)
         }
     }
 }
@@ -148,7 +151,7 @@ fn audit<R: AllocGlobal + Threads + Wait + Sync>(
 }
 
 /// A command line that names no program: status 2.
-fn refuse<R: Env + Eprint + AllocGlobal>(rt: &R, fault: CommandFault) -> io::Result<ExitCode> {
+fn refuse<R: Env + Eprint + AllocGlobal>(rt: &R, fault: CommandFault) -> io::Result<Ending> {
     match fault {
         CommandFault::Words => match complained(rt) {
             Ok(complaint) => rt.eprint(complaint)?,
@@ -156,5 +159,5 @@ fn refuse<R: Env + Eprint + AllocGlobal>(rt: &R, fault: CommandFault) -> io::Res
         },
         CommandFault::Memory => eprintln!(rt; "{fault}")?,
     }
-    Ok(ExitCode::from(2))
+    Ok(Ending::Misused)
 }

@@ -1,18 +1,18 @@
 //! Answers about the policies of files.
-ghost use Rattle.std.specs.Prelude.{◌≡◌, ◌==◌, not, length, map, IfOk};
+ghost use Rattle.std.specs.Prelude.{◌≡◌, Result, map, IfOk};
 ghost use Rattle.kapi_text.specs.Gives.{Gives};
 ghost use Rattle.kapi_lines.specs.Lines.{line_of};
 ghost use Rattle.kapi_core.specs.Machine.{Machine};
 ghost use Rattle.kapi_core.specs.Refines.{Refines};
 ghost use Rattle.kapi_loading.specs.Faults as loading;
+ghost use Rattle.kapi_loading.specs.Faults.{FileFault};
 ghost use Rattle.kapi_loading.specs.Loading.{machine_of};
-ghost use Rattle.kapi_access.specs.Gained.{gained};
 ghost use Rattle.kapi_access.specs.Risks.{risks};
-ghost use Rattle.kapi_questions.specs.Answers.{gains_text, ways_text, who_text};
+ghost use Rattle.kapi_questions.specs.Answers.{ways_text, who_text};
 ghost use Rattle.kapi_questions.specs.Lines as lined;
 ghost use Rattle.kapi_questions.specs.Lines.{answered_lines};
 ghost use Rattle.kapi.specs.Policies as files;
-ghost use Rattle.kapi.specs.Policies.{Holds, answered_told, as_first, as_second, compared_told, compared_with, comparison, fault_told, lines_on, risks_on, who_on};
+ghost use Rattle.kapi.specs.Policies.{Holds, IsLoaded, IsPolicyOf, answered_told, as_first, compared_to, compared_told, comparison, fault_told, lines_on, risks_on, who_on};
 
 use kapi_access::Identities;
 use kapi_core::Core;
@@ -25,6 +25,8 @@ use kapi_questions::{
 use kapi_text::Memory;
 use std::alloc::Global;
 use std::sync::Wait;
+use std::thread;
+use std::thread::Threads;
 
 /// What is printed of a comparison, whether anybody gains, and whether the roles of each policy are settled.
 #[derive(Drop)]
@@ -33,6 +35,13 @@ pub struct Compared {
     pub gains: bool,
     pub before_settled: bool,
     pub after_settled: bool,
+}
+
+/// The policy that a file of objects makes, and whether its roles are settled.
+#[derive(Drop)]
+pub struct LoadedPolicy {
+    policy: IndexedPolicy,
+    settled: bool,
 }
 
 /// What is printed of an answer, and whether the roles of the policy are settled.
@@ -116,19 +125,6 @@ fn loaded_first<R: Wait>(
     }
 }
 
-fn loaded_second<R: Wait>(
-    alloc: Global,
-    rt: &R,
-    objects: &[u8],
-) -> Result<Core<IndexedPolicy>, FilesFault>
-    ensures { Holds fault_told result (as_second (machine_of objects.now)) }
-{
-    match loaded(alloc, rt, objects) {
-        Ok(core) => Ok(core),
-        Err(error) => Err(second_fault(error)),
-    }
-}
-
 /// Whether no turn is left.
 fn is_settled(core: &mut Core<IndexedPolicy>) -> Result<bool, Memory>
     ensures { (m : Machine) → Refines core.old m → IfOk result (λ b. b ≡ files.is_settled m) }
@@ -142,67 +138,94 @@ fn is_settled(core: &mut Core<IndexedPolicy>) -> Result<bool, Memory>
 
 // ---- comparisons
 
-/// What the later policy allows that the earlier one did not.
-fn compare_cores(
-    alloc: Global,
-    form: Form,
-    identities: Identities,
-    before: &Core<IndexedPolicy>,
-    after: &Core<IndexedPolicy>,
-) -> Result<kapi_questions::Compared, Memory>
-    ensures text { IfOk result (λ c. c.text.items ≡ gains_text form (gained identities before.now.policy after.now.policy)) }
-    ensures gains { IfOk result (λ c. c.gains ≡ not (length (gained identities before.now.policy after.now.policy) == 0)) }
+/// The policy that a file of objects makes, with its turns.
+fn load_policy<R: Wait>(alloc: Global, rt: &R, objects: &[u8]) -> Result<LoadedPolicy, StartError>
+    ensures { IsLoaded loading.fault_told result (machine_of objects.now) }
 {
-    let stood = before.policy().bindings()?;
-    let bindings = after.policy().bindings()?;
-    answer_compare(
-        alloc,
-        form,
-        identities,
-        before.policy(),
-        stood.as_slice(),
-        after.policy(),
-        bindings.as_slice(),
+    match start(alloc, rt, objects, 0, 1) {
+        Ok(started) => {
+            let Started {
+                core,
+                desk,
+                seats: _seats,
+            } = started;
+            let mut core = core;
+            let policy = desk.close(rt);
+            let settled = is_settled(&mut core)?;
+            Ok(LoadedPolicy { policy, settled })
+        }
+        Err(error) => Err(error),
+    }
+}
+
+/// The policies of two files, side by side where a thread can be made.
+fn load_both<R: Wait + Threads + Sync>(
+    alloc: Global,
+    rt: &R,
+    before: &[u8],
+    after: &[u8],
+) -> (
+    Result<LoadedPolicy, StartError>,
+    Result<LoadedPolicy, StartError>,
+)
+    ensures before { IsLoaded loading.fault_told result.0 (machine_of before.now) }
+    ensures after { IsLoaded loading.fault_told result.1 (machine_of after.now) }
+{
+    thread::join(
+        rt,
+        move || -> Result<LoadedPolicy, StartError>
+            ensures { IsLoaded loading.fault_told result (machine_of before.entry.now) }
+        { load_policy(alloc, rt, before) },
+        move || -> Result<LoadedPolicy, StartError>
+            ensures { IsLoaded loading.fault_told result (machine_of after.entry.now) }
+        { load_policy(alloc, rt, after) },
     )
 }
 
-fn compare_machines(
+/// What the later policy allows that the earlier one did not.
+fn compare_policies(
     alloc: Global,
     form: Form,
     identities: Identities,
-    before: &mut Core<IndexedPolicy>,
-    after: &mut Core<IndexedPolicy>,
+    before: &LoadedPolicy,
+    after: &LoadedPolicy,
 ) -> Result<Compared, Memory>
-    ensures { (b a : Machine) → Refines before.old b → Refines after.old a → IfOk result (λ c. compared_told c ≡ comparison form identities b a) }
+    ensures { (b a : Machine) → IsPolicyOf before.now b → IsPolicyOf after.now a
+        → IfOk result (λ c. compared_told c ≡ comparison form identities b a) }
 {
-    let compared = compare_cores(alloc, form, identities, before, after)?;
-    let before_settled = is_settled(before)?;
-    let after_settled = is_settled(after)?;
+    let stood = before.policy.bindings()?;
+    let bindings = after.policy.bindings()?;
+    let compared = answer_compare(
+        alloc,
+        form,
+        identities,
+        &before.policy,
+        stood.as_slice(),
+        &after.policy,
+        bindings.as_slice(),
+    )?;
     Ok(Compared {
         text: compared.text,
         gains: compared.gains,
-        before_settled,
-        after_settled,
+        before_settled: before.settled,
+        after_settled: after.settled,
     })
 }
 
-fn compare_after<R: Wait>(
+/// The comparison with a policy that was loaded, or was not.
+fn compare_with(
     alloc: Global,
-    rt: &R,
     form: Form,
     identities: Identities,
-    before: &mut Core<IndexedPolicy>,
-    after: &[u8],
+    before: &LoadedPolicy,
+    after: Result<LoadedPolicy, StartError>,
 ) -> Result<Compared, FilesFault>
-    ensures { (b : Machine) → Refines before.old b
-        → Gives fault_told compared_told result (compared_with form identities b after.now) }
+    ensures { (b : Machine) (given : Result Machine FileFault) → IsPolicyOf before.now b → IsLoaded loading.fault_told after given
+        → Gives fault_told compared_told result (compared_to form identities b given) }
 {
-    match loaded_second(alloc, rt, after) {
-        Ok(core) => {
-            let mut core = core;
-            Ok(compare_machines(alloc, form, identities, before, &mut core)?)
-        }
-        Err(fault) => Err(fault),
+    match after {
+        Ok(after) => Ok(compare_policies(alloc, form, identities, before, &after)?),
+        Err(error) => Err(second_fault(error)),
     }
 }
 
@@ -210,7 +233,7 @@ fn compare_after<R: Wait>(
 ///
 /// # Errors
 /// `First` and `Second` at the first line of a file that is not loaded, `Memory` where an allocation fails.
-pub fn compare_files<R: Wait>(
+pub fn compare_files<R: Wait + Threads + Sync>(
     alloc: Global,
     rt: &R,
     form: Form,
@@ -220,12 +243,10 @@ pub fn compare_files<R: Wait>(
 ) -> Result<Compared, FilesFault>
     ensures { Gives fault_told compared_told result (files.compare_files form identities before.now after.now) }
 {
-    match loaded_first(alloc, rt, before) {
-        Ok(core) => {
-            let mut core = core;
-            compare_after(alloc, rt, form, identities, &mut core, after)
-        }
-        Err(fault) => Err(fault),
+    let (before, after) = load_both(alloc, rt, before, after);
+    match before {
+        Ok(before) => compare_with(alloc, form, identities, &before, after),
+        Err(error) => Err(first_fault(error)),
     }
 }
 

@@ -1,3 +1,4 @@
+use crate::ending::Ending;
 use crate::program::ReplayOptions;
 use crate::telling::tell_unread;
 use kapi_replay::{NamedFile, loaded_names, replay_run};
@@ -5,7 +6,6 @@ use kapi_text::{Memory, Sequence, Text};
 use std::alloc::Global;
 use std::fs::{self, Files};
 use std::io::{self, BufWriter, Write};
-use std::process::ExitCode;
 use std::str;
 use std::sync::Wait;
 
@@ -13,7 +13,7 @@ use std::sync::Wait;
 pub fn run_replay<R: Files + Print + Eprint + AllocGlobal + Wait>(
     rt: &R,
     options: &ReplayOptions,
-) -> io::Result<ExitCode> {
+) -> io::Result<Ending> {
     let mut transcripts = Vec::new(rt.alloc());
     for name in options.files.iter() {
         match fs::read(rt, name.as_str()) {
@@ -32,14 +32,10 @@ pub fn run_replay<R: Files + Print + Eprint + AllocGlobal + Wait>(
         &mut writer,
     );
     writer.flush()?;
-    match played {
-        Ok(true) => Ok(ExitCode::SUCCESS),
-        Ok(false) => Ok(ExitCode::from(1)),
-        Err(fault) => {
-            eprintln!(rt; "{fault}")?;
-            Ok(ExitCode::from(1))
-        }
+    if let Err(fault) = &played {
+        eprintln!(rt; "{fault}")?;
     }
+    Ok(Ending::of_replay(&played))
 }
 
 fn named(alloc: Global, name: &str, bytes: Vec<u8>) -> Result<NamedFile, Memory> {

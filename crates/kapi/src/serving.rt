@@ -1,9 +1,10 @@
-ghost use Rattle.std.specs.Prelude.{◌≡◌, ◌≤◌, [], IfOk};
+ghost use Rattle.std.specs.Prelude.{◌≡◌, ◌≤◌, [], IfOk, IfSome};
 ghost use Rattle.kapi.specs.Doors.{doors_of};
 ghost use Rattle.kapi_serve.specs.Listening.{doors};
 
 use crate::answering::start_readers;
-use crate::beginning::{BeginError, begin};
+use crate::beginning::{BeginError, begin, first_of};
+use crate::ending::Ending;
 use crate::program::{Listen, ServeOptions};
 use crate::system_reason::Reason;
 use crate::telling::{tell_reason, tell_unread};
@@ -15,7 +16,6 @@ use kapi_text::TryCopy;
 use std::fs::{self, Files};
 use std::io;
 use std::net::{Ipv4Addr, Net, SocketAddr, TcpListener, TcpStream};
-use std::process::ExitCode;
 use std::sync::Wait;
 use std::thread::Threads;
 use std::time::Clock;
@@ -42,7 +42,7 @@ pub fn run_serve<
         + Send
         + Net<Listener = TcpListener, Stream = TcpStream>
         + 'static,
->(rt: &R, options: &ServeOptions) -> io::Result<ExitCode> {
+>(rt: &R, options: &ServeOptions) -> io::Result<Ending> {
     let objects = match &options.load {
         Some(file) => match fs::read(rt, file.as_str()) {
             Ok(objects) => objects,
@@ -61,21 +61,24 @@ pub fn run_serve<
     };
     match begin(rt.alloc(), rt, objects.as_slice(), first, seconds, seats) {
         Ok(started) => serve_ports(rt, started, options),
-        Err(fault) => refuse_begin(rt, fault, objects.as_slice()),
+        Err(fault) => refuse_begin(rt, fault, first_of(first, seconds), objects.as_slice()),
     }
 }
 
-/// Reports why a server does not begin, and why a line of its objects is not loaded: status 1.
+/// Reports why a server does not begin behind a revision, and why a line of its objects is not loaded: status 1.
 fn refuse_begin<R: Eprint + AllocGlobal>(
     rt: &R,
     fault: BeginError,
+    first: Option<u64>,
     objects: &[u8],
-) -> io::Result<ExitCode> {
+) -> io::Result<Ending>
+    requires { IfSome first (λ n. n ≤ 281474976710650) }
+{
     eprintln!(rt; "{fault}")?;
-    if let BeginError::Start(StartError::Line(line)) = fault {
-        tell_reason(rt, object_reason(rt.alloc(), objects, line))?;
+    if let (BeginError::Start(StartError::Line(_line)), Some(first)) = (fault, first) {
+        tell_reason(rt, object_reason(rt.alloc(), first, objects))?;
     }
-    Ok(ExitCode::from(1))
+    Ok(Ending::Stopped)
 }
 
 /// Listens on each port and serves its clients; the desk is closed at the end.
@@ -91,7 +94,7 @@ fn serve_ports<
         + Send
         + Net<Listener = TcpListener, Stream = TcpStream>
         + 'static,
->(rt: &R, started: Started, options: &ServeOptions) -> io::Result<ExitCode>
+>(rt: &R, started: Started, options: &ServeOptions) -> io::Result<Ending>
     requires free { started.desk.waiting ≡ [] }
     requires unopened { started.core.next_id ≡ 0 }
 {
@@ -104,7 +107,7 @@ fn serve_ports<
     let status = match listen_all(rt, options, seats) {
         Ok(Ok(mut sockets)) => {
             serve_loop(rt, &mut core, &mut desk, &mut sockets);
-            Ok(ExitCode::from(4))
+            Ok(Ending::Adrift)
         }
         Ok(Err(refused)) => refuse(rt, refused),
         Err(error) => Err(error),
@@ -117,6 +120,7 @@ fn serve_ports<
 fn listen_all<
     R: Print
         + AllocGlobal
+        + Wait
         + Threads
         + Clock
         + Clone
@@ -166,9 +170,9 @@ fn listen<R: Print + AllocGlobal + Clock + Clone + Drop + Net>(
 }
 
 /// A port that cannot be listened on: status 3.
-fn refuse(rt: &impl Eprint, refused: Refused) -> io::Result<ExitCode> {
+fn refuse(rt: &impl Eprint, refused: Refused) -> io::Result<Ending> {
     let port = refused.port;
     let reason = Reason(&refused.error);
     eprintln!(rt; "cannot listen {port}: {reason}")?;
-    Ok(ExitCode::from(3))
+    Ok(Ending::Unheard)
 }

@@ -20,7 +20,8 @@ use Rattle.kapi_tree.specs.Contents.{text_if, text_at, text_of, text_value, item
 use Rattle.kapi_tree.specs.Tree.{is_empty, member_of, unless_null}
 use Rattle.kapi_admission.proofs.CleanLists.{parts, list_parts}
 use Rattle.kapi_admission.proofs.CleanTables.{Found, text_written}
-use Rattle.kapi_admission.specs.Shapes.{Says, Keeps, passes, chosen, element_faults, part_faults, row_faults, rows_faults, filled, part_value}
+use Rattle.kapi_admission.proofs.KeptParts.{Keeps, filled, part_value}
+use Rattle.kapi_admission.specs.Shapes.{Says, passes, chosen, element_faults, part_faults, row_faults, rows_faults}
 use Rattle.kapi_admission.specs.Tables.{rows_of, account, urls}
 use Rattle.kapi_admission.specs.Typed.{need_faults, items_faults, list_faults, is_right, is_required, member_path, object_faults, text_faults, text_item_faults}
 use Rattle.kapi_admission.specs.declared.table.Part.{Part}

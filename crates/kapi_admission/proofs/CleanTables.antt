@@ -13,7 +13,8 @@ use Rattle.kapi_tree.specs.Contents.{text_value, text_if, text_at, text_of, item
 use Rattle.kapi_tree.specs.Tree.{is_empty, member_of}
 use Rattle.kapi_admission.proofs.CleanLabels.{labels_part}
 use Rattle.kapi_admission.proofs.CleanLists.{parts, both, listed_clean, array_clean, kept_clean, given_same, text_clean}
-use Rattle.kapi_admission.specs.Shapes.{Says, Keeps, passes, chosen, element_faults, part_faults, row_faults, rows_faults, table_faults, filled, written_value, part_value, row_value}
+use Rattle.kapi_admission.proofs.KeptParts.{Keeps, filled, written_value, part_value, row_value}
+use Rattle.kapi_admission.specs.Shapes.{Says, passes, chosen, element_faults, part_faults, row_faults, rows_faults, table_faults}
 use Rattle.kapi_admission.specs.Tables.{rows_of, word_text}
 use Rattle.kapi_admission.specs.Typed.{need_faults, items_faults, list_faults, is_given, is_right, is_required, member_path, object_faults, text_faults, text_item_faults}
 use Rattle.kapi_admission.specs.declared.table.Choice.{Choice}

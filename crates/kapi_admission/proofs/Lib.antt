@@ -1,10 +1,10 @@
 pub mod Bodies
 pub mod KeptGiven
 pub mod KeptHolds
+pub mod KeptParts
 pub mod CleanLists
 pub mod CleanLabels
 pub mod CleanTables
 pub mod CleanKinds
 pub mod Clean
-pub mod CleanKept
 pub mod OnLiterals

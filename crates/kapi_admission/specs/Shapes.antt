@@ -1,4 +1,4 @@
--- What is wrong with an object by its table, in the order of the rows, and what is kept of it.
+-- What is wrong with an object by its table, in the order of the rows.
 use Rattle.std.specs.Prelude.{ℕ, zero, suc, List, [], ◌∷◌, ◌++◌, length, Bool, true, false, not, ◌||◌, ◌==◌, if◌then◌else◌, Option, Some, None, option_map, codes}
 use Rattle.std.specs.Str.{bytes_eq}
 use Rattle.serde_json.specs.Data.{Data, string, array, object, Items, Members, no_members}
@@ -41,8 +41,6 @@ abbrev pub chosen : Choice → Data → Part
 chosen (One p) d = p
 chosen (Two w p q) d = if passes w d then p else q
 chosen (Three w p v q r) d = if passes w d then p else (if passes v d then q else r)
-
--- ---- what is wrong
 
 -- a function from tables to what is wrong with the members of an object
 abbrev pub Says : Type 0
@@ -93,44 +91,3 @@ typed_faults schema.Role tree = table_faults levels table.Role [] tree
 typed_faults schema.ClusterRole tree = table_faults levels table.ClusterRole [] tree
 typed_faults schema.RoleBinding tree = table_faults levels table.RoleBinding [] tree
 typed_faults schema.ClusterRoleBinding tree = table_faults levels table.ClusterRoleBinding [] tree
-
--- ---- what is kept
-
--- what is kept of the objects of each table
-abbrev pub Keeps : Type 0
-Keeps = Table → Data → Data
-
--- a text that is kept: the API group of roles is filled in
-abbrev pub filled : TextRule → List ℕ → List ℕ
-filled rule.RbacGroup s = rbac_group
-filled rule.RbacGroupOrEmpty s = rbac_group
-filled _ s = s
-
--- a list as it is written
-abbrev pub written_value : Written → Items → Option Data
-written_value written.Always ds = Some (array ds)
-written_value written.NotEmpty ds = list_value ds
-
--- what is kept of the value at a key
-abbrev pub part_value : Keeps → Part → Option Data → Option Data
-part_value g part.Dropped o = None
-part_value g part.Forbidden o = None
-part_value g (part.Text r) o = text_value (filled r (text_if o))
-part_value g (part.Texts n r) o = list_value (write_items string (read_items text_of (items_if o)))
-part_value g part.Labels o = members_value (put_labels (labels_in (members_or_none o)) no_members)
-part_value g (part.Object n t) o = option_map (g t) o
-part_value g (part.Objects n w t) o = written_value w (write_items (λ d. d) (read_items (g t) (items_if o)))
-
--- what is kept of an object by one row
-abbrev pub row_value : Keeps → Row → Data → Option Data
-row_value g r d = part_value g (chosen r.1 d) (member_of (word_text r.0) d)
-
--- the members, and beside them what is kept of an object by all rows
-unfoldable pub rows_kept : Keeps → List Row → Data → Members → Members
-rows_kept g [] d ms = ms
-rows_kept g (r ∷ rs) d ms = rows_kept g rs d (put_if (word_text r.0) (row_value g r d) ms)
-
--- what is kept of an object by a table, so many levels of objects in objects deep; nothing is kept of what lies deeper
-abbrev pub table_kept : ℕ → Keeps
-table_kept zero table d = object no_members
-table_kept (suc n) table d = object (rows_kept (table_kept n) (rows_of table) d no_members)

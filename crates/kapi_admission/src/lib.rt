@@ -8,7 +8,6 @@ pub mod object_error;
 mod path;
 pub mod table;
 pub mod table_faults;
-pub mod table_kept;
 pub mod text_rule;
 pub mod typed_list;
 pub mod word;

@@ -1,7 +1,7 @@
 ghost use Rattle.std.specs.Prelude.{◌≡◌, ◌≤◌, [], All, IfOk, MatchResult, OnOk, map, length};
 ghost use Rattle.kapi_text.specs.Gives.{Gives};
 ghost use Rattle.kapi_core.specs.Table.{access_reviews_row};
-ghost use Rattle.kapi_desk.specs.Boards.{Chair, chair, fresh};
+ghost use Rattle.kapi_desk.specs.Boards.{Chair, fresh, informed};
 ghost use Rattle.kapi_desk.specs.Steps.{after};
 ghost use Rattle.kapi_audit.specs.Answers.{answer_of, answered_by, answers};
 ghost use Rattle.kapi_audit.specs.Faults.{fault_told};
@@ -26,37 +26,36 @@ use std::thread::Threads;
 pub const READERS: usize = 16;
 
 /// Reports all published steps to a seat, and makes it a reader.
-fn told_reader(desk: &mut Desk, seat: Seat, number: usize, published: u64) -> Result<Reader, Memory>
-    requires published { published ≡ length desk.old.list }
-    requires seat { seat ≡ fresh desk.old.opening }
-    ensures same { desk.new ≡ desk.old }
-    ensures reader { IfOk result (λ r. (r.number ≡ number) × (r.seat ≡ chair desk.old.opening desk.old.list)) }
+fn told_reader(desk: &Desk, seat: Seat, number: usize, published: u64) -> Reader
+    requires published { published ≡ length desk.now.list }
+    requires seat { seat ≡ fresh desk.now }
+    ensures { (result.number ≡ number) × (result.seat ≡ informed desk.now) }
 {
     let mut seat = seat;
-    seat.learn(desk.tell()?);
-    Ok(Reader {
+    seat.learn(&desk.tell());
+    Reader {
         number,
         seat,
         published,
-    })
+    }
 }
 
 /// Reports all published steps to each seat.
 fn told_readers(
     alloc: Global,
-    desk: &mut Desk,
+    desk: &Desk,
     published: u64,
     seats: Vec<Seat>,
 ) -> Result<Vec<Reader>, Memory>
-    requires published { published ≡ length desk.old.list }
-    requires seats { All (λ s. s ≡ fresh desk.old.opening) seats.items }
-    ensures readers { IfOk result (λ v. AreReaders (chair desk.old.opening desk.old.list) 0 v.items) }
+    requires published { published ≡ length desk.now.list }
+    requires seats { All (λ s. s ≡ fresh desk.now) seats.items }
+    ensures readers { IfOk result (λ v. AreReaders (informed desk.now) 0 v.items) }
     ensures count { IfOk result (λ v. length v.items ≡ length seats.items) }
 {
     let mut seats = seats;
     let mut readers = Vec::new(alloc);
     while let Some(seat) = seats.pop() {
-        let reader = told_reader(desk, seat, readers.len(), published)?;
+        let reader = told_reader(desk, seat, readers.len(), published);
         readers.push(reader)?;
     }
     Ok(readers)
@@ -91,7 +90,7 @@ fn answer_told<R: Threads + Wait + Sync, G: Gate + Sync>(
 ) -> Result<Vec<u8>, AuditFault>
     requires free { desk.old.waiting ≡ [] }
     requires count { 1 ≤ length seats.items }
-    requires seats { All (λ s. s ≡ fresh desk.old.opening) seats.items }
+    requires seats { All (λ s. s ≡ fresh desk.old) seats.items }
     ensures { Gives fault_told (λ v. v.items) result (answered_by (answer_of access_reviews_row (after desk.old.opening desk.old.list)) (map line_of lines.now)) }
 {
     match desk.retry(rt) {

@@ -20,6 +20,6 @@ pub mod OpenedPolicy
 pub mod Acting
 pub mod Histories
 mod Listed
-mod Numbered
+pub mod Numbered
 mod Pumps
 mod Rechecking

@@ -1,2 +1,5 @@
 pub mod Lists
+pub mod Pages
+pub mod Writing
 pub mod Keeps
+pub mod Stages

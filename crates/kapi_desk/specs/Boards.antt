@@ -1,30 +1,40 @@
 -- What contracts see of a desk, a seat and a list of reported steps.
 use Rattle.std.specs.Prelude.{List, [], length, if◌then◌else◌, nat_lt}
+use Rattle.logbook.specs.Pages.{Book}
 use Rattle.kapi_policy.specs.declared.change.PolicyChange.{PolicyChange}
 use Rattle.kapi_policy.specs.Decided.{Decided, allowed, masters, denied, Granted}
 use Rattle.kapi_policy.specs.Objects.{PolicyObjects}
+use Rattle.kapi_desk.specs.Pages.{opening_in, steps_in}
+use Rattle.kapi_desk.specs.declared.book.Page.{Page}
 use Rattle.kapi_desk.specs.declared.decision.SeatDecision.{SeatDecision}
 use Rattle.kapi_desk.specs.declared.decision.SeatDecision.TheVariants.{Allowed, Masters, Denied}
 use Rattle.kapi_desk.specs.declared.decision.SeatGrant.{SeatGrant}
 
--- a desk: the policy that it opened with, the published steps, and those that wait
+-- a desk: which one it is, the policy that it opened with, the published steps, and those that wait
 pub record Board : Type 0 where
+  pub desk : Book
   pub opening : PolicyObjects
   pub list : List (List PolicyChange)
   pub waiting : List (List PolicyChange)
 
--- a seat or a list of reported steps: the policy that its desk opened with, and the published steps that it has seen
+-- a seat or a list of reported steps: which desk it is of, the policy that this opened with, and the published steps
+-- that it has seen
 pub record Chair : Type 0 where
+  pub desk : Book
   pub opening : PolicyObjects
   pub seen : List (List PolicyChange)
 
--- a seat or a list of reported steps of that opening policy, which has seen those steps
-abbrev pub chair : PolicyObjects → List (List PolicyChange) → Chair
-chair opening seen = record { opening = opening; seen = seen }
+-- a seat of that desk that has seen nothing
+abbrev pub fresh : Board → Chair
+fresh board = record { desk = board.desk; opening = board.opening; seen = [] }
 
--- a seat that has seen nothing
-abbrev pub fresh : PolicyObjects → Chair
-fresh policy = chair policy []
+-- a seat or a list of that desk that has seen all published steps
+abbrev pub informed : Board → Chair
+informed board = record { desk = board.desk; opening = board.opening; seen = board.list }
+
+-- a seat or a list that has seen these pages of a desk's book
+abbrev pub chair : Book → List Page → Chair
+chair book pages = record { desk = book; opening = opening_in pages; seen = steps_in pages }
 
 -- the second list where it is longer, else the first
 abbrev pub longer : List (List PolicyChange) → List (List PolicyChange) → List (List PolicyChange)

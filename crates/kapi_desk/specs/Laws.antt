@@ -1,12 +1,8 @@
--- What the rule says of any two views.
-use Rattle.std.specs.Prelude.{◌≡◌, ◌⊎◌, ℕ, List}
-use mathlib.Core.Option.{some}
-use lib.ListN.{get_elem?}
-use Rattle.kapi_desk.specs.declared.rule.View.{View}
-use Rattle.kapi_desk.specs.declared.version.Version.{Version}
-use Rattle.kapi_desk.specs.Rule.{Begins, Kept}
+-- What is true of any two seats.
+use Rattle.std.specs.Prelude.{◌≡◌, ◌⊎◌}
+use Rattle.kapi_desk.specs.Boards.{Chair}
+use Rattle.kapi_desk.specs.Rule.{Begins}
 
--- of the lists that any two views have seen, one begins the other
-abbrev pub ListsAgree : Type 0
-ListsAgree = (x : Version) (views : List View) (i j : ℕ) (v w : View) → Kept x views → get_elem? views i ≡ some v → get_elem? views j ≡ some w
-    → Begins v.seen w.seen ⊎ Begins w.seen v.seen
+-- of two lists one begins the other, and they follow one policy
+abbrev pub Agree : Chair → Chair → Type 0
+Agree c d = (c.opening ≡ d.opening) × (Begins c.seen d.seen ⊎ Begins d.seen c.seen)

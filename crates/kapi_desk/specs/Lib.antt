@@ -1,4 +1,6 @@
 pub mod Steps
 pub mod Rule
+pub mod Pages
 pub mod Boards
 pub mod Laws
+pub mod Private

@@ -1,7 +1,13 @@
-//! What the rule says beyond the single calls.
-ghost use Rattle.kapi_desk.specs.Laws.{ListsAgree};
+//! What is true of any two seats of a desk.
+ghost use Rattle.std.specs.Prelude.{◌≡◌};
+ghost use Rattle.kapi_desk.specs.Laws.{Agree};
 
-/// Of the lists of steps that any two of desk, seats and reported lists have seen, one begins the other.
-pub fn lists_agree()
-    ensures { ListsAgree }
-{}
+use crate::seat::Seat;
+
+/// Of the lists of steps that two seats of a desk have seen, one begins the other.
+pub fn lists_agree(one: &Seat, other: &Seat)
+    requires { one.now.desk ≡ other.now.desk }
+    ensures { Agree one.now other.now }
+{
+    one.meet(other);
+}

@@ -2,6 +2,7 @@
 //! policy after some number of the published steps, with no lock and without waiting.
 #![tactic(auto)]
 
+mod book;
 mod decision;
 mod desk;
 pub mod laws;

@@ -1,80 +1,69 @@
-//! The rule that the two copies and all views of them keep: each list of steps that was seen begins the published one.
-use crate::version::Version;
+//! The rule that the two copies and all readers keep: the copy that is shown is the policy of its pages, and these are
+//! pages of the desk's book.
+ghost use Rattle.logbook.specs.Pages.{Book, book_coded};
+
+use crate::version::{Operation, Version};
 use atomic_table::{Join, Split};
 use crossbeam_utils::rule::{Outcome, Protocol};
-use kapi_policy::{PlainPolicy, PolicyChange, PolicyStep};
 use left_right::reader::Reader;
 use left_right::writer::Writer;
-use std::marker::{Brand, PhantomData};
+use std::marker::Model;
 
-/// What the desk, a seat or a reported list knows: the policy that the desk opened with, and the published steps that
-/// it has seen. No value of it is made.
+/// What the desk or a seat knows: the book of the desk. No value of it is made.
 pub struct View {
     pub knows: bool,
-    pub opening: PlainPolicy,
-    pub seen: [[PolicyChange; 0]; 0],
+    pub ghost book: { Book } by { book_coded },
+}
+
+impl Model for View {
+    ghost use base.Fml.{ftrue};
+
+    ghost also_owns = { λ _. ftrue };
 }
 
 pub(crate) struct Law;
 
 impl Protocol<Version, View> for Law {
-    ghost use Rattle.kapi_desk.specs.Rule.{Kept, newcomer};
+    ghost use Rattle.kapi_desk.specs.Private.Copies.{IsShown, newcomer};
 
-    ghost holds = { Kept };
+    ghost holds = { IsShown };
 
     ghost first = { newcomer };
 }
 
 pub(crate) type PolicyReader = Reader<Version, View, Law>;
 
-pub(crate) type PolicyWriter = Writer<Version, PolicyStep, View, Law>;
+pub(crate) type PolicyWriter = Writer<Version, Operation, View, Law>;
 
-/// A seat sees all published steps.
+/// A seat sees the copy that is shown.
 pub(crate) struct Enters;
 
 impl Outcome<Version, View> for Enters {
-    ghost use Rattle.kapi_desk.specs.Rule.{Entered};
+    ghost use Rattle.kapi_desk.specs.Private.Copies.{Entered};
 
     ghost then = { Entered };
 }
 
-/// The desk notes the policy that it opens with.
+/// The desk notes its book.
 pub(crate) struct Opens;
 
 impl Outcome<Version, View> for Opens {
     ghost use Rattle.std.specs.Prelude.{◌≡◌};
-    ghost use Rattle.kapi_desk.specs.Rule.{IsShown, opened};
+    ghost use Rattle.kapi_desk.specs.Private.Copies.{reader_of};
 
-    ghost then = { λ v x y w. (w ≡ opened y.policy) × IsShown y w };
+    ghost then = { λ v x y w. w ≡ reader_of y.pages.book };
 }
 
-/// The steps that wait to be published.
-pub(crate) trait Waiting {
-    ghost use Rattle.std.specs.Prelude.{List};
-    ghost use Rattle.kapi_policy.specs.declared.change.PolicyChange.{PolicyChange as AChange};
+/// The desk publishes the step that waits.
+pub(crate) struct Publishes;
 
-    ghost steps: { List (List AChange) };
-}
-
-impl Waiting for Brand {
-    ghost use Rattle.std.specs.Prelude.{[]};
-
-    ghost steps = { [] };
-}
-
-/// The desk publishes the steps that wait.
-pub(crate) struct Publishes<W> {
-    waiting: PhantomData<W>,
-}
-
-impl<W: Waiting> Outcome<Version, View> for Publishes<W> {
+impl Outcome<Version, View> for Publishes {
     ghost use Rattle.std.specs.Prelude.{◌≡◌};
-    ghost use Rattle.kapi_desk.specs.Rule.{IsShown, grown};
 
-    ghost then = { λ v x y w. (w ≡ grown v W.steps) × IsShown y w };
+    ghost then = { λ v x y w. w ≡ v };
 }
 
-/// The desk reports all published steps.
+/// The desk tells its book to a new reader.
 pub(crate) struct Tells;
 
 impl Split<View> for Tells {
@@ -84,7 +73,7 @@ impl Split<View> for Tells {
 }
 
 impl Join<View> for Tells {
-    ghost use Rattle.kapi_desk.specs.Rule.{newcomer};
+    ghost use Rattle.kapi_desk.specs.Private.Copies.{newcomer};
 
     ghost both = { λ v told. told };
 

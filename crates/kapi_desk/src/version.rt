@@ -1,31 +1,46 @@
+use crate::book::Pages;
 use kapi_index::IndexedPolicy;
 use kapi_policy::PolicyStep;
 use left_right::Absorb;
 use std::alloc::AllocError;
 
-/// A policy, and how many steps it has had.
+/// A policy, how many steps it has had, and their pages in the desk's book.
 #[derive(Drop)]
 pub(crate) struct Version {
     pub(crate) policy: IndexedPolicy,
     pub(crate) steps: u64,
+    pub(crate) pages: Pages,
 }
 
-impl Absorb<PolicyStep> for Version {
-    ghost use Rattle.kapi_desk.specs.Rule.{counted};
+/// What changes a copy: first a step, then the note of its page. A step that is refused for want of memory has no page
+/// yet, and is handed back.
+#[derive(Drop)]
+pub(crate) enum Operation {
+    Step(PolicyStep),
+    Note(Pages),
+}
+
+impl Absorb<Operation> for Version {
+    ghost use Rattle.kapi_desk.specs.Private.Copies.{absorbed};
 
     type State = Version;
 
     ghost state = { λ v. v };
 
-    ghost applied = { counted };
+    ghost applied = { absorbed };
 
     /// Makes the whole step, or nothing. Once 2^64 - 1 steps are counted, no further one is made.
-    fn absorb_first(&mut self, operation: &PolicyStep, _other: &Version) -> Result<(), AllocError> {
-        if self.steps == u64::MAX {
-            return Err(AllocError);
+    fn absorb_first(&mut self, operation: &Operation, _other: &Version) -> Result<(), AllocError> {
+        match operation {
+            Operation::Step(step) => {
+                if self.steps == u64::MAX {
+                    return Err(AllocError);
+                }
+                step.apply_to(&mut self.policy)?;
+                self.steps += 1;
+            }
+            Operation::Note(pages) => self.pages = pages.again(),
         }
-        operation.apply_to(&mut self.policy)?;
-        self.steps += 1;
         Ok(())
     }
 }

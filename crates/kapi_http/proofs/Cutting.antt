@@ -68,7 +68,7 @@ fuel (suc n) (suc m) bytes less more = by_first (first bytes) refl (λ rest. fue
         rw e (ap (with_request r) (again (drop r.length bytes) (omega (arith, length-drop r.length bytes)) (omega (arith, length-drop r.length bytes))))
 
 -- a text is cut to its first item and what the bytes behind it are cut to
-cut_first : (bytes : List ℕ) → cut bytes ≡ cut_at cut bytes (first bytes)
+pub cut_first : (bytes : List ℕ) → cut bytes ≡ cut_at cut bytes (first bytes)
 unfolding cut cut_by
 cut_first bytes = fuel (length bytes) (suc (length bytes)) bytes (omega arith) (omega arith) ∙ by_first (first bytes) refl
   where

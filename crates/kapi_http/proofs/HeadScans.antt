@@ -53,13 +53,13 @@ unfolding scanned
 end_inside crlf r n l = same_scan LineStart (n + 1 + 1) (n + 2) (l + 0 + 1) (l + 1) r (omega arith) (omega arith)
 end_inside lf r n l = refl
 
-end_last : (end : LineEnd) (r : List ℕ) (n l : ℕ) → scanned (mk LineStart n l) (print_end end ++ r) ≡ mk Ended (n + length (print_end end)) l
+pub end_last : (end : LineEnd) (r : List ℕ) (n l : ℕ) → scanned (mk LineStart n l) (print_end end ++ r) ≡ mk Ended (n + length (print_end end)) l
 unfolding scanned
 end_last crlf r n l =
     same_scan Ended (n + 1 + 1) (n + 2) (l + 0 + 0) l r (omega arith) (omega arith) ∙ scanned_ended (mk Ended (n + 2) l) r refl
 end_last lf r n l = same_scan Ended (n + 1) (n + 1) (l + 0) l r refl (omega arith) ∙ scanned_ended (mk Ended (n + 1) l) r refl
 
-blank_scan : (ends : List LineEnd) (r : List ℕ) (n l : ℕ)
+pub blank_scan : (ends : List LineEnd) (r : List ℕ) (n l : ℕ)
     → scanned (mk Leading n l) (print_blank ends ++ r) ≡ scanned (mk Leading (n + length (print_blank ends)) l) r
 unfolding scanned
 blank_scan [] r n l = same_scan Leading n (n + 0) l l r (omega arith) refl

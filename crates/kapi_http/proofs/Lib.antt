@@ -1,7 +1,12 @@
+pub mod BodyParts
+pub mod BodyReads
+pub mod ChunkedRequests
 pub mod Chunking
 pub mod Cutting
 pub mod Decided
 pub mod Digits
+pub mod EmptyLines
+pub mod HeadEnds
 pub mod HeadScans
 pub mod Heads
 pub mod Items
@@ -9,5 +14,6 @@ pub mod Lists
 pub mod OnLiterals
 pub mod Printed
 pub mod PrintedChunks
+pub mod RequestTexts
 pub mod Scanning
 pub mod Settling

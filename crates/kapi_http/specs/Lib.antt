@@ -1,5 +1,6 @@
 pub mod Limits
 pub mod ChunkText
+pub mod ChunkedBody
 pub mod Chunks
 pub mod Cut
 pub mod Fields
@@ -7,6 +8,7 @@ pub mod Head
 pub mod Inbox
 pub mod Message
 pub mod Reply
+pub mod Requests
 pub mod Rules
 pub mod Scan
 pub mod Tied

@@ -1,18 +1,22 @@
 //! Laws of cutting requests, each the clause of a function that does nothing.
-ghost use Rattle.std.specs.Prelude.{◌≡◌, ◌∷◌, ◌+◌, codes, ◌<◌, ◌≤◌, ◌++◌, List, ℕ, [], IsSome, None, Some, drop, length, take};
+ghost use Rattle.std.specs.Prelude.{◌≡◌, ◌≢◌, ◌∷◌, ◌+◌, codes, ◌<◌, ◌≤◌, ◌++◌, List, ℕ, [], IsSome, None, Some, drop, length, take};
 ghost use Rattle.std.specs.List.{concat, flat_map};
-ghost use Rattle.httparse.specs.Grammar.{IsRequestHead, ReadsRequest, RequestHead, print_request};
+ghost use Rattle.httparse.specs.Grammar.{HasNoRequest, IsRequestHead, NeverHasRequest, ReadsRequest, RequestHead, print_request};
 ghost use Rattle.kapi_http.specs.ChunkText.{AreChunks, body_text};
+ghost use Rattle.kapi_http.specs.ChunkedBody.{IsBody, SentChunk, data_of};
 ghost use Rattle.kapi_http.specs.Chunks.{chunked, joined, no_chunks};
 ghost use Rattle.kapi_http.specs.Rules.{checked};
 ghost use Rattle.kapi_http.specs.declared.chunks.ChunkState.TheVariants.{Whole};
 ghost use Rattle.kapi_http.specs.declared.message.Method.{Method};
+ghost use Rattle.kapi_http.specs.declared.rules.Framing.{Framing};
 ghost use Rattle.kapi_http.specs.declared.rules.Framing.TheVariants.{Chunked};
-ghost use Rattle.kapi_http.specs.Cut.{Begins, cut, fault_of, first, reach, request_of, settled, settled_of, taken, with_request};
-ghost use Rattle.kapi_http.specs.Head.{head_of, says};
+ghost use Rattle.kapi_http.specs.Cut.{Begins, accepted, cut, fault_of, first, reach, refused, request_of, settled, settled_of, taken, waits, with_request};
+ghost use Rattle.kapi_http.specs.Head.{Says, head_of, says};
+ghost use Rattle.kapi_http.specs.Requests.{AreCut, HasEmptyLine, HasHead, IsRequest, IsTooLarge};
 ghost use Rattle.kapi_http.specs.declared.message.HttpFault.{HttpFault};
 ghost use Rattle.kapi_http.specs.declared.message.Method.TheVariants.{Put};
-ghost use Rattle.kapi_http.specs.declared.message.Refusal.TheVariants.{Version};
+ghost use Rattle.kapi_http.specs.declared.message.Refusal.{Refusal};
+ghost use Rattle.kapi_http.specs.declared.message.Refusal.TheVariants.{HeadTooLarge, NoHead, Version};
 ghost use Rattle.kapi_http.specs.declared.message.HttpRequest.{HttpRequest};
 
 /// The head of the bytes as a function is the head of the grammar, both ways.
@@ -20,6 +24,32 @@ pub fn heads_are_those_of_the_grammar()
     ensures read { (bytes : List ℕ) → IsSome (head_of bytes)
         → (h : RequestHead) × ReadsRequest bytes h [] × (head_of bytes ≡ Some (says h)) }
     ensures whole { (bytes : List ℕ) (h : RequestHead) → ReadsRequest bytes h [] → head_of bytes ≡ Some (says h) }
+{}
+
+/// For any bytes, a head ends where the grammar ends it: what is taken for a head is one, within the limits, and where
+/// the bytes begin with one it is taken, whatever follows (RFC 9112 sections 2.2, 3 and 5).
+pub fn heads_end_where_the_grammar_ends()
+    ensures accepts { (bytes : List ℕ) (n : ℕ) (h : Says) (method : Method) (framing : Framing)
+        → settled bytes ≡ accepted n h method framing
+        → (head : RequestHead) × HasHead bytes n head × (h ≡ says head) × (checked h ≡ Ok (method, framing)) }
+
+    // a refusal by the rules is one of a head that was read
+    ensures refuses { (bytes : List ℕ) (n : ℕ) (method : List ℕ) (why : Refusal) → settled bytes ≡ refused n method why
+        → why ≢ NoHead → why ≢ HeadTooLarge
+        → (head : RequestHead) × HasHead bytes n head × (method ≡ head.method) × (checked (says head) ≡ Err why) }
+
+    // the other findings: there is no head, none within the limits, or none yet; that is known at an empty line
+    ensures never { (bytes : List ℕ) (n : ℕ) (method : List ℕ) → settled bytes ≡ refused n method NoHead
+        → NeverHasRequest bytes }
+    ensures large { (bytes : List ℕ) (n : ℕ) (method : List ℕ) → settled bytes ≡ refused n method HeadTooLarge
+        → (more rest : List ℕ) (head : RequestHead) → ReadsRequest (bytes ++ more) head rest → IsTooLarge head }
+    ensures pending { (bytes : List ℕ) → settled bytes ≡ waits
+        → (length bytes < 16384) × ¬ (HasEmptyLine bytes) × HasNoRequest bytes }
+    ensures unended { (bytes : List ℕ) → length bytes < 16384 → ¬ (HasEmptyLine bytes) → settled bytes ≡ waits }
+
+    // where the bytes begin with a head, it is read
+    ensures whole { (bytes : List ℕ) (n : ℕ) (head : RequestHead) → HasHead bytes n head
+        → settled bytes ≡ settled_of (take n bytes) (Some (says head)) }
 {}
 
 /// A head that is printed by the grammar within the limits is read, whatever follows it.
@@ -40,6 +70,40 @@ pub fn printed_chunks_are_read()
         → checked (says h) ≡ Ok (method, Chunked) → AreChunks parts
         → first (print_request h ++ (body_text parts ++ more))
         ≡ Some (Ok (request_of (says h) method (concat parts) (length (print_request h) + length (body_text parts)))) }
+{}
+
+/// What is read as a whole body in chunks is one, and what is one is read so, whatever follows it: some chunks, each of
+/// them the digits of its size and its data, and the end (RFC 9112 section 7.1).
+pub fn bodies_in_chunks_are_read()
+    ensures read { (bytes : List ℕ) → (chunked no_chunks bytes).spot ≡ Whole → (chunked no_chunks bytes).at ≡ length bytes
+        → (chunks : List SentChunk) × (size : List ℕ) × IsBody bytes chunks size × (joined no_chunks bytes ≡ data_of chunks) }
+    ensures whole { (bytes more : List ℕ) (chunks : List SentChunk) (size : List ℕ) → IsBody bytes chunks size
+        → chunked no_chunks (bytes ++ more) ≡ record { spot = Whole; at = length bytes; sum = length (data_of chunks) } }
+    ensures joins { (bytes : List ℕ) (chunks : List SentChunk) (size : List ℕ) → IsBody bytes chunks size
+        → joined no_chunks bytes ≡ data_of chunks }
+
+    // a request whose head says that its body comes in chunks has such a body, and its data
+    ensures request { (bytes : List ℕ) (n : ℕ) (h : Says) (method : Method) (r : HttpRequest)
+        → settled bytes ≡ accepted n h method Chunked → first bytes ≡ Some (Ok r)
+        → (body more : List ℕ) × (chunks : List SentChunk) × (size : List ℕ) × IsBody body chunks size
+        × (drop n bytes ≡ body ++ more) × (r ≡ request_of h method (data_of chunks) (n + length body)) }
+{}
+
+/// For any bytes, what is read as a request is one by the grammar of heads and the forms of bodies, and what is one is
+/// read, whatever follows it; so no bytes begin with two requests.
+pub fn requests_are_those_of_the_grammar()
+    ensures read { (bytes : List ℕ) (r : HttpRequest) → first bytes ≡ Some (Ok r)
+        → (text more : List ℕ) × IsRequest text r × (bytes ≡ text ++ more) }
+    ensures whole { (text more : List ℕ) (r : HttpRequest) → IsRequest text r → first (text ++ more) ≡ Some (Ok r) }
+    ensures one { (text other more rest : List ℕ) (r s : HttpRequest) → IsRequest text r → IsRequest other s
+        → text ++ more ≡ other ++ rest → (text ≡ other) × (r ≡ s) }
+{}
+
+/// For any bytes, the requests that are cut from them are those of the texts at their front, one behind the other up to
+/// the first bytes that begin with none.
+pub fn texts_of_requests_are_cut()
+    ensures read { (bytes : List ℕ) → AreCut bytes (cut bytes).requests }
+    ensures whole { (bytes : List ℕ) (requests : List HttpRequest) → AreCut bytes requests → (cut bytes).requests ≡ requests }
 {}
 
 /// What is decided stays decided, whatever follows; a request has a byte at least and lies within the bytes.

@@ -18,9 +18,10 @@ pub use fields::{eq_ignore_ascii_case, trim_ows};
 pub use inbox::{FeedError, Inbox};
 pub use kapi_text::Memory;
 pub use laws::{
-    faults_are_decided_early, fronts_are_cut_alike, heads_are_those_of_the_grammar, items_stay,
+    bodies_in_chunks_are_read, faults_are_decided_early, fronts_are_cut_alike,
+    heads_are_those_of_the_grammar, heads_end_where_the_grammar_ends, items_stay,
     pieces_are_cut_alike, printed_chunks_are_read, printed_heads_are_read, requests_are_cut_apart,
-    worked_texts,
+    requests_are_those_of_the_grammar, texts_of_requests_are_cut, worked_texts,
 };
 pub use message::{Header, HttpFault, HttpRequest, Method, Reply, StatusCode};
 pub use reply::write_reply;

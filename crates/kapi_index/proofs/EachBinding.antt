@@ -1,5 +1,5 @@
 -- The bindings of all namespaces, one namespace after the other.
-use Rattle.std.proofs.Common.{◌≡◌, ℕ, Bool, true, false, not, cond, ◌==◌, if◌then◌else◌, List, [], ◌∷◌, ◌++◌, length, map, refl, sym, ap, append_assoc, ◌∙◌}
+use Rattle.std.proofs.Common.{◌≡◌, ℕ, Bool, true, false, ◌==◌, if◌then◌else◌, List, [], ◌∷◌, ◌++◌, length, map, refl, sym, ap, append_assoc, ◌∙◌}
 use Rattle.std.proofs.lemmas.List.{map-append}
 use Rattle.std.proofs.lemmas.List.Elements.{filter-append}
 use Rattle.std.specs.List.{filter}
@@ -7,7 +7,6 @@ use Rattle.kapi_model.specs.declared.binding.RoleBinding.{RoleBinding}
 use Rattle.kapi_policy.specs.All.{all_bindings, bindings_in_namespaces, has_namespace}
 use Rattle.kapi_policy.specs.Decided.{Binding, cluster_binding, namespace_binding}
 use Rattle.kapi_policy.specs.Objects.{PolicyObjects}
-use Rattle.kapi_policy.specs.declared.change.NamespacedName.{NamespacedName}
 use Rattle.kapi_policy.specs.declared.decision.BindingKind.TheVariants as kind
 use Rattle.kapi_index.specs.Contents.{binding_at, bindings_in, bindings_of_space, cluster_wide, in_all, placed}
 use Rattle.kapi_index.specs.Scopes.{Scoped}

@@ -1,5 +1,5 @@
 -- The bindings of a namespace, or the cluster-wide ones, and their index by subject.
-use Rattle.std.specs.Prelude.{◌≡◌, ℕ, Bool, ◌&&◌, List, [], ◌∷◌, map, Option, Some, None}
+use Rattle.std.specs.Prelude.{◌≡◌, ℕ, suc, ◌+◌, Bool, ◌&&◌, List, [], ◌∷◌, length, map, Option, Some, None}
 use denote.Bor.{Bor}
 use Rattle.std.specs.BTreeMap.{is_at}
 use Rattle.std.specs.BTreeMap.Range.{is_from_start}
@@ -28,6 +28,11 @@ bare es = map (λ e. (e.0, e.1.binding)) es
 -- whether some subject of a binding in the namespace matches the identity
 abbrev pub means : List ℕ → Identity → RoleBinding → Bool
 means namespace identity b = list_any (λ s. subject_matches s namespace identity) b.subjects
+
+-- the looks that a walk over some bindings takes: one at each binding, and one at each of its subjects
+abbrev pub looks : List (List ℕ × RoleBinding) → ℕ
+looks [] = 0
+looks (e ∷ es) = suc (length e.1.subjects) + looks es
 
 -- the bindings from a name on that match the identity
 abbrev pub left : Identity → Start (List ℕ) → Scoped → List (List ℕ × RoleBinding)

@@ -1,12 +1,12 @@
 //! The bindings of a namespace, or the cluster-wide ones, with their index by user and group.
-ghost use Rattle.std.specs.Prelude.{◌≡◌, ◌∷◌, [], true, IfSome, MatchOption, OnErr, OnOk, option_copied};
+ghost use Rattle.std.specs.Prelude.{◌≡◌, ◌∷◌, [], nat_le, true, IfSome, MatchOption, OnErr, OnOk, option_copied};
 ghost use Rattle.std.specs.BTreeMap.{insert_entry, is_at};
 ghost use Rattle.std.specs.List.Sorted.{IsStrictlySortedBy};
 ghost use Rattle.std.specs.Map.{keys_of, lookup, remove_entry};
 ghost use Rattle.std.specs.Range.Bound.{bound_map};
 ghost use Rattle.kapi_policy.specs.Objects.{name_cmp};
 ghost use Rattle.kapi_index.specs.Listed.{Adds, AreOrdered, AreSame, HasAt, Removes};
-ghost use Rattle.kapi_index.specs.Scopes.{IsIndex, bare, first_name as first_name_of, group_keys, keys_in, least, left as left_of, means, named_now, user_keys, with_name};
+ghost use Rattle.kapi_index.specs.Scopes.{IsIndex, bare, first_name as first_name_of, group_keys, keys_in, least, left as left_of, looks, means, named_now, user_keys, with_name};
 
 use crate::keys::Keys;
 use crate::sets::{NameSets, add_all, first_under, remove_all};
@@ -27,8 +27,9 @@ pub struct Bound {
 
 pub type Bindings = BTreeMap<Text, Bound>;
 
-/// The number of bindings up to which checking each is faster than looking up a user and the user's groups.
-const FEW: usize = 32;
+/// The number of looks, at a binding or at one of its subjects, up to which a walk over all bindings is faster than
+/// looking up a user and the user's groups.
+const FEW_LOOKS: usize = 64;
 
 /// The bindings of one namespace by name, or, where the namespace is empty, the cluster-wide ones.
 #[derive(Drop)]
@@ -237,6 +238,21 @@ fn first_name<'a>(
     found
 }
 
+/// Whether a walk over the bindings takes few looks. It looks itself at no more bindings than that.
+fn takes_few_looks(bindings: &Bindings) -> bool
+    ensures { result ≡ nat_le (looks (bare bindings.now.entries)) 64 }
+{
+    let mut left = FEW_LOOKS;
+    for (_name, bound) in bindings {
+        let subjects = bound.binding.subjects.as_slice().len();
+        if left <= subjects {
+            return false;
+        }
+        left -= subjects + 1;
+    }
+    true
+}
+
 fn named<'a>(bindings: &'a Bindings, name: &'a Text) -> Option<(&'a Text, &'a RoleBinding)>
     ensures { named_now result ≡ with_name name.now (lookup (is_at (name_cmp name.now)) bindings.now.entries) }
 {
@@ -247,12 +263,12 @@ fn named<'a>(bindings: &'a Bindings, name: &'a Text) -> Option<(&'a Text, &'a Ro
 }
 
 impl Scope {
-    ghost use Rattle.std.specs.Prelude.{◌≡◌, ◌∷◌, [], true, length, nat_le, IfOk, IfSome, MatchOption, OnErr, OnOk};
+    ghost use Rattle.std.specs.Prelude.{◌≡◌, ◌∷◌, [], true, nat_le, IfOk, IfSome, MatchOption, OnErr, OnOk};
     ghost use Rattle.std.specs.BTreeMap.{insert_entry, is_at};
     ghost use Rattle.std.specs.Map.{remove_entry};
     ghost use Rattle.std.specs.Range.Bound.{bound_map};
     ghost use Rattle.kapi_policy.specs.Objects.{name_cmp};
-    ghost use Rattle.kapi_index.specs.Scopes.{bare, left as left_of, means};
+    ghost use Rattle.kapi_index.specs.Scopes.{bare, left as left_of, looks, means};
 
     /// The scope of a namespace, without bindings.
     pub fn new(alloc: Global, namespace: Text) -> Scope
@@ -283,9 +299,9 @@ impl Scope {
 
     /// Whether checking each binding is faster than looking up those that match an identity.
     pub fn has_few(&self) -> bool
-        ensures { result ≡ nat_le (length self.now.bindings) FEW }
+        ensures { result ≡ nat_le (looks self.now.bindings) 64 }
     {
-        self.bindings.len() <= FEW
+        takes_few_looks(&self.bindings)
     }
 
     /// Puts a binding under its name. A failed allocation changes nothing.

@@ -1,7 +1,6 @@
 use kapi_http::Method::{self, Get, Put};
-use kapi_request_info::{Attributes, InfoError, info, query_value};
+use kapi_request_info::{Attributes, InfoError, info};
 use kapi_rules::Point;
-use kapi_text::TryCopy;
 use std::alloc::{AllocError, Global};
 use std::process::Abort;
 use std::test::Fail;
@@ -113,24 +112,4 @@ fn expect_rows(rt: &impl Abort, alloc: Global, rows: &[(Method, &str, &str)]) ->
 #[test]
 fn versions_parts_and_pairs(rt: HostRuntime) -> Result<(), Fail> {
     expect_rows(&rt, rt.alloc(), &ROWS)
-}
-
-#[test]
-fn the_first_of_a_repeated_key(rt: HostRuntime) -> Result<(), Fail> {
-    let attributes = info(rt.alloc(), Get, "/a?b=1&c=2&b=3")?;
-    let query = attributes.query.as_slice();
-    assert_eq!(rt; query_value(query, "b"), Some("1"));
-    assert_eq!(rt; query_value(query, "c"), Some("2"));
-    assert!(rt; query_value(query, "d").is_none());
-    Ok(())
-}
-
-#[test]
-fn a_copy_is_as_its_source(rt: HostRuntime) -> Result<(), Fail> {
-    let target = "/apis/g/v1/namespaces/n/things/t/log?a=b&c=%20";
-    let attributes = info(rt.alloc(), Get, target)?;
-    let copy = attributes.copy(rt.alloc())?;
-    let text = told_attributes(rt.alloc(), &copy)?;
-    assert_eq!(rt; text.as_str(), "n (get,g,things,log,t) v1 3 [a=b] [c= ]");
-    Ok(())
 }

@@ -1,5 +1,5 @@
-//! Tests of the libraries that no script can show: refused allocations, prepared writes that are not committed, the
-//! edges of the window of changes, requests cut at every byte, and copies.
+//! Tests of the libraries that no script can show: prepared writes that are not committed, the edges of the window of
+//! changes, requests cut at every byte, and what no reply tells of a request.
 #![tactic(auto)]
 
 #[cfg(test)]

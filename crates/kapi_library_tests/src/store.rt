@@ -1,10 +1,9 @@
-//! Writes that are prepared and not committed, the last revision, the window of changes, and failed allocations.
+//! Writes that are prepared and not committed, the last revision, and the window of changes.
 ghost use Rattle.std.specs.Prelude.{◌≡◌, ◌≤◌, IfOk, map};
 ghost use Rattle.std.specs.List.{IsDistinct};
 ghost use Rattle.std.specs.Map.{keys_of};
 ghost use Rattle.kapi_store.specs.Keys.{is_key};
 ghost use Rattle.kapi_store.specs.Listing.{shown};
-ghost use Rattle.kapi_store.specs.State.{Fits};
 
 use kapi_object::{Object, ResourceRow, Schema, Selector, read_object};
 use kapi_store::{Change, Key, LAST_REVISION, Listed, Ready, Store, StoreError};
@@ -361,96 +360,5 @@ fn a_change_has_its_old_object(rt: HostRuntime) -> Result<(), Fail> {
     let old = old_after(alloc, &store, 101)?;
     let told = old.as_str().contains("\"resourceVersion\":\"101\"");
     is_so(&rt, told, "the old object's version");
-    Ok(())
-}
-
-// ---- failed allocations: with each one refused in turn, the state is as before, and the same call then succeeds
-
-/// Makes a prepared write, where it was not refused.
-fn commit_if(store: &mut Store, ready: Result<Ready, StoreError>)
-    requires { IfOk ready (Fits store.old) }
-{
-    match ready {
-        Ok(ready) => store.commit(ready),
-        Err(_refused) => {}
-    }
-}
-
-/// Whether a write was refused as an allocation failed.
-fn wants_memory(ready: &Result<Ready, StoreError>) -> bool {
-    matches!(ready, Err(StoreError::Memory))
-}
-
-fn prepared_creation(alloc: Global, store: &mut Store) -> Result<Result<Ready, StoreError>, Fail>
-    ensures { IfOk result (λ r. IfOk r (Fits store.new)) }
-{
-    Ok(store.create(key_at(alloc, "configmaps/n/a")?, object(alloc, "1")?))
-}
-
-#[test]
-fn want_of_memory_creates_nothing(rt: HostRuntime) -> Result<(), Fail> {
-    let alloc = rt.alloc();
-    let mut store = store_at(alloc, 0)?;
-    put_all(alloc, &mut store, &["namespaces//n"])?;
-    let mut ready = prepared_creation(alloc, &mut store)?;
-    if wants_memory(&ready) {
-        is_so(
-            &rt,
-            !is_there(alloc, &store, "configmaps/n/a")?,
-            "nothing is created",
-        );
-        is_number(&rt, store.revision(), 1);
-        ready = prepared_creation(alloc, &mut store)?;
-    }
-    commit_if(&mut store, ready);
-    is_so(&rt, is_there(alloc, &store, "configmaps/n/a")?, "created");
-    is_number(&rt, store.revision(), 2);
-    Ok(())
-}
-
-fn prepared_replacement(alloc: Global, store: &Store) -> Result<Result<Ready, StoreError>, Fail>
-    ensures { IfOk result (λ r. IfOk r (Fits store.now)) }
-{
-    Ok(store.replace(key_at(alloc, "others//a")?, object(alloc, "2")?))
-}
-
-#[test]
-fn want_of_memory_replaces_nothing(rt: HostRuntime) -> Result<(), Fail> {
-    let alloc = rt.alloc();
-    let mut store = store_at(alloc, 0)?;
-    put_all(alloc, &mut store, &["others//a"])?;
-    let mut ready = prepared_replacement(alloc, &store)?;
-    is_number(&rt, store.revision(), 1);
-    if wants_memory(&ready) {
-        ready = prepared_replacement(alloc, &store)?;
-    }
-    commit_if(&mut store, ready);
-    is_number(&rt, store.revision(), 2);
-    Ok(())
-}
-
-fn prepared_removal(alloc: Global, store: &Store) -> Result<Result<Ready, StoreError>, Fail>
-    ensures { IfOk result (λ r. IfOk r (Fits store.now)) }
-{
-    let keys = key_at(alloc, "namespaces//n")?.alone(alloc)?;
-    Ok(store.remove(keys))
-}
-
-#[test]
-fn want_of_memory_removes_nothing(rt: HostRuntime) -> Result<(), Fail> {
-    let alloc = rt.alloc();
-    let mut store = store_at(alloc, 0)?;
-    put_all(alloc, &mut store, &["namespaces//n"])?;
-    let mut ready = prepared_removal(alloc, &store)?;
-    if wants_memory(&ready) {
-        is_so(
-            &rt,
-            is_there(alloc, &store, "namespaces//n")?,
-            "nothing is removed",
-        );
-        ready = prepared_removal(alloc, &store)?;
-    }
-    commit_if(&mut store, ready);
-    is_so(&rt, !is_there(alloc, &store, "namespaces//n")?, "removed");
     Ok(())
 }

@@ -1,6 +1,5 @@
 use crate::items::repeated;
-use kapi_http::{Memory, Reply, StatusCode, write_chunk, write_end, write_reply};
-use kapi_text::Sequence;
+use kapi_http::{StatusCode, write_chunk, write_end};
 use std::alloc::Global;
 use std::process::Abort;
 use std::test::Fail;
@@ -23,51 +22,6 @@ fn chunks_are_written(rt: HostRuntime) -> Result<(), Fail> {
     expect_chunk(&rt, alloc, 1_048_576, b"100000\r\n")?;
     let written = write_end(alloc)?;
     assert_eq!(rt; written.as_slice(), b"0\r\n\r\n".as_slice());
-    Ok(())
-}
-
-#[test]
-fn a_refused_chunk_is_written_again(rt: HostRuntime) -> Result<(), Fail> {
-    match write_chunk(rt.alloc(), b"abc") {
-        Ok(text) => assert!(rt; text.len() == 8),
-        Err(_) => assert!(rt; write_chunk(rt.alloc(), b"abc")?.len() == 8),
-    }
-    Ok(())
-}
-
-#[test]
-fn a_refused_end_is_written_again(rt: HostRuntime) -> Result<(), Fail> {
-    match write_end(rt.alloc()) {
-        Ok(text) => assert!(rt; text.len() == 5),
-        Err(_) => assert!(rt; write_end(rt.alloc())?.len() == 5),
-    }
-    Ok(())
-}
-
-fn reply(alloc: Global, code: StatusCode, body: Option<&[u8]>) -> Result<Reply, Memory> {
-    let body = match body {
-        Some(bytes) => Some(Sequence::new(Vec::from_slice(alloc, bytes)?)),
-        None => None,
-    };
-    Ok(Reply {
-        code,
-        plain: false,
-        allow: Sequence::new(Vec::new(alloc)),
-        chunked: false,
-        close: false,
-        body,
-    })
-}
-
-#[test]
-fn a_refused_reply_is_written_again(rt: HostRuntime) -> Result<(), Fail> {
-    let Ok(given) = reply(rt.alloc(), StatusCode::Ok, Some(b"ok")) else {
-        return Ok(());
-    };
-    match write_reply(rt.alloc(), &given) {
-        Ok(text) => assert!(rt; text.len() == 72),
-        Err(_) => assert!(rt; write_reply(rt.alloc(), &given)?.len() == 72),
-    }
     Ok(())
 }
 

@@ -27,6 +27,7 @@ fn load_lines<R: Wait>(
     lines: &[Line<'_>],
 ) -> Result<(), StartError>
     requires free { desk.old.waiting ≡ [] }
+    ensures desk { desk.new.desk ≡ desk.old.desk }
     ensures opening { desk.new.opening ≡ desk.old.opening }
     ensures waiting { OnOk result (desk.new.waiting ≡ []) }
     ensures reaches { (m : Machine) → Publishes core.old desk.old m → Reaches core.new desk.new result (loaded m (map line_of lines.now)) }
@@ -58,6 +59,7 @@ fn make_turns<R: Wait>(
     desk: &mut Desk,
 ) -> Result<(), StartError>
     requires free { desk.old.waiting ≡ [] }
+    ensures desk { desk.new.desk ≡ desk.old.desk }
     ensures opening { desk.new.opening ≡ desk.old.opening }
     ensures waiting { OnOk result (desk.new.waiting ≡ []) }
     ensures reaches { (m : Machine) → Publishes core.old desk.old m → Reaches core.new desk.new result (Ok (turned TURNS m)) }
@@ -76,6 +78,7 @@ fn make_turns<R: Wait>(
 #[tactic(auto, using(crate::proofs::Published::published_none, crate::proofs::Published::published_step, crate::proofs::Published::listed_none, crate::proofs::Published::listed_step))]
 fn publish<R: Wait>(rt: &R, desk: &mut Desk, step: PolicyStep) -> Result<(), Memory>
     requires free { desk.old.waiting ≡ [] }
+    ensures desk { desk.new.desk ≡ desk.old.desk }
     ensures opening { desk.new.opening ≡ desk.old.opening }
     ensures waiting { OnOk result (desk.new.waiting ≡ []) }
     ensures list { OnOk result (desk.new.list ≡ desk.old.list ++ step_of step) }
@@ -98,6 +101,7 @@ pub fn publish_policy<R: Wait>(
     lines: &[Line<'_>],
 ) -> Result<(), StartError>
     requires free { desk.old.waiting ≡ [] }
+    ensures desk { desk.new.desk ≡ desk.old.desk }
     ensures opening { desk.new.opening ≡ desk.old.opening }
     ensures waiting { OnOk result (desk.new.waiting ≡ []) }
     ensures reaches { (m : Machine) → Publishes core.old desk.old m → Reaches core.new desk.new result (made_of m (map line_of lines.now)) }

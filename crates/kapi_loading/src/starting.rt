@@ -40,7 +40,7 @@ pub fn start<R: Wait>(
     ensures unopened { IfOk result (λ s. s.core.next_id ≡ 0) }
     ensures waiting { IfOk result (λ s. s.desk.waiting ≡ []) }
     ensures steps { IfOk result (λ s. s.desk.list ≡ steps_made (opening program_rows first) (lines_of objects.now)) }
-    ensures seats { IfOk result (λ s. s.seats.items ≡ replicate seats (fresh s.desk.opening)) }
+    ensures seats { IfOk result (λ s. s.seats.items ≡ replicate seats (fresh s.desk)) }
 {
     let lines = numbered_lines(alloc, objects)?;
     let mut core = Core::new(

@@ -1,5 +1,5 @@
 -- What is left of a rule are its missing atoms.
-use Rattle.std.proofs.Common.{◌≡◌, ℕ, zero, suc, ◌+◌, ◌==◌, Bool, true, false, not, ◌&&◌, ◌||◌, if◌then◌else◌, List, [], ◌∷◌, ◌++◌, length, map, refl, ap, subst, sym, ◌∙◌, arith}
+use Rattle.std.proofs.Common.{◌≡◌, ℕ, zero, suc, ◌+◌, ◌==◌, Bool, true, false, not, ◌&&◌, ◌||◌, if◌then◌else◌, List, [], ◌∷◌, ◌++◌, length, map, refl, ap, sym, ◌∙◌, arith}
 use Rattle.std.proofs.Math.Dec.{eqb-suc-zero}
 use Rattle.std.specs.List.{filter, flat_map, list_any}
 use Rattle.std.specs.Str.{bytes_eq}
@@ -13,9 +13,9 @@ use Rattle.kapi_rules.specs.declared.atom.Atom.{Atom}
 use Rattle.kapi_rules.specs.declared.atom.Atom.TheVariants as atom
 use Rattle.kapi_rules.specs.declared.atom.Names.{Names}
 use Rattle.kapi_rules.specs.declared.atom.Names.TheVariants as names
-use Rattle.kapi_missing.proofs.Repeats.{either_way, filter_append, has_atom, is_stopped, missing_more}
+use Rattle.kapi_missing.proofs.Repeats.{either_way, filter_append, has_atom, missing_more}
 use Rattle.kapi_missing.specs.Private.Bars.{AreLeft, barred, meets, name_marks, whole_name_marks}
-use Rattle.kapi_missing.specs.Private.Left.{each, left, left_urls, marked, url_marked}
+use Rattle.kapi_missing.specs.Private.Left.{each, is_stopped, left, left_atoms, left_urls, marked, url_marked}
 use Rattle.kapi_missing.specs.Private.Marks.{at}
 use Rattle.kapi_missing.specs.Private.Once.{once}
 use Rattle.kapi_missing.specs.declared.bars.Dimension.TheVariants as dimension
@@ -229,20 +229,15 @@ split_atoms : (q : Atom → Bool) (w : PolicyRule)
 unfolding atoms
 split_atoms q w = filter_append q (flat_map (group_atoms w) w.api_groups) (flat_map (url_atoms w) w.non_resource_urls)
 
--- what is left of the planned rule is what it adds to the missing atoms
-pub left_is_missing : (held earlier : List PolicyRule) (wanted : PolicyRule) (resources urls : List Marks)
-    → AreLeft held earlier sort.Resources (once wanted) resources → AreLeft held earlier sort.Urls (once wanted) urls
-    → missing held (earlier ++ wanted ∷ []) ≡ missing held earlier ++ (left resources (once wanted) ++ left_urls urls (once wanted))
-left_is_missing held earlier wanted resources urls are are_urls =
-    missing_more held earlier wanted
-    ∙ ap (λ r. missing held earlier ++ r)
-    (split_atoms (is_left held earlier (once wanted)) (once wanted)
-    ∙ rw (left_resources held earlier (once wanted) resources are, left_on_urls held earlier (once wanted) urls are_urls) refl)
+-- what is left of the planned rule are its missing atoms
+pub planned_left : (held earlier : List PolicyRule) (w : PolicyRule) (resources urls : List Marks)
+    → AreLeft held earlier sort.Resources w resources → AreLeft held earlier sort.Urls w urls → left resources w ++ left_urls urls w ≡ left_atoms held earlier w
+unfolding left_atoms
+planned_left held earlier w resources urls are are_urls =
+    sym (split_atoms (is_left held earlier w) w ∙ rw (left_resources held earlier w resources are, left_on_urls held earlier w urls are_urls) refl)
 
-pub planned_is_missing : (held earlier : List PolicyRule) (wanted w : PolicyRule) (resources urls : List Marks) → w ≡ once wanted
-    → AreLeft held earlier sort.Resources w resources → AreLeft held earlier sort.Urls w urls
-    → missing held (earlier ++ wanted ∷ []) ≡ missing held earlier ++ (left resources w ++ left_urls urls w)
-planned_is_missing held earlier wanted w resources urls is are are_urls =
-    let parts : AreLeft held earlier sort.Resources (once wanted) resources = subst (λ (r : PolicyRule). AreLeft held earlier sort.Resources r resources) is are in
-    let on_urls : AreLeft held earlier sort.Urls (once wanted) urls = subst (λ (r : PolicyRule). AreLeft held earlier sort.Urls r urls) is are_urls in
-    rw is (left_is_missing held earlier wanted resources urls parts on_urls)
+-- they are what it adds to the missing atoms
+pub missing_and_left : (held earlier : List PolicyRule) (wanted : PolicyRule)
+    → missing held (earlier ++ wanted ∷ []) ≡ missing held earlier ++ left_atoms held earlier (once wanted)
+unfolding left_atoms
+missing_and_left held earlier wanted = missing_more held earlier wanted

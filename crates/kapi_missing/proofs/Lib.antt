@@ -9,3 +9,4 @@ pub mod Adding
 pub mod Losing
 pub mod Both
 pub mod Lefts
+pub mod Sliced

@@ -1,28 +1,36 @@
 -- Parts that lose what rules stop, one rule after another.
-use Rattle.std.proofs.Common.{◌≡◌, ℕ, ◌==◌, Bool, true, false, not, ◌&&◌, ◌||◌, ◌⊎◌, inl, inr, List, ◌++◌, length, nat_cmp, refl, ap, sym, ◌∙◌, arith}
+use Rattle.std.proofs.Common.{◌≡◌, ℕ, ◌==◌, Bool, true, false, not, ◌&&◌, ◌||◌, ◌⊎◌, inl, inr, List, [], ◌∷◌, ◌++◌, length, map, nat_cmp, refl, ap, sym, ◌∙◌, arith}
+use Rattle.std.proofs.Math.Dec.{eqb-suc-zero}
 use Rattle.std.proofs.lemmas.Bool.{or_cases}
 use Rattle.std.proofs.lemmas.Bool.Decides.{nat_tests}
 use Rattle.std.proofs.lemmas.List.Folds.{list_any-append}
 use Rattle.std.specs.BTreeSet.{BTreeSet, contains}
 use Rattle.std.specs.List.{flat_map, list_any}
+use Rattle.kapi_model.specs.declared.policy_rule.PolicyRule.{PolicyRule}
 use Rattle.kapi_rules.proofs.Parts.{any_flat_map}
 use Rattle.kapi_missing.proofs.Adding.{through}
 use Rattle.kapi_missing.proofs.Masked.{not_unlike}
 use Rattle.kapi_missing.proofs.Pieces.{none_there, regrouped}
 use Rattle.kapi_missing.proofs.Placed.{all_found}
-use Rattle.kapi_missing.specs.Private.Bars.{barred}
+use Rattle.kapi_missing.specs.Private.Bars.{barred, rule_in}
 use Rattle.kapi_missing.specs.Private.Index.{AreAllPlaced, numbers_at, rules_in}
 use Rattle.kapi_missing.specs.Private.Marks.{some_has}
 use Rattle.kapi_missing.specs.Private.Stopped.{AreMasksOf, AreTried, Loses, some_under, stops_at, unlike_at}
+use Rattle.kapi_missing.specs.declared.bars.Bar.{Bar}
 use Rattle.kapi_missing.specs.declared.index.Bars.{Bars}
 use Rattle.kapi_missing.specs.declared.marks.Marks.{Marks}
 use Rattle.kapi_missing.specs.declared.stopped.Wanted.{Wanted}
 
-module _ (bars : Bars) (wanted : Wanted) where
-  unlost : (a : Bool) → a ≡ (a && not false)
-  unlost true = refl
-  unlost false = refl
+unlost : (a : Bool) → a ≡ (a && not false)
+unlost true = refl
+unlost false = refl
 
+-- no rule stops anything where there is none
+pub no_rules : (bars : List Bar) (p : PolicyRule → Bool) (a : Bool) → (length bars == 0) ≡ true → a ≡ (a && not (list_any p (map rule_in bars)))
+no_rules [] p a none = unlost a
+no_rules (b ∷ bars) p a none = absurd (let some = sym (eqb-suc-zero (length bars)) ∙ none in cc)
+
+module _ (bars : Bars) (wanted : Wanted) where
   pub loses_none : (tried : BTreeSet ℕ) (parts : List Marks) → Loses bars wanted (λ i j k l. false) tried parts tried parts
   loses_none tried parts = λ placed asked were. (were, λ i j k l. unlost (some_has parts i j k l))
 

@@ -17,6 +17,7 @@ use Rattle.kapi_rules.specs.declared.atom.Atom.{Atom}
 use Rattle.kapi_rules.specs.declared.atom.Atom.TheVariants as atom
 use Rattle.kapi_rules.specs.declared.atom.Names.{Names}
 use Rattle.kapi_rules.specs.declared.atom.Names.TheVariants as names
+use Rattle.kapi_missing.specs.Private.Left.{is_stopped}
 use Rattle.kapi_missing.specs.Private.Once.{once, once_each, with_word}
 
 -- ---- elements of lists
@@ -434,10 +435,6 @@ module _ (p : Atom → Bool) where
       by_case true s more = rw s (inner (list_any (λ f. same_atom f x) found) (has_atom found x) (sym (either_way x found)) more)
 
 -- ---- one wanted rule more
-
--- an atom that a held rule implies, or that an earlier wanted rule has
-abbrev pub is_stopped : List PolicyRule → List PolicyRule → Atom → Bool
-is_stopped held before a = list_any (λ h. rule_implies h a) held || list_any (λ w. has_atom (atoms w) a) before
 
 same_filter : (p q : Atom → Bool) (list : List Atom) → ((a : Atom) → p a ≡ q a) → filter p list ≡ filter q list
 same_filter p q [] same = refl

@@ -5,5 +5,6 @@ pub mod Marks
 pub mod Bars
 pub mod Masks
 pub mod Left
+pub mod Slices
 pub mod Index
 pub mod Stopped

@@ -10,6 +10,7 @@ mod masks;
 mod missing_atoms;
 mod once;
 mod plans;
+mod slices;
 mod stopped;
 mod wide;
 mod words;

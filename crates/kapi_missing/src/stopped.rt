@@ -195,6 +195,9 @@ pub fn without_bars(
     ensures { IfOk result (λ v. AreAllPlaced bars.now → (i j k l : ℕ) → some_has v.items i j k l
         ≡ (some_has parts.items i j k l && not (list_any (λ b. barred bars.now.is_held sort b rule.now i j k l) (rules_in bars.now)))) }
 {
+    if bars.rules.is_empty() {
+        return Ok(parts);
+    }
     let masks = wanted_masks(&bars.seen, rule);
     let left = without_found(alloc, parts, bars, &Wanted { sort, rule, masks })?;
     Ok(left)

@@ -170,10 +170,10 @@ fn ask_while_published<R: Threads + Wait + Sync>(
     seats: Vec<Seat>,
 ) -> Result<Vec<Reader>, Fail> {
     let (ann, pods) = (identity(alloc, "ann", "g")?, point(alloc)?);
-    let (published, readers) = thread::join(
+    let (readers, published) = thread::join(
         rt,
-        || publish_often(rt, alloc, desk),
         || thread::map_vec(rt, seats, &|seat| ask_often(seat, &ann, &pods)),
+        || publish_often(rt, alloc, desk),
     );
     if published? == 1_000 {
         Ok(readers?)

@@ -1,5 +1,5 @@
-//! Tests of what no transcript shows: failed allocations, lists of events, the last revision, a window of 1,024
-//! changes, readers in pieces, audits, and a desk and its seats in threads.
+//! Tests of what no transcript shows: lists of events, the last revision, a window of 1,024 changes, readers in pieces,
+//! audits, and a desk and its seats in threads.
 #![tactic(auto)]
 
 #[cfg(test)]

@@ -1,5 +1,8 @@
 //! A creation that the machine refuses.
-ghost use Rattle.std.specs.Prelude.{◌≡◌, IfOk};
+ghost use Rattle.std.specs.Prelude.{◌≡◌, ◌≤◌, IfOk};
+ghost use Rattle.kapi_core.specs.Opening.{opening};
+ghost use Rattle.kapi_core.specs.ProgramTable.{program_rows};
+ghost use Rattle.kapi_core.specs.Refines.{Refines};
 ghost use Rattle.kapi_reasons.specs.Private.Requests as requests;
 
 use crate::words::refusal_words;
@@ -10,9 +13,12 @@ use kapi_text::{Memory, Sequence, Text};
 use serde_json::{Error, Value};
 use std::alloc::{AllocError, Global};
 
-/// A machine with the opening objects alone.
-pub fn begun(alloc: Global) -> Result<Core<PlainPolicy>, Memory> {
-    Core::new(alloc, program_table(alloc)?, PlainPolicy::new(alloc), 0)
+/// A machine with the opening objects alone, at the revisions after `first`.
+pub fn begun(alloc: Global, first: u64) -> Result<Core<PlainPolicy>, Memory>
+    requires first { first ≤ 281474976710650 }
+    ensures stands { IfOk result (λ core. Refines core (opening program_rows first)) }
+{
+    Core::new(alloc, program_table(alloc)?, PlainPolicy::new(alloc), first)
 }
 
 /// Why the machine refuses to create what the bytes are at a target; none where it does not refuse.

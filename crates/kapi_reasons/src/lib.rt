@@ -1,10 +1,16 @@
-//! Why a line of a file is refused, in words: what the machine answers a member of `system:masters` who sends it.
+//! Why a line of a file is refused, in words: what the machine answers a member of `system:masters` who sends it, or what
+//! is wrong with its words.
 #![tactic(auto)]
 
 mod asking;
+mod events;
+mod forms;
 mod objects;
 mod questions;
+mod shown;
 mod words;
 
+pub use events::script_reason;
+pub use forms::form_reason;
 pub use objects::object_reason;
 pub use questions::question_reason;

@@ -1,43 +1,86 @@
 //! Why an object is not loaded.
-ghost use Rattle.std.specs.Prelude.{◌≡◌, IfOk, string_bytes};
+ghost use Rattle.std.specs.Prelude.{◌≡◌, ◌≤◌, true, IfOk, IfSome, OnOk, is_err, is_some, map, string_bytes};
+ghost use Rattle.kapi_answer.specs.Load.{fault_told};
+ghost use Rattle.kapi_core.specs.Machine.{Machine};
+ghost use Rattle.kapi_core.specs.Refines.{Refines};
+ghost use Rattle.kapi_lines.specs.Lines.{line_of};
+ghost use Rattle.kapi_loading.specs.Loading.{loaded, machine_from};
 ghost use Rattle.kapi_reasons.specs.Private.Requests as requests;
+ghost use Rattle.kapi_reasons.specs.Reasons.{is_reason};
 
 use crate::asking::{Read, begun, read_line, refusal};
+use crate::shown::one_line;
 use crate::words::text_at;
 use kapi_core::{Core, LoadError, program_table};
-use kapi_lines::numbered_lines;
+use kapi_lines::{Line, numbered_lines};
 use kapi_model::{ResourceRow, check_namespace_name};
 use kapi_policy::PlainPolicy;
 use kapi_text::Memory;
 use serde_json::Value;
 use std::alloc::{AllocError, Global};
 
-/// Why the line of this number of a file of objects is not loaded, where the lines before it are. It is asked of a
-/// machine that has loaded these; the first line is 1.
-pub fn object_reason(alloc: Global, objects: &[u8], number: usize) -> Result<String, Memory> {
+/// Why the first line of a file of objects that is not loaded is not, on a machine whose revisions begin after `first`;
+/// nothing where all lines are loaded. It is asked of a machine that has loaded the lines before.
+#[tactic(auto, using(crate::proofs::Loaded::made_fails))]
+pub fn object_reason(alloc: Global, first: u64, objects: &[u8]) -> Result<Option<String>, Memory>
+    requires first { first ≤ 281474976710650 }
+    ensures bad { IfOk result (λ reason. is_some reason ≡ is_err (machine_from first objects.now)) }
+    ensures line { IfOk result (λ reason. IfSome reason (λ r. is_reason (string_bytes r) ≡ true)) }
+{
     let lines = numbered_lines(alloc, objects)?;
-    let mut core = begun(alloc)?;
-    for line in lines.iter() {
-        if line.number == number {
-            return line_reason(alloc, &mut core, line.text);
-        }
-        if core.load(line.text).is_err() {
-            return Err(AllocError);
-        }
-    }
-    String::from_str(alloc, "the file has no such line")
+    let mut core = begun(alloc, first)?;
+    first_reason(alloc, &mut core, lines.as_slice())
 }
 
-/// Why a machine does not load a line.
-fn line_reason(alloc: Global, core: &mut Core<PlainPolicy>, line: &[u8]) -> Result<String, Memory> {
-    match read_line(alloc, line)? {
-        Read::Object(object) => match core.load(line) {
-            Ok(_step) => String::from_str(alloc, "no revision is left"),
-            Err(LoadError::Memory) => Err(AllocError),
-            Err(LoadError::UnknownKind) => kind_reason(alloc, &object),
-            Err(_refused) => place_reason(alloc, core, &object, line),
-        },
-        Read::Refused(reason) => Ok(reason),
+/// Why a machine does not load the first of some lines that it does not.
+fn first_reason(
+    alloc: Global,
+    core: &mut Core<PlainPolicy>,
+    lines: &[Line<'_>],
+) -> Result<Option<String>, Memory>
+    ensures bad { (m : Machine) → Refines core.old m → IfOk result (λ reason. is_some reason ≡ is_err (loaded m (map line_of lines.now))) }
+    ensures line { IfOk result (λ reason. IfSome reason (λ r. is_reason (string_bytes r) ≡ true)) }
+{
+    for line in lines {
+        match core.load(line.text) {
+            Ok(_step) => {}
+            Err(error) => return Ok(Some(line_reason(alloc, core, line.text, error)?)),
+        }
+    }
+    Ok(None)
+}
+
+/// Why a machine did not load a line, with this error.
+fn line_reason(
+    alloc: Global,
+    core: &mut Core<PlainPolicy>,
+    line: &[u8],
+    error: LoadError,
+) -> Result<String, Memory>
+    ensures fault { OnOk result (is_some (fault_told error) ≡ true) }
+    ensures line { IfOk result (λ r. is_reason (string_bytes r) ≡ true) }
+{
+    if let LoadError::Memory = error {
+        return Err(AllocError);
+    }
+    let reason = match read_line(alloc, line)? {
+        Read::Object(object) => object_fault(alloc, core, &object, line, error)?,
+        Read::Refused(reason) => reason,
+    };
+    one_line(alloc, reason.as_str())
+}
+
+/// Why a machine did not load an object, with this error.
+fn object_fault(
+    alloc: Global,
+    core: &mut Core<PlainPolicy>,
+    object: &Value,
+    line: &[u8],
+    error: LoadError,
+) -> Result<String, Memory> {
+    match error {
+        LoadError::UnknownKind => kind_reason(alloc, object),
+        _ => place_reason(alloc, core, object, line),
     }
 }
 

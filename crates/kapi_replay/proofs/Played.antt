@@ -3,12 +3,14 @@ use Rattle.std.proofs.Common.{◌≡◌, ℕ, Bool, true, false, ◌&&◌, List,
 use Rattle.std.specs.Io.KnownBytes.{Appends}
 use Rattle.kapi_core.specs.Machine.{Machine, with_rechecks}
 use Rattle.kapi_lines.proofs.Appending.{appends_nothing}
-use Rattle.kapi_replay.specs.Failures.{Fails, FailsBy, FailsOn, bad_line, differences, failures_by, failures_on, script_text}
+use Rattle.kapi_replay.specs.Failures.{Fails, FailsAs, FailsBy, FailsOn, IsBadLine, IsNotLoaded, differences, number_at, script_text}
 use Rattle.kapi_replay.specs.Outcomes.{AreFailures, IsReplayed, IsReported}
+use Rattle.kapi_reasons.specs.Reasons.{is_reason}
 use Rattle.kapi_replay.specs.declared.failure.Failure.{Failure}
+use Rattle.kapi_replay.specs.declared.failure.Failure.TheVariants as failure
 use Rattle.kapi_replay.specs.declared.replay.NamedFile.{NamedFile}
 use Rattle.kapi_script.specs.Scripts.{IsAnsweredBy, first_bad, lines, said}
-use Rattle.kapi_loading.specs.Faults.{FileFault}
+use Rattle.kapi_loading.specs.Faults.{FileFault, bad_line}
 use Rattle.kapi_transcript.specs.declared.case.Case.{Case}
 use Rattle.kapi_transcript.specs.declared.case.Loaded.{Loaded}
 
@@ -21,16 +23,33 @@ pub compared : {V E : Type 0} (items : V → List Failure) (r : Result V E) (m :
 compared items (Ok v) m c text answers shown is h same e =
     let told : answers ≡ said m (lines (script_text c.script)) h.0 = rw (← is) (some_is answers (said m (lines text) h.0) h.1) in
     let whole : first_bad (script_text c.script) ≡ None = rw (← is) h.2 in
-    (h.0, e ∙ ap (differences c) (same ∙ told) ∙ ap (λ o. failures_by c o (said m (lines (script_text c.script)) h.0)) (sym whole))
+    (h.0, subst (λ o. FailsAs c o (said m (lines (script_text c.script)) h.0) (items v)) (sym whole) (e ∙ ap (differences c) (same ∙ told)))
 compared items (Err x) m c text answers shown is h same e = tt
 
 -- a line had no known form
 pub refused : {V E : Type 0} (items : V → List Failure) (r : Result V E) (m : Machine) (c : Case) (n : ℕ) (text : List ℕ) (contents : Option (List ℕ))
-    → text ≡ script_text c.script → IsAnsweredBy m text [] contents (Some n) → IfOk r (λ v. items v ≡ bad_line c n) → IfOk r (λ v. FailsOn m c (items v))
+    → text ≡ script_text c.script → IsAnsweredBy m text [] contents (Some n) → IfOk r (λ v. IsBadLine c n (items v)) → IfOk r (λ v. FailsOn m c (items v))
 refused items (Ok v) m c n text contents is h e =
     let bad : first_bad (script_text c.script) ≡ Some n = rw (← is) h.2 in
-    (h.0, e ∙ ap (λ o. failures_by c o (said m (lines (script_text c.script)) h.0)) (sym bad))
+    (h.0, subst (λ o. FailsAs c o (said m (lines (script_text c.script)) h.0) (items v)) (sym bad) e)
 refused items (Err x) m c n text contents is h e = tt
+
+-- a line of no known form is told with a reason
+pub told_form : {V E : Type 0} (items : V → List Failure) (r : Result V E) (c : Case) (n : ℕ) (reason : List ℕ) → is_reason reason ≡ true
+    → IfOk r (λ v. items v ≡ failure.NoForm (number_at c.script n) reason ∷ []) → IfOk r (λ v. IsBadLine c n (items v))
+told_form items (Ok v) c n reason is e = (reason, is, e)
+told_form items (Err x) c n reason is e = tt
+
+-- a line that is not loaded is told with a reason
+pub told_line : {V E : Type 0} (items : V → List Failure) (r : Result V E) (load : Loaded) (n : ℕ) (reason : List ℕ) → is_reason reason ≡ true
+    → IfOk r (λ v. items v ≡ failure.NotLoaded load.number n reason ∷ []) → IfOk r (λ v. IsNotLoaded load n (items v))
+told_line items (Ok v) load n reason is e = (reason, is, e)
+told_line items (Err x) load n reason is e = tt
+
+-- no machine is made, as a line of the file is not loaded
+pub unloaded : {V E : Type 0} (items : V → List Failure) (r : Result V E) (c : Case) (load : Loaded) (n : ℕ) (given : Result Machine FileFault) → given ≡ Err (bad_line n)
+    → IfOk r (λ v. IsNotLoaded load n (items v)) → IfOk r (λ v. FailsBy c load given (items v))
+unloaded items r c load n given is h = subst (λ x. IfOk r (λ v. FailsBy c load x (items v))) (sym is) h
 
 -- the machine is the one that a file makes
 pub loaded : {V E : Type 0} (items : V → List Failure) (r : Result V E) (m : Machine) (c : Case) (load : Loaded) (given : Result Machine FileFault) → given ≡ Ok m

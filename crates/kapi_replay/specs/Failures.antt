@@ -1,5 +1,5 @@
 -- The answers of a case that are not as wanted.
-use Rattle.std.specs.Prelude.{◌≡◌, ℕ, Bool, if◌then◌else◌, List, [], ◌∷◌, ◌++◌, Option, Some, None, option_map, Result, Ok, Err}
+use Rattle.std.specs.Prelude.{◌≡◌, ℕ, Bool, true, if◌then◌else◌, List, [], ◌∷◌, ◌++◌, Option, Some, None, option_map, Result, Ok, Err}
 use Rattle.std.specs.List.{find, flat_map}
 use Rattle.std.specs.Str.{bytes_eq}
 use Rattle.kapi_core.specs.Machine.{Machine, with_rechecks}
@@ -8,6 +8,7 @@ use Rattle.kapi_loading.specs.Faults as file_fault
 use Rattle.kapi_lines.specs.Lines.{parts_of}
 use Rattle.kapi_lines.specs.Words.{nth}
 use Rattle.kapi_loading.specs.Loading.{machine_of}
+use Rattle.kapi_reasons.specs.Reasons.{is_reason}
 use Rattle.kapi_replay.specs.Reports.{line_at}
 use Rattle.kapi_transcript.specs.Wants.{is_met}
 use Rattle.kapi_transcript.specs.declared.case.Case.{Case}
@@ -46,27 +47,28 @@ unmet script answers w =
 abbrev pub differences : Case → List ℕ → List Failure
 differences c text = flat_map (unmet c.script (parts_of text)) c.wants
 
--- the failure of a case whose script has a line of no known form
-abbrev pub bad_line : Case → ℕ → List Failure
-bad_line c n = failure.NoForm (number_at c.script n) ∷ []
+-- the failure of a case whose script has a line of no known form: the line, and a reason
+abbrev pub IsBadLine : Case → ℕ → List Failure → Type 0
+IsBadLine c n failures = (reason : List ℕ) × (is_reason reason ≡ true) × (failures ≡ failure.NoForm (number_at c.script n) reason ∷ [])
 
 -- a line of the script has no known form, or its answers are compared
-abbrev pub failures_by : Case → Option ℕ → List ℕ → List Failure
-failures_by c (Some n) text = bad_line c n
-failures_by c None text = differences c text
+abbrev pub FailsAs : Case → Option ℕ → List ℕ → List Failure → Type 0
+FailsAs c (Some n) text failures = IsBadLine c n failures
+FailsAs c None text failures = failures ≡ differences c text
 
 -- the failures of a case that is played on a machine, which is out of memory at some of the case's lines
-abbrev pub failures_on : Machine → Case → List Bool → List Failure
-failures_on m c refused = failures_by c (first_bad (script_text c.script)) (said m (lines (script_text c.script)) refused)
-
--- these are the failures, for some lines at which the machine is out of memory
 abbrev pub FailsOn : Machine → Case → List Failure → Type 0
-FailsOn m c failures = (refused : List Bool) × (failures ≡ failures_on m c refused)
+FailsOn m c failures =
+    (refused : List Bool) × FailsAs c (first_bad (script_text c.script)) (said m (lines (script_text c.script)) refused) failures
+
+-- the failure of a case that loads a file a line of which is not loaded: the line, and a reason
+abbrev pub IsNotLoaded : Loaded → ℕ → List Failure → Type 0
+IsNotLoaded load n failures = (reason : List ℕ) × (is_reason reason ≡ true) × (failures ≡ failure.NotLoaded load.number n reason ∷ [])
 
 -- the failures on the machine that a file makes, or the line of the file that is not loaded
 abbrev pub FailsBy : Case → Loaded → Result Machine FileFault → List Failure → Type 0
 FailsBy c load (Ok m) failures = FailsOn (with_rechecks c.rechecks m) c failures
-FailsBy c load (Err (file_fault.bad_line n)) failures = failures ≡ failure.NotLoaded load.number n ∷ []
+FailsBy c load (Err (file_fault.bad_line n)) failures = IsNotLoaded load n failures
 
 abbrev pub FailsLoaded : Case → Loaded → List ℕ → List Failure → Type 0
 FailsLoaded c load objects failures = FailsBy c load (machine_of objects) failures

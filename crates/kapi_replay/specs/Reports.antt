@@ -21,17 +21,25 @@ place_text name n = name ++ number_line (codes ":") n
 -- the line of the transcript at which something is not as wanted
 abbrev pub number_of : Failure → ℕ
 number_of (failure.Differs n asked answer) = n
-number_of (failure.NoForm n) = n
+number_of (failure.NoForm n reason) = n
 number_of (failure.NoFile n) = n
-number_of (failure.NotLoaded n line) = n
+number_of (failure.NotLoaded n line reason) = n
+
+-- the event that was answered, if one was
+abbrev pub asked_text : List (List ℕ) → ℕ → List ℕ
+asked_text lines n = if n == 0 then codes "nothing: no request or event comes before it in its case" else line_at lines n
+
+-- a reason, on a line of its own
+abbrev pub reason_text : List ℕ → List ℕ
+reason_text reason = codes "\n  " ++ reason
 
 -- what is not as wanted: the event that was answered, what is wanted and what came; or why nothing came
 abbrev pub what_text : List (List ℕ) → Failure → List ℕ
 what_text lines (failure.Differs n asked answer) =
-    codes "\n  asked  " ++ line_at lines asked ++ codes "\n  wanted " ++ line_at lines n ++ codes "\n  got    " ++ answer
-what_text lines (failure.NoForm n) = codes ": no known form"
+    codes "\n  asked  " ++ asked_text lines asked ++ codes "\n  wanted " ++ line_at lines n ++ codes "\n  got    " ++ answer
+what_text lines (failure.NoForm n reason) = codes ": no known form" ++ reason_text reason
 what_text lines (failure.NoFile n) = codes ": the file cannot be read"
-what_text lines (failure.NotLoaded n line) = number_line (codes ": load line ") line
+what_text lines (failure.NotLoaded n line reason) = number_line (codes ": load line ") line ++ reason_text reason
 
 -- a failure, and where it is
 abbrev pub failure_text : List ℕ → List (List ℕ) → Failure → List ℕ

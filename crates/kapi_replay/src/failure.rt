@@ -5,12 +5,12 @@ use kapi_text::{Sequence, Text};
 pub enum Failure {
     /// An answer is not as wanted: the line, the line of the answered event (0 where there is none), and the answer.
     Differs(usize, usize, Sequence<u8>),
-    /// This line has no known form.
-    NoForm(usize),
+    /// This line has no known form, for this reason.
+    NoForm(usize, Text),
     /// The file that this line names is not there.
     NoFile(usize),
-    /// The file that this line names has a line, the second number, that is not loaded.
-    NotLoaded(usize, usize),
+    /// The file that this line names has a line, the second number, that is not loaded, for this reason.
+    NotLoaded(usize, usize, Text),
 }
 
 /// The outcome of a transcript.

@@ -1,10 +1,12 @@
 //! A case, played.
-ghost use Rattle.std.specs.Prelude.{◌≡◌, ◌++◌, ◌∷◌, [], IfOk, OnOk, option_map};
+ghost use Rattle.std.specs.Prelude.{◌≡◌, ◌++◌, ◌∷◌, [], true, IfOk, OnOk, is_err, option_map, string_bytes};
 ghost use Rattle.kapi_core.specs.Machine.{Machine, with_rechecks};
+ghost use Rattle.kapi_loading.specs.Loading.{machine_of};
 ghost use Rattle.kapi_core.specs.Refines.{Refines};
 ghost use Rattle.kapi_script.specs.Scripts.{start as begun};
 ghost use Rattle.kapi_replay.specs.Reports.{line_at};
 ghost use Rattle.kapi_replay.specs.Failures as fails;
+ghost use Rattle.kapi_replay.specs.declared.failure.Failure.TheVariants as Told;
 ghost use Rattle.kapi_replay.specs.Failures.{Fails, file_named, script_text as script_text_of};
 
 use crate::failure::Failure;
@@ -13,8 +15,9 @@ use kapi_core::{Core, program_table};
 use kapi_index::IndexedPolicy;
 use kapi_lines::{copy_of, nth, split_lines};
 use kapi_loading::{StartError, Started, start};
+use kapi_reasons::{form_reason, object_reason};
 use kapi_script::{ScriptFault, play_script};
-use kapi_text::{Memory, Sequence};
+use kapi_text::{Memory, Sequence, Text};
 use kapi_transcript::{Case, Event, Loaded, Want, is_met};
 use std::alloc::{AllocError, Global};
 use std::sync::Wait;
@@ -104,17 +107,60 @@ fn only(alloc: Global, failure: Failure) -> Result<Vec<Failure>, Memory>
     Ok(failures)
 }
 
+/// The line of a script of this number; nothing where there is none.
+fn event_text(script: &[Event], number: usize) -> &[u8] {
+    match nth(script, number) {
+        Some(event) => event.text.as_slice(),
+        None => b"".as_slice(),
+    }
+}
+
 /// The failure of a case whose script has a line of no known form, of this number.
 fn bad_line(alloc: Global, case: &Case, number: u64) -> Result<Vec<Failure>, Memory>
-    ensures { IfOk result (λ v. v.items ≡ fails.bad_line case.now number) }
+    ensures { IfOk result (λ v. fails.IsBadLine case.now number v.items) }
 {
-    match usize::try_from(number) {
-        Ok(number) => only(
-            alloc,
-            Failure::NoForm(number_at(case.script.as_slice(), number)),
-        ),
-        Err(_large) => Err(AllocError),
+    let Ok(number) = usize::try_from(number) else {
+        return Err(AllocError);
+    };
+    let script = case.script.as_slice();
+    let reason = form_reason(alloc, event_text(script, number))?;
+    no_form(alloc, number_at(script, number), reason)
+}
+
+/// The failure of a line of no known form, for this reason.
+fn no_form(alloc: Global, number: usize, reason: &str) -> Result<Vec<Failure>, Memory>
+    ensures { IfOk result (λ v. v.items ≡ Told.NoForm number reason.now ∷ []) }
+{
+    let reason = Text::copy_of(alloc, reason)?;
+    only(alloc, Failure::NoForm(number, reason))
+}
+
+/// The failure of a case that loads a file of objects, a line of which, of this number, is not loaded.
+fn not_loaded(
+    alloc: Global,
+    load: &Loaded,
+    objects: &[u8],
+    line: usize,
+) -> Result<Vec<Failure>, Memory>
+    requires bad { is_err (machine_of objects.now) ≡ true }
+    ensures { IfOk result (λ v. fails.IsNotLoaded load.now line v.items) }
+{
+    match object_reason(alloc, 0, objects)? {
+        Some(reason) => not_loaded_for(alloc, load.number, line, reason),
+        None => unreachable!(),
     }
+}
+
+/// The failure of a line of the transcript that loads a file a line of which is not loaded, for this reason.
+fn not_loaded_for(
+    alloc: Global,
+    number: usize,
+    line: usize,
+    reason: String,
+) -> Result<Vec<Failure>, Memory>
+    ensures { IfOk result (λ v. v.items ≡ Told.NotLoaded number line (string_bytes reason) ∷ []) }
+{
+    only(alloc, Failure::NotLoaded(number, line, Text::new(reason)))
 }
 
 /// Plays a case on a machine on which no connection was opened, and compares its answers with the wanted ones.
@@ -171,7 +217,7 @@ fn play_loaded<R: Wait>(
             drop(desk.close(rt));
             failures
         }
-        Err(StartError::Line(line)) => only(alloc, Failure::NotLoaded(load.number, line)),
+        Err(StartError::Line(line)) => not_loaded(alloc, load, objects, line),
         Err(StartError::Memory) => Err(AllocError),
     }
 }

@@ -6,7 +6,7 @@ ghost use Rattle.kapi_replay.specs.Reports.{came_for as came_for_of, failures_te
 
 use crate::failure::{Failure, Outcome};
 use kapi_lines::{nth, split_lines};
-use kapi_text::{Memory, Sequence};
+use kapi_text::{Memory, Sequence, Text};
 use kapi_transcript::push_number;
 use std::alloc::Global;
 
@@ -17,6 +17,17 @@ fn line_at(lines: &[Sequence<u8>], number: usize) -> &[u8]
     match nth(lines, number) {
         Some(line) => line.as_slice(),
         None => b"".as_slice(),
+    }
+}
+
+/// The line of the event that was answered; in its place words that there is none.
+fn asked_line(lines: &[Sequence<u8>], number: usize) -> &[u8]
+    ensures { result.now ≡ reports.asked_text lines.now number }
+{
+    if number == 0 {
+        b"nothing: no request or event comes before it in its case".as_slice()
+    } else {
+        line_at(lines, number)
     }
 }
 
@@ -43,14 +54,27 @@ fn push_what(text: &mut Vec<u8>, lines: &[Sequence<u8>], failure: &Failure) -> R
 {
     match failure {
         Failure::Differs(number, asked, answer) => {
-            push_part(text, b"\n  asked  ", line_at(lines, *asked))?;
+            push_part(text, b"\n  asked  ", asked_line(lines, *asked))?;
             push_part(text, b"\n  wanted ", line_at(lines, *number))?;
             push_part(text, b"\n  got    ", answer.as_slice())
         }
-        Failure::NoForm(_number) => Ok(text.extend_from_slice(b": no known form")?),
+        Failure::NoForm(_number, reason) => {
+            text.extend_from_slice(b": no known form")?;
+            push_reason(text, reason)
+        }
         Failure::NoFile(_number) => Ok(text.extend_from_slice(b": the file cannot be read")?),
-        Failure::NotLoaded(_number, line) => push_number(text, b": load line ", *line),
+        Failure::NotLoaded(_number, line, reason) => {
+            push_number(text, b": load line ", *line)?;
+            push_reason(text, reason)
+        }
     }
+}
+
+/// Appends a reason, on a line of its own.
+fn push_reason(text: &mut Vec<u8>, reason: &Text) -> Result<(), Memory>
+    ensures { OnOk result (text.new.items ≡ text.old.items ++ reports.reason_text reason.now) }
+{
+    push_part(text, b"\n  ", reason.as_str().as_bytes())
 }
 
 /// The line of the transcript at which something is not as wanted.
@@ -59,8 +83,9 @@ fn number_of(failure: &Failure) -> usize
 {
     match failure {
         Failure::Differs(number, _asked, _answer) => *number,
-        Failure::NoForm(number) | Failure::NoFile(number) => *number,
-        Failure::NotLoaded(number, _line) => *number,
+        Failure::NoForm(number, _reason) => *number,
+        Failure::NoFile(number) => *number,
+        Failure::NotLoaded(number, _line, _reason) => *number,
     }
 }
 

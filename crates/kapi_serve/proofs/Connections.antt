@@ -7,7 +7,7 @@ use Rattle.kapi_answer.specs.declared.watch.After.{After}
 use Rattle.kapi_answer.specs.declared.watch.After.TheVariants as becomes
 use Rattle.kapi_answer.specs.declared.watch.EventReply.{EventReply}
 use Rattle.kapi_core.proofs.Effects.{number_of}
-use Rattle.kapi_serve.proofs.Links.{event_touches, found_gone, found_new, found_own, set_touches, there, turn_links}
+use Rattle.kapi_core.proofs.Numbered.{event_touches, found_gone, found_new, found_own, set_touches, there, turn_links}
 use Rattle.kapi_core.specs.Limits.{kept_limit}
 use Rattle.kapi_core.specs.Machine.{Link, Machine, after_event, after_serve, changed, ended_if, feed_step, is_last, link_at, new_link, open_step, output_of, policy_of, pump_shown, pump_step, pump_watch, rest_after, serve_beside, serve_item, serve_step, shown_next, step, unserved, watched_on, with_link, with_new_link}
 use Rattle.kapi_core.specs.declared.event.Answer.{Answer}

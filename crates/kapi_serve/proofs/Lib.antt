@@ -10,7 +10,6 @@ pub mod Accounting
 pub mod Policies
 pub mod Going
 pub mod Listening
-pub mod Links
 pub mod Connections
 pub mod Standing
 pub mod Tending

@@ -1,5 +1,5 @@
 -- The place of a client among the others.
-use Rattle.std.proofs.Common.{◌≡◌, ℕ, zero, suc, ◌<◌, ◌+◌, ◌==◌, true, false, not, List, [], ◌∷◌, ◌++◌, length, set, get_or, refl, sym, ap, ◌∙◌, subst, arith, Option, Some, None, cond}
+use Rattle.std.proofs.Common.{◌≡◌, ℕ, zero, suc, ◌<◌, ◌≤◌, ◌+◌, ◌==◌, true, false, not, List, [], ◌∷◌, ◌++◌, length, map, set, get_or, refl, sym, ap, ◌∙◌, subst, arith, add-one, Option, Some, None, cond}
 use Rattle.std.specs.Prelude.{IfSome}
 use Rattle.std.specs.List.{position, position_from, remove}
 use Rattle.std.proofs.Math.Seq.{map-set_same}
@@ -8,7 +8,7 @@ use Rattle.std.proofs.lemmas.Iterator.Adapters.{position_from-zero}
 use Rattle.std.proofs.lemmas.List.Quantifiers.{position-Some}
 use Rattle.kapi_serve.specs.declared.client.Client.{Client}
 use Rattle.kapi_serve.specs.Acts.{IsFree, Seat}
-use Rattle.kapi_serve.specs.Private.Clients.{others, seat_of, seats_of}
+use Rattle.kapi_serve.specs.Private.Clients.{freed, freed_on, others, seat_of, seats_of}
 use Rattle.kapi_serve.specs.Goes.{IsAt}
 
 -- the first client, or the given one where there is none
@@ -93,3 +93,42 @@ others_left slot (f ∷ front) x back is = ap (λ xs. cond (not (f.slot == slot)
 -- the clients are the others after the end of one
 pub others_ended : (slot : ℕ) (s t front : List Seat) (x : Seat) (back : List Seat) → s ≡ front ++ x ∷ back → t ≡ front ++ back → x.slot ≡ slot → others slot t ≡ others slot s
 others_ended slot s t front x back is left at = ap (λ xs. others slot xs) left ∙ others_left slot front x back at ∙ ap (λ xs. others slot xs) (sym is)
+
+-- ---- blocked clients
+
+-- the first client of a slot is freed
+freed_first : (cs : List Client) (slot i : ℕ) (c : Client) → i < length cs → c ≡ get_or cs i c → (get_or cs i c).slot == slot ≡ true
+    → ((k : ℕ) → k < i → (get_or cs k c).slot == slot ≡ false) → set cs i (freed c) ≡ freed_on slot cs
+freed_first [] slot i c below at here before = absurd (omega arith)
+freed_first (x ∷ xs) slot zero c below at here before = rw (here, at) refl
+freed_first (x ∷ xs) slot (suc i) c below at here before =
+    rw (before zero (omega arith)) (ap (λ ys. x ∷ ys) (freed_first xs slot i c (omega arith) at here (λ k l. before (suc k) (omega arith))))
+
+pub freed_at : (cs : List Client) (slot i : ℕ) (c : Client) → Some i ≡ position (λ c. c.slot == slot) cs → c ≡ get_or cs i c → set cs i (freed c) ≡ freed_on slot cs
+freed_at cs slot i c is at = let p = position-Some (λ y. y.slot == slot) cs i c (sym is) in freed_first cs slot i c p.0 at p.1 p.2
+
+-- where no client is on a slot, none is freed
+pub freed_none : (cs : List Client) (slot : ℕ) → IsFree slot (seats_of cs) → cs ≡ freed_on slot cs
+unfolding IsFree
+freed_none [] slot free = refl
+freed_none (c ∷ cs) slot free = rw free.0 (ap (λ ys. c ∷ ys) (freed_none cs slot free.1))
+
+-- the clients after the front ones were freed
+abbrev pub freed_to : ℕ → List Client → List Client
+freed_to zero cs = cs
+freed_to (suc n) [] = []
+freed_to (suc n) (c ∷ cs) = freed c ∷ freed_to n cs
+
+freed_more : (cs : List Client) (i : ℕ) (c : Client) → i < length cs → c ≡ get_or (freed_to i cs) i c → set (freed_to i cs) i (freed c) ≡ freed_to (suc i) cs
+freed_more [] i c below at = absurd (omega arith)
+freed_more (x ∷ xs) zero c below at = ap (λ y. freed y ∷ xs) at
+freed_more (x ∷ xs) (suc i) c below at = ap (λ ys. freed x ∷ ys) (freed_more xs i c (omega arith) at)
+
+pub freed_next : (cs : List Client) (i : ℕ) (c : Client) → i < length cs → c ≡ get_or (freed_to i cs) i c → set (freed_to i cs) i (freed c) ≡ freed_to (i + 1) cs
+freed_next cs i c below at = rw add-one (freed_more cs i c below at)
+
+pub freed_whole : (cs : List Client) (n : ℕ) → length cs ≤ n → freed_to n cs ≡ map freed cs
+freed_whole [] zero all = refl
+freed_whole [] (suc n) all = refl
+freed_whole (c ∷ cs) zero all = absurd (omega arith)
+freed_whole (c ∷ cs) (suc n) all = ap (λ ys. freed c ∷ ys) (freed_whole cs n (omega arith))

@@ -1,9 +1,9 @@
-ghost use Rattle.std.specs.Prelude.{◌≡◌, ◌<◌, ◌+◌, ℕ, List, [], ◌∷◌, ◌++◌, drop, None, IfSome, OnOk, ◌==◌, length, suc, vec_len, vec_capacity, ⊤};
+ghost use Rattle.std.specs.Prelude.{◌≡◌, ◌<◌, ◌+◌, ℕ, List, [], ◌∷◌, ◌++◌, drop, None, IfSome, OnOk, ◌==◌, length, map, suc, vec_len, vec_capacity, ⊤};
 ghost use Rattle.std.specs.List.{AllByRecursion, HoldsAt, position};
 ghost use Rattle.kapi_aggregation.specs.Members.{Has};
 ghost use Rattle.kapi_core.specs.Machine.{Machine};
 ghost use Rattle.kapi_serve.specs.Acts.{IsFree, Seat};
-ghost use Rattle.kapi_serve.specs.Private.Clients.{others, seats_of};
+ghost use Rattle.kapi_serve.specs.Private.Clients.{freed, freed_on, others, seats_of};
 ghost use Rattle.kapi_serve.specs.Private.Stands.{IsNew, IsNumbered, Rise, Stands, StandsOn};
 ghost use Rattle.kapi_serve.specs.Goes.{Closes, IsAt, Moves};
 ghost use Rattle.kapi_serve.specs.declared.client.Client.{Client as AClient};
@@ -140,6 +140,7 @@ impl Clients {
         ensures bound { IfSome result (λ i. i < length self.now.list.items) }
         ensures found { IfSome result (λ i. (front : List Seat) × (x : Seat) × (back : List Seat) × IsAt i (seats_of self.now.list.items) front x back × (x.slot ≡ slot)) }
         ensures free { result ≡ None → IsFree slot (seats_of self.now.list.items) }
+        ensures first { result ≡ position (λ client. client.slot == slot) self.now.list.items }
     {
         self.first_on(slot)
     }
@@ -177,16 +178,19 @@ impl Clients {
 
     /// Notes that a slot takes bytes again.
     pub(crate) fn unblock(&mut self, slot: usize)
+        ensures freed { self.new.list.items ≡ freed_on slot self.old.list.items }
         ensures seats { seats_of self.new.list.items ≡ seats_of self.old.list.items }
         ensures stands { (m : Machine) → Stands m self.old.list.items self.old.awake.numbers.items → Stands m self.new.list.items self.new.awake.numbers.items }
     {
-        if let Some(index) = self.place(slot) {
-            self.list[index].blocked = false;
+        match self.place(slot) {
+            Some(index) => self.list[index].blocked = false,
+            None => {}
         }
     }
 
     /// Notes that each slot may take bytes again.
     pub(crate) fn unblock_all(&mut self)
+        ensures freed { self.new.list.items ≡ map freed self.old.list.items }
         ensures seats { seats_of self.new.list.items ≡ seats_of self.old.list.items }
         ensures stands { (m : Machine) → Stands m self.old.list.items self.old.awake.numbers.items → Stands m self.new.list.items self.new.awake.numbers.items }
     {

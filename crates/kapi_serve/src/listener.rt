@@ -1,4 +1,5 @@
-ghost use Rattle.std.specs.Prelude.{◌≡◌, ◌≤◌};
+ghost use Rattle.std.specs.Prelude.{◌≡◌, ◌↔◌, ◌<◌, ◌≤◌, false, true};
+ghost use Rattle.std.specs.declared.io.ErrorKind.TheVariants as kind;
 
 use kapi_model::Identity;
 use mio::net::TcpListener;
@@ -20,13 +21,17 @@ pub(crate) struct Listener {
 
 impl Listener {
     /// Whether a client may be accepted now.
-    pub(crate) fn has_turn(&self) -> bool {
+    pub(crate) fn has_turn(&self) -> bool
+        ensures { (result ≡ true) ↔ ((self.now.waiting ≡ true) × (0 < self.now.left)) }
+    {
         self.waiting && self.left > 0
     }
 
-    /// Accepts no client any more in this round.
+    /// Accepts no client any more in this round. Clients go on waiting, unless the error is that there is none.
     pub(crate) fn pause(&mut self, error: ErrorKind)
-        ensures { (self.new.port ≡ self.old.port) × (self.new.identity ≡ self.old.identity) }
+        ensures door { (self.new.port ≡ self.old.port) × (self.new.identity ≡ self.old.identity) }
+        ensures left { self.new.left ≡ 0 }
+        ensures waits { (self.new.waiting ≡ false) ↔ (error ≡ kind.WouldBlock) }
     {
         self.left = 0;
         self.waiting = error != ErrorKind::WouldBlock;

@@ -1,10 +1,11 @@
-ghost use Rattle.std.specs.Prelude.{◌≡◌, List, [], ◌∷◌, ◌++◌, Some, ⊤};
+ghost use Rattle.std.specs.Prelude.{◌≡◌, ℕ, List, [], ◌∷◌, ◌++◌, Some, map, ⊤};
 ghost use Rattle.kapi_serve.specs.Acts.{Seat};
-ghost use Rattle.kapi_serve.specs.Private.Clients.{seat_of, seats_of};
+ghost use Rattle.kapi_serve.specs.Private.Clients.{freed, freed_on, seat_of, seats_of};
 ghost use Rattle.kapi_serve.specs.Private.Stands.{IsServed, Settles, StandsOn, Tends, Visits, Waits};
 ghost use Rattle.kapi_serve.specs.Goes.{Goes, Serves};
 ghost use Rattle.kapi_serve.specs.Ports.{opened};
 ghost use Rattle.kapi_serve.specs.declared.port.Entry.{Entry as AnEntry};
+ghost use Rattle.kapi_serve.specs.declared.port.PortEvent.TheVariants as happened;
 ghost use Rattle.kapi_serve.specs.declared.progress.Progress.TheVariants as progress;
 
 use crate::client::{Client, Flushed};
@@ -84,6 +85,8 @@ impl Server {
     )
         ensures goes { (h : List AnEntry) → (Q.tells ports.old → Q.history ports.old ≡ h ++ opened (Some event)) → Goes core.old core.new desk.old desk.new self.old.publishing.kept self.new.publishing.kept (seats_of self.old.clients.list.items) (seats_of self.new.clients.list.items) (Q.tells ports.old) (Q.tells ports.new) h (Q.history ports.new) }
         ensures stands { StandsOn core.old core.new self.old.clients.list.items self.old.clients.awake.numbers.items self.new.clients.list.items self.new.clients.awake.numbers.items }
+        ensures writable { (slot : ℕ) → event ≡ happened.Writable slot → self.new.clients.list.items ≡ freed_on slot self.old.clients.list.items }
+        ensures idle { event ≡ happened.Idle → self.new.clients.list.items ≡ map freed self.old.clients.list.items }
     {
         match event {
             PortEvent::Opened(slot, identity) => self.clients.open(core, ports, slot, identity),

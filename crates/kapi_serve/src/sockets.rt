@@ -1,4 +1,8 @@
-ghost use Rattle.std.specs.Prelude.{◌≡◌, ◌<◌, ◌≤◌, ◌++◌, ◌∷◌, [], HoldsAt, IfOk, IfSome, None, OnOk, Some, vec_len};
+ghost use Rattle.std.specs.Prelude.{◌≡◌, ◌<◌, ◌≤◌, ◌++◌, ◌∷◌, [], All, HoldsAt, IfOk, IfSome, None, OnOk, Some, true, vec_len};
+ghost use Rattle.mio.specs.Event.{event_token};
+ghost use Rattle.std.specs.IoError.{error_kind};
+ghost use Rattle.std.specs.declared.io.Error.{Error as AnError};
+ghost use Rattle.std.specs.declared.io.ErrorKind.TheVariants as kind;
 ghost use Rattle.kapi_serve.specs.Listening.{CameByDoor, doors};
 ghost use Rattle.kapi_serve.specs.declared.port.PortEvent.TheVariants as event;
 ghost use Rattle.kapi_serve.specs.declared.port.PortFault.TheVariants as fault;
@@ -90,6 +94,7 @@ impl<C: Clock + Drop> Sockets<C> {
         ensures slot { IfSome result (λ slot. slot < vec_len self.new.streams) }
         ensures free { IfSome result (λ slot. HoldsAt (λ place. place ≡ None) self.new.streams.items slot) }
         ensures few { vec_len self.old.streams ≤ 320 → vec_len self.new.streams ≤ 320 }
+        ensures full { result ≡ None → All (λ place. place ≡ None → ⊥) self.new.streams.items }
         ensures same { self.new.listeners ≡ self.old.listeners }
     {
         match self.streams.iter().position(|stream| stream.is_none()) {
@@ -203,7 +208,8 @@ impl<C: Clock + Drop> Sockets<C> {
 
     /// Begins a round, after so many milliseconds at most. None where the wait fails.
     fn begin_round(&mut self, most: u64) -> Option<()>
-        ensures { doors self.new.listeners.items ≡ doors self.old.listeners.items }
+        ensures doors { doors self.new.listeners.items ≡ doors self.old.listeners.items }
+        ensures turns { IfSome result (λ _. self.new.turn ≡ 0) }
     {
         self.poll
             .poll(&mut self.events, Some(Duration::from_millis(most)))
@@ -227,7 +233,8 @@ impl<C: Clock + Drop> Sockets<C> {
 
     /// The fault of a stream's error. A slot fails only where that can be counted.
     fn fault(&mut self, error: Option<io::Error>) -> PortFault
-        ensures { result ≡ fault.Failed → self.old.failures < self.new.failures }
+        ensures failed { result ≡ fault.Failed → self.old.failures < self.new.failures }
+        ensures waits { (e : AnError) → error ≡ Some e → error_kind e ≡ kind.WouldBlock → result ≡ fault.WouldBlock }
     {
         let waits = match &error {
             Some(error) => matches!(error.kind(), ErrorKind::WouldBlock | ErrorKind::Interrupted),
@@ -253,7 +260,8 @@ fn note_all(listeners: &mut Vec<Listener>, streams: &mut Vec<Option<Stream>>, ev
 
 /// Notes the readiness that an event reports.
 fn note(listeners: &mut Vec<Listener>, streams: &mut Vec<Option<Stream>>, event: &Event)
-    ensures { doors listeners.new.items ≡ doors listeners.old.items }
+    ensures doors { doors listeners.new.items ≡ doors listeners.old.items }
+    ensures waits { (event_token event.now).0 < vec_len listeners.old → HoldsAt (λ l. l.waiting ≡ true) listeners.new.items (event_token event.now).0 }
 {
     let token = event.token().0;
     if token < listeners.len() {

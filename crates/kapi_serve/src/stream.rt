@@ -1,5 +1,7 @@
-ghost use Rattle.std.specs.Prelude.{◌≡◌, ◌+◌, ◌≤◌, None, Some, true, false, IfOk, IsErr, length};
-ghost use Rattle.kapi_serve.specs.Private.Turns.{turn_of};
+ghost use Rattle.std.specs.Prelude.{◌≡◌, ◌||◌, ◌+◌, ◌≤◌, None, Some, true, false, IfOk, IsErr, length};
+ghost use Rattle.std.specs.declared.time.Duration.{Duration as ADuration};
+ghost use Rattle.mio.specs.Event.{is_writable};
+ghost use Rattle.kapi_serve.specs.Private.Turns.{may_be_read, turn_of};
 
 use crate::port::PortEvent;
 use mio::event::Event;
@@ -45,7 +47,11 @@ impl Stream {
     }
 
     /// Notes the readiness that an event reports.
-    pub(crate) fn note(&mut self, event: &Event) {
+    pub(crate) fn note(&mut self, event: &Event)
+        ensures readable { self.new.readable ≡ (may_be_read event.now || self.old.readable) }
+        ensures writable { is_writable event.now ≡ true → (since : ADuration) → self.old.blocked_since ≡ Some since → self.new.writable ≡ true }
+        ensures same { (self.new.read_left ≡ self.old.read_left) × (self.new.write_left ≡ self.old.write_left) }
+    {
         if event.is_writable() && self.blocked_since.is_some() {
             self.writable = true;
         }
@@ -93,6 +99,8 @@ impl Stream {
         ensures bound { IfOk result (λ n. n ≤ length bytes.now) }
         ensures share { IfOk result (λ n. n + self.new.write_left ≡ self.old.write_left) }
         ensures used_up { self.old.write_left ≡ 0 → IsErr result × (self.new.writable ≡ true) }
+        ensures taken { IfOk result (λ _. self.new.blocked_since ≡ None) }
+        ensures since { (since : ADuration) → self.old.blocked_since ≡ Some since → IsErr result → self.new.blocked_since ≡ Some since }
     {
         if self.write_left == 0 {
             self.writable = true;

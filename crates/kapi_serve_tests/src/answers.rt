@@ -6,6 +6,7 @@ use kapi_loading::{Started, start};
 use kapi_policy::{NamespacedName, PolicyChange, PolicyKey, PolicyStep};
 use kapi_text::Text;
 use std::alloc::{AllocError, Global};
+use std::cell::Cell;
 use std::io::{self, Read, Write};
 use std::sync::Wait;
 use std::test::Fail;
@@ -41,6 +42,48 @@ impl Write for Broken {
     }
 
     fn flush(&mut self) -> io::Result<()> {
+        Ok(())
+    }
+}
+
+/// Bytes that come one by one, and none while something that was written waits to be flushed.
+#[derive(Drop)]
+struct Patient<'a> {
+    bytes: &'a [u8],
+    unflushed: &'a Cell<usize>,
+}
+
+impl Read for Patient<'_> {
+    fn read(&mut self, buffer: &mut [u8]) -> io::Result<usize> {
+        if self.unflushed.get() > 0 {
+            return Err(io::Error::from(io::ErrorKind::BrokenPipe));
+        }
+        match (buffer.first_mut(), self.bytes.split_first()) {
+            (Some(place), Some((first, rest))) => {
+                *place = *first;
+                self.bytes = rest;
+                Ok(1)
+            }
+            _ => Ok(0),
+        }
+    }
+}
+
+/// A writer that counts the bytes that it was not yet told to flush.
+#[derive(Drop)]
+struct Counting<'a> {
+    unflushed: &'a Cell<usize>,
+}
+
+impl Write for Counting<'_> {
+    fn write(&mut self, bytes: &[u8]) -> io::Result<usize> {
+        let before = self.unflushed.get();
+        self.unflushed.set(before.saturating_add(bytes.len()));
+        Ok(bytes.len())
+    }
+
+    fn flush(&mut self) -> io::Result<()> {
+        self.unflushed.set(0);
         Ok(())
     }
 }
@@ -132,6 +175,16 @@ fn a_client_that_breaks_is_told(rt: HostRuntime) -> Result<(), Fail> {
         closed.as_str(),
         "error Busy\nerror Busy\nbad\nerror Busy\n"
     );
+    let unflushed = Cell::new(0);
+    let mut patient = Patient {
+        bytes: QUESTIONS.as_bytes(),
+        unflushed: &unflushed,
+    };
+    let mut counting = Counting {
+        unflushed: &unflushed,
+    };
+    let flushed = answer_run(alloc, seat, &mut patient, &mut counting);
+    assert!(rt; flushed.is_ok() && unflushed.get() == 0);
     let unread = answer_run(alloc, seat, &mut Broken, &mut Vec::new(alloc));
     assert_eq!(rt; unread, Err(AnswerFault::Read));
     let mut reader = QUESTIONS.as_bytes();

@@ -1,9 +1,10 @@
 -- The missing atoms of a rule, by the parts that are left of it.
-use Rattle.std.specs.Prelude.{ℕ, suc, Bool, ◌&&◌, if◌then◌else◌, List, [], ◌∷◌, ◌++◌, map}
+use Rattle.std.specs.Prelude.{ℕ, suc, Bool, not, ◌&&◌, ◌||◌, if◌then◌else◌, List, [], ◌∷◌, ◌++◌, map}
 use Rattle.std.specs.List.{filter, list_any}
 use denote.Ref.{Bor}
 use Rattle.kapi_model.specs.declared.policy_rule.PolicyRule.{PolicyRule}
-use Rattle.kapi_rules.specs.Atoms.{names_of, resource_atom, url_atom}
+use Rattle.kapi_rules.specs.Atoms.{atoms, names_of, resource_atom, url_atom}
+use Rattle.kapi_rules.specs.Missing.{rule_implies, same_atom}
 use Rattle.kapi_rules.specs.declared.atom.Atom.{Atom}
 use Rattle.kapi_rules.specs.declared.atom.Names.{Names}
 use Rattle.kapi_rules.specs.declared.atom.Names.TheVariants as names
@@ -89,3 +90,11 @@ left_urls parts rule = each (near_url parts rule) 0 rule.non_resource_urls
 -- the missing atoms of a planned rule
 abbrev pub left_of : Plan → List Atom
 left_of plan = left plan.resources.items plan.rule ++ left_urls plan.urls.items plan.rule
+
+-- an atom that a held rule implies, or that an earlier wanted rule has
+abbrev pub is_stopped : List PolicyRule → List PolicyRule → Atom → Bool
+is_stopped held before a = list_any (λ h. rule_implies h a) held || list_any (λ w. list_any (same_atom a) (atoms w)) before
+
+-- the atoms of a wanted rule that are missing
+unfoldable pub left_atoms : List PolicyRule → List PolicyRule → PolicyRule → List Atom
+left_atoms held before rule = filter (λ a. not (is_stopped held before a)) (atoms rule)

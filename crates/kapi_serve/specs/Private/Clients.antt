@@ -1,5 +1,5 @@
 -- The clients of a server, as its account reports them.
-use Rattle.std.specs.Prelude.{ℕ, ◌==◌, not, List, map}
+use Rattle.std.specs.Prelude.{ℕ, ◌==◌, not, false, List, [], ◌∷◌, if◌then◌else◌, map}
 use Rattle.std.specs.List.{filter}
 use Rattle.kapi_serve.specs.declared.client.Client.{Client}
 use Rattle.kapi_serve.specs.Acts.{Seat}
@@ -16,3 +16,12 @@ seats_of clients = map seat_of clients
 -- the clients on other slots
 abbrev pub others : ℕ → List Seat → List Seat
 others slot seats = filter (λ x. not (x.slot == slot)) seats
+
+-- a client whose slot may take bytes
+abbrev pub freed : Client → Client
+freed c = record c { blocked = false }
+
+-- the clients after the first one on a slot may be sent bytes again
+abbrev pub freed_on : ℕ → List Client → List Client
+freed_on slot [] = []
+freed_on slot (c ∷ cs) = if c.slot == slot then freed c ∷ cs else c ∷ freed_on slot cs

@@ -1,13 +1,12 @@
 use Rattle.std.proofs.Common.{◌≡◌, ◌+◌, All, length}
-use Rattle.kapi_desk.specs.Boards.{chair, fresh}
+use Rattle.kapi_desk.specs.Boards.{fresh, informed}
 use Rattle.kapi_audit.specs.Private.Readers.{AreReaders}
 use Rattle.kapi_audit.proofs.audit.told_readers.Given as goal
 
 abbrev pub invariant-loop-seat : goal.invariant-loop-seat
 invariant-loop-seat l =
-    (l.desk ≡ l.initial.desk)
-    × AreReaders (chair l.initial.desk.opening l.initial.desk.list) 0 l.readers.items
-    × All (λ s. s ≡ fresh l.initial.desk.opening) l.seats.items
+    AreReaders (informed l.desk) 0 l.readers.items
+    × All (λ s. s ≡ fresh l.desk) l.seats.items
     × (length l.readers.items + length l.seats.items ≡ length l.initial.seats.items)
 
 abbrev pub decreases-loop-seat : goal.decreases-loop-seat

@@ -1,4 +1,4 @@
-use Rattle.std.proofs.Common.{◌≡◌, ◌==◌, ◌∙◌, ap, length, refl, sym}
+use Rattle.std.proofs.Common.{◌==◌, ◌∙◌, ap, length, refl, sym}
 use Rattle.kapi_index.proofs.Changed.{names_under, removes_found}
 use Rattle.kapi_index.proofs.sets.take_name.Goals as goal
 

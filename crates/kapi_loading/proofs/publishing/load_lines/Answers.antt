@@ -10,6 +10,7 @@ loop-line-preserved g c =
       k.waiting,
       c.publish.ensures.opening ∙ c.loop-line.invariant.1,
       λ m h. line_loaded m c.args.lines.now c.loop-line.line-index _ c.loop-line.core c.load.new.self c.loop-line.desk c.publish.new.desk _ _ c.loop-line-test.true (c.loop-line.invariant.2 m h) c.in-Ok.ensures k.list k.policy,
+      c.publish.ensures.desk ∙ c.loop-line.invariant.3,
     )
 
 pub returns-in-Err-clause-reaches : goal.returns-in-Err-clause-reaches

@@ -8,3 +8,4 @@ abbrev pub invariant-loop-line : goal.invariant-loop-line
 invariant-loop-line g l =
     (l.desk.waiting ≡ []) × (l.desk.opening ≡ l.initial.desk.opening)
     × ((m : Machine) → Publishes l.initial.core l.initial.desk m → LoadedUpTo m l.lines l.line-index l.core l.desk l.initial.desk.list)
+    × (l.desk.desk ≡ l.initial.desk.desk)

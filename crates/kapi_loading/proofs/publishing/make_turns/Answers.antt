@@ -13,6 +13,7 @@ loop-preserved g c =
       c.publish.ensures.opening ∙ c.loop.invariant.1,
       λ m h. turn_made m (64 - c.loop.counter) (64 - (c.loop.counter + 1)) c.loop.core c.turn.new.self c.loop.desk c.publish.new.desk _ c.in-Some.turned (omega (arith, c.loop-test.true)) (c.loop.invariant.2 m h) made
           k.list k.policy,
+      c.publish.ensures.desk ∙ c.loop.invariant.3,
     )
 
 pub returns-in-None-clause-reaches : goal.returns-in-None-clause-reaches

@@ -8,3 +8,4 @@ abbrev pub invariant-loop : goal.invariant-loop
 invariant-loop g l =
     (l.desk.waiting ≡ []) × (l.desk.opening ≡ l.initial.desk.opening)
     × ((m : Machine) → Publishes l.initial.core l.initial.desk m → TurnedUpTo m (64 - l.counter) l.core l.desk l.initial.desk.list)
+    × (l.desk.desk ≡ l.initial.desk.desk)

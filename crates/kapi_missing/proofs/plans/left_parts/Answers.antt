@@ -1,8 +1,11 @@
-use Rattle.std.proofs.Common.{◌∙◌}
+use Rattle.std.proofs.Common.{refl, ◌∙◌}
 use Rattle.kapi_rules.proofs.Covers.{or_false}
 use Rattle.kapi_missing.proofs.Both.{both_left}
 use Rattle.kapi_missing.specs.Private.Marks.{has}
 use Rattle.kapi_missing.proofs.plans.left_parts.Goals as goal
+
+pub returns-then-is_none_wanted : goal.returns-then-is_none_wanted
+returns-then-is_none_wanted c = λ hs es held earlier i j k l. rw (c.new-whole.ensures.items, c.is_none_wanted.ensures c.if-is_none_wanted.true i j k l) refl
 
 pub returns : goal.returns
 returns c = λ hs es held earlier.

@@ -11,5 +11,5 @@ returns-in-Ok-clause-identity g c =
 pub returns-in-Err-clause-doors : goal.returns-in-Err-clause-doors
 returns-in-Err-clause-doors g c =
     let ls = c.accept_at.new.self.listeners in
-    doors_kept ls.items c.args.index c.index_mut.result.now c.pause.new.self (omega (arith, c.requires.listener, c.in-Err.ensures.same, ls.ok.0)) c.index_mut.ensures.value c.pause.ensures.0 c.pause.ensures.1
+    doors_kept ls.items c.args.index c.index_mut.result.now c.pause.new.self (omega (arith, c.requires.listener, c.in-Err.ensures.same, ls.ok.0)) c.index_mut.ensures.value c.pause.ensures.door.0 c.pause.ensures.door.1
     ∙ c.in-Err.ensures.doors

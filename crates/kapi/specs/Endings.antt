@@ -1,0 +1,24 @@
+-- How a program ends, and the exit status that tells so.
+use Rattle.std.specs.Prelude.{ℕ, Bool, true, false, Result, Ok, Err}
+use Rattle.kapi.specs.declared.ending.Ending.{Ending}
+use Rattle.kapi.specs.declared.ending.Ending.TheVariants as ending
+
+abbrev pub status_of : Ending → ℕ
+status_of ending.Done = 0
+status_of ending.Differs = 1
+status_of ending.Stopped = 1
+status_of ending.Misused = 2
+status_of ending.Gains = 3
+status_of ending.Unheard = 3
+status_of ending.Adrift = 4
+
+-- a comparison ends by whether somebody gains
+abbrev pub compared_as : Bool → Ending
+compared_as true = ending.Gains
+compared_as false = ending.Done
+
+-- transcripts that were played end by whether every answer is as wanted
+abbrev pub played_as : {E : Type 0} → Result Bool E → Ending
+played_as (Ok true) = ending.Done
+played_as (Ok false) = ending.Differs
+played_as (Err e) = ending.Stopped

@@ -1,0 +1,268 @@
+//! Long wanted rules in slices: shorter rules whose atoms, one after another, are those of the rule.
+ghost use Rattle.std.specs.Prelude.{◌≡◌, ◌==◌, length, IfOk};
+ghost use Rattle.kapi_missing.specs.Private.Slices.{AreHalves, list_with as list_in, may_cut as may_cut_in, number, with_entries as changed_rule};
+
+use crate::bars::{Dimension, entries_of};
+use crate::index::Bars;
+use kapi_model::PolicyRule;
+use kapi_text::{Memory, Sequence, Text, TryCopy};
+use std::alloc::Global;
+
+/// A list is cut until it has no more entries than these.
+const SLICE: usize = 64;
+
+/// Two rules in the place of one.
+#[derive(Drop)]
+pub struct Halves {
+    pub first: PolicyRule,
+    pub second: PolicyRule,
+}
+
+// The lists in the order of the atoms.
+fn number_of(dimension: Dimension) -> usize
+    ensures { result ≡ number dimension }
+{
+    match dimension {
+        Dimension::Urls => 0,
+        Dimension::Groups => 1,
+        Dimension::Resources => 2,
+        Dimension::Verbs => 3,
+        Dimension::Names => 4,
+    }
+}
+
+fn copies(alloc: Global, entries: &[Text]) -> Result<Sequence<Text>, Memory>
+    ensures { IfOk result (λ s. s ≡ entries.now) }
+{
+    let mut list = Vec::with_capacity(alloc, entries.len())?;
+    for entry in entries {
+        list.push(entry.copy(alloc)?)?;
+    }
+    Ok(Sequence::new(list))
+}
+
+// The list of the rule, or those entries where it is the list that changes.
+fn list_with(
+    alloc: Global,
+    rule: &PolicyRule,
+    dimension: Dimension,
+    changed: Dimension,
+    entries: &[Text],
+) -> Result<Sequence<Text>, Memory>
+    ensures { IfOk result (λ s. s ≡ list_in dimension changed entries.now rule.now) }
+{
+    if number_of(dimension) == number_of(changed) {
+        copies(alloc, entries)
+    } else {
+        copies(alloc, entries_of(rule, dimension))
+    }
+}
+
+// The rule with those entries in one of its lists.
+fn with_entries(
+    alloc: Global,
+    rule: &PolicyRule,
+    changed: Dimension,
+    entries: &[Text],
+) -> Result<PolicyRule, Memory>
+    ensures { IfOk result (λ r. r ≡ changed_rule changed entries.now rule.now) }
+{
+    Ok(PolicyRule {
+        verbs: list_with(alloc, rule, Dimension::Verbs, changed, entries)?,
+        api_groups: list_with(alloc, rule, Dimension::Groups, changed, entries)?,
+        resources: list_with(alloc, rule, Dimension::Resources, changed, entries)?,
+        resource_names: list_with(alloc, rule, Dimension::Names, changed, entries)?,
+        non_resource_urls: list_with(alloc, rule, Dimension::Urls, changed, entries)?,
+    })
+}
+
+fn is_one(entries: &[Text]) -> bool
+    ensures { result ≡ (length entries.now == 1) }
+{
+    entries.len() == 1
+}
+
+// Where the list is cut, the atoms of the two halves follow one another as those of the rule do.
+fn may_cut(rule: &PolicyRule, dimension: Dimension) -> bool
+    ensures { result ≡ may_cut_in dimension rule.now }
+{
+    let is_alone = rule.non_resource_urls.as_slice().is_empty();
+    let one_group = is_one(rule.api_groups.as_slice());
+    let one_resource = is_one(rule.resources.as_slice());
+    let one_verb = is_one(rule.verbs.as_slice());
+    match dimension {
+        Dimension::Urls => rule.api_groups.as_slice().is_empty(),
+        Dimension::Groups => is_alone,
+        Dimension::Resources => is_alone && one_group,
+        Dimension::Verbs => is_alone && (one_group && one_resource),
+        Dimension::Names => is_alone && (one_group && (one_resource && one_verb)),
+    }
+}
+
+// The two halves of the rule in that list, where it may be cut.
+fn halved(alloc: Global, rule: &PolicyRule, dimension: Dimension) -> Result<Option<Halves>, Memory>
+    ensures { IfOk result (AreHalves rule.now) }
+{
+    let entries = entries_of(rule, dimension);
+    let (front, back) = entries.split_at(entries.len() / 2);
+    if front.is_empty() || back.is_empty() || !may_cut(rule, dimension) {
+        return Ok(None);
+    }
+    let first = with_entries(alloc, rule, dimension, front)?;
+    let second = with_entries(alloc, rule, dimension, back)?;
+    Ok(Some(Halves { first, second }))
+}
+
+// The atoms on resources, and those on URLs.
+fn sorts_apart(alloc: Global, rule: &PolicyRule) -> Result<Option<Halves>, Memory>
+    ensures { IfOk result (AreHalves rule.now) }
+{
+    let (none, _) = rule.verbs.as_slice().split_at(0);
+    let first = with_entries(alloc, rule, Dimension::Urls, none)?;
+    let second = with_entries(alloc, rule, Dimension::Groups, none)?;
+    Ok(Some(Halves { first, second }))
+}
+
+fn length_of(rule: &PolicyRule, dimension: Dimension) -> usize {
+    entries_of(rule, dimension).len()
+}
+
+// The first list of several entries, or the last one while it is long.
+fn list_to_cut(rule: &PolicyRule, last: Dimension) -> Option<Dimension> {
+    let is_before = number_of(last) > number_of(Dimension::Groups);
+    let is_far = number_of(last) > number_of(Dimension::Resources);
+    let is_last = number_of(last) == number_of(Dimension::Names);
+    if is_before && length_of(rule, Dimension::Groups) > 1 {
+        Some(Dimension::Groups)
+    } else if is_far && length_of(rule, Dimension::Resources) > 1 {
+        Some(Dimension::Resources)
+    } else if is_last && length_of(rule, Dimension::Verbs) > 1 {
+        Some(Dimension::Verbs)
+    } else if length_of(rule, last) > SLICE {
+        Some(last)
+    } else {
+        None
+    }
+}
+
+/// Two rules whose atoms, one after another, are those of the rule, unless it is short. It is cut down to that list.
+pub fn cut(alloc: Global, rule: &PolicyRule, last: Dimension) -> Result<Option<Halves>, Memory>
+    ensures { IfOk result (AreHalves rule.now) }
+{
+    let has_groups = length_of(rule, Dimension::Groups) > 0;
+    if has_groups && length_of(rule, Dimension::Urls) > 0 {
+        return sorts_apart(alloc, rule);
+    }
+    match list_to_cut(rule, last) {
+        Some(dimension) => halved(alloc, rule, dimension),
+        None => Ok(None),
+    }
+}
+
+fn count_under(bars: &Bars<'_>, word: &str) -> usize {
+    match bars.index.places.get(word) {
+        Some(numbers) => numbers.len(),
+        None => 0,
+    }
+}
+
+// How many rules are found by the entries.
+fn found_by(bars: &Bars<'_>, entries: &[Text]) -> usize {
+    let mut total: usize = 0;
+    for entry in entries {
+        total = total.saturating_add(count_under(bars, entry.as_str()));
+    }
+    total
+}
+
+fn found_in(held: &Bars<'_>, earlier: &Bars<'_>, rule: &PolicyRule, dimension: Dimension) -> usize {
+    let entries = entries_of(rule, dimension);
+    found_by(held, entries).saturating_add(found_by(earlier, entries))
+}
+
+// Into how many rules of one entry each the lists before that one are cut.
+fn outer_of(rule: &PolicyRule, last: Dimension) -> usize {
+    let groups = length_of(rule, Dimension::Groups);
+    let resources = groups.saturating_mul(length_of(rule, Dimension::Resources));
+    let verbs = resources.saturating_mul(length_of(rule, Dimension::Verbs));
+    match last {
+        Dimension::Groups | Dimension::Urls => 1,
+        Dimension::Resources => groups,
+        Dimension::Verbs => resources,
+        Dimension::Names => verbs,
+    }
+}
+
+fn size_of(rule: &PolicyRule) -> usize {
+    length_of(rule, Dimension::Verbs)
+        .saturating_add(length_of(rule, Dimension::Groups))
+        .saturating_add(length_of(rule, Dimension::Resources))
+        .saturating_add(length_of(rule, Dimension::Names))
+        .saturating_add(length_of(rule, Dimension::Urls))
+}
+
+// Whole, the rules found by the list are each asked about each of its entries, and for several parts where several
+// entries stand before it. In slices, each slice has its entries copied and looked up, and the rules found otherwise are
+// asked about each slice. Measured in such questions, an entry of a slice takes 100, and a rule found otherwise 20.
+fn is_worth_it(rule: &PolicyRule, last: Dimension, found: usize, otherwise: usize) -> bool {
+    let length = length_of(rule, last);
+    let outer = outer_of(rule, last);
+    let whole = found.saturating_mul(length).saturating_mul(outer.min(4));
+    let entries = size_of(rule).saturating_sub(length).saturating_add(SLICE);
+    let slice = entries
+        .saturating_mul(100)
+        .saturating_add(otherwise.saturating_mul(20));
+    outer
+        .saturating_mul(length / SLICE + 1)
+        .saturating_mul(slice)
+        < whole
+}
+
+// Whether the rule is better cut down to that list.
+fn is_better_cut(
+    held: &Bars<'_>,
+    earlier: &Bars<'_>,
+    rule: &PolicyRule,
+    last: Dimension,
+    found: usize,
+) -> bool {
+    if length_of(rule, last) <= SLICE {
+        return false;
+    }
+    let by_list = found_in(held, earlier, rule, last);
+    is_worth_it(rule, last, by_list, found.saturating_sub(by_list))
+}
+
+// How many rules are found at all.
+fn found_at_all(held: &Bars<'_>, earlier: &Bars<'_>, rule: &PolicyRule) -> usize {
+    held.index
+        .wide
+        .len()
+        .saturating_add(earlier.index.wide.len())
+        .saturating_add(found_in(held, earlier, rule, Dimension::Urls))
+        .saturating_add(found_in(held, earlier, rule, Dimension::Groups))
+        .saturating_add(found_in(held, earlier, rule, Dimension::Resources))
+        .saturating_add(found_in(held, earlier, rule, Dimension::Verbs))
+        .saturating_add(found_in(held, earlier, rule, Dimension::Names))
+}
+
+/// The list down to which it is worth it to cut the rule.
+pub fn sliced_list(held: &Bars<'_>, earlier: &Bars<'_>, rule: &PolicyRule) -> Option<Dimension> {
+    if size_of(rule) <= SLICE {
+        return None;
+    }
+    let found = found_at_all(held, earlier, rule);
+    if is_better_cut(held, earlier, rule, Dimension::Urls, found) {
+        Some(Dimension::Urls)
+    } else if is_better_cut(held, earlier, rule, Dimension::Groups, found) {
+        Some(Dimension::Groups)
+    } else if is_better_cut(held, earlier, rule, Dimension::Resources, found) {
+        Some(Dimension::Resources)
+    } else if is_better_cut(held, earlier, rule, Dimension::Verbs, found) {
+        Some(Dimension::Verbs)
+    } else if is_better_cut(held, earlier, rule, Dimension::Names, found) {
+        Some(Dimension::Names)
+    } else {
+        None
+    }
+}
