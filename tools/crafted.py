@@ -19,10 +19,16 @@ from hostile import ANN, ROOT, Server
 
 RBAC = "/apis/rbac.authorization.k8s.io/v1"
 RULES, WRITES, SECONDS = 15_000, 4_000, 120
+LARGEST = 1_048_576
+
+
+def compact(value):
+    return json.dumps(value, separators=(",", ":"))
 
 
 def rule(verbs, groups, resources, names=()):
-    return {"verbs": list(verbs), "apiGroups": list(groups), "resources": list(resources), "resourceNames": list(names)}
+    lists = {"verbs": list(verbs), "apiGroups": list(groups), "resources": list(resources), "resourceNames": list(names)}
+    return {list_name: entries for list_name, entries in lists.items() if entries}
 
 
 def entries(count, letter="e"):
@@ -75,6 +81,17 @@ def repeats():
     return names()[:7_000] + [rule(["get"], [""], ["pods"], entries(5_000)) for _ in range(10)]
 
 
+def product():
+    """One rule of many resources and many names."""
+    return rule(["get"], [""], entries(RULES // 2, "r"), entries(RULES // 2))
+
+
+def diagonal():
+    """Rules of a resource and a name each, and then rules of a name each, on all resources."""
+    pairs = [rule(["get"], [""], [f"r{it}"], [f"e{it}"]) for it in range(RULES // 2)]
+    return pairs + [rule(["get"], [""], ["*"], [it]) for it in entries(RULES // 2)]
+
+
 def elevens():
     """Rules of one permission each, of eleven values of each part."""
     return [rule(*[[it] for it in parts]) for parts in itertools.product(*[entries(11, letter) for letter in "vgrn"])]
@@ -88,19 +105,33 @@ class Client:
         self.connection = http.client.HTTPConnection("127.0.0.1", port, timeout=SECONDS)
 
     def send(self, method, target, body=None, wanted=(200, 201)):
-        text, before = json.dumps(body, separators=(",", ":")) if body else None, self.server.precise()
+        text, before = compact(body) if body else None, self.server.precise()
         media = {"Content-Type": "application/merge-patch+json"} if method == "PATCH" else {}
-        self.connection.request(method, target, text, media)
-        answer = self.connection.getresponse()
-        told = answer.read()
-        if answer.status not in wanted:
-            sys.exit(f"{method} {target}: {answer.status} {told[:200]}")
+        status, told = self.answer(method, target, text, media)
+        if status not in wanted:
+            sys.exit(f"{method} {target}: {status} {told[:200]}")
         return self.server.precise() - before
+
+    def answer(self, method, target, text, media):
+        """Status and body. A body that is too large is refused before it is read, and then the connection may be reset."""
+        length = len(text or "")
+        what = f"{method} {target}: a body of {length:,} bytes (at most {LARGEST:,})"
+        if length > LARGEST:
+            sys.exit(f"{what}: not sent, since it would be refused")
+        try:
+            self.connection.request(method, target, text, media)
+            answer = self.connection.getresponse()
+            told = answer.read()
+        except (ConnectionError, http.client.HTTPException) as fault:
+            sys.exit(f"{what}: no answer, {fault!r}")
+        if answer.status == 413:
+            sys.exit(f"{what}: refused as too large: {told[:200]}")
+        return answer.status, told
 
     def ask_without_answer(self, target, body, seconds=1):
         """The cost of a request whose answer is not had for want of memory."""
         before = self.server.precise()
-        self.connection.request("POST", target, json.dumps(body))
+        self.connection.request("POST", target, compact(body))
         time.sleep(seconds)
         self.connection.close()
         return self.server.precise() - before
@@ -129,7 +160,7 @@ BINDER = role("binder", [rule(["create"], ["rbac.authorization.k8s.io"], ["clust
 @contextlib.contextmanager
 def loaded(program, *objects):
     with tempfile.NamedTemporaryFile("w", suffix=".jsonl") as file:
-        file.writelines(json.dumps(it) + "\n" for it in objects)
+        file.writelines(compact(it) + "\n" for it in objects)
         file.flush()
         with Measured(program, load=file.name) as server:
             yield server
@@ -177,6 +208,8 @@ CASES = (
     (f"{RULES:,} resources against as many rules", 0.5, lambda it: check(it, resources(), [rule(["get"], [""], entries(RULES))], True)),
     (f"{RULES:,} paths against as many rules", 0.5, lambda it: check(it, paths(), [long_paths()], True)),
     (f"{RULES // 2:,} names of 15 verbs against two rules for each", 0.5, lambda it: check(it, list(split()), [split_whole()], True)),
+    (f"{RULES // 2:,} resources of as many names against a rule for each resource", 0.5, lambda it: check(it, [rule(["get"], [""], [r]) for r in entries(RULES // 2, "r")], [product()], True)),
+    ("the same against single pairs, and then a rule for each name", 0.5, lambda it: check(it, diagonal(), [product()], True)),
     ("ten rules of 5,000 names behind 7,000 of one, none held", 0.5, lambda it: check(it, [], repeats(), False)),
     (f"{RULES:,} rules against one with as many names", 0.5, lambda it: check(it, [rule(["get"], [""], ["pods"], entries(RULES))], names(), True)),
     (f"a turn of {RULES:,} rules", 0.2, turn),

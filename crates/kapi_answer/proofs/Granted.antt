@@ -1,5 +1,5 @@
 -- What an answer changes was granted to the caller.
-use Rattle.std.proofs.Common.{◌≡◌, ◌+◌, inl, inr, ℕ, List, [], ◌∷◌, Bool, Option, None, Some, Result, Ok, Err, length, refl}
+use Rattle.std.proofs.Common.{◌≡◌, ◌+◌, inl, inr, ℕ, List, [], ◌∷◌, Bool, Option, None, Some, Result, Ok, Err, ok_or, length, refl}
 use Rattle.std.specs.Fmt.{decimal}
 use Rattle.std.specs.List.{AllByRecursion}
 use Rattle.std.specs.Map.{lookup}
@@ -9,7 +9,6 @@ use Rattle.kapi_text.specs.Gives.{◌>>=◌}
 use Rattle.kapi_guard.specs.Impersonation.{MakesAs, impersonated}
 use Rattle.kapi_http.specs.declared.message.HttpFault.{HttpFault}
 use Rattle.kapi_http.specs.declared.message.HttpRequest.{HttpRequest}
-use Rattle.kapi_tree.specs.Given.{given_of}
 use Rattle.kapi_policy.specs.Objects.{PolicyObjects}
 use Rattle.kapi_model.specs.declared.identity.Identity.{Identity}
 use Rattle.kapi_reply.specs.Refusals.{Asked}
@@ -28,9 +27,9 @@ use Rattle.kapi_route.specs.Query.{queried}
 use Rattle.kapi_route.specs.Route.{ResourceRouted, Routed, health, resource, routed}
 use Rattle.kapi_route.specs.declared.route.Action.{Action}
 use Rattle.kapi_route.specs.declared.route.Action.TheVariants as action
-use Rattle.kapi_store.specs.Faults.{StoreFault}
+use Rattle.kapi_store.specs.Faults.{StoreFault, Missing}
 use Rattle.kapi_store.specs.Keys.{is_key}
-use Rattle.kapi_store.specs.Plain.{Plain, PlainChange, creation_at, creation_in_place, removable, removal, removals, replaceable, replaced, replacement, replacement_at, revisions_left}
+use Rattle.kapi_store.specs.Plain.{Plain, PlainChange, creation_at, creation_in_place, removable, removal, removals, replaced, replacement_in_place, replacement_at, revisions_left}
 use Rattle.kapi_store.specs.Same.{same_tree}
 use Rattle.kapi_store.specs.Stamps.{uid_in, uid_of, version_in, with_stamps_of}
 use Rattle.kapi_store.specs.declared.key.Key.{Key}
@@ -39,7 +38,7 @@ use Rattle.kapi_stored_policy.specs.Kind.{policy_kind}
 use Rattle.kapi_answer.proofs.Escalated.{passed_is_granted}
 use Rattle.kapi_stored_policy.proofs.Granted.{deletion_is_granted, stamped_is_granted}
 use Rattle.kapi_stored_policy.specs.Granted.{AreGranted, IsDeletion, IsGrantedAt}
-use Rattle.kapi_answer.specs.Answer.{Passed, Plan, Task, answer, answer_as, answer_asked, answer_by, answer_passed, asked_by, carried_out, checked, create, delete, deletes, escalation_checked, passes, planned, planned_at, planned_creation, planned_for, planned_on, replace, task, tell, tells, to_be_created, to_be_replaced, told, told_well, watch, watching}
+use Rattle.kapi_answer.specs.Answer.{Passed, Plan, Task, answer, answer_as, answer_asked, answer_by, answer_passed, asked_by, carried_out, checked, create, delete, deletes, escalation_checked, passes, place_in, planned, planned_at, planned_creation, planned_for, planned_on, replace, task, tell, tells, to_be_created, to_be_replaced, told, told_well, watch, watching}
 use Rattle.kapi_answer.specs.Authorization.{authorized}
 use Rattle.kapi_answer.specs.Collection.{listed, to_delete_all}
 use Rattle.kapi_answer.specs.Create.{Admitted, admitted, created, creates, with_namespace_on, stored, to_create, valid}
@@ -76,9 +75,9 @@ module _ (objects : PolicyObjects) (identity : Identity) where
       then_holds (revisions_left s 1) (λ _. Ok (creation_at new.0 new.1 (s.revision + 1) ∷ [])) Granted
       (λ _. (stamped_is_granted objects identity (policy_kind new.0) new.0 (uid_of (s.revision + 1)) (decimal (s.revision + 1)) new.1 h, tt))
 
-  replacement_granted : (s : Plain) (new : Key × Data) → IsGrantedNew new → IfOk (replacement s new.0 new.1) Granted
+  replacement_granted : (s : Plain) (new : Key × Data) → IsGrantedNew new → IfOk (replacement_in_place s new.0 new.1) Granted
   replacement_granted s new h =
-      then_holds (replaceable s new.0 (given_of new.1).resource_version) (replaced s new.0 new.1) Granted
+      then_holds (ok_or (lookup (is_key new.0) s.objects) Missing) (replaced s new.0 new.1) Granted
       (λ old. either_holds (same_tree (with_stamps_of old new.1) old) (Ok []) (revisions_left s 1 >>= λ _. Ok (replacement_at new.0 old new.1 (s.revision + 1) ∷ [])) Granted tt
       (then_holds (revisions_left s 1) (λ _. Ok (replacement_at new.0 old new.1 (s.revision + 1) ∷ [])) Granted
       (λ _. (
@@ -130,8 +129,8 @@ module _ (objects : PolicyObjects) (identity : Identity) where
   replace_granted : (s : Plain) (new : Key × Data) → IsGrantedNew new → IfOk (replaces s new) IsGrantedOutcome
   unfolding replaces
   replace_granted s new h =
-      then_keeps (stored new.0.name (replacement s new.0 new.1)) (told_after (lookup (is_key new.0) s.objects)) IsGrantedOutcome
-      (stored_holds new.0.name (replacement s new.0 new.1) Granted (replacement_granted s new h)) (λ cs granted. granted)
+      then_keeps (stored new.0.name (replacement_in_place s new.0 new.1)) (told_after (lookup (is_key new.0) s.objects)) IsGrantedOutcome
+      (stored_holds new.0.name (replacement_in_place s new.0 new.1) Granted (replacement_granted s new h)) (λ cs granted. granted)
 
   delete_granted : (s : Plain) (deletion : Deletion) → IfOk (removes s deletion) IsGrantedOutcome
   unfolding removes
@@ -159,13 +158,13 @@ created_granted : (s : Plain) (t : Task) (new : Key × Data) → IfOk (to_be_cre
 unfolding to_be_created
 created_granted s t new =
     then_keeps (escalation_checked s t new) (λ u. Ok (create new)) (IsGrantedFor t)
-    (passed_is_granted t.objects t.identity t.key.name new.0 (lookup (is_key new.0) s.objects) new.1) (λ u granted. granted)
+    (passed_is_granted t.objects t.identity t.name new.0 (lookup (is_key new.0) s.objects) new.1) (λ u granted. granted)
 
 replaced_granted : (s : Plain) (t : Task) (new : Key × Data) → IfOk (to_be_replaced s t new) (IsGrantedFor t)
 unfolding to_be_replaced
 replaced_granted s t new =
     then_keeps (escalation_checked s t new) (λ u. Ok (replace new)) (IsGrantedFor t)
-    (passed_is_granted t.objects t.identity t.key.name new.0 (lookup (is_key new.0) s.objects) new.1) (λ u granted. granted)
+    (passed_is_granted t.objects t.identity t.name new.0 (lookup (is_key new.0) s.objects) new.1) (λ u granted. granted)
 
 -- the answer to a review changes nothing
 answer_tells : (objects : PolicyObjects) (identity : Identity) (kind : ReviewKind) (row : ResourceRow) (namespace : List ℕ) (body : Admitted)
@@ -184,10 +183,10 @@ review_tells objects identity kind row namespace bytes =
 
 planned_creation_granted : (kind : Option ReviewKind) (s : Plain) (t : Task) → IfOk (planned_creation kind s t) (IsGrantedFor t)
 unfolding planned_creation
-planned_creation_granted None s t = then_holds (to_create s t.row t.key.namespace t.body) (to_be_created s t) (IsGrantedFor t) (created_granted s t)
+planned_creation_granted None s t = then_holds (to_create s t.row t.namespace t.body) (to_be_created s t) (IsGrantedFor t) (created_granted s t)
 planned_creation_granted (Some kind) s t =
-    then_keeps (to_review t.objects t.identity kind t.row t.key.namespace t.body) tells (IsGrantedFor t)
-    (review_tells t.objects t.identity kind t.row t.key.namespace t.body) (λ outcome nothing. nothing)
+    then_keeps (to_review t.objects t.identity kind t.row t.namespace t.body) tells (IsGrantedFor t)
+    (review_tells t.objects t.identity kind t.row t.namespace t.body) (λ outcome nothing. nothing)
 
 found_tells : (t : Task) (o : Option Data) → IfOk (found_if o >>= tells) (IsGrantedFor t)
 found_tells t None = tt
@@ -195,14 +194,14 @@ found_tells t (Some tree) = refl
 
 planned_on_granted : (a : Action) (s : Plain) (t : Task) → IfOk (planned_on a s t) (IsGrantedFor t)
 unfolding planned_on found listed
-planned_on_granted action.Get s t = found_tells t (lookup (is_key t.key) s.objects)
+planned_on_granted action.Get s t = found_tells t (lookup (is_key (place_in t)) s.objects)
 planned_on_granted action.List s t = refl
 planned_on_granted action.Watch s t = tt
 planned_on_granted action.Create s t = planned_creation_granted (review_kind t.row) s t
-planned_on_granted (action.Update of) s t = then_holds (to_update s t.row of t.key t.body) (to_be_replaced s t) (IsGrantedFor t) (replaced_granted s t)
-planned_on_granted (action.Patch of) s t = then_holds (to_patch s t.row of t.key t.body) (to_be_replaced s t) (IsGrantedFor t) (replaced_granted s t)
-planned_on_granted action.Delete s t = then_holds (to_delete s t.key t.body) deletes (IsGrantedFor t) (λ deletion. tt)
-planned_on_granted action.DeleteCollection s t = then_holds (to_delete_all s t.row t.key.namespace t.filter t.body) deletes (IsGrantedFor t) (λ deletion. tt)
+planned_on_granted (action.Update of) s t = then_holds (to_update s t.row of (place_in t) t.body) (to_be_replaced s t) (IsGrantedFor t) (replaced_granted s t)
+planned_on_granted (action.Patch of) s t = then_holds (to_patch s t.row of (place_in t) t.body) (to_be_replaced s t) (IsGrantedFor t) (replaced_granted s t)
+planned_on_granted action.Delete s t = then_holds (to_delete s (place_in t) t.body) deletes (IsGrantedFor t) (λ deletion. tt)
+planned_on_granted action.DeleteCollection s t = then_holds (to_delete_all s t.row t.namespace t.filter t.body) deletes (IsGrantedFor t) (λ deletion. tt)
 
 module _ (objects : PolicyObjects) (s : Plain) (identity : Identity) (request : HttpRequest) where
   -- the plan is granted to the caller

@@ -35,7 +35,7 @@ use Rattle.kapi_store.proofs.Keys.{filter_distinct, one_distinct}
 use Rattle.kapi_store.specs.Faults.{StoreFault, Conflict}
 use Rattle.kapi_store.specs.Keys.{is_key}
 use Rattle.kapi_store.specs.Listing.{is_listed}
-use Rattle.kapi_store.specs.Plain.{Plain, PlainChange, admits, creation_in_place, free_place, removal, replaceable, replacement, revisions_left}
+use Rattle.kapi_store.specs.Plain.{Plain, PlainChange, admits, creation_in_place, free_place, removal, replaceable, replacement_in_place, revisions_left}
 use Rattle.kapi_store.specs.Plain as store
 use Rattle.kapi_store.specs.Stamps.{version_in}
 use Rattle.kapi_store.specs.declared.key.Key.{Key}
@@ -44,7 +44,7 @@ use Rattle.kapi_watch.proofs.Lists.{standing_is_named}
 use Rattle.kapi_watch.specs.Histories.{IsNamedBy, IsCreation}
 use Rattle.kapi_answer.proofs.Granted.{review_tells, then_keeps}
 use Rattle.kapi_answer.proofs.NamedTrees.{IsHome, is_home, new_named, other_named}
-use Rattle.kapi_answer.specs.Answer.{Passed, Plan, Task, answer, answer_as, answer_asked, answer_by, answer_passed, asked_by, carried_out, checked, create, delete, deletes, escalation_checked, passes, planned, planned_at, planned_creation, planned_for, planned_on, replace, task, tell, tells, to_be_created, to_be_replaced, told, told_well, watch, watching}
+use Rattle.kapi_answer.specs.Answer.{Passed, Plan, Task, answer, answer_as, answer_asked, answer_by, answer_passed, asked_by, carried_out, checked, create, delete, deletes, escalation_checked, passes, place_in, planned, planned_at, planned_creation, planned_for, planned_on, replace, task, tell, tells, to_be_created, to_be_replaced, told, told_well, watch, watching}
 use Rattle.kapi_answer.specs.Authorization.{authorized}
 use Rattle.kapi_answer.specs.Collection.{chosen, deletes_all, listed, to_delete_all}
 use Rattle.kapi_answer.specs.Create.{Admitted, admitted, admitted_from, created, creates, given_name, in_namespace, key_of, name_text, stored, to_create, to_place, valid}
@@ -220,8 +220,8 @@ module _ (s : Plain) (h : AreNamed s.objects) where
   replaces_write : (new : Key × Data) → IsOther new → IfOk (replaces s new) IsWriteOutcome
   unfolding replaces
   replaces_write new n =
-      then_is (stored new.0.name (replacement s new.0 new.1)) (told_after (lookup (is_key new.0) s.objects)) IsWriteOutcome
-      (λ cs is. write.replaces (new.0, new.1, n, stored_ok new.0.name (replacement s new.0 new.1) cs is))
+      then_is (stored new.0.name (replacement_in_place s new.0 new.1)) (told_after (lookup (is_key new.0) s.objects)) IsWriteOutcome
+      (λ cs is. write.replaces (new.0, new.1, n, stored_ok new.0.name (replacement_in_place s new.0 new.1) cs is))
 
   removes_write : (deletion : Deletion) → IsApart deletion → IfOk (removes s deletion) IsWriteOutcome
   unfolding removes
@@ -249,31 +249,31 @@ module _ (s : Plain) (h : AreNamed s.objects) where
   unfolding to_be_replaced
   replaced_named t new n = then_holds (escalation_checked s t new) (λ u. Ok (replace new)) IsNamedPlan (λ u. n)
 
-  planned_creation_named : (kind : Option ReviewKind) (t : Task) → IsHome t.row t.key.namespace → IfOk (planned_creation kind s t) IsNamedPlan
+  planned_creation_named : (kind : Option ReviewKind) (t : Task) → IsHome t.row t.namespace → IfOk (planned_creation kind s t) IsNamedPlan
   unfolding planned_creation
   planned_creation_named None t home =
-      then_keeps (to_create s t.row t.key.namespace t.body) (to_be_created s t) IsNamedPlan (create_new s t.row t.key.namespace t.body home) (created_named t)
+      then_keeps (to_create s t.row t.namespace t.body) (to_be_created s t) IsNamedPlan (create_new s t.row t.namespace t.body home) (created_named t)
   planned_creation_named (Some kind) t home =
-      then_keeps (to_review t.objects t.identity kind t.row t.key.namespace t.body) tells IsNamedPlan
-      (review_tells t.objects t.identity kind t.row t.key.namespace t.body) (λ outcome nothing. nothing)
+      then_keeps (to_review t.objects t.identity kind t.row t.namespace t.body) tells IsNamedPlan
+      (review_tells t.objects t.identity kind t.row t.namespace t.body) (λ outcome nothing. nothing)
 
   found_tells : (o : Option Data) → IfOk (found_if o >>= tells) IsNamedPlan
   found_tells None = tt
   found_tells (Some tree) = refl
 
-  planned_on_named : (a : Action) (t : Task) → IsHome t.row t.key.namespace → IfOk (planned_on a s t) IsNamedPlan
+  planned_on_named : (a : Action) (t : Task) → IsHome t.row t.namespace → IfOk (planned_on a s t) IsNamedPlan
   unfolding planned_on found listed
-  planned_on_named action.Get t home = found_tells (lookup (is_key t.key) s.objects)
+  planned_on_named action.Get t home = found_tells (lookup (is_key (place_in t)) s.objects)
   planned_on_named action.List t home = refl
   planned_on_named action.Watch t home = tt
   planned_on_named action.Create t home = planned_creation_named (review_kind t.row) t home
   planned_on_named (action.Update of) t home =
-      then_keeps (to_update s t.row of t.key t.body) (to_be_replaced s t) IsNamedPlan (update_other t.row of t.key t.body home) (replaced_named t)
+      then_keeps (to_update s t.row of (place_in t) t.body) (to_be_replaced s t) IsNamedPlan (update_other t.row of (place_in t) t.body home) (replaced_named t)
   planned_on_named (action.Patch of) t home =
-      then_keeps (to_patch s t.row of t.key t.body) (to_be_replaced s t) IsNamedPlan (patch_other t.row of t.key t.body home) (replaced_named t)
-  planned_on_named action.Delete t home = then_keeps (to_delete s t.key t.body) deletes IsNamedPlan (delete_apart t.key t.body) (λ deletion apart. apart)
+      then_keeps (to_patch s t.row of (place_in t) t.body) (to_be_replaced s t) IsNamedPlan (patch_other t.row of (place_in t) t.body home) (replaced_named t)
+  planned_on_named action.Delete t home = then_keeps (to_delete s (place_in t) t.body) deletes IsNamedPlan (delete_apart (place_in t) t.body) (λ deletion apart. apart)
   planned_on_named action.DeleteCollection t home =
-      then_keeps (to_delete_all s t.row t.key.namespace t.filter t.body) deletes IsNamedPlan (delete_all_apart t.row t.key.namespace t.filter t.body) (λ deletion apart. apart)
+      then_keeps (to_delete_all s t.row t.namespace t.filter t.body) deletes IsNamedPlan (delete_all_apart t.row t.namespace t.filter t.body) (λ deletion apart. apart)
 
   module _ (objects : PolicyObjects) (identity : Identity) (request : HttpRequest) where
     planned_for_named : (a : Attributes) (r : ResourceRouted) → IfOk (planned_for objects s identity request a r) IsNamedPlan

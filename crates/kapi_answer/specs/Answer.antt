@@ -30,7 +30,7 @@ use Rattle.kapi_store.specs.Keys.{is_key}
 use Rattle.kapi_store.specs.declared.key.Key.{Key}
 use Rattle.kapi_answer.specs.Authorization.{authorized}
 use Rattle.kapi_answer.specs.Collection.{listed, to_delete_all}
-use Rattle.kapi_answer.specs.Create.{creates, key_of, to_create}
+use Rattle.kapi_answer.specs.Create.{creates, key_at, namespace_on, to_create}
 use Rattle.kapi_answer.specs.Delete.{Deletion, removes, to_delete}
 use Rattle.kapi_answer.specs.Get.{found}
 use Rattle.kapi_answer.specs.Impersonation.{made_as}
@@ -53,12 +53,14 @@ pub data Plan : Type 0 where
 abbrev pub tells : Outcome → Result Plan Refused
 tells outcome = Ok (tell outcome)
 
--- the roles and bindings that decide a resource request, its identity, resource type, key, filter and body
+-- the roles and bindings that decide a resource request, its identity, its resource type, the namespace and the name of
+-- its path, its filter and body
 pub record Task : Type 0 where
   pub objects : PolicyObjects
   pub identity : Identity
   pub row : ResourceRow
-  pub key : Key
+  pub namespace : List ℕ
+  pub name : List ℕ
   pub filter : Filter
   pub body : List ℕ
 
@@ -68,14 +70,19 @@ task objects identity request a r filter = record {
   objects = objects;
   identity = identity;
   row = r.row;
-  key = key_of r.row a.namespace r.point.name;
+  namespace = namespace_on r.row a.namespace;
+  name = r.point.name;
   filter = filter;
   body = request.body;
 }
 
+-- the place that a task's path names
+abbrev pub place_in : Task → Key
+place_in t = key_at t.row t.namespace t.name
+
 -- the identity may write the object, by what the write would grant
 abbrev pub escalation_checked : Plain → Task → Key × Data → Result (Unit {0}) Refused
-escalation_checked s t new = escalated t.objects t.identity t.key.name new.0 (lookup (is_key new.0) s.objects) new.1
+escalation_checked s t new = escalated t.objects t.identity t.name new.0 (lookup (is_key new.0) s.objects) new.1
 
 -- plans the creation of an object that passed its checks, where the identity may make the write
 unfoldable pub to_be_created : Plain → Task → Key × Data → Result Plan Refused
@@ -95,19 +102,19 @@ deletes deletion = Ok (delete deletion)
 
 -- plans the answer to a review, or the creation of any other object
 unfoldable pub planned_creation : Option ReviewKind → Plain → Task → Result Plan Refused
-planned_creation (Some kind) s t = to_review t.objects t.identity kind t.row t.key.namespace t.body >>= tells
-planned_creation None s t = to_create s t.row t.key.namespace t.body >>= to_be_created s t
+planned_creation (Some kind) s t = to_review t.objects t.identity kind t.row t.namespace t.body >>= tells
+planned_creation None s t = to_create s t.row t.namespace t.body >>= to_be_created s t
 
 -- the plan of a resource request by its action
 unfoldable pub planned_on : Action → Plain → Task → Result Plan Refused
-planned_on action.Get s t = found s t.key >>= tells
-planned_on action.List s t = tells (listed s t.row t.key.namespace t.filter)
-planned_on action.Watch s t = Ok (watch (watch_of s t.row t.key.namespace t.filter))
+planned_on action.Get s t = found s (place_in t) >>= tells
+planned_on action.List s t = tells (listed s t.row t.namespace t.filter)
+planned_on action.Watch s t = Ok (watch (watch_of s t.row t.namespace t.filter))
 planned_on action.Create s t = planned_creation (review_kind t.row) s t
-planned_on (action.Update of) s t = to_update s t.row of t.key t.body >>= to_be_replaced s t
-planned_on (action.Patch of) s t = to_patch s t.row of t.key t.body >>= to_be_replaced s t
-planned_on action.Delete s t = to_delete s t.key t.body >>= deletes
-planned_on action.DeleteCollection s t = to_delete_all s t.row t.key.namespace t.filter t.body >>= deletes
+planned_on (action.Update of) s t = to_update s t.row of (place_in t) t.body >>= to_be_replaced s t
+planned_on (action.Patch of) s t = to_patch s t.row of (place_in t) t.body >>= to_be_replaced s t
+planned_on action.Delete s t = to_delete s (place_in t) t.body >>= deletes
+planned_on action.DeleteCollection s t = to_delete_all s t.row t.namespace t.filter t.body >>= deletes
 
 -- the checks of a resource request, from its query on
 unfoldable pub planned_for : PolicyObjects → Plain → Identity → HttpRequest → Attributes → ResourceRouted → Result Plan Refused

@@ -73,14 +73,17 @@ unfoldable pub in_namespace : List ℕ → List ℕ → GivenText → Result (Un
 in_namespace namespace name given =
     if is_as_in_path namespace given then Ok tt else Err (named name (refusal.BadRequest word.Namespace))
 
+-- the namespace of a place of a resource type: cluster-scoped objects have none
+abbrev pub namespace_on : ResourceRow → List ℕ → List ℕ
+namespace_on row namespace = if row.namespaced then namespace else []
+
+-- the place of the object of a resource type, a namespace and a name
+abbrev pub key_at : ResourceRow → List ℕ → List ℕ → Key
+key_at row namespace name = record { group = row.group; resource = row.plural; namespace = namespace; name = name }
+
 -- the place of an object of a resource type: cluster-scoped objects have no namespace
 abbrev pub key_of : ResourceRow → List ℕ → List ℕ → Key
-key_of row namespace name = record {
-  group = row.group;
-  resource = row.plural;
-  namespace = if row.namespaced then namespace else [];
-  name = name;
-}
+key_of row namespace name = key_at row (namespace_on row namespace) name
 
 -- the refusal that reports a fault of the store, about the object of that name
 unfoldable pub refusal_of : StoreFault → Refusal

@@ -1,6 +1,7 @@
 -- Outcomes and answers as data.
 use Rattle.std.specs.Prelude.{◌≡◌, List, [], map, Option, None, Some, Result, Ok, Err, option_map}
 use Rattle.std.specs.List.{IsDistinct}
+use Rattle.std.specs.Map.{lookup}
 use Rattle.serde_json.specs.Data.{Data}
 use Rattle.kapi_tree.specs.Object.{tree_of}
 use Rattle.kapi_model.specs.declared.fault.FieldFault.{FieldFault}
@@ -15,6 +16,7 @@ use Rattle.kapi_answer.specs.declared.outcome.Outcome.{Outcome as OutcomeOf}
 use Rattle.kapi_answer.specs.declared.respond.Prepared.{Prepared}
 use Rattle.kapi_answer.specs.declared.outcome.Deletion.{Deletion as DeletionOf}
 use Rattle.kapi_answer.specs.declared.outcome.NewObject.{NewObject}
+use Rattle.kapi_answer.specs.declared.outcome.Replacement.{Replacement}
 use Rattle.kapi_answer.specs.declared.outcome.Passed.{Passed as PassedOf}
 use Rattle.kapi_answer.specs.declared.outcome.Passed.TheVariants as passed
 use Rattle.kapi_answer.specs.declared.outcome.Plan.{Plan as PlanOf}
@@ -78,7 +80,7 @@ abbrev pub plan_data : PlanOf → Plan
 plan_data (plan.Tell outcome) = tell (outcome_data outcome)
 plan_data (plan.Watch w) = watch (watch_data w)
 plan_data (plan.Create new) = create (new_data new)
-plan_data (plan.Replace new) = replace (new_data new)
+plan_data (plan.Replace r) = replace (new_data r.new)
 plan_data (plan.Delete deletion) = delete (deletion_data deletion)
 
 -- a resource request's task as data
@@ -87,17 +89,23 @@ task_data objects t = record {
   objects = objects;
   identity = t.identity.now;
   row = t.row.now;
-  key = t.key.now;
+  namespace = t.namespace.now;
+  name = t.name.now;
   filter = t.filter.now;
   body = t.body.now;
 }
 
--- a planned watch has shown nothing yet, the place of a new object is free, and nothing is to be deleted twice
+-- the object that is to be replaced stands at its place
+abbrev pub Stands : Plain → Replacement → Type 0
+Stands s r = lookup (is_key r.new.key) s.objects ≡ Some (tree_of r.old)
+
+-- a planned watch has shown nothing yet, the place of a new object is free, an object that is to be replaced stands at
+-- its place, and nothing is to be deleted twice
 abbrev pub IsReady : Plain → PlanOf → Type 0
 IsReady s (plan.Tell outcome) = Unit {0}
 IsReady s (plan.Watch w) = IsFresh s w
 IsReady s (plan.Create new) = free_place s new.key ≡ Ok tt
-IsReady s (plan.Replace new) = Unit {0}
+IsReady s (plan.Replace r) = Stands s r
 IsReady s (plan.Delete deletion) = IsDistinct is_key deletion.keys.items
 
 -- a plan of an answer alone has no write
@@ -105,5 +113,5 @@ abbrev pub ChangesNothing : PlanOf → Type 0
 ChangesNothing (plan.Tell outcome) = outcome.write ≡ None
 ChangesNothing (plan.Watch w) = Unit {0}
 ChangesNothing (plan.Create new) = Unit {0}
-ChangesNothing (plan.Replace new) = Unit {0}
+ChangesNothing (plan.Replace r) = Unit {0}
 ChangesNothing (plan.Delete deletion) = Unit {0}

@@ -18,7 +18,7 @@ use Rattle.kapi_reply.specs.declared.refusal.Refused.{Refused}
 use Rattle.kapi_route.specs.declared.route.Part.{Part}
 use Rattle.kapi_route.specs.declared.route.Part.TheVariants as part
 use Rattle.kapi_store.specs.Keys.{is_key}
-use Rattle.kapi_store.specs.Plain.{Plain, PlainChange, replaceable, replacement}
+use Rattle.kapi_store.specs.Plain.{Plain, PlainChange, replaceable, replacement_in_place}
 use Rattle.kapi_store.specs.declared.key.Key.{Key}
 use Rattle.kapi_answer.specs.Create.{Admitted, admitted, admitted_from, with_namespace_on, in_namespace, is_as_in_path, stored, text_after, valid}
 use Rattle.kapi_answer.specs.Delete.{existing}
@@ -71,4 +71,4 @@ told_after old changes = Ok (record { code = status.Ok; content = content.Json; 
 
 -- the replacement of the object at a key: where that changes something, a revision must be left
 unfoldable pub replaces : Plain → Key × Data → Result Outcome Refused
-replaces s new = stored new.0.name (replacement s new.0 new.1) >>= told_after (lookup (is_key new.0) s.objects)
+replaces s new = stored new.0.name (replacement_in_place s new.0 new.1) >>= told_after (lookup (is_key new.0) s.objects)

@@ -1,5 +1,5 @@
 //! The creation of an object.
-ghost use Rattle.std.specs.Prelude.{◌≡◌, [], true, Ok, Some, IfOk, IfSome, OnOk, if◌then◌else◌, map as map_of};
+ghost use Rattle.std.specs.Prelude.{◌≡◌, [], true, Ok, Some, IfOk, IfSome, OnOk, map as map_of};
 ghost use Rattle.std.specs.Option.{option_map};
 ghost use Rattle.kapi_text.specs.Gives.{Gives};
 ghost use Rattle.serde_json.specs.View.{view};
@@ -63,9 +63,9 @@ pub fn check_body(
 {
     let name = check_given_name(alloc, row, &body.given.name)?;
     check_namespace(alloc, namespace, &name, &body.given.namespace)?;
-    let key = key_of(alloc, row, namespace, name.as_str())?;
+    let key = key_at(alloc, row, namespace_on(row, namespace), name)?;
     check_place(alloc, store, &key)?;
-    let object = check_validity(alloc, &name, body.object)?;
+    let object = check_validity(alloc, &key.name, body.object)?;
     let object = placed(alloc, row, namespace, object)?;
     Ok(NewObject { key, object })
 }
@@ -271,20 +271,21 @@ pub fn is_as_in_path(text: &str, given: &GivenText) -> bool
     }
 }
 
-/// The place of an object of a resource type: cluster-scoped objects have no namespace.
-pub fn key_of(alloc: Global, row: &ResourceRow, namespace: &str, name: &str) -> Result<Key, Memory>
-    ensures { IfOk result (λ k. k ≡ creation.key_of row.now namespace.now name.now) }
+/// The place of the object of a resource type, a namespace and a name.
+pub fn key_at(alloc: Global, row: &ResourceRow, namespace: &str, name: Text) -> Result<Key, Memory>
+    ensures { IfOk result (λ k. k ≡ creation.key_at row.now namespace.now name) }
 {
     Ok(Key {
         group: row.group.copy(alloc)?,
         resource: row.plural.copy(alloc)?,
-        namespace: Text::copy_of(alloc, namespace_on(row, namespace))?,
-        name: Text::copy_of(alloc, name)?,
+        namespace: Text::copy_of(alloc, namespace)?,
+        name,
     })
 }
 
-fn namespace_on<'a>(row: &ResourceRow, namespace: &'a str) -> &'a str
-    ensures { result.now ≡ (if row.now.namespaced then namespace.entry.now else []) }
+/// The namespace of a place of a resource type: cluster-scoped objects have none.
+pub fn namespace_on<'a>(row: &ResourceRow, namespace: &'a str) -> &'a str
+    ensures { result.now ≡ creation.namespace_on row.now namespace.entry.now }
 {
     if row.namespaced { namespace } else { "" }
 }

@@ -1,5 +1,5 @@
 //! The deletion of an object.
-ghost use Rattle.std.specs.Prelude.{◌≡◌, ◌∷◌, [], Some, IfOk, IfSome, option_and_then, option_map, codes};
+ghost use Rattle.std.specs.Prelude.{◌≡◌, Some, IfOk, IfSome, option_and_then, option_map, codes};
 ghost use Rattle.serde_json.specs.Find.{as_str};
 ghost use Rattle.serde_json.specs.View.{view};
 ghost use Rattle.kapi_text.specs.Gives.{Gives};
@@ -33,18 +33,18 @@ use std::alloc::Global;
 pub fn check_delete(
     alloc: Global,
     store: &Store,
-    key: &Key,
+    key: Key,
     body: &[u8],
 ) -> Result<Deletion, CheckError>
-    ensures gives { Gives refused_by deletion_data result (to_delete (plain_of store.now) key.now body.now) }
+    ensures gives { Gives refused_by deletion_data result (to_delete (plain_of store.now) key body.now) }
     ensures distinct { IfOk result (λ d. IsDistinct is_key d.keys.items) }
 {
     check_options(alloc, body)?;
-    let object = existing(store, key)?;
+    let object = existing(store, &key)?;
     Ok(Deletion {
         name: key.name.copy(alloc)?,
-        keys: one(alloc, key)?,
-        reply: deletion_reply(alloc, key, object)?,
+        reply: deletion_reply(alloc, &key, object)?,
+        keys: key.alone(alloc)?,
     })
 }
 
@@ -135,13 +135,4 @@ pub fn delete(store: &Store, deletion: Deletion) -> Result<Outcome, CheckError>
         }),
         Err(error) => Err(refused_by_store(deletion.name, error)),
     }
-}
-
-/// A list of one key, copied.
-fn one(alloc: Global, key: &Key) -> Result<Vec<Key>, Memory>
-    ensures { IfOk result (λ keys. keys.items ≡ key.now ∷ []) }
-{
-    let mut keys = Vec::with_capacity(alloc, 1)?;
-    keys.push(key.copy(alloc)?)?;
-    Ok(keys)
 }

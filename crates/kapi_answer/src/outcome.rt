@@ -1,6 +1,6 @@
 use kapi_http::StatusCode;
 use kapi_reply::Content;
-use kapi_store::{Key, Ready};
+use kapi_store::{Key, Ready, Shared};
 use kapi_text::Text;
 use kapi_tree::Object;
 use kapi_watch::Watch;
@@ -32,7 +32,7 @@ pub enum Plan {
     Watch(Watch),
     Create(NewObject),
     /// The object takes the place of the stored one.
-    Replace(NewObject),
+    Replace(Replacement),
     Delete(Deletion),
 }
 
@@ -41,6 +41,13 @@ pub enum Plan {
 pub struct NewObject {
     pub key: Key,
     pub object: Object,
+}
+
+/// An object that is to be written in place of the one that is stored.
+#[derive(Drop)]
+pub struct Replacement {
+    pub new: NewObject,
+    pub old: Shared,
 }
 
 /// The objects that are to be deleted, and the reply.

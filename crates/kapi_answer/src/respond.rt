@@ -4,25 +4,28 @@ ghost use Rattle.kapi_reply.specs.Refusals.{refused_by};
 ghost use Rattle.kapi_reply.specs.Replies as replies;
 ghost use Rattle.kapi_request_info.specs.Attributes as attributes_of;
 ghost use Rattle.kapi_route.specs.Routes.{resource_data};
-ghost use Rattle.kapi_store.specs.Plain.{plain_of};
+ghost use Rattle.std.specs.Map.{lookup};
+ghost use Rattle.kapi_store.specs.Keys.{is_key};
+ghost use Rattle.kapi_store.specs.Plain.{Plain as APlain, free_place, plain_of};
 ghost use Rattle.kapi_store.specs.State.{Same, Fits};
 ghost use Rattle.kapi_watch.specs.Running.{IsFresh};
 ghost use Rattle.kapi_watch.specs.Watches.{startable};
 ghost use Rattle.kapi_answer.specs.Answer as answers;
-ghost use Rattle.kapi_answer.specs.Answer.{answer_by, answer_passed, asked_by, checked, escalation_checked, planned, planned_creation, planned_for, planned_on, to_be_created, to_be_replaced};
+ghost use Rattle.kapi_answer.specs.Answer.{answer_by, answer_passed, asked_by, checked, planned, planned_creation, planned_for, planned_on, to_be_created, to_be_replaced};
 ghost use Rattle.kapi_answer.specs.Impersonation.{made_as};
 ghost use Rattle.kapi_answer.specs.Review as reviews;
-ghost use Rattle.kapi_answer.specs.Outcomes.{ChangesNothing, IsReady, answered_data, new_data, passed_data, plan_data, task_data, watch_in, write_of};
+ghost use Rattle.kapi_answer.specs.Create as creation;
+ghost use Rattle.kapi_answer.specs.Outcomes.{ChangesNothing, IsReady, Stands, answered_data, new_data, passed_data, plan_data, task_data, watch_in, write_of};
 
 use crate::authorization::authorize;
 use crate::collection::{check_delete_all, list};
-use crate::create::{check_create, create, key_of};
+use crate::create::{check_create, create, key_at, namespace_on};
 use crate::delete::{check_delete, delete};
 use crate::escalation::check_escalation;
 use crate::get::find;
 use crate::health::health;
 use crate::impersonation::impersonate;
-use crate::outcome::{NewObject, Outcome, Passed, Plan};
+use crate::outcome::{NewObject, Outcome, Passed, Plan, Replacement};
 use crate::review::{review_kind, tell_review};
 use crate::task::Task;
 use crate::update::{check_patch, check_update, replace};
@@ -36,8 +39,8 @@ use kapi_reply::{
 };
 use kapi_request_info::{Attributes, InfoError, info};
 use kapi_route::{Action, ResourceRoute, Route, check_media_type, check_query, find_route};
-use kapi_store::{Ready, Store};
-use kapi_text::{Memory, TryCopy};
+use kapi_store::{Key, Ready, Store};
+use kapi_text::{Memory, Text, TryCopy};
 use std::alloc::{AllocError, Global};
 
 /// A complete answer, and the write that it reports, which is still to be made.
@@ -287,12 +290,11 @@ fn plan_for<P: Policy>(
     let filter = check_query(alloc, route.action, store.revision(), query)?;
     check_since(store, filter.since)?;
     check_media_type(request.method, request.headers.as_slice())?;
-    let (namespace, name) = (attributes.namespace.as_str(), route.point.name.as_str());
-    let key = key_of(alloc, route.row, namespace, name)?;
     let task = Task {
         identity,
         row: route.row,
-        key: &key,
+        namespace: namespace_on(route.row, attributes.namespace.as_str()),
+        name: route.point.name.as_str(),
         filter: &filter,
         body: request.body.as_slice(),
     };
@@ -315,31 +317,47 @@ fn plan_on<P: Policy>(
 {
     let Task {
         row,
-        key,
+        namespace,
         filter,
         body,
         ..
     } = task;
-    let namespace = key.namespace.as_str();
     match action {
-        Action::Get => Ok(Plan::Tell(find(alloc, store, key)?)),
+        Action::Get => Ok(Plan::Tell(find(alloc, store, &place_in(alloc, task)?)?)),
         Action::List => Ok(Plan::Tell(list(alloc, store, row, namespace, filter)?)),
         Action::Watch => Ok(Plan::Watch(begin(alloc, store, row, namespace, filter)?)),
         Action::Create => plan_creation(alloc, policy, store, task),
         Action::Update(part) => {
+            let key = place_in(alloc, task)?;
             let new = check_update(alloc, store, row, part, key, body)?;
-            plan_replace(alloc, policy, store, task, new)
+            plan_replace(alloc, policy, task, new)
         }
         Action::Patch(part) => {
+            let key = place_in(alloc, task)?;
             let new = check_patch(alloc, store, row, part, key, body)?;
-            plan_replace(alloc, policy, store, task, new)
+            plan_replace(alloc, policy, task, new)
         }
-        Action::Delete => Ok(Plan::Delete(check_delete(alloc, store, key, body)?)),
+        Action::Delete => {
+            let key = place_in(alloc, task)?;
+            Ok(Plan::Delete(check_delete(alloc, store, key, body)?))
+        }
         Action::DeleteCollection => {
             let all = check_delete_all(alloc, store, row, namespace, filter, body)?;
             Ok(Plan::Delete(all))
         }
     }
+}
+
+/// The place that a task's path names.
+fn place_in(alloc: Global, task: Task<'_>) -> Result<Key, Memory>
+    ensures { IfOk result (λ k. k ≡ creation.key_at task.entry.row.now task.entry.namespace.now task.entry.name.now) }
+{
+    key_at(
+        alloc,
+        task.row,
+        task.namespace,
+        Text::copy_of(alloc, task.name)?,
+    )
 }
 
 /// Plans the answer to a review, or the creation of any other object.
@@ -357,9 +375,8 @@ fn plan_creation<P: Policy>(
     match review_kind(task.row) {
         Some(kind) => Ok(Plan::Tell(tell_review(alloc, policy, kind, task)?)),
         None => {
-            let namespace = task.key.namespace.as_str();
-            let new = check_create(alloc, store, task.row, namespace, task.body)?;
-            plan_create(alloc, policy, store, task, new)
+            let new = check_create(alloc, store, task.row, task.namespace, task.body)?;
+            plan_create(alloc, policy, task, new)
         }
     }
 }
@@ -369,14 +386,14 @@ fn plan_creation<P: Policy>(
 fn plan_create<P: Policy>(
     alloc: Global,
     policy: &P,
-    store: &Store,
     task: Task<'_>,
     new: NewObject,
 ) -> Result<Plan, CheckError>
-    ensures gives { Gives refused_by plan_data result (to_be_created (plain_of store.now) (task_data (P.content policy.now) task.entry) (new_data new)) }
+    ensures gives { (s : APlain) → lookup (is_key new.key) s.objects ≡ None → Gives refused_by plan_data result (to_be_created s (task_data (P.content policy.now) task.entry) (new_data new)) }
     ensures same { IfOk result (λ plan. plan ≡ Plan.Create new) }
 {
-    check_written(alloc, policy, store, task, &new)?;
+    let (identity, name) = (task.identity, task.name);
+    check_escalation(alloc, policy, identity, name, &new.key, None, &new.object)?;
     Ok(Plan::Create(new))
 }
 
@@ -385,36 +402,22 @@ fn plan_create<P: Policy>(
 fn plan_replace<P: Policy>(
     alloc: Global,
     policy: &P,
-    store: &Store,
     task: Task<'_>,
-    new: NewObject,
+    replacement: Replacement,
 ) -> Result<Plan, CheckError>
-    ensures gives { Gives refused_by plan_data result (to_be_replaced (plain_of store.now) (task_data (P.content policy.now) task.entry) (new_data new)) }
-    ensures same { IfOk result (λ plan. plan ≡ Plan.Replace new) }
+    ensures gives { (s : APlain) → Stands s replacement → Gives refused_by plan_data result (to_be_replaced s (task_data (P.content policy.now) task.entry) (new_data replacement.new)) }
+    ensures same { IfOk result (λ plan. plan ≡ Plan.Replace replacement) }
 {
-    check_written(alloc, policy, store, task, &new)?;
-    Ok(Plan::Replace(new))
-}
-
-/// Checks that the identity may write an object, by what the write would grant.
-fn check_written<P: Policy>(
-    alloc: Global,
-    policy: &P,
-    store: &Store,
-    task: Task<'_>,
-    new: &NewObject,
-) -> Result<(), CheckError>
-    ensures { Gives refused_by (λ u. u) result (escalation_checked (plain_of store.now) (task_data (P.content policy.now) task.entry) (new_data new.now)) }
-{
-    let name = task.key.name.as_str();
-    let old = store.get(&new.key);
+    let (new, old) = (&replacement.new, replacement.old.get());
+    let (identity, name) = (task.identity, task.name);
     check_escalation(
         alloc,
         policy,
-        task.identity,
+        identity,
         name,
         &new.key,
-        old,
+        Some(old),
         &new.object,
-    )
+    )?;
+    Ok(Plan::Replace(replacement))
 }

@@ -44,18 +44,17 @@ pub fn tell_review<P: Policy>(
     kind: ReviewKind,
     task: Task<'_>,
 ) -> Result<Outcome, CheckError>
-    ensures gives { Gives refused_by outcome_data result (to_review (P.content policy.now) task.entry.identity.now kind task.entry.row.now task.entry.key.now.namespace task.entry.body.now) }
+    ensures gives { Gives refused_by outcome_data result (to_review (P.content policy.now) task.entry.identity.now kind task.entry.row.now task.entry.namespace.now task.entry.body.now) }
     ensures told { IfOk result (λ o. o.write ≡ None) }
 {
     let body = read_body(alloc, task.row, task.body)?;
-    let namespace = task.key.namespace.as_str();
     answer_body(
         alloc,
         policy,
         task.identity,
         kind,
         task.row,
-        namespace,
+        task.namespace,
         body,
     )
 }

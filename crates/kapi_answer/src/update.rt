@@ -1,15 +1,17 @@
 //! The update of an object, whole or in its status, and its patch.
 ghost use Rattle.std.specs.Prelude.{◌≡◌, Some, true, IfOk, IfSome};
+ghost use Rattle.std.specs.Map.{lookup};
 ghost use Rattle.serde_json.specs.View.{view};
 ghost use Rattle.kapi_text.specs.Gives.{Gives};
 ghost use Rattle.kapi_tree.specs.Object.{tree_of};
 ghost use Rattle.kapi_tree.specs.Order.{is_ordered};
 ghost use Rattle.kapi_patch.specs.Merge.{merged};
 ghost use Rattle.kapi_reply.specs.Refusals.{refused_by};
+ghost use Rattle.kapi_store.specs.Keys.{is_key};
 ghost use Rattle.kapi_store.specs.Plain.{plain_of};
 ghost use Rattle.kapi_store.specs.State.{Fits};
 ghost use Rattle.kapi_answer.specs.Create.{stored};
-ghost use Rattle.kapi_answer.specs.Outcomes.{admitted_data, new_data, outcome_data};
+ghost use Rattle.kapi_answer.specs.Outcomes.{Stands, admitted_data, new_data, outcome_data};
 ghost use Rattle.kapi_answer.specs.Update as updates;
 ghost use Rattle.kapi_answer.specs.Update.{keeping_status, patch_of, replaces, to_patch, to_replace, to_update};
 
@@ -18,7 +20,7 @@ use crate::create::{
     refused, refused_by_store, text_after, with_namespace,
 };
 use crate::delete::existing;
-use crate::outcome::{NewObject, Outcome};
+use crate::outcome::{NewObject, Outcome, Replacement};
 use kapi_admission::{ObjectError, read_tree};
 use kapi_http::StatusCode;
 use kapi_model::ResourceRow;
@@ -38,10 +40,11 @@ pub fn check_update(
     store: &Store,
     row: &ResourceRow,
     part: Part,
-    key: &Key,
+    key: Key,
     body: &[u8],
-) -> Result<NewObject, CheckError>
-    ensures { Gives refused_by new_data result (to_update (plain_of store.now) row.now part key.now body.now) }
+) -> Result<Replacement, CheckError>
+    ensures gives { Gives refused_by (λ r. new_data r.new) result (to_update (plain_of store.now) row.now part key body.now) }
+    ensures stands { IfOk result (Stands (plain_of store.now)) }
 {
     let body = read_body(alloc, row, body)?;
     check_replacement(alloc, store, row, part, key, body)
@@ -54,13 +57,14 @@ pub fn check_patch(
     store: &Store,
     row: &ResourceRow,
     part: Part,
-    key: &Key,
+    key: Key,
     body: &[u8],
-) -> Result<NewObject, CheckError>
-    ensures { Gives refused_by new_data result (to_patch (plain_of store.now) row.now part key.now body.now) }
+) -> Result<Replacement, CheckError>
+    ensures gives { Gives refused_by (λ r. new_data r.new) result (to_patch (plain_of store.now) row.now part key body.now) }
+    ensures stands { IfOk result (Stands (plain_of store.now)) }
 {
     let patch = read_patch(alloc, body)?;
-    let old = existing(store, key)?;
+    let old = existing(store, &key)?;
     let body = admit(alloc, row, merge(alloc, old, &patch)?)?;
     check_replacement(alloc, store, row, part, key, body)
 }
@@ -93,10 +97,11 @@ fn check_replacement(
     store: &Store,
     row: &ResourceRow,
     part: Part,
-    key: &Key,
+    key: Key,
     body: Admitted,
-) -> Result<NewObject, CheckError>
-    ensures { Gives refused_by new_data result (to_replace (plain_of store.now) row.now part key.now (admitted_data body)) }
+) -> Result<Replacement, CheckError>
+    ensures gives { Gives refused_by (λ r. new_data r.new) result (to_replace (plain_of store.now) row.now part key (admitted_data body)) }
+    ensures stands { IfOk result (Stands (plain_of store.now)) }
 {
     check_name(alloc, &key.name, &body.given.name)?;
     check_namespace(
@@ -105,11 +110,12 @@ fn check_replacement(
         &key.name,
         &body.given.namespace,
     )?;
-    let old = replaceable(alloc, store, key, &body.given.resource_version)?;
+    let old = replaceable(alloc, store, &key, &body.given.resource_version)?;
     let object = check_validity(alloc, &key.name, body.object)?;
-    Ok(NewObject {
-        key: key.copy(alloc)?,
-        object: replacing(alloc, part, row, key, old.get(), object)?,
+    let object = replacing(alloc, part, row, &key, old.get(), object)?;
+    Ok(Replacement {
+        new: NewObject { key, object },
+        old: old.share()?,
     })
 }
 
@@ -132,7 +138,8 @@ fn replaceable<'a>(
     key: &Key,
     given: &GivenText,
 ) -> Result<&'a Shared, CheckError>
-    ensures { Gives refused_by (λ o. tree_of o.now) result (stored key.now.name (Rattle.kapi_store.specs.Plain.replaceable (plain_of store.now) key.now given.now)) }
+    ensures gives { Gives refused_by (λ o. tree_of o.now) result (stored key.now.name (Rattle.kapi_store.specs.Plain.replaceable (plain_of store.now) key.now given.now)) }
+    ensures found { IfOk result (λ o. lookup (is_key key.now) (plain_of store.now).objects ≡ Some (tree_of o.now)) }
 {
     match store.replaceable(key, given) {
         Ok(object) => Ok(object),
@@ -181,18 +188,24 @@ fn keep_status(
 
 /// Prepares the write of an object in place of the stored one, and the reply with the object as it will be stored.
 #[tactic(auto, unfolding(crate::specs::Update::replaces))]
-pub fn replace(alloc: Global, store: &Store, new: NewObject) -> Result<Outcome, CheckError>
-    ensures gives { Gives refused_by outcome_data result (replaces (plain_of store.now) (new_data new)) }
+pub fn replace(
+    alloc: Global,
+    store: &Store,
+    replacement: Replacement,
+) -> Result<Outcome, CheckError>
+    requires { Stands (plain_of store.now) replacement }
+    ensures gives { Gives refused_by outcome_data result (replaces (plain_of store.now) (new_data replacement.new)) }
     ensures fits { IfOk result (λ o. IfSome o.write (Fits store.now)) }
 {
-    let key = new.key.copy(alloc)?;
-    match store.replace(new.key, new.object) {
+    let Replacement { new, old } = replacement;
+    let name = new.key.name.copy(alloc)?;
+    match store.replace_in_place(new.key, new.object, &old) {
         Ok(ready) => Ok(Outcome {
             code: StatusCode::Ok,
             content: Content::Json,
-            body: text_after(alloc, store.get(&key), ready.changes())?,
+            body: text_after(alloc, Some(old.get()), ready.changes())?,
             write: Some(ready),
         }),
-        Err(error) => Err(refused_by_store(key.name, error)),
+        Err(error) => Err(refused_by_store(name, error)),
     }
 }

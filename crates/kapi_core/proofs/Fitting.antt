@@ -1,9 +1,11 @@
 -- In a table that fits, a resource has one resource type.
 use Rattle.std.proofs.Common.{◌≡◌, ℕ, Bool, true, false, not, ◌&&◌, ◌||◌, List, [], ◌∷◌, refl, sym, ap, ◌∙◌}
+use Rattle.std.proofs.lemmas.Bool.{or_parts}
 use Rattle.std.proofs.lemmas.Slice.Eq.{bytes_eq-Decides}
 use Rattle.std.specs.Bool.{beq}
 use Rattle.std.specs.List.{list_any}
 use Rattle.std.specs.Str.{bytes_eq}
+use Rattle.kapi_text.proofs.Numbers.{both}
 use Rattle.kapi_model.specs.declared.row.ResourceRow.{ResourceRow}
 use Rattle.kapi_core.specs.Table.{has_row, is_like, is_row, rows_differ}
 
@@ -12,14 +14,6 @@ abbrev tells : List ℕ → List ℕ → ResourceRow → Bool
 tells group plural row = bytes_eq row.group group && (bytes_eq row.plural plural && row.namespaced)
 
 -- ---- tests
-
-both : (a b : Bool) → (a && b) ≡ true → (a ≡ true) × (b ≡ true)
-both true b h = (refl, h)
-both false b h = absurd (cc h)
-
-neither : (a b : Bool) → (a || b) ≡ false → (a ≡ false) × (b ≡ false)
-neither true b h = absurd (cc h)
-neither false b h = (refl, h)
 
 negated : (a : Bool) → not a ≡ true → a ≡ false
 negated true h = absurd (cc h)
@@ -63,7 +57,7 @@ none_told : (row : ResourceRow) (later : List ResourceRow) → list_any (λ othe
     → list_any (tells row.group row.plural) later ≡ false
 none_told row [] h = refl
 none_told row (other ∷ later) h =
-    let parts = neither (is_like row other) (list_any (λ o. is_like row o) later) h in
+    let parts = or_parts (is_like row other) (list_any (λ o. is_like row o) later) h in
     rw (not_told row other parts.0) (none_told row later parts.1)
 
 -- ---- rows that are the same
@@ -99,10 +93,10 @@ first_not_told : (r row : ResourceRow) (later : List ResourceRow) → has_row la
 first_not_told r row [] has none = absurd (cc has)
 first_not_told r row (other ∷ later) has none =
     by_case (is_row r other) refl
-    (λ more. first_not_told r row later more (neither (is_like row other) (list_any (λ o. is_like row o) later) none).1)
+    (λ more. first_not_told r row later more (or_parts (is_like row other) (list_any (λ o. is_like row o) later) none).1)
   where
     parts : (is_like row other ≡ false) × (list_any (λ o. is_like row o) later ≡ false)
-    parts = neither (is_like row other) (list_any (λ o. is_like row o) later) none
+    parts = or_parts (is_like row other) (list_any (λ o. is_like row o) later) none
 
     by_case : (t : Bool) → is_row r other ≡ t → (has_row later r ≡ true → tells r.group r.plural row ≡ false) → tells r.group r.plural row ≡ false
     by_case true e behind =

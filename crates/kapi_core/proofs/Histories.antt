@@ -20,6 +20,7 @@ use Rattle.kapi_model.specs.declared.row.ResourceRow.{ResourceRow}
 use Rattle.kapi_tree.proofs.Puts.{put_other}
 use Rattle.kapi_tree.specs.Contents.{rule_tree, write_items}
 use Rattle.kapi_tree.specs.Tree.{members_or_none}
+use Rattle.kapi_store.proofs.Places.{replacement_is_in_place}
 use Rattle.kapi_store.proofs.Writes.{placed_all_append}
 use Rattle.kapi_store.specs.Changes.{placed_all}
 use Rattle.kapi_store.specs.Faults.{StoreFault}
@@ -120,7 +121,12 @@ rules_named k rules old h =
 rewriting_replaces : (k : Key) (rules : List PolicyRule) (s : Plain) (cs : List PlainChange) → AreNamed s.objects → (o : Option Data) → lookup (is_key k) s.objects ≡ o
     → rewriting_of k rules s o ≡ Ok cs → IsReplacement s cs
 rewriting_replaces k rules s cs named None at is = absurd (cc is)
-rewriting_replaces k rules s cs named (Some old) at is = (k, with_rules rules old, rules_named k rules old (standing_is_named k old s.objects named.named at), is)
+rewriting_replaces k rules s cs named (Some old) at is = (
+  k,
+  with_rules rules old,
+  rules_named k rules old (standing_is_named k old s.objects named.named at),
+  replacement_is_in_place s k (with_rules rules old) cs is,
+)
 
 -- the changes of a turn are those of a replacement
 pub turn_replaces : TurnsReplace

@@ -5,6 +5,7 @@ use Rattle.std.specs.List.{list_all}
 use Rattle.std.specs.Map.{keys_of}
 use Rattle.std.specs.Str.{chars}
 use Rattle.serde_json.specs.Data.{Data, null}
+use Rattle.kapi_text.proofs.Numbers.{both}
 use Rattle.kapi_admission.specs.Admission.{BodyFault, object_of}
 use Rattle.kapi_admission.proofs.OnLiterals.{admission_on_literals}
 use Rattle.kapi_model.specs.declared.row.ResourceRow.{ResourceRow}
@@ -16,10 +17,6 @@ use Rattle.kapi_core.specs.Opening.{OpeningObject, Standing, basic_user, basic_u
 use Rattle.kapi_core.specs.Table.{cluster_role_bindings_row, cluster_roles_row, fits, has_row, is_known, namespaces_row, required_rows, role_bindings_row, roles_row, rows_differ}
 use Rattle.kapi_core.specs.Limits.{last_first}
 use Rattle.kapi_core.proofs.Fitting.{stands_alone}
-
-both : (a b : Bool) → (a && b) ≡ true → (a ≡ true) × (b ≡ true)
-both true b h = (refl, h)
-both false b h = absurd (cc h)
 
 -- the tree that a body was read as
 unfoldable pub tree_in : Result Data BodyFault → Data

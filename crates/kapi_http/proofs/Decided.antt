@@ -16,7 +16,8 @@ use Rattle.kapi_http.proofs.Chunking.{chunks_append, chunks_stay, chunks_within,
 use Rattle.kapi_http.specs.Head.{Says, head_of}
 use Rattle.kapi_http.specs.Inbox.{decision_of}
 use Rattle.kapi_http.specs.Scan.{begin, is_ended, scanned}
-use Rattle.kapi_http.specs.Tied.{IsKnown, IsRead, IsTied, is_waiting}
+use Rattle.kapi_http.specs.Tied.{AreKept, IsKnown, IsRead, IsTied}
+use Rattle.kapi_http.specs.declared.head.HeadParts.{HeadParts}
 use Rattle.kapi_http.specs.declared.item.Decision.{Decision}
 use Rattle.kapi_http.specs.declared.item.Decision.TheVariants as decision
 use Rattle.kapi_http.specs.declared.item.Progress.{Progress}
@@ -24,7 +25,7 @@ use Rattle.kapi_http.specs.declared.message.HttpFault.{HttpFault}
 use Rattle.kapi_http.specs.declared.message.HttpRequest.{HttpRequest}
 use Rattle.kapi_http.specs.declared.scan.Scan.{Scan}
 use Rattle.kapi_http.proofs.Scanning.{scanned_append, scanned_ended}
-use Rattle.kapi_http.proofs.Settling.{scan_within, settled_ended, settled_long, settled_short, Facts, facts, no_head, rest_of, same_front}
+use Rattle.kapi_http.proofs.Settling.{scan_within, settled_ended, settled_long, settled_short, Facts, facts, kept_more, no_head, rest_of, same_front}
 
 -- the first bytes of a text begin those of a longer one
 pub take_longer : (n : ℕ) (a b : List ℕ) → (rest : List ℕ) × (take n (a ++ b) ≡ take n a ++ rest)
@@ -128,17 +129,25 @@ pub scanned_none : begin ≡ scanned begin []
 unfolding scanned
 scanned_none = refl
 
-pub empty_tied : (bytes : List ℕ) → bytes ≡ [] → IsTied bytes 0 (record { scan = begin; decision = decision.Waits })
-empty_tied bytes e =
-    let P : List ℕ → Type 0 = λ b. IsTied b 0 (record { scan = begin; decision = decision.Waits }) in
+pub empty_tied : (bytes : List ℕ) (parts : HeadParts) → bytes ≡ [] → IsTied bytes 0 (record { scan = begin; decision = decision.Waits }) parts
+empty_tied bytes parts e =
+    let P : List ℕ → Type 0 = λ b. IsTied b 0 (record { scan = begin; decision = decision.Waits }) parts in
     let none : P [] = record {
       within = omega arith;
       fits = omega arith;
       known = record {
         decided = ap (λ (f : Finding). decision_of f []) (sym settled_none);
         read = λ w. record { scan = scanned_none; at = refl; below = omega arith };
+        found = subst (AreKept parts []) (sym settled_none) tt;
       };
     } in subst P (sym e) none
+
+-- the head is not whole yet
+abbrev pub is_waiting : Decision → Bool
+is_waiting decision.Waits = true
+is_waiting (decision.Refused n why) = false
+is_waiting (decision.Accepted n t) = false
+is_waiting (decision.Chunked n c) = false
 
 not_waiting : (d : Decision) (f : Finding) (bytes : List ℕ) → is_waiting d ≡ false → d ≡ decision_of f bytes → f ≡ waits → ⊥
 not_waiting d f bytes known e w =
@@ -159,39 +168,56 @@ decision_more (accepted n h method (Sized size)) front more known = refl
 decision_more (accepted n h method Chunked) front more known =
     ap (λ (c : Chunks). decision.Chunked n c) (chunks_append n front more known.3)
 
--- once the head is whole, more bytes only read the body on
-known_more : (p : Progress) (front more : List ℕ) → IsKnown p front → is_waiting p.decision ≡ false
-    → more_of p.decision more ≡ decision_of (settled (front ++ more)) (front ++ more)
-known_more p front more known going =
-    ap (λ (d : Decision). more_of d more) known.decided ∙ sym (decision_more (settled front) front more (facts front))
-    ∙ ap (λ (f : Finding). decision_of f (front ++ more))
-    (sym (settled_append front more (not_waiting p.decision (settled front) front going known.decided)))
+-- once the head is whole, what it settles stays
+settled_more : (p : Progress) (parts : HeadParts) (front more : List ℕ) → IsKnown p parts front → is_waiting p.decision ≡ false
+    → settled (front ++ more) ≡ settled front
+settled_more p parts front more known going =
+    settled_append front more (not_waiting p.decision (settled front) front going known.decided)
 
-known_by : (p q : Progress) (n : ℕ) (kept : List ℕ) → IsKnown p (take n kept) → is_waiting p.decision ≡ false
-    → q.decision ≡ more_of p.decision (drop n kept) → is_waiting q.decision ≡ false → IsKnown q kept
-known_by p q n kept known going same still =
+-- once the head is whole, more bytes only read the body on
+known_more : (p : Progress) (parts : HeadParts) (front more : List ℕ) → IsKnown p parts front → is_waiting p.decision ≡ false
+    → more_of p.decision more ≡ decision_of (settled (front ++ more)) (front ++ more)
+known_more p parts front more known going =
+    ap (λ (d : Decision). more_of d more) known.decided ∙ sym (decision_more (settled front) front more (facts front))
+    ∙ ap (λ (f : Finding). decision_of f (front ++ more)) (sym (settled_more p parts front more known going))
+
+-- the parts of the head stay too
+found_more : (p : Progress) (parts : HeadParts) (front more : List ℕ) → IsKnown p parts front → is_waiting p.decision ≡ false
+    → AreKept parts (front ++ more) (settled (front ++ more))
+found_more p parts front more known going =
+    subst (AreKept parts (front ++ more)) (sym (settled_more p parts front more known going))
+    (kept_more (settled front) parts front more known.found)
+
+known_by : (p q : Progress) (parts : HeadParts) (n : ℕ) (kept : List ℕ) → IsKnown p parts (take n kept) → is_waiting p.decision ≡ false
+    → q.decision ≡ more_of p.decision (drop n kept) → is_waiting q.decision ≡ false → IsKnown q parts kept
+known_by p q parts n kept known going same still =
     let P : List ℕ → Type 0 = λ b. more_of p.decision (drop n kept) ≡ decision_of (settled b) b in
+    let Q : List ℕ → Type 0 = λ b. AreKept parts b (settled b) in
     record {
-      decided = same ∙ subst P (take-append-drop n kept) (known_more p (take n kept) (drop n kept) known going);
+      decided = same ∙ subst P (take-append-drop n kept) (known_more p parts (take n kept) (drop n kept) known going);
       read = λ w. absurd (let yes : is_waiting q.decision ≡ true = ap is_waiting w in cc);
+      found = subst Q (take-append-drop n kept) (found_more p parts (take n kept) (drop n kept) known going);
     }
 
-pub known_same : (p : Progress) (n : ℕ) (kept : List ℕ) → IsKnown p (take n kept) → is_waiting p.decision ≡ false
-    → p.decision ≡ more_of p.decision (drop n kept) → IsKnown p kept
-known_same p n kept known going same = known_by p p n kept known going same going
+pub known_same : (p : Progress) (parts : HeadParts) (n : ℕ) (kept : List ℕ) → IsKnown p parts (take n kept) → is_waiting p.decision ≡ false
+    → p.decision ≡ more_of p.decision (drop n kept) → IsKnown p parts kept
+known_same p parts n kept known going same = known_by p p parts n kept known going same going
 
-pub refused_known : (p : Progress) (n k : ℕ) (why : Refusal) (kept : List ℕ) → IsKnown p (take n kept) → p.decision ≡ decision.Refused k why → IsKnown p kept
-refused_known p n k why kept known is =
-    known_same p n kept known (ap is_waiting is) (is ∙ sym (ap (λ (d : Decision). more_of d (drop n kept)) is))
+pub refused_known : (p : Progress) (parts : HeadParts) (n k : ℕ) (why : Refusal) (kept : List ℕ) → IsKnown p parts (take n kept)
+    → p.decision ≡ decision.Refused k why → IsKnown p parts kept
+refused_known p parts n k why kept known is =
+    known_same p parts n kept known (ap is_waiting is) (is ∙ sym (ap (λ (d : Decision). more_of d (drop n kept)) is))
 
-pub accepted_known : (p : Progress) (n k t : ℕ) (kept : List ℕ) → IsKnown p (take n kept) → p.decision ≡ decision.Accepted k t → IsKnown p kept
-accepted_known p n k t kept known is =
-    known_same p n kept known (ap is_waiting is) (is ∙ sym (ap (λ (d : Decision). more_of d (drop n kept)) is))
+pub accepted_known : (p : Progress) (parts : HeadParts) (n k t : ℕ) (kept : List ℕ) → IsKnown p parts (take n kept)
+    → p.decision ≡ decision.Accepted k t → IsKnown p parts kept
+accepted_known p parts n k t kept known is =
+    known_same p parts n kept known (ap is_waiting is) (is ∙ sym (ap (λ (d : Decision). more_of d (drop n kept)) is))
 
-pub chunks_known : (p : Progress) (n k : ℕ) (c t : Chunks) (kept : List ℕ) → IsKnown p (take n kept) → p.decision ≡ decision.Chunked k c
-    → t ≡ chunked c (take (length kept - n) (drop n kept)) → IsKnown (record { scan = p.scan; decision = decision.Chunked k t }) kept
-chunks_known p n k c t kept known is read =
-    known_by p (record { scan = p.scan; decision = decision.Chunked k t }) n kept known (ap is_waiting is)
+pub chunks_known : (p : Progress) (parts : HeadParts) (n k : ℕ) (c t : Chunks) (kept : List ℕ) → IsKnown p parts (take n kept)
+    → p.decision ≡ decision.Chunked k c → t ≡ chunked c (take (length kept - n) (drop n kept))
+    → IsKnown (record { scan = p.scan; decision = decision.Chunked k t }) parts kept
+chunks_known p parts n k c t kept known is read =
+    known_by p (record { scan = p.scan; decision = decision.Chunked k t }) parts n kept known (ap is_waiting is)
     (ap (λ (d : Chunks). decision.Chunked k d) (read ∙ ap (chunked c) (rest_of n kept)) ∙ sym (ap (λ (d : Decision). more_of d (drop n kept)) is)) refl
 
 -- what a body's progress keeps
@@ -204,9 +230,9 @@ chunks_bounded_by (accepted n h method Chunked) bytes k c e =
     let P : Chunks → Type 0 = λ d. (d.sum ≤ d.at) × (d.at ≤ length bytes) in
     subst P read (data_bounded no_chunks (drop n bytes) (omega arith), omega (arith, chunks_within (drop n bytes), length-drop n bytes))
 
-pub chunks_bounded : (p : Progress) (bytes : List ℕ) (k : ℕ) (c : Chunks) → IsKnown p bytes → p.decision ≡ decision.Chunked k c
-    → (c.sum ≤ c.at) × (c.at ≤ length bytes)
-chunks_bounded p bytes k c known is = chunks_bounded_by (settled bytes) bytes k c (sym is ∙ known.decided)
+pub chunks_bounded : (p : Progress) (parts : HeadParts) (bytes : List ℕ) (k : ℕ) (c : Chunks) → IsKnown p parts bytes
+    → p.decision ≡ decision.Chunked k c → (c.sum ≤ c.at) × (c.at ≤ length bytes)
+chunks_bounded p parts bytes k c known is = chunks_bounded_by (settled bytes) bytes k c (sym is ∙ known.decided)
 
 -- a head that is not whole was read to the last byte
 pub waits_read : (p : Progress) (n : ℕ) (kept : List ℕ) → IsRead p (take n kept)

@@ -16,7 +16,6 @@ use Rattle.kapi_http.specs.Limits.{body_limit}
 use Rattle.kapi_http.specs.Requests.{HasHead, IsTooLarge}
 use Rattle.kapi_http.specs.Rules.{checked, content_length, framing, framing_by, if_served, method_named, within_limit}
 use Rattle.kapi_http.specs.Scan.{begin, is_ended, scanned}
-use Rattle.kapi_http.specs.Tied.{HasRoom}
 use Rattle.kapi_http.specs.declared.message.Method.{Method}
 use Rattle.kapi_http.specs.declared.message.Refusal.{Refusal}
 use Rattle.kapi_http.specs.declared.message.Refusal.TheVariants as refusal
@@ -29,7 +28,7 @@ use Rattle.kapi_http.proofs.HeadScans.{head_scan, mk}
 use Rattle.kapi_http.proofs.Heads.{head_of_sound}
 use Rattle.kapi_http.proofs.Printed.{settled_print}
 use Rattle.kapi_http.proofs.Scanning.{scanned_append, scanned_ended}
-use Rattle.kapi_http.proofs.Settling.{Facts, facts, same_front, scan_within, settled_ended, settled_long, settled_short}
+use Rattle.kapi_http.proofs.Settling.{Facts, HasRoom, facts, same_front, scan_within, settled_ended, settled_long, settled_short}
 
 -- ---- the refusals of the rules
 
@@ -187,7 +186,7 @@ refused_head bytes n method why e some small = by_cases (cases bytes)
         let read = head_of_sound (take n bytes) h (ap head_of whole ∙ is) in
         let short : n ≤ 16384 = omega (arith, size, length-take (looked bytes).at bytes, at_most bytes) in (
           read.0,
-          has_head bytes n read.0 read.1 known.0 known.2 short,
+          has_head bytes n read.0 read.1 known.0 known.1 short,
           sym word ∙ ap (λ (s : Says). s.method) (sym read.2),
           ap checked read.2 ∙ c ∙ ap Err reason,
         )

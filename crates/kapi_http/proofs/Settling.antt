@@ -1,22 +1,25 @@
 -- What an inbox remembers of its bytes is what they settle.
-use Rattle.std.proofs.Common.{◌≡◌, ℕ, ◌+◌, ◌-◌, ◌<◌, ◌≤◌, ◌⊎◌, inl, inr, Bool, true, false, List, [], ◌++◌, length, take, drop, refl, sym, ap, subst, ◌∙◌, arith, Option, Some, None, Result, Ok, Err, min, take-append-drop, length-drop}
-use Rattle.std.specs.Prelude.{nat_le, slice_range, if◌then◌else◌, ⊤, not, ◌==◌, codes}
+use Rattle.std.proofs.Common.{◌≡◌, ℕ, ◌+◌, ◌-◌, ◌<◌, ◌≤◌, ◌⊎◌, inl, inr, Bool, true, false, List, [], ◌++◌, length, take, drop, refl, sym, ap, subst, ◌∙◌, arith, Option, Some, None, Result, Ok, Err, min, take-append-drop, length-append, length-drop}
+use Rattle.std.specs.Prelude.{nat_le, slice_range, if◌then◌else◌, ⊤, IsUtf8}
 use Rattle.std.proofs.lemmas.Bool.Decides.{leb_tells}
-use Rattle.std.proofs.lemmas.List.{take-take, take_min, drop-take, take_all, length-take}
+use Rattle.std.proofs.lemmas.List.{take-take, take_min, drop-take, take_all, take-append-le, length-take}
 use Rattle.std.proofs.lemmas.Bool.{le-leb, lt-leb}
-use Rattle.httparse.specs.Grammar.{is_token_byte, print_request}
+use Rattle.httparse.specs.Grammar.{ReadsRequest, RequestHead, is_token_byte, print_request}
+use Rattle.httparse.specs.Spans.{IsWithin, span_bytes}
+use Rattle.httparse.specs.declared.spans.RequestSpans.{RequestSpans}
 use Rattle.kapi_http.specs.Cut.{Finding, waits, refused, accepted, settled_by, settled_of, settled_within, settled_at, settled, item_of, chunked_item, first, fault_of, request_of}
 use Rattle.kapi_http.specs.Head.{Says, head_of, is_head, parts}
 use Rattle.kapi_http.specs.Inbox.{decision_of}
-use Rattle.kapi_http.specs.Rules.{checked, framing, if_served, method_named}
-use Rattle.kapi_http.specs.Fields.{values}
+use Rattle.kapi_http.specs.Rules.{checked}
 use Rattle.kapi_http.specs.Scan.{begin, is_ended, scanned}
-use Rattle.kapi_http.specs.Tied.{HasLines, HasRoom, IsRead, IsServed, method_sent}
+use Rattle.kapi_http.specs.Limits.{field_limit}
+use Rattle.kapi_http.specs.Tied.{AreKept, HasLines, HasParts, IsRead, NamesMethod, told}
+use Rattle.kapi_http.specs.declared.head.HeadParts.{HeadParts}
+use Rattle.kapi_http.specs.declared.head.TheConstants.{NO_LINE}
 use Rattle.kapi_http.specs.declared.item.Decision.TheVariants as decision
-use Rattle.kapi_http.specs.Chunks.{chunked, ending_of, joined, no_chunks}
+use Rattle.kapi_http.specs.Chunks.{chunked, ending_of, no_chunks}
 use Rattle.kapi_http.specs.declared.chunks.Chunks.{Chunks}
 use Rattle.kapi_http.specs.declared.chunks.Ending.{Ending}
-use Rattle.kapi_http.specs.declared.chunks.Ending.TheVariants as ending
 use Rattle.kapi_http.specs.declared.rules.Framing.{Framing}
 use Rattle.kapi_http.specs.declared.rules.Framing.TheVariants.{Sized, Chunked}
 use Rattle.kapi_http.specs.declared.message.Method.{Method}
@@ -133,6 +136,10 @@ read_all t bytes e going short =
 
 -- ---- what a settled text is
 
+-- a head has no more fields than it may
+abbrev pub HasRoom : List ℕ → Type 0
+HasRoom head = (h : RequestHead) → ReadsRequest head h [] → length h.fields ≤ field_limit
+
 pub no_head : head_of [] ≡ None
 unfolding head_of is_head parts is_token_byte print_request
 no_head = refl
@@ -144,7 +151,7 @@ no_room h reads = absurd (let read = sym no_head ∙ head_of_whole [] h reads in
 abbrev pub Facts : List ℕ → Finding → Type 0
 Facts bytes waits = ⊤
 Facts bytes (refused n method why) =
-    HasRoom (take n bytes) × (method ≡ method_sent (head_of (take n bytes))) × (n ≤ length bytes)
+    HasRoom (take n bytes) × (n ≤ length bytes)
 Facts bytes (accepted n h method size) =
     HasRoom (take n bytes) × (head_of (take n bytes) ≡ Some h) × (checked h ≡ Ok (method, size)) × (n ≤ length bytes)
     × (n ≡ (scanned begin (take 16384 bytes)).at)
@@ -157,7 +164,7 @@ front_fits : (k : ℕ) (bytes : List ℕ) → length (take k bytes) ≤ length b
 front_fits k bytes = omega (arith, length-take k bytes)
 
 too_large : (bytes : List ℕ) → Facts bytes (refused 0 [] refusal.HeadTooLarge)
-too_large bytes = (no_room, ap method_sent (sym no_head), omega arith)
+too_large bytes = (no_room, omega arith)
 
 facts_by : (k : ℕ) (bytes : List ℕ) (h : Says) → k ≡ (scanned begin (take 16384 bytes)).at → HasRoom (take k bytes) → head_of (take k bytes) ≡ Some h
     → (r : Result (Method × Framing) Refusal) → checked h ≡ r → Facts bytes (settled_by (take k bytes) h r)
@@ -170,14 +177,12 @@ facts_by k bytes h at room e (Ok m) c =
       omega (arith, at, length-take k bytes, length-take 16384 bytes, scan_within (take 16384 bytes)),
     )
 facts_by k bytes h at room e (Err why) c =
-    let same = sym (same_front k bytes) in
-    (subst HasRoom same room, subst (λ (t : List ℕ). h.method ≡ method_sent (head_of t)) same (ap method_sent (sym e)), front_fits k bytes)
+    (subst HasRoom (sym (same_front k bytes)) room, front_fits k bytes)
 
 facts_of : (k : ℕ) (bytes : List ℕ) → k ≡ (scanned begin (take 16384 bytes)).at → HasRoom (take k bytes) → (o : Option Says) → head_of (take k bytes) ≡ o
     → Facts bytes (settled_of (take k bytes) o)
 facts_of k bytes at room None e =
-    let same = sym (same_front k bytes) in
-    (subst HasRoom same room, subst (λ (t : List ℕ). [] ≡ method_sent (head_of t)) same (ap method_sent (sym e)), front_fits k bytes)
+    (subst HasRoom (sym (same_front k bytes)) room, front_fits k bytes)
 facts_of k bytes at room (Some h) e = facts_by k bytes h at room e (checked h) refl
 
 facts_within : (lines k : ℕ) (bytes : List ℕ) → k ≡ (scanned begin (take 16384 bytes)).at → HasLines lines (take k bytes) → Facts bytes (settled_within lines (take k bytes))
@@ -203,6 +208,52 @@ facts bytes = by_end (is_ended (scanned begin (take 16384 bytes)).place) refl
         by_length (inl (t, long)) = rw t (too_large bytes)
         by_length (inr (f, short)) = rw f tt
 
+-- ---- the parts of a head that are kept
+
+-- parts without a line name no method
+names_none : (parts : HeadParts) → parts.line ≡ NO_LINE → NamesMethod [] parts []
+names_none parts e =
+    let start : parts.line.method.start ≡ 0 = ap (λ (l : RequestSpans). l.method.start) e in
+    let end : parts.line.method.end ≡ 0 = ap (λ (l : RequestSpans). l.method.end) e in
+    let none : span_bytes [] parts.line.method ≡ [] = ap (λ (l : RequestSpans). span_bytes [] l.method) e in
+    let empty : IsUtf8 [] = ([], (refl, refl)) in
+    record {
+      within = (omega (arith, start, end), omega (arith, end));
+      text = subst IsUtf8 (sym none) empty;
+      named = none;
+    }
+
+-- more bytes behind a head change nothing of its parts
+pub kept_more : (f : Finding) (parts : HeadParts) (front more : List ℕ) → AreKept parts front f → AreKept parts (front ++ more) f
+kept_more waits parts front more kept = tt
+kept_more (refused n method why) parts front more kept = (
+  omega (arith, kept.0, length-append front more),
+  subst (λ (t : List ℕ). NamesMethod t parts method) (sym (take-append-le n front more kept.0)) kept.1,
+)
+kept_more (accepted n h method framing) parts front more kept =
+    let P : List ℕ → Type 0 = λ t. HasParts t parts × (told t parts ≡ h) × (parts.method ≡ method) in
+    let same : take n front ≡ take n (front ++ more) = sym (take-append-le n front more kept.0) in
+    let there : P (take n (front ++ more)) = subst P same (kept.1, kept.2, kept.3) in
+    (omega (arith, kept.0, length-append front more), there.0, there.1, there.2)
+
+pub kept_ended : (t : Scan) (bytes : List ℕ) (parts : HeadParts) → t ≡ scanned begin (take 16384 bytes) → is_ended t.place ≡ true
+    → AreKept parts (take t.at bytes) (settled_within t.lines (take t.at bytes)) → AreKept parts bytes (settled bytes)
+kept_ended t bytes parts e ended kept =
+    let f : Finding = settled_within t.lines (take t.at bytes) in
+    let whole : AreKept parts bytes f =
+    subst (λ (b : List ℕ). AreKept parts b f) (take-append-drop t.at bytes) (kept_more f parts (take t.at bytes) (drop t.at bytes) kept) in
+    subst (AreKept parts bytes) (sym (settled_ended t bytes e ended)) whole
+
+pub kept_long : (t : Scan) (bytes : List ℕ) (parts : HeadParts) → t ≡ scanned begin (take 16384 bytes) → is_ended t.place ≡ false
+    → 16384 ≤ length bytes → parts.line ≡ NO_LINE → AreKept parts bytes (settled bytes)
+kept_long t bytes parts e going long none =
+    let here : AreKept parts bytes (refused 0 [] refusal.HeadTooLarge) = (omega arith, names_none parts none) in
+    subst (AreKept parts bytes) (sym (settled_long t bytes e going long)) here
+
+pub kept_short : (t : Scan) (bytes : List ℕ) (parts : HeadParts) → t ≡ scanned begin (take 16384 bytes) → is_ended t.place ≡ false
+    → length bytes < 16384 → AreKept parts bytes (settled bytes)
+kept_short t bytes parts e going short = subst (AreKept parts bytes) (sym (settled_short t bytes e going short)) tt
+
 -- ---- the item of a settled text
 
 pub waits_item : (f : Finding) (bytes : List ℕ) → decision.Waits ≡ decision_of f bytes → item_of f bytes ≡ None
@@ -211,74 +262,63 @@ waits_item (refused n method why) bytes e = absurd cc
 waits_item (accepted n h method (Sized size)) bytes e = absurd cc
 waits_item (accepted n h method Chunked) bytes e = absurd cc
 
-refused_item : (f : Finding) (bytes : List ℕ) (n : ℕ) (why : Refusal) → Facts bytes f → decision.Refused n why ≡ decision_of f bytes
-    → (item_of f bytes ≡ Some (Err (fault_of (method_sent (head_of (take n bytes))) why))) × HasRoom (take n bytes) × (n ≤ length bytes)
-refused_item waits bytes n why known e = absurd cc
-refused_item (refused m method w) bytes n why known e =
+-- what is known of a refused head
+pub record IsRefused (bytes : List ℕ) (f : Finding) (n : ℕ) (why : Refusal) (parts : HeadParts) : Type 0 where
+  pub head_within : n ≤ length bytes
+  pub within : IsWithin (length (take n bytes)) parts.line.method
+  pub text : IsUtf8 (span_bytes (take n bytes) parts.line.method)
+  pub item : item_of f bytes ≡ Some (Err (fault_of (span_bytes (take n bytes) parts.line.method) why))
+
+refused_item : (f : Finding) (bytes : List ℕ) (n : ℕ) (why : Refusal) (parts : HeadParts) → AreKept parts bytes f
+    → decision.Refused n why ≡ decision_of f bytes → IsRefused bytes f n why parts
+refused_item waits bytes n why parts kept e = absurd cc
+refused_item (refused m method w) bytes n why parts kept e =
     let same : m ≡ n = cc in
     let reason : w ≡ why = cc in
-    let sent : method ≡ method_sent (head_of (take n bytes)) = known.1 ∙ ap (λ (k : ℕ). method_sent (head_of (take k bytes))) same in (
-      λ i. Some (Err (fault_of (sent i) (reason i))),
-      subst (λ (k : ℕ). HasRoom (take k bytes)) same known.0,
-      subst (λ (k : ℕ). k ≤ length bytes) same known.2,
-    )
-refused_item (accepted m h method (Sized size)) bytes n why known e = absurd cc
-refused_item (accepted m h method Chunked) bytes n why known e = absurd cc
-
--- the checks of a head name its method
-ok_past : {A : Type 0} (b : Bool) (why : Refusal) (r : Result A Refusal) (x : A) → (if b then Err why else r) ≡ Ok x → r ≡ Ok x
-ok_past true why r x e = absurd cc
-ok_past false why r x e = e
-
-served_method : (o : Option Method) (size : Result Framing Refusal) (m : Method) (n : Framing) → if_served o size ≡ Ok (m, n) → o ≡ Some m
-served_method None size m n e = absurd cc
-served_method (Some x) (Ok k) m n e =
-    let pair : ◌≡◌ {A = Method × Framing} (x, k) (m, n) = cc in ap (λ (p : Method × Framing). Some p.0) pair
-served_method (Some x) (Err why) m n e = absurd cc
-
-pub checked_method : (h : Says) (m : Method) (n : Framing) → checked h ≡ Ok (m, n) → method_named h.method ≡ Some m
-unfolding checked
-checked_method h m n e =
-    let last : Result (Method × Framing) Refusal = if_served (method_named h.method) (framing h.fields) in
-    let expects : Bool = not (length (values (codes "expect") h.fields) == 0) in
-    let hosts : Bool = not (length (values (codes "host") h.fields) == 1) in
-    let third : Result (Method × Framing) Refusal = if expects then Err refusal.Expectation else last in
-    let second : Result (Method × Framing) Refusal = if hosts then Err refusal.Host else third in
-    served_method (method_named h.method) (framing h.fields) m n
-    (ok_past expects refusal.Expectation last (m, n)
-    (ok_past hosts refusal.Host third (m, n) (ok_past (h.minor == 0) refusal.Version second (m, n) e)))
+    let here : (n ≤ length bytes) × NamesMethod (take n bytes) parts method =
+    subst (λ (k : ℕ). (k ≤ length bytes) × NamesMethod (take k bytes) parts method) same kept in
+    record {
+      head_within = here.0;
+      within = here.1.within;
+      text = here.1.text;
+      item = λ i. Some (Err (fault_of (sym here.1.named i) (reason i)));
+    }
+refused_item (accepted m h method (Sized size)) bytes n why parts kept e = absurd cc
+refused_item (accepted m h method Chunked) bytes n why parts kept e = absurd cc
 
 -- what is known of an accepted head
-pub record IsAccepted (bytes : List ℕ) (f : Finding) (n t : ℕ) : Type 0 where
-  pub room : HasRoom (take n bytes)
-  pub served : IsServed (take n bytes)
+pub record IsAccepted (bytes : List ℕ) (f : Finding) (n t : ℕ) (parts : HeadParts) : Type 0 where
+  pub has : HasParts (take n bytes) parts
   pub head_within : n ≤ length bytes
   pub ordered : n ≤ t
   pub short : length bytes < t → item_of f bytes ≡ None
-  pub whole : t ≤ length bytes → (s : IsServed (take n bytes)) → item_of f bytes ≡ Some (Ok (request_of s.says s.method (slice_range bytes n t) t))
+  pub whole : t ≤ length bytes
+      → item_of f bytes ≡ Some (Ok (request_of (told (take n bytes) parts) parts.method (slice_range bytes n t) t))
 
-accepted_item : (f : Finding) (bytes : List ℕ) (n t : ℕ) → Facts bytes f → decision.Accepted n t ≡ decision_of f bytes → IsAccepted bytes f n t
-accepted_item waits bytes n t known e = absurd cc
-accepted_item (refused m method w) bytes n t known e = absurd cc
-accepted_item (accepted m h method Chunked) bytes n t known e = absurd cc
-accepted_item (accepted m h method (Sized size)) bytes n t known e =
+-- the parts of an accepted head of n bytes
+abbrev AreParts : HeadParts → List ℕ → ℕ → Says → Method → Type 0
+AreParts parts bytes n h method =
+    (n ≤ length bytes) × HasParts (take n bytes) parts × (told (take n bytes) parts ≡ h) × (parts.method ≡ method)
+
+accepted_item : (f : Finding) (bytes : List ℕ) (n t : ℕ) (parts : HeadParts) → AreKept parts bytes f
+    → decision.Accepted n t ≡ decision_of f bytes → IsAccepted bytes f n t parts
+accepted_item waits bytes n t parts kept e = absurd cc
+accepted_item (refused m method w) bytes n t parts kept e = absurd cc
+accepted_item (accepted m h method Chunked) bytes n t parts kept e = absurd cc
+accepted_item (accepted m h method (Sized size)) bytes n t parts kept e =
     let same : m ≡ n = cc in
     let sum : m + size ≡ t = cc in
-    let read : head_of (take n bytes) ≡ Some h = subst (λ (k : ℕ). head_of (take k bytes) ≡ Some h) same known.1 in
-    let named : method_named h.method ≡ Some method = checked_method h method (Sized size) known.2 in
+    let here : AreParts parts bytes n h method = subst (λ (k : ℕ). AreParts parts bytes k h method) same kept in
+    let says : h ≡ told (take n bytes) parts = sym here.2 in
+    let named : method ≡ parts.method = sym here.3 in
     record {
-      room = subst (λ (k : ℕ). HasRoom (take k bytes)) same known.0;
-      served = record { says = h; method = method; read = read; named = named };
-      head_within = subst (λ (k : ℕ). k ≤ length bytes) same known.3;
+      has = here.1;
+      head_within = here.0;
       ordered = omega arith;
       short = λ less. let no : nat_le (m + size) (length bytes) ≡ false = lt-leb (m + size) (length bytes) (omega arith) in rw no refl;
-      whole = λ fits s.
+      whole = λ fits.
           let yes : nat_le (m + size) (length bytes) ≡ true = le-leb (m + size) (length bytes) (omega arith) in
-          let heads : Some h ≡ Some s.says = sym read ∙ s.read in
-          let says : h ≡ s.says = cc in
-          let methods : Some method ≡ Some s.method = sym named ∙ ap (λ (q : Says). method_named q.method) says ∙ s.named in
-          let served : method ≡ s.method = cc in
-          rw yes (λ i. Some (Ok (request_of (says i) (served i) (slice_range bytes (same i) (sum i)) (sum i))));
+          rw yes (λ i. Some (Ok (request_of (says i) (named i) (slice_range bytes (same i) (sum i)) (sum i))));
     }
 
 -- what is known of the first item
@@ -286,83 +326,71 @@ pub first_waits : (bytes : List ℕ) → decision.Waits ≡ decision_of (settled
 unfolding first
 first_waits bytes e = waits_item (settled bytes) bytes e
 
-pub first_refused : (bytes : List ℕ) (n : ℕ) (why : Refusal) → decision.Refused n why ≡ decision_of (settled bytes) bytes
-    → (first bytes ≡ Some (Err (fault_of (method_sent (head_of (take n bytes))) why))) × HasRoom (take n bytes) × (n ≤ length bytes)
-unfolding first
-first_refused bytes n why e = refused_item (settled bytes) bytes n why (facts bytes) e
+pub first_refused : (bytes : List ℕ) (n : ℕ) (why : Refusal) (parts : HeadParts) → AreKept parts bytes (settled bytes)
+    → decision.Refused n why ≡ decision_of (settled bytes) bytes → IsRefused bytes (settled bytes) n why parts
+first_refused bytes n why parts kept e = refused_item (settled bytes) bytes n why parts kept e
 
-pub first_accepted : (bytes : List ℕ) (n t : ℕ) → decision.Accepted n t ≡ decision_of (settled bytes) bytes → IsAccepted bytes (settled bytes) n t
-first_accepted bytes n t e = accepted_item (settled bytes) bytes n t (facts bytes) e
-
-pub accepted_first : (bytes : List ℕ) (n t : ℕ) → decision.Accepted n t ≡ decision_of (settled bytes) bytes → t ≤ length bytes
-    → (s : IsServed (take n bytes)) → first bytes ≡ Some (Ok (request_of s.says s.method (slice_range bytes n t) t))
+pub refused_first : (bytes : List ℕ) (n : ℕ) (why : Refusal) (parts : HeadParts) → AreKept parts bytes (settled bytes)
+    → decision.Refused n why ≡ decision_of (settled bytes) bytes
+    → first bytes ≡ Some (Err (fault_of (span_bytes (take n bytes) parts.line.method) why))
 unfolding first
-accepted_first bytes n t e fits s = (first_accepted bytes n t e).whole fits s
+refused_first bytes n why parts kept e = (first_refused bytes n why parts kept e).item
 
-pub accepted_waits : (bytes : List ℕ) (n t : ℕ) → decision.Accepted n t ≡ decision_of (settled bytes) bytes → length bytes < t → first bytes ≡ None
+pub first_accepted : (bytes : List ℕ) (n t : ℕ) (parts : HeadParts) → AreKept parts bytes (settled bytes)
+    → decision.Accepted n t ≡ decision_of (settled bytes) bytes → IsAccepted bytes (settled bytes) n t parts
+first_accepted bytes n t parts kept e = accepted_item (settled bytes) bytes n t parts kept e
+
+pub accepted_first : (bytes : List ℕ) (n t : ℕ) (parts : HeadParts) → AreKept parts bytes (settled bytes)
+    → decision.Accepted n t ≡ decision_of (settled bytes) bytes → t ≤ length bytes
+    → first bytes ≡ Some (Ok (request_of (told (take n bytes) parts) parts.method (slice_range bytes n t) t))
 unfolding first
-accepted_waits bytes n t e short = (first_accepted bytes n t e).short short
+accepted_first bytes n t parts kept e fits = (first_accepted bytes n t parts kept e).whole fits
+
+pub accepted_waits : (bytes : List ℕ) (n t : ℕ) (parts : HeadParts) → AreKept parts bytes (settled bytes)
+    → decision.Accepted n t ≡ decision_of (settled bytes) bytes → length bytes < t → first bytes ≡ None
+unfolding first
+accepted_waits bytes n t parts kept e short = (first_accepted bytes n t parts kept e).short short
 
 -- ---- bodies in chunks
 
 -- what is known of an accepted head whose body comes in chunks
-pub record IsInChunks (bytes : List ℕ) (f : Finding) (n : ℕ) (c : Chunks) : Type 0 where
-  pub room : HasRoom (take n bytes)
-  pub served : IsServed (take n bytes)
+pub record IsInChunks (bytes : List ℕ) (f : Finding) (n : ℕ) (c : Chunks) (parts : HeadParts) : Type 0 where
+  pub has : HasParts (take n bytes) parts
   pub within : n + c.at ≤ length bytes
-  pub item : (s : IsServed (take n bytes)) → item_of f bytes ≡ chunked_item n s.says s.method (ending_of c.spot) c.at bytes
+  pub item : item_of f bytes ≡ chunked_item n (told (take n bytes) parts) parts.method (ending_of c.spot) c.at bytes
 
-chunks_item : (f : Finding) (bytes : List ℕ) (n : ℕ) (c : Chunks) → Facts bytes f → decision.Chunked n c ≡ decision_of f bytes → IsInChunks bytes f n c
-chunks_item waits bytes n c known e = absurd cc
-chunks_item (refused m method w) bytes n c known e = absurd cc
-chunks_item (accepted m h method (Sized size)) bytes n c known e = absurd cc
-chunks_item (accepted m h method Chunked) bytes n c known e =
+chunks_item : (f : Finding) (bytes : List ℕ) (n : ℕ) (c : Chunks) (parts : HeadParts) → AreKept parts bytes f
+    → decision.Chunked n c ≡ decision_of f bytes → IsInChunks bytes f n c parts
+chunks_item waits bytes n c parts kept e = absurd cc
+chunks_item (refused m method w) bytes n c parts kept e = absurd cc
+chunks_item (accepted m h method (Sized size)) bytes n c parts kept e = absurd cc
+chunks_item (accepted m h method Chunked) bytes n c parts kept e =
     let same : m ≡ n = cc in
     let read : chunked no_chunks (drop m bytes) ≡ c = cc in
-    let says : head_of (take n bytes) ≡ Some h = subst (λ (k : ℕ). head_of (take k bytes) ≡ Some h) same known.1 in
-    let named : method_named h.method ≡ Some method = checked_method h method Chunked known.2 in
+    let here : AreParts parts bytes n h method = subst (λ (k : ℕ). AreParts parts bytes k h method) same kept in
+    let says : h ≡ told (take n bytes) parts = sym here.2 in
+    let named : method ≡ parts.method = sym here.3 in
     let come : (chunked no_chunks (drop m bytes)).at ≡ c.at = ap (λ (d : Chunks). d.at) read in
     record {
-      room = subst (λ (k : ℕ). HasRoom (take k bytes)) same known.0;
-      served = record { says = h; method = method; read = says; named = named };
-      within = omega (arith, same, come, known.3, chunks_within (drop m bytes), length-drop m bytes);
-      item = λ s.
-          let heads : Some h ≡ Some s.says = sym says ∙ s.read in
-          let told : h ≡ s.says = cc in
-          let methods : Some method ≡ Some s.method = sym named ∙ ap (λ (q : Says). method_named q.method) told ∙ s.named in
-          let served : method ≡ s.method = cc in
-          λ i. chunked_item (same i) (told i) (served i) (ending_of (read i).spot) (read i).at bytes;
+      has = here.1;
+      within = omega (arith, same, come, kept.0, chunks_within (drop m bytes), length-drop m bytes);
+      item = λ i. chunked_item (same i) (says i) (named i) (ending_of (read i).spot) (read i).at bytes;
     }
 
-pub first_chunks : (bytes : List ℕ) (n : ℕ) (c : Chunks) → decision.Chunked n c ≡ decision_of (settled bytes) bytes → IsInChunks bytes (settled bytes) n c
-first_chunks bytes n c e = chunks_item (settled bytes) bytes n c (facts bytes) e
-
-pub first_in_chunks : (bytes : List ℕ) (n : ℕ) (c : Chunks) → decision.Chunked n c ≡ decision_of (settled bytes) bytes
-    → (s : IsServed (take n bytes)) → first bytes ≡ chunked_item n s.says s.method (ending_of c.spot) c.at bytes
-unfolding first
-first_in_chunks bytes n c e s = (first_chunks bytes n c e).item s
+pub first_chunks : (bytes : List ℕ) (n : ℕ) (c : Chunks) (parts : HeadParts) → AreKept parts bytes (settled bytes)
+    → decision.Chunked n c ≡ decision_of (settled bytes) bytes → IsInChunks bytes (settled bytes) n c parts
+first_chunks bytes n c parts kept e = chunks_item (settled bytes) bytes n c parts kept e
 
 -- the item by what is known of the body
-pub chunks_first_open : (bytes : List ℕ) (n : ℕ) (c : Chunks) → decision.Chunked n c ≡ decision_of (settled bytes) bytes
-    → ending_of c.spot ≡ ending.Open → first bytes ≡ None
-chunks_first_open bytes n c e is =
-    let s = (first_chunks bytes n c e).served in
-    first_in_chunks bytes n c e s ∙ ap (λ (o : Ending). chunked_item n s.says s.method o c.at bytes) is
-
-pub chunks_first_closed : (bytes : List ℕ) (n : ℕ) (c : Chunks) → decision.Chunked n c ≡ decision_of (settled bytes) bytes
-    → ending_of c.spot ≡ ending.Closed → (s : IsServed (take n bytes))
-    → first bytes ≡ Some (Ok (request_of s.says s.method (joined no_chunks (slice_range bytes n (n + c.at))) (n + c.at)))
-chunks_first_closed bytes n c e is s =
-    first_in_chunks bytes n c e s ∙ ap (λ (o : Ending). chunked_item n s.says s.method o c.at bytes) is
-
-pub chunks_first_refused : (bytes : List ℕ) (n : ℕ) (c : Chunks) (why : Refusal) → decision.Chunked n c ≡ decision_of (settled bytes) bytes
-    → ending_of c.spot ≡ ending.Refused why → first bytes ≡ Some (Err (fault_of (method_sent (head_of (take n bytes))) why))
-chunks_first_refused bytes n c why e is =
-    let s = (first_chunks bytes n c e).served in
-    first_in_chunks bytes n c e s ∙ ap (λ (o : Ending). chunked_item n s.says s.method o c.at bytes) is
-    ∙ ap (λ (m : List ℕ). Some (Err (fault_of m why))) (ap method_sent (sym s.read))
+pub first_in_chunks : (bytes : List ℕ) (n : ℕ) (c : Chunks) (o : Ending) (parts : HeadParts) → AreKept parts bytes (settled bytes)
+    → decision.Chunked n c ≡ decision_of (settled bytes) bytes → ending_of c.spot ≡ o
+    → first bytes ≡ chunked_item n (told (take n bytes) parts) parts.method o c.at bytes
+unfolding first
+first_in_chunks bytes n c o parts kept e is =
+    (first_chunks bytes n c parts kept e).item
+    ∙ ap (λ (k : Ending). chunked_item n (told (take n bytes) parts) parts.method k c.at bytes) is
 
 -- the request of a body that is the same
-pub with_body : {body : List ℕ} (at : ℕ) (joint : List ℕ) (head : List ℕ) (s : IsServed head) → body ≡ joint
-    → request_of s.says s.method body at ≡ request_of s.says s.method joint at
-with_body at joint head s e = ap (λ (b : List ℕ). request_of s.says s.method b at) e
+pub with_body : {body joint : List ℕ} (h : Says) (method : Method) (at : ℕ) → body ≡ joint
+    → request_of h method body at ≡ request_of h method joint at
+with_body h method at e = ap (λ (b : List ℕ). request_of h method b at) e

@@ -1,20 +1,18 @@
 -- What an inbox keeps of its bytes while it waits for more.
-use Rattle.std.specs.Prelude.{◌≡◌, ℕ, ◌+◌, ◌<◌, ◌≤◌, List, [], All, IsUtf8, Bool, true, false, Option, Some, None, drop, length}
+use Rattle.std.specs.Prelude.{◌≡◌, ℕ, ◌+◌, ◌<◌, ◌≤◌, ⊤, List, [], All, IsUtf8, drop, length, take}
 use Rattle.httparse.specs.Grammar.{ReadsRequest, RequestHead}
-use Rattle.httparse.specs.Spans.{span_bytes}
+use Rattle.httparse.specs.Spans.{IsHeaderWithin, IsWithin, span_bytes}
 use Rattle.httparse.specs.declared.spans.HeaderSpan.{HeaderSpan}
 use Rattle.httparse.specs.declared.spans.RequestSpans.{RequestSpans}
 use Rattle.kapi_http.specs.Limits.{field_limit, head_limit}
 use Rattle.kapi_http.specs.declared.inbox.TheConstants.{KEPT_LIMIT}
-use Rattle.kapi_http.specs.Cut.{settled}
-use Rattle.kapi_http.specs.Head.{Says, head_of}
+use Rattle.kapi_http.specs.Cut.{Finding, accepted, refused, settled, waits}
+use Rattle.kapi_http.specs.Head.{Says, said}
 use Rattle.kapi_http.specs.Inbox.{decision_of}
-use Rattle.kapi_http.specs.Rules.{method_named}
 use Rattle.kapi_http.specs.Scan.{begin, scanned}
-use Rattle.kapi_http.specs.declared.item.Decision.{Decision}
+use Rattle.kapi_http.specs.declared.head.HeadParts.{HeadParts}
 use Rattle.kapi_http.specs.declared.item.Decision.TheVariants as decision
 use Rattle.kapi_http.specs.declared.item.Progress.{Progress}
-use Rattle.kapi_http.specs.declared.message.Method.{Method}
 
 -- while the head is not whole, all bytes were scanned, each once
 pub record IsRead (progress : Progress) (kept : List ℕ) : Type 0 where
@@ -22,29 +20,13 @@ pub record IsRead (progress : Progress) (kept : List ℕ) : Type 0 where
   pub at : progress.scan.at ≡ length kept
   pub below : length kept < head_limit
 
--- what is remembered is what the bytes settle
-pub record IsKnown (progress : Progress) (kept : List ℕ) : Type 0 where
-  pub decided : progress.decision ≡ decision_of (settled kept) kept
-  pub read : progress.decision ≡ decision.Waits → IsRead progress kept
+-- the spans of the fields of a head
+abbrev pub fields_of : HeadParts → List HeaderSpan
+fields_of parts = take parts.line.headers parts.fields
 
--- the scan and the decision are those of the bytes, and the bytes that were not taken out are within the limit
-pub record IsTied (bytes : List ℕ) (start : ℕ) (progress : Progress) : Type 0 where
-  pub within : start ≤ length bytes
-  pub fits : length (drop start bytes) ≤ KEPT_LIMIT
-  pub known : IsKnown progress (drop start bytes)
-
--- a whole head, of so many lines with its request line, has a line for each of its fields
-abbrev pub HasLines : ℕ → List ℕ → Type 0
-HasLines lines head = (h : RequestHead) → ReadsRequest head h [] → lines ≡ length h.fields + 1
-
--- a head has no more fields than it may
-abbrev pub HasRoom : List ℕ → Type 0
-HasRoom head = (h : RequestHead) → ReadsRequest head h [] → length h.fields ≤ field_limit
-
--- the method that a head names; empty where it could not be read
-abbrev pub method_sent : Option Says → List ℕ
-method_sent None = []
-method_sent (Some h) = h.method
+-- what a head of these parts says
+abbrev pub told : List ℕ → HeadParts → Says
+told head parts = said head parts.line (fields_of parts)
 
 -- the texts of a head are UTF-8
 pub record HasTexts (bytes : List ℕ) (line : RequestSpans) (headers : List HeaderSpan) : Type 0 where
@@ -52,16 +34,39 @@ pub record HasTexts (bytes : List ℕ) (line : RequestSpans) (headers : List Hea
   pub target : IsUtf8 (span_bytes bytes line.path)
   pub names : All (λ h. IsUtf8 (span_bytes bytes h.name)) headers
 
--- a head that keeps the rules
-pub record IsServed (head : List ℕ) : Type 0 where
-  pub says : Says
-  pub method : Method
-  pub read : head_of head ≡ Some says
-  pub named : method_named says.method ≡ Some method
+-- the parts lie in the head
+pub record HasParts (head : List ℕ) (parts : HeadParts) : Type 0 where
+  pub count : parts.line.headers ≤ field_limit
+  pub method : IsWithin (length head) parts.line.method
+  pub target : IsWithin (length head) parts.line.path
+  pub fields : All (IsHeaderWithin (length head)) (fields_of parts)
+  pub texts : HasTexts head parts.line (fields_of parts)
 
--- the head is not whole yet
-abbrev pub is_waiting : Decision → Bool
-is_waiting decision.Waits = true
-is_waiting (decision.Refused n why) = false
-is_waiting (decision.Accepted n t) = false
-is_waiting (decision.Chunked n c) = false
+-- the parts name that method, or none
+pub record NamesMethod (head : List ℕ) (parts : HeadParts) (method : List ℕ) : Type 0 where
+  pub within : IsWithin (length head) parts.line.method
+  pub text : IsUtf8 (span_bytes head parts.line.method)
+  pub named : span_bytes head parts.line.method ≡ method
+
+-- the parts are those of the head that was read, by what the bytes settle
+abbrev pub AreKept : HeadParts → List ℕ → Finding → Type 0
+AreKept parts bytes waits = ⊤
+AreKept parts bytes (refused n method why) = (n ≤ length bytes) × NamesMethod (take n bytes) parts method
+AreKept parts bytes (accepted n h method framing) =
+    (n ≤ length bytes) × HasParts (take n bytes) parts × (told (take n bytes) parts ≡ h) × (parts.method ≡ method)
+
+-- what is remembered is what the bytes settle
+pub record IsKnown (progress : Progress) (parts : HeadParts) (kept : List ℕ) : Type 0 where
+  pub decided : progress.decision ≡ decision_of (settled kept) kept
+  pub read : progress.decision ≡ decision.Waits → IsRead progress kept
+  pub found : AreKept parts kept (settled kept)
+
+-- what is remembered is of the bytes that were not taken out, which are within the limit
+pub record IsTied (bytes : List ℕ) (start : ℕ) (progress : Progress) (parts : HeadParts) : Type 0 where
+  pub within : start ≤ length bytes
+  pub fits : length (drop start bytes) ≤ KEPT_LIMIT
+  pub known : IsKnown progress parts (drop start bytes)
+
+-- a whole head, of so many lines with its request line, has a line for each of its fields
+abbrev pub HasLines : ℕ → List ℕ → Type 0
+HasLines lines head = (h : RequestHead) → ReadsRequest head h [] → lines ≡ length h.fields + 1

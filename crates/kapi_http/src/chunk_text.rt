@@ -5,6 +5,9 @@ ghost use Rattle.kapi_http.specs.ChunkText.{chunk, last_chunk};
 use kapi_text::Memory;
 use std::alloc::Global;
 
+/// The most bytes that a chunk has beside its data: 16 digits and two line ends.
+const SIZE_ROOM: usize = 20;
+
 /// The chunk of these bytes: their number in lower case hexadecimal without leading zeros, CRLF, the bytes, CRLF
 /// (RFC 9112 section 7.1).
 ///
@@ -14,10 +17,9 @@ pub fn write_chunk(alloc: Global, bytes: &[u8]) -> Result<Vec<u8>, Memory>
     ensures { IfOk result (λ b. b.items ≡ chunk bytes.now) }
 {
     let count = bytes.len();
-    let size = format!(in alloc; "{count:x}")?;
-    let mut out = Vec::new(alloc);
-    out.extend_from_slice(size.as_bytes())?;
-    out.extend_from_slice(b"\r\n")?;
+    let mut size = String::with_capacity(alloc, SIZE_ROOM + count)?;
+    write!(size, "{count:x}\r\n")?;
+    let mut out = size.into_bytes();
     out.extend_from_slice(bytes)?;
     out.extend_from_slice(b"\r\n")?;
     Ok(out)
@@ -27,7 +29,5 @@ pub fn write_chunk(alloc: Global, bytes: &[u8]) -> Result<Vec<u8>, Memory>
 pub fn write_end(alloc: Global) -> Result<Vec<u8>, Memory>
     ensures { IfOk result (λ b. b.items ≡ last_chunk) }
 {
-    let mut out = Vec::new(alloc);
-    out.extend_from_slice(b"0\r\n\r\n")?;
-    Ok(out)
+    Vec::from_slice(alloc, b"0\r\n\r\n")
 }

@@ -5,8 +5,34 @@ ghost use Rattle.httparse.specs.Spans.{IsHeaderWithin, IsWithin};
 ghost use Rattle.kapi_http.specs.Head.{head_of, said, says};
 ghost use Rattle.kapi_http.specs.Tied.{HasTexts};
 
+use crate::message::Method;
 use httparse::Status;
-use httparse::spans::{HeaderSpan, RequestSpans, parse_request};
+use httparse::spans::{EMPTY_HEADER_SPAN, HeaderSpan, RequestSpans, Span, parse_request};
+
+/// Where the parts of a head stand in its bytes, and the method that it names.
+#[derive(Debug, Drop)]
+pub struct HeadParts {
+    pub line: RequestSpans,
+    pub method: Method,
+    /// The spans of the fields, of which the line says how many there are.
+    pub fields: [HeaderSpan; 64],
+}
+
+/// The spans of no request line, which names no method.
+pub const NO_LINE: RequestSpans = RequestSpans {
+    method: Span { start: 0, end: 0 },
+    path: Span { start: 0, end: 0 },
+    version: 0,
+    headers: 0,
+    len: 0,
+};
+
+/// The parts before any head was read.
+pub const NO_PARTS: HeadParts = HeadParts {
+    line: NO_LINE,
+    method: Method::Get,
+    fields: [EMPTY_HEADER_SPAN; 64],
+};
 
 // The spans of the parts of `bytes`, if they are one request head and no more.
 fn parse_head(bytes: &[u8], headers: &mut [HeaderSpan]) -> Option<RequestSpans>

@@ -2,6 +2,7 @@
 
 ghost use Rattle.std.specs.Prelude.{◌≡◌, ◌+◌, ◌<◌, ◌≤◌, ◌++◌, [], ◌↔◌, IfOk, IsFalse, IsTrue, OnOk, OnErr, Some, Ok, false, length};
 
+use crate::head::{HeadParts, NO_PARTS};
 use crate::item::{Decision, Progress, advance, continued, item};
 use crate::message::{HttpFault, HttpRequest};
 use crate::scan::BEGIN;
@@ -35,6 +36,8 @@ pub struct Inbox {
     bytes: Vec<u8>,
     start: usize,
     progress: Progress,
+    // The parts of the head at `start`, where it is whole.
+    parts: HeadParts,
     ended: bool,
 }
 
@@ -52,7 +55,7 @@ impl Model for Inbox {
 
     ghost view = { λ i. record { kept = drop i.start i.bytes.items; ended = i.ended } };
 
-    ghost invariant = { λ i. IsTied i.bytes.items i.start i.progress };
+    ghost invariant = { λ i. IsTied i.bytes.items i.start i.progress i.parts };
 }
 
 impl Inbox {
@@ -67,6 +70,7 @@ impl Inbox {
             bytes: Vec::new(alloc),
             start: 0,
             progress: NOTHING_READ,
+            parts: NO_PARTS,
             ended: false,
         }
     }
@@ -91,7 +95,8 @@ impl Inbox {
         if self.bytes.extend_from_slice(piece).is_err() {
             return Err(FeedError::Memory);
         }
-        self.progress = continued(self.progress, &self.bytes[self.start..], piece.len());
+        let kept = &self.bytes[self.start..];
+        self.progress = continued(self.progress, kept, piece.len(), &mut self.parts);
         Ok(())
     }
 
@@ -107,6 +112,7 @@ impl Inbox {
             self.alloc,
             &self.bytes[self.start..],
             self.progress.decision,
+            &self.parts,
         )
     }
 
@@ -125,7 +131,7 @@ impl Inbox {
                 } else {
                     self.start = start;
                 }
-                self.progress = advance(BEGIN, &self.bytes[self.start..]);
+                self.progress = advance(BEGIN, &self.bytes[self.start..], &mut self.parts);
             }
             Err(_) => {
                 self.bytes.clear();

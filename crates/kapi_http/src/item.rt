@@ -3,19 +3,18 @@ ghost use Rattle.std.specs.Prelude.{◌≡◌, ◌-◌, ◌++◌, ◌≤◌, All
 ghost use Rattle.httparse.specs.Spans.{IsHeaderWithin, header_bytes, span_bytes};
 ghost use Rattle.kapi_http.specs.Cut.{code_of, fault_of, first, header_of, request_of, settled, settled_within, word_of};
 ghost use Rattle.kapi_http.specs.Fields.{fields_at};
-ghost use Rattle.kapi_http.specs.Head.{head_of};
 ghost use Rattle.kapi_http.specs.Inbox.{accepted_of, decision_of};
 ghost use Rattle.kapi_http.specs.Rules.{IsFramed};
 ghost use Rattle.kapi_http.specs.Scan.{begin, scanned};
-ghost use Rattle.kapi_http.specs.Tied.{HasLines, HasRoom, IsKnown, IsRead, IsServed, is_waiting, method_sent};
+ghost use Rattle.kapi_http.specs.Tied.{AreKept, HasLines, HasParts, IsKnown, IsRead, told};
 
 use crate::chunks::{Chunks, Ending, NO_CHUNKS, join, outcome, read_on};
 use crate::fields::any_field_lists;
-use crate::head::read_head;
+use crate::head::{HeadParts, NO_LINE, read_head};
 use crate::message::{Header, HttpFault, HttpRequest, Refusal, StatusCode};
-use crate::rules::{Framing, check, method_named};
+use crate::rules::{Framing, check};
 use crate::scan::{Scan, has_ended, scan_on};
-use httparse::spans::{EMPTY_HEADER_SPAN, HeaderSpan};
+use httparse::spans::HeaderSpan;
 use kapi_text::{Memory, Sequence, Text};
 use std::alloc::Global;
 use std::str;
@@ -47,14 +46,14 @@ pub struct Progress {
 }
 
 /// Reads on where the head or the body of `kept` is not whole: `progress` is of its bytes before the last `more`.
-pub fn continued(progress: Progress, kept: &[u8], more: usize) -> Progress
+pub fn continued(progress: Progress, kept: &[u8], more: usize, parts: &mut HeadParts) -> Progress
     requires more { more ≤ length kept.now }
     requires fits { length kept.now ≤ 2097152 }
-    requires known { IsKnown progress (take (length kept.now - more) kept.now) }
-    ensures { IsKnown result kept.now }
+    requires known { IsKnown progress parts.old (take (length kept.now - more) kept.now) }
+    ensures { IsKnown result parts.new kept.now }
 {
     match progress.decision {
-        Decision::Waits => advance(progress.scan, kept),
+        Decision::Waits => advance(progress.scan, kept, parts),
         Decision::Chunked(head, chunks) => Progress {
             scan: progress.scan,
             decision: Decision::Chunked(head, read_on(chunks, &kept[kept.len() - more..])),
@@ -64,28 +63,23 @@ pub fn continued(progress: Progress, kept: &[u8], more: usize) -> Progress
     }
 }
 
-/// The head is not whole yet.
-pub fn waits(decision: Decision) -> bool
-    ensures { result ≡ is_waiting decision }
-{
-    matches!(decision, Decision::Waits)
-}
-
 #[tactic(auto, using(crate::proofs::Settling::lines_read))]
 /// Reads on from `scan`, which read the first `scan.at` bytes of `kept`, until the head is whole.
-pub fn advance(scan: Scan, kept: &[u8]) -> Progress
+pub fn advance(scan: Scan, kept: &[u8], parts: &mut HeadParts) -> Progress
     requires within { scan.at ≤ length kept.now }
     requires limit { scan.at ≤ 16384 }
     requires fits { length kept.now ≤ 2097152 }
     requires read { scan ≡ scanned begin (take scan.at kept.now) }
     ensures decided { result.decision ≡ decision_of (settled kept.now) kept.now }
     ensures read { result.decision ≡ Decision.Waits → IsRead result kept.now }
+    ensures parts { AreKept parts.new kept.now (settled kept.now) }
 {
     let end = kept.len().min(HEAD_LIMIT);
     let scan = scan_on(scan, &kept[scan.at..end]);
     let decision = if has_ended(scan.place) {
-        decide(&kept[..scan.at], &kept[scan.at..], scan.lines)
+        decide(&kept[..scan.at], &kept[scan.at..], scan.lines, parts)
     } else if kept.len() >= HEAD_LIMIT {
+        parts.line = NO_LINE;
         Decision::Refused(0, Refusal::HeadTooLarge)
     } else {
         Decision::Waits
@@ -94,22 +88,27 @@ pub fn advance(scan: Scan, kept: &[u8]) -> Progress
 }
 
 // What a whole head and the body behind it settle; `lines` counts the request line too.
-fn decide(head: &[u8], body: &[u8], lines: usize) -> Decision
+fn decide(head: &[u8], body: &[u8], lines: usize, parts: &mut HeadParts) -> Decision
     requires lines { HasLines lines head.now }
     requires small { length head.now ≤ 16384 }
     requires fits { length body.now ≤ 2097152 }
-    ensures { result ≡ decision_of (settled_within lines head.now) (head.now ++ body.now) }
+    ensures decided { result ≡ decision_of (settled_within lines head.now) (head.now ++ body.now) }
+    ensures parts { AreKept parts.new head.now (settled_within lines head.now) }
 {
+    parts.line = NO_LINE;
     if lines > LINE_LIMIT + 1 {
         return Decision::Refused(0, Refusal::HeadTooLarge);
     }
-    let mut spans = [EMPTY_HEADER_SPAN; 64];
-    match read_head(head, &mut spans) {
-        Some(line) => match check(head, line, &spans[..line.headers]) {
-            Ok((_, framing)) => accepted(head.len(), framing, body),
-            Err(why) => Decision::Refused(head.len(), why),
-        },
-        None => Decision::Refused(head.len(), Refusal::NoHead),
+    let Some(line) = read_head(head, &mut parts.fields) else {
+        return Decision::Refused(head.len(), Refusal::NoHead);
+    };
+    parts.line = line;
+    match check(head, line, &parts.fields[..line.headers]) {
+        Ok((method, framing)) => {
+            parts.method = method;
+            accepted(head.len(), framing, body)
+        }
+        Err(why) => Decision::Refused(head.len(), why),
     }
 }
 
@@ -126,20 +125,22 @@ fn accepted(head: usize, framing: Framing, body: &[u8]) -> Decision
     }
 }
 
-/// The first item of `kept`, of which `decision` is settled.
+/// The first item of `kept`, of which `decision` is settled and whose head has these parts.
 pub fn item(
     alloc: Global,
     kept: &[u8],
     decision: Decision,
+    parts: &HeadParts,
 ) -> Result<Option<Result<HttpRequest, HttpFault>>, Memory>
     requires small { length kept.now ≤ 2097152 }
     requires settled { decision ≡ decision_of (settled kept.now) kept.now }
+    requires parts { AreKept parts.now kept.now (settled kept.now) }
     ensures { IfOk result (λ o. o ≡ first kept.now) }
 {
     match decision {
         Decision::Waits => Ok(None),
         Decision::Refused(head, why) => {
-            let fault = fault(alloc, &kept[..head], why)?;
+            let fault = fault(alloc, parts.line.method.of(&kept[..head]), why)?;
             Ok(Some(Err(fault)))
         }
         Decision::Accepted(head, total) => {
@@ -147,10 +148,10 @@ pub fn item(
                 return Ok(None);
             }
             let body = Vec::from_slice(alloc, &kept[head..total])?;
-            let request = request(alloc, &kept[..head], body, total)?;
+            let request = request(alloc, &kept[..head], parts, body, total)?;
             Ok(Some(Ok(request)))
         }
-        Decision::Chunked(head, chunks) => chunked_item(alloc, kept, head, chunks),
+        Decision::Chunked(head, chunks) => chunked_item(alloc, kept, head, chunks, parts),
     }
 }
 
@@ -160,9 +161,11 @@ fn chunked_item(
     kept: &[u8],
     head: usize,
     chunks: Chunks,
+    parts: &HeadParts,
 ) -> Result<Option<Result<HttpRequest, HttpFault>>, Memory>
     requires small { length kept.now ≤ 2097152 }
     requires settled { Decision.Chunked head chunks ≡ decision_of (settled kept.now) kept.now }
+    requires parts { AreKept parts.now kept.now (settled kept.now) }
     ensures { IfOk result (λ o. o ≡ first kept.now) }
 {
     match outcome(chunks.spot) {
@@ -170,30 +173,18 @@ fn chunked_item(
         Ending::Closed => {
             let total = head + chunks.at;
             let body = join(alloc, &kept[head..total], chunks.sum)?;
-            let request = request(alloc, &kept[..head], body, total)?;
+            let request = request(alloc, &kept[..head], parts, body, total)?;
             Ok(Some(Ok(request)))
         }
         Ending::Refused(why) => {
-            let fault = fault(alloc, &kept[..head], why)?;
+            let fault = fault(alloc, parts.line.method.of(&kept[..head]), why)?;
             Ok(Some(Err(fault)))
         }
     }
 }
 
-// The fault of a head that was refused.
-fn fault(alloc: Global, head: &[u8], why: Refusal) -> Result<HttpFault, Memory>
-    requires { HasRoom head.now }
-    ensures { IfOk result (λ f. f ≡ fault_of (method_sent (head_of head.now)) why) }
-{
-    let mut spans = [EMPTY_HEADER_SPAN; 64];
-    match read_head(head, &mut spans) {
-        Some(line) => fault_by(alloc, line.method.of(head), why),
-        None => fault_by(alloc, b"", why),
-    }
-}
-
-// The fault of a request of that method.
-fn fault_by(alloc: Global, method: &[u8], why: Refusal) -> Result<HttpFault, Memory>
+// The fault of a request of that method, which is empty where no head was read.
+fn fault(alloc: Global, method: &[u8], why: Refusal) -> Result<HttpFault, Memory>
     requires { IsUtf8 method.now }
     ensures { IfOk result (λ f. f ≡ fault_of method.now why) }
 {
@@ -235,24 +226,22 @@ fn code(why: Refusal) -> StatusCode
     }
 }
 
-// The request of a head that keeps the rules, and of its body; `total` is its length as sent.
-fn request(alloc: Global, head: &[u8], body: Vec<u8>, total: usize) -> Result<HttpRequest, Memory>
-    requires room { HasRoom head.now }
-    requires served { IsServed head.now }
-    ensures { IfOk result (λ r. (s : IsServed head.now) → r ≡ request_of s.says s.method body.items total) }
+// The request of a head with these parts, and of its body; `total` is its length as sent.
+fn request(
+    alloc: Global,
+    head: &[u8],
+    parts: &HeadParts,
+    body: Vec<u8>,
+    total: usize,
+) -> Result<HttpRequest, Memory>
+    requires { HasParts head.now parts.now }
+    ensures { IfOk result (λ r. r ≡ request_of (told head.now parts.now) parts.now.method body.items total) }
 {
-    let mut spans = [EMPTY_HEADER_SPAN; 64];
-    let Some(line) = read_head(head, &mut spans) else {
-        unreachable!()
-    };
-    let Some(method) = method_named(line.method.of(head)) else {
-        unreachable!()
-    };
-    let target = text(alloc, line.path.of(head))?;
-    let fields = &spans[..line.headers];
+    let fields = &parts.fields[..parts.line.headers];
+    let target = text(alloc, parts.line.path.of(head))?;
     let headers = headers(alloc, head, fields)?;
     Ok(HttpRequest {
-        method,
+        method: parts.method,
         target,
         headers: Sequence::new(headers),
         body: Sequence::new(body),

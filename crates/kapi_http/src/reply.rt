@@ -1,5 +1,5 @@
 //! The bytes of a reply (RFC 9112 sections 4, 6 and 9.6).
-ghost use Rattle.std.specs.Prelude.{◌≡◌, ◌++◌, IfOk, OnOk, Some, false};
+ghost use Rattle.std.specs.Prelude.{◌≡◌, ◌++◌, IfOk, OnOk, Some, false, ◌<◌, ◌^◌, length, string_bytes};
 ghost use Rattle.std.specs.List.{flat_map};
 ghost use Rattle.kapi_http.specs.Reply.{allow_line, body_bytes, close_line, framing_line, further, status_line, text, type_line};
 
@@ -7,102 +7,104 @@ use crate::message::{Method, Reply, StatusCode};
 use kapi_text::{Memory, Sequence};
 use std::alloc::Global;
 
+/// At least the length of a head whose Allow line names each method at most once.
+const HEAD_ROOM: usize = 176;
+
 /// The reply's bytes: status line, header fields, empty line and body.
 #[tactic(auto, using(std::proofs::Common::append_assoc), unfolding(crate::specs::Reply::text))]
 pub fn write_reply(alloc: Global, reply: &Reply) -> Result<Vec<u8>, Memory>
     ensures { IfOk result (λ b. b.items ≡ text reply.now) }
 {
-    let mut out = Vec::new(alloc);
-    write_status(alloc, &mut out, reply.code)?;
-    write_type(&mut out, reply.plain)?;
-    write_framing(alloc, &mut out, reply.chunked, &reply.body)?;
-    write_allow(&mut out, reply.allow.as_slice())?;
-    write_close(&mut out, reply.close)?;
-    out.extend_from_slice(b"\r\n")?;
+    // The body comes into the same memory, which is allocated once.
+    let mut head = String::with_capacity(alloc, HEAD_ROOM + body_length(&reply.body))?;
+    write_status(&mut head, reply.code)?;
+    write_type(&mut head, reply.plain)?;
+    write_framing(&mut head, reply.chunked, &reply.body)?;
+    write_allow(&mut head, reply.allow.as_slice())?;
+    write_close(&mut head, reply.close)?;
+    head.push_str("\r\n")?;
+    let mut out = head.into_bytes();
     write_body(&mut out, &reply.body)?;
     Ok(out)
 }
 
-#[tactic(auto, using(std::proofs::Common::append_assoc))]
-fn write_status(alloc: Global, out: &mut Vec<u8>, code: StatusCode) -> Result<(), Memory>
-    ensures { OnOk result (out.new.items ≡ out.old.items ++ status_line code) }
+fn body_length(body: &Option<Sequence<u8>>) -> usize
+    ensures exact { result ≡ length (body_bytes body.now) }
+    ensures small { result < 2 ^ 63 }
 {
-    let number = code.number().to_string(alloc)?;
-    out.extend_from_slice(b"HTTP/1.1 ")?;
-    out.extend_from_slice(number.as_bytes())?;
-    out.extend_from_slice(b" ")?;
-    out.extend_from_slice(code.phrase().as_bytes())?;
-    out.extend_from_slice(b"\r\n")
+    match body {
+        Some(body) => body.as_slice().len(),
+        None => 0,
+    }
 }
 
-fn write_type(out: &mut Vec<u8>, plain: bool) -> Result<(), Memory>
-    ensures { OnOk result (out.new.items ≡ out.old.items ++ type_line plain) }
+#[tactic(auto, using(std::proofs::Common::append_assoc))]
+fn write_status(out: &mut String, code: StatusCode) -> Result<(), Memory>
+    ensures { OnOk result (string_bytes out.new ≡ string_bytes out.old ++ status_line code) }
+{
+    write!(out, "HTTP/1.1 {} {}\r\n", code.number(), code.phrase())
+}
+
+fn write_type(out: &mut String, plain: bool) -> Result<(), Memory>
+    ensures { OnOk result (string_bytes out.new ≡ string_bytes out.old ++ type_line plain) }
 {
     if plain {
-        out.extend_from_slice(b"Content-Type: text/plain\r\n")
+        out.push_str("Content-Type: text/plain\r\n")
     } else {
-        out.extend_from_slice(b"Content-Type: application/json\r\n")
+        out.push_str("Content-Type: application/json\r\n")
     }
 }
 
-fn write_framing(
-    alloc: Global,
-    out: &mut Vec<u8>,
-    chunked: bool,
-    body: &Option<Sequence<u8>>,
-) -> Result<(), Memory>
-    ensures { OnOk result (out.new.items ≡ out.old.items ++ framing_line chunked body.now) }
+fn write_framing(out: &mut String, chunked: bool, body: &Option<Sequence<u8>>) -> Result<(), Memory>
+    ensures { OnOk result (string_bytes out.new ≡ string_bytes out.old ++ framing_line chunked body.now) }
 {
     if chunked {
-        return out.extend_from_slice(b"Transfer-Encoding: chunked\r\n");
+        return out.push_str("Transfer-Encoding: chunked\r\n");
     }
     match body {
-        Some(body) => write_length(alloc, out, body.as_slice()),
+        Some(body) => write_length(out, body.as_slice()),
         None => Ok(()),
     }
 }
 
 #[tactic(auto, using(std::proofs::Common::append_assoc))]
-fn write_length(alloc: Global, out: &mut Vec<u8>, body: &[u8]) -> Result<(), Memory>
-    ensures { OnOk result (out.new.items ≡ out.old.items ++ framing_line false (Some body.now)) }
+fn write_length(out: &mut String, body: &[u8]) -> Result<(), Memory>
+    ensures { OnOk result (string_bytes out.new ≡ string_bytes out.old ++ framing_line false (Some body.now)) }
 {
-    let number = body.len().to_string(alloc)?;
-    out.extend_from_slice(b"Content-Length: ")?;
-    out.extend_from_slice(number.as_bytes())?;
-    out.extend_from_slice(b"\r\n")
+    write!(out, "Content-Length: {}\r\n", body.len())
 }
 
 #[tactic(auto, using(std::proofs::Common::append_assoc))]
-fn write_allow(out: &mut Vec<u8>, methods: &[Method]) -> Result<(), Memory>
-    ensures { OnOk result (out.new.items ≡ out.old.items ++ allow_line methods.now) }
+fn write_allow(out: &mut String, methods: &[Method]) -> Result<(), Memory>
+    ensures { OnOk result (string_bytes out.new ≡ string_bytes out.old ++ allow_line methods.now) }
 {
     match methods.split_first() {
         Some((method, methods)) => {
-            out.extend_from_slice(b"Allow: ")?;
-            out.extend_from_slice(method.as_str().as_bytes())?;
+            out.push_str("Allow: ")?;
+            out.push_str(method.as_str())?;
             write_further(out, methods)?;
-            out.extend_from_slice(b"\r\n")
+            out.push_str("\r\n")
         }
         None => Ok(()),
     }
 }
 
 #[tactic(auto, using(std::proofs::Common::append_assoc))]
-fn write_further(out: &mut Vec<u8>, methods: &[Method]) -> Result<(), Memory>
-    ensures { OnOk result (out.new.items ≡ out.old.items ++ flat_map further methods.now) }
+fn write_further(out: &mut String, methods: &[Method]) -> Result<(), Memory>
+    ensures { OnOk result (string_bytes out.new ≡ string_bytes out.old ++ flat_map further methods.now) }
 {
     for method in methods {
-        out.extend_from_slice(b", ")?;
-        out.extend_from_slice(method.as_str().as_bytes())?;
+        out.push_str(", ")?;
+        out.push_str(method.as_str())?;
     }
     Ok(())
 }
 
-fn write_close(out: &mut Vec<u8>, close: bool) -> Result<(), Memory>
-    ensures { OnOk result (out.new.items ≡ out.old.items ++ close_line close) }
+fn write_close(out: &mut String, close: bool) -> Result<(), Memory>
+    ensures { OnOk result (string_bytes out.new ≡ string_bytes out.old ++ close_line close) }
 {
     if close {
-        out.extend_from_slice(b"Connection: close\r\n")
+        out.push_str("Connection: close\r\n")
     } else {
         Ok(())
     }

@@ -49,9 +49,9 @@ pub fn check(
     Ok((method, framing))
 }
 
-/// The method of that name, which is case-sensitive (RFC 9110 section 9.1).
+// The method of that name, which is case-sensitive (RFC 9110 section 9.1).
 #[tactic(auto, unfolding(crate::specs::Rules::method_named))]
-pub fn method_named(name: &[u8]) -> Option<Method>
+fn method_named(name: &[u8]) -> Option<Method>
     ensures { result ≡ method_of name.now }
 {
     if name == b"GET".as_slice() {

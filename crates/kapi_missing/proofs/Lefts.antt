@@ -15,6 +15,7 @@ use Rattle.kapi_rules.specs.declared.atom.Names.{Names}
 use Rattle.kapi_rules.specs.declared.atom.Names.TheVariants as names
 use Rattle.kapi_missing.proofs.Repeats.{either_way, filter_append, has_atom, missing_more}
 use Rattle.kapi_missing.specs.Private.Bars.{AreLeft, barred, meets, name_marks, whole_name_marks}
+use Rattle.kapi_missing.specs.Private.Index.{IsAt}
 use Rattle.kapi_missing.specs.Private.Left.{each, is_stopped, left, left_atoms, left_urls, marked, url_marked}
 use Rattle.kapi_missing.specs.Private.Marks.{at}
 use Rattle.kapi_missing.specs.Private.Once.{once}
@@ -25,12 +26,7 @@ use Rattle.kapi_missing.specs.declared.marks.Marks.{Marks}
 
 -- ---- elements by their positions
 
-abbrev IsAt : {X : Type 0} → List X → ℕ → X → Type 0
-IsAt [] i x = ⊥
-IsAt (y ∷ xs) zero x = y ≡ x
-IsAt (y ∷ xs) (suc i) x = IsAt xs i x
-
-at_map : {X : Type 0} (f : X → Bool) (xs : List X) (i : ℕ) (x : X) → IsAt xs i x → at (map f xs) i ≡ f x
+pub at_map : {X : Type 0} (f : X → Bool) (xs : List X) (i : ℕ) (x : X) → IsAt xs i x → at (map f xs) i ≡ f x
 at_map f [] i x is = absurd is
 at_map f (y ∷ xs) zero x is = ap f is
 at_map f (y ∷ xs) (suc i) x is = at_map f xs i x is
@@ -116,7 +112,7 @@ module _ (b : PolicyRule) where
   url_reordered false false = refl
 
   module _ (w : PolicyRule) where
-    held_stops : (i j k l : ℕ) (g r v : List ℕ) (n : Names) → IsAt w.api_groups i g → IsAt w.resources j r → IsAt w.verbs k v → IsAt (names_of w.resource_names) l n
+    pub held_stops : (i j k l : ℕ) (g r v : List ℕ) (n : Names) → IsAt w.api_groups i g → IsAt w.resources j r → IsAt w.verbs k v → IsAt (names_of w.resource_names) l n
         → barred true sort.Resources b w i j k l ≡ rule_implies b (resource_atom v g r n)
     held_stops i j k l g r v n is_g is_r is_v is_n =
         rw (
@@ -127,7 +123,7 @@ module _ (b : PolicyRule) where
         )
         (reordered (list_any (λ e. word_matches e g) b.api_groups) (list_any (λ e. resource_covers e r) b.resources) (list_any (λ e. word_matches e v) b.verbs) (listed_cover b.resource_names n) ∙ sym (rule_implies_resource b (record { verb = v; group = g; resource = r; names = n })))
 
-    own_stops : (i j k l : ℕ) (g r v : List ℕ) (n : Names) → IsAt w.api_groups i g → IsAt w.resources j r → IsAt w.verbs k v → IsAt (names_of w.resource_names) l n
+    pub own_stops : (i j k l : ℕ) (g r v : List ℕ) (n : Names) → IsAt w.api_groups i g → IsAt w.resources j r → IsAt w.verbs k v → IsAt (names_of w.resource_names) l n
         → barred false sort.Resources b w i j k l ≡ has_atom (atoms b) (resource_atom v g r n)
     own_stops i j k l g r v n is_g is_r is_v is_n =
         rw (
@@ -144,12 +140,12 @@ module _ (b : PolicyRule) where
         split (atom.Resource a) = refl
         split (atom.Url a) = refl
 
-    held_url_stops : (i k : ℕ) (u v : List ℕ) → IsAt w.non_resource_urls i u → IsAt w.verbs k v → barred true sort.Urls b w i 0 k 0 ≡ rule_implies b (url_atom v u)
+    pub held_url_stops : (i k : ℕ) (u v : List ℕ) → IsAt w.non_resource_urls i u → IsAt w.verbs k v → barred true sort.Urls b w i 0 k 0 ≡ rule_implies b (url_atom v u)
     held_url_stops i k u v is_u is_v =
         rw (at_map (meets true dimension.Urls b) w.non_resource_urls i u is_u, at_map (meets true dimension.Verbs b) w.verbs k v is_v)
         (url_reordered (list_any (λ e. url_matches e u) b.non_resource_urls) (list_any (λ e. word_matches e v) b.verbs) ∙ sym (rule_implies_url b (record { verb = v; url = u })))
 
-    own_url_stops : (i k : ℕ) (u v : List ℕ) → IsAt w.non_resource_urls i u → IsAt w.verbs k v → barred false sort.Urls b w i 0 k 0 ≡ has_atom (atoms b) (url_atom v u)
+    pub own_url_stops : (i k : ℕ) (u v : List ℕ) → IsAt w.non_resource_urls i u → IsAt w.verbs k v → barred false sort.Urls b w i 0 k 0 ≡ has_atom (atoms b) (url_atom v u)
     own_url_stops i k u v is_u is_v =
         rw (at_map (meets false dimension.Urls b) w.non_resource_urls i u is_u, at_map (meets false dimension.Verbs b) w.verbs k v is_v)
         (url_reordered (list_any (λ e. bytes_eq e u) b.non_resource_urls) (list_any (λ e. bytes_eq e v) b.verbs) ∙ sym (url_part (λ e. bytes_eq e v) (λ e. bytes_eq e u) b) ∙ sym (any_same _ _ (atoms b) split) ∙ either_way (url_atom v u) (atoms b))

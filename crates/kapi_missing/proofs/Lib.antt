@@ -10,3 +10,4 @@ pub mod Losing
 pub mod Both
 pub mod Lefts
 pub mod Sliced
+pub mod Dead

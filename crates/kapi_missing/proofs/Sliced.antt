@@ -24,7 +24,7 @@ use Rattle.kapi_missing.specs.declared.plans.Plan.{Plan}
 
 -- ---- lists of no and of one element
 
-none : {X : Type 0} (xs : List X) → (length xs == 0) ≡ true → xs ≡ []
+pub none : {X : Type 0} (xs : List X) → (length xs == 0) ≡ true → xs ≡ []
 none [] h = refl
 none (x ∷ xs) h = absurd (let some = sym (eqb-suc-zero (length xs)) ∙ h in cc)
 
@@ -46,22 +46,22 @@ joined x y z is = rw (append-nil x, append-nil y, append-nil z) is
 
 -- ---- atoms by the lists of a rule
 
-abbrev of_verb : List (List ℕ) → List ℕ → List ℕ → List ℕ → List Atom
+abbrev pub of_verb : List (List ℕ) → List ℕ → List ℕ → List ℕ → List Atom
 of_verb ns g r v = map (resource_atom v g r) (names_of ns)
 
-abbrev of_resource : List (List ℕ) → List (List ℕ) → List ℕ → List ℕ → List Atom
+abbrev pub of_resource : List (List ℕ) → List (List ℕ) → List ℕ → List ℕ → List Atom
 of_resource vs ns g r = flat_map (of_verb ns g r) vs
 
-abbrev of_group : List (List ℕ) → List (List ℕ) → List (List ℕ) → List ℕ → List Atom
+abbrev pub of_group : List (List ℕ) → List (List ℕ) → List (List ℕ) → List ℕ → List Atom
 of_group rs vs ns g = flat_map (of_resource vs ns g) rs
 
-abbrev of_url : List (List ℕ) → List ℕ → List Atom
+abbrev pub of_url : List (List ℕ) → List ℕ → List Atom
 of_url vs u = map (λ v. url_atom v u) vs
 
-abbrev of_lists : (gs rs vs ns us : List (List ℕ)) → List Atom
+abbrev pub of_lists : (gs rs vs ns us : List (List ℕ)) → List Atom
 of_lists gs rs vs ns us = flat_map (of_group rs vs ns) gs ++ flat_map (of_url vs) us
 
-abbrev of_rule : PolicyRule → List Atom
+abbrev pub of_rule : PolicyRule → List Atom
 of_rule w = of_lists w.api_groups w.resources w.verbs w.resource_names w.non_resource_urls
 
 told : (w first second : PolicyRule) → of_rule w ≡ of_rule first ++ of_rule second → atoms w ≡ atoms first ++ atoms second
@@ -172,3 +172,8 @@ module _ (held earlier : Bars) where
       ∙ ap (λ (r : List Atom). r ++ left_atoms hs es second) (one hs es are own)
       ∙ append_assoc (flat_map left_of old) (left_atoms hs es first) (left_atoms hs es second)
       ∙ ap (λ (r : List Atom). flat_map left_of old ++ r) (sym (two_halves hs es rule first second is))
+
+  pub adds_slim : (old new : List Plan) (rule slim : PolicyRule)
+      → ((hs es : List PolicyRule) → AreBars true hs held → AreBars false es earlier → left_atoms hs es rule ≡ left_atoms hs es slim)
+      → AddsLeft held earlier old new slim → AddsLeft held earlier old new rule
+  adds_slim old new rule slim is grown = λ hs es are own. grown hs es are own ∙ ap (λ (r : List Atom). flat_map left_of old ++ r) (sym (is hs es are own))

@@ -8,3 +8,4 @@ pub mod Left
 pub mod Slices
 pub mod Index
 pub mod Stopped
+pub mod Slim

@@ -66,7 +66,8 @@ pub fn bar_of<'a>(alloc: Global, rule: &'a PolicyRule) -> Result<Bar<'a>, Memory
     })
 }
 
-fn list_of<'b, 'a>(bar: &'b Bar<'a>, dimension: Dimension) -> &'b Entries<'a>
+/// One of the lists of the bar.
+pub fn list_of<'b, 'a>(bar: &'b Bar<'a>, dimension: Dimension) -> &'b Entries<'a>
     ensures { result.now.all.now ≡ entries_in dimension (rule_in bar.now) }
 {
     match dimension {
@@ -127,8 +128,8 @@ fn is_covered(entries: &Entries<'_>, dimension: Dimension, other: &str) -> bool
     }
 }
 
-// Some entry of a held rule covers that one, or an earlier rule lists it.
-fn is_met(bar: &Bar<'_>, is_held: bool, dimension: Dimension, entry: &str) -> bool
+/// Some entry of a held rule covers that one, or an earlier rule lists it.
+pub fn is_met(bar: &Bar<'_>, is_held: bool, dimension: Dimension, entry: &str) -> bool
     ensures { result ≡ meets is_held dimension (rule_in bar.now) entry.now }
 {
     let entries = list_of(bar, dimension);

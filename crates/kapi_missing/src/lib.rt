@@ -11,6 +11,7 @@ mod missing_atoms;
 mod once;
 mod plans;
 mod slices;
+mod slim;
 mod stopped;
 mod wide;
 mod words;

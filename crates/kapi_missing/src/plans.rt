@@ -13,7 +13,8 @@ use crate::bars::{Dimension, Sort, whole_part};
 use crate::index::{Bars, add_bar, held_bars, no_bars};
 use crate::marks::Marks;
 use crate::once::once_rule;
-use crate::slices::{Halves, cut, sliced_list};
+use crate::slices::{Halves, by_sorts, cut, sliced_list};
+use crate::slim::slim;
 use crate::stopped::without_bars;
 use kapi_model::PolicyRule;
 use kapi_rules::Atom;
@@ -90,6 +91,7 @@ fn push_plan(list: &mut Vec<Plan>, plan: Plan) -> Result<(), Memory>
     Ok(())
 }
 
+#[tactic(auto, using(crate::proofs::Sliced::adds_slim))]
 fn push_planned(
     alloc: Global,
     held: &Bars<'_>,
@@ -99,7 +101,8 @@ fn push_planned(
 ) -> Result<(), Memory>
     ensures { OnOk result (AddsLeft held.now earlier.now list.old.items list.new.items rule) }
 {
-    let plan = planned(alloc, held, earlier, rule)?;
+    let slim = slim(alloc, held, earlier, rule)?;
+    let plan = planned(alloc, held, earlier, slim)?;
     push_plan(list, plan)
 }
 
@@ -128,6 +131,54 @@ fn push_slices(
     }
 }
 
+fn push_cut(
+    alloc: Global,
+    held: &Bars<'_>,
+    earlier: &Bars<'_>,
+    list: &mut Vec<Plan>,
+    rule: PolicyRule,
+) -> Result<(), Memory>
+    ensures { OnOk result (AddsLeft held.now earlier.now list.old.items list.new.items rule) }
+{
+    match sliced_list(held, earlier, &rule) {
+        Some(last) => push_slices(alloc, held, earlier, list, rule, last, 64),
+        None => push_planned(alloc, held, earlier, list, rule),
+    }
+}
+
+#[tactic(auto, using(crate::proofs::Sliced::adds_slim))]
+fn push_one_sort(
+    alloc: Global,
+    held: &Bars<'_>,
+    earlier: &Bars<'_>,
+    list: &mut Vec<Plan>,
+    rule: PolicyRule,
+) -> Result<(), Memory>
+    ensures { OnOk result (AddsLeft held.now earlier.now list.old.items list.new.items rule) }
+{
+    let slim = slim(alloc, held, earlier, rule)?;
+    push_cut(alloc, held, earlier, list, slim)
+}
+
+fn push_by_sorts(
+    alloc: Global,
+    held: &Bars<'_>,
+    earlier: &Bars<'_>,
+    list: &mut Vec<Plan>,
+    rule: PolicyRule,
+) -> Result<(), Memory>
+    ensures { OnOk result (AddsLeft held.now earlier.now list.old.items list.new.items rule) }
+{
+    match by_sorts(alloc, &rule)? {
+        Some(halves) => {
+            let Halves { first, second } = halves;
+            push_one_sort(alloc, held, earlier, list, first)?;
+            push_one_sort(alloc, held, earlier, list, second)
+        }
+        None => push_one_sort(alloc, held, earlier, list, rule),
+    }
+}
+
 fn push_wanted(
     alloc: Global,
     held: &Bars<'_>,
@@ -138,10 +189,7 @@ fn push_wanted(
     ensures { OnOk result (AddsLeft held.now earlier.now list.old.items list.new.items (once wanted.now)) }
 {
     let rule = once_rule(alloc, wanted)?;
-    match sliced_list(held, earlier, &rule) {
-        Some(last) => push_slices(alloc, held, earlier, list, rule, last, 64),
-        None => push_planned(alloc, held, earlier, list, rule),
-    }
+    push_by_sorts(alloc, held, earlier, list, rule)
 }
 
 fn marked_in(marks: &[bool]) -> usize {

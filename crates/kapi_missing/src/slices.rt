@@ -18,8 +18,8 @@ pub struct Halves {
     pub second: PolicyRule,
 }
 
-// The lists in the order of the atoms.
-fn number_of(dimension: Dimension) -> usize
+/// The lists in the order of the atoms.
+pub fn number_of(dimension: Dimension) -> usize
     ensures { result ≡ number dimension }
 {
     match dimension {
@@ -58,8 +58,8 @@ fn list_with(
     }
 }
 
-// The rule with those entries in one of its lists.
-fn with_entries(
+/// The rule with those entries in one of its lists.
+pub fn with_entries(
     alloc: Global,
     rule: &PolicyRule,
     changed: Dimension,
@@ -127,7 +127,8 @@ fn length_of(rule: &PolicyRule, dimension: Dimension) -> usize {
     entries_of(rule, dimension).len()
 }
 
-// The first list of several entries, or the last one while it is long.
+// The first list of several entries, or the last one while it is long. Names are not cut: beside them nothing is left
+// that has several entries, so that each rule found stops its names alone.
 fn list_to_cut(rule: &PolicyRule, last: Dimension) -> Option<Dimension> {
     let is_before = number_of(last) > number_of(Dimension::Groups);
     let is_far = number_of(last) > number_of(Dimension::Resources);
@@ -138,21 +139,27 @@ fn list_to_cut(rule: &PolicyRule, last: Dimension) -> Option<Dimension> {
         Some(Dimension::Resources)
     } else if is_last && length_of(rule, Dimension::Verbs) > 1 {
         Some(Dimension::Verbs)
-    } else if length_of(rule, last) > SLICE {
+    } else if !is_last && length_of(rule, last) > SLICE {
         Some(last)
     } else {
         None
     }
 }
 
+/// Two rules, one with the atoms on resources and one with those on URLs, where there are both.
+pub fn by_sorts(alloc: Global, rule: &PolicyRule) -> Result<Option<Halves>, Memory>
+    ensures { IfOk result (AreHalves rule.now) }
+{
+    if length_of(rule, Dimension::Groups) > 0 && length_of(rule, Dimension::Urls) > 0 {
+        return sorts_apart(alloc, rule);
+    }
+    Ok(None)
+}
+
 /// Two rules whose atoms, one after another, are those of the rule, unless it is short. It is cut down to that list.
 pub fn cut(alloc: Global, rule: &PolicyRule, last: Dimension) -> Result<Option<Halves>, Memory>
     ensures { IfOk result (AreHalves rule.now) }
 {
-    let has_groups = length_of(rule, Dimension::Groups) > 0;
-    if has_groups && length_of(rule, Dimension::Urls) > 0 {
-        return sorts_apart(alloc, rule);
-    }
     match list_to_cut(rule, last) {
         Some(dimension) => halved(alloc, rule, dimension),
         None => Ok(None),
@@ -193,7 +200,8 @@ fn outer_of(rule: &PolicyRule, last: Dimension) -> usize {
     }
 }
 
-fn size_of(rule: &PolicyRule) -> usize {
+/// How many entries the rule has.
+pub fn size_of(rule: &PolicyRule) -> usize {
     length_of(rule, Dimension::Verbs)
         .saturating_add(length_of(rule, Dimension::Groups))
         .saturating_add(length_of(rule, Dimension::Resources))

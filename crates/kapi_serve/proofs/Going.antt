@@ -1,6 +1,6 @@
 -- Results of acts, joined.
-use Rattle.std.proofs.Common.{◌≡◌, ℕ, List, [], ◌∷◌, ◌++◌, refl, sym, ap, ◌∙◌, subst, append_assoc, Option, None, Some, Err}
-use Rattle.std.specs.Prelude.{⊤}
+use Rattle.std.proofs.Common.{◌≡◌, ◌<◌, ℕ, List, [], ◌∷◌, ◌++◌, length, get_or, set, refl, sym, ap, ◌∙◌, subst, append_assoc, Option, None, Some, Err, inl, inr}
+use Rattle.std.specs.List.{remove}
 use Rattle.std.proofs.lemmas.List.{append-nil, map-append}
 use Rattle.kapi_core.proofs.Gains.{events_gain}
 use Rattle.kapi_core.specs.Machine.{Machine, step, answers, after}
@@ -22,15 +22,24 @@ use Rattle.kapi_policy.specs.declared.change.PolicyChange.{PolicyChange}
 use Rattle.kapi_desk.specs.Boards.{Board}
 use Rattle.kapi_serve.specs.Account.{Made}
 use Rattle.kapi_serve.specs.Acts.{Act, Deals, Does, Follows, IsFree, Leaves, Seat, answers_of, ends, entries_in, entries_of, events_of, loses, made_in, made_of, opens, serves, shuns, turns}
-use Rattle.kapi_serve.specs.Goes.{Closes, Goes, Moves, Runs, Serves, Writes, step_in, steps_in}
+use Rattle.kapi_serve.specs.Goes.{Goes, Moment, Runs, Serves, step_in, steps_in}
+use Rattle.kapi_serve.specs.Ports.{Adds, Report, opened}
+use Rattle.kapi_serve.specs.Private.Clients.{others, seat_of, seats_of}
+use Rattle.kapi_serve.specs.Private.Moments.{Ends, FeedsOrEnds, GoesAfter, GoesFor, Writes, moment, unasked}
+use Rattle.kapi_serve.specs.Private.Stands.{Finishes}
+use Rattle.kapi_serve.specs.declared.client.Client.{Client}
+use Rattle.kapi_serve.specs.declared.clients.Clients.{Clients}
+use Rattle.kapi_serve.specs.declared.port.PortEvent.{PortEvent}
+use Rattle.kapi_serve.specs.declared.progress.Progress.{Progress}
 use Rattle.kapi_desk.specs.Steps.{step_of}
 use Rattle.kapi_serve.specs.Shows.{Shows, unpublished}
 use Rattle.kapi_serve.specs.declared.port.Entry.{Entry}
 use Rattle.kapi_serve.specs.declared.port.Entry.TheVariants as entry
 use Rattle.kapi_serve.proofs.Accounting.{accounts}
+use Rattle.kapi_serve.proofs.Placing.{at_remove, at_set, fed_same, others_ended, stands_at}
 use Rattle.kapi_serve.proofs.Policies.{policies_shown}
 use Rattle.kapi_serve.proofs.Seating.{deals_closed, deals_end, deals_fed, deals_served, deals_shown, deals_took, deals_unserved, deals_unshown, leaves_ended, leaves_forgotten, leaves_full, leaves_late, leaves_starved}
-use Rattle.kapi_serve.proofs.Showing.{prompt_none, shows_as, shows_nothing, shows_on}
+use Rattle.kapi_serve.proofs.Showing.{all_published, prompt_none, shows_as, shows_nothing, shows_on}
 
 -- ---- runs
 
@@ -94,27 +103,31 @@ unfolding Follows
 follows_more s t u [] ys f g = subst (λ x. Follows x ys u) f g
 follows_more s t u (a ∷ xs) ys f g = (f.0, f.1, follows_more f.0 t u xs ys f.2 g)
 
-told_more : (T U V : Type 0) (h i j : List Entry) (xs ys : List Act) → (U → T × (i ≡ h ++ entries_in xs)) → (V → U × (j ≡ i ++ entries_in ys)) → V → T × (j ≡ h ++ entries_in (xs ++ ys))
-told_more T U V h i j xs ys first second y =
+-- entries were added after others
+pub adds_on : (q r s : Report) (es fs : List Entry) → Adds q r es → Adds r s fs → Adds q s (es ++ fs)
+adds_on q r s es fs first second y =
     let b = second y in
     let a = first b.0 in
-    (a.0, b.1 ∙ ap (λ es. es ++ entries_in ys) a.1 ∙ append_assoc h (entries_in xs) (entries_in ys) ∙ ap (λ es. h ++ es) (sym (entries_more xs ys)))
+    (a.0, b.1 ∙ ap (λ es. es ++ fs) a.1 ∙ append_assoc q.history es fs)
+
+pub adds_nothing : (r : Report) → Adds r r []
+adds_nothing r y = (y, sym (append-nil r.history))
+
+adds_as : (q r : Report) (es fs : List Entry) → es ≡ fs → Adds q r es → Adds q r fs
+adds_as q r es fs same adds = subst (λ xs. Adds q r xs) same adds
 
 -- one act
 made_one : (a : Act) → made_in (a ∷ []) ≡ made_of a
 unfolding made_in
 made_one a = append-nil (made_of a)
 
+entries_one : (a : Act) → entries_in (a ∷ []) ≡ entries_of a
+unfolding entries_in
+entries_one a = append-nil (entries_of a)
+
 follows_one : (s t : List Seat) (a : Act) → Does s a t → Follows s (a ∷ []) t
 unfolding Follows
 follows_one s t a does = (t, does, refl)
-
-told_one : (T U : Type 0) (h k : List Entry) (a : Act) → (U → T × (k ≡ h ++ entries_of a)) → U → T × (k ≡ h ++ entries_in (a ∷ []))
-unfolding entries_in
-told_one T U h k a told y = ((told y).0, (told y).1 ∙ ap (λ es. h ++ es) (sym (append-nil (entries_of a))))
-
-runs_act : (a b : Running) (act : Act) → Runs a b (made_of act) → Runs a b (made_in (act ∷ []))
-runs_act a b act runs = subst (λ xs. Runs a b xs) (sym (made_one act)) runs
 
 -- ---- steps
 
@@ -141,161 +154,112 @@ steps_none : steps_by [] ≡ []
 unfolding steps_in made_in
 steps_none = refl
 
-steps_idle : (acts : List Act) → made_in acts ≡ [] → steps_by acts ≡ []
-unfolding steps_in
-steps_idle acts idle = ap (λ xs. steps_in (answers_of xs)) idle
+-- ---- without an act
 
--- ---- events that change no policy
-
-pub moves_nothing : (a : Running) (s : List Seat) (T : Type 0) (h : List Entry) → Moves a a s s T T h h
+goes_idle : (m n : Moment) → Keeps m.core n.core → Shows m.desk n.desk m.kept n.kept [] → n.seats ≡ m.seats → Adds m.report n.report [] → Goes m n
 unfolding made_in entries_in Follows
-moves_nothing a s T h = record { acts = []; runs = runs_nothing a; quiet = steps_none; follows = refl; told = λ y. (y, sym (append-nil h)) }
-
-pub moves_kept : (a b : Running) (s : List Seat) (T : Type 0) (h : List Entry) → Keeps a b → Moves a b s s T T h h
-unfolding made_in entries_in Follows
-moves_kept a b s T h keeps = record { acts = []; runs = runs_kept a b keeps; quiet = steps_none; follows = refl; told = λ y. (y, sym (append-nil h)) }
-
-pub moves_act : (a b : Running) (s t : List Seat) (T U : Type 0) (h k : List Entry) (act : Act) → Runs a b (made_of act) → steps_in (answers_of (made_of act)) ≡ [] → Does s act t
-    → (U → T × (k ≡ h ++ entries_of act)) → Moves a b s t T U h k
-moves_act a b s t T U h k act runs quiet does told = record {
-  acts = act ∷ [];
-  runs = runs_act a b act runs;
-  quiet = steps_act act ∙ quiet;
-  follows = follows_one s t act does;
-  told = told_one T U h k act told;
+goes_idle m n keeps shows same adds = record {
+  acts = [];
+  runs = runs_kept m.core n.core keeps;
+  shows = shows_as m.desk n.desk m.kept n.kept [] (steps_by []) (sym steps_none) shows;
+  follows = same;
+  told = adds;
 }
 
-pub moves_on : (a b c : Running) (s t u : List Seat) (T U V : Type 0) (h i j : List Entry) → Moves a b s t T U h i → Moves b c t u U V i j → Moves a c s u T V h j
-moves_on a b c s t u T U V h i j m n = record {
-  acts = m.acts ++ n.acts;
-  runs = subst (λ xs. Runs a c xs) (sym (made_more m.acts n.acts)) (runs_more a b c (made_in m.acts) (made_in n.acts) m.runs n.runs);
-  quiet = steps_joined m.acts n.acts ∙ (λ j. m.quiet j ++ n.quiet j);
-  follows = follows_more s t u m.acts n.acts m.follows n.follows;
-  told = told_more T U V h i j m.acts n.acts m.told n.told;
-}
-
--- a move holds for any history that stays the same
-pub moves_any : (a b : Running) (s t : List Seat) (T : Type 0) (h : List Entry) → Moves a b s t ⊤ ⊤ h h → Moves a b s t T T h h
-moves_any a b s t T h m = record { acts = m.acts; runs = m.runs; quiet = m.quiet; follows = m.follows; told = λ y. (y, (m.told tt).1) }
+pub goes_nothing : (m : Moment) → Goes m m
+goes_nothing m = goes_idle m m (λ n h. h) (shows_nothing m.desk m.kept) refl (adds_nothing m.report)
 
 -- nothing was done, and nothing recorded
-pub moves_still : (a : Running) (s t : List Seat) (T U : Type 0) (h k : List Entry) → t ≡ s → (U → T × (k ≡ h ++ [])) → Moves a a s t T U h k
-unfolding made_in entries_in Follows
-moves_still a s t T U h k same told = record { acts = []; runs = runs_nothing a; quiet = steps_none; follows = same; told = told }
+pub goes_still : (m : Moment) (t : List Seat) (r : Report) → t ≡ m.seats → Adds m.report r [] → Goes m (record m { seats = t; report = r })
+goes_still m t r same adds = goes_idle m (record m { seats = t; report = r }) (λ n h. h) (shows_nothing m.desk m.kept) same adds
 
--- a history that was recorded before is recorded later
-pub moves_before : (a b : Running) (s t : List Seat) (T U V : Type 0) (h k : List Entry) → (U → T) → Moves a b s t U V h k → Moves a b s t T V h k
-moves_before a b s t T U V h k first m = record { acts = m.acts; runs = m.runs; quiet = m.quiet; follows = m.follows; told = λ y. (first (m.told y).0, (m.told y).1) }
+-- the machine is another that refines the same
+pub goes_kept : (m : Moment) (b : Running) (t : List Seat) → Keeps m.core b → t ≡ m.seats → Goes m (record m { core = b; seats = t })
+goes_kept m b t keeps same = goes_idle m (record m { core = b; seats = t }) keeps (shows_nothing m.desk m.kept) same (adds_nothing m.report)
 
-pub goes_before : (a b : Running) (d e : Board) (p q : Option (List PolicyChange)) (s t : List Seat) (T U V : Type 0) (h k : List Entry) → (U → T) → Goes a b d e p q s t U V h k
-    → Goes a b d e p q s t T V h k
-goes_before a b d e p q s t T U V h k first m = record { acts = m.acts; runs = m.runs; shows = m.shows; follows = m.follows; told = λ y. (first (m.told y).0, (m.told y).1) }
-
-pub moves_to : (a b : Running) (s t u : List Seat) (T U : Type 0) (h k : List Entry) → t ≡ u → Moves a b s t T U h k → Moves a b s u T U h k
-moves_to a b s t u T U h k same m = subst (λ x. Moves a b s x T U h k) same m
-
--- ---- both
-
-pub goes_nothing : (a : Running) (d : Board) (p : Option (List PolicyChange)) (s : List Seat) (T : Type 0) (h : List Entry) → Goes a a d d p p s s T T h h
-unfolding made_in entries_in Follows
-goes_nothing a d p s T h = record { acts = []; runs = runs_nothing a; shows = shows_as d d p p _ _ (sym steps_none) (shows_nothing d p); follows = refl; told = λ y. (y, sym (append-nil h)) }
-
--- events that change no policy
-pub goes_moving : (a b : Running) (d : Board) (p : Option (List PolicyChange)) (s t : List Seat) (T U : Type 0) (h k : List Entry) → Moves a b s t T U h k → Goes a b d d p p s t T U h k
-goes_moving a b d p s t T U h k m = record { acts = m.acts; runs = m.runs; shows = shows_as d d p p _ _ (sym m.quiet) (shows_nothing d p); follows = m.follows; told = m.told }
-
--- nothing was done, and nothing recorded
-pub goes_still : (a : Running) (d : Board) (p : Option (List PolicyChange)) (s t : List Seat) (T U : Type 0) (h k : List Entry) → t ≡ s → (U → T × (k ≡ h ++ [])) → Goes a a d d p p s t T U h k
-goes_still a d p s t T U h k same told = goes_moving a a d p s t T U h k (moves_still a s t T U h k same told)
+-- an event ran out of memory
+pub goes_out : (m : Moment) (b : Running) (t : List Seat) (e : Event) → RunsOut m.core b e → t ≡ m.seats → Goes m (record m { core = b; seats = t })
+goes_out m b t e out same = goes_kept m b t (λ n h. (out n h).0) same
 
 -- steps are published without an event
-pub goes_showing : (a : Running) (d e : Board) (p q : Option (List PolicyChange)) (s : List Seat) (T : Type 0) (h : List Entry) → Shows d e p q [] → Goes a a d e p q s s T T h h
-unfolding made_in entries_in Follows
-goes_showing a d e p q s T h shows = record { acts = []; runs = runs_nothing a; shows = shows_as d e p q _ _ (sym steps_none) shows; follows = refl; told = λ y. (y, sym (append-nil h)) }
+pub goes_showing : (m : Moment) (e : Board) (q : Option (List PolicyChange)) → Shows m.desk e m.kept q [] → Goes m (record m { desk = e; kept = q })
+goes_showing m e q shows = goes_idle m (record m { desk = e; kept = q }) (λ n h. h) shows refl (adds_nothing m.report)
 
--- bytes are written without an event
-pub goes_writing : (a : Running) (d : Board) (p : Option (List PolicyChange)) (front back : List Seat) (x y : Seat) (T U : Type 0) (h k : List Entry) → Writes x y T U h k
-    → Goes a a d d p p (front ++ x ∷ back) (front ++ y ∷ back) T U h k
-goes_writing a d p front back x y T U h k w = record {
-  acts = w.acts;
-  runs = subst (λ xs. Runs a a xs) (sym w.idle) (runs_nothing a);
-  shows = shows_as d d p p _ _ (sym (steps_idle w.acts w.idle)) (shows_nothing d p);
-  follows = w.follows front back;
-  told = w.told;
+-- ---- one moment after another
+
+pub goes_on : (l m n : Moment) → Goes l m → Goes m n → Goes l n
+goes_on l m n g h = record {
+  acts = g.acts ++ h.acts;
+  runs = subst (λ xs. Runs l.core n.core xs) (sym (made_more g.acts h.acts)) (runs_more l.core m.core n.core (made_in g.acts) (made_in h.acts) g.runs h.runs);
+  shows = shows_as l.desk n.desk l.kept n.kept _ _ (sym (steps_joined g.acts h.acts)) (shows_on l.desk m.desk n.desk l.kept m.kept n.kept (steps_by g.acts) (steps_by h.acts) g.shows h.shows);
+  follows = follows_more l.seats m.seats n.seats g.acts h.acts g.follows h.follows;
+  told = adds_as l.report n.report _ _ (sym (entries_more g.acts h.acts)) (adds_on l.report m.report n.report (entries_in g.acts) (entries_in h.acts) g.told h.told);
 }
 
--- one act, whose step is put behind the others
-goes_act : (a b : Running) (d e : Board) (p q : Option (List PolicyChange)) (s t : List Seat) (T U : Type 0) (h k : List Entry) (act : Act) → Runs a b (made_of act)
-    → Shows d e p q (steps_in (answers_of (made_of act))) → Does s act t → (U → T × (k ≡ h ++ entries_of act)) → Goes a b d e p q s t T U h k
-goes_act a b d e p q s t T U h k act runs shows does told = record {
+-- what was done without the ports holds whatever they report
+pub goes_unasked : (a b : Running) (d e : Board) (p q : Option (List PolicyChange)) (s t : List Seat) (r : Report) → Goes (moment a d p s unasked) (moment b e q t unasked) → Goes (moment a d p s r) (moment b e q t r)
+goes_unasked a b d e p q s t r g = record {
+  acts = g.acts;
+  runs = g.runs;
+  shows = g.shows;
+  follows = g.follows;
+  told = λ y. (y, sym (append-nil r.history) ∙ ap (λ es. r.history ++ es) (g.told tt).1);
+}
+
+-- the same clients by other names
+goes_as : (m n : Moment) (s t : List Seat) → m.seats ≡ s → n.seats ≡ t → Goes (record m { seats = s }) (record n { seats = t }) → Goes m n
+goes_as m n s t same too g = record {
+  acts = g.acts;
+  runs = g.runs;
+  shows = g.shows;
+  follows = subst (λ x. Follows x g.acts n.seats) (sym same) (subst (λ y. Follows s g.acts y) (sym too) g.follows);
+  told = g.told;
+}
+
+-- from before an event of the ports
+pub goes_after : (a b : Running) (d e : Board) (p q : Option (List PolicyChange)) (s t : List Seat) (r z k : Report) (x : PortEvent) → Adds r z (opened (Some x)) → GoesAfter x (moment a d p s z) (moment b e q t k)
+    → Goes (moment a d p s r) (moment b e q t k)
+goes_after a b d e p q s t r z k x adds goes =
+    let g = goes r.history (λ y. (adds y).1) in
+    record {
+      acts = g.acts;
+      runs = g.runs;
+      shows = g.shows;
+      follows = g.follows;
+      told = λ y. let more = g.told y in ((adds more.0).0, more.1);
+    }
+
+-- ---- one act
+
+-- an act, whose step is put behind the others
+goes_act : (m n : Moment) (act : Act) → Runs m.core n.core (made_of act) → Shows m.desk n.desk m.kept n.kept (steps_in (answers_of (made_of act))) → Does m.seats act n.seats → Adds m.report n.report (entries_of act) → Goes m n
+goes_act m n act runs shows does adds = record {
   acts = act ∷ [];
-  runs = runs_act a b act runs;
-  shows = shows_as d e p q _ _ (sym (steps_act act)) shows;
-  follows = follows_one s t act does;
-  told = told_one T U h k act told;
+  runs = subst (λ xs. Runs m.core n.core xs) (sym (made_one act)) runs;
+  shows = shows_as m.desk n.desk m.kept n.kept _ _ (sym (steps_act act)) shows;
+  follows = follows_one m.seats n.seats act does;
+  told = adds_as m.report n.report _ _ (sym (entries_one act)) adds;
 }
 
-pub goes_on : (a b c : Running) (d e f : Board) (p q r : Option (List PolicyChange)) (s t u : List Seat) (T U V : Type 0) (h i j : List Entry)
-    → Goes a b d e p q s t T U h i → Goes b c e f q r t u U V i j → Goes a c d f p r s u T V h j
-goes_on a b c d e f p q r s t u T U V h i j m n = record {
-  acts = m.acts ++ n.acts;
-  runs = subst (λ xs. Runs a c xs) (sym (made_more m.acts n.acts)) (runs_more a b c (made_in m.acts) (made_in n.acts) m.runs n.runs);
-  shows = shows_as d f p r _ _ (sym (steps_joined m.acts n.acts)) (shows_on d e f p q r (steps_by m.acts) (steps_by n.acts) m.shows n.shows);
-  follows = follows_more s t u m.acts n.acts m.follows n.follows;
-  told = told_more T U V h i j m.acts n.acts m.told n.told;
-}
-
--- a result holds for any history that stays the same
-pub goes_any : (a b : Running) (d e : Board) (p q : Option (List PolicyChange)) (s t : List Seat) (T : Type 0) (h : List Entry) → Goes a b d e p q s t ⊤ ⊤ h h → Goes a b d e p q s t T T h h
-goes_any a b d e p q s t T h m = record { acts = m.acts; runs = m.runs; shows = m.shows; follows = m.follows; told = λ y. (y, (m.told tt).1) }
-
-pub goes_to : (a b : Running) (d e : Board) (p q : Option (List PolicyChange)) (s t u : List Seat) (T U : Type 0) (h k : List Entry) → t ≡ u → Goes a b d e p q s t T U h k → Goes a b d e p q s u T U h k
-goes_to a b d e p q s t u T U h k same m = subst (λ x. Goes a b d e p q s x T U h k) same m
-
--- a move holds by other names of the same clients
-pub moves_as : (a b : Running) (s t u v : List Seat) (T U : Type 0) (h k : List Entry) → u ≡ s → v ≡ t → Moves a b s t T U h k → Moves a b u v T U h k
-moves_as a b s t u v T U h k same too m = subst (λ x. Moves a b x v T U h k) (sym same) (subst (λ x. Moves a b s x T U h k) (sym too) m)
-
-pub goes_as : (a b : Running) (d e : Board) (p q : Option (List PolicyChange)) (s t u v : List Seat) (T U : Type 0) (h k : List Entry) → u ≡ s → v ≡ t → Goes a b d e p q s t T U h k
-    → Goes a b d e p q u v T U h k
-goes_as a b d e p q s t u v T U h k same too m = subst (λ x. Goes a b d e p q x v T U h k) (sym same) (subst (λ x. Goes a b d e p q s x T U h k) (sym too) m)
-
-pub moves_from : (a b : Running) (s t u : List Seat) (T U : Type 0) (h k : List Entry) → s ≡ t → Moves a b s u T U h k → Moves a b t u T U h k
-moves_from a b s t u T U h k same m = subst (λ x. Moves a b x u T U h k) same m
-
-pub goes_from : (a b : Running) (d e : Board) (p q : Option (List PolicyChange)) (s t u : List Seat) (T U : Type 0) (h k : List Entry) → s ≡ t → Goes a b d e p q s u T U h k → Goes a b d e p q t u T U h k
-goes_from a b d e p q s t u T U h k same m = subst (λ x. Goes a b d e p q x u T U h k) same m
+-- an act whose events change no policy
+goes_quiet : (m : Moment) (b : Running) (t : List Seat) (r : Report) (act : Act) → Runs m.core b (made_of act) → steps_in (answers_of (made_of act)) ≡ [] → Does m.seats act t → Adds m.report r (entries_of act)
+    → Goes m (record m { core = b; seats = t; report = r })
+goes_quiet m b t r act runs quiet does adds = goes_act m (record m { core = b; seats = t; report = r }) act runs (shows_as m.desk m.desk m.kept m.kept _ _ (sym quiet) (shows_nothing m.desk m.kept)) does adds
 
 -- ---- turns
 
 -- a turn was made
-pub goes_turned : (a b : Running) (d e : Board) (p q : Option (List PolicyChange)) (s : List Seat) (h : List Entry) (o : Option Turned) (t : Turned) → Makes a b event.Turn (turned_if o) → o ≡ Some t
-    → Shows d e p q (step_of t.policy_changes) → Goes a b d e p q s s ⊤ ⊤ h h
-goes_turned a b d e p q s h o t makes some shows = goes_act a b d e p q s s ⊤ ⊤ h h (turns (turned_if o)) (runs_one a b event.Turn (turned_if o) makes)
-    (shows_as d e p q _ _ (ap (λ x. step_in (turned_if x)) (sym some) ∙ sym (steps_one (turned_if o))) shows) refl (λ y. (y, sym (append-nil h)))
+pub goes_turned : (m : Moment) (b : Running) (e : Board) (q : Option (List PolicyChange)) (o : Option Turned) (t : Turned) → Makes m.core b event.Turn (turned_if o) → o ≡ Some t → Shows m.desk e m.kept q (step_of t.policy_changes)
+    → Goes m (record m { core = b; desk = e; kept = q })
+goes_turned m b e q o t makes some shows = goes_act m (record m { core = b; desk = e; kept = q }) (turns (turned_if o)) (runs_one m.core b event.Turn (turned_if o) makes)
+    (shows_as m.desk e m.kept q _ _ (ap (λ x. step_in (turned_if x)) (sym some) ∙ sym (steps_one (turned_if o))) shows) refl (adds_nothing m.report)
 
 -- no turn was made
-pub goes_unturned : (a b : Running) (d : Board) (p : Option (List PolicyChange)) (s : List Seat) (h : List Entry) (o : Option Turned) → Makes a b event.Turn (turned_if o) → o ≡ None
-    → Goes a b d d p p s s ⊤ ⊤ h h
-goes_unturned a b d p s h o makes none = goes_moving a b d p s s ⊤ ⊤ h h (moves_act a b s s ⊤ ⊤ h h (turns (turned_if o)) (runs_one a b event.Turn (turned_if o) makes)
-    (steps_one (turned_if o) ∙ ap (λ x. step_in (turned_if x)) none) refl (λ y. (y, sym (append-nil h))))
-
--- a turn ran out of memory
-pub goes_out : (a b : Running) (d : Board) (p : Option (List PolicyChange)) (s : List Seat) (h : List Entry) (ev : Event) → RunsOut a b ev → Goes a b d d p p s s ⊤ ⊤ h h
-goes_out a b d p s h ev out = goes_moving a b d p s s ⊤ ⊤ h h (moves_kept a b s ⊤ h (λ m k. (out m k).0))
+pub goes_unturned : (m : Moment) (b : Running) (o : Option Turned) → Makes m.core b event.Turn (turned_if o) → o ≡ None → Goes m (record m { core = b })
+goes_unturned m b o makes none = goes_quiet m b m.seats m.report (turns (turned_if o)) (runs_one m.core b event.Turn (turned_if o) makes)
+    (steps_one (turned_if o) ∙ ap (λ x. step_in (turned_if x)) none) refl (adds_nothing m.report)
 
 -- ---- one client
-
--- something is done for one client among others
-does_for : (front back : List Seat) (x y : Seat) (entries : List Entry) (made : List Made) → Deals x y entries made → Does (front ++ x ∷ back) (serves x y entries made) (front ++ y ∷ back)
-does_for front back x y entries made deals = (front, back, refl, refl, deals)
-
--- a step of a client, whose changes are published
-goes_for : (a b : Running) (d e : Board) (p q : Option (List PolicyChange)) (front back : List Seat) (x y : Seat) (h : List Entry) (ev : Event) (out : Output) → Makes a b ev (answer.Sent out)
-    → Shows d e p q (step_of out.policy_changes) → Deals x y [] (record { event = ev; answer = answer.Sent out } ∷ []) → Goes a b d e p q (front ++ x ∷ back) (front ++ y ∷ back) ⊤ ⊤ h h
-goes_for a b d e p q front back x y h ev out makes shows deals =
-    goes_act a b d e p q (front ++ x ∷ back) (front ++ y ∷ back) ⊤ ⊤ h h (serves x y [] (record { event = ev; answer = answer.Sent out } ∷ [])) (runs_one a b ev (answer.Sent out) makes)
-    (shows_as d e p q _ _ (sym (steps_one (answer.Sent out))) shows) (does_for front back x y [] _ deals) (λ z. (z, sym (append-nil h)))
 
 makes_sent : (a b : Running) (ev : Event) (o : Option Output) (out : Output) → Makes a b ev (sent_if o) → o ≡ Some out → Makes a b ev (answer.Sent out)
 makes_sent a b ev o out makes some = subst (λ x. Makes a b ev (sent_if x)) some makes
@@ -303,154 +267,181 @@ makes_sent a b ev o out makes some = subst (λ x. Makes a b ev (sent_if x)) some
 makes_nothing : (a b : Running) (ev : Event) (o : Option Output) → Makes a b ev (sent_if o) → o ≡ None → Makes a b ev answer.Nothing
 makes_nothing a b ev o makes none = subst (λ x. Makes a b ev (sent_if x)) none makes
 
+-- a step of a client, whose changes are published
+goes_sent : (m : Moment) (b : Running) (e : Board) (q : Option (List PolicyChange)) (t front back : List Seat) (x y : Seat) (ev : Event) (out : Output) → m.seats ≡ front ++ x ∷ back → t ≡ front ++ y ∷ back
+    → Makes m.core b ev (answer.Sent out) → Shows m.desk e m.kept q (step_of out.policy_changes) → Deals x y [] (record { event = ev; answer = answer.Sent out } ∷ []) → Goes m (record m { core = b; desk = e; kept = q; seats = t })
+goes_sent m b e q t front back x y ev out is to makes shows deals =
+    goes_act m (record m { core = b; desk = e; kept = q; seats = t }) (serves x y [] (record { event = ev; answer = answer.Sent out } ∷ [])) (runs_one m.core b ev (answer.Sent out) makes)
+    (shows_as m.desk e m.kept q _ _ (sym (steps_one (answer.Sent out))) shows) (front, back, is, to, deals) (adds_nothing m.report)
+
 -- a client is answered
-pub goes_served : (a b : Running) (d e : Board) (p q : Option (List PolicyChange)) (front back : List Seat) (x y : Seat) (h : List Entry) (o : Option Output) (out : Output)
-    → Makes a b (event.Serve x.conn) (sent_if o) → o ≡ Some out → Shows d e p q (step_of out.policy_changes) → y.slot ≡ x.slot → y.conn ≡ x.conn → y.owed ≡ x.owed ++ out.bytes
-    → Goes a b d e p q (front ++ x ∷ back) (front ++ y ∷ back) ⊤ ⊤ h h
-goes_served a b d e p q front back x y h o out makes some shows slot conn owed =
-    goes_for a b d e p q front back x y h (event.Serve x.conn) out (makes_sent a b (event.Serve x.conn) o out makes some) shows (deals_served x y out slot conn owed)
+pub goes_served : (m : Moment) (b : Running) (e : Board) (q : Option (List PolicyChange)) (t front back : List Seat) (x y : Seat) (o : Option Output) (out : Output) → m.seats ≡ front ++ x ∷ back → t ≡ front ++ y ∷ back
+    → Makes m.core b (event.Serve x.conn) (sent_if o) → o ≡ Some out → Shows m.desk e m.kept q (step_of out.policy_changes) → y.slot ≡ x.slot → y.conn ≡ x.conn → y.owed ≡ x.owed ++ out.bytes
+    → Goes m (record m { core = b; desk = e; kept = q; seats = t })
+goes_served m b e q t front back x y o out is to makes some shows slot conn owed =
+    goes_sent m b e q t front back x y (event.Serve x.conn) out is to (makes_sent m.core b (event.Serve x.conn) o out makes some) shows (deals_served x y out slot conn owed)
 
 -- a client is shown an event
-pub goes_shown : (a b : Running) (d e : Board) (p q : Option (List PolicyChange)) (front back : List Seat) (x y : Seat) (h : List Entry) (o : Option Output) (out : Output)
-    → Makes a b (event.Pump x.conn) (sent_if o) → o ≡ Some out → Shows d e p q (step_of out.policy_changes) → y.slot ≡ x.slot → y.conn ≡ x.conn → y.owed ≡ x.owed ++ out.bytes
-    → Goes a b d e p q (front ++ x ∷ back) (front ++ y ∷ back) ⊤ ⊤ h h
-goes_shown a b d e p q front back x y h o out makes some shows slot conn owed =
-    goes_for a b d e p q front back x y h (event.Pump x.conn) out (makes_sent a b (event.Pump x.conn) o out makes some) shows (deals_shown x y out slot conn owed)
+pub goes_shown : (m : Moment) (b : Running) (e : Board) (q : Option (List PolicyChange)) (t front back : List Seat) (x y : Seat) (o : Option Output) (out : Output) → m.seats ≡ front ++ x ∷ back → t ≡ front ++ y ∷ back
+    → Makes m.core b (event.Pump x.conn) (sent_if o) → o ≡ Some out → Shows m.desk e m.kept q (step_of out.policy_changes) → y.slot ≡ x.slot → y.conn ≡ x.conn → y.owed ≡ x.owed ++ out.bytes
+    → Goes m (record m { core = b; desk = e; kept = q; seats = t })
+goes_shown m b e q t front back x y o out is to makes some shows slot conn owed =
+    goes_sent m b e q t front back x y (event.Pump x.conn) out is to (makes_sent m.core b (event.Pump x.conn) o out makes some) shows (deals_shown x y out slot conn owed)
 
 -- one quiet event of a client
-moves_for : (a b : Running) (front back : List Seat) (x y : Seat) (h : List Entry) (e : Event) (z : Answer) → Makes a b e z → step_in z ≡ [] → Deals x y [] (record { event = e; answer = z } ∷ [])
-    → Moves a b (front ++ x ∷ back) (front ++ y ∷ back) ⊤ ⊤ h h
-moves_for a b front back x y h e z makes none deals =
-    moves_act a b (front ++ x ∷ back) (front ++ y ∷ back) ⊤ ⊤ h h (serves x y [] (record { event = e; answer = z } ∷ [])) (runs_one a b e z makes) (steps_one z ∙ none)
-    (does_for front back x y [] _ deals) (λ u. (u, sym (append-nil h)))
+goes_for : (m : Moment) (b : Running) (t front back : List Seat) (x y : Seat) (e : Event) (z : Answer) → m.seats ≡ front ++ x ∷ back → t ≡ front ++ y ∷ back → Makes m.core b e z → step_in z ≡ []
+    → Deals x y [] (record { event = e; answer = z } ∷ []) → Goes m (record m { core = b; seats = t })
+goes_for m b t front back x y e z is to makes none deals =
+    goes_quiet m b t m.report (serves x y [] (record { event = e; answer = z } ∷ [])) (runs_one m.core b e z makes) (steps_one z ∙ none) (front, back, is, to, deals) (adds_nothing m.report)
 
 -- there is no request of the client
-pub moves_unserved : (a b : Running) (front back : List Seat) (x : Seat) (h : List Entry) (o : Option Output) → Makes a b (event.Serve x.conn) (sent_if o) → o ≡ None
-    → Moves a b (front ++ x ∷ back) (front ++ x ∷ back) ⊤ ⊤ h h
-moves_unserved a b front back x h o makes none = moves_for a b front back x x h (event.Serve x.conn) answer.Nothing (makes_nothing a b (event.Serve x.conn) o makes none) refl (deals_unserved x)
+pub goes_unserved : (m : Moment) (b : Running) (t front back : List Seat) (x : Seat) (o : Option Output) → m.seats ≡ front ++ x ∷ back → t ≡ front ++ x ∷ back → Makes m.core b (event.Serve x.conn) (sent_if o) → o ≡ None
+    → Goes m (record m { core = b; seats = t })
+goes_unserved m b t front back x o is to makes none = goes_for m b t front back x x (event.Serve x.conn) answer.Nothing is to (makes_nothing m.core b (event.Serve x.conn) o makes none) refl (deals_unserved x)
 
 -- there is no event for the client
-pub moves_unshown : (a b : Running) (front back : List Seat) (x : Seat) (h : List Entry) (o : Option Output) → Makes a b (event.Pump x.conn) (sent_if o) → o ≡ None
-    → Moves a b (front ++ x ∷ back) (front ++ x ∷ back) ⊤ ⊤ h h
-moves_unshown a b front back x h o makes none = moves_for a b front back x x h (event.Pump x.conn) answer.Nothing (makes_nothing a b (event.Pump x.conn) o makes none) refl (deals_unshown x)
+pub goes_unshown : (m : Moment) (b : Running) (t front back : List Seat) (x : Seat) (o : Option Output) → m.seats ≡ front ++ x ∷ back → t ≡ front ++ x ∷ back → Makes m.core b (event.Pump x.conn) (sent_if o) → o ≡ None
+    → Goes m (record m { core = b; seats = t })
+goes_unshown m b t front back x o is to makes none = goes_for m b t front back x x (event.Pump x.conn) answer.Nothing is to (makes_nothing m.core b (event.Pump x.conn) o makes none) refl (deals_unshown x)
 
--- a client's connection is closed, and what is pending is sent
-pub moves_closed : (a b : Running) (front back : List Seat) (x y : Seat) (h : List Entry) → Makes a b (event.Close x.conn) answer.Done → y ≡ x → Moves a b (front ++ x ∷ back) (front ++ y ∷ back) ⊤ ⊤ h h
-moves_closed a b front back x y h makes same = moves_for a b front back x y h (event.Close x.conn) answer.Done makes refl (deals_closed x y same)
-
--- ---- writing
-
-pub writes_nothing : (x y : Seat) (T : Type 0) (h : List Entry) → y ≡ x → Writes x y T T h h
-unfolding made_in entries_in Follows
-writes_nothing x y T h same = record { acts = []; idle = refl; follows = λ front back. ap (λ z. front ++ z ∷ back) same; told = λ z. (z, sym (append-nil h)) }
-
--- none of a client's bytes was accepted
-pub writes_still : (x y : Seat) (T U : Type 0) (h k : List Entry) → y ≡ x → (U → T × (k ≡ h ++ [])) → Writes x y T U h k
-unfolding made_in entries_in Follows
-writes_still x y T U h k same told = record { acts = []; idle = refl; follows = λ front back. ap (λ z. front ++ z ∷ back) same; told = told }
+-- a client whose bytes have ended is closed, and another stays
+pub goes_finished : (m : Moment) (b : Running) (t front back : List Seat) (c d : Client) (p : Progress) → m.seats ≡ front ++ seat_of c ∷ back → t ≡ front ++ seat_of d ∷ back → Finishes m.core b c d p → Goes m (record m { core = b; seats = t })
+goes_finished m b t front back c d p is to (inl q) =
+    goes_for m b t front back (seat_of c) (seat_of d) (event.Close c.id) answer.Done is to q.2 refl (deals_closed (seat_of c) (seat_of d) (ap seat_of q.3))
+goes_finished m b t front back c d p is to (inr q) = goes_kept m b t (λ n h. subst (λ z. Refines z n) (sym q.2) h) (to ∙ ap (λ z. front ++ seat_of z ∷ back) q.3 ∙ sym is)
 
 -- a client accepted bytes
-pub writes_took : (x y : Seat) (T U : Type 0) (h k : List Entry) (bytes : List ℕ) → y.slot ≡ x.slot → y.conn ≡ x.conn → x.owed ≡ bytes ++ y.owed → (U → T × (k ≡ h ++ entry.Took x.slot bytes ∷ []))
-    → Writes x y T U h k
-writes_took x y T U h k bytes slot conn owed told =
-    let act = serves x y (entry.Took x.slot bytes ∷ []) [] in
-    record {
-      acts = act ∷ [];
-      idle = made_one act;
-      follows = λ front back. follows_one _ _ act (does_for front back x y _ [] (deals_took x y bytes slot conn owed));
-      told = told_one T U h k act told;
-    }
-
-pub writes_on : (x y z : Seat) (T U V : Type 0) (h i j : List Entry) → Writes x y T U h i → Writes y z U V i j → Writes x z T V h j
-writes_on x y z T U V h i j m n = record {
-  acts = m.acts ++ n.acts;
-  idle = made_more m.acts n.acts ∙ (λ k. m.idle k ++ n.idle k);
-  follows = λ front back. follows_more _ _ _ m.acts n.acts (m.follows front back) (n.follows front back);
-  told = told_more T U V h i j m.acts n.acts m.told n.told;
-}
+pub goes_took : (m : Moment) (t : List Seat) (r : Report) (front back : List Seat) (x y : Seat) (bytes : List ℕ) → m.seats ≡ front ++ x ∷ back → t ≡ front ++ y ∷ back → y.slot ≡ x.slot → y.conn ≡ x.conn → x.owed ≡ bytes ++ y.owed
+    → Adds m.report r (entry.Took x.slot bytes ∷ []) → Goes m (record m { seats = t; report = r })
+unfolding steps_in
+goes_took m t r front back x y bytes is to slot conn owed adds =
+    goes_quiet m m.core t r (serves x y (entry.Took x.slot bytes ∷ []) []) (runs_nothing m.core) refl (front, back, is, to, deals_took x y bytes slot conn owed) adds
 
 -- ---- clients come, are read, and leave
 
 -- a client was opened a connection, or it was rejected or dropped and its slot was ended
-pub moves_opened : (a b : Running) (s : List Seat) (T U : Type 0) (h k : List Entry) (slot : ℕ) (who : Identity) (id : ConnId) → IsFree slot s → Makes a b (event.Open who) (answer.Opened id)
-    → (U → T × (k ≡ h ++ entry.Opened slot who ∷ [])) → Moves a b s (s ++ record { slot = slot; conn = id; owed = [] } ∷ []) T U h k
-moves_opened a b s T U h k slot who id free makes told = moves_act a b s _ T U h k (opens slot who id) (runs_one a b (event.Open who) (answer.Opened id) makes) (steps_one (answer.Opened id)) (free, refl) told
+pub goes_opened : (m : Moment) (b : Running) (t : List Seat) (r : Report) (slot : ℕ) (who : Identity) (id : ConnId) → IsFree slot m.seats → t ≡ m.seats ++ record { slot = slot; conn = id; owed = [] } ∷ []
+    → Makes m.core b (event.Open who) (answer.Opened id) → Adds m.report r (entry.Opened slot who ∷ []) → Goes m (record m { core = b; seats = t; report = r })
+goes_opened m b t r slot who id free to makes adds = goes_quiet m b t r (opens slot who id) (runs_one m.core b (event.Open who) (answer.Opened id) makes) (steps_one (answer.Opened id)) (free, to) adds
 
--- behind a client's entry its slot was ended
-ended_too : (T U : Type 0) (h i k : List Entry) (slot : ℕ) (who : Identity) → (T → i ≡ h ++ entry.Opened slot who ∷ []) → (U → T × (k ≡ i ++ entry.Ended slot ∷ [])) → U
-    → T × (k ≡ h ++ entry.Opened slot who ∷ entry.Ended slot ∷ [])
-ended_too T U h i k slot who first second y =
-    let b = second y in
-    (b.0, b.1 ∙ ap (λ es. es ++ entry.Ended slot ∷ []) (first b.0) ∙ append_assoc h (entry.Opened slot who ∷ []) (entry.Ended slot ∷ []))
-
-pub moves_lost : (a b : Running) (s : List Seat) (T U : Type 0) (h i k : List Entry) (slot : ℕ) (who : Identity) → IsFree slot s → Keeps a b
-    → (T → i ≡ h ++ entry.Opened slot who ∷ []) → (U → T × (k ≡ i ++ entry.Ended slot ∷ [])) → Moves a b s s T U h k
+pub goes_lost : (m : Moment) (b : Running) (t : List Seat) (q r : Report) (slot : ℕ) (who : Identity) → IsFree slot m.seats → t ≡ m.seats → Keeps m.core b → Adds m.report q (entry.Opened slot who ∷ [])
+    → Adds q r (entry.Ended slot ∷ []) → Goes m (record m { core = b; seats = t; report = r })
 unfolding steps_in
-moves_lost a b s T U h i k slot who free keeps first second = moves_act a b s s T U h k (loses slot who) (runs_kept a b keeps) refl (free, refl) (ended_too T U h i k slot who first second)
+goes_lost m b t q r slot who free to keeps first second = goes_quiet m b t r (loses slot who) (runs_kept m.core b keeps) refl (free, to) (adds_on m.report q r (entry.Opened slot who ∷ []) (entry.Ended slot ∷ []) first second)
 
-pub moves_unopened : (a b : Running) (s : List Seat) (T U : Type 0) (h i k : List Entry) (slot : ℕ) (who : Identity) (o : OpenError) → IsFree slot s → Opens a b who (Err o)
-    → (T → i ≡ h ++ entry.Opened slot who ∷ []) → (U → T × (k ≡ i ++ entry.Ended slot ∷ [])) → Moves a b s s T U h k
-moves_unopened a b s T U h i k slot who refused.TooMany free made first second =
-    moves_act a b s s T U h k (shuns slot who) (runs_one a b (event.Open who) answer.TooMany made) (steps_one answer.TooMany) (free, refl) (ended_too T U h i k slot who first second)
-moves_unopened a b s T U h i k slot who refused.Memory free out first second = moves_lost a b s T U h i k slot who free (λ m y. (out m y).0) first second
+pub goes_unopened : (m : Moment) (b : Running) (t : List Seat) (q r : Report) (slot : ℕ) (who : Identity) (o : OpenError) → IsFree slot m.seats → t ≡ m.seats → Opens m.core b who (Err o)
+    → Adds m.report q (entry.Opened slot who ∷ []) → Adds q r (entry.Ended slot ∷ []) → Goes m (record m { core = b; seats = t; report = r })
+goes_unopened m b t q r slot who refused.TooMany free to made first second =
+    goes_quiet m b t r (shuns slot who) (runs_one m.core b (event.Open who) answer.TooMany made) (steps_one answer.TooMany) (free, to) (adds_on m.report q r (entry.Opened slot who ∷ []) (entry.Ended slot ∷ []) first second)
+goes_unopened m b t q r slot who refused.Memory free to out first second = goes_lost m b t q r slot who free to (λ n y. (out n y).0) first second
 
 -- a piece of a client was fed
-pub moves_fed : (a b : Running) (front back : List Seat) (x : Seat) (T U : Type 0) (h k : List Entry) (piece : List ℕ) → Makes a b (event.Feed x.conn piece) answer.Done
-    → (U → T × (k ≡ h ++ entry.Gave x.slot piece ∷ [])) → Moves a b (front ++ x ∷ back) (front ++ x ∷ back) T U h k
-moves_fed a b front back x T U h k piece makes told =
+goes_fed : (m : Moment) (b : Running) (t : List Seat) (r : Report) (front back : List Seat) (x : Seat) (piece : List ℕ) → m.seats ≡ front ++ x ∷ back → t ≡ front ++ x ∷ back → Makes m.core b (event.Feed x.conn piece) answer.Done
+    → Adds m.report r (entry.Gave x.slot piece ∷ []) → Goes m (record m { core = b; seats = t; report = r })
+goes_fed m b t r front back x piece is to makes adds =
     let made = record { event = event.Feed x.conn piece; answer = answer.Done } ∷ [] in
-    moves_act a b _ _ T U h k (serves x x (entry.Gave x.slot piece ∷ []) made) (runs_one a b (event.Feed x.conn piece) answer.Done makes) (steps_one answer.Done)
-    (does_for front back x x _ made (deals_fed x piece)) told
+    goes_quiet m b t r (serves x x (entry.Gave x.slot piece ∷ []) made) (runs_one m.core b (event.Feed x.conn piece) answer.Done makes) (steps_one answer.Done) (front, back, is, to, deals_fed x piece) adds
 
 -- the end of a client's bytes was read
-pub moves_end : (a : Running) (front back : List Seat) (x : Seat) (T U : Type 0) (h k : List Entry) → (U → T × (k ≡ h ++ entry.Gave x.slot [] ∷ [])) → Moves a a (front ++ x ∷ back) (front ++ x ∷ back) T U h k
+goes_end : (m : Moment) (t : List Seat) (r : Report) (front back : List Seat) (x : Seat) → m.seats ≡ front ++ x ∷ back → t ≡ front ++ x ∷ back → Adds m.report r (entry.Gave x.slot [] ∷ []) → Goes m (record m { seats = t; report = r })
 unfolding steps_in
-moves_end a front back x T U h k told = moves_act a a _ _ T U h k (serves x x (entry.Gave x.slot [] ∷ []) []) (runs_nothing a) refl (does_for front back x x _ [] (deals_end x)) told
+goes_end m t r front back x is to adds = goes_quiet m m.core t r (serves x x (entry.Gave x.slot [] ∷ []) []) (runs_nothing m.core) refl (front, back, is, to, deals_end x) adds
 
 -- a client's connection was closed, and its slot ended or to be opened again
-pub moves_forgotten : (a b : Running) (front back : List Seat) (x : Seat) (h : List Entry) → Makes a b (event.Close x.conn) answer.Done → Moves a b (front ++ x ∷ back) (front ++ back) ⊤ ⊤ h h
-moves_forgotten a b front back x h makes =
+goes_forgotten : (m : Moment) (b : Running) (t front back : List Seat) (x : Seat) → m.seats ≡ front ++ x ∷ back → t ≡ front ++ back → Makes m.core b (event.Close x.conn) answer.Done → Goes m (record m { core = b; seats = t })
+goes_forgotten m b t front back x is to makes =
     let made = record { event = event.Close x.conn; answer = answer.Done } ∷ [] in
-    moves_act a b _ _ ⊤ ⊤ h h (ends x [] made) (runs_one a b (event.Close x.conn) answer.Done makes) (steps_one answer.Done) (front, back, refl, refl, leaves_forgotten x) (λ y. (y, sym (append-nil h)))
+    goes_quiet m b t m.report (ends x [] made) (runs_one m.core b (event.Close x.conn) answer.Done makes) (steps_one answer.Done) (front, back, is, to, leaves_forgotten x) (adds_nothing m.report)
 
-pub closes_of : (a b : Running) (x y : Seat) (T U : Type 0) (h k : List Entry) → y ≡ x → Makes a b (event.Close y.conn) answer.Done → (U → T × (k ≡ h ++ entry.Ended y.slot ∷ [])) → Closes a b x T U h k
-closes_of a b x y T U h k same makes told = subst (λ z. Closes a b z T U h k) same (record { makes = makes; told = told })
-
-pub moves_ended : (a b : Running) (front back : List Seat) (x : Seat) (T U : Type 0) (h k : List Entry) → Closes a b x T U h k → Moves a b (front ++ x ∷ back) (front ++ back) T U h k
-moves_ended a b front back x T U h k c =
+goes_ended : (m : Moment) (b : Running) (t : List Seat) (r : Report) (front back : List Seat) (x : Seat) → m.seats ≡ front ++ x ∷ back → t ≡ front ++ back → Makes m.core b (event.Close x.conn) answer.Done
+    → Adds m.report r (entry.Ended x.slot ∷ []) → Goes m (record m { core = b; seats = t; report = r })
+goes_ended m b t r front back x is to makes adds =
     let made = record { event = event.Close x.conn; answer = answer.Done } ∷ [] in
-    moves_act a b _ _ T U h k (ends x (entry.Ended x.slot ∷ []) made) (runs_one a b (event.Close x.conn) answer.Done c.makes) (steps_one answer.Done) (front, back, refl, refl, leaves_ended x) c.told
-
--- a piece of a client was read, and its slot was ended
-gave_ended : (T U : Type 0) (h i k : List Entry) (slot : ℕ) (piece : List ℕ) → (T → i ≡ h ++ entry.Gave slot piece ∷ []) → (U → T × (k ≡ i ++ entry.Ended slot ∷ [])) → U
-    → T × (k ≡ h ++ entry.Gave slot piece ∷ entry.Ended slot ∷ [])
-gave_ended T U h i k slot piece first second y =
-    let b = second y in
-    (b.0, b.1 ∙ ap (λ es. es ++ entry.Ended slot ∷ []) (first b.0) ∙ append_assoc h (entry.Gave slot piece ∷ []) (entry.Ended slot ∷ []))
+    goes_quiet m b t r (ends x (entry.Ended x.slot ∷ []) made) (runs_one m.core b (event.Close x.conn) answer.Done makes) (steps_one answer.Done) (front, back, is, to, leaves_ended x) adds
 
 -- a piece of a client was not taken in
-moves_out_with : (a c : Running) (front back : List Seat) (x : Seat) (T U : Type 0) (h i k : List Entry) (piece : List ℕ) (made : List Made) → Runs a c made → steps_in (answers_of made) ≡ []
-    → Leaves x (entry.Gave x.slot piece ∷ entry.Ended x.slot ∷ []) made → (T → i ≡ h ++ entry.Gave x.slot piece ∷ []) → (U → T × (k ≡ i ++ entry.Ended x.slot ∷ []))
-    → Moves a c (front ++ x ∷ back) (front ++ back) T U h k
-moves_out_with a c front back x T U h i k piece made runs quiet leaves first second =
-    moves_act a c _ _ T U h k (ends x (entry.Gave x.slot piece ∷ entry.Ended x.slot ∷ []) made) runs quiet (front, back, refl, refl, leaves) (gave_ended T U h i k x.slot piece first second)
+goes_out_with : (m : Moment) (c : Running) (t : List Seat) (q r : Report) (front back : List Seat) (x : Seat) (piece : List ℕ) (made : List Made) → m.seats ≡ front ++ x ∷ back → t ≡ front ++ back → Runs m.core c made
+    → steps_in (answers_of made) ≡ [] → Leaves x (entry.Gave x.slot piece ∷ entry.Ended x.slot ∷ []) made → Adds m.report q (entry.Gave x.slot piece ∷ []) → Adds q r (entry.Ended x.slot ∷ [])
+    → Goes m (record m { core = c; seats = t; report = r })
+goes_out_with m c t q r front back x piece made is to runs quiet leaves first second =
+    goes_quiet m c t r (ends x (entry.Gave x.slot piece ∷ entry.Ended x.slot ∷ []) made) runs quiet (front, back, is, to, leaves) (adds_on m.report q r (entry.Gave x.slot piece ∷ []) (entry.Ended x.slot ∷ []) first second)
 
-pub moves_refused : (a b c : Running) (front back : List Seat) (x : Seat) (T U : Type 0) (h i k : List Entry) (piece : List ℕ) (r : FeedError) → TakesIn a b x.conn piece (Err r) → Closes b c x T U i k
-    → (T → i ≡ h ++ entry.Gave x.slot piece ∷ []) → Moves a c (front ++ x ∷ back) (front ++ back) T U h k
+goes_refused : (m : Moment) (b c : Running) (t : List Seat) (q r : Report) (front back : List Seat) (x : Seat) (piece : List ℕ) (e : FeedError) → m.seats ≡ front ++ x ∷ back → t ≡ front ++ back → TakesIn m.core b x.conn piece (Err e)
+    → Makes b c (event.Close x.conn) answer.Done → Adds m.report q (entry.Gave x.slot piece ∷ []) → Adds q r (entry.Ended x.slot ∷ []) → Goes m (record m { core = c; seats = t; report = r })
 unfolding steps_in
-moves_refused a b c front back x T U h i k piece fed.Full takes closes first =
-    moves_out_with a c front back x T U h i k piece _ (runs_two a b c (event.Feed x.conn piece) (event.Close x.conn) answer.Full answer.Done takes closes.makes) refl (leaves_full x piece) first closes.told
-moves_refused a b c front back x T U h i k piece fed.Ended takes closes first =
-    moves_out_with a c front back x T U h i k piece _ (runs_two a b c (event.Feed x.conn piece) (event.Close x.conn) answer.Ended answer.Done takes closes.makes) refl (leaves_late x piece) first closes.told
-moves_refused a b c front back x T U h i k piece fed.Memory out closes first =
-    moves_out_with a c front back x T U h i k piece _ (runs_behind a b c (event.Close x.conn) answer.Done (λ m y. (out m y).0) closes.makes) refl (leaves_starved x piece) first closes.told
+goes_refused m b c t q r front back x piece fed.Full is to takes closes first second =
+    goes_out_with m c t q r front back x piece _ is to (runs_two m.core b c (event.Feed x.conn piece) (event.Close x.conn) answer.Full answer.Done takes closes) refl (leaves_full x piece) first second
+goes_refused m b c t q r front back x piece fed.Ended is to takes closes first second =
+    goes_out_with m c t q r front back x piece _ is to (runs_two m.core b c (event.Feed x.conn piece) (event.Close x.conn) answer.Ended answer.Done takes closes) refl (leaves_late x piece) first second
+goes_refused m b c t q r front back x piece fed.Memory is to out closes first second =
+    goes_out_with m c t q r front back x piece _ is to (runs_behind m.core b c (event.Close x.conn) answer.Done (λ n y. (out n y).0) closes) refl (leaves_starved x piece) first second
+
+-- ---- by the place of a client
+
+-- the client at a place is forgotten
+pub forgets_at : (m : Moment) (b : Running) (t : List Seat) (cs : List Client) (i : ℕ) (e : Client) → i < length cs → m.seats ≡ seats_of cs → t ≡ seats_of (remove cs i) → Makes m.core b (event.Close (get_or cs i e).id) answer.Done
+    → Goes m (record m { core = b; seats = t })
+forgets_at m b t cs i e below is to makes =
+    let k = stands_at cs i e below in
+    goes_forgotten m b t k.0 k.2 k.1 (is ∙ k.3.0) (to ∙ at_remove cs i k.0 k.1 k.2 k.3) (subst (λ z. Makes m.core b (event.Close z.conn) answer.Done) (sym k.4) makes)
+
+-- the client at a place left
+pub ends_at : (m : Moment) (b : Running) (t : List Seat) (r : Report) (i : ℕ) (cs ds : Clients) (e : Client) → Ends i m.core b cs ds m.report r → i < length cs.list.items → m.seats ≡ seats_of cs.list.items → t ≡ seats_of ds.list.items
+    → Goes m (record m { core = b; seats = t; report = r })
+ends_at m b t r i cs ds e left below is to =
+    let k = stands_at cs.list.items i e below in
+    goes_ended m b t r k.0 k.2 k.1 (is ∙ k.3.0) (to ∙ ap seats_of left.list ∙ at_remove cs.list.items i k.0 k.1 k.2 k.3)
+    (subst (λ z. Makes m.core b (event.Close z.conn) answer.Done) (sym k.4) (left.closes e)) (subst (λ z. Adds m.report r (entry.Ended z.slot ∷ [])) (sym k.4) (left.adds e))
+
+-- the end of the bytes of the client at a place was read
+pub reads_end_at : (m : Moment) (t : List Seat) (r : Report) (i : ℕ) (cs : List Client) (e : Client) → i < length cs → m.seats ≡ seats_of cs → t ≡ seats_of cs → Adds m.report r (entry.Gave (get_or cs i e).slot [] ∷ [])
+    → Goes m (record m { seats = t; report = r })
+reads_end_at m t r i cs e below is to adds =
+    let k = stands_at cs i e below in
+    goes_end m t r k.0 k.2 k.1 (is ∙ k.3.0) (to ∙ k.3.0) (subst (λ z. Adds m.report r (entry.Gave z.slot [] ∷ [])) (sym k.4) adds)
+
+-- a piece of the client at a place was read, and fed or refused
+pub feeds_at : (m : Moment) (b : Running) (t : List Seat) (q r : Report) (i : ℕ) (piece : List ℕ) (cs ds : Clients) (e : Client) → FeedsOrEnds i piece m.core b cs ds q r → i < length cs.list.items → m.seats ≡ seats_of cs.list.items
+    → t ≡ seats_of ds.list.items → Adds m.report q (entry.Gave (get_or cs.list.items i e).slot piece ∷ []) → Goes m (record m { core = b; seats = t; report = r })
+feeds_at m b t q r i piece cs ds e (inl took) below is to adds =
+    let k = stands_at cs.list.items i e below in
+    goes_fed m b t r k.0 k.2 k.1 piece (is ∙ k.3.0) (to ∙ fed_same cs.list.items ds.list.items i e took.list ∙ k.3.0) (subst (λ z. Makes m.core b (event.Feed z.conn piece) answer.Done) (sym k.4) (took.feeds e))
+    (adds_on m.report q r (entry.Gave k.1.slot piece ∷ []) [] (subst (λ z. Adds m.report q (entry.Gave z.slot piece ∷ [])) (sym k.4) adds) took.adds)
+feeds_at m b t q r i piece cs ds e (inr out) below is to adds =
+    let k = stands_at cs.list.items i e below in
+    goes_refused m out.between b t q r k.0 k.2 k.1 piece out.refused (is ∙ k.3.0) (to ∙ ap seats_of out.ends.list ∙ at_remove cs.list.items i k.0 k.1 k.2 k.3)
+    (subst (λ z. TakesIn m.core out.between z.conn piece (Err out.refused)) (sym k.4) (out.takes e)) (subst (λ z. Makes out.between b (event.Close z.conn) answer.Done) (sym k.4) (out.ends.closes e))
+    (subst (λ z. Adds m.report q (entry.Gave z.slot piece ∷ [])) (sym k.4) adds) (subst (λ z. Adds q r (entry.Ended z.slot ∷ [])) (sym k.4) (out.ends.adds e))
+
+-- the others are the same after a piece of the client at a place
+pub others_fed : (slot i : ℕ) (piece : List ℕ) (a b : Running) (cs ds : Clients) (q r : Report) (e : Client) → FeedsOrEnds i piece a b cs ds q r → i < length cs.list.items → (get_or cs.list.items i e).slot ≡ slot
+    → others slot (seats_of ds.list.items) ≡ others slot (seats_of cs.list.items)
+others_fed slot i piece a b cs ds q r e (inl took) below on = ap (λ xs. others slot xs) (fed_same cs.list.items ds.list.items i e took.list)
+others_fed slot i piece a b cs ds q r e (inr out) below on = others_ended slot i cs.list.items ds.list.items e below on out.ends.list
+
+-- the client at a place accepted bytes
+pub goes_written : (m : Moment) (t : List Seat) (r : Report) (cs : List Client) (i : ℕ) (d f : Client) → i < length cs → d ≡ get_or cs i d → m.seats ≡ seats_of cs → t ≡ seats_of (set cs i f) → Writes d f m.report r
+    → Goes m (record m { seats = t; report = r })
+goes_written m t r cs i d f below at is to writes =
+    let k = stands_at cs i d below in
+    goes_as m (record m { seats = t; report = r }) (k.0 ++ seat_of d ∷ k.2) (k.0 ++ seat_of f ∷ k.2) (is ∙ k.3.0 ∙ ap (λ z. k.0 ++ z ∷ k.2) (k.4 ∙ ap seat_of (sym at))) (to ∙ at_set cs i k.0 k.1 k.2 f k.3)
+    (writes m.core m.desk m.kept k.0 k.2)
+
+-- the client at a place accepted bytes, and was served and shown events
+pub goes_visited : (m : Moment) (b : Running) (e : Board) (q : Option (List PolicyChange)) (t : List Seat) (r : Report) (cs : List Client) (i : ℕ) (d f g : Client) → i < length cs → d ≡ get_or cs i d → m.seats ≡ seats_of cs
+    → t ≡ seats_of (set cs i g) → Writes d f m.report r → GoesFor (λ s. moment m.core m.desk m.kept s unasked) (λ s. moment b e q s unasked) f g → Goes m (record m { core = b; desk = e; kept = q; seats = t; report = r })
+goes_visited m b e q t r cs i d f g below at is to writes goes =
+    let k = stands_at cs i d below in
+    goes_as m (record m { core = b; desk = e; kept = q; seats = t; report = r }) (k.0 ++ seat_of d ∷ k.2) (k.0 ++ seat_of g ∷ k.2) (is ∙ k.3.0 ∙ ap (λ z. k.0 ++ z ∷ k.2) (k.4 ∙ ap seat_of (sym at)))
+    (to ∙ at_set cs i k.0 k.1 k.2 g k.3)
+    (goes_on _ (moment m.core m.desk m.kept (k.0 ++ seat_of f ∷ k.2) r) _ (writes m.core m.desk m.kept k.0 k.2) (goes_unasked m.core b m.desk e m.kept q _ _ r (goes k.0 k.2)))
 
 -- ---- the whole
 
 -- where nothing was unpublished before, the published steps are all but at most the last; a server that began with no
 -- client accounts for all bytes
-pub goes_serves : (a b : Running) (d e : Board) (q : Option (List PolicyChange)) (t : List Seat) (T U : Type 0) (h k : List Entry) → d.waiting ≡ [] → Goes a b d e None q [] t T U h k → Serves a b d e U h k
-goes_serves a b d e q t T U h k none s = record {
+pub goes_serves : (a b : Running) (d e : Board) (q : Option (List PolicyChange)) (t : List Seat) (r z : Report) → d.waiting ≡ [] → Goes (moment a d None [] r) (moment b e q t z) → Serves a b d e r z
+goes_serves a b d e q t r z none s = record {
   made = made_in s.acts;
   runs = s.runs;
   opening = s.shows.opening;
@@ -465,4 +456,4 @@ goes_serves a b d e q t T U h k none s = record {
 }
   where
     published : e.list ++ unpublished e q ≡ d.list ++ steps_by s.acts
-    published = s.shows.all ∙ ap (λ ws. (d.list ++ (ws ++ [])) ++ steps_by s.acts) none ∙ ap (λ xs. xs ++ steps_by s.acts) (append-nil d.list)
+    published = s.shows.all ∙ ap (λ xs. xs ++ steps_by s.acts) (all_published d none None refl)

@@ -1,7 +1,7 @@
 -- The place of a client among the others.
 use Rattle.std.proofs.Common.{◌≡◌, ℕ, zero, suc, ◌<◌, ◌≤◌, ◌+◌, ◌==◌, true, false, not, List, [], ◌∷◌, ◌++◌, length, map, set, get_or, refl, sym, ap, ◌∙◌, subst, arith, add-one, Option, Some, None, cond}
 use Rattle.std.specs.Prelude.{IfSome}
-use Rattle.std.specs.List.{position, position_from, remove}
+use Rattle.std.specs.List.{HoldsAt, position, position_from, remove}
 use Rattle.std.proofs.Math.Seq.{map-set_same}
 use Rattle.std.proofs.lemmas.Bool.{eq-eqb, eqb-true}
 use Rattle.std.proofs.lemmas.Iterator.Adapters.{position_from-zero}
@@ -9,7 +9,10 @@ use Rattle.std.proofs.lemmas.List.Quantifiers.{position-Some}
 use Rattle.kapi_serve.specs.declared.client.Client.{Client}
 use Rattle.kapi_serve.specs.Acts.{IsFree, Seat}
 use Rattle.kapi_serve.specs.Private.Clients.{freed, freed_on, others, seat_of, seats_of}
-use Rattle.kapi_serve.specs.Goes.{IsAt}
+
+-- so many clients come before one
+abbrev pub IsAt : ℕ → List Seat → List Seat → Seat → List Seat → Type 0
+IsAt index seats front x back = (seats ≡ front ++ x ∷ back) × (length front ≡ index)
 
 -- the first client, or the given one where there is none
 abbrev head_of : Seat → List Seat → Seat
@@ -20,13 +23,6 @@ head_of x (y ∷ ys) = y
 abbrev tail_of : List Seat → List Seat
 tail_of [] = []
 tail_of (x ∷ xs) = xs
-
--- the client behind so many
-pub is_at_get : (cs : List Client) (front : List Seat) (x : Seat) (back : List Seat) (d : Client) → seats_of cs ≡ front ++ x ∷ back → seat_of (get_or cs (length front) d) ≡ x
-is_at_get [] [] x back d is = absurd (cc)
-is_at_get [] (f ∷ fs) x back d is = absurd (cc)
-is_at_get (c ∷ cs) [] x back d is = ap (λ xs. head_of x xs) is
-is_at_get (c ∷ cs) (f ∷ fs) x back d is = is_at_get cs fs x back d (ap tail_of is)
 
 -- the clients without one of them
 pub is_at_remove : (cs : List Client) (front : List Seat) (x : Seat) (back : List Seat) → seats_of cs ≡ front ++ x ∷ back → seats_of (remove cs (length front)) ≡ front ++ back
@@ -59,9 +55,6 @@ none_on (c ∷ cs) slot i none = elim (c.slot == slot) as (λ b. (c.slot == slot
 
 -- ---- by the number of those in front
 
-pub at_get : (cs : List Client) (i : ℕ) (front : List Seat) (x : Seat) (back : List Seat) (d : Client) → IsAt i (seats_of cs) front x back → seat_of (get_or cs i d) ≡ x
-at_get cs i front x back d at = subst (λ n. seat_of (get_or cs n d) ≡ x) at.1 (is_at_get cs front x back d at.0)
-
 pub at_remove : (cs : List Client) (i : ℕ) (front : List Seat) (x : Seat) (back : List Seat) → IsAt i (seats_of cs) front x back → seats_of (remove cs i) ≡ front ++ back
 at_remove cs i front x back at = subst (λ n. seats_of (remove cs n) ≡ front ++ back) at.1 (is_at_remove cs front x back at.0)
 
@@ -72,15 +65,10 @@ at_set cs i front x back c at = subst (λ n. seats_of (set cs n c) ≡ front ++ 
 pub seats_same : (cs : List Client) (i : ℕ) (c d : Client) → seat_of c ≡ seat_of (get_or cs i d) → seats_of (set cs i c) ≡ seats_of cs
 seats_same cs i c d same = map-set_same seat_of cs i c d same
 
--- the first client of a slot has a place
-pub found_at : (cs : List Client) (slot : ℕ) (r : Option ℕ) → r ≡ position (λ c. c.slot == slot) cs
-    → IfSome r (λ i. (front : List Seat) × (x : Seat) × (back : List Seat) × IsAt i (seats_of cs) front x back × (x.slot ≡ slot))
+-- the first client of a slot is on it
+pub found_at : (cs : List Client) (slot : ℕ) (r : Option ℕ) → r ≡ position (λ c. c.slot == slot) cs → IfSome r (λ i. HoldsAt (λ c. c.slot ≡ slot) cs i)
 found_at cs slot None is = tt
-found_at [] slot (Some i) is = absurd (cc)
-found_at (c ∷ cs) slot (Some i) is =
-    let p = position-Some (λ y. y.slot == slot) (c ∷ cs) i c (sym is) in
-    let k = stands_at (c ∷ cs) i c p.0 in
-    (k.0, k.1, k.2, k.3, ap (λ z. z.slot) k.4 ∙ eqb-true (get_or (c ∷ cs) i c).slot slot p.1)
+found_at cs slot (Some i) is = λ d. let p = position-Some (λ y. y.slot == slot) cs i d (sym is) in eqb-true (get_or cs i d).slot slot p.1
 
 pub free_of : (cs : List Client) (slot : ℕ) (r : Option ℕ) → r ≡ position (λ c. c.slot == slot) cs → r ≡ None → IsFree slot (seats_of cs)
 free_of cs slot r is none = none_on cs slot 0 (sym (position_from-zero (λ c. c.slot == slot) cs) ∙ sym is ∙ none)
@@ -91,8 +79,14 @@ others_left slot [] x back is = ap (λ b. cond (not b) (x ∷ others slot back) 
 others_left slot (f ∷ front) x back is = ap (λ xs. cond (not (f.slot == slot)) (f ∷ xs) xs) (others_left slot front x back is)
 
 -- the clients are the others after the end of one
-pub others_ended : (slot : ℕ) (s t front : List Seat) (x : Seat) (back : List Seat) → s ≡ front ++ x ∷ back → t ≡ front ++ back → x.slot ≡ slot → others slot t ≡ others slot s
-others_ended slot s t front x back is left at = ap (λ xs. others slot xs) left ∙ others_left slot front x back at ∙ ap (λ xs. others slot xs) (sym is)
+pub others_ended : (slot i : ℕ) (cs ds : List Client) (e : Client) → i < length cs → (get_or cs i e).slot ≡ slot → ds ≡ remove cs i → others slot (seats_of ds) ≡ others slot (seats_of cs)
+others_ended slot i cs ds e below on left =
+    let k = stands_at cs i e below in
+    ap (λ l. others slot (seats_of l)) left ∙ ap (λ xs. others slot xs) (at_remove cs i k.0 k.1 k.2 k.3) ∙ others_left slot k.0 k.1 k.2 (ap (λ z. z.slot) k.4 ∙ on) ∙ ap (λ xs. others slot xs) (sym k.3.0)
+
+-- a client that was fed has the same seat
+pub fed_same : (cs ds : List Client) (i : ℕ) (e : Client) → HoldsAt (λ c. ds ≡ set cs i (record c { fed = true })) cs i → seats_of ds ≡ seats_of cs
+fed_same cs ds i e is = ap seats_of (is e) ∙ seats_same cs i (record (get_or cs i e) { fed = true }) e refl
 
 -- ---- blocked clients
 

@@ -40,7 +40,7 @@ pub prompt_none : (d : Board) → d.waiting ≡ [] → (k : Option (List PolicyC
 prompt_none d none k gone = subst (λ q. IsPrompt d q) (sym gone) (subst (λ ws. length (ws ++ []) ≤ 1) (sym none) (omega arith))
 
 -- where nothing was unpublished, all steps are the published ones
-all_published : (d : Board) → d.waiting ≡ [] → (k : Option (List PolicyChange)) → k ≡ None → all_steps d k ≡ d.list
+pub all_published : (d : Board) → d.waiting ≡ [] → (k : Option (List PolicyChange)) → k ≡ None → all_steps d k ≡ d.list
 all_published d none k gone = ap (λ q. all_steps d q) gone ∙ ap (λ ws. d.list ++ (ws ++ [])) none ∙ append-nil d.list
 
 -- the desk took the step

@@ -6,7 +6,7 @@ use Rattle.std.specs.Map.{lookup}
 use Rattle.std.specs.BTreeMap.{is_at}
 use Rattle.std.specs.Ordering.{nat_cmp}
 use Rattle.std.proofs.lemmas.Bool.{cases_eq, cases_lt, true≢false}
-use Rattle.std.proofs.lemmas.List.{drop_all}
+use Rattle.std.proofs.lemmas.List.{drop_all, get_or_default}
 use Rattle.kapi_aggregation.specs.Members.{Has}
 use Rattle.kapi_core.proofs.Effects.{number_of}
 use Rattle.kapi_core.specs.Machine.{Link, Machine, link_at, step}
@@ -24,14 +24,17 @@ use Rattle.kapi_http.specs.declared.inbox.FeedError.{FeedError}
 use Rattle.kapi_http.specs.declared.inbox.FeedError.TheVariants as fed
 use Rattle.kapi_model.specs.declared.identity.Identity.{Identity}
 use Rattle.kapi_serve.specs.declared.client.Client.{Client}
+use Rattle.kapi_serve.specs.declared.clients.Clients.{Clients}
 use Rattle.kapi_serve.specs.declared.client.Phase.{Phase}
 use Rattle.kapi_serve.specs.declared.client.Phase.TheVariants as phase
 use Rattle.kapi_serve.specs.declared.pending.Pending.{Pending}
 use Rattle.kapi_serve.specs.declared.progress.Progress.{Progress}
 use Rattle.kapi_serve.specs.declared.progress.Progress.TheVariants as progress
+use Rattle.kapi_serve.specs.Ports.{Report}
+use Rattle.kapi_serve.specs.Private.Moments.{Ends}
 use Rattle.kapi_serve.specs.Private.Pieces.{IsCounted, IsSent, joined, owed}
 use Rattle.kapi_serve.specs.Private.Progresses.{both}
-use Rattle.kapi_serve.specs.Private.Stands.{AreDue, Finishes, GoesOn, HasNoRequest, IsAwakeOrQuiet, IsNew, IsNumbered, IsQuiet, IsServed, Keeps, PassesBy, Rise, Settles, Stands, StandsOn, Stays, Suits, Tends, Visits, Waits}
+use Rattle.kapi_serve.specs.Private.Stands.{AllSuit, AreDue, Finishes, GoesOn, HasNoRequest, IsAwakeOrQuiet, IsNew, IsNumbered, IsQuiet, IsServed, Keeps, PassesBy, Rise, Stays, Suits, Tends, Waits}
 use Rattle.kapi_serve.specs.Rests.{AreAtRest, Rests}
 use Rattle.kapi_serve.proofs.Connections.{answered_nothing, answered_same, closed_gone, goes_both, goes_event, goes_none, gone_request, opened_request, pumped_request, request_answered, served_gone, shown_gone, stays_both, stays_none, turn_stays, unfed_stays, unserved_stays}
 use Rattle.kapi_serve.proofs.Numbers.{opened_next}
@@ -347,29 +350,40 @@ rests_visited n f e s w served sent over = record {
 
 -- ---- all clients
 
-pub on_nothing : (a : Running) (cs : List Client) (aw : List ℕ) → StandsOn a a cs aw cs aw
+-- the relations of `Stands` by the clients and the connections that are awake
+abbrev pub SuitOn : Running → Running → List Client → List ℕ → List Client → List ℕ → Type 0
+SuitOn old new cs awake ds later = (m : Machine) → Refines old m → AllSuit m cs awake → (n : Machine) × Refines new n × AllSuit n ds later
+
+abbrev pub VisitsAt : Running → Running → List Client → List Client → List ℕ → ℕ → Type 0 → Type 0
+VisitsAt old new cs ds awake place still = (m : Machine) → Refines old m → AllSuit m cs awake
+    → (n : Machine) × Refines new n × AllSuit n ds awake × (still → AreDue m cs (drop place awake) → AreDue n ds (drop (suc place) awake))
+
+abbrev pub SettlesOn : Running → Running → List Client → List ℕ → List Client → List ℕ → Type 0 → Type 0
+SettlesOn old new cs awake ds later still = (m : Machine) → Refines old m → AllSuit m cs awake → (n : Machine) × Refines new n × AllSuit n ds later × (still → AreAtRest n ds)
+
+pub on_nothing : (a : Running) (cs : List Client) (aw : List ℕ) → SuitOn a a cs aw cs aw
 on_nothing a cs aw = λ m r s. (m, r, s)
 
-pub on_kept : (a b : Running) (cs : List Client) (aw : List ℕ) → Same a b → StandsOn a b cs aw cs aw
+pub on_kept : (a b : Running) (cs : List Client) (aw : List ℕ) → Same a b → SuitOn a b cs aw cs aw
 on_kept a b cs aw keeps = λ m r s. (m, keeps m r, s)
 
-pub on_both : (a b x : Running) (cs ds es : List Client) (aw bw xw : List ℕ) → StandsOn a b cs aw ds bw → StandsOn b x ds bw es xw → StandsOn a x cs aw es xw
+pub on_both : (a b x : Running) (cs ds es : List Client) (aw bw xw : List ℕ) → SuitOn a b cs aw ds bw → SuitOn b x ds bw es xw → SuitOn a x cs aw es xw
 on_both a b x cs ds es aw bw xw one other = λ m r s.
     let t = one m r s in
     other t.0 t.1 t.2
 
-pub on_as : (a b : Running) (cs ds es : List Client) (aw bw xw : List ℕ) → StandsOn a b cs aw ds bw → es ≡ ds → xw ≡ bw → StandsOn a b cs aw es xw
+pub on_as : (a b : Running) (cs ds es : List Client) (aw bw xw : List ℕ) → SuitOn a b cs aw ds bw → es ≡ ds → xw ≡ bw → SuitOn a b cs aw es xw
 on_as a b cs ds es aw bw xw one same also = λ m r s.
     let t = one m r s in
-    (t.0, t.1, subst (λ xs. Stands t.0 xs xw) (sym same) (subst (λ ks. Stands t.0 ds ks) (sym also) t.2))
+    (t.0, t.1, subst (λ xs. AllSuit t.0 xs xw) (sym same) (subst (λ ks. AllSuit t.0 ds ks) (sym also) t.2))
 
 -- at first there are no clients
-pub stands_none : (m : Machine) (cs : List Client) (aw : List ℕ) → cs ≡ [] → IsNumbered m → Stands m cs aw
+pub stands_none : (m : Machine) (cs : List Client) (aw : List ℕ) → cs ≡ [] → IsNumbered m → AllSuit m cs aw
 unfolding Rise
-stands_none m cs aw none k = subst (λ xs. Stands m xs aw) (sym none) (record { numbered = k; suit = tt; rise = tt; asleep = tt })
+stands_none m cs aw none k = subst (λ xs. AllSuit m xs aw) (sym none) (record { numbered = k; suit = tt; rise = tt; asleep = tt })
 
 -- what stands on one machine stands on one with the same connections
-stands_by : (m n : Machine) (cs : List Client) (aw : List ℕ) → Stays m n → Stands m cs aw → Stands n cs aw
+stands_by : (m n : Machine) (cs : List Client) (aw : List ℕ) → Stays m n → AllSuit m cs aw → AllSuit n cs aw
 stands_by m n cs aw by s = record {
   numbered = let P : List (ℕ × Link) → Type 0 = λ es. IsNumbered (record m { links = es }) in subst P (sym by.links) s.numbered;
   suit = each_to (λ c. Suits m c) (λ c. Suits n c) cs (λ c suits. suits_same m n c (link_by c.id.0 m n by) by.next suits) s.suit;
@@ -377,7 +391,7 @@ stands_by m n cs aw by s = record {
   asleep = s.asleep;
 }
 
-pub on_passing : (a b : Running) (cs : List Client) (aw : List ℕ) → PassesBy a b → StandsOn a b cs aw cs aw
+pub on_passing : (a b : Running) (cs : List Client) (aw : List ℕ) → PassesBy a b → SuitOn a b cs aw cs aw
 on_passing a b cs aw by = λ m r s.
     let t = by m r in
     (t.0, t.1, stands_by m t.0 cs aw t.2 s)
@@ -390,12 +404,12 @@ awake_more aw bw cs more all = each_to (λ c. IsAwakeOrQuiet aw c) (λ c. IsAwak
     by_case c (inr quiet) = inr quiet
 
 -- more connections are awake
-pub on_woken : (a : Running) (cs : List Client) (aw bw : List ℕ) → ((k : ℕ) → Has aw k → Has bw k) → StandsOn a a cs aw cs bw
+pub on_woken : (a : Running) (cs : List Client) (aw bw : List ℕ) → ((k : ℕ) → Has aw k → Has bw k) → SuitOn a a cs aw cs bw
 on_woken a cs aw bw more = λ m r s. (m, r, record { numbered = s.numbered; suit = s.suit; rise = s.rise; asleep = awake_more aw bw cs more s.asleep })
 
 -- one client is changed, which is awake
-pub stands_set : (m n : Machine) (cs : List Client) (aw bw : List ℕ) (i : ℕ) (d e : Client) → Stands m cs aw → i < length cs → GoesOn (get_or cs i d).id.0 m n → e.id ≡ (get_or cs i d).id → Suits n e
-    → Has bw e.id.0 → ((k : ℕ) → Has aw k → Has bw k) → Stands n (set cs i e) bw
+pub stands_set : (m n : Machine) (cs : List Client) (aw bw : List ℕ) (i : ℕ) (d e : Client) → AllSuit m cs aw → i < length cs → GoesOn (get_or cs i d).id.0 m n → e.id ≡ (get_or cs i d).id → Suits n e
+    → Has bw e.id.0 → ((k : ℕ) → Has aw k → Has bw k) → AllSuit n (set cs i e) bw
 stands_set m n cs aw bw i d e s below g same suits awake more = record {
   numbered = g.numbered;
   suit = each_set (λ c. Suits m c) (λ c. Suits n c) cs i d e s.rise below (λ c never suits. suits_same m n c (g.others c.id.0 never) g.next suits) s.suit suits;
@@ -404,7 +418,7 @@ stands_set m n cs aw bw i d e s below g same suits awake more = record {
 }
 
 -- one client leaves
-pub stands_left : (m n : Machine) (cs : List Client) (aw : List ℕ) (i : ℕ) (d : Client) → Stands m cs aw → i < length cs → GoesOn (get_or cs i d).id.0 m n → Stands n (remove cs i) aw
+pub stands_left : (m n : Machine) (cs : List Client) (aw : List ℕ) (i : ℕ) (d : Client) → AllSuit m cs aw → i < length cs → GoesOn (get_or cs i d).id.0 m n → AllSuit n (remove cs i) aw
 stands_left m n cs aw i d s below g = record {
   numbered = g.numbered;
   suit = each_left (λ c. Suits m c) (λ c. Suits n c) cs i d s.rise below (λ c never suits. suits_same m n c (g.others c.id.0 never) g.next suits) s.suit;
@@ -413,7 +427,7 @@ stands_left m n cs aw i d s below g = record {
 }
 
 -- the next connection is opened or not
-stands_next : (m n : Machine) (cs : List Client) (aw : List ℕ) → Stands m cs aw → GoesOn m.next_id m n → Stands n cs aw
+stands_next : (m n : Machine) (cs : List Client) (aw : List ℕ) → AllSuit m cs aw → GoesOn m.next_id m n → AllSuit n cs aw
 stands_next m n cs aw s g = record {
   numbered = g.numbered;
   suit = each_to (λ c. Suits m c) (λ c. Suits n c) cs (λ c suits. suits_same m n c (g.others c.id.0 (λ same. let less : c.id.0 < m.next_id = suits.below in omega (arith, less, same))) g.next suits) s.suit;
@@ -422,7 +436,7 @@ stands_next m n cs aw s g = record {
 }
 
 -- a client comes
-stands_more : (m n : Machine) (cs : List Client) (aw : List ℕ) (e : Client) → Stands m cs aw → GoesOn m.next_id m n → e.id.0 ≡ m.next_id → Suits n e → IsQuiet e → Stands n (cs ++ e ∷ []) aw
+stands_more : (m n : Machine) (cs : List Client) (aw : List ℕ) (e : Client) → AllSuit m cs aw → GoesOn m.next_id m n → e.id.0 ≡ m.next_id → Suits n e → IsQuiet e → AllSuit n (cs ++ e ∷ []) aw
 stands_more m n cs aw e s g next suits quiet =
     let stands = stands_next m n cs aw s g in
     record {
@@ -434,7 +448,7 @@ stands_more m n cs aw e s g next suits quiet =
 
 -- a connection was opened for a client, or none
 pub on_opened : (a b : Running) (cs ds : List Client) (aw : List ℕ) (who : Identity) (id : ConnId) → Makes a b (event.Open who) (answer.Opened id) → (e : Client) × (ds ≡ cs ++ e ∷ []) × (e.id ≡ id) × IsNew e
-    → StandsOn a b cs aw ds aw
+    → SuitOn a b cs aw ds aw
 on_opened a b cs ds aw who id makes fresh = λ m r s.
     let e : Client = fresh.0 in
     let new : IsNew e = fresh.3 in
@@ -450,21 +464,27 @@ on_opened a b cs ds aw who id makes fresh = λ m r s.
       counted = new.counted;
       below = let up : n.next_id ≡ m.next_id + 1 = next.1 in omega (arith, at, up);
     } in
-    (n, (makes m r).1, subst (λ xs. Stands n xs aw) (sym fresh.1) (stands_more m n cs aw e s g at suits new.quiet))
+    (n, (makes m r).1, subst (λ xs. AllSuit n xs aw) (sym fresh.1) (stands_more m n cs aw e s g at suits new.quiet))
 
-pub on_unopened : (a b : Running) (cs : List Client) (aw : List ℕ) (who : Identity) (o : OpenError) → Opens a b who (Err o) → StandsOn a b cs aw cs aw
+pub on_unopened : (a b : Running) (cs : List Client) (aw : List ℕ) (who : Identity) (o : OpenError) → Opens a b who (Err o) → SuitOn a b cs aw cs aw
 on_unopened a b cs aw who refused.TooMany makes = λ m r s. ((step m (event.Open who)).1, (makes m r).1, stands_next m (step m (event.Open who)).1 cs aw s (goes_event m (event.Open who) m.next_id refl s.numbered))
 on_unopened a b cs aw who refused.Memory out = λ m r s. (m, (out m r).0, s)
 
 -- a client's connection is closed
-pub on_closed : (a b : Running) (cs ds : List Client) (aw : List ℕ) (i : ℕ) (d : Client) → i < length cs → d ≡ get_or cs i d → ds ≡ remove cs i → Makes a b (event.Close d.id) answer.Done → StandsOn a b cs aw ds aw
+pub on_closed : (a b : Running) (cs ds : List Client) (aw : List ℕ) (i : ℕ) (d : Client) → i < length cs → d ≡ get_or cs i d → ds ≡ remove cs i → Makes a b (event.Close d.id) answer.Done → SuitOn a b cs aw ds aw
 on_closed a b cs ds aw i d below is are makes = λ m r s.
     let n : Machine = (step m (event.Close d.id)).1 in
     let g = goes_event m (event.Close d.id) d.id.0 refl s.numbered in
-    (n, (makes m r).1, subst (λ xs. Stands n xs aw) (sym are) (stands_left m n cs aw i d s below (subst (λ c. GoesOn c.id.0 m n) is g)))
+    (n, (makes m r).1, subst (λ xs. AllSuit n xs aw) (sym are) (stands_left m n cs aw i d s below (subst (λ c. GoesOn c.id.0 m n) is g)))
+
+-- the client at a place left
+pub on_left : (a b : Running) (cs ds : Clients) (r s : Report) (i : ℕ) (e : Client) → i < length cs.list.items → Ends i a b cs ds r s → SuitOn a b cs.list.items cs.awake.numbers.items ds.list.items cs.awake.numbers.items
+on_left a b cs ds r s i e below left =
+    let c : Client = get_or cs.list.items i e in
+    on_closed a b cs.list.items ds.list.items cs.awake.numbers.items i c below (get_or_default cs.list.items i e c below) left.list (left.closes e)
 
 -- a client's slot takes bytes again
-pub stands_free : (m : Machine) (cs : List Client) (aw : List ℕ) (i : ℕ) (c : Client) → i < length cs → c ≡ get_or cs i c → Stands m cs aw → Stands m (set cs i (record c { blocked = false })) aw
+pub stands_free : (m : Machine) (cs : List Client) (aw : List ℕ) (i : ℕ) (c : Client) → i < length cs → c ≡ get_or cs i c → AllSuit m cs aw → AllSuit m (set cs i (record c { blocked = false })) aw
 stands_free m cs aw i c below is s =
     let e : Client = record c { blocked = false } in
     let own : Suits m c = subst (λ x. Suits m x) (sym is) (each_at (λ x. Suits m x) cs i c s.suit below) in
@@ -481,8 +501,8 @@ stands_free m cs aw i c below is s =
     by_case (inr quiet) = inr (record { phase = quiet.phase; fed = quiet.fed; watching = quiet.watching; owed = quiet.owed })
 
 -- a client's bytes have ended
-pub stands_ended : (m : Machine) (cs : List Client) (aw : List ℕ) (i : ℕ) (c : Client) → i < length cs → c ≡ get_or cs i c → Has aw (get_or cs i c).id.0 → Stands m cs aw
-    → Stands m (set cs i (record c { phase = phase.Ending; fed = true })) aw
+pub stands_ended : (m : Machine) (cs : List Client) (aw : List ℕ) (i : ℕ) (c : Client) → i < length cs → c ≡ get_or cs i c → Has aw (get_or cs i c).id.0 → AllSuit m cs aw
+    → AllSuit m (set cs i (record c { phase = phase.Ending; fed = true })) aw
 stands_ended m cs aw i c below is has s =
     let own : Suits m c = subst (λ x. Suits m x) (sym is) (each_at (λ x. Suits m x) cs i c s.suit below) in
     stands_set m m cs aw aw i c (record c { phase = phase.Ending; fed = true }) s below (goes_none (get_or cs i c).id.0 m s.numbered) (ap (λ x. x.id) is)
@@ -490,7 +510,7 @@ stands_ended m cs aw i c below is has s =
 
 -- a piece of a client is fed
 pub on_fed : (a b : Running) (cs : List Client) (aw : List ℕ) (i : ℕ) (c : Client) (id : ConnId) (piece : List ℕ) → i < length cs → c ≡ get_or cs i c → id ≡ c.id → Has aw (get_or cs i c).id.0
-    → (get_or cs i c).phase ≡ phase.Open → Makes a b (event.Feed id piece) answer.Done → StandsOn a b cs aw (set cs i (record c { fed = true })) aw
+    → (get_or cs i c).phase ≡ phase.Open → Makes a b (event.Feed id piece) answer.Done → SuitOn a b cs aw (set cs i (record c { fed = true })) aw
 on_fed a b cs aw i c id piece below is same has reading makes = λ m r s.
     let n : Machine = (step m (event.Feed id piece)).1 in
     let g : GoesOn c.id.0 m n = goes_event m (event.Feed id piece) c.id.0 (ap (λ k. k.0) same) s.numbered in
@@ -503,13 +523,13 @@ on_fed a b cs aw i c id piece below is same has reading makes = λ m r s.
     )
 
 -- a piece of a client is not taken in
-pub on_refused : (a b : Running) (cs : List Client) (aw : List ℕ) (id : ConnId) (piece : List ℕ) (r : FeedError) → TakesIn a b id piece (Err r) → StandsOn a b cs aw cs aw
+pub on_refused : (a b : Running) (cs : List Client) (aw : List ℕ) (id : ConnId) (piece : List ℕ) (r : FeedError) → TakesIn a b id piece (Err r) → SuitOn a b cs aw cs aw
 on_refused a b cs aw id piece fed.Memory out = λ m r s. (m, (out m r).0, s)
 on_refused a b cs aw id piece fed.Full makes = λ m r s. (m, subst (λ q. Refines b q) (unfed_stays m id piece answer.Full (makes m r).0 (λ same. absurd (cc))) (makes m r).1, s)
 on_refused a b cs aw id piece fed.Ended makes = λ m r s. (m, subst (λ q. Refines b q) (unfed_stays m id piece answer.Ended (makes m r).0 (λ same. absurd (cc))) (makes m r).1, s)
 
 -- the connection at a place sleeps: its client is quiet, or there is none
-pub stands_asleep : (m : Machine) (cs : List Client) (aw : List ℕ) (p d : ℕ) → AllByRecursion (λ c. get_or aw p d ≡ c.id.0 → IsQuiet c) cs → Stands m cs aw → Stands m cs (remove aw p)
+pub stands_asleep : (m : Machine) (cs : List Client) (aw : List ℕ) (p d : ℕ) → AllByRecursion (λ c. get_or aw p d ≡ c.id.0 → IsQuiet c) cs → AllSuit m cs aw → AllSuit m cs (remove aw p)
 stands_asleep m cs aw p d quiet s = record {
   numbered = s.numbered;
   suit = s.suit;
@@ -526,24 +546,24 @@ stands_asleep m cs aw p d quiet s = record {
     by_case c if_here (inr quiet) = inr quiet
 
 -- the client of the number is quiet
-pub stands_quiet : (m : Machine) (cs : List Client) (aw : List ℕ) (p i : ℕ) (c : Client) → i < length cs → c ≡ get_or cs i c → ((d : Client) (x : ℕ) → get_or aw p x ≡ (get_or cs i d).id.0) → IsQuiet c → Stands m cs aw
-    → Stands m cs (remove aw p)
+pub stands_quiet : (m : Machine) (cs : List Client) (aw : List ℕ) (p i : ℕ) (c : Client) → i < length cs → c ≡ get_or cs i c → ((d : Client) (x : ℕ) → get_or aw p x ≡ (get_or cs i d).id.0) → IsQuiet c → AllSuit m cs aw
+    → AllSuit m cs (remove aw p)
 stands_quiet m cs aw p i c below is at quiet s =
     let own : IsQuiet (get_or cs i c) = subst (λ z. IsQuiet z) is quiet in
     stands_asleep m cs aw p 0 (each_to (λ x. x.id.0 ≡ (get_or cs i c).id.0 → IsQuiet x) (λ x. get_or aw p 0 ≡ x.id.0 → IsQuiet x) cs (λ x f same. f (sym same ∙ at c 0)) (each_only (λ x. IsQuiet x) cs i c s.rise below own)) s
 
 -- no client has the number
-pub stands_absent : (m : Machine) (cs : List Client) (aw : List ℕ) (p : ℕ) → (Rise cs → p < length aw → AllByRecursion (λ c. (x : ℕ) → get_or aw p x ≡ c.id.0 → ⊥) cs) → Stands m cs aw → Stands m cs (remove aw p)
+pub stands_absent : (m : Machine) (cs : List Client) (aw : List ℕ) (p : ℕ) → (Rise cs → p < length aw → AllByRecursion (λ c. (x : ℕ) → get_or aw p x ≡ c.id.0 → ⊥) cs) → AllSuit m cs aw → AllSuit m cs (remove aw p)
 stands_absent m cs aw p absent s = by_place (cases_lt p (length aw))
   where
-    by_place : (p < length aw) ⊎ (length aw ≤ p) → Stands m cs (remove aw p)
+    by_place : (p < length aw) ⊎ (length aw ≤ p) → AllSuit m cs (remove aw p)
     by_place (inl inside) = stands_asleep m cs aw p 0 (each_to (λ c. (x : ℕ) → get_or aw p x ≡ c.id.0 → ⊥) (λ c. get_or aw p 0 ≡ c.id.0 → IsQuiet c) cs (λ c never same. absurd (never 0 same)) (absent s.rise inside)) s
-    by_place (inr past) = subst (λ ks. Stands m cs ks) (sym (remove_past aw p past)) s
+    by_place (inr past) = subst (λ ks. AllSuit m cs ks) (sym (remove_past aw p past)) s
 
 -- ---- visits
 
 -- at first each client is quiet or awake
-due_first : (m : Machine) (cs : List Client) (aw : List ℕ) → Stands m cs aw → AreDue m cs aw
+due_first : (m : Machine) (cs : List Client) (aw : List ℕ) → AllSuit m cs aw → AreDue m cs aw
 due_first m cs aw s = each_both (λ c. Suits m c) (λ c. IsAwakeOrQuiet aw c) (λ c. Rests m c ⊎ Has aw c.id.0) cs (λ c suits h. by_case c suits h) s.suit s.asleep
   where
     by_case : (c : Client) → Suits m c → IsAwakeOrQuiet aw c → Rests m c ⊎ Has aw c.id.0
@@ -600,18 +620,18 @@ due_absent m cs aw p absent due = by_place (cases_lt p (length aw))
     by_place (inr past) = each_to (λ c. Rests m c ⊎ Has (drop p aw) c.id.0) (λ c. Rests m c ⊎ Has (drop (suc p) aw) c.id.0) cs (λ c h. by_past c past h) due
 
 -- no client was there to be visited
-pub visits_absent : (a : Running) (cs : List Client) (aw : List ℕ) (p : ℕ) (still : Type 0) → (Rise cs → p < length aw → AllByRecursion (λ c. (x : ℕ) → get_or aw p x ≡ c.id.0 → ⊥) cs) → Visits a a cs cs aw p still
+pub visits_absent : (a : Running) (cs : List Client) (aw : List ℕ) (p : ℕ) (still : Type 0) → (Rise cs → p < length aw → AllByRecursion (λ c. (x : ℕ) → get_or aw p x ≡ c.id.0 → ⊥) cs) → VisitsAt a a cs cs aw p still
 visits_absent a cs aw p still absent = λ m r s. (m, r, s, λ h due. due_absent m cs aw p (absent s.rise) due)
 
 -- something was done for a client, which may have left
-pub visits_made : (a b : Running) (cs ds : List Client) (aw : List ℕ) (p : ℕ) (still : Type 0) → (still → ⊥) → StandsOn a b cs aw ds aw → Visits a b cs ds aw p still
+pub visits_made : (a b : Running) (cs ds : List Client) (aw : List ℕ) (p : ℕ) (still : Type 0) → (still → ⊥) → SuitOn a b cs aw ds aw → VisitsAt a b cs ds aw p still
 visits_made a b cs ds aw p still never on = λ m r s.
     let t = on m r s in
     (t.0, t.1, t.2, λ h due. absurd (never h))
 
 -- a client was tended
 pub on_tended : (a b : Running) (cs : List Client) (aw : List ℕ) (p i : ℕ) (c e : Client) → i < length cs → p < length aw → ((d : Client) (x : ℕ) → get_or aw p x ≡ (get_or cs i d).id.0) → c ≡ get_or cs i c → Tends a b c e
-    → StandsOn a b cs aw (set cs i e) aw
+    → SuitOn a b cs aw (set cs i e) aw
 on_tended a b cs aw p i c e below inside at is tends = λ m r s.
     let t = tends m r s.numbered (subst (λ z. Suits m z) (sym is) (each_at (λ x. Suits m x) cs i c s.suit below)) in
     let same : e.id ≡ (get_or cs i c).id = t.3 ∙ ap (λ z. z.id) is in (
@@ -622,7 +642,7 @@ on_tended a b cs aw p i c e below inside at is tends = λ m r s.
     )
 
 pub visits_tended : (a b : Running) (cs : List Client) (aw : List ℕ) (p i : ℕ) (c f e : Client) (still : Type 0) → i < length cs → p < length aw → ((d : Client) (x : ℕ) → get_or aw p x ≡ (get_or cs i d).id.0) → c ≡ get_or cs i c
-    → Tends a b c e → (still → Waits f e × IsServed e) → (f.blocked ≡ false → IsSent f.pending) → (f.phase ≡ phase.Closed → IsSent f.pending → ⊥) → Visits a b cs (set cs i e) aw p still
+    → Tends a b c e → (still → Waits f e × IsServed e) → (f.blocked ≡ false → IsSent f.pending) → (f.phase ≡ phase.Closed → IsSent f.pending → ⊥) → VisitsAt a b cs (set cs i e) aw p still
 visits_tended a b cs aw p i c f e still below inside at is tends rests sent over = λ m r s.
     let t = tends m r s.numbered (subst (λ z. Suits m z) (sym is) (each_at (λ x. Suits m x) cs i c s.suit below)) in
     let same : e.id ≡ (get_or cs i c).id = t.3 ∙ ap (λ z. z.id) is in
@@ -637,7 +657,7 @@ visits_tended a b cs aw p i c f e still below inside at is tends rests sent over
 
 -- the clients stand, and while nothing was done those that were visited rest
 pub record Round (a b : Running) (cs : List Client) (aw : List ℕ) (ds : List Client) (bw : List ℕ) (p : ℕ) (still : Type 0) : Type 0 where
-  pub goes : (m : Machine) → Refines a m → Stands m cs aw → (n : Machine) × Refines b n × Stands n ds bw × (still → AreDue n ds (drop p bw))
+  pub goes : (m : Machine) → Refines a m → AllSuit m cs aw → (n : Machine) × Refines b n × AllSuit n ds bw × (still → AreDue n ds (drop p bw))
 
 pub round_first : (a b : Running) (cs : List Client) (aw : List ℕ) (still : Type 0) → PassesBy a b → Round a b cs aw cs aw 0 still
 round_first a b cs aw still by = record {
@@ -648,8 +668,8 @@ round_first a b cs aw still by = record {
 }
 
 -- one visit more, after which the connection may sleep
-pub round_next : (a b x : Running) (cs ds es fs : List Client) (aw bw vw xw : List ℕ) (p q : ℕ) (still now later : Type 0) → (later → still × now) → Round a b cs aw ds bw p still → Visits b x ds es bw p now → vw ≡ bw
-    → ((m : Machine) → Stands m es vw → Stands m fs xw) → fs ≡ es → drop q xw ≡ drop (suc p) vw → Round a x cs aw fs xw q later
+pub round_next : (a b x : Running) (cs ds es fs : List Client) (aw bw vw xw : List ℕ) (p q : ℕ) (still now later : Type 0) → (later → still × now) → Round a b cs aw ds bw p still → VisitsAt b x ds es bw p now → vw ≡ bw
+    → ((m : Machine) → AllSuit m es vw → AllSuit m fs xw) → fs ≡ es → drop q xw ≡ drop (suc p) vw → Round a x cs aw fs xw q later
 round_next a b x cs ds es fs aw bw vw xw p q still now later before one visit same sleeps are next = record {
   goes = λ m r s.
       let t = one.goes m r s in
@@ -657,23 +677,23 @@ round_next a b x cs ds es fs aw bw vw xw p q still now later before one visit sa
       let rest : drop q xw ≡ drop (suc p) bw = next ∙ ap (λ ks. drop (suc p) ks) same in (
         u.0,
         u.1,
-        sleeps u.0 (subst (λ ks. Stands u.0 es ks) (sym same) u.2),
+        sleeps u.0 (subst (λ ks. AllSuit u.0 es ks) (sym same) u.2),
         λ h. subst (λ ks. AreDue u.0 fs ks) (sym rest) (subst (λ xs. AreDue u.0 xs (drop (suc p) bw)) (sym are) (u.3 (before h).1 (t.3 (before h).0))),
       );
 }
 
-pub round_last : (a b : Running) (cs ds : List Client) (aw bw : List ℕ) (p : ℕ) (still : Type 0) → length bw ≤ p → Round a b cs aw ds bw p still → Settles a b cs aw ds bw still
+pub round_last : (a b : Running) (cs ds : List Client) (aw bw : List ℕ) (p : ℕ) (still : Type 0) → length bw ≤ p → Round a b cs aw ds bw p still → SettlesOn a b cs aw ds bw still
 round_last a b cs ds aw bw p still past one = λ m r s.
     let t = one.goes m r s in
     (t.0, t.1, t.2, λ h. due_last t.0 ds (drop p bw) (drop_all p bw past) (t.3 h))
 
-pub settles_on : (a b x : Running) (cs ds es : List Client) (aw bw xw : List ℕ) (still : Type 0) → StandsOn a b cs aw ds bw → Settles b x ds bw es xw still → Settles a x cs aw es xw still
+pub settles_on : (a b x : Running) (cs ds es : List Client) (aw bw xw : List ℕ) (still : Type 0) → SuitOn a b cs aw ds bw → SettlesOn b x ds bw es xw still → SettlesOn a x cs aw es xw still
 settles_on a b x cs ds es aw bw xw still one other = λ m r s.
     let t = one m r s in
     other t.0 t.1 t.2
 
 -- what settles stands
-pub on_settled : (a b : Running) (cs ds : List Client) (aw bw : List ℕ) (still : Type 0) → Settles a b cs aw ds bw still → StandsOn a b cs aw ds bw
+pub on_settled : (a b : Running) (cs ds : List Client) (aw bw : List ℕ) (still : Type 0) → SettlesOn a b cs aw ds bw still → SuitOn a b cs aw ds bw
 on_settled a b cs ds aw bw still one = λ m r s.
     let t = one m r s in
     (t.0, t.1, t.2)

@@ -1,22 +1,20 @@
 -- What the server makes of the machine and of the desk.
-use Rattle.std.specs.Prelude.{◌≡◌, ℕ, ◌≤◌, List, [], ◌∷◌, ◌++◌, length, Option}
+use Rattle.std.specs.Prelude.{◌≡◌, ◌≤◌, List, [], ◌∷◌, ◌++◌, length, Option}
 use Rattle.kapi_policy.specs.declared.change.PolicyChange.{PolicyChange}
 use Rattle.kapi_core.specs.Gains.{NobodyGainsDuring}
 use Rattle.kapi_core.specs.Machine.{Machine, after, answers}
 use Rattle.kapi_core.specs.Running.{Running}
-use Rattle.kapi_core.specs.Refines.{Makes, Refines}
+use Rattle.kapi_core.specs.Refines.{Refines}
 use Rattle.kapi_core.specs.Telling.{changes_told}
-use Rattle.kapi_core.specs.declared.event.Event.TheVariants as event
 use Rattle.kapi_core.specs.declared.event.Answer.{Answer}
-use Rattle.kapi_core.specs.declared.event.Answer.TheVariants as answer
 use Rattle.kapi_desk.specs.Boards.{Board}
 use Rattle.kapi_serve.specs.Account.{Account, Made}
 use Rattle.kapi_serve.specs.Acts.{Act, Follows, Seat, answers_of, entries_in, events_of, made_in}
 use Rattle.kapi_serve.specs.Policies.{ShowsPolicies}
+use Rattle.kapi_serve.specs.Ports.{Adds, Report}
 use Rattle.kapi_desk.specs.Steps.{step_of}
 use Rattle.kapi_serve.specs.Shows.{Shows}
 use Rattle.kapi_serve.specs.declared.port.Entry.{Entry}
-use Rattle.kapi_serve.specs.declared.port.Entry.TheVariants as entry
 
 -- the events were made on the machine, and answered as they say
 abbrev pub Runs : Running → Running → List Made → Type 0
@@ -31,43 +29,27 @@ unfoldable pub steps_in : List Answer → List (List PolicyChange)
 steps_in [] = []
 steps_in (a ∷ rest) = step_in a ++ steps_in rest
 
--- so many clients come before one
-abbrev pub IsAt : ℕ → List Seat → List Seat → Seat → List Seat → Type 0
-IsAt index seats front x back = (seats ≡ front ++ x ∷ back) × (length front ≡ index)
+-- a moment of a server: the machine, what its desk has, the step that is kept, the clients, and what the ports report
+pub record Moment : Type 1 where
+  pub core : Running
+  pub desk : Board
+  pub kept : Option (List PolicyChange)
+  pub seats : List Seat
+  pub report : Report
 
--- bytes that a client was owed were sent to it
-pub record Writes (x y : Seat) (T U : Type 0) (history next : List Entry) : Type 0 where
+-- acts were made from one moment to another, and the steps of their events were put behind the others
+pub record Goes (old new : Moment) : Type 0 where
   pub acts : List Act
-  pub idle : made_in acts ≡ []
-  pub follows : (front back : List Seat) → Follows (front ++ x ∷ back) acts (front ++ y ∷ back)
-  pub told : U → T × (next ≡ history ++ entries_in acts)
-
--- a client's connection was closed and its slot ended
-pub record Closes (old new : Running) (x : Seat) (T U : Type 0) (history next : List Entry) : Type 0 where
-  pub makes : Makes old new (event.Close x.conn) answer.Done
-  pub told : U → T × (next ≡ history ++ entry.Ended x.slot ∷ [])
-
--- acts whose events change no policy were made
-pub record Moves (old new : Running) (s t : List Seat) (T U : Type 0) (history next : List Entry) : Type 0 where
-  pub acts : List Act
-  pub runs : Runs old new (made_in acts)
-  pub quiet : steps_in (answers_of (made_in acts)) ≡ []
-  pub follows : Follows s acts t
-  pub told : U → T × (next ≡ history ++ entries_in acts)
-
--- acts were made, and the steps of their events were put behind the others
-pub record Goes (old new : Running) (board next : Board) (p q : Option (List PolicyChange)) (s t : List Seat) (T U : Type 0) (history later : List Entry) : Type 0 where
-  pub acts : List Act
-  pub runs : Runs old new (made_in acts)
-  pub shows : Shows board next p q (steps_in (answers_of (made_in acts)))
-  pub follows : Follows s acts t
-  pub told : U → T × (later ≡ history ++ entries_in acts)
+  pub runs : Runs old.core new.core (made_in acts)
+  pub shows : Shows old.desk new.desk old.kept new.kept (steps_in (answers_of (made_in acts)))
+  pub follows : Follows old.seats acts new.seats
+  pub told : Adds old.report new.report (entries_in acts)
 
 -- what a server did: its events are one list, after which the machine is that of their run; the desk has published the
 -- steps of their answers in order, all but at most the last, so what it publishes is a policy that the machine had; and
 -- where the ports report what they read and wrote, the bytes and the events are accounted for; from any moment on nobody
 -- gains by the events that follow
-pub record Serves (old new : Running) (board next : Board) (tells : Type 0) (history later : List Entry) : Type 0 where
+pub record Serves (old new : Running) (board next : Board) (report later : Report) : Type 0 where
   pub made : List Made
   pub runs : Runs old new made
   pub opening : next.opening ≡ board.opening
@@ -76,6 +58,6 @@ pub record Serves (old new : Running) (board next : Board) (tells : Type 0) (his
   pub prompt : length left ≤ 1
   pub policies : ShowsPolicies old board next (events_of made)
   pub entries : List Entry
-  pub told : tells → later ≡ history ++ entries
+  pub told : later.tells → later.history ≡ report.history ++ entries
   pub account : (m : Machine) → Refines old m → Account entries made
   pub gains : (m : Machine) → Refines old m → NobodyGainsDuring m (events_of made)

@@ -1,10 +1,23 @@
--- What the calls on ports add to their history.
-use Rattle.std.specs.Prelude.{ℕ, List, [], ◌∷◌, take, Option, Some, Result, Ok, Err}
+-- What ports report, and what their calls add to it.
+use Rattle.std.specs.Prelude.{◌≡◌, ℕ, List, [], ◌∷◌, ◌++◌, take, Option, Some, Result, Ok, Err}
 use Rattle.kapi_serve.specs.declared.port.Entry.{Entry}
 use Rattle.kapi_serve.specs.declared.port.Entry.TheVariants as entry
 use Rattle.kapi_serve.specs.declared.port.PortEvent.{PortEvent}
 use Rattle.kapi_serve.specs.declared.port.PortEvent.TheVariants as event
 use Rattle.kapi_serve.specs.declared.port.PortFault.{PortFault}
+
+-- what the calls on ports read and wrote so far, and evidence that all of them reported it, where they did
+pub record Report : Type 1 where
+  pub tells : Type 0
+  pub history : List Entry
+
+-- ports of which no call is reported
+abbrev pub untold : Report
+untold = record { tells = ⊥; history = [] }
+
+-- where a call is reported, those before it were, and these entries were put behind the others
+abbrev pub Adds : Report → Report → List Entry → Type 0
+Adds old new entries = new.tells → old.tells × (new.history ≡ old.history ++ entries)
 
 -- a client that has connected
 abbrev pub opened : Option PortEvent → List Entry

@@ -4,3 +4,4 @@ pub mod Clients
 pub mod Turns
 pub mod Stands
 pub mod Progresses
+pub mod Moments

@@ -1,15 +1,13 @@
-ghost use Rattle.std.specs.Prelude.{◌≡◌, ◌⊎◌, ◌<◌, ◌≤◌, List, [], ◌∷◌, ◌++◌, None, true, false, if◌then◌else◌, ⊤};
+ghost use Rattle.std.specs.Prelude.{◌≡◌, ◌⊎◌, ◌<◌, ◌≤◌, [], ◌++◌, None, true, false, if◌then◌else◌};
 ghost use Rattle.std.specs.VecDeque.{deque_len, deque_capacity};
-ghost use Rattle.kapi_serve.specs.Acts.{Seat};
 ghost use Rattle.kapi_serve.specs.Private.Clients.{seat_of};
-ghost use Rattle.kapi_serve.specs.Goes.{Goes, Moves, Writes};
+ghost use Rattle.kapi_serve.specs.Private.Moments.{GoesFor, Writes, stage};
 ghost use Rattle.kapi_serve.specs.Private.Pieces.{IsCounted, IsSent, owed};
 ghost use Rattle.kapi_serve.specs.Private.Stands.{Finishes, IsQuiet, IsServed, Keeps, Tends, Waits};
 ghost use Rattle.kapi_desk.specs.Steps.{step_of};
 ghost use Rattle.kapi_serve.specs.Shows.{Shows};
 ghost use Rattle.kapi_serve.specs.declared.client.Flushed.TheVariants as flush;
 ghost use Rattle.kapi_serve.specs.declared.client.Phase.TheVariants as phase;
-ghost use Rattle.kapi_serve.specs.declared.port.Entry.{Entry as AnEntry};
 ghost use Rattle.kapi_serve.specs.declared.progress.Progress.TheVariants as progress;
 
 use crate::pending::Pending;
@@ -68,7 +66,7 @@ impl Client {
 
     /// Writes pending bytes until the slot takes no more.
     pub(crate) fn flush<R: Wait, Q: Ports>(&mut self, rt: &R, ports: &mut Q) -> Flushed
-        ensures writes { Writes (seat_of self.old) (seat_of self.new) (Q.tells ports.old) (Q.tells ports.new) (Q.history ports.old) (Q.history ports.new) }
+        ensures writes { Writes self.old self.new (Q.report ports.old) (Q.report ports.new) }
         ensures keeps { Keeps self.old self.new }
         ensures offered { result ≡ flush.Nothing → self.new.blocked ≡ false → IsSent self.new.pending }
     {
@@ -85,7 +83,7 @@ impl Client {
 
     /// Makes one write. A write that takes no byte is as one that would block.
     fn write<Q: Ports>(&mut self, ports: &mut Q) -> Flushed
-        ensures writes { Writes (seat_of self.old) (seat_of self.new) (Q.tells ports.old) (Q.tells ports.new) (Q.history ports.old) (Q.history ports.new) }
+        ensures writes { Writes self.old self.new (Q.report ports.old) (Q.report ports.new) }
         ensures keeps { Keeps self.old self.new }
         ensures offered { result ≡ flush.Nothing → self.new.blocked ≡ false → IsSent self.new.pending }
     {
@@ -145,7 +143,7 @@ impl Client {
         desk: &mut Desk,
         publishing: &mut Publishing,
     ) -> Progress
-        ensures goes { (front back : List Seat) (h : List AnEntry) → Goes core.old core.new desk.old desk.new publishing.old.kept publishing.new.kept (front ++ seat_of self.old ∷ back) (front ++ seat_of self.new ∷ back) ⊤ ⊤ h h }
+        ensures goes { GoesFor (stage core.old desk.old publishing.old) (stage core.new desk.new publishing.new) self.old self.new }
         ensures tends { Tends core.old core.new self.old self.new }
         ensures still { result ≡ progress.Still → Waits self.old self.new × IsServed self.new }
     {
@@ -180,7 +178,7 @@ impl Client {
         desk: &mut Desk,
         publishing: &mut Publishing,
     ) -> Progress
-        ensures goes { (front back : List Seat) (h : List AnEntry) → Goes core.old core.new desk.old desk.new publishing.old.kept publishing.new.kept (front ++ seat_of self.old ∷ back) (front ++ seat_of self.new ∷ back) ⊤ ⊤ h h }
+        ensures goes { GoesFor (stage core.old desk.old publishing.old) (stage core.new desk.new publishing.new) self.old self.new }
         ensures tends { Tends core.old core.new self.old self.new }
         ensures still { result ≡ progress.Still → Waits self.old self.new × Keeps self.old self.new }
     {
@@ -238,8 +236,7 @@ impl Client {
 
     /// Closes the connection where the client's bytes have ended.
     fn finish<P: Policy + Drop>(&mut self, core: &mut Core<P>) -> Progress
-        ensures moves { (front back : List Seat) (h : List AnEntry) → Moves core.old core.new (front ++ seat_of self.old ∷ back) (front ++ seat_of self.new ∷ back) ⊤ ⊤ h h }
-        ensures finishes { Finishes core.old core.new self.old self.new result }
+        ensures { Finishes core.old core.new self.old self.new result }
     {
         match self.phase {
             Phase::Ending => {

@@ -1,14 +1,12 @@
-ghost use Rattle.std.specs.Prelude.{◌≡◌, ◌<◌, ◌+◌, ℕ, List, [], ◌∷◌, ◌++◌, drop, None, IfSome, OnOk, ◌==◌, length, map, suc, vec_len, vec_capacity, ⊤};
-ghost use Rattle.std.specs.List.{AllByRecursion, HoldsAt, position};
-ghost use Rattle.kapi_aggregation.specs.Members.{Has};
+ghost use Rattle.std.specs.Prelude.{◌≡◌, ◌<◌, ◌+◌, [], ◌∷◌, ◌++◌, drop, None, IfSome, OnOk, ◌==◌, length, map, suc, vec_len, vec_capacity};
+ghost use Rattle.std.specs.List.{HoldsAt, position};
 ghost use Rattle.kapi_core.specs.Machine.{Machine};
-ghost use Rattle.kapi_serve.specs.Acts.{IsFree, Seat};
+ghost use Rattle.kapi_serve.specs.Acts.{IsFree};
 ghost use Rattle.kapi_serve.specs.Private.Clients.{freed, freed_on, others, seats_of};
-ghost use Rattle.kapi_serve.specs.Private.Stands.{IsNew, IsNumbered, Rise, Stands, StandsOn};
-ghost use Rattle.kapi_serve.specs.Goes.{Closes, IsAt, Moves};
+ghost use Rattle.kapi_serve.specs.Private.Moments.{Ends, FeedsOrEnds, Moves, MovesAfter, unasked};
+ghost use Rattle.kapi_serve.specs.Private.Stands.{IsAwakeAt, IsNew, IsNumbered, IsOf, IsOfNone, Rise, Stands, StandsOn};
 ghost use Rattle.kapi_serve.specs.declared.client.Client.{Client as AClient};
 ghost use Rattle.kapi_serve.specs.declared.client.Phase.TheVariants as phase;
-ghost use Rattle.kapi_serve.specs.declared.port.Entry.{Entry as AnEntry};
 ghost use Rattle.kapi_serve.specs.declared.port.Entry.TheVariants as entry;
 
 use crate::awake::Awake;
@@ -42,7 +40,7 @@ pub(crate) enum Pulled {
 impl Clients {
     pub(crate) fn new(alloc: Global) -> Clients
         ensures seats { seats_of result.list.items ≡ [] }
-        ensures stands { (m : Machine) → IsNumbered m → Stands m result.list.items result.awake.numbers.items }
+        ensures stands { (m : Machine) → IsNumbered m → Stands m result }
     {
         Clients {
             alloc,
@@ -54,9 +52,9 @@ impl Clients {
     /// The place of one of the awake connections, if it is still there.
     pub(crate) fn awake_at(&self, position: usize) -> Option<usize>
         ensures bound { IfSome result (λ i. i < length self.now.list.items) }
-        ensures found { IfSome result (λ i. HoldsAt (λ client. HoldsAt (λ number. number ≡ client.id.0) self.now.awake.numbers.items position) self.now.list.items i) }
+        ensures found { IfSome result (λ i. IsOf position i self.now) }
         ensures inside { IfSome result (λ i. position < length self.now.awake.numbers.items) }
-        ensures absent { result ≡ None → Rise self.now.list.items → position < length self.now.awake.numbers.items → AllByRecursion (λ client. HoldsAt (λ number. number ≡ client.id.0 → ⊥) self.now.awake.numbers.items position) self.now.list.items }
+        ensures absent { result ≡ None → Rise self.now.list.items → IsOfNone position self.now }
     {
         let id = self.awake.get(position)?;
         self.list
@@ -67,7 +65,7 @@ impl Clients {
     /// Lets one of the awake connections sleep, if nothing can be done at it. Returns the position of the next one.
     pub(crate) fn pass(&mut self, position: usize) -> usize
         ensures list { self.new.list ≡ self.old.list }
-        ensures stands { (m : Machine) → Stands m self.old.list.items self.old.awake.numbers.items → Stands m self.new.list.items self.new.awake.numbers.items }
+        ensures stands { (m : Machine) → Stands m self.old → Stands m self.new }
         ensures next { drop result self.new.awake.numbers.items ≡ drop (suc position) self.old.awake.numbers.items }
         ensures left { position < length self.old.awake.numbers.items → length self.new.awake.numbers.items + suc position ≡ length self.old.awake.numbers.items + result }
     {
@@ -88,8 +86,8 @@ impl Clients {
         slot: usize,
         identity: Identity,
     )
-        ensures moves { (h : List AnEntry) → (Q.tells ports.old → Q.history ports.old ≡ h ++ entry.Opened slot identity ∷ []) → Moves core.old core.new (seats_of self.old.list.items) (seats_of self.new.list.items) (Q.tells ports.old) (Q.tells ports.new) h (Q.history ports.new) }
-        ensures stands { StandsOn core.old core.new self.old.list.items self.old.awake.numbers.items self.new.list.items self.new.awake.numbers.items }
+        ensures moves { MovesAfter (entry.Opened slot identity) core.old core.new self.old self.new (Q.report ports.old) (Q.report ports.new) }
+        ensures stands { StandsOn core.old core.new self.old self.new }
     {
         self.forget(core, slot);
         if self.reserve().is_err() {
@@ -138,7 +136,7 @@ impl Clients {
     /// The place of the connection on a slot, if there is one.
     fn place(&self, slot: usize) -> Option<usize>
         ensures bound { IfSome result (λ i. i < length self.now.list.items) }
-        ensures found { IfSome result (λ i. (front : List Seat) × (x : Seat) × (back : List Seat) × IsAt i (seats_of self.now.list.items) front x back × (x.slot ≡ slot)) }
+        ensures found { IfSome result (λ i. HoldsAt (λ client. client.slot ≡ slot) self.now.list.items i) }
         ensures free { result ≡ None → IsFree slot (seats_of self.now.list.items) }
         ensures first { result ≡ position (λ client. client.slot == slot) self.now.list.items }
     {
@@ -147,9 +145,9 @@ impl Clients {
 
     /// Closes the connection on a slot that is given to another client.
     fn forget<P: Policy + Drop>(&mut self, core: &mut Core<P>, slot: usize)
-        ensures moves { (h : List AnEntry) → Moves core.old core.new (seats_of self.old.list.items) (seats_of self.new.list.items) ⊤ ⊤ h h }
+        ensures moves { Moves core.old core.new self.old self.new unasked unasked }
         ensures free { IsFree slot (seats_of self.new.list.items) }
-        ensures stands { StandsOn core.old core.new self.old.list.items self.old.awake.numbers.items self.new.list.items self.new.awake.numbers.items }
+        ensures stands { StandsOn core.old core.new self.old self.new }
     {
         while let Some(index) = self.place(slot) {
             let client = self.list.remove(index);
@@ -165,11 +163,7 @@ impl Clients {
         index: usize,
     )
         requires { index < length self.old.list.items }
-        ensures length { length self.new.list.items + 1 ≡ length self.old.list.items }
-        ensures awake { self.new.awake.numbers.items ≡ self.old.awake.numbers.items }
-        ensures stands { StandsOn core.old core.new self.old.list.items self.old.awake.numbers.items self.new.list.items self.old.awake.numbers.items }
-        ensures seats { (front : List Seat) (x : Seat) (back : List Seat) → IsAt index (seats_of self.old.list.items) front x back → seats_of self.new.list.items ≡ front ++ back }
-        ensures closes { (front : List Seat) (x : Seat) (back : List Seat) → IsAt index (seats_of self.old.list.items) front x back → Closes core.old core.new x (Q.tells ports.old) (Q.tells ports.new) (Q.history ports.old) (Q.history ports.new) }
+        ensures { Ends index core.old core.new self.old self.new (Q.report ports.old) (Q.report ports.new) }
     {
         let client = self.list.remove(index);
         core.close(client.id);
@@ -180,7 +174,7 @@ impl Clients {
     pub(crate) fn unblock(&mut self, slot: usize)
         ensures freed { self.new.list.items ≡ freed_on slot self.old.list.items }
         ensures seats { seats_of self.new.list.items ≡ seats_of self.old.list.items }
-        ensures stands { (m : Machine) → Stands m self.old.list.items self.old.awake.numbers.items → Stands m self.new.list.items self.new.awake.numbers.items }
+        ensures stands { (m : Machine) → Stands m self.old → Stands m self.new }
     {
         match self.place(slot) {
             Some(index) => self.list[index].blocked = false,
@@ -192,7 +186,7 @@ impl Clients {
     pub(crate) fn unblock_all(&mut self)
         ensures freed { self.new.list.items ≡ map freed self.old.list.items }
         ensures seats { seats_of self.new.list.items ≡ seats_of self.old.list.items }
-        ensures stands { (m : Machine) → Stands m self.old.list.items self.old.awake.numbers.items → Stands m self.new.list.items self.new.awake.numbers.items }
+        ensures stands { (m : Machine) → Stands m self.old → Stands m self.new }
     {
         for index in 0..self.list.len() {
             self.list[index].blocked = false;
@@ -207,9 +201,9 @@ impl Clients {
         slot: usize,
         buffer: &mut [u8],
     ) -> Pulled
-        ensures moves { Moves core.old core.new (seats_of self.old.list.items) (seats_of self.new.list.items) (Q.tells ports.old) (Q.tells ports.new) (Q.history ports.old) (Q.history ports.new) }
+        ensures moves { Moves core.old core.new self.old self.new (Q.report ports.old) (Q.report ports.new) }
         ensures others { others slot (seats_of self.new.list.items) ≡ others slot (seats_of self.old.list.items) }
-        ensures stands { StandsOn core.old core.new self.old.list.items self.old.awake.numbers.items self.new.list.items self.new.awake.numbers.items }
+        ensures stands { StandsOn core.old core.new self.old self.new }
     {
         let Some(index) = self.place(slot) else {
             return Pulled::Stopped;
@@ -239,7 +233,7 @@ impl Clients {
     fn reach_end(&mut self, index: usize)
         requires { index < length self.old.list.items }
         ensures seats { seats_of self.new.list.items ≡ seats_of self.old.list.items }
-        ensures stands { HoldsAt (λ client. Has self.old.awake.numbers.items client.id.0) self.old.list.items index → (m : Machine) → Stands m self.old.list.items self.old.awake.numbers.items → Stands m self.new.list.items self.new.awake.numbers.items }
+        ensures stands { IsAwakeAt index self.old → (m : Machine) → Stands m self.old → Stands m self.new }
     {
         let client = &mut self.list[index];
         client.phase = Phase::Ending;
@@ -256,9 +250,8 @@ impl Clients {
     ) -> Pulled
         requires bound { index < length self.old.list.items }
         requires reading { HoldsAt (λ client. client.phase ≡ phase.Open) self.old.list.items index }
-        ensures stands { HoldsAt (λ client. Has self.old.awake.numbers.items client.id.0) self.old.list.items index → StandsOn core.old core.new self.old.list.items self.old.awake.numbers.items self.new.list.items self.new.awake.numbers.items }
-        ensures others { (front : List Seat) (x : Seat) (back : List Seat) → IsAt index (seats_of self.old.list.items) front x back → others x.slot (seats_of self.new.list.items) ≡ others x.slot (seats_of self.old.list.items) }
-        ensures moves { (front : List Seat) (x : Seat) (back : List Seat) → IsAt index (seats_of self.old.list.items) front x back → (h : List AnEntry) → (Q.tells ports.old → Q.history ports.old ≡ h ++ entry.Gave x.slot piece.now ∷ []) → Moves core.old core.new (seats_of self.old.list.items) (seats_of self.new.list.items) (Q.tells ports.old) (Q.tells ports.new) h (Q.history ports.new) }
+        ensures stands { IsAwakeAt index self.old → StandsOn core.old core.new self.old self.new }
+        ensures feeds { FeedsOrEnds index piece.now core.old core.new self.old self.new (Q.report ports.old) (Q.report ports.new) }
     {
         match core.feed(self.list[index].id, piece) {
             Ok(()) => {

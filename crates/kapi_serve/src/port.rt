@@ -1,5 +1,5 @@
-ghost use Rattle.std.specs.Prelude.{◌≡◌, ◌≤◌, ◌<◌, ◌++◌, [], ◌∷◌, IfOk, Err, length};
-ghost use Rattle.kapi_serve.specs.Ports.{gave, opened, took};
+ghost use Rattle.std.specs.Prelude.{◌≡◌, ◌≤◌, ◌<◌, [], ◌∷◌, IfOk, Err, length};
+ghost use Rattle.kapi_serve.specs.Ports.{Adds, gave, opened, took};
 ghost use Rattle.kapi_serve.specs.declared.port.Entry.TheVariants as entry;
 ghost use Rattle.kapi_serve.specs.declared.port.PortFault.TheVariants as fault;
 
@@ -43,36 +43,33 @@ pub enum Entry {
 
 /// Connections that are read and written without waiting.
 pub trait Ports {
-    ghost use Rattle.std.specs.Prelude.{ℕ, List};
-    ghost use Rattle.kapi_serve.specs.declared.port.Entry.{Entry as AnEntry};
+    ghost use Rattle.std.specs.Prelude.{ℕ};
+    ghost use Rattle.kapi_serve.specs.Ports.{Report, untold};
 
-    /// What the calls read and wrote so far.
-    ghost history: { Self → List AnEntry };
-
-    /// Evidence that all calls so far reported the history, where they did.
-    ghost tells: { Self → Type 0 } = { λ ports. ⊥ };
+    /// What the calls read and wrote so far, with evidence that all of them reported it, where they did.
+    ghost report: { Self → Report } = { λ ports. untold };
 
     /// How often a slot has failed.
     ghost failures: { Self → ℕ };
 
     /// The next event; none where there will be none any more.
     fn next(&mut self) -> Option<PortEvent>
-        ensures told { tells self.new → tells self.old × (history self.new ≡ history self.old ++ opened result) };
+        ensures told { Adds (report self.old) (report self.new) (opened result) };
 
     /// Reads into the buffer; 0 is the end of the client's bytes.
     fn read(&mut self, slot: usize, buffer: &mut [u8]) -> Result<usize, PortFault>
         ensures len { length buffer.new ≡ length buffer.old }
         ensures bound { IfOk result (λ n. n ≤ length buffer.new) }
-        ensures told { tells self.new → tells self.old × (history self.new ≡ history self.old ++ gave slot buffer.new result) }
+        ensures told { Adds (report self.old) (report self.new) (gave slot buffer.new result) }
         ensures failed { result ≡ Err fault.Failed → failures self.old < failures self.new };
 
     /// Writes some of the bytes.
     fn write(&mut self, slot: usize, bytes: &[u8]) -> Result<usize, PortFault>
         ensures bound { IfOk result (λ n. n ≤ length bytes.now) }
-        ensures told { tells self.new → tells self.old × (history self.new ≡ history self.old ++ took slot bytes.now result) }
+        ensures told { Adds (report self.old) (report self.new) (took slot bytes.now result) }
         ensures failed { result ≡ Err fault.Failed → failures self.old < failures self.new };
 
     /// Ends a slot.
     fn end(&mut self, slot: usize)
-        ensures told { tells self.new → tells self.old × (history self.new ≡ history self.old ++ entry.Ended slot ∷ []) };
+        ensures told { Adds (report self.old) (report self.new) (entry.Ended slot ∷ []) };
 }

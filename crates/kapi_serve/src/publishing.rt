@@ -1,11 +1,11 @@
-ghost use Rattle.std.specs.Prelude.{◌≡◌, List, Option, [], ◌∷◌, None, true, false, ⊤};
+ghost use Rattle.std.specs.Prelude.{◌≡◌, List, Option, [], ◌∷◌, None, true, false};
 ghost use Rattle.kapi_policy.specs.declared.change.PolicyChange.{PolicyChange as AChange};
 ghost use Rattle.kapi_serve.specs.Acts.{Seat};
 ghost use Rattle.kapi_serve.specs.Goes.{Goes};
 ghost use Rattle.kapi_desk.specs.Steps.{step_of};
+ghost use Rattle.kapi_serve.specs.Private.Moments.{stage};
 ghost use Rattle.kapi_serve.specs.Private.Stands.{PassesBy};
 ghost use Rattle.kapi_serve.specs.Shows.{Shows, Takes};
-ghost use Rattle.kapi_serve.specs.declared.port.Entry.{Entry as AnEntry};
 
 use crate::progress::Progress;
 use kapi_core::Core;
@@ -100,7 +100,7 @@ impl Publishing {
         core: &mut Core<P>,
         desk: &mut Desk,
     ) -> Progress
-        ensures goes { (s : List Seat) (h : List AnEntry) → Goes core.old core.new desk.old desk.new self.old.kept self.new.kept s s ⊤ ⊤ h h }
+        ensures goes { (s : List Seat) → Goes (stage core.old desk.old self.old s) (stage core.new desk.new self.new s) }
         ensures passes { PassesBy core.old core.new }
     {
         let mut progress = Progress::Still;
@@ -121,7 +121,7 @@ impl Publishing {
         core: &mut Core<P>,
         desk: &mut Desk,
     ) -> Progress
-        ensures goes { (s : List Seat) (h : List AnEntry) → Goes core.old core.new desk.old desk.new self.old.kept self.new.kept s s ⊤ ⊤ h h }
+        ensures goes { (s : List Seat) → Goes (stage core.old desk.old self.old s) (stage core.new desk.new self.new s) }
         ensures passes { PassesBy core.old core.new }
     {
         if self.turns == 0 {

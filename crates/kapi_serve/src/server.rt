@@ -1,10 +1,8 @@
-ghost use Rattle.std.specs.Prelude.{◌≡◌, ℕ, List, [], ◌∷◌, ◌++◌, Some, map, ⊤};
-ghost use Rattle.kapi_serve.specs.Acts.{Seat};
-ghost use Rattle.kapi_serve.specs.Private.Clients.{freed, freed_on, seat_of, seats_of};
+ghost use Rattle.std.specs.Prelude.{◌≡◌, ℕ, [], map};
+ghost use Rattle.kapi_serve.specs.Private.Clients.{freed, freed_on};
+ghost use Rattle.kapi_serve.specs.Private.Moments.{GoesAfter, GoesFor, at, stage};
 ghost use Rattle.kapi_serve.specs.Private.Stands.{IsServed, Settles, StandsOn, Tends, Visits, Waits};
 ghost use Rattle.kapi_serve.specs.Goes.{Goes, Serves};
-ghost use Rattle.kapi_serve.specs.Ports.{opened};
-ghost use Rattle.kapi_serve.specs.declared.port.Entry.{Entry as AnEntry};
 ghost use Rattle.kapi_serve.specs.declared.port.PortEvent.TheVariants as happened;
 ghost use Rattle.kapi_serve.specs.declared.progress.Progress.TheVariants as progress;
 
@@ -37,7 +35,7 @@ pub fn serve_loop<R: Wait, P: Policy + Drop, Q: Ports>(
     ports: &mut Q,
 )
     requires { desk.old.waiting ≡ [] }
-    ensures { Serves core.old core.new desk.old desk.new (Q.tells ports.new) (Q.history ports.old) (Q.history ports.new) }
+    ensures { Serves core.old core.new desk.old desk.new (Q.report ports.old) (Q.report ports.new) }
 {
     let mut server = Server {
         clients: Clients::new(core.allocator()),
@@ -65,8 +63,8 @@ impl Server {
         buffer: &mut [u8],
         event: PortEvent,
     ) -> Progress
-        ensures goes { (h : List AnEntry) → (Q.tells ports.old → Q.history ports.old ≡ h ++ opened (Some event)) → Goes core.old core.new desk.old desk.new self.old.publishing.kept self.new.publishing.kept (seats_of self.old.clients.list.items) (seats_of self.new.clients.list.items) (Q.tells ports.old) (Q.tells ports.new) h (Q.history ports.new) }
-        ensures settles { Settles core.old core.new self.old.clients.list.items self.old.clients.awake.numbers.items self.new.clients.list.items self.new.clients.awake.numbers.items (result ≡ progress.Still) }
+        ensures goes { GoesAfter event (at core.old desk.old self.old (Q.report ports.old)) (at core.new desk.new self.new (Q.report ports.new)) }
+        ensures settles { Settles core.old core.new self.old.clients self.new.clients (result ≡ progress.Still) }
     {
         self.publishing.retry(rt, desk);
         self.take(rt, core, desk, ports, buffer, event);
@@ -83,8 +81,8 @@ impl Server {
         buffer: &mut [u8],
         event: PortEvent,
     )
-        ensures goes { (h : List AnEntry) → (Q.tells ports.old → Q.history ports.old ≡ h ++ opened (Some event)) → Goes core.old core.new desk.old desk.new self.old.publishing.kept self.new.publishing.kept (seats_of self.old.clients.list.items) (seats_of self.new.clients.list.items) (Q.tells ports.old) (Q.tells ports.new) h (Q.history ports.new) }
-        ensures stands { StandsOn core.old core.new self.old.clients.list.items self.old.clients.awake.numbers.items self.new.clients.list.items self.new.clients.awake.numbers.items }
+        ensures goes { GoesAfter event (at core.old desk.old self.old (Q.report ports.old)) (at core.new desk.new self.new (Q.report ports.new)) }
+        ensures stands { StandsOn core.old core.new self.old.clients self.new.clients }
         ensures writable { (slot : ℕ) → event ≡ happened.Writable slot → self.new.clients.list.items ≡ freed_on slot self.old.clients.list.items }
         ensures idle { event ≡ happened.Idle → self.new.clients.list.items ≡ map freed self.old.clients.list.items }
     {
@@ -106,8 +104,8 @@ impl Server {
         slot: usize,
         buffer: &mut [u8],
     )
-        ensures goes { Goes core.old core.new desk.old desk.new self.old.publishing.kept self.new.publishing.kept (seats_of self.old.clients.list.items) (seats_of self.new.clients.list.items) (Q.tells ports.old) (Q.tells ports.new) (Q.history ports.old) (Q.history ports.new) }
-        ensures stands { StandsOn core.old core.new self.old.clients.list.items self.old.clients.awake.numbers.items self.new.clients.list.items self.new.clients.awake.numbers.items }
+        ensures goes { Goes (at core.old desk.old self.old (Q.report ports.old)) (at core.new desk.new self.new (Q.report ports.new)) }
+        ensures stands { StandsOn core.old core.new self.old.clients self.new.clients }
     {
         for _ in rt.forever() {
             match self.clients.pull(core, ports, slot, buffer) {
@@ -127,8 +125,8 @@ impl Server {
         desk: &mut Desk,
         ports: &mut Q,
     ) -> Progress
-        ensures goes { Goes core.old core.new desk.old desk.new self.old.publishing.kept self.new.publishing.kept (seats_of self.old.clients.list.items) (seats_of self.new.clients.list.items) (Q.tells ports.old) (Q.tells ports.new) (Q.history ports.old) (Q.history ports.new) }
-        ensures settles { Settles core.old core.new self.old.clients.list.items self.old.clients.awake.numbers.items self.new.clients.list.items self.new.clients.awake.numbers.items (result ≡ progress.Still) }
+        ensures goes { Goes (at core.old desk.old self.old (Q.report ports.old)) (at core.new desk.new self.new (Q.report ports.new)) }
+        ensures settles { Settles core.old core.new self.old.clients self.new.clients (result ≡ progress.Still) }
     {
         for _ in rt.forever() {
             let progress = self.round(rt, core, desk, ports);
@@ -147,8 +145,8 @@ impl Server {
         desk: &mut Desk,
         ports: &mut Q,
     ) -> Progress
-        ensures goes { Goes core.old core.new desk.old desk.new self.old.publishing.kept self.new.publishing.kept (seats_of self.old.clients.list.items) (seats_of self.new.clients.list.items) (Q.tells ports.old) (Q.tells ports.new) (Q.history ports.old) (Q.history ports.new) }
-        ensures settles { Settles core.old core.new self.old.clients.list.items self.old.clients.awake.numbers.items self.new.clients.list.items self.new.clients.awake.numbers.items (result ≡ progress.Still) }
+        ensures goes { Goes (at core.old desk.old self.old (Q.report ports.old)) (at core.new desk.new self.new (Q.report ports.new)) }
+        ensures settles { Settles core.old core.new self.old.clients self.new.clients (result ≡ progress.Still) }
     {
         let mut progress = self.publishing.make_turns(rt, core, desk);
         let mut position = 0;
@@ -169,8 +167,8 @@ impl Server {
         ports: &mut Q,
         position: usize,
     ) -> Progress
-        ensures goes { Goes core.old core.new desk.old desk.new self.old.publishing.kept self.new.publishing.kept (seats_of self.old.clients.list.items) (seats_of self.new.clients.list.items) (Q.tells ports.old) (Q.tells ports.new) (Q.history ports.old) (Q.history ports.new) }
-        ensures visits { Visits core.old core.new self.old.clients.list.items self.new.clients.list.items self.old.clients.awake.numbers.items position (result ≡ progress.Still) }
+        ensures goes { Goes (at core.old desk.old self.old (Q.report ports.old)) (at core.new desk.new self.new (Q.report ports.new)) }
+        ensures visits { Visits core.old core.new self.old.clients self.new.clients position (result ≡ progress.Still) }
         ensures awake { self.new.clients.awake.numbers.items ≡ self.old.clients.awake.numbers.items }
     {
         let Some(index) = self.clients.awake_at(position) else {
@@ -199,7 +197,7 @@ fn answer<R: Wait, P: Policy + Drop>(
     publishing: &mut Publishing,
     client: &mut Client,
 ) -> Progress
-    ensures goes { (front back : List Seat) (h : List AnEntry) → Goes core.old core.new desk.old desk.new publishing.old.kept publishing.new.kept (front ++ seat_of client.old ∷ back) (front ++ seat_of client.new ∷ back) ⊤ ⊤ h h }
+    ensures goes { GoesFor (stage core.old desk.old publishing.old) (stage core.new desk.new publishing.new) client.old client.new }
     ensures tends { Tends core.old core.new client.old client.new }
     ensures still { result ≡ progress.Still → Waits client.old client.new × IsServed client.new }
 {

@@ -274,10 +274,6 @@ fn note(listeners: &mut Vec<Listener>, streams: &mut Vec<Option<Stream>>, event:
 }
 
 impl<C: Clock + Drop> Ports for Sockets<C> {
-    ghost use Rattle.std.specs.Prelude.{[]};
-
-    ghost history = { λ s. [] };
-
     ghost failures = { λ s. s.failures };
 
     fn next(&mut self) -> Option<PortEvent>

@@ -9,3 +9,4 @@ pub mod OnLiterals
 pub mod Spans
 pub mod Standing
 pub mod Equality
+pub mod Places

@@ -73,6 +73,19 @@ module _ {K X : Type 0} where
         | false ↦ (h.0, IsSpare_remove spare test es h.1)
       ]
 
+  -- where no slot is empty, a key without an object has none
+  pub slot_free : (test : K → Bool) (es : List (K × Option X)) → IsSpare None es → lookup test (live es) ≡ None → lookup test es ≡ None
+  unfolding IsSpare live
+  slot_free test [] h is = refl
+  slot_free test (e ∷ es) h is =
+      elim e.1 as (λ o. e.1 ≡ o → lookup test (held e.0 o (live es)) ≡ None → cond (test e.0) (Some e.1) (lookup test es) ≡ None) [
+        | None ↦ λ none. absurd (cc (h.0 none))
+        | Some x ↦ λ _ found. elim (test e.0) as (λ b. cond b (Some x) (lookup test (live es)) ≡ None → cond b (Some e.1) (lookup test es) ≡ None) [
+          | true ↦ λ k. absurd (cc k)
+          | false ↦ λ k. slot_free test es h.1 k
+        ] found
+      ] refl is
+
   -- where no slot is empty, each has an object
   no_spare_length : (es : List (K × Option X)) → IsSpare None es → length (live es) ≡ length es
   unfolding IsSpare live
@@ -157,6 +170,17 @@ module _ {K X : Type 0} where
           | Less ↦ λ is. (λ none. let at : k ≡ e.0 = cc (spare.0 none) in let less : cmp k k ≡ Less = ap (cmp k) at ∙ is in absurd (cc (own cmp total k, less)), spare_taken same k es (sorted_tail cmp e.0 (keys_of es) h) spare.1)
           | Equal ↦ λ is. let P : K → Type 0 = λ y. IsSpare (Some y) es in spare_below e.0 es (sorted_head cmp e.0 (keys_of es) h) (subst P (same k e.0 is) spare.1)
           | Greater ↦ λ is. (λ none. let at : k ≡ e.0 = cc (spare.0 none) in let more : cmp k k ≡ Greater = ap (cmp k) at ∙ is in absurd (cc (own cmp total k, more)), spare_taken same k es (sorted_tail cmp e.0 (keys_of es) h) spare.1)
+        ] refl
+
+    -- with an object in the slot of the spare key no slot is empty
+    pub spare_set : ((a b : K) → cmp a b ≡ Equal → a ≡ b) → (k : K) (x : X) (es : List (K × Option X)) → IsStrictlySortedBy cmp (keys_of es) → IsSpare (Some k) es → IsSpare None (set_value (is_at (cmp k)) es (Some x))
+    unfolding IsSpare
+    spare_set same k x [] h spare = tt
+    spare_set same k x (e ∷ es) h spare =
+        elim (cmp k e.0) as (λ o. cmp k e.0 ≡ o → IsSpare None (cond (is_eq o) ((e.0, Some x) ∷ es) (e ∷ set_value (is_at (cmp k)) es (Some x)))) [
+          | Less ↦ λ is. (λ none. let at : k ≡ e.0 = cc (spare.0 none) in let less : cmp k k ≡ Less = ap (cmp k) at ∙ is in absurd (cc (own cmp total k, less)), spare_set same k x es (sorted_tail cmp e.0 (keys_of es) h) spare.1)
+          | Equal ↦ λ is. let P : K → Type 0 = λ y. IsSpare (Some y) es in (λ none. absurd (cc none), spare_below e.0 es (sorted_head cmp e.0 (keys_of es) h) (subst P (same k e.0 is) spare.1))
+          | Greater ↦ λ is. (λ none. let at : k ≡ e.0 = cc (spare.0 none) in let more : cmp k k ≡ Greater = ap (cmp k) at ∙ is in absurd (cc (own cmp total k, more)), spare_set same k x es (sorted_tail cmp e.0 (keys_of es) h) spare.1)
         ] refl
 
     -- where the slot of the spare key is not empty, none is

@@ -1,6 +1,6 @@
 -- The model of the store: a map of trees and a counter; what each call makes of them, beside the list of all changes
 -- ever.
-use Rattle.std.specs.Prelude.{◌≡◌, ℕ, ◌+◌, ◌-◌, max, nat_lt, nat_le, Bool, true, false, not, ◌&&◌, if◌then◌else◌, List, [], ◌∷◌, ◌++◌, Option, None, Some, map, length, Result, Ok, Err, codes, unwrap_or, option_map, option_and_then, is_some}
+use Rattle.std.specs.Prelude.{◌≡◌, ℕ, ◌+◌, ◌-◌, max, nat_lt, nat_le, Bool, true, false, not, ◌&&◌, if◌then◌else◌, List, [], ◌∷◌, ◌++◌, Option, None, Some, map, length, Result, Ok, Err, codes, ok_or, unwrap_or, option_map, option_and_then, is_some}
 use Rattle.std.specs.List.{filter, list_any, list_all}
 use Rattle.std.specs.Str.{bytes_eq}
 use Rattle.std.specs.Map.{lookup}
@@ -140,6 +140,10 @@ abbrev pub replaced : Plain → Key → Data → Data → Result (List PlainChan
 replaced s k tree old =
     if same_tree (with_stamps_of old tree) old then Ok [] else
     (revisions_left s 1 >>= λ _. Ok (replacement_at k old tree (s.revision + 1) ∷ []))
+
+-- the changes of a replacement of the tree that is stored at the key, whatever its version; or why there can be none
+abbrev pub replacement_in_place : Plain → Key → Data → Result (List PlainChange) StoreFault
+replacement_in_place s k tree = ok_or (lookup (is_key k) s.objects) Missing >>= replaced s k tree
 
 -- the changes of a replacement at the key; or why there can be none
 abbrev pub replacement : Plain → Key → Data → Result (List PlainChange) StoreFault

@@ -1,6 +1,6 @@
 //! The map's slots: a key with an object, or a key that is reserved for a new object.
 
-ghost use Rattle.std.specs.Prelude.{◌≡◌, None, IsSome, OnOk, IfOk, option_copied, OnErr, Option, Some};
+ghost use Rattle.std.specs.Prelude.{◌≡◌, None, IsSome, OnOk, IfOk, option_copied, OnErr, List, Option, Some};
 ghost use Rattle.std.specs.List.Sorted.{IsStrictlySortedBy};
 ghost use Rattle.std.specs.Map.{lookup, keys_of, remove_entry};
 ghost use Rattle.std.specs.BTreeMap.{insert_entry};
@@ -8,6 +8,7 @@ ghost use Rattle.kapi_store.specs.Keys.{key_cmp, is_key};
 ghost use Rattle.kapi_store.specs.Changes.{placed};
 ghost use Rattle.kapi_store.specs.State.{live, IsSpare};
 ghost use Rattle.kapi_store.specs.declared.key.Key.{Key};
+ghost use Rattle.kapi_tree.specs.declared.object.Object.{Object};
 
 use crate::change::Shared;
 use crate::key::Key;
@@ -45,6 +46,7 @@ fn fill_slot(slots: &mut BTreeMap<Key, Option<Shared>>, key: &Key, object: Share
     ensures objects { live slots.new.entries ≡ insert_entry key_cmp (live slots.old.entries) key.now object }
     ensures ordered { IsStrictlySortedBy key_cmp (keys_of slots.new.entries) }
     ensures spare { (spare : Option Key) → IsSpare spare slots.old.entries → IsSpare spare slots.new.entries }
+    ensures filled { IsSpare (Some key.now) slots.old.entries → IsSpare None slots.new.entries }
 {
     let slot = slots.get_mut(key).unwrap();
     *slot = Some(object);
@@ -63,16 +65,38 @@ fn drop_slot(slots: &mut BTreeMap<Key, Option<Shared>>, key: &Key)
 
 /// Puts the object into its slot, or takes the slot out where there is no object.
 #[tactic(auto, unfolding(crate::specs::Changes::placed))]
-pub fn place(slots: &mut BTreeMap<Key, Option<Shared>>, key: &Key, object: Option<Shared>)
+pub fn place(
+    slots: &mut BTreeMap<Key, Option<Shared>>,
+    spare: &mut Option<Key>,
+    key: &Key,
+    object: Option<Shared>,
+)
     requires ordered { IsStrictlySortedBy key_cmp (keys_of slots.old.entries) }
     requires slot { IsSome object → IsSome (lookup (is_key key.now) slots.old.entries) }
+    requires spare { IsSpare spare.old slots.old.entries }
     ensures objects { live slots.new.entries ≡ placed key.now object (live slots.old.entries) }
     ensures ordered { IsStrictlySortedBy key_cmp (keys_of slots.new.entries) }
-    ensures spare { (spare : Option Key) → IsSpare spare slots.old.entries → IsSpare spare slots.new.entries }
+    ensures spare { IsSpare spare.new slots.new.entries }
 {
     match object {
-        Some(object) => fill_slot(slots, key, object),
+        Some(object) => {
+            fill_slot(slots, key, object);
+            forget_if(spare, key);
+        }
         None => drop_slot(slots, key),
+    }
+}
+
+/// Forgets the key of the slot that may be empty, where it is this one.
+fn forget_if(spare: &mut Option<Key>, key: &Key)
+    ensures { (es ds : List (Key × Option Object)) → (IsSpare (Some key.now) es → IsSpare None ds) → (IsSpare spare.old es → IsSpare spare.old ds) → IsSpare spare.old es → IsSpare spare.new ds }
+{
+    let is_it = match &*spare {
+        Some(kept) => kept == key,
+        None => false,
+    };
+    if is_it {
+        *spare = None;
     }
 }
 
@@ -102,23 +126,22 @@ fn sweep(slots: &mut BTreeMap<Key, Option<Shared>>, spare: Option<Key>)
     }
 }
 
-/// Makes an empty slot at the key, where no other slot is empty.
+/// Makes an empty slot at the key of no object, where no other slot is empty.
 fn make_slot(slots: &mut BTreeMap<Key, Option<Shared>>, key: Key) -> Result<(), Memory>
     requires ordered { IsStrictlySortedBy key_cmp (keys_of slots.old.entries) }
     requires spare { IsSpare None slots.old.entries }
+    requires free { lookup (is_key key) (live slots.old.entries) ≡ None }
     ensures objects { live slots.new.entries ≡ live slots.old.entries }
     ensures ordered { IsStrictlySortedBy key_cmp (keys_of slots.new.entries) }
     ensures slot { OnOk result (IsSome (lookup (is_key key) slots.new.entries)) }
     ensures spare { OnOk result (IsSpare (Some key) slots.new.entries) }
     ensures refused { OnErr result (IsSpare None slots.new.entries) }
 {
-    if !slots.contains_key(&key) {
-        drop(slots.insert(key, None)?);
-    }
+    drop(slots.insert(key, None)?);
     Ok(())
 }
 
-/// Makes a slot for an object at the key, in place of the slot that an earlier write left empty. The objects stay.
+/// Makes a slot for an object at the key, where none is, in place of the slot that an earlier write left empty. The objects stay.
 pub fn reserve_slot(
     alloc: Global,
     slots: &mut BTreeMap<Key, Option<Shared>>,
@@ -127,6 +150,7 @@ pub fn reserve_slot(
 ) -> Result<(), Memory>
     requires ordered { IsStrictlySortedBy key_cmp (keys_of slots.old.entries) }
     requires spare { IsSpare spare.old slots.old.entries }
+    requires free { lookup (is_key key) (live slots.old.entries) ≡ None }
     ensures objects { live slots.new.entries ≡ live slots.old.entries }
     ensures ordered { IsStrictlySortedBy key_cmp (keys_of slots.new.entries) }
     ensures slot { OnOk result (IsSome (lookup (is_key key) slots.new.entries)) }

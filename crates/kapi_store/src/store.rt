@@ -76,7 +76,7 @@ impl Store {
     ghost use Rattle.kapi_store.specs.Lent.{changes_of};
     ghost use Rattle.kapi_store.specs.Faults.{fault_of};
     ghost use Rattle.kapi_store.specs.Stamps.{with_stamps_of as with_stamps};
-    ghost use Rattle.kapi_store.specs.Plain.{Plain, PlainChange, RefinesPlain, plain_of, plain_change, has_object as has_object_at, has_namespace as has_namespace_of, free_place, revisions_left, creation, creation_in_place, replacement, removal, opened, written, trees};
+    ghost use Rattle.kapi_store.specs.Plain.{Plain, PlainChange, RefinesPlain, plain_of, plain_change, has_object as has_object_at, has_namespace as has_namespace_of, free_place, revisions_left, creation, creation_in_place, replacement, replacement_in_place, removal, opened, written, trees};
     ghost use Rattle.kapi_store.specs.Plain.{changes_after as changes_after_in, replaceable as replaceable_at, holds_objects as holds_objects_in, is_full_namespace, removable, replaced, window_start as window_start_of};
     ghost use Rattle.kapi_store.specs.Listing.{listed_objects, listed_trees, shown};
 
@@ -230,7 +230,6 @@ impl Store {
     pub fn replaceable(&self, key: &Key, given: &GivenText) -> Result<&Shared, StoreError>
         ensures gives { Gives fault_of (λ o. tree_of o.now) result (replaceable_at (plain_of self.now) key.now given.now) }
         ensures found { IfOk result (λ o. lookup (is_key key.now) (plain_of self.now).objects ≡ Some (tree_of o.now)) }
-        ensures slot { OnOk result (IsSome (lookup (is_key key.now) self.now.slots)) }
     {
         match find(&self.slots, key) {
             Some(object) => admitted(self.alloc, object, given),
@@ -290,11 +289,26 @@ impl Store {
         self.replace_old(key, object, old)
     }
 
+    /// Prepares the replacement of an object that `replaceable` found: it is not looked up again, and its version is not
+    /// looked at.
+    pub fn replace_in_place(
+        &self,
+        key: Key,
+        object: Object,
+        old: &Shared,
+    ) -> Result<Ready, StoreError>
+        requires { lookup (is_key key) (plain_of self.now).objects ≡ Some (tree_of old.now) }
+        ensures gives { Gives fault_of (map plain_change) result (replacement_in_place (plain_of self.now) key (tree_of object)) }
+        ensures unchanged { IfOk result (λ r. (r ≡ []) ↔ (with_stamps (tree_of old.now) (tree_of object) ≡ tree_of old.now)) }
+        ensures fits { IfOk result (Fits self.now) }
+    {
+        self.replace_old(key, object, old)
+    }
+
     /// The object at the key, which this one may replace.
     fn replaceable_by(&self, key: &Key, object: &Object) -> Result<&Shared, StoreError>
         ensures gives { Gives fault_of (λ o. tree_of o.now) result (replaceable_at (plain_of self.now) key.now (given_of (tree_of object.now)).resource_version) }
         ensures found { IfOk result (λ o. lookup (is_key key.now) (plain_of self.now).objects ≡ Some (tree_of o.now)) }
-        ensures slot { OnOk result (IsSome (lookup (is_key key.now) self.now.slots)) }
     {
         let given = object.given(self.alloc)?;
         self.replaceable(key, &given.resource_version)
@@ -302,7 +316,7 @@ impl Store {
 
     /// Prepares the replacement of a stored object.
     fn replace_old(&self, key: Key, object: Object, old: &Shared) -> Result<Ready, StoreError>
-        requires { IsSome (lookup (is_key key) self.now.slots) }
+        requires { lookup (is_key key) (plain_of self.now).objects ≡ Some (tree_of old.now) }
         ensures gives { Gives fault_of (map plain_change) result (replaced (plain_of self.now) key (tree_of object) (tree_of old.now)) }
         ensures unchanged { IfOk result (λ r. (r ≡ []) ↔ (with_stamps (tree_of old.now) (tree_of object) ≡ tree_of old.now)) }
         ensures fits { IfOk result (Fits self.now) }
@@ -419,7 +433,7 @@ impl Store {
         ensures table { self.new.table ≡ self.old.table }
         ensures first { self.new.first ≡ self.old.first }
     {
-        place(&mut self.slots, &change.key, kept);
+        place(&mut self.slots, &mut self.spare, &change.key, kept);
         self.revision = change.revision;
         self.window.note(change);
     }

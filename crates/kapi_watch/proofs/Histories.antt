@@ -1,19 +1,18 @@
 -- What a store writes goes on with its history.
-use Rattle.std.proofs.Common.{◌≡◌, ℕ, ◌+◌, Bool, true, false, List, [], ◌∷◌, ◌++◌, Option, None, Some, Result, Ok, Err, IfSome, is_some, if◌then◌else◌, length, refl, sym, ◌∙◌, subst}
+use Rattle.std.proofs.Common.{◌≡◌, ℕ, ◌+◌, Bool, true, false, List, [], ◌∷◌, ◌++◌, Option, None, Some, Result, Ok, Err, IfSome, is_some, if◌then◌else◌, ok_or, length, refl, sym, ◌∙◌, subst}
 use Rattle.std.specs.List.{AllByRecursion, IsDistinct}
 use Rattle.std.specs.Map.{lookup, remove_entry}
 use Rattle.serde_json.specs.Data.{Data}
 use Rattle.kapi_text.specs.Gives.{◌>>=◌}
-use Rattle.kapi_tree.specs.Given.{given_of}
-use Rattle.kapi_tree.specs.declared.given.GivenText.{GivenText}
 use Rattle.kapi_store.proofs.Keys.{key_same, key_total}
+use Rattle.kapi_store.proofs.Places.{nothing_stands}
 use Rattle.kapi_store.proofs.Windows.{Follow_append}
 use Rattle.kapi_store.specs.Changes.{placed, placed_all, Follow}
-use Rattle.kapi_store.specs.Faults.{StoreFault, Exists, NoNamespace, Conflict}
+use Rattle.kapi_store.specs.Faults.{StoreFault, Missing}
 use Rattle.kapi_store.specs.Keys.{is_key, key_cmp}
-use Rattle.kapi_store.specs.Plain.{Plain, PlainChange, RefinesPlain, trees_left_by, admitted, admits, creation_at, creation_in_place, free_place, has_namespace, has_object, removable, removals, replaced, replacement_at, revisions_left}
+use Rattle.kapi_store.specs.Plain.{Plain, PlainChange, RefinesPlain, trees_left_by, creation_at, creation_in_place, free_place, has_object, removable, removals, replaced, replacement_at, revisions_left}
 use Rattle.kapi_store.specs.Same.{same_tree}
-use Rattle.kapi_store.specs.Stamps.{version_in, with_stamps_of}
+use Rattle.kapi_store.specs.Stamps.{with_stamps_of}
 use Rattle.kapi_store.specs.State.{State}
 use Rattle.kapi_store.specs.declared.key.Key.{Key}
 use Rattle.kapi_watch.specs.Histories.{IsNamedBy, AreMadeOf, IsHistory, NoChangeIsAHistory, GoesOn, IsCreation, IsReplacement, IsRemoval}
@@ -59,22 +58,6 @@ next_goes_on store h cs s stands k n = counted_goes_on h cs s stands.made stands
 
 -- ---- a creation
 
-none_there : (o : Option Data) → is_some o ≡ false → None ≡ o
-none_there None is = refl
-none_there (Some t) is = absurd (cc is)
-
-abbrev free_if : Bool → Bool → Result (Unit {0}) StoreFault
-free_if namespace object = if namespace then (if object then Err Exists else Ok tt) else Err NoNamespace
-
-free_is_empty : (s : Plain) (k : Key) (namespace object : Bool) → has_object k s ≡ object → free_if namespace object ≡ Ok tt → has_object k s ≡ false
-free_is_empty s k true true is e = absurd (cc e)
-free_is_empty s k true false is e = is
-free_is_empty s k false object is e = absurd (cc e)
-
-nothing_stands : (s : Plain) (k : Key) → free_place s k ≡ Ok tt → None ≡ lookup (is_key k) s.objects
-unfolding free_place has_object
-nothing_stands s k free = none_there (lookup (is_key k) s.objects) (free_is_empty s k (has_namespace k s) (has_object k s) refl free)
-
 in_place_next : (s : Plain) (k : Key) (tree : Data) (cs : List PlainChange) → IsNamedBy k tree → None ≡ lookup (is_key k) s.objects → (r : Result (Unit {0}) StoreFault)
     → (r >>= λ _. Ok (creation_at k tree (s.revision + 1) ∷ [])) ≡ Ok cs → AreNext s cs
 in_place_next s k tree cs named none (Err e) is = absurd (cc is)
@@ -86,7 +69,7 @@ in_place_next s k tree cs named none (Ok u) is =
 creation_next : (s : Plain) (k : Key) (tree : Data) (cs : List PlainChange) → IsNamedBy k tree → (r : Result (Unit {0}) StoreFault) → free_place s k ≡ r
     → (r >>= λ _. creation_in_place s k tree) ≡ Ok cs → AreNext s cs
 creation_next s k tree cs named (Err e) free is = absurd (cc is)
-creation_next s k tree cs named (Ok u) free is = in_place_next s k tree cs named (nothing_stands s k free) (revisions_left s 1) is
+creation_next s k tree cs named (Ok u) free is = in_place_next s k tree cs named (sym (nothing_stands s k free)) (revisions_left s 1) is
 
 pub creation_is_next : (s : Plain) (cs : List PlainChange) → IsCreation s cs → AreNext s cs
 creation_is_next s cs w = creation_next s w.0 w.1 cs w.2 (free_place s w.0) refl w.3
@@ -111,19 +94,13 @@ replaced_next s k tree old cs named some true is =
     let P : List PlainChange → Type 0 = AreNext s in subst P none (next_none s)
 replaced_next s k tree old cs named some false is = replaced_if_left s k tree old cs named some (revisions_left s 1) is
 
-admitted_next : (s : Plain) (k : Key) (tree old : Data) (cs : List PlainChange) → IsNamedBy k tree → Some old ≡ lookup (is_key k) s.objects → (fault : StoreFault) (admits : Bool)
-    → ((if admits then Ok old else Err fault) >>= replaced s k tree) ≡ Ok cs → AreNext s cs
-admitted_next s k tree old cs named some fault true is = replaced_next s k tree old cs named some (same_tree (with_stamps_of old tree) old) is
-admitted_next s k tree old cs named some fault false is = absurd (cc is)
-
-replacement_next : (s : Plain) (k : Key) (tree : Data) (version : GivenText) (cs : List PlainChange) → IsNamedBy k tree → (o : Option Data) → o ≡ lookup (is_key k) s.objects
-    → (admitted o version >>= replaced s k tree) ≡ Ok cs → AreNext s cs
-replacement_next s k tree version cs named None at is = absurd (cc is)
-replacement_next s k tree version cs named (Some old) at is =
-    admitted_next s k tree old cs named at (Conflict (version_in old)) (admits (version_in old) version) is
+replacement_next : (s : Plain) (k : Key) (tree : Data) (cs : List PlainChange) → IsNamedBy k tree → (o : Option Data) → o ≡ lookup (is_key k) s.objects
+    → (ok_or o Missing >>= replaced s k tree) ≡ Ok cs → AreNext s cs
+replacement_next s k tree cs named None at is = absurd (cc is)
+replacement_next s k tree cs named (Some old) at is = replaced_next s k tree old cs named at (same_tree (with_stamps_of old tree) old) is
 
 pub replacement_is_next : (s : Plain) (cs : List PlainChange) → IsReplacement s cs → AreNext s cs
-replacement_is_next s cs w = replacement_next s w.0 w.1 (given_of w.1).resource_version cs w.2 (lookup (is_key w.0) s.objects) refl w.3
+replacement_is_next s cs w = replacement_next s w.0 w.1 cs w.2 (lookup (is_key w.0) s.objects) refl w.3
 
 pub replaced_goes_on : GoesOn IsReplacement
 replaced_goes_on store h cs s stands k w = next_goes_on store h cs s stands k (replacement_is_next s cs w)

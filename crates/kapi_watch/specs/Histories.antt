@@ -5,7 +5,7 @@ use Rattle.std.specs.Map.{lookup}
 use Rattle.serde_json.specs.Data.{Data}
 use Rattle.kapi_store.specs.Changes.{placed, Follow}
 use Rattle.kapi_store.specs.Keys.{is_key}
-use Rattle.kapi_store.specs.Plain.{Plain, PlainChange, RefinesPlain, creation, replacement, removal}
+use Rattle.kapi_store.specs.Plain.{Plain, PlainChange, RefinesPlain, creation, replacement_in_place, removal}
 use Rattle.kapi_store.specs.Stamps.{metadata_text}
 use Rattle.kapi_store.specs.State.{State}
 use Rattle.kapi_store.specs.declared.key.Key.{Key}
@@ -39,7 +39,7 @@ IsCreation s cs = (k : Key) × (tree : Data) × IsNamedBy k tree × (creation s 
 
 -- the changes of a replacement by a tree that has the namespace and the name of its key
 abbrev pub IsReplacement : Plain → List PlainChange → Type 0
-IsReplacement s cs = (k : Key) × (tree : Data) × IsNamedBy k tree × (replacement s k tree ≡ Ok cs)
+IsReplacement s cs = (k : Key) × (tree : Data) × IsNamedBy k tree × (replacement_in_place s k tree ≡ Ok cs)
 
 -- the changes of a removal of objects at different keys
 abbrev pub IsRemoval : Plain → List PlainChange → Type 0

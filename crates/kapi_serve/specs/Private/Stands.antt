@@ -1,6 +1,6 @@
 -- What the loop keeps of its clients, and how that suits the connections of the machine.
-use Rattle.std.specs.Prelude.{◌≡◌, ◌⊎◌, ◌<◌, ◌≤◌, ℕ, suc, true, false, List, [], ◌∷◌, drop, Option, None}
-use Rattle.std.specs.List.{AllByRecursion}
+use Rattle.std.specs.Prelude.{◌≡◌, ◌⊎◌, ◌<◌, ◌≤◌, ℕ, suc, true, false, List, [], ◌∷◌, drop, length, Option, None}
+use Rattle.std.specs.List.{AllByRecursion, HoldsAt}
 use Rattle.std.specs.List.Sorted.{IsStrictlySortedBy}
 use Rattle.std.specs.Map.{keys_of}
 use Rattle.std.specs.Ordering.{nat_cmp}
@@ -15,6 +15,7 @@ use Rattle.kapi_serve.specs.Private.Pieces.{IsCounted, owed}
 use Rattle.kapi_serve.specs.Rests.{AreAtRest, Rests}
 use Rattle.kapi_serve.specs.declared.client.Client.{Client}
 use Rattle.kapi_serve.specs.declared.client.Phase.TheVariants as phase
+use Rattle.kapi_serve.specs.declared.clients.Clients.{Clients}
 use Rattle.kapi_serve.specs.declared.progress.Progress.{Progress}
 use Rattle.kapi_serve.specs.declared.progress.Progress.TheVariants as progress
 
@@ -103,26 +104,42 @@ abbrev pub IsAwakeOrQuiet : List ℕ → Client → Type 0
 IsAwakeOrQuiet awake c = Has awake c.id.0 ⊎ IsQuiet c
 
 -- what is kept of the clients suits their connections, which are in order, and those that sleep are quiet
-pub record Stands (m : Machine) (cs : List Client) (awake : List ℕ) : Type 0 where
+pub record AllSuit (m : Machine) (cs : List Client) (awake : List ℕ) : Type 0 where
   pub numbered : IsNumbered m
   pub suit : AllByRecursion (λ c. Suits m c) cs
   pub rise : Rise cs
   pub asleep : AllByRecursion (λ c. IsAwakeOrQuiet awake c) cs
 
+-- the same of the clients that are served
+abbrev pub Stands : Machine → Clients → Type 0
+Stands m cs = AllSuit m cs.list.items cs.awake.numbers.items
+
 -- the machine goes on, and what is kept of the clients suits it again
-abbrev pub StandsOn : Running → Running → List Client → List ℕ → List Client → List ℕ → Type 0
-StandsOn old new cs awake ds later = (m : Machine) → Refines old m → Stands m cs awake → (n : Machine) × Refines new n × Stands n ds later
+abbrev pub StandsOn : Running → Running → Clients → Clients → Type 0
+StandsOn old new cs ds = (m : Machine) → Refines old m → Stands m cs → (n : Machine) × Refines new n × Stands n ds
+
+-- the client at a place is awake
+abbrev pub IsAwakeAt : ℕ → Clients → Type 0
+IsAwakeAt index cs = HoldsAt (λ c. Has cs.awake.numbers.items c.id.0) cs.list.items index
+
+-- the connection at a position among those that are awake is that of the client at a place
+abbrev pub IsOf : ℕ → ℕ → Clients → Type 0
+IsOf position index cs = HoldsAt (λ c. HoldsAt (λ number. number ≡ c.id.0) cs.awake.numbers.items position) cs.list.items index
+
+-- the connection at a position among those that are awake, if there is one, is that of no client
+abbrev pub IsOfNone : ℕ → Clients → Type 0
+IsOfNone position cs = position < length cs.awake.numbers.items → AllByRecursion (λ c. HoldsAt (λ number. number ≡ c.id.0 → ⊥) cs.awake.numbers.items position) cs.list.items
 
 -- each client rests, or is yet to be visited
 abbrev pub AreDue : Machine → List Client → List ℕ → Type 0
 AreDue m cs rest = AllByRecursion (λ c. Rests m c ⊎ Has rest c.id.0) cs
 
 -- the awake connection at a place was visited; where nothing could be done, its client rests
-abbrev pub Visits : Running → Running → List Client → List Client → List ℕ → ℕ → Type 0 → Type 0
-Visits old new cs ds awake place still = (m : Machine) → Refines old m → Stands m cs awake
-    → (n : Machine) × Refines new n × Stands n ds awake × (still → AreDue m cs (drop place awake) → AreDue n ds (drop (suc place) awake))
+abbrev pub Visits : Running → Running → Clients → Clients → ℕ → Type 0 → Type 0
+Visits old new cs ds place still = (m : Machine) → Refines old m → Stands m cs
+    → (n : Machine) × Refines new n × AllSuit n ds.list.items cs.awake.numbers.items
+    × (still → AreDue m cs.list.items (drop place cs.awake.numbers.items) → AreDue n ds.list.items (drop (suc place) cs.awake.numbers.items))
 
 -- the clients were gone over; where nothing could be done, all rest
-abbrev pub Settles : Running → Running → List Client → List ℕ → List Client → List ℕ → Type 0 → Type 0
-Settles old new cs awake ds later still = (m : Machine) → Refines old m → Stands m cs awake
-    → (n : Machine) × Refines new n × Stands n ds later × (still → AreAtRest n ds)
+abbrev pub Settles : Running → Running → Clients → Clients → Type 0 → Type 0
+Settles old new cs ds still = (m : Machine) → Refines old m → Stands m cs → (n : Machine) × Refines new n × Stands n ds × (still → AreAtRest n ds.list.items)

@@ -3,7 +3,7 @@ use Rattle.kapi_serve.proofs.Tending.{answered_still, tends_by, tends_on}
 use Rattle.kapi_serve.proofs.server.answer.Goals as goal
 
 pub returns-clause-goes : goal.returns-clause-goes
-returns-clause-goes g c = λ front back h. goes_on _ _ _ _ _ _ _ _ _ _ _ _ _ _ _ _ _ _ (goes_on _ _ _ _ _ _ _ _ _ _ _ _ _ _ _ _ _ _ (c.serve-served.ensures.goes front back h) (c.pump-shown.ensures.goes front back h)) (c.make_turns-turned.ensures.goes _ h)
+returns-clause-goes g c = λ front back. goes_on _ _ _ (goes_on _ _ _ (c.serve-served.ensures.goes front back) (c.pump-shown.ensures.goes front back)) (c.make_turns-turned.ensures.goes _)
 
 pub returns-clause-tends : goal.returns-clause-tends
 returns-clause-tends g c = tends_by _ _ _ _ _ (tends_on _ _ _ _ _ _ c.serve-served.ensures.tends c.pump-shown.ensures.tends) c.make_turns-turned.ensures.passes

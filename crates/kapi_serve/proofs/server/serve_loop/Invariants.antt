@@ -1,7 +1,7 @@
 use Rattle.std.proofs.Common.{None, []}
-use Rattle.kapi_serve.specs.Private.Clients.{seats_of}
 use Rattle.kapi_serve.specs.Goes.{Goes}
+use Rattle.kapi_serve.specs.Private.Moments.{at, moment}
 use Rattle.kapi_serve.proofs.server.serve_loop.Given as goal
 
 abbrev pub invariant-loop : goal.invariant-loop
-invariant-loop g l = Goes l.initial.core l.core l.initial.desk l.desk None l.server.publishing.kept [] (seats_of l.server.clients.list.items) (g.Q.Ports.tells l.initial.ports) (g.Q.Ports.tells l.ports) (g.Q.Ports.history l.initial.ports) (g.Q.Ports.history l.ports)
+invariant-loop g l = Goes (moment l.initial.core l.initial.desk None [] (g.Q.Ports.report l.initial.ports)) (at l.core l.desk l.server (g.Q.Ports.report l.ports))

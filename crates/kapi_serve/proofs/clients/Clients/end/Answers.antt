@@ -1,15 +1,19 @@
-use Rattle.std.proofs.Common.{ap, ◌∙◌}
-use Rattle.kapi_serve.specs.Private.Clients.{seat_of, seats_of}
-use Rattle.kapi_serve.proofs.Going.{closes_of}
-use Rattle.kapi_serve.proofs.Placing.{at_get, at_remove}
-use Rattle.kapi_serve.proofs.Tending.{on_closed}
+use Rattle.std.proofs.Common.{[], ◌∷◌, refl}
+use Rattle.std.proofs.lemmas.List.Elements.{at_read}
+use Rattle.kapi_core.specs.Refines.{Makes}
+use Rattle.kapi_core.specs.declared.event.Answer.TheVariants as answer
+use Rattle.kapi_core.specs.declared.event.Event.TheVariants as event
+use Rattle.kapi_serve.specs.Ports.{Adds}
+use Rattle.kapi_serve.specs.declared.port.Entry.TheVariants as entry
 use Rattle.kapi_serve.proofs.clients.Clients.end.Goals as goal
 
-pub returns-clause-seats : goal.returns-clause-seats
-returns-clause-seats g c = λ front x back at. ap seats_of c.remove-client.ensures.items ∙ at_remove c.args.self.now.list.items c.args.index front x back at
-
-pub returns-clause-closes : goal.returns-clause-closes
-returns-clause-closes g c = λ front x back at. closes_of _ _ x (seat_of c.remove-client.result) _ _ _ _ (ap seat_of c.remove-client.ensures.value ∙ at_get c.args.self.now.list.items c.args.index front x back c.remove-client.result at) c.close.ensures c.end.ensures.told
-
-pub returns-clause-stands : goal.returns-clause-stands
-returns-clause-stands g c = on_closed _ _ _ _ _ c.args.index c.remove-client.result c.requires c.remove-client.ensures.value c.remove-client.ensures.items c.close.ensures
+pub returns : goal.returns
+returns g c =
+    let items = c.args.self.now.list.items in
+    let left = c.remove-client in
+    record {
+      list = left.ensures.items;
+      awake = refl;
+      closes = at_read items (λ z. Makes c.args.core.now c.close.new.self (event.Close z.id) answer.Done) c.args.index left.result c.requires left.ensures.value c.close.ensures;
+      adds = at_read items (λ z. Adds (g.Q.Ports.report c.args.ports.now) (g.Q.Ports.report c.end.new.self) (entry.Ended z.slot ∷ [])) c.args.index left.result c.requires left.ensures.value c.end.ensures.told;
+    }

@@ -7,5 +7,5 @@ use Rattle.kapi_serve.proofs.clients.Clients.unblock_all.Given as goal
 
 abbrev pub invariant-loop-index : goal.invariant-loop-index
 invariant-loop-index l = (seats_of l.self.list.items ≡ seats_of l.initial.self.list.items) × (length l.self.list.items ≡ length l.initial.self.list.items)
-    × ((m : Machine) → Stands m l.initial.self.list.items l.initial.self.awake.numbers.items → Stands m l.self.list.items l.self.awake.numbers.items)
+    × ((m : Machine) → Stands m l.initial.self → Stands m l.self)
     × (l.self.list.items ≡ freed_to l.index l.initial.self.list.items)

@@ -1,9 +1,9 @@
-use Rattle.std.specs.Prelude.{List, ⊤}
+use Rattle.std.specs.Prelude.{List}
 use Rattle.kapi_serve.specs.Acts.{Seat}
-use Rattle.kapi_serve.specs.declared.port.Entry.{Entry}
 use Rattle.kapi_serve.specs.Goes.{Goes}
+use Rattle.kapi_serve.specs.Private.Moments.{stage}
 use Rattle.kapi_serve.specs.Private.Stands.{PassesBy}
 use Rattle.kapi_serve.proofs.publishing.Publishing.make_turns.Given as goal
 
 abbrev pub invariant-loop : goal.invariant-loop
-invariant-loop g l = ((s : List Seat) (h : List Entry) → Goes l.initial.core l.core l.initial.desk l.desk l.initial.self.kept l.self.kept s s ⊤ ⊤ h h) × PassesBy l.initial.core l.core
+invariant-loop g l = ((s : List Seat) → Goes (stage l.initial.core l.initial.desk l.initial.self s) (stage l.core l.desk l.self s)) × PassesBy l.initial.core l.core

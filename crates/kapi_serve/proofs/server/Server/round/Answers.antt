@@ -1,21 +1,21 @@
 use Rattle.std.proofs.Common.{ap, sym, ◌∙◌, arith}
 use Rattle.kapi_serve.specs.Private.Clients.{seats_of}
-use Rattle.kapi_serve.proofs.Going.{goes_any, goes_nothing, goes_on, goes_to}
+use Rattle.kapi_serve.proofs.Going.{adds_nothing, goes_nothing, goes_on, goes_still, goes_unasked}
 use Rattle.kapi_serve.proofs.Tending.{both_still, on_passing, passes_nothing, round_first, round_last, round_next, settles_on}
 use Rattle.kapi_serve.proofs.server.Server.round.Goals as goal
 
 pub loop-position-init : goal.loop-position-init
-loop-position-init g c = (goes_nothing _ _ _ _ _ _, round_first _ _ _ _ _ (passes_nothing _))
+loop-position-init g c = (goes_nothing _, round_first _ _ _ _ _ (passes_nothing _))
 
 pub loop-position-preserved : goal.loop-position-preserved
 loop-position-preserved g c = (
-  goes_on _ _ _ _ _ _ _ _ _ _ _ _ _ _ _ _ _ _ c.loop-position.invariant.0 (goes_to _ _ _ _ _ _ _ _ _ _ _ _ _ (ap (λ l. seats_of l.items) (sym c.pass-position.ensures.list)) c.visit-visited.ensures.goes),
+  goes_on _ _ _ c.loop-position.invariant.0 (goes_on _ _ _ c.visit-visited.ensures.goes (goes_still _ _ _ (ap (λ l. seats_of l.items) c.pass-position.ensures.list) (adds_nothing _))),
   round_next _ _ _ _ _ _ _ _ _ _ _ _ _ _ _ _ (λ h. both_still _ _ (sym c.and-progress.ensures ∙ h)) c.loop-position.invariant.1 c.visit-visited.ensures.visits c.visit-visited.ensures.awake
       c.pass-position.ensures.stands (ap (λ l. l.items) c.pass-position.ensures.list) c.pass-position.ensures.next,
 )
 
 pub returns-clause-goes : goal.returns-clause-goes
-returns-clause-goes g c = goes_on _ _ _ _ _ _ _ _ _ _ _ _ _ _ _ _ _ _ (goes_any _ _ _ _ _ _ _ _ _ _ (c.make_turns-progress.ensures.goes _ _)) c.loop-position.invariant.0
+returns-clause-goes g c = goes_on _ _ _ (goes_unasked _ _ _ _ _ _ _ _ _ (c.make_turns-progress.ensures.goes _)) c.loop-position.invariant.0
 
 pub returns-clause-settles : goal.returns-clause-settles
 returns-clause-settles g c = settles_on _ _ _ _ _ _ _ _ _ _ (on_passing _ _ _ _ c.make_turns-progress.ensures.passes) (round_last _ _ _ _ _ _ _ _ (omega (arith, c.loop-position-test.false, c.len.ensures)) c.loop-position.invariant.1)

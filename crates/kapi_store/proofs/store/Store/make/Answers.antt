@@ -24,7 +24,7 @@ invariant_of-self c =
     let next : c.args.change.revision ≡ c.args.self.now.revision + 1 = c.requires.fits.next.0 in
     let last : c.args.self.now.revision + 1 ≤ last_revision = c.requires.fits.last in
     next_store (state_of c.self.inside) _ c.args.change c.self.invariant c.place.ensures.ordered
-    (c.place.ensures.spare _ c.self.invariant.spare)
+    c.place.ensures.spare
     c.note.ensures
     refl refl
     (next ∙ ap (λ s. s.revision + 1) (sym now))

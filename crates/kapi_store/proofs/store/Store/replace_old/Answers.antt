@@ -1,15 +1,17 @@
 use Rattle.std.proofs.Common.{◌≡◌, ◌+◌, ◌≤◌, [], Ok, true, false, IsSome, ap, sym, subst, refl, ◌∙◌, arith, rules}
-use Rattle.std.specs.Map.{lookup}
+use Rattle.std.specs.List.Sorted.{IsStrictlySortedBy}
+use Rattle.std.specs.Map.{keys_of}
 use Rattle.std.specs.Fmt.{decimal}
 use Rattle.kapi_tree.specs.Object.{tree_of, stamped_tree}
 use Rattle.kapi_store.specs.Limits.{last_revision}
-use Rattle.kapi_store.specs.Keys.{is_key}
+use Rattle.kapi_store.specs.Keys.{key_cmp}
 use Rattle.kapi_store.specs.Same.{same_tree}
 use Rattle.kapi_store.specs.Stamps.{with_stamps_of, uid_in}
 use Rattle.kapi_store.specs.Plain.{plain_of, plain_change, revisions_left}
 use Rattle.kapi_store.specs.View.{state_of}
 use Rattle.kapi_store.specs.State.{State, Fits}
 use Rattle.kapi_store.proofs.Stores.{fits_none, fits_one}
+use Rattle.kapi_store.proofs.Places.{slot_of_tree}
 use Rattle.kapi_store.proofs.Writes.{replaced_by}
 use Rattle.kapi_store.proofs.store.Store.replace_old.Goals as goal
 
@@ -47,7 +49,8 @@ pub returns-clause-fits : goal.returns-clause-fits
 returns-clause-fits c =
     let at : c.args.self.now.revision ≡ c.self.inside.revision = ap (λ s. s.revision) (sym c.self.view_is) in
     let left : c.args.self.now.revision + 1 ≤ last_revision = c.in_ok-check_revisions.ensures.left in
-    fits_one c.args.self.now _ _ c.in_ok-of_one.ensures (omega arith) (omega arith) (λ _. c.requires)
+    fits_one c.args.self.now _ _ c.in_ok-of_one.ensures (omega arith) (omega arith)
+    (λ _. slot_of_tree c.args.self.now c.args.key (tree_of c.args.old.now) (subst (λ s. IsStrictlySortedBy key_cmp (keys_of s.slots)) c.self.view_is c.self.invariant.slots) c.requires)
 
 -- no changes were prepared, and the trees are equal
 pub returns-then-is_unchanged-clause-unchanged : goal.returns-then-is_unchanged-clause-unchanged

@@ -14,10 +14,6 @@ use Rattle.kapi_store.proofs.SlotSteps.{slot_there}
 use Rattle.kapi_store.proofs.Trees.{lookup_trees}
 use Rattle.kapi_store.proofs.store.Store.replaceable.Goals as goal
 
-on_ok : {X E P : Type 0} (r : Result X E) → P → OnOk r P
-on_ok (Ok x) p = p
-on_ok (Err e) p = tt
-
 pub returns-in-Some-clause-gives : goal.returns-in-Some-clause-gives
 returns-in-Some-clause-gives c =
     let now : state_of c.self.inside ≡ c.args.self.now = c.self.view_is in
@@ -26,14 +22,6 @@ returns-in-Some-clause-gives c =
     ∙ ap (λ s. option_map tree_of (lookup (is_key c.args.key.now) (objects s))) now ∙ sym (lookup_trees c.args.key.now (objects c.args.self.now)) in
     let P : Option Data → Type 0 = λ o. Gives fault_of (λ x. tree_of x.now) c.admitted.result (admitted o c.args.given.now) in
     subst P there c.admitted.ensures.gives
-
-pub returns-in-Some-clause-slot : goal.returns-in-Some-clause-slot
-returns-in-Some-clause-slot c =
-    let now : state_of c.self.inside ≡ c.args.self.now = c.self.view_is in
-    let Q : State → Type 0 = λ s. IsSome (lookup (is_key c.args.key.now) s.slots) in
-    let slot : IsSome (lookup (is_key c.args.key.now) c.self.inside.slots.entries)
-    = slot_there key_cmp key_total c.args.key.now c.in-Some.object.now c.self.inside.slots.entries c.self.invariant.slots (sym c.find.ensures ∙ ap option_copied c.in-Some.is) in
-    on_ok c.admitted.result (subst Q now slot)
 
 pub returns-in-None-clause-gives : goal.returns-in-None-clause-gives
 returns-in-None-clause-gives c =

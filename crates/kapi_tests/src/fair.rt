@@ -20,10 +20,6 @@ struct UntilSecond<C: Clock + Drop> {
 }
 
 impl<C: Clock + Drop> Ports for UntilSecond<C> {
-    ghost use Rattle.std.specs.Prelude.{[]};
-
-    ghost history = { λ p. [] };
-
     ghost failures = { λ p. p.sockets.failures };
 
     fn next(&mut self) -> Option<PortEvent> {

@@ -233,10 +233,6 @@ impl Talk {
 }
 
 impl Ports for Memory {
-    ghost use Rattle.std.specs.Prelude.{[]};
-
-    ghost history = { λ m. [] };
-
     ghost failures = { λ m. m.failures };
 
     fn next(&mut self) -> Option<PortEvent> {

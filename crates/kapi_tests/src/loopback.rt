@@ -29,10 +29,6 @@ impl<'o, C: Clock + Drop> UntilIdle<'o, C> {
 }
 
 impl<C: Clock + Drop> Ports for UntilIdle<'_, C> {
-    ghost use Rattle.std.specs.Prelude.{[]};
-
-    ghost history = { λ p. [] };
-
     ghost failures = { λ p. p.sockets.failures };
 
     fn next(&mut self) -> Option<PortEvent> {

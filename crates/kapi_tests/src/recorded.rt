@@ -85,9 +85,7 @@ impl<Q: Ports + Drop> Recorded<Q> {
 impl<Q: Ports + Drop> Ports for Recorded<Q> {
     ghost use Rattle.std.specs.Prelude.{◌≡◌, false};
 
-    ghost history = { λ p. p.notes.entries.items };
-
-    ghost tells = { λ p. p.notes.lost ≡ false };
+    ghost report = { λ p. record { tells = p.notes.lost ≡ false; history = p.notes.entries.items } };
 
     ghost failures = { λ p. Q.failures p.ports };
 

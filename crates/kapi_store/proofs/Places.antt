@@ -1,0 +1,68 @@
+-- Free places, and places of objects that were found.
+use Rattle.std.proofs.Common.{◌≡◌, Bool, true, false, List, Option, None, Some, Result, Ok, Err, IsSome, option_map, is_some, if◌then◌else◌, ok_or, sym, refl, ◌∙◌}
+use Rattle.std.specs.Map.{keys_of, lookup}
+use Rattle.std.specs.List.Sorted.{IsStrictlySortedBy}
+use Rattle.serde_json.specs.Data.{Data}
+use Rattle.kapi_text.specs.Gives.{◌>>=◌}
+use Rattle.kapi_tree.specs.Given.{given_of}
+use Rattle.kapi_tree.specs.Object.{tree_of}
+use Rattle.kapi_tree.specs.declared.given.GivenText.{GivenText}
+use Rattle.kapi_tree.specs.declared.object.Object.{Object}
+use Rattle.kapi_store.specs.Faults.{StoreFault, Exists, Missing, NoNamespace, Conflict}
+use Rattle.kapi_store.specs.Keys.{is_key, key_cmp}
+use Rattle.kapi_store.specs.Plain.{Plain, PlainChange, admits, admitted, free_place, has_namespace, has_object, plain_of, replaced, replacement, replacement_in_place}
+use Rattle.kapi_store.specs.State.{State, live, objects}
+use Rattle.kapi_store.specs.Stamps.{version_in}
+use Rattle.kapi_store.specs.declared.key.Key.{Key}
+use Rattle.kapi_store.proofs.Keys.{key_total}
+use Rattle.kapi_store.proofs.SlotSteps.{none_there, slot_there}
+use Rattle.kapi_store.proofs.Trees.{lookup_trees}
+
+-- ---- a free place
+
+abbrev free_if : Bool → Bool → Result (Unit {0}) StoreFault
+free_if namespace object = if namespace then (if object then Err Exists else Ok tt) else Err NoNamespace
+
+free_is_empty : (s : Plain) (k : Key) (namespace object : Bool) → has_object k s ≡ object → free_if namespace object ≡ Ok tt → has_object k s ≡ false
+free_is_empty s k true true is e = absurd (cc e)
+free_is_empty s k true false is e = is
+free_is_empty s k false object is e = absurd (cc e)
+
+-- nothing stands at a free place
+pub nothing_stands : (s : Plain) (k : Key) → free_place s k ≡ Ok tt → lookup (is_key k) s.objects ≡ None
+unfolding free_place has_object
+nothing_stands s k free = none_there (lookup (is_key k) s.objects) (free_is_empty s k (has_namespace k s) (has_object k s) refl free)
+
+none_mapped : (o : Option Object) → option_map tree_of o ≡ None → o ≡ None
+none_mapped None is = refl
+none_mapped (Some x) is = absurd (cc is)
+
+-- nor is there an object
+pub no_object : (s : State) (k : Key) → free_place (plain_of s) k ≡ Ok tt → lookup (is_key k) (objects s) ≡ None
+no_object s k free = none_mapped (lookup (is_key k) (objects s)) (sym (lookup_trees k (objects s)) ∙ nothing_stands (plain_of s) k free)
+
+-- ---- the place of an object
+
+slot_by : (k : Key) (slots : List (Key × Option Object)) (tree : Data) → IsStrictlySortedBy key_cmp (keys_of slots)
+    → (o : Option Object) → lookup (is_key k) (live slots) ≡ o → option_map tree_of o ≡ Some tree → IsSome (lookup (is_key k) slots)
+slot_by k slots tree ordered None at is = absurd (cc is)
+slot_by k slots tree ordered (Some x) at is = slot_there key_cmp key_total k x slots ordered at
+
+-- where a tree stands, there is a slot
+pub slot_of_tree : (s : State) (k : Key) (tree : Data) → IsStrictlySortedBy key_cmp (keys_of s.slots) → lookup (is_key k) (plain_of s).objects ≡ Some tree → IsSome (lookup (is_key k) s.slots)
+slot_of_tree s k tree ordered is =
+    slot_by k s.slots tree ordered (lookup (is_key k) (objects s)) refl (sym (lookup_trees k (objects s)) ∙ is)
+
+-- ---- a replacement
+
+by_version : (s : Plain) (k : Key) (tree old : Data) (cs : List PlainChange) (fault : StoreFault) (b : Bool) → ((if b then Ok old else Err fault) >>= replaced s k tree) ≡ Ok cs → replaced s k tree old ≡ Ok cs
+by_version s k tree old cs fault true is = is
+by_version s k tree old cs fault false is = absurd (cc is)
+
+by_place : (s : Plain) (k : Key) (tree : Data) (cs : List PlainChange) (version : GivenText) (o : Option Data) → (admitted o version >>= replaced s k tree) ≡ Ok cs → (ok_or o Missing >>= replaced s k tree) ≡ Ok cs
+by_place s k tree cs version None is = absurd (cc is)
+by_place s k tree cs version (Some old) is = by_version s k tree old cs (Conflict (version_in old)) (admits (version_in old) version) is
+
+-- the changes of a replacement are those of one at its place
+pub replacement_is_in_place : (s : Plain) (k : Key) (tree : Data) (cs : List PlainChange) → replacement s k tree ≡ Ok cs → replacement_in_place s k tree ≡ Ok cs
+replacement_is_in_place s k tree cs is = by_place s k tree cs (given_of tree).resource_version (lookup (is_key k) s.objects) is
