@@ -1,9 +1,10 @@
 -- What clap makes of Kapi's command line.
-use Rattle.std.proofs.Common.{◌≡◌, ◌∙◌, ◌⊎◌, ◌||◌, ◌==◌, ◌≢◌, Bool, true, false, List, [], ◌∷◌, length, Option, Some, None, Result, Ok, Err, IfOk, IsErrOf, inl, inr, refl, sym, ap, subst, not, codes, if◌then◌else◌}
+use Rattle.std.proofs.Common.{◌≡◌, ◌∙◌, ◌⊎◌, ◌==◌, ◌≢◌, Bool, true, false, List, [], ◌∷◌, length, Option, Some, None, Result, Ok, Err, IfOk, IsErrOf, inl, inr, refl, sym, ap, subst, not, codes, if◌then◌else◌}
 use Rattle.std.proofs.Math.Dec.{eqb-suc-zero}
 use Rattle.std.specs.Prelude.{option_and_then, option_map}
 use Rattle.std.specs.List.{list_any}
 use Rattle.std.specs.Str.{bytes_eq}
+use Rattle.std.proofs.lemmas.Bool.{or_right}
 use Rattle.clap.specs.Faults.{fault_of, is_simple_and_free}
 use Rattle.clap.specs.Kinds.{IsAmong, Kinds}
 use Rattle.clap.specs.Simple.{App, HasMatchesOf, is_simple, subcommand_of, subcommand_rows_of}
@@ -94,14 +95,10 @@ some_kind : (k : ErrorKind) (ks : Kinds) → IsAmong k ks → (length ks == 0) �
 some_kind k [] h = absurd h
 some_kind k (x ∷ xs) h = eqb-suc-zero (length xs)
 
-or_true : (b : Bool) → (b || true) ≡ true
-or_true true = refl
-or_true false = refl
-
 among_any : (p : ErrorKind → Bool) (k : ErrorKind) (ks : Kinds) → p k ≡ true → IsAmong k ks → list_any p ks ≡ true
 among_any p k [] e h = absurd h
 among_any p k (x ∷ xs) e (inl same) = rw (← same, e) refl
-among_any p k (x ∷ xs) e (inr more) = rw (among_any p k xs e more) (or_true (p x))
+among_any p k (x ∷ xs) e (inr more) = rw (among_any p k xs e more) (or_right (p x) true refl)
 
 wrong_among : (words : List Text) (k : ErrorKind) → k ≢ DisplayHelp → k ≢ DisplayVersion → IsAmong k (fault_of kapi words) → AreWrong words
 unfolding asked

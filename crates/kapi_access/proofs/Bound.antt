@@ -4,6 +4,7 @@ use Rattle.std.proofs.lemmas.Bool.Decides.{nat_tests}
 use Rattle.std.specs.List.{filter, list_any, position, position_or_len}
 use Rattle.std.specs.Option.{is_some, unwrap_or}
 use Rattle.std.specs.Str.{bytes_eq}
+use Rattle.kapi_text.proofs.Booleans.{or_false}
 use Rattle.kapi_model.specs.declared.policy_rule.PolicyRule.{PolicyRule}
 use Rattle.kapi_model.specs.declared.subject.Subject.{Subject}
 use Rattle.kapi_model.specs.declared.subject.Subject.TheVariants.{User, Group, ServiceAccount}
@@ -11,7 +12,7 @@ use Rattle.kapi_model.specs.Identities.{is_in, is_master}
 use Rattle.kapi_model.specs.Subjects.{colon, subject_matches, namespace_of}
 use Rattle.kapi_model.specs.declared.binding.RoleBinding.{RoleBinding}
 use Rattle.kapi_model.specs.declared.identity.Identity.{Identity}
-use Rattle.kapi_rules.proofs.Covers.{itself, or_false, same}
+use Rattle.kapi_rules.proofs.Covers.{itself, same}
 use Rattle.kapi_rules.proofs.Parts.{any_flat_map, any_same}
 use Rattle.kapi_rules.specs.Rules.{allows}
 use Rattle.kapi_rules.specs.declared.point.Point.{Point}

@@ -2,6 +2,7 @@
 use Rattle.std.proofs.Common.{◌≡◌, ℕ, Bool, true, false, ◌||◌, if◌then◌else◌, List, [], ◌∷◌, ◌++◌, refl, sym, ap, subst, ◌∙◌}
 use Rattle.std.proofs.lemmas.List.Folds.{list_any-append}
 use Rattle.std.specs.List.{fold}
+use Rattle.std.proofs.lemmas.Bool.{or_parts}
 use Rattle.kapi_model.specs.declared.identity.Identity.{Identity}
 use Rattle.kapi_rules.proofs.Covers.{same}
 use Rattle.kapi_rules.specs.Rules.{allows}
@@ -87,12 +88,8 @@ module _ (identity : Identity) where
 one_more_once : (list : List Way) (way : Way) → is_told list way.to ≡ false → IsEachOnce list → IsEachOnce (list ++ way ∷ [])
 one_more_once [] way new once = (refl, tt)
 one_more_once (w ∷ list) way new once =
-    let parts = neither (same_grantee w.to way.to) (is_told list way.to) new in
+    let parts = or_parts (same_grantee w.to way.to) (is_told list way.to) new in
     (told_more list way w.to ∙ rw (turned way.to w.to, parts.0) once.0, one_more_once list way parts.1 once.1)
-  where
-    neither : (a b : Bool) → (a || b) ≡ false → (a ≡ false) × (b ≡ false)
-    neither true b h = absurd (cc h)
-    neither false b h = (refl, h)
 
 with_once : (list : List Way) (way : Way) → IsEachOnce list → IsEachOnce (with_way list way)
 with_once list way once = by_case (is_told list way.to) refl

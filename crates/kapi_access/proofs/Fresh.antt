@@ -3,6 +3,7 @@ use Rattle.std.proofs.Common.{◌≡◌, inl, inr, ℕ, suc, ◌≤◌, Bool, tr
 use Rattle.std.proofs.lemmas.List.{length-append}
 use Rattle.std.specs.List.{flat_map, list_any}
 use Rattle.std.specs.Str.{bytes_eq}
+use Rattle.std.proofs.lemmas.Bool.{false_from_ne_true}
 use Rattle.kapi_model.specs.declared.policy_rule.PolicyRule.{PolicyRule}
 use Rattle.kapi_model.specs.declared.subject.Subject.{Subject}
 use Rattle.kapi_model.specs.declared.subject.Subject.TheVariants.{User, Group, ServiceAccount}
@@ -11,7 +12,6 @@ use Rattle.kapi_rules.proofs.Covers.{same}
 use Rattle.kapi_policy.specs.All.{all_bindings}
 use Rattle.kapi_policy.specs.Decided.{Binding}
 use Rattle.kapi_policy.specs.Objects.{PolicyObjects}
-use Rattle.kapi_aggregation.proofs.Lists.{is_false}
 use Rattle.kapi_gains.proofs.Elements.{part_of, passing}
 use Rattle.kapi_aggregation.specs.Members.{Has}
 use Rattle.kapi_access.specs.declared.grantee.Grantee.TheVariants as grantee
@@ -36,7 +36,7 @@ begins_so (b ∷ text) = b == 120
 
 -- no binding names the stranger
 pub nobody_is_stranger : (objects : PolicyObjects) (b : Binding) (name : List ℕ) → Has (all_bindings objects) b → Has (grantees b) (grantee.User name) → bytes_eq (stranger objects) name ≡ false
-nobody_is_stranger objects b name stands bound = is_false _ (λ h. by_subject s.0 s.1.0 s.1.1 (same (stranger objects) name h))
+nobody_is_stranger objects b name stands bound = false_from_ne_true _ (λ h. by_subject s.0 s.1.0 s.1.1 (same (stranger objects) name h))
   where
     s : (s : Subject) × (Has b.subjects s × Has (whom b.namespace s) (grantee.User name))
     s = part_of (whom b.namespace) b.subjects (grantee.User name) bound
@@ -68,7 +68,7 @@ fresh rules = 120 ∷ flat_map (λ rule. flat_map (λ name. name) rule.resource_
 
 pub none_lists : (rules : List PolicyRule) (rule : PolicyRule) → Has rules rule → list_any (λ n. bytes_eq n (fresh rules)) rule.resource_names ≡ false
 unfolding fresh
-none_lists rules rule has = is_false _ (λ some.
+none_lists rules rule has = false_from_ne_true _ (λ some.
     let n = passing (λ n. bytes_eq n (fresh rules)) rule.resource_names some in
     apart (flat_map (λ (r : PolicyRule). flat_map (λ name. name) r.resource_names) rules) n.0
     (fits_twice _ _ _ (part_fits (λ name. name) rule.resource_names n.0 n.1.0) (part_fits (λ (r : PolicyRule). flat_map (λ name. name) r.resource_names) rules rule has))

@@ -2,6 +2,7 @@
 use Rattle.std.proofs.Common.{◌≡◌, ◌⊎◌, ℕ, Bool, true, false, ◌||◌, if◌then◌else◌, List, [], None, refl, sym, ◌∙◌}
 use Rattle.std.specs.List.{list_any}
 use Rattle.std.specs.Option.{unwrap_or}
+use Rattle.std.proofs.lemmas.Bool.{or_right}
 use Rattle.kapi_model.specs.declared.policy_rule.PolicyRule.{PolicyRule}
 use Rattle.kapi_model.specs.Identities.{is_master}
 use Rattle.kapi_model.specs.Subjects.{subject_matches}
@@ -59,11 +60,7 @@ module _ (objects : PolicyObjects) (identity : Identity) (namespace : List ℕ) 
   -- who holds a rule may do what it allows
   pub may_by : (p : Point) (rule : PolicyRule) → Has (held objects identity namespace) rule → allows rule p ≡ true → may objects identity namespace p ≡ true
   may_by p rule has allowed =
-      allowed_where_held objects identity namespace p ∙ either (is_master identity) _ (some_at (λ rule. allows rule p) (held objects identity namespace) rule has allowed)
-    where
-      either : (a b : Bool) → b ≡ true → (a || b) ≡ true
-      either true b h = refl
-      either false b h = h
+      allowed_where_held objects identity namespace p ∙ or_right (is_master identity) _ (some_at (λ rule. allows rule p) (held objects identity namespace) rule has allowed)
 
   -- who is no master and may do something holds a rule that allows it
   pub rule_of_may : (p : Point) → may objects identity namespace p ≡ true → is_master identity ≡ false

@@ -1,12 +1,12 @@
 -- The request that an atom asks for, and what implies the atom.
 use Rattle.std.proofs.Common.{◌≡◌, ◌⊎◌, inl, inr, ℕ, Bool, true, false, not, ◌||◌, ◌==◌, if◌then◌else◌, List, [], ◌∷◌, ◌++◌, length, Option, Some, None, refl, ap, ◌∙◌}
 use Rattle.std.proofs.Math.Dec.{eqb-suc-zero}
-use Rattle.std.proofs.lemmas.Bool.{and_parts, or_cases}
+use Rattle.std.proofs.lemmas.Bool.{and_parts, or_cases, or_left, or_right, not-true, and_from}
 use Rattle.std.proofs.lemmas.Bool.Decides.{Decides-eqb}
 use Rattle.std.specs.List.{list_any}
 use Rattle.std.specs.Str.{bytes_eq}
 use Rattle.kapi_model.specs.declared.policy_rule.PolicyRule.{PolicyRule}
-use Rattle.kapi_rules.proofs.Covers.{both, itself, same}
+use Rattle.kapi_rules.proofs.Covers.{itself, same}
 use Rattle.kapi_rules.proofs.Law.{any_weaker}
 use Rattle.kapi_rules.proofs.Parts.{rule_implies_resource, rule_implies_url}
 use Rattle.kapi_rules.specs.Atoms.{after_slash, atom_allows, is_any_with, listed_cover, names_allow, resource_covers}
@@ -21,13 +21,6 @@ use Rattle.kapi_rules.specs.declared.atom.Names.TheVariants as names
 use Rattle.kapi_rules.specs.declared.point.Point.{Point}
 use Rattle.kapi_rules.specs.declared.point.Point.TheVariants as point
 use Rattle.kapi_access.specs.Gained.{can_match, is_nothing}
-
-pub first_holds : (a b : Bool) → a ≡ true → (a || b) ≡ true
-first_holds a b h = rw h refl
-
-pub second_holds : (a b : Bool) → b ≡ true → (a || b) ≡ true
-second_holds true b h = refl
-second_holds false b h = h
 
 -- ---- the parts of a resource
 
@@ -71,14 +64,14 @@ joined (b ∷ text) s some = by_byte (b == 47) refl some (joined text s)
 
 -- an entry matches its own two parts
 own_parts : (r : List ℕ) (o : Option (List ℕ)) → after_slash r ≡ o → is_nothing o ≡ false → resource_matches r (before_slash r) (behind o) ≡ true
-own_parts r None is some = rw (whole_before r is) (second_holds (bytes_eq r star) (bytes_eq r r) (itself r))
+own_parts r None is some = rw (whole_before r is) (or_right (bytes_eq r star) (bytes_eq r r) (itself r))
 own_parts r (Some []) is some = absurd (cc some)
 own_parts r (Some (c ∷ s)) is some =
-    rw (eqb-suc-zero (length s)) (first_holds _ (bytes_eq r (42 ∷ 47 ∷ c ∷ s)) (second_holds (bytes_eq r star) _ (rw (joined r (c ∷ s) is) (itself r))))
+    rw (eqb-suc-zero (length s)) (or_left _ (bytes_eq r (42 ∷ 47 ∷ c ∷ s)) (or_right (bytes_eq r star) _ (rw (joined r (c ∷ s) is) (itself r))))
 
 -- what matches them covers the entry
 covers_whole : (e r : List ℕ) (o : Option (List ℕ)) → after_slash r ≡ o → is_nothing o ≡ false → resource_matches e (before_slash r) (behind o) ≡ true → (word_matches e r || is_any_with e o) ≡ true
-covers_whole e r None is some h = first_holds _ _ (let w = rw (whole_before r is) at h in w)
+covers_whole e r None is some h = or_left _ _ (let w = rw (whole_before r is) at h in w)
 covers_whole e r (Some []) is some h = absurd (cc some)
 covers_whole e r (Some (c ∷ s)) is some h =
     let parts : subresource_matches e (before_slash r) (c ∷ s) ≡ true = (let p = rw (eqb-suc-zero (length s)) at h in p) in
@@ -97,10 +90,6 @@ request_of other (atom.Resource a) =
     point.Resource (record { verb = a.verb; group = a.group; resource = before_slash a.resource; subresource = behind (after_slash a.resource); name = name_in other a.names })
 request_of other (atom.Url a) = point.Url (record { verb = a.verb; path = a.url })
 
-not_nothing : (b : Bool) → not b ≡ true → b ≡ false
-not_nothing true h = absurd cc
-not_nothing false h = refl
-
 pub plain_request : (other : List ℕ) (a : Atom) → HasPlainResource (request_of other a)
 unfolding request_of
 plain_request other (atom.Resource a) = plain_before a.resource
@@ -114,11 +103,11 @@ own_name other (names.One name) = itself name
 pub allows_own : (other : List ℕ) (a : Atom) → can_match a ≡ true → atom_allows a (request_of other a) ≡ true
 unfolding request_of
 allows_own other (atom.Resource a) can =
-    both _ _ (second_holds (bytes_eq a.verb star) (bytes_eq a.verb a.verb) (itself a.verb))
-    (both _ _ (second_holds (bytes_eq a.group star) (bytes_eq a.group a.group) (itself a.group))
-    (both _ _ (own_parts a.resource (after_slash a.resource) refl (not_nothing _ can)) (own_name other a.names)))
+    and_from _ _ (or_right (bytes_eq a.verb star) (bytes_eq a.verb a.verb) (itself a.verb))
+    (and_from _ _ (or_right (bytes_eq a.group star) (bytes_eq a.group a.group) (itself a.group))
+    (and_from _ _ (own_parts a.resource (after_slash a.resource) refl (not-true _ can)) (own_name other a.names)))
 allows_own other (atom.Url a) can =
-    both _ _ (second_holds (bytes_eq a.verb star) (bytes_eq a.verb a.verb) (itself a.verb)) (first_holds (bytes_eq a.url a.url) _ (itself a.url))
+    and_from _ _ (or_right (bytes_eq a.verb star) (bytes_eq a.verb a.verb) (itself a.verb)) (or_left (bytes_eq a.url a.url) _ (itself a.url))
 
 names_back : (other : List ℕ) (listed : List (List ℕ)) (n : Names) → list_any (λ x. bytes_eq x other) listed ≡ false → names_match listed (name_in other n) ≡ true → listed_cover listed n ≡ true
 unfolding name_in
@@ -137,8 +126,8 @@ implies_back other rule (atom.Resource a) none can h =
     let two = and_parts _ _ one.1 in
     let three = and_parts _ _ two.1 in
     rule_implies_resource rule a
-    ∙ both _ _ one.0 (both _ _ two.0 (both _ _ (any_weaker (λ e. resource_matches e (before_slash a.resource) (behind (after_slash a.resource))) (λ e. resource_covers e a.resource) rule.resources
-    (λ e m. covers_whole e a.resource (after_slash a.resource) refl (not_nothing _ can) m) three.0) (names_back other rule.resource_names a.names none three.1)))
+    ∙ and_from _ _ one.0 (and_from _ _ two.0 (and_from _ _ (any_weaker (λ e. resource_matches e (before_slash a.resource) (behind (after_slash a.resource))) (λ e. resource_covers e a.resource) rule.resources
+    (λ e m. covers_whole e a.resource (after_slash a.resource) refl (not-true _ can) m) three.0) (names_back other rule.resource_names a.names none three.1)))
 implies_back other rule (atom.Url a) none can h = rule_implies_url rule a ∙ h
 
 -- ---- what requests match

@@ -1,11 +1,12 @@
 -- Every gain is reported, each line is a gain, and nothing is reported of what stood.
 use Rattle.std.proofs.Common.{◌≡◌, ◌⊎◌, inl, inr, ℕ, ◌+◌, Bool, true, false, not, if◌then◌else◌, List, [], ◌∷◌, ◌++◌, refl, sym, ap, subst, codes, ◌∙◌}
-use Rattle.std.proofs.lemmas.Bool.{and_parts}
+use Rattle.std.proofs.lemmas.Bool.{and_parts, false_from_ne_true, and_from}
 use Rattle.std.specs.List.{enumerate_from, flat_map, list_any}
+use Rattle.kapi_text.proofs.Booleans.{or_false}
 use Rattle.kapi_model.specs.declared.policy_rule.PolicyRule.{PolicyRule}
 use Rattle.kapi_model.specs.Identities.{is_master}
 use Rattle.kapi_model.specs.declared.identity.Identity.{Identity}
-use Rattle.kapi_rules.proofs.Covers.{both, implies_allows, implies_itself, or_false}
+use Rattle.kapi_rules.proofs.Covers.{implies_allows, implies_itself}
 use Rattle.kapi_rules.proofs.Law.{any_weaker}
 use Rattle.kapi_rules.proofs.Listed.{listed_exactly, same_decides}
 use Rattle.kapi_rules.proofs.Parts.{allowed_by_atom}
@@ -21,7 +22,7 @@ use Rattle.kapi_policy.specs.Objects.{PolicyObjects}
 use Rattle.kapi_access.proofs.Fresh.{fresh, none_lists}
 use Rattle.kapi_access.proofs.Held.{HoldsBy, holds, holds_by, masters_may, may_by, rule_of_may}
 use Rattle.kapi_access.proofs.Points.{allows_own, implies_back, matched_can, plain_request, request_of}
-use Rattle.kapi_aggregation.proofs.Lists.{has_kept, has_mapped, is_false, kept_of, mapped_of, some_at}
+use Rattle.kapi_aggregation.proofs.Lists.{has_kept, has_mapped, kept_of, mapped_of, some_at}
 use Rattle.kapi_gains.proofs.Elements.{has_part, part_of, passing}
 use Rattle.kapi_gains.specs.Access.{may}
 use Rattle.kapi_aggregation.specs.Members.{Has}
@@ -84,7 +85,7 @@ is_new : (own : List PolicyRule) (rule : PolicyRule) (a : Atom) → can_match a 
 unfolding new_atoms
 is_new own rule a can lacks has =
     has_kept can_match (missing own (rule ∷ [])) a
-    (has_same (missing own (rule ∷ [])) a (listed_exactly own (rule ∷ []) a ∙ both _ _ lacks (some_at (same_atom a) (flat_map atoms (rule ∷ [])) a (subst (λ l. Has l a) (sym (atoms_alone rule)) has) ((same_decides a a).1 refl)))) can
+    (has_same (missing own (rule ∷ [])) a (listed_exactly own (rule ∷ []) a ∙ and_from _ _ lacks (some_at (same_atom a) (flat_map atoms (rule ∷ [])) a (subst (λ l. Has l a) (sym (atoms_alone rule)) has) ((same_decides a a).1 refl)))) can
 
 -- a rule that implies an atom allows what that allows
 implied_allows : (rule : PolicyRule) (a : Atom) (p : Point) → HasPlainResource p → rule_implies rule a ≡ true → atom_allows a p ≡ true → allows rule p ≡ true
@@ -167,7 +168,7 @@ module _ (who : Identities) (before after : PolicyObjects) where
   every_gain_is_reported identity namespace p among plain now not_before =
       record {
         line = record { to = h.to; binding = h.by; rule = numbered.0; gain = a.0 };
-        listed = line_of h.by h.to numbered.0 r.0 a.0 h.stands h.bound numbered.1 (is_false _ (λ is. absurd (let allowed = masters_may before identity namespace p (in_too who (stranger before) h.to identity (codes "system:masters") among h.meant is) in cc)))
+        listed = line_of h.by h.to numbered.0 r.0 a.0 h.stands h.bound numbered.1 (false_from_ne_true _ (λ is. absurd (let allowed = masters_may before identity namespace p (in_too who (stranger before) h.to identity (codes "system:masters") among h.meant is) in cc)))
             (is_new _ r.0 a.0 (matched_can a.0 p plain a.1.1) lacks a.1.0);
         meant = h.meant;
         there = h.there;
@@ -175,7 +176,7 @@ module _ (who : Identities) (before after : PolicyObjects) where
       }
     where
       no_master : is_master identity ≡ false
-      no_master = is_false _ (λ is. absurd (let allowed = masters_may before identity namespace p is in cc))
+      no_master = false_from_ne_true _ (λ is. absurd (let allowed = masters_may before identity namespace p is in cc))
 
       r : (rule : PolicyRule) × (Has (held after identity namespace) rule × (allows rule p ≡ true))
       r = rule_of_may after identity namespace p now no_master
@@ -206,7 +207,7 @@ module _ (who : Identities) (before after : PolicyObjects) where
         meant = alone_matches who (stranger before) line.to;
         by_atom = by_atom;
         now = now;
-        not_before = is_false _ (λ allowed. never (rule_of_may before own_identity line.binding.namespace request allowed by.plain));
+        not_before = false_from_ne_true _ (λ allowed. never (rule_of_may before own_identity line.binding.namespace request allowed by.plain));
       }
     where
       by : Behind line

@@ -1,7 +1,7 @@
 -- Who is unprivileged is who is not listed.
 use Rattle.std.proofs.Common.{◌≡◌, ◌⊎◌, inl, inr, ℕ, Bool, true, false, ◌&&◌, ◌||◌, List, [], ◌∷◌, length, refl, sym, subst, codes, ◌∙◌}
 use Rattle.std.proofs.Math.Dec.{eqb-suc-zero}
-use Rattle.std.proofs.lemmas.Bool.{and_parts, or_cases}
+use Rattle.std.proofs.lemmas.Bool.{and_parts, or_cases, or_left, or_right, or_parts, false_from_ne_true, and_from}
 use Rattle.std.specs.List.{list_any}
 use Rattle.std.specs.Option.{unwrap_or}
 use Rattle.std.specs.Str.{bytes_eq}
@@ -12,7 +12,7 @@ use Rattle.kapi_model.specs.declared.policy_rule.PolicyRule.{PolicyRule}
 use Rattle.kapi_model.specs.declared.role_ref.RoleRef.{RoleRef}
 use Rattle.kapi_model.specs.Identities.{is_master}
 use Rattle.kapi_model.specs.declared.identity.Identity.{Identity}
-use Rattle.kapi_rules.proofs.Covers.{both, itself}
+use Rattle.kapi_rules.proofs.Covers.{itself}
 use Rattle.kapi_rules.proofs.Parts.{any_flat_map}
 use Rattle.kapi_rules.specs.Entries.{names_match, resource_matches, star, url_matches, word_matches}
 use Rattle.kapi_rules.specs.Rules.{allows}
@@ -23,9 +23,8 @@ use Rattle.kapi_policy.specs.Decided.{Binding, bindings_in, given, held}
 use Rattle.kapi_policy.specs.Objects.{PolicyObjects}
 use Rattle.kapi_access.proofs.Bound.{counted, counts_there, given_named}
 use Rattle.kapi_access.proofs.Held.{may_by, rule_of_may}
-use Rattle.kapi_access.proofs.Points.{first_holds, second_holds}
 use Rattle.kapi_gains.proofs.Elements.{has_part, part_of, passing}
-use Rattle.kapi_aggregation.proofs.Lists.{is_false, or_false, some_at}
+use Rattle.kapi_aggregation.proofs.Lists.{some_at}
 use Rattle.kapi_access.specs.Grantees.{matches}
 use Rattle.kapi_access.specs.Risks.{has_some, has_word, is_risky, lets_impersonate, lets_on_roles, risks}
 use Rattle.kapi_gains.proofs.Law.{nobody_gains}
@@ -51,11 +50,11 @@ some_entry [] h = absurd (cc h)
 some_entry (e ∷ entries) h = (e, inl refl)
 
 has_itself : (entries : List (List ℕ)) (e : List ℕ) → Has entries e → list_any (λ x. word_matches x e) entries ≡ true
-has_itself entries e has = some_at (λ x. word_matches x e) entries e has (second_holds (bytes_eq e star) (bytes_eq e e) (itself e))
+has_itself entries e has = some_at (λ x. word_matches x e) entries e has (or_right (bytes_eq e star) (bytes_eq e e) (itself e))
 
 some_name : (listed : List (List ℕ)) → (name : List ℕ) × (names_match listed name ≡ true)
 some_name [] = ([], refl)
-some_name (n ∷ listed) = (n, second_holds _ _ (first_holds (bytes_eq n n) _ (itself n)))
+some_name (n ∷ listed) = (n, or_right _ _ (or_left (bytes_eq n n) _ (itself n)))
 
 DangerBy : PolicyRule → Type 0
 DangerBy rule = (p : Point) × (Danger p × (allows rule p ≡ true))
@@ -74,11 +73,11 @@ impersonating rule h = by_lists (or_cases (has_some rule.api_groups && has_some 
         let resource = some_entry rule.resources two.1 in
         let name = some_name rule.resource_names in
         let p : Point = point.Resource (record { verb = codes "impersonate"; group = group.0; resource = resource.0; subresource = []; name = name.0 }) in
-        (p, (Danger.impersonates p refl, both _ _ parts.0 (both _ _ (has_itself rule.api_groups group.0 group.1) (both _ _ (has_itself rule.resources resource.0 resource.1) name.1))))
+        (p, (Danger.impersonates p refl, and_from _ _ parts.0 (and_from _ _ (has_itself rule.api_groups group.0 group.1) (and_from _ _ (has_itself rule.resources resource.0 resource.1) name.1))))
     by_lists (inr some) =
         let url = some_entry rule.non_resource_urls some in
         let p : Point = point.Url (record { verb = codes "impersonate"; path = url.0 }) in
-        (p, (Danger.impersonates p refl, both _ _ parts.0 (some_at (λ x. url_matches x url.0) rule.non_resource_urls url.0 url.1 (first_holds (bytes_eq url.0 url.0) _ (itself url.0)))))
+        (p, (Danger.impersonates p refl, and_from _ _ parts.0 (some_at (λ x. url_matches x url.0) rule.non_resource_urls url.0 url.1 (or_left (bytes_eq url.0 url.0) _ (itself url.0)))))
 
 on_roles : (verb : List ℕ) (rule : PolicyRule) → lets_on_roles verb rule ≡ true → (kind : RoleKind) × ((name : List ℕ) × (allows rule (role_point verb kind name) ≡ true))
 on_roles verb rule h = by_kind (or_cases (has_word rule.resources (codes "roles")) (has_word rule.resources (codes "clusterroles")) more.1)
@@ -93,8 +92,8 @@ on_roles verb rule h = by_kind (or_cases (has_word rule.resources (codes "roles"
     name = some_name rule.resource_names
 
     by_kind : (has_word rule.resources (codes "roles") ≡ true) ⊎ (has_word rule.resources (codes "clusterroles") ≡ true) → (kind : RoleKind) × ((name : List ℕ) × (allows rule (role_point verb kind name) ≡ true))
-    by_kind (inl roles) = (role_kind.Role, (name.0, both _ _ parts.0 (both _ _ more.0 (both _ _ roles name.1))))
-    by_kind (inr cluster) = (role_kind.ClusterRole, (name.0, both _ _ parts.0 (both _ _ more.0 (both _ _ cluster name.1))))
+    by_kind (inl roles) = (role_kind.Role, (name.0, and_from _ _ parts.0 (and_from _ _ more.0 (and_from _ _ roles name.1))))
+    by_kind (inr cluster) = (role_kind.ClusterRole, (name.0, and_from _ _ parts.0 (and_from _ _ more.0 (and_from _ _ cluster name.1))))
 
 risky_allows : (rule : PolicyRule) → is_risky rule ≡ true → DangerBy rule
 unfolding is_risky DangerBy
@@ -121,33 +120,33 @@ lets_role verb role_kind.Role name rule h =
     let one = and_parts _ _ h in
     let two = and_parts _ _ one.1 in
     let three = and_parts _ _ two.1 in
-    both _ _ one.0 (both _ _ two.0 (first_holds (has_word rule.resources (codes "roles")) (has_word rule.resources (codes "clusterroles")) three.0))
+    and_from _ _ one.0 (and_from _ _ two.0 (or_left (has_word rule.resources (codes "roles")) (has_word rule.resources (codes "clusterroles")) three.0))
 lets_role verb role_kind.ClusterRole name rule h =
     let one = and_parts _ _ h in
     let two = and_parts _ _ one.1 in
     let three = and_parts _ _ two.1 in
-    both _ _ one.0 (both _ _ two.0 (second_holds (has_word rule.resources (codes "roles")) (has_word rule.resources (codes "clusterroles")) three.0))
+    and_from _ _ one.0 (and_from _ _ two.0 (or_right (has_word rule.resources (codes "roles")) (has_word rule.resources (codes "clusterroles")) three.0))
 
 lets_act : (p : Point) (rule : PolicyRule) → verb_of p ≡ codes "impersonate" → allows rule p ≡ true → lets_impersonate rule ≡ true
 lets_act (point.Resource p) rule verb h =
     let one = and_parts _ _ h in
     let two = and_parts _ _ one.1 in
     let three = and_parts _ _ two.1 in
-    both _ _ (subst (λ v. list_any (λ e. word_matches e v) rule.verbs ≡ true) verb one.0)
-    (first_holds (has_some rule.api_groups && has_some rule.resources) (has_some rule.non_resource_urls)
-    (both _ _ (some_of (λ e. word_matches e p.group) rule.api_groups two.0) (some_of (λ e. resource_matches e p.resource p.subresource) rule.resources three.0)))
+    and_from _ _ (subst (λ v. list_any (λ e. word_matches e v) rule.verbs ≡ true) verb one.0)
+    (or_left (has_some rule.api_groups && has_some rule.resources) (has_some rule.non_resource_urls)
+    (and_from _ _ (some_of (λ e. word_matches e p.group) rule.api_groups two.0) (some_of (λ e. resource_matches e p.resource p.subresource) rule.resources three.0)))
 lets_act (point.Url p) rule verb h =
     let one = and_parts _ _ h in
-    both _ _ (subst (λ v. list_any (λ e. word_matches e v) rule.verbs ≡ true) verb one.0)
-    (second_holds (has_some rule.api_groups && has_some rule.resources) (has_some rule.non_resource_urls) (some_of (λ e. url_matches e p.path) rule.non_resource_urls one.1))
+    and_from _ _ (subst (λ v. list_any (λ e. word_matches e v) rule.verbs ≡ true) verb one.0)
+    (or_right (has_some rule.api_groups && has_some rule.resources) (has_some rule.non_resource_urls) (some_of (λ e. url_matches e p.path) rule.non_resource_urls one.1))
 
 allowing_is_risky : (p : Point) (rule : PolicyRule) → Danger p → allows rule p ≡ true → is_risky rule ≡ true
 unfolding is_risky
 allowing_is_risky p rule (Danger.escalates kind name) h =
-    second_holds (lets_impersonate rule) _ (first_holds (lets_on_roles (codes "escalate") rule) (lets_on_roles (codes "bind") rule) (lets_role (codes "escalate") kind name rule h))
+    or_right (lets_impersonate rule) _ (or_left (lets_on_roles (codes "escalate") rule) (lets_on_roles (codes "bind") rule) (lets_role (codes "escalate") kind name rule h))
 allowing_is_risky p rule (Danger.binds role) h =
-    second_holds (lets_impersonate rule) _ (second_holds (lets_on_roles (codes "escalate") rule) (lets_on_roles (codes "bind") rule) (lets_role (codes "bind") role.kind role.name rule h))
-allowing_is_risky p rule (Danger.impersonates q verb) h = first_holds (lets_impersonate rule) _ (lets_act p rule verb h)
+    or_right (lets_impersonate rule) _ (or_right (lets_on_roles (codes "escalate") rule) (lets_on_roles (codes "bind") rule) (lets_role (codes "bind") role.kind role.name rule h))
+allowing_is_risky p rule (Danger.impersonates q verb) h = or_left (lets_impersonate rule) _ (lets_act p rule verb h)
 
 -- ---- who is listed
 
@@ -191,16 +190,16 @@ module _ (objects : PolicyObjects) (identity : Identity) where
 
   pub unprivileged_is_unlisted : IsUnprivileged objects identity → (is_master identity || is_named (risks objects) identity) ≡ false
   unprivileged_is_unlisted unprivileged =
-      rw unprivileged.no_master (is_false _ (λ named.
+      rw unprivileged.no_master (false_from_ne_true _ (λ named.
       let b = passing named_at (all_bindings objects) (sym listed_at ∙ named) in
       let danger = named_may b.0 b.1.0 b.1.1 in
       absurd (let not_so = never unprivileged b.0.namespace danger.0 danger.1.0 in let so = danger.1.1 in cc)))
 
   pub unlisted_is_unprivileged : (is_master identity || is_named (risks objects) identity) ≡ false → IsUnprivileged objects identity
   unlisted_is_unprivileged unlisted =
-      let parts = or_false (is_master identity) (is_named (risks objects) identity) unlisted in
+      let parts = or_parts (is_master identity) (is_named (risks objects) identity) unlisted in
       let none : (namespace : List ℕ) (p : Point) → Danger p → may objects identity namespace p ≡ false =
-      (λ namespace p danger. is_false _ (λ allowed. absurd (let named = may_named namespace p parts.0 danger allowed in let not_so = parts.1 in cc))) in
+      (λ namespace p danger. false_from_ne_true _ (λ allowed. absurd (let named = may_named namespace p parts.0 danger allowed in let not_so = parts.1 in cc))) in
       record {
         no_master = parts.0;
         no_escalate = λ namespace kind name. none namespace (escalating kind name) (Danger.escalates kind name);

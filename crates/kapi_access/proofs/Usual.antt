@@ -1,12 +1,13 @@
 -- What a grantee alone is, each identity that it is is too.
 use Rattle.std.proofs.Common.{◌≡◌, ◌⊎◌, inl, inr, ℕ, Bool, true, false, ◌&&◌, ◌||◌, if◌then◌else◌, List, [], ◌∷◌, ◌++◌, Option, Some, None, refl, sym, ap, subst, ◌∙◌}
-use Rattle.std.proofs.lemmas.Bool.{or_cases}
+use Rattle.std.proofs.lemmas.Bool.{or_cases, or_right}
 use Rattle.std.specs.List.{list_all, list_any}
 use Rattle.std.specs.Str.{bytes_eq}
+use Rattle.kapi_text.proofs.Booleans.{or_false}
 use Rattle.kapi_model.specs.declared.subject.ServiceAccount.{ServiceAccount}
 use Rattle.kapi_model.specs.Identities.{is_in}
 use Rattle.kapi_model.specs.declared.identity.Identity.{Identity}
-use Rattle.kapi_rules.proofs.Covers.{itself, or_false, same}
+use Rattle.kapi_rules.proofs.Covers.{itself, same}
 use Rattle.kapi_policy.specs.All.{all_bindings}
 use Rattle.kapi_policy.specs.Decided.{Binding}
 use Rattle.kapi_policy.specs.Objects.{PolicyObjects}
@@ -21,7 +22,6 @@ use Rattle.kapi_access.specs.declared.identities.Identities.TheVariants as ident
 use Rattle.kapi_access.specs.Grantees.{alone, grantees, matches, stranger, usual_member}
 use Rattle.kapi_access.specs.Usual.{IsMeant, IsUsual, anonymous_user, authenticated, anonymous, unauthenticated, usual_groups}
 use Rattle.kapi_access.proofs.Fresh.{nobody_is_stranger}
-use Rattle.kapi_access.proofs.Points.{second_holds}
 
 -- ---- the groups of usual identities
 
@@ -127,7 +127,7 @@ member_is_usual objects n = by_case (bytes_eq n unauthenticated) refl
     by_case : (t : Bool) → bytes_eq n unauthenticated ≡ t → IsUsual (if t then anonymous else record { user = stranger objects; groups = n ∷ authenticated ∷ [] })
     by_case true is = inl refl
     by_case false is =
-        inr (record { known = refl; apart = rw is refl; grouped = rw (stranger_is_no_account objects) (both (second_holds (bytes_eq n authenticated) true refl)) })
+        inr (record { known = refl; apart = rw is refl; grouped = rw (stranger_is_no_account objects) (both (or_right (bytes_eq n authenticated) true refl)) })
       where
         both : (bytes_eq n authenticated || true) ≡ true → ((bytes_eq n authenticated || true) && true) ≡ true
         both h = rw h refl

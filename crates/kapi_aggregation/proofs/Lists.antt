@@ -1,8 +1,9 @@
 -- Elements of lists, and tests on them.
-use Rattle.std.proofs.Common.{◌≡◌, inl, inr, ℕ, List, [], ◌∷◌, Bool, true, false, cond, ◌&&◌, ◌||◌, refl, ap, map}
+use Rattle.std.proofs.Common.{◌≡◌, inl, inr, ℕ, List, [], ◌∷◌, Bool, true, false, cond, ◌&&◌, refl, ap, map}
 use Rattle.std.proofs.lemmas.Slice.Eq.{bytes_eq-Decides}
 use Rattle.std.specs.List.{AllByRecursion, filter, list_any}
 use Rattle.std.specs.Str.{bytes_eq}
+use Rattle.std.proofs.lemmas.Bool.{or_parts, or_left, or_right}
 use Rattle.kapi_aggregation.specs.Members.{Has}
 
 module _ {X : Type 0} (P : X → Type 0) where
@@ -20,29 +21,13 @@ module _ {X : Type 0} (p : X → Bool) where
   -- no item passes
   pub none_at : (xs : List X) (x : X) → list_any p xs ≡ false → Has xs x → p x ≡ false
   none_at [] x fails has = absurd has
-  none_at (y ∷ ys) x fails (inl same) = rw (← same) (first (p y) (list_any p ys) fails)
-    where
-      first : (a b : Bool) → (a || b) ≡ false → a ≡ false
-      first true b h = absurd (cc h)
-      first false b h = refl
-  none_at (y ∷ ys) x fails (inr has) = none_at ys x (rest (p y) (list_any p ys) fails) has
-    where
-      rest : (a b : Bool) → (a || b) ≡ false → b ≡ false
-      rest true b h = absurd (cc h)
-      rest false b h = h
+  none_at (y ∷ ys) x fails (inl same) = rw (← same) (or_parts (p y) (list_any p ys) fails).0
+  none_at (y ∷ ys) x fails (inr has) = none_at ys x (or_parts (p y) (list_any p ys) fails).1 has
 
   pub some_at : (xs : List X) (x : X) → Has xs x → p x ≡ true → list_any p xs ≡ true
   some_at [] x has passes = absurd has
-  some_at (y ∷ ys) x (inl same) passes = first (p y) (list_any p ys) (rw same passes)
-    where
-      first : (a b : Bool) → a ≡ true → (a || b) ≡ true
-      first true b h = refl
-      first false b h = absurd (cc h)
-  some_at (y ∷ ys) x (inr has) passes = rest (p y) (list_any p ys) (some_at ys x has passes)
-    where
-      rest : (a b : Bool) → b ≡ true → (a || b) ≡ true
-      rest true b h = refl
-      rest false b h = h
+  some_at (y ∷ ys) x (inl same) passes = or_left (p y) (list_any p ys) (rw same passes)
+  some_at (y ∷ ys) x (inr has) passes = or_right (p y) (list_any p ys) (some_at ys x has passes)
 
   -- what is kept was there, and passes
   pub kept_of : (xs : List X) (x : X) → Has (filter p xs) x → Has xs x × (p x ≡ true)
@@ -104,31 +89,10 @@ filter_alike p q same (x ∷ xs) = rw (same x, filter_alike p q same xs) refl
 
 -- ---- tests
 
-pub and_true : (a b : Bool) → (a && b) ≡ true → (a ≡ true) × (b ≡ true)
-and_true true b h = (refl, h)
-and_true false b h = absurd (cc h)
-
-pub both_true : (a b : Bool) → a ≡ true → b ≡ true → (a && b) ≡ true
-both_true true b h k = k
-both_true false b h k = absurd (cc h)
-
-pub or_false : (a b : Bool) → (a || b) ≡ false → (a ≡ false) × (b ≡ false)
-or_false true b h = absurd (cc h)
-or_false false b h = (refl, h)
-
 -- a conjunction that fails, where its first part holds
 pub then_false : (a b : Bool) → a ≡ true → (a && b) ≡ false → b ≡ false
 then_false true b h k = k
 then_false false b h k = absurd (cc h)
-
--- a conjunction fails where its second part does
-pub and_fails : (a b : Bool) → b ≡ false → (a && b) ≡ false
-and_fails true b h = h
-and_fails false b h = refl
-
-pub is_false : (b : Bool) → (b ≡ true → ⊥) → b ≡ false
-is_false true never = absurd (never refl)
-is_false false never = refl
 
 pub itself : (s : List ℕ) → bytes_eq s s ≡ true
 itself s = (bytes_eq-Decides s s).1 refl

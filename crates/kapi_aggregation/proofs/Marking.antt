@@ -9,6 +9,7 @@ use Rattle.std.specs.declared.cmp.Ordering.{Ordering}
 use Rattle.std.specs.declared.cmp.Ordering.TheVariants.{Less, Equal, Greater}
 use Rattle.serde_json.specs.Data.{Data}
 use Rattle.std.specs.Map.{lookup}
+use Rattle.std.proofs.lemmas.Bool.{or_left, or_right}
 use Rattle.kapi_store.specs.Keys.{is_key}
 use Rattle.kapi_store.specs.Plain.{PlainChange}
 use Rattle.kapi_store.specs.declared.key.Key.{Key}
@@ -16,14 +17,6 @@ use Rattle.kapi_aggregation.specs.Roles.{Labelled, is_aggregated, is_cluster_rol
 use Rattle.kapi_aggregation.specs.Marks.{Keeps, KeepsBoth, Tracked, is_marked, is_taker, learn, learned, mark_all, mark_change, mark_changed, mark_object, mark_taker, mark_takers, noted, takers_in, with_mark, with_taker}
 use Rattle.kapi_aggregation.proofs.Lists.{itself}
 use Rattle.kapi_aggregation.specs.Members.{Has}
-
-or_first : (a b : Bool) → a ≡ true → (a || b) ≡ true
-or_first true b h = refl
-or_first false b h = absurd (cc h)
-
-or_second : (a b : Bool) → b ≡ true → (a || b) ≡ true
-or_second true b h = refl
-or_second false b h = h
 
 or_more : (a b c : Bool) → (b ≡ true → c ≡ true) → (a || b) ≡ true → (a || c) ≡ true
 or_more true b c more h = refl
@@ -35,20 +28,20 @@ compares k = is_eq-slice_cmp k k ∙ itself k
 -- ---- one mark
 
 insert_marks : (ms : List (List ℕ)) (k : List ℕ) → is_marked (insert_key (slice_cmp nat_cmp) ms k) k ≡ true
-insert_marks [] k = or_first _ false (compares k)
+insert_marks [] k = or_left _ false (compares k)
 insert_marks (x ∷ xs) k = by_order (slice_cmp nat_cmp k x) refl (insert_marks xs k)
   where
     by_order : (o : Ordering) → slice_cmp nat_cmp k x ≡ o → is_marked (insert_key (slice_cmp nat_cmp) xs k) k ≡ true → is_marked (match_ordering o (k ∷ x ∷ xs) (x ∷ xs) (x ∷ insert_key (slice_cmp nat_cmp) xs k)) k ≡ true
-    by_order Less is rest = or_first _ _ (compares k)
-    by_order Equal is rest = or_first _ _ (ap is_eq is)
-    by_order Greater is rest = or_second _ _ rest
+    by_order Less is rest = or_left _ _ (compares k)
+    by_order Equal is rest = or_left _ _ (ap is_eq is)
+    by_order Greater is rest = or_right _ _ rest
 
 insert_keeps : (ms : List (List ℕ)) (k n : List ℕ) → is_marked ms n ≡ true → is_marked (insert_key (slice_cmp nat_cmp) ms k) n ≡ true
 insert_keeps [] k n h = absurd (cc h)
 insert_keeps (x ∷ xs) k n h = by_order (slice_cmp nat_cmp k x) (insert_keeps xs k n)
   where
     by_order : (o : Ordering) → (is_marked xs n ≡ true → is_marked (insert_key (slice_cmp nat_cmp) xs k) n ≡ true) → is_marked (match_ordering o (k ∷ x ∷ xs) (x ∷ xs) (x ∷ insert_key (slice_cmp nat_cmp) xs k)) n ≡ true
-    by_order Less rest = or_second _ _ h
+    by_order Less rest = or_right _ _ h
     by_order Equal rest = h
     by_order Greater rest = or_more (is_eq (slice_cmp nat_cmp n x)) (is_marked xs n) _ rest h
 

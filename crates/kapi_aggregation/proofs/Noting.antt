@@ -9,6 +9,7 @@ use Rattle.std.specs.Map.{keys_of, lookup}
 use Rattle.std.specs.Ordering.{is_eq, nat_cmp}
 use Rattle.std.specs.Str.{bytes_eq}
 use Rattle.std.specs.declared.cmp.Ordering.TheVariants.{Less, Equal}
+use Rattle.std.proofs.lemmas.Bool.{and_parts, and_from, or_parts, and_right}
 use Rattle.serde_json.specs.Data.{Data}
 use Rattle.kapi_model.specs.Kinds.{rbac_group}
 use Rattle.kapi_model.specs.Selector.{matches}
@@ -25,7 +26,7 @@ use Rattle.kapi_aggregation.specs.Roles.{Labelled, is_aggregated, is_cluster_rol
 use Rattle.kapi_aggregation.specs.Unions.{is_meant, rules_meant, same_rules, union_for, with_rule}
 use Rattle.kapi_aggregation.specs.Turns.{differs}
 use Rattle.kapi_aggregation.specs.Marks.{Covers, IsCovered, KeepsBoth, Tracked, has_rule, is_marked, is_taker, learned, listed_if, mark_all, noted, role_at, takers_in}
-use Rattle.kapi_aggregation.proofs.Lists.{all_at, all_from, and_fails, and_true, both_true, filter_mapped, filter_twice, has_kept, has_mapped, kept_of, mapped_of, none_at, or_false, same_text, then_false}
+use Rattle.kapi_aggregation.proofs.Lists.{all_at, all_from, filter_mapped, filter_twice, has_kept, has_mapped, kept_of, mapped_of, none_at, same_text, then_false}
 use Rattle.kapi_aggregation.specs.Members.{Has}
 use Rattle.kapi_aggregation.proofs.Marking.{all_keep, all_mark, is_moved, learned_has, learned_keeps, takes_object}
 use Rattle.kapi_aggregation.proofs.Placed.{key_is, placed_all_filter, placed_all_has}
@@ -68,8 +69,8 @@ entry_found (y ∷ os) sorted e (inr has) = by_test (is_key e.0 y.0) refl (entry
 place_is : (k : Key) → is_cluster_role k ≡ true → role_key k.name ≡ k
 unfolding is_cluster_role
 place_is k is =
-    let parts = and_true (bytes_eq k.group rbac_group) _ is in
-    let others = and_true (bytes_eq k.resource (codes "clusterroles")) _ parts.1 in
+    let parts = and_parts (bytes_eq k.group rbac_group) _ is in
+    let others = and_parts (bytes_eq k.resource (codes "clusterroles")) _ parts.1 in
     λ i. record {
       group = sym (same_text k.group rbac_group parts.0) i;
       resource = sym (same_text k.resource (codes "clusterroles") others.0) i;
@@ -103,10 +104,10 @@ module _ (os : List (Key × Data)) (cs : List PlainChange) (sorted : IsStrictlyS
     meant s e = is_cluster_role e.0 && is_meant r.name s (labelled_tree e)
 
     not_meant : (s : Selector) → Has (selectors_of r) s → (e : Key × Data) → takes_from r (labels_in e.1) ≡ false → is_meant r.name s (labelled_tree e) ≡ false
-    not_meant s has e takes = and_fails (not (bytes_eq e.0.name r.name)) (matches s (labels_in e.1)) (none_at (λ (s : Selector). matches s (labels_in e.1)) (selectors_of r) s takes has)
+    not_meant s has e takes = and_right (not (bytes_eq e.0.name r.name)) (matches s (labels_in e.1)) (none_at (λ (s : Selector). matches s (labels_in e.1)) (selectors_of r) s takes has)
 
     quiet : (c : PlainChange) → Has cs c → is_cluster_role c.key ≡ true → (takes_object r (lookup (is_key c.key) os) ≡ false) × (takes_object r c.new ≡ false)
-    quiet c there is = or_false _ _ (then_false (is_cluster_role c.key) _ is (none_at (is_moved os r) cs c still there))
+    quiet c there is = or_parts _ _ (then_false (is_cluster_role c.key) _ is (none_at (is_moved os r) cs c still there))
 
     new_takes : (d : Option Data) (x : Data) → d ≡ Some x → takes_object r d ≡ false → takes_from r (labels_in x) ≡ false
     new_takes d x is h = ap (takes_object r) (sym is) ∙ h
@@ -176,7 +177,7 @@ module _ (os : List (Key × Data)) (cs : List PlainChange) (sorted : IsStrictlyS
       marked : (b : Bool) → list_any (is_moved os (labelled_tree e)) cs ≡ b → differs (roles_in after) (labelled_tree e) ≡ true
           → is_marked (mark_all os (takers_in os (learned t cs).takers) (learned t cs).marks cs) e.0.name ≡ true
       marked true moved d =
-          let aggregated = (and_true (is_aggregated (labelled_tree e)) _ d).0 in
+          let aggregated = (and_parts (is_aggregated (labelled_tree e)) _ d).0 in
           all_mark os (takers_in os (learned t cs).takers) (learned t cs).marks cs (labelled_tree e)
           (taker_has os (learned t cs).takers e.0.name (labelled_tree e) (role_found os sorted e there is) (known aggregated)) moved
       marked false still d =
@@ -194,9 +195,9 @@ module _ (os : List (Key × Data)) (cs : List PlainChange) (sorted : IsStrictlyS
     left : (c : PlainChange) (x : Data) → Has cs c → c.new ≡ Some x → is_cluster_role c.key ≡ true → IsCovered (noted os t cs) (roles_in after) (labelled_at c.key.name x)
     unfolding noted
     left c x there puts is =
-        let taker : is_aggregated (labelled_at c.key.name x) ≡ true → is_taker c ≡ true = λ aggregated. both_true (is_cluster_role c.key) (has_rule c.new) is (leaves_rule c x puts aggregated) in (
+        let taker : is_aggregated (labelled_at c.key.name x) ≡ true → is_taker c ≡ true = λ aggregated. and_from (is_cluster_role c.key) (has_rule c.new) is (leaves_rule c x puts aggregated) in (
           λ aggregated. (learned_has t cs c there (taker aggregated)).1,
-          λ d. all_keep os (takers_in os (learned t cs).takers) (learned t cs).marks cs c.key.name (learned_has t cs c there (taker (and_true (is_aggregated (labelled_at c.key.name x)) _ d).0)).0,
+          λ d. all_keep os (takers_in os (learned t cs).takers) (learned t cs).marks cs c.key.name (learned_has t cs c there (taker (and_parts (is_aggregated (labelled_at c.key.name x)) _ d).0)).0,
         )
 
     Covered : Labelled → Type 0

@@ -10,6 +10,7 @@ use Rattle.std.specs.Ordering.{is_eq, nat_cmp, ordering_then}
 use Rattle.std.specs.Str.{bytes_eq}
 use Rattle.std.specs.declared.cmp.Ordering.{Ordering}
 use Rattle.std.specs.declared.cmp.Ordering.TheVariants.{Less, Equal, Greater}
+use Rattle.std.proofs.lemmas.Bool.{and_parts, and_from, and_right}
 use Rattle.serde_json.specs.Data.{Data}
 use Rattle.kapi_model.specs.Kinds.{rbac_group}
 use Rattle.kapi_model.specs.Selector.{has_label, is_met, matches}
@@ -22,7 +23,7 @@ use Rattle.kapi_store.specs.Plain.{plain_of, trees}
 use Rattle.kapi_store.specs.State.{IsStore, State, objects}
 use Rattle.kapi_store.specs.declared.key.Key.{Key}
 use Rattle.kapi_aggregation.specs.Roles.{IsInNameOrder, Labelled, is_cluster_role, labelled_tree, labels_in, names_of, roles_in}
-use Rattle.kapi_aggregation.proofs.Lists.{and_fails, and_true, both_true, filter_alike, filter_twice, itself, same_text}
+use Rattle.kapi_aggregation.proofs.Lists.{filter_alike, filter_twice, itself, same_text}
 
 -- ---- what is listed
 
@@ -31,23 +32,23 @@ module _ (row : ResourceRow) (selector : Selector) (group : row.group ≡ rbac_g
   within : (k : Key) → is_cluster_role k ≡ true → is_within row [] [] k ≡ true
   unfolding is_cluster_role
   within k is =
-      let parts = and_true (bytes_eq k.group rbac_group) _ is in
-      let others = and_true (bytes_eq k.resource (codes "clusterroles")) _ parts.1 in
+      let parts = and_parts (bytes_eq k.group rbac_group) _ is in
+      let others = and_parts (bytes_eq k.resource (codes "clusterroles")) _ parts.1 in
       let first : row.group ≡ k.group = group ∙ sym (same_text k.group rbac_group parts.0) in
       let second : row.plural ≡ k.resource = plural ∙ sym (same_text k.resource (codes "clusterroles") others.0) in
-      both_true (bytes_eq row.group k.group) _ (rw first (itself k.group))
-      (both_true (bytes_eq row.plural k.resource) true (rw second (itself k.resource)) refl)
+      and_from (bytes_eq row.group k.group) _ (rw first (itself k.group))
+      (and_from (bytes_eq row.plural k.resource) true (rw second (itself k.resource)) refl)
 
   meant : (tree : Data) → matches selector (labels_in tree) ≡ true
-  meant tree = both_true (list_all (has_label (labels_in tree)) selector.match_labels) _ (ap (list_all (has_label (labels_in tree))) labels) (ap (list_all (is_met (labels_in tree))) expressions)
+  meant tree = and_from (list_all (has_label (labels_in tree)) selector.match_labels) _ (ap (list_all (has_label (labels_in tree))) labels) (ap (list_all (is_met (labels_in tree))) expressions)
 
   listed_too : (e : Key × Data) → (is_listed row [] selector [] e.0 e.1 && is_cluster_role e.0) ≡ is_cluster_role e.0
   unfolding is_listed
   listed_too e = by_case (is_cluster_role e.0) refl
     where
       by_case : (b : Bool) → is_cluster_role e.0 ≡ b → ((is_within row [] [] e.0 && matches selector (labels_in e.1)) && b) ≡ b
-      by_case true is = both_true _ true (both_true (is_within row [] [] e.0) (matches selector (labels_in e.1)) (within e.0 is) (meant e.1)) refl
-      by_case false is = and_fails _ false refl
+      by_case true is = and_from _ true (and_from (is_within row [] [] e.0) (matches selector (labels_in e.1)) (within e.0 is) (meant e.1)) refl
+      by_case false is = and_right _ false refl
 
   listed_roles : (os : List (Key × Data)) → roles_in (listed_trees row [] selector [] os) ≡ roles_in os
   listed_roles os =
@@ -86,10 +87,10 @@ empty_is (x ∷ xs) h =
 name_less : (a b : Key) → is_cluster_role a ≡ true → is_cluster_role b ≡ true → key_cmp a b ≡ Less → slice_cmp nat_cmp a.name b.name ≡ Less
 unfolding is_cluster_role
 name_less a b one other less =
-    let first = and_true (bytes_eq a.group rbac_group) _ one in
-    let second = and_true (bytes_eq b.group rbac_group) _ other in
-    let third = and_true (bytes_eq a.resource (codes "clusterroles")) _ first.1 in
-    let fourth = and_true (bytes_eq b.resource (codes "clusterroles")) _ second.1 in
+    let first = and_parts (bytes_eq a.group rbac_group) _ one in
+    let second = and_parts (bytes_eq b.group rbac_group) _ other in
+    let third = and_parts (bytes_eq a.resource (codes "clusterroles")) _ first.1 in
+    let fourth = and_parts (bytes_eq b.resource (codes "clusterroles")) _ second.1 in
     let groups = same_text a.group rbac_group first.0 ∙ sym (same_text b.group rbac_group second.0) in
     let resources = same_text a.resource (codes "clusterroles") third.0 ∙ sym (same_text b.resource (codes "clusterroles") fourth.0) in
     let namespaces = empty_is a.namespace third.1 ∙ sym (empty_is b.namespace fourth.1) in

@@ -2,6 +2,7 @@
 use Rattle.std.proofs.Common.{◌≡◌, ◌==◌, ℕ, List, [], ◌∷◌, Bool, true, false, not, ◌||◌, length, Option, None, refl, sym, ap, ◌∙◌, map}
 use Rattle.std.proofs.Math.Dec.{eqb-suc-zero}
 use Rattle.std.specs.List.{list_any}
+use Rattle.std.proofs.lemmas.Bool.{and_parts}
 use Rattle.serde_json.specs.Data.{Data}
 use Rattle.kapi_store.specs.Changes.{placed_all}
 use Rattle.kapi_store.specs.Plain.{PlainChange, plain_change, trees_left_by}
@@ -11,7 +12,7 @@ use Rattle.kapi_aggregation.specs.Roles.{Labelled, is_aggregated, is_cluster_rol
 use Rattle.kapi_aggregation.specs.Turns.{differs, first_some, next}
 use Rattle.kapi_aggregation.specs.Unions.{same_rules, union_for}
 use Rattle.kapi_aggregation.specs.Marks.{Covers, IsCovered, NoneAggregated, Tracked, turn_if_marked}
-use Rattle.kapi_aggregation.proofs.Lists.{all_at, all_from, and_true, mapped_of, none_at}
+use Rattle.kapi_aggregation.proofs.Lists.{all_at, all_from, mapped_of, none_at}
 use Rattle.kapi_aggregation.specs.Members.{Has}
 use Rattle.kapi_aggregation.proofs.Placed.{placed_all_filter}
 use Rattle.kapi_aggregation.proofs.Turning.{found_where_covered, none_unmarked}
@@ -56,7 +57,7 @@ none_due t roles none covers = by_marks t.marks refl none
 
 none_differ : (roles : List Labelled) (r : Labelled) → is_aggregated r ≡ false → differs roles r ≡ true → ⊥
 none_differ roles r none d =
-    let parts = and_true (is_aggregated r) (not (same_rules r.role.rules (union_for roles r))) d in cc (none, parts.0)
+    let parts = and_parts (is_aggregated r) (not (same_rules r.role.rules (union_for roles r))) d in cc (none, parts.0)
 
 -- where no role is aggregated, any names cover the cluster roles
 pub none_covered : (t : Tracked) (roles : List Labelled) → NoneAggregated roles → Covers t roles

@@ -117,7 +117,7 @@ pub fn audit_run<R: Threads + Wait + Sync, G: Gate + Sync>(
     readers: usize,
     gate: &G,
 ) -> Result<Vec<u8>, AuditFault>
-    requires { (1 ≤ readers) × (readers ≤ READERS) }
+    requires { (1 ≤ readers) × (readers ≤ 16) }
     ensures { Gives fault_told (λ v. v.items) result (answers policy.now questions.now) }
 {
     let asked = numbered_lines(alloc, questions)?;

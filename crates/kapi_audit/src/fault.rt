@@ -70,6 +70,11 @@ pub enum AnswerFault {
 }
 
 impl From<Memory> for AnswerFault {
+    ghost use Rattle.std.specs.Prelude.{◌≡◌};
+    ghost use Rattle.kapi_audit.specs.declared.fault.AnswerFault.TheVariants.{Memory as NoMemory};
+
+    ghost from_gives = { λ _ e. e ≡ NoMemory };
+
     fn from(_error: Memory) -> AnswerFault {
         AnswerFault::Memory
     }

@@ -1,11 +1,10 @@
 -- In a table that fits, a resource has one resource type.
 use Rattle.std.proofs.Common.{◌≡◌, ℕ, Bool, true, false, not, ◌&&◌, ◌||◌, List, [], ◌∷◌, refl, sym, ap, ◌∙◌}
-use Rattle.std.proofs.lemmas.Bool.{or_parts}
+use Rattle.std.proofs.lemmas.Bool.{or_parts, and_parts, not-true}
 use Rattle.std.proofs.lemmas.Slice.Eq.{bytes_eq-Decides}
 use Rattle.std.specs.Bool.{beq}
 use Rattle.std.specs.List.{list_any}
 use Rattle.std.specs.Str.{bytes_eq}
-use Rattle.kapi_text.proofs.Numbers.{both}
 use Rattle.kapi_model.specs.declared.row.ResourceRow.{ResourceRow}
 use Rattle.kapi_core.specs.Table.{has_row, is_like, is_row, rows_differ}
 
@@ -15,10 +14,6 @@ tells group plural row = bytes_eq row.group group && (bytes_eq row.plural plural
 
 -- ---- tests
 
-negated : (a : Bool) → not a ≡ true → a ≡ false
-negated true h = absurd (cc h)
-negated false h = refl
-
 last_false : (a b c : Bool) → c ≡ false → (a && (b && c)) ≡ false
 last_false true true c h = h
 last_false true false c h = refl
@@ -27,7 +22,7 @@ last_false false b c h = refl
 same : (a b : List ℕ) → bytes_eq a b ≡ true → a ≡ b
 same a b e = (bytes_eq-Decides a b).0 e
 
--- texts are compared both ways
+-- texts are compared and_parts ways
 turned : (a b : List ℕ) → bytes_eq a b ≡ bytes_eq b a
 turned a b = by_case (bytes_eq a b) refl
   where
@@ -76,11 +71,11 @@ same_bool false false h = refl
 row_is : (a b : ResourceRow) → is_row a b ≡ true → Same a b
 unfolding is_row
 row_is a b h =
-    let group = both (bytes_eq a.group b.group) _ h in
-    let version = both (bytes_eq a.version b.version) _ group.1 in
-    let plural = both (bytes_eq a.plural b.plural) _ version.1 in
-    let kind = both (bytes_eq a.kind b.kind) _ plural.1 in
-    let form = both (beq a.namespaced b.namespaced) _ kind.1 in
+    let group = and_parts (bytes_eq a.group b.group) _ h in
+    let version = and_parts (bytes_eq a.version b.version) _ group.1 in
+    let plural = and_parts (bytes_eq a.plural b.plural) _ version.1 in
+    let kind = and_parts (bytes_eq a.kind b.kind) _ plural.1 in
+    let form = and_parts (beq a.namespaced b.namespaced) _ kind.1 in
     record {
       group = same a.group b.group group.0;
       plural = same a.plural b.plural plural.0;
@@ -112,13 +107,13 @@ unfolding rows_differ
 stands_alone r [] global has differ = absurd (cc has)
 stands_alone r (row ∷ later) global has differ =
     by_case (is_row r row) refl
-    (λ more. stands_alone r later global more (both (not (list_any (λ other. is_like row other) later)) (rows_differ later) differ).1)
+    (λ more. stands_alone r later global more (and_parts (not (list_any (λ other. is_like row other) later)) (rows_differ later) differ).1)
   where
     parts : (not (list_any (λ other. is_like row other) later) ≡ true) × (rows_differ later ≡ true)
-    parts = both (not (list_any (λ other. is_like row other) later)) (rows_differ later) differ
+    parts = and_parts (not (list_any (λ other. is_like row other) later)) (rows_differ later) differ
 
     none : list_any (λ other. is_like row other) later ≡ false
-    none = negated (list_any (λ other. is_like row other) later) parts.0
+    none = not-true (list_any (λ other. is_like row other) later) parts.0
 
     by_case : (t : Bool) → is_row r row ≡ t → (has_row later r ≡ true → list_any (tells r.group r.plural) later ≡ false)
         → list_any (tells r.group r.plural) (row ∷ later) ≡ false

@@ -18,7 +18,7 @@ use Rattle.kapi_answer.proofs.Granted.{answers_are_granted}
 use Rattle.kapi_answer.specs.Answer.{answer}
 use Rattle.kapi_answer.specs.Impersonation.{AreGrantedAs}
 use Rattle.kapi_gains.proofs.Impersonating.{acts_as}
-use Rattle.kapi_gains.proofs.Reached.{objects_give_nothing, reaches_both, reaches_itself}
+use Rattle.kapi_gains.proofs.Reached.{objects_give_nothing, objects_stay_within, reaches_both, reaches_itself}
 use Rattle.kapi_gains.proofs.StoredTurns.{turn_runs}
 use Rattle.kapi_gains.proofs.StoredWrites.{granted_reach}
 use Rattle.kapi_gains.specs.Runs.{ObjectsReach}
@@ -28,7 +28,7 @@ use Rattle.kapi_core.proofs.Effects as effects
 use Rattle.kapi_core.proofs.Runs.{Ran, events_made}
 use Rattle.kapi_core.specs.declared.event.Answer.{Answer}
 use Rattle.kapi_core.specs.declared.event.Event.{Event}
-use Rattle.kapi_core.specs.Gains.{NobodyGains, NobodyGainsDuring, acting_by, acting_in, identity_on}
+use Rattle.kapi_core.specs.Gains.{NobodyGains, NobodyGainsDuring, StaysHeld, StaysHeldDuring, acting_by, acting_in, identity_on}
 use Rattle.kapi_core.specs.Machine.{Machine, after, policy_of, step}
 use Rattle.kapi_core.specs.Opening.{OpeningObject, cluster_key, created_if, empty, opening, opening_objects, with_opening, written_if}
 use Rattle.kapi_core.specs.Running.{Running}
@@ -88,6 +88,10 @@ machine_gains : (m : Machine) (es : List Event) → AreInOrder m.store.objects �
 machine_gains m es sorted settled unprivileged =
     objects_give_nothing (acting_in m es) m.store.objects (after m es).store.objects sorted settled unprivileged (events_reach m es sorted)
 
+machine_holds : (m : Machine) (es : List Event) → AreInOrder m.store.objects → StaysHeld (acting_in m es) m (after m es)
+machine_holds m es sorted settled unprivileged =
+    objects_stay_within (acting_in m es) m.store.objects (after m es).store.objects sorted settled unprivileged (events_reach m es sorted)
+
 -- nobody gains by the events that a running machine made
 pub nobody_gains : (old new : Running) (m : Machine) (es : List Event) → Refines old m → Refines new (after m es)
     → NobodyGains (roles_in m.store.objects) (acting_in m es) old.policy new.policy
@@ -109,6 +113,11 @@ ran_gains initial now told shown i events ran same m stands =
 pub events_gain : (core : Running) (m : Machine) (es : List Event) → Refines core m → NobodyGainsDuring m es
 events_gain core m es refines front back is =
     machine_gains (after m front) back (events_order m front (stands_in_order core.store m.changes m.store refines.store))
+
+-- from any moment on all stays within what those held who act by the events that follow
+pub events_hold : (core : Running) (m : Machine) (es : List Event) → Refines core m → StaysHeldDuring m es
+events_hold core m es refines front back is =
+    machine_holds (after m front) back (events_order m front (stands_in_order core.store m.changes m.store refines.store))
 
 -- ---- from the opening on
 
@@ -135,3 +144,9 @@ pub between_gains : (table : List ResourceRow) (first : ℕ) (before events : Li
     (policy_of (after (opening table first) before)) (policy_of (after (after (opening table first) before) events))
 between_gains table first before events =
     machine_gains (after (opening table first) before) events (events_order (opening table first) before (opening_in_order table first))
+
+-- all stays within what those held who act between two points of a list of events
+pub between_holds : (table : List ResourceRow) (first : ℕ) (before events : List Event)
+    → StaysHeld (acting_in (after (opening table first) before) events) (after (opening table first) before) (after (after (opening table first) before) events)
+between_holds table first before events =
+    machine_holds (after (opening table first) before) events (events_order (opening table first) before (opening_in_order table first))

@@ -1,11 +1,10 @@
 -- In a table that fits, the five opening objects are stored.
-use Rattle.std.proofs.Common.{◌≡◌, ℕ, ◌+◌, ◌≤◌, ◌∙◌, Bool, true, false, ◌&&◌, List, [], ◌∷◌, Ok, Err, Result, refl, ap, arith}
-use Rattle.std.proofs.lemmas.Bool.{le-leb}
+use Rattle.std.proofs.Common.{◌≡◌, ℕ, ◌+◌, ◌≤◌, ◌∙◌, true, false, List, [], ◌∷◌, Ok, Err, Result, refl, ap, arith}
+use Rattle.std.proofs.lemmas.Bool.{le-leb, and_parts}
 use Rattle.std.specs.List.{list_all}
 use Rattle.std.specs.Map.{keys_of}
 use Rattle.std.specs.Str.{chars}
 use Rattle.serde_json.specs.Data.{Data, null}
-use Rattle.kapi_text.proofs.Numbers.{both}
 use Rattle.kapi_admission.specs.Admission.{BodyFault, object_of}
 use Rattle.kapi_admission.proofs.OnLiterals.{admission_on_literals}
 use Rattle.kapi_model.specs.declared.row.ResourceRow.{ResourceRow}
@@ -71,13 +70,13 @@ record Alone (table : List ResourceRow) : Type 0 where
 alone : (table : List ResourceRow) → fits table ≡ true → Alone table
 unfolding required_rows
 alone table h =
-    let parts = both (list_all (has_row table) required_rows) _ h in
-    let differ = (both (list_all is_known table) (rows_differ table) parts.1).1 in
-    let first = both (has_row table namespaces_row) _ parts.0 in
-    let second = both (has_row table roles_row) _ first.1 in
-    let third = both (has_row table role_bindings_row) _ second.1 in
-    let fourth = both (has_row table cluster_roles_row) _ third.1 in
-    let fifth = both (has_row table cluster_role_bindings_row) _ fourth.1 in
+    let parts = and_parts (list_all (has_row table) required_rows) _ h in
+    let differ = (and_parts (list_all is_known table) (rows_differ table) parts.1).1 in
+    let first = and_parts (has_row table namespaces_row) _ parts.0 in
+    let second = and_parts (has_row table roles_row) _ first.1 in
+    let third = and_parts (has_row table role_bindings_row) _ second.1 in
+    let fourth = and_parts (has_row table cluster_roles_row) _ third.1 in
+    let fifth = and_parts (has_row table cluster_role_bindings_row) _ fourth.1 in
     record {
       namespaces = stands_alone namespaces_row table refl first.0 differ;
       cluster_roles = stands_alone cluster_roles_row table refl fourth.0 differ;

@@ -6,6 +6,8 @@ use Rattle.kapi_policy.specs.Objects.{PolicyObjects}
 use Rattle.kapi_aggregation.specs.Roles.{Labelled, roles_in}
 use Rattle.kapi_aggregation.specs.Unions.{IsSettled}
 use Rattle.kapi_gains.specs.Access.{GivesNothing, IsUnprivileged}
+use Rattle.kapi_gains.specs.StoredStates.{labels_at}
+use Rattle.kapi_gains.specs.Within.{StaysWithin}
 use Rattle.kapi_aggregation.specs.Members.{Has}
 use Rattle.kapi_core.specs.declared.event.ConnId.{ConnId}
 use Rattle.kapi_core.specs.declared.event.Event.{Event}
@@ -52,3 +54,16 @@ abbrev pub NobodyGainsDuring : Machine → List Event → Type 0
 NobodyGainsDuring m events =
     (front back : List Event) → front ++ back ≡ events
     → NobodyGains (roles_in (after m front).store.objects) (acting_in (after m front) back) (policy_of (after m front)) (policy_of (after (after m front) back))
+
+-- where the aggregated cluster roles have their unions and all acting identities are unprivileged, what roles have now,
+-- what turns would add to aggregated ones, and what bindings give, is within what the acting identities held at the
+-- start, or was there then
+abbrev pub StaysHeld : List Identity → Machine → Machine → Type 0
+StaysHeld acting start now =
+    IsSettled (roles_in start.store.objects) → ((who : Identity) → Has acting who → IsUnprivileged (policy_of start) who)
+    → StaysWithin acting (policy_of start) (policy_of now) (labels_at now.store.objects)
+
+-- from any moment of a list of events on, all stays within what those held who act by the events that follow
+abbrev pub StaysHeldDuring : Machine → List Event → Type 0
+StaysHeldDuring m events =
+    (front back : List Event) → front ++ back ≡ events → StaysHeld (acting_in (after m front) back) (after m front) (after (after m front) back)

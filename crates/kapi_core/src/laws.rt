@@ -5,9 +5,12 @@ ghost use Rattle.kapi_model.specs.Identities.{is_master};
 ghost use Rattle.kapi_model.specs.declared.identity.Identity.{Identity};
 ghost use Rattle.kapi_aggregation.specs.Roles.{roles_in};
 ghost use Rattle.kapi_aggregation.specs.Unions.{IsSettled};
+ghost use Rattle.kapi_policy.specs.Objects.{PolicyObjects};
 ghost use Rattle.kapi_gains.specs.Access.{IsUnprivileged};
+ghost use Rattle.kapi_gains.specs.States.{Labels};
+ghost use Rattle.kapi_gains.specs.Within.{ActorsHoldOwn, StaysWithin};
 ghost use Rattle.kapi_aggregation.specs.Members.{Has};
-ghost use Rattle.kapi_core.specs.Gains.{IsServed, NobodyGains, NobodyGainsDuring, acting_in};
+ghost use Rattle.kapi_core.specs.Gains.{IsServed, NobodyGains, NobodyGainsDuring, StaysHeld, StaysHeldDuring, acting_in};
 ghost use Rattle.kapi_core.specs.Histories.{DueIsListed, EventsGoOn, FirstIsListed, FirstShownIsListed, ListedThen, LoadsGoOn, ServedIsAHistory, ShownIsListed, TurnsReplace};
 ghost use Rattle.kapi_core.specs.Machine.{Machine, after, answers, policy_of};
 ghost use Rattle.kapi_core.specs.Opening.{opening};
@@ -28,6 +31,16 @@ pub fn nobody_gains_between_events()
         let m : Machine = after (opening table first) before in
         NobodyGains (roles_in m.store.objects) (acting_in m events) (policy_of m) (policy_of (after m events)) }
     ensures running { (core : Running) (m : Machine) (events : List Event) → Refines core m → NobodyGainsDuring m events }
+{}
+
+/// From settled roles, where all who act are unprivileged: what roles have after events, what turns would add to
+/// aggregated cluster roles, and what bindings give, is within what those who act held before the events, or was there.
+/// It holds since the opening, and on every machine that a running one refines. So those who act hold nothing more.
+pub fn what_is_stored_stays_within()
+    ensures opening { (table : List ResourceRow) (first : ℕ) (before events : List Event) →
+        let m : Machine = after (opening table first) before in StaysHeld (acting_in m events) m (after m events) }
+    ensures running { (core : Running) (m : Machine) (events : List Event) → Refines core m → StaysHeldDuring m events }
+    ensures actors { (acting : List Identity) (start now : PolicyObjects) (labels : Labels) → StaysWithin acting start now labels → ActorsHoldOwn acting start now }
 {}
 
 /// Every machine begins with the opening policy, whose cluster roles take rules from no others, and in which all but

@@ -3,6 +3,7 @@ ghost use Rattle.std.specs.BTreeMap.{is_at};
 ghost use Rattle.std.specs.Map.{remove_entry};
 ghost use Rattle.std.specs.Ordering.{nat_cmp};
 ghost use Rattle.kapi_core.specs.Machine.{Machine, is_last, with_rechecks};
+ghost use Rattle.kapi_core.specs.Limits.{last_first};
 ghost use Rattle.kapi_core.specs.Running.{watches};
 ghost use Rattle.kapi_core.specs.Opening.{opening};
 ghost use Rattle.kapi_core.specs.Table.{fits};
@@ -15,7 +16,7 @@ ghost use Rattle.kapi_policy.specs.Objects.{no_objects};
 use crate::connection::Connection;
 use crate::event::{ConnId, OpenError, Output, Turned};
 use crate::links::{advance_watch, feed_at, finish_request};
-use crate::opening::{LAST_FIRST, open_objects};
+use crate::opening::open_objects;
 use crate::write::{load_object, make_turn, make_write};
 use kapi_aggregation::Tracker;
 use kapi_answer::{After, LoadError, Prepared, answer, event_reply, recheck};
@@ -84,7 +85,7 @@ impl<P: Policy + Drop> Core<P> {
         policy: P,
         first: u64,
     ) -> Result<Core<P>, Memory>
-        requires first { first ≤ LAST_FIRST }
+        requires first { first ≤ last_first }
         requires table { fits table ≡ true }
         requires empty { P.content policy ≡ no_objects }
         ensures stands { IfOk result (λ core. Refines core (opening table first)) }
@@ -141,6 +142,13 @@ impl<P: Policy + Drop> Core<P> {
         ensures { P.content result.now ≡ self.now.policy }
     {
         &self.policy
+    }
+
+    /// The current revision, which is that of the last change. Allocates nothing.
+    pub fn revision(&self) -> u64
+        ensures { result ≡ self.now.store.revision }
+    {
+        self.store.revision()
     }
 
     /// The allocator that the machine grows by.

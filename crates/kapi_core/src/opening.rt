@@ -4,6 +4,7 @@ ghost use Rattle.kapi_tree.specs.Object.{tree_of};
 ghost use Rattle.kapi_policy.specs.Objects.{no_objects};
 ghost use Rattle.kapi_store.specs.Plain.{creation};
 ghost use Rattle.kapi_core.specs.Machine.{Machine};
+ghost use Rattle.kapi_core.specs.Limits.{last_first};
 ghost use Rattle.kapi_core.specs.Opening as opening_of;
 ghost use Rattle.kapi_core.specs.Opening.{cluster_key, opening, with_opening, written_if};
 ghost use Rattle.kapi_core.specs.Private.Openings.{Holds, opening_data};
@@ -41,7 +42,7 @@ pub fn open_objects<P: Policy>(
     tracker: &mut Tracker,
     first: u64,
 ) -> Result<Store, Memory>
-    requires first { first ≤ LAST_FIRST }
+    requires first { first ≤ last_first }
     requires empty { P.content policy.old ≡ no_objects }
     ensures { IfOk result (λ s. Holds s (P.content policy.new) tracker.new (opening table first)) }
 {

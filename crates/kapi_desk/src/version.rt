@@ -12,7 +12,7 @@ pub(crate) struct Version {
     pub(crate) pages: Pages,
 }
 
-/// What changes a copy: first a step, then the note of its page. A step that is refused for want of memory has no page
+/// What changes a copy: first a step, then the note of its page. A step that a failed allocation refuses has no page
 /// yet, and is handed back.
 #[derive(Drop)]
 pub(crate) enum Operation {

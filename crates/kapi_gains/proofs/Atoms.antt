@@ -3,6 +3,7 @@ use Rattle.std.proofs.Common.{◌≡◌, ◌⊎◌, inl, inr, ℕ, List, [], ◌
 use Rattle.std.proofs.lemmas.Grind.{flat_map-append}
 use Rattle.std.specs.List.{filter, flat_map, list_any}
 use Rattle.std.specs.Option.{unwrap_or}
+use Rattle.std.proofs.lemmas.Bool.{or_right}
 use Rattle.kapi_model.specs.declared.kinds.RoleKind.{RoleKind}
 use Rattle.kapi_model.specs.declared.kinds.RoleKind.TheVariants as role_kind
 use Rattle.kapi_model.specs.declared.policy_rule.PolicyRule.{PolicyRule}
@@ -104,11 +105,7 @@ pub may_by_atom : (objects : PolicyObjects) (identity : Identity) (namespace : L
     → may objects identity namespace p ≡ true
 may_by_atom objects identity namespace p a has allowed =
     allowed_where_held objects identity namespace p
-    ∙ either (is_master identity) _ (sym (rules_by_atoms (held objects identity namespace) p) ∙ some_at (λ a. atom_allows a p) (flat_map atoms (held objects identity namespace)) a has allowed)
-  where
-    either : (a b : Bool) → b ≡ true → (a || b) ≡ true
-    either true b h = refl
-    either false b h = h
+    ∙ or_right (is_master identity) _ (sym (rules_by_atoms (held objects identity namespace) p) ∙ some_at (λ a. atom_allows a p) (flat_map atoms (held objects identity namespace)) a has allowed)
 
 pub master_may : (objects : PolicyObjects) (identity : Identity) (namespace : List ℕ) (p : Point) → is_master identity ≡ true → may objects identity namespace p ≡ true
 master_may objects identity namespace p is = allowed_where_held objects identity namespace p ∙ rw is refl

@@ -9,6 +9,8 @@ use Rattle.std.specs.Ordering.{is_eq, match_ordering, ordering_then}
 use Rattle.std.specs.Str.{bytes_eq}
 use Rattle.std.specs.declared.cmp.Ordering.{Ordering}
 use Rattle.std.specs.declared.cmp.Ordering.TheVariants.{Less, Equal, Greater}
+use Rattle.std.proofs.lemmas.Bool.{and_parts}
+use Rattle.kapi_text.proofs.Booleans.{by_truth}
 use Rattle.kapi_rules.proofs.Covers.{itself, same}
 use Rattle.kapi_policy.specs.Decided.{is_place}
 use Rattle.kapi_policy.specs.Objects.{name_cmp, place_cmp}
@@ -16,11 +18,6 @@ use Rattle.kapi_policy.specs.declared.change.NamespacedName.{NamespacedName}
 use Rattle.kapi_aggregation.specs.Members.{Has}
 
 -- ---- tests on names and places
-
-by_truth : (a b : Bool) → (a ≡ true → b ≡ true) → (b ≡ true → a ≡ true) → a ≡ b
-by_truth true b there back = sym (there refl)
-by_truth false true there back = back refl
-by_truth false false there back = refl
 
 pub turned_names : (a b : List ℕ) → bytes_eq a b ≡ bytes_eq b a
 turned_names a b = by_truth (bytes_eq a b) (bytes_eq b a) (λ h. rw (same a b h) (itself b)) (λ h. rw (same b a h) (itself a))
@@ -38,10 +35,6 @@ place_found q place =
     then_both (name_cmp q.namespace place.namespace) (name_cmp q.name place.name)
     ∙ rw (name_found q.namespace place.namespace, name_found q.name place.name, turned_names q.namespace place.namespace, turned_names q.name place.name) refl
 
-parts : (a b : Bool) → (a && b) ≡ true → (a ≡ true) × (b ≡ true)
-parts true b h = (refl, h)
-parts false b h = absurd (cc h)
-
 equal_tested : (r : Ordering) → r ≡ Equal → is_eq r ≡ true
 equal_tested r h = ap is_eq h
 
@@ -51,7 +44,7 @@ name_exact a b h = same a b (sym (name_found a b) ∙ equal_tested (name_cmp a b
 -- a place that is found is the one that is looked for
 pub same_place : (namespace name : List ℕ) (place : NamespacedName) → is_place namespace name place ≡ true → (place.namespace ≡ namespace) × (place.name ≡ name)
 same_place namespace name place h =
-    let both = parts (bytes_eq place.namespace namespace) (bytes_eq place.name name) h in
+    let both = and_parts (bytes_eq place.namespace namespace) (bytes_eq place.name name) h in
     (same place.namespace namespace both.0, same place.name name both.1)
 
 pub place_exact : (a b : NamespacedName) → place_cmp a b ≡ Equal → a ≡ b

@@ -1,6 +1,7 @@
 -- What follows where all stays within what the acting identities held at the start.
 use Rattle.std.proofs.Common.{◌≡◌, ◌⊎◌, inl, inr, ℕ, List, [], Bool, true, false, ◌||◌, refl}
 use Rattle.std.specs.List.{list_any}
+use Rattle.std.proofs.lemmas.Bool.{or_left, or_right}
 use Rattle.kapi_model.specs.declared.kinds.RoleKind.{RoleKind}
 use Rattle.kapi_model.specs.declared.kinds.RoleKind.TheVariants as role_kind
 use Rattle.kapi_model.specs.declared.policy_rule.PolicyRule.{PolicyRule}
@@ -68,22 +69,14 @@ module _ (acting : List Identity) (start objects : PolicyObjects) (labels : Labe
   pub gives_nothing : GivesNothing acting start objects
   gives_nothing identity namespace p plain allowed = by_case (atom_from_may objects identity namespace p allowed)
     where
-      first : (a b : Bool) → a ≡ true → (a || b) ≡ true
-      first true b h = refl
-      first false b h = absurd (cc h)
-
-      last : (a b : Bool) → b ≡ true → (a || b) ≡ true
-      last true b h = refl
-      last false b h = h
-
       by_atom : (a : Atom) → atom_allows a p ≡ true → IsOwn acting start namespace a ⊎ HasAtom (held start identity namespace) a
           → (may start identity namespace p || list_any (λ who. may start who namespace p) acting) ≡ true
-      by_atom a allows (inl own) = last (may start identity namespace p) _ (some_may namespace p (own_allows acting start namespace a p plain own allows))
-      by_atom a allows (inr holds) = first (may start identity namespace p) _ (may_by_atom start identity namespace p a holds allows)
+      by_atom a allows (inl own) = or_right (may start identity namespace p) _ (some_may namespace p (own_allows acting start namespace a p plain own allows))
+      by_atom a allows (inr holds) = or_left (may start identity namespace p) _ (may_by_atom start identity namespace p a holds allows)
 
       by_case : (is_master identity ≡ true) ⊎ ((a : Atom) × (HasAtom (held objects identity namespace) a × (atom_allows a p ≡ true)))
           → (may start identity namespace p || list_any (λ who. may start who namespace p) acting) ≡ true
-      by_case (inl master) = first (may start identity namespace p) _ (master_may start identity namespace p master)
+      by_case (inl master) = or_left (may start identity namespace p) _ (master_may start identity namespace p master)
       by_case (inr one) = by_atom one.0 one.1.1 (held_before identity namespace one.0 one.1.0)
 
   -- ---- what those who act may not do

@@ -8,14 +8,15 @@ use Rattle.kapi_stored_policy.specs.Reading.{policy_objects}
 use Rattle.kapi_aggregation.specs.Roles.{roles_in}
 use Rattle.kapi_aggregation.specs.Unions.{IsSettled as AreUnions}
 use Rattle.kapi_gains.proofs.Elements.{has_left, has_right}
-use Rattle.kapi_gains.proofs.Law.{nobody_gains}
+use Rattle.kapi_gains.proofs.Law.{all_within, nobody_gains}
 use Rattle.kapi_gains.specs.Access.{GivesNothing, IsUnprivileged}
 use Rattle.kapi_aggregation.specs.Members.{Has}
 use Rattle.kapi_gains.specs.States.{PolicyState}
 use Rattle.kapi_gains.specs.Steps.{AreBy, IsBy, IsGuarded, KeepsLabels, Makes, PolicyStep, Runs, deletes, turns, writes}
 use Rattle.kapi_gains.proofs.StoredRoles.{labelled_are}
 use Rattle.kapi_gains.specs.Runs.{ObjectsReach, Reaches}
-use Rattle.kapi_gains.specs.StoredStates.{AreInOrder, policy_state}
+use Rattle.kapi_gains.specs.StoredStates.{AreInOrder, labels_at, policy_state}
+use Rattle.kapi_gains.specs.Within.{StaysWithin}
 
 same_state : (s t : PolicyState) → t.objects ≡ s.objects → KeepsLabels s.labels t.labels → t ≡ s
 same_state s t objects labels = λ i. record { objects = objects i; labels = λ q. labels q i }
@@ -68,9 +69,21 @@ pub reaches_both : (xs ys : List Identity) (s m t : PolicyState) → Reaches xs 
 reaches_both xs ys s m t first rest =
     reaches_onward (xs ++ ys) s m t (reaches_by xs (xs ++ ys) (has_left xs ys) s m first) (reaches_by ys (xs ++ ys) (has_right xs ys) m t rest)
 
+-- objects in order whose aggregated cluster roles have their unions are where a run of unprivileged identities may start
+guarded : (acting : List Identity) (os : List (Key × Data)) → AreInOrder os → AreUnions (roles_in os)
+    → ((who : Identity) → Has acting who → IsUnprivileged (policy_objects os) who) → IsGuarded acting (policy_state os)
+guarded acting os sorted settled unprivileged =
+    record { order = policy_in_order os sorted; settled = subst AreUnions (sym (labelled_are os sorted)) settled; unprivileged = unprivileged }
+
 -- nobody gains by a run of the policies of some objects
 pub objects_give_nothing : (acting : List Identity) (os now : List (Key × Data)) → AreInOrder os → AreUnions (roles_in os)
     → ((who : Identity) → Has acting who → IsUnprivileged (policy_objects os) who) → ObjectsReach acting os now → GivesNothing acting (policy_objects os) (policy_objects now)
 objects_give_nothing acting os now sorted settled unprivileged reached =
-    reached_gives_nothing acting (policy_state os) (policy_state now)
-    (record { order = policy_in_order os sorted; settled = subst AreUnions (sym (labelled_are os sorted)) settled; unprivileged = unprivileged }) reached
+    reached_gives_nothing acting (policy_state os) (policy_state now) (guarded acting os sorted settled unprivileged) reached
+
+-- all stays within what the acting identities held at the start of such a run, or was there then
+pub objects_stay_within : (acting : List Identity) (os now : List (Key × Data)) → AreInOrder os → AreUnions (roles_in os)
+    → ((who : Identity) → Has acting who → IsUnprivileged (policy_objects os) who) → ObjectsReach acting os now
+    → StaysWithin acting (policy_objects os) (policy_objects now) (labels_at now)
+objects_stay_within acting os now sorted settled unprivileged reached =
+    all_within acting (policy_state os) (policy_state now) reached.steps (guarded acting os sorted settled unprivileged) reached.by reached.runs

@@ -1,7 +1,8 @@
 -- Each step is admitted, and all stays within along a run.
-use Rattle.std.proofs.Common.{◌≡◌, ◌⊎◌, inl, inr, ℕ, List, [], ◌∷◌, Bool, true, false, if◌then◌else◌, not, ◌&&◌, ◌||◌, Option, Some, None, refl, sym, ap, ◌∙◌}
+use Rattle.std.proofs.Common.{◌≡◌, ◌⊎◌, inl, inr, ℕ, List, [], ◌∷◌, Bool, true, false, if◌then◌else◌, not, ◌||◌, Option, Some, None, refl, sym, ap, ◌∙◌}
 use Rattle.std.specs.Option.{is_some}
 use Rattle.std.specs.Str.{bytes_eq}
+use Rattle.std.proofs.lemmas.Bool.{and_parts, or_parts}
 use Rattle.serde_json.specs.Data.{Data}
 use Rattle.kapi_model.specs.declared.kinds.RoleKind.TheVariants as role_kind
 use Rattle.kapi_model.specs.declared.role_ref.RoleRef.{RoleRef}
@@ -73,10 +74,6 @@ module _ (acting : List Identity) (state : PolicyState) (order : IsInOrder state
 
 -- ---- changes of cluster roles
 
-parts : (a b : Bool) → (a && b) ≡ true → (a ≡ true) × (b ≡ true)
-parts true b h = (refl, h)
-parts false b h = absurd (cc h)
-
 new_or_was : (b : Bool) (new : ClusterRole) (was : Option ClusterRole) (r : ClusterRole) → (if b then Some new else was) ≡ Some r → ((b ≡ true) × (new ≡ r)) ⊎ ((b ≡ false) × (was ≡ Some r))
 new_or_was true new was r h = inl (refl, cc h)
 new_or_was false new was r h = inr (refl, h)
@@ -88,11 +85,6 @@ gone_or_was false was r h = (refl, h)
 set_elsewhere : (b : Bool) (given was now : Option Data) → b ≡ false → now ≡ (if b then given else was) → now ≡ was
 set_elsewhere true given was now b h = absurd (cc b)
 set_elsewhere false given was now b h = h
-
--- a cluster role that is aggregated in neither version is not aggregated in the new one
-new_plain : (was now : Bool) → (was || now) ≡ false → now ≡ false
-new_plain true now h = absurd (cc h)
-new_plain false now h = h
 
 by_authority : (aggregated all : Bool) → (not aggregated || all) ≡ true → (all ≡ true → ⊥) → aggregated ≡ false
 by_authority true all h never = absurd (never h)
@@ -177,7 +169,7 @@ module _ (acting : List Identity) (start old : PolicyObjects) (before : Labels) 
         → (holds_found (held old who (scope w.object)) (wanted old w.object) ≡ true) × (holds_authority (held old who (scope w.object)) w.object ≡ true)
     unfolding grant
     granted_is_held w granted =
-        parts (holds_found (held old who (scope w.object)) (wanted old w.object)) (holds_authority (held old who (scope w.object)) w.object)
+        and_parts (holds_found (held old who (scope w.object)) (wanted old w.object)) (holds_authority (held old who (scope w.object)) w.object)
         (not_exempt (is_exempt old who w) _ granted (none_exempt w.request_name w.object))
 
     -- the rules of a role that is bound are own
@@ -220,9 +212,9 @@ module _ (acting : List Identity) (start old : PolicyObjects) (before : Labels) 
 
         plain : is_some versions.new.aggregation_rule ≡ false
         plain =
-            new_plain (was_aggregated versions.old) (is_some versions.new.aggregation_rule)
+            (or_parts (was_aggregated versions.old) (is_some versions.new.aggregation_rule)
             (by_authority (was_aggregated versions.old || is_some versions.new.aggregation_rule) (holds_all (held old who []) full_authority) holds.1
-            (no_full_authority acting start old before facts unprivileged who acts))
+            (no_full_authority acting start old before facts unprivileged who acts))).1
 
         by_case : (q : List ℕ) (r : ClusterRole) → ((bytes_eq q name ≡ true) × (versions.new ≡ r)) ⊎ ((bytes_eq q name ≡ false) × (cluster_role_at old q ≡ Some r))
             → ClusterRoleChange acting start old before now q r

@@ -66,7 +66,7 @@ pub fn turns_of_unsettled_policies_give_more()
     ensures gains { GivesNothing (eve ∷ []) unsettled.objects filled.objects → ⊥ }
 {}
 
-/// Where an acting identity may bind the law fails too: Eve binds herself to a role with rules that she does not hold.
+/// Where an acting identity may bind the law fails too: Eve binds herself to a role with rules that Eve does not hold.
 pub fn who_may_bind_gains_more()
     ensures order { IsInOrder binder.objects }
     ensures settled { IsSettled binder }

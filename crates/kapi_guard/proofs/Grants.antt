@@ -3,7 +3,7 @@ use Rattle.std.proofs.Common.{◌≡◌, ℕ, Bool, true, false, ◌&&◌, ◌||
 use Rattle.std.specs.Option.{is_some}
 use Rattle.std.specs.Prelude.{OnOk}
 use Rattle.std.specs.Result.{is_ok}
-use Rattle.std.proofs.lemmas.Bool.{and_parts}
+use Rattle.std.proofs.lemmas.Bool.{and_parts, and_from}
 use Rattle.kapi_text.specs.Gives.{Gives, ◌>>=◌}
 use Rattle.kapi_model.specs.declared.kinds.RoleKind.{RoleKind}
 use Rattle.kapi_model.specs.declared.kinds.RoleKind.TheVariants as role_kind
@@ -14,7 +14,7 @@ use Rattle.kapi_model.specs.declared.aggregation_rule.AggregationRule.{Aggregati
 use Rattle.kapi_model.specs.declared.role.ClusterRole.{ClusterRole}
 use Rattle.kapi_model.specs.declared.role.Role.{Role}
 use Rattle.kapi_model.specs.declared.role_ref.RoleRef.{RoleRef}
-use Rattle.kapi_rules.proofs.Covers.{both, itself}
+use Rattle.kapi_rules.proofs.Covers.{itself}
 use Rattle.kapi_rules.specs.Missing.{missing}
 use Rattle.kapi_policy.specs.Decided.{held}
 use Rattle.kapi_policy.specs.Objects.{PolicyObjects}
@@ -116,7 +116,7 @@ all_implied own rules less down all = none_is_missing own less ∙ implied_onwar
 
 less_is_granted : (e h k a : Bool) → (h ≡ true → k ≡ true) → (e || (h && a)) ≡ true → (e || (k && a)) ≡ true
 less_is_granted true h k a less granted = refl
-less_is_granted false h k a less granted = let parts = and_parts h a granted in both k a (less parts.0) parts.1
+less_is_granted false h k a less granted = let parts = and_parts h a granted in and_from k a (less parts.0) parts.1
 
 pub less_of_roles : (objects : PolicyObjects) (identity : Identity) (request_name : List ℕ) (place : NamespacedName) (old : Option Role) (rules less : List PolicyRule)
     → implies_each rules less ≡ true → grant objects identity (write_of request_name (role_with place old rules)) ≡ true
@@ -147,7 +147,7 @@ same_kind role_kind.Role = refl
 same_kind role_kind.ClusterRole = refl
 
 same_role : (role : RoleRef) → is_same_role role role ≡ true
-same_role role = both _ _ (same_kind role.kind) (itself role.name)
+same_role role = and_from _ _ (same_kind role.kind) (itself role.name)
 
 twice : (b : Bool) → (b || b) ≡ (false || b)
 twice true = refl

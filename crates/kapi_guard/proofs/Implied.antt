@@ -1,12 +1,12 @@
 -- Nothing is missing just where each atom is implied.
-use Rattle.std.proofs.Common.{◌≡◌, ◌==◌, Bool, true, false, not, ◌&&◌, ◌||◌, ◌⊎◌, inl, inr, List, [], ◌∷◌, ◌++◌, length, refl, sym, ap, ◌∙◌}
+use Rattle.std.proofs.Common.{◌≡◌, ◌==◌, Bool, true, false, not, ◌&&◌, ◌⊎◌, inl, inr, List, [], ◌∷◌, ◌++◌, length, refl, sym, ap, ◌∙◌}
 use Rattle.std.proofs.Math.Dec.{eqb-suc-zero}
-use Rattle.std.proofs.lemmas.Bool.{and_parts, or_cases}
+use Rattle.std.proofs.lemmas.Bool.{and_parts, or_cases, or_left, and_from}
 use Rattle.std.proofs.lemmas.Grind.{flat_map-append}
 use Rattle.std.proofs.lemmas.List.Folds.{list_all-append, list_any-append}
 use Rattle.std.specs.List.{filter, flat_map, fold, list_all, list_any}
 use Rattle.kapi_model.specs.declared.policy_rule.PolicyRule.{PolicyRule}
-use Rattle.kapi_rules.proofs.Covers.{both, implies_onward}
+use Rattle.kapi_rules.proofs.Covers.{implies_onward}
 use Rattle.kapi_rules.proofs.Law.{any_weaker}
 use Rattle.kapi_rules.proofs.Parts.{any_flat_map}
 use Rattle.kapi_rules.specs.Atoms.{atoms, implies}
@@ -67,7 +67,7 @@ none_is_missing own rules =
 all_weaker : {X : Type 0} (p q : X → Bool) (xs : List X) → ((x : X) → p x ≡ true → q x ≡ true) → list_all p xs ≡ true → list_all q xs ≡ true
 all_weaker p q [] weaker h = h
 all_weaker p q (x ∷ xs) weaker h =
-    let parts = and_parts _ _ h in both _ _ (weaker x parts.0) (all_weaker p q xs weaker parts.1)
+    let parts = and_parts _ _ h in and_from _ _ (weaker x parts.0) (all_weaker p q xs weaker parts.1)
 
 -- where some of the first imply one of the middle, which each of the middle leads on from
 onward_from : (b : Atom) (own middle : List Atom) → list_all (λ m. list_any (λ h. implies h m) own) middle ≡ true
@@ -107,7 +107,4 @@ implied_by_more own more rules each =
     all_weaker _ _ (flat_map atoms rules) (λ a some.
     ap (list_any (λ h. implies h a)) (flat_map-append atoms own more)
     ∙ list_any-append (λ h. implies h a) (flat_map atoms own) (flat_map atoms more)
-    ∙ either (list_any (λ h. implies h a) (flat_map atoms own)) _ some) each
-  where
-    either : (a b : Bool) → a ≡ true → (a || b) ≡ true
-    either a b e = rw e refl
+    ∙ or_left (list_any (λ h. implies h a) (flat_map atoms own)) _ some) each

@@ -1,9 +1,9 @@
 ghost use Rattle.std.specs.Prelude.{◌≡◌, ◌||◌};
 ghost use Rattle.std.specs.Option.{is_some};
-ghost use Rattle.kapi_guard.specs.Writes.{is_aggregated as has_aggregation_rule, put_of, scope as scope_of, was_aggregated as was_aggregated_at};
+ghost use Rattle.kapi_guard.specs.Writes.{is_aggregated as has_aggregation_rule, scope as scope_of, was_aggregated as was_aggregated_at};
 
 use kapi_model::{ClusterRole, ClusterRoleBinding, Role, RoleBinding};
-use kapi_policy::{NamespacedName, PolicyPut};
+use kapi_policy::NamespacedName;
 use kapi_text::Text;
 
 /// The old version of an object, if there was one, and the new version.
@@ -50,25 +50,6 @@ impl WrittenObject {
         match self {
             WrittenObject::ClusterRole(_, versions) => is_aggregated(versions),
             _ => false,
-        }
-    }
-
-    /// The new version at its place. Allocates nothing.
-    pub fn into_put(self) -> PolicyPut
-        ensures { result ≡ put_of self }
-    {
-        match self {
-            WrittenObject::Role(place, versions) => PolicyPut::Role(place, versions.new),
-            WrittenObject::ClusterRole(name, versions) => PolicyPut::ClusterRole(
-                name,
-                versions.new,
-            ),
-            WrittenObject::RoleBinding(place, versions) => {
-                PolicyPut::RoleBinding(place, versions.new)
-            }
-            WrittenObject::ClusterRoleBinding(name, versions) => {
-                PolicyPut::ClusterRoleBinding(name, versions.new)
-            }
         }
     }
 }

@@ -16,3 +16,7 @@ body_limit = 1048576
 -- a body in chunks has at most so many bytes as sent, its size lines and line ends counted in
 abbrev pub sent_limit : ℕ
 sent_limit = 1572864
+
+-- so many bytes that were not yet served are kept at most
+abbrev pub kept_limit : ℕ
+kept_limit = 2097152

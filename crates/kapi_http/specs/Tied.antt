@@ -4,8 +4,7 @@ use Rattle.httparse.specs.Grammar.{ReadsRequest, RequestHead}
 use Rattle.httparse.specs.Spans.{IsHeaderWithin, IsWithin, span_bytes}
 use Rattle.httparse.specs.declared.spans.HeaderSpan.{HeaderSpan}
 use Rattle.httparse.specs.declared.spans.RequestSpans.{RequestSpans}
-use Rattle.kapi_http.specs.Limits.{field_limit, head_limit}
-use Rattle.kapi_http.specs.declared.inbox.TheConstants.{KEPT_LIMIT}
+use Rattle.kapi_http.specs.Limits.{field_limit, head_limit, kept_limit}
 use Rattle.kapi_http.specs.Cut.{Finding, accepted, refused, settled, waits}
 use Rattle.kapi_http.specs.Head.{Says, said}
 use Rattle.kapi_http.specs.Inbox.{decision_of}
@@ -64,7 +63,7 @@ pub record IsKnown (progress : Progress) (parts : HeadParts) (kept : List ℕ) :
 -- what is remembered is of the bytes that were not taken out, which are within the limit
 pub record IsTied (bytes : List ℕ) (start : ℕ) (progress : Progress) (parts : HeadParts) : Type 0 where
   pub within : start ≤ length bytes
-  pub fits : length (drop start bytes) ≤ KEPT_LIMIT
+  pub fits : length (drop start bytes) ≤ kept_limit
   pub known : IsKnown progress parts (drop start bytes)
 
 -- a whole head, of so many lines with its request line, has a line for each of its fields

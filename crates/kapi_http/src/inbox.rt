@@ -60,6 +60,7 @@ impl Model for Inbox {
 
 impl Inbox {
     ghost use Rattle.kapi_http.specs.Inbox.{after_next, next_of};
+    ghost use Rattle.kapi_http.specs.Limits.{kept_limit};
 
     /// An inbox without bytes; allocates nothing.
     pub fn new(alloc: Global) -> Inbox
@@ -78,13 +79,13 @@ impl Inbox {
     /// Takes bytes in, or none of them. After a fault was taken out, `Ended`; above 2,097,152 unserved bytes, `Full`.
     pub fn feed(&mut self, piece: &[u8]) -> Result<(), FeedError>
         ensures ok { OnOk result (self.new ≡ record { kept = self.old.kept ++ piece.now; ended = false }) }
-        ensures fits { OnOk result (length self.old.kept + length piece.now ≤ KEPT_LIMIT) }
+        ensures fits { OnOk result (length self.old.kept + length piece.now ≤ kept_limit) }
         ensures err { OnErr result (self.new ≡ self.old) }
 
         // The limits are tested in this order, and before any allocation.
         ensures ended { result ≡ Err FeedError.Ended ↔ IsTrue self.old.ended }
         ensures full { result ≡ Err FeedError.Full
-            ↔ (IsFalse self.old.ended × (KEPT_LIMIT < length self.old.kept + length piece.now)) }
+            ↔ (IsFalse self.old.ended × (kept_limit < length self.old.kept + length piece.now)) }
     {
         if self.ended {
             return Err(FeedError::Ended);

@@ -4,7 +4,7 @@ use Rattle.std.specs.List.Sorted.{IsStrictlySortedBy}
 use Rattle.std.proofs.lemmas.Map.Text.{is_eq-slice_cmp}
 use Rattle.std.proofs.lemmas.Slice.Eq.{bytes_eq-Decides}
 use Rattle.kapi_policy.specs.Objects.{name_cmp}
-use Rattle.kapi_index.proofs.Bools.{or_false, turned}
+use Rattle.kapi_text.proofs.Booleans.{or_false, turned}
 use Rattle.kapi_index.specs.Listed.{is_listed}
 use Rattle.kapi_index.specs.NamesOf.{names_in}
 use Rattle.kapi_index.specs.declared.names.Names.{Names}

@@ -11,7 +11,7 @@ use Rattle.std.specs.Str.{bytes_eq}
 use Rattle.std.proofs.lemmas.Map.Text.{is_eq-slice_cmp}
 use Rattle.std.proofs.lemmas.Slice.Eq.{bytes_eq-Decides}
 use Rattle.kapi_policy.specs.Objects.{name_cmp}
-use Rattle.kapi_index.proofs.Bools.{and_false, and_true}
+use Rattle.kapi_text.proofs.Booleans.{and_false, and_true}
 use Rattle.kapi_index.proofs.Finds.{at_itself}
 use Rattle.kapi_index.specs.Listed.{Adds, AreSame, HasAt, Removes, has_name, is_key, is_listed, names_at}
 

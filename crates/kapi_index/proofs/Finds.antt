@@ -17,8 +17,9 @@ use Rattle.std.specs.declared.collections.Bound.{Bound as Start}
 use Rattle.std.specs.declared.collections.Bound.TheVariants.{Included, Excluded, Unbounded}
 use Rattle.std.proofs.lemmas.Map.Text.{is_eq-slice_cmp}
 use Rattle.std.proofs.lemmas.Slice.Eq.{bytes_eq-Decides}
+use Rattle.std.proofs.lemmas.Bool.{and_parts}
 use Rattle.kapi_policy.specs.Objects.{name_cmp}
-use Rattle.kapi_index.proofs.Bools.{and_or, cond_not, cond_or, or_assoc, or_false}
+use Rattle.kapi_text.proofs.Booleans.{and_or, cond_not, cond_or, or_assoc, or_false}
 use Rattle.kapi_index.specs.Listed.{is_listed}
 use Rattle.kapi_index.specs.Scopes.{least}
 
@@ -105,10 +106,6 @@ least_same a = by_order (name_cmp a a)
     by_order Equal = refl
     by_order Greater = refl
 
-parts : (a b : Bool) → (a && b) ≡ true → (a ≡ true) × (b ≡ true)
-parts true b h = (refl, h)
-parts false b h = absurd cc
-
 module _ {X : Type 0} where
   -- the least of two first keys is that of the entries that pass either test
   pub least_first : (p q : List ℕ × X → Bool) (es : List (List ℕ × X)) → IsStrictlySortedBy name_cmp (keys_of es)
@@ -179,7 +176,7 @@ module _ {X : Type 0} where
           → (first_key (λ e. is_from_start name_cmp start e.0 && q e) es ≡ Some k → Step start q es k) → Step start q (e ∷ es) k
       by_case true is more =
           let same : Some e.0 ≡ Some k = rw is at h in
-          here (parts _ _ is).0 (parts _ _ is).1 (cc same)
+          here (and_parts _ _ is).0 (and_parts _ _ is).1 (cc same)
       by_case false is more =
           let rest : first_key (λ e. is_from_start name_cmp start e.0 && q e) es ≡ Some k = rw is at h in
           there is (more rest) (above e.0 k (first_among (λ y. name_cmp e.0 y ≡ Less) (λ e. is_from_start name_cmp start e.0 && q e) es k sorted.0 rest))

@@ -1,4 +1,3 @@
-pub mod Bools
 pub mod Finds
 pub mod Changed
 pub mod Reindexed

@@ -11,7 +11,7 @@ use Rattle.kapi_model.specs.Subjects.{is_account, subject_matches, namespace_of}
 use Rattle.kapi_model.specs.declared.identity.Identity.{Identity}
 use Rattle.kapi_model.specs.declared.subject.Subject.{Subject}
 use Rattle.kapi_model.specs.declared.subject.Subject.TheVariants.{User, Group, ServiceAccount}
-use Rattle.kapi_index.proofs.Bools.{any_same, or_across, or_false, turned}
+use Rattle.kapi_text.proofs.Booleans.{any_same, or_across, or_false, turned}
 use Rattle.kapi_index.specs.Listed.{is_key}
 use Rattle.kapi_index.specs.Prepared.{account_users, group_of, groups_of, user_of, users_of}
 use Rattle.kapi_index.specs.Scopes.{ArePrepared, IsPrepared, bare, means}

@@ -11,7 +11,7 @@ use Rattle.std.proofs.lemmas.Map.Text.{is_eq-slice_cmp}
 use Rattle.std.proofs.lemmas.Slice.Eq.{bytes_eq-Decides}
 use Rattle.kapi_policy.proofs.Sets.{delete_sets, put_sets}
 use Rattle.kapi_policy.specs.Objects.{name_cmp}
-use Rattle.kapi_index.proofs.Bools.{and_false, and_true, turned}
+use Rattle.kapi_text.proofs.Booleans.{and_false, and_true, turned}
 use Rattle.kapi_index.proofs.Changed.{Sets}
 use Rattle.kapi_index.proofs.Finds.{name_total}
 use Rattle.kapi_index.specs.Listed.{Adds, AreOrdered, AreSame, HasAt, Removes, has_name, is_key}

@@ -17,7 +17,7 @@ use Rattle.kapi_policy.specs.Decided.{is_in}
 use Rattle.kapi_policy.specs.Objects.{name_cmp, place_cmp}
 use Rattle.kapi_policy.specs.declared.change.NamespacedName.{NamespacedName}
 use Rattle.kapi_policy.proofs.Sets.{put_keeps}
-use Rattle.kapi_index.proofs.Bools.{turned}
+use Rattle.kapi_text.proofs.Booleans.{turned}
 use Rattle.kapi_index.proofs.Finds.{name_total}
 use Rattle.kapi_index.specs.Contents.{AreNamed, AreSpread, by_text, in_all, in_one, placed}
 use Rattle.kapi_index.specs.declared.spaces.Namespace.{Namespace}

@@ -23,7 +23,7 @@ use Rattle.kapi_policy.specs.Objects.{PolicyObjects, name_cmp}
 use Rattle.kapi_policy.specs.declared.change.NamespacedName.{NamespacedName}
 use Rattle.kapi_policy.specs.declared.decision.BindingKind.{BindingKind}
 use Rattle.kapi_policy.specs.declared.decision.BindingKind.TheVariants as kind
-use Rattle.kapi_index.proofs.Bools.{turned}
+use Rattle.kapi_text.proofs.Booleans.{turned}
 use Rattle.kapi_index.proofs.Placed.{Spaces, at_text}
 use Rattle.kapi_index.proofs.Spread.{in_space, lookup_text, named_at}
 use Rattle.kapi_index.specs.Contents.{AreSpread, binding_at, bindings_in, by_text, cluster_wide, grant_of, in_all, in_one, placed, roles_in}

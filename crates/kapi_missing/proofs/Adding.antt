@@ -4,8 +4,8 @@ use Rattle.std.proofs.lemmas.List.Folds.{list_any-append}
 use Rattle.std.proofs.lemmas.Bool.Decides.{nat_tests}
 use Rattle.std.specs.List.{list_any}
 use Rattle.std.specs.Str.{bytes_eq}
+use Rattle.kapi_text.proofs.Booleans.{or_false, by_truth}
 use Rattle.kapi_model.specs.declared.policy_rule.PolicyRule.{PolicyRule}
-use Rattle.kapi_rules.proofs.Covers.{or_false}
 use Rattle.kapi_rules.proofs.Law.{any_weaker}
 use Rattle.kapi_missing.proofs.Placed.{at_more, some_at}
 use Rattle.kapi_missing.proofs.Repeats.{from_some}
@@ -29,11 +29,6 @@ mark_there f g xs ys n x is within here = subst (λ zs. at (map f (map g zs)) n 
 
 -- ---- what bars is among the numbers
 
-same_truth : (a b : Bool) → (a ≡ true → b ≡ true) → (b ≡ true → a ≡ true) → a ≡ b
-same_truth true b to from = sym (to refl)
-same_truth false true to from = from refl
-same_truth false false to from = refl
-
 position_of : {X : Type 0} {C : Type 0} (p : X → Bool) (xs : List X) → list_any p xs ≡ true → ((n : ℕ) → at (map p xs) n ≡ true → C) → C
 position_of p [] some leads = absurd cc
 position_of {X} {C} p (x ∷ xs) some leads = by_case (p x) refl some (λ rest. position_of p xs rest (λ n is. leads (suc n) is))
@@ -45,7 +40,7 @@ position_of {X} {C} p (x ∷ xs) some leads = by_case (p x) refl some (λ rest. 
 pub through : {X : Type 0} (t : X → Bool) (rules : List X) (numbers : List ℕ) → ((n : ℕ) → at (map t rules) n ≡ true → has_number numbers n ≡ true)
     → list_any (λ n. at (map t rules) n) numbers ≡ list_any t rules
 through t rules numbers has =
-    same_truth (list_any (λ n. at (map t rules) n) numbers) (list_any t rules) (λ h. from_some (λ n. at (map t rules) n) numbers h (λ n is. some_at t rules n is))
+    by_truth (list_any (λ n. at (map t rules) n) numbers) (list_any t rules) (λ h. from_some (λ n. at (map t rules) n) numbers h (λ n is. some_at t rules n is))
     (λ h. position_of t rules h (λ n is. any_weaker (λ k. k == n) (at (map t rules)) numbers (λ k same. let e : k ≡ n = grind (arith, nat_tests) in rw e is) (has n is)))
 
 -- ---- what is put under an entry

@@ -1,7 +1,7 @@
 -- What is left of a rule is left without its dead entries.
 use Rattle.std.proofs.Common.{◌≡◌, ℕ, zero, suc, ◌==◌, Bool, true, false, not, ◌&&◌, ◌||◌, if◌then◌else◌, List, [], ◌∷◌, ◌++◌, length, map, Option, Some, None, refl, ap, sym, subst, ◌∙◌, ◌⊎◌, inl, inr}
 use Rattle.std.proofs.Math.Dec.{eqb-suc-zero}
-use Rattle.std.proofs.lemmas.Bool.{and_parts, or_cases}
+use Rattle.std.proofs.lemmas.Bool.{and_parts, or_cases, not-true, or_right}
 use Rattle.std.specs.List.{filter, flat_map, list_all, list_any}
 use Rattle.std.specs.Str.{bytes_eq}
 use Rattle.kapi_model.specs.declared.policy_rule.PolicyRule.{PolicyRule}
@@ -306,12 +306,8 @@ module _ (bars : Bars) (w : PolicyRule) (dead : List ℕ → Bool) (held : Bool)
       (step (on_resources w.api_groups w.resources w.verbs w.resource_names) (on_resources w.api_groups w.resources (alive w.verbs) w.resource_names) [] (verbs_alive known))
   without_dead sort.Resources dimension.Names alone known =
       let p = and_parts (length w.non_resource_urls == 0) (not (4 == 0) && not (length w.resource_names == 0)) alone in
-      by_case (length (alive w.resource_names) == 0) refl (not_true (length w.resource_names == 0) p.1)
+      by_case (length (alive w.resource_names) == 0) refl (not-true (length w.resource_names == 0) p.1)
     where
-      not_true : (t : Bool) → not t ≡ true → t ≡ false
-      not_true true h = absurd cc
-      not_true false h = refl
-
       by_case : (t : Bool) → (length (alive w.resource_names) == 0) ≡ t → (length w.resource_names == 0) ≡ false
           → filter q (of_rule w) ≡ filter q (of_rule (with_entries (if t then dimension.Groups else dimension.Names) (alive w.resource_names) w))
       by_case true is some =
@@ -396,12 +392,8 @@ pub more_met : (p : List ℕ → Bool) (first old new : List ℕ → Bool) (word
     → (w : List ℕ) → new w ≡ true → (first w || p w) ≡ true
 more_met p first old new word met grown known w h = by_case (or_cases (bytes_eq word w) (old w) (sym (grown w) ∙ h))
   where
-    right : (a b : Bool) → b ≡ true → (a || b) ≡ true
-    right true b h = refl
-    right false b h = h
-
     by_case : (bytes_eq word w ≡ true) ⊎ (old w ≡ true) → (first w || p w) ≡ true
-    by_case (inl is) = right (first w) (p w) (let e = same word w is in rw (← e) met)
+    by_case (inl is) = or_right (first w) (p w) (let e = same word w is in rw (← e) met)
     by_case (inr is) = known w is
 
 -- words that one bar more has dead

@@ -3,8 +3,8 @@ use Rattle.std.proofs.Common.{◌≡◌, ℕ, zero, suc, ◌+◌, ◌==◌, Bool
 use Rattle.std.proofs.Math.Dec.{eqb-suc-zero}
 use Rattle.std.specs.List.{filter, flat_map, list_any}
 use Rattle.std.specs.Str.{bytes_eq}
+use Rattle.kapi_text.proofs.Booleans.{or_false}
 use Rattle.kapi_model.specs.declared.policy_rule.PolicyRule.{PolicyRule}
-use Rattle.kapi_rules.proofs.Covers.{or_false}
 use Rattle.kapi_rules.proofs.Parts.{any_map, any_never, any_same, of_resource, of_url, resource_part, rule_implies_resource, rule_implies_url, url_part}
 use Rattle.kapi_rules.specs.Atoms.{atoms, group_atoms, listed_cover, names_of, resource_atom, resource_atoms, resource_covers, url_atom, url_atoms, verb_atoms}
 use Rattle.kapi_rules.specs.Entries.{url_matches, word_matches}

@@ -9,6 +9,7 @@ use Rattle.std.proofs.lemmas.List.Folds.{list_any_more}
 use Rattle.std.specs.BTreeMap.{BTreeMap}
 use Rattle.std.specs.List.{list_any}
 use Rattle.std.specs.Str.{bytes_eq}
+use Rattle.std.proofs.lemmas.Bool.{or_right}
 use denote.Ref.{Bor}
 use Rattle.kapi_model.specs.declared.policy_rule.PolicyRule.{PolicyRule}
 use Rattle.kapi_rules.proofs.Covers.{itself, same}
@@ -68,11 +69,7 @@ module _ (seen : BTreeMap (Bor (List ℕ)) Seen) (held : Bool) (rule wanted : Po
   shared d plain (e ∷ es) marked some =
       either (meets held d rule e) (list_any (meets held d rule) es) some
       (λ met. common (mask_in d own) (mask_in d of) (place_of seen e) ((bar d).0 e (met_is_listed held d rule e plain met)) (marked e (rw (itself e) refl)))
-      (λ rest. shared d plain es (λ w h. marked w (behind (bytes_eq e w) (list_any (λ x. bytes_eq x w) es) h)) rest)
-    where
-      behind : (a b : Bool) → b ≡ true → (a || b) ≡ true
-      behind true b h = refl
-      behind false b h = h
+      (λ rest. shared d plain es (λ w h. marked w (or_right (bytes_eq e w) (list_any (λ x. bytes_eq x w) es) h)) rest)
 
   module _ (which : Sort) (i j k l : ℕ) (bars : barred held which rule wanted i j k l ≡ true) where
     in_list : (d : Dimension) → is_list_of which d ≡ true → shares (mask_in d own) (mask_in d of) ≡ true

@@ -2,7 +2,8 @@
 use Rattle.std.proofs.Common.{◌≡◌, ℕ, zero, suc, ◌+◌, Bool, true, false, not, ◌&&◌, ◌||◌, List, [], ◌∷◌, ◌++◌, ◌==◌, if◌then◌else◌, length, map, refl, ap, sym, ◌∙◌, arith}
 use Rattle.std.proofs.Math.Dec.{eqb-suc-zero}
 use Rattle.std.specs.List.{list_any}
-use Rattle.kapi_rules.proofs.Covers.{and_false}
+use Rattle.std.proofs.lemmas.Bool.{or_parts}
+use Rattle.kapi_text.proofs.Booleans.{and_false}
 use Rattle.kapi_model.specs.declared.policy_rule.PolicyRule.{PolicyRule}
 use Rattle.kapi_missing.specs.Private.Bars.{barred, is_near_to, meets, name_marks, some_name_met}
 use Rattle.kapi_missing.specs.Private.Marks.{at, has, is_some_piece, keeps, kept, piece, some_has}
@@ -12,10 +13,6 @@ use Rattle.kapi_missing.specs.declared.bars.Sort.TheVariants as sort
 use Rattle.kapi_missing.specs.declared.marks.Marks.{Marks}
 use Rattle.kapi_missing.specs.declared.marks.Keep.{Keep}
 use Rattle.kapi_missing.specs.declared.marks.Keep.TheVariants as keep
-
-neither : (a b : Bool) → (a || b) ≡ false → (a ≡ false) × (b ≡ false)
-neither true b h = absurd cc
-neither false b h = (refl, h)
 
 -- one mark more
 pub kept_push : (which : Keep) (others : List Bool) (i : ℕ) (marks : List Bool) (mark : Bool)
@@ -63,13 +60,13 @@ pieces true true true true true true true true = refl
 -- where no element passes, none is marked
 pub none_at : {X : Type 0} (p : X → Bool) (xs : List X) → list_any p xs ≡ false → (i : ℕ) → at (map p xs) i ≡ false
 none_at p [] none i = refl
-none_at p (x ∷ xs) none zero = let parts = neither (p x) (list_any p xs) none in parts.0
-none_at p (x ∷ xs) none (suc i) = let parts = neither (p x) (list_any p xs) none in none_at p xs parts.1 i
+none_at p (x ∷ xs) none zero = let parts = or_parts (p x) (list_any p xs) none in parts.0
+none_at p (x ∷ xs) none (suc i) = let parts = or_parts (p x) (list_any p xs) none in none_at p xs parts.1 i
 
 none_marked : (xs : List Bool) → list_any (λ mark. mark) xs ≡ false → (i : ℕ) → at xs i ≡ false
 none_marked [] none i = refl
-none_marked (x ∷ xs) none zero = let parts = neither x (list_any (λ mark. mark) xs) none in parts.0
-none_marked (x ∷ xs) none (suc i) = let parts = neither x (list_any (λ mark. mark) xs) none in none_marked xs parts.1 i
+none_marked (x ∷ xs) none zero = let parts = or_parts x (list_any (λ mark. mark) xs) none in parts.0
+none_marked (x ∷ xs) none (suc i) = let parts = or_parts x (list_any (λ mark. mark) xs) none in none_marked xs parts.1 i
 
 none_kept : (which : Keep) (others marks : List Bool) → list_any (λ mark. mark) (kept which others 0 marks) ≡ false
     → (i : ℕ) → (at marks i && keeps which (at others i)) ≡ false
@@ -159,7 +156,7 @@ distributed false true n = cases n
     cases false = refl
 distributed false false n = refl
 
--- neither of two
+-- or_parts of two
 pub regrouped : (a x y : Bool) → ((a && not x) && not y) ≡ (a && not (x || y))
 regrouped true true y = refl
 regrouped true false y = refl

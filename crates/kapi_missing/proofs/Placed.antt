@@ -1,8 +1,9 @@
 -- The rules that bar an atom are among those found by the entries of the wanted rule.
 use Rattle.std.proofs.Common.{◌≡◌, ℕ, zero, suc, ◌==◌, Bool, true, false, ◌&&◌, ◌||◌, ◌⊎◌, inl, inr, if◌then◌else◌, List, [], ◌∷◌, ◌++◌, length, map, refl, ap, sym, ◌∙◌}
-use Rattle.std.proofs.lemmas.Bool.{and_parts, or_cases}
+use Rattle.std.proofs.lemmas.Bool.{and_parts, or_cases, or_left, or_right, or_parts}
 use Rattle.std.specs.List.{list_any}
 use Rattle.std.specs.Str.{bytes_eq}
+use Rattle.kapi_text.proofs.Booleans.{or_false}
 use Rattle.kapi_model.specs.declared.policy_rule.PolicyRule.{PolicyRule}
 use Rattle.kapi_missing.proofs.Pieces.{none_at}
 use Rattle.kapi_missing.proofs.Stars.{covers_split}
@@ -18,17 +19,6 @@ use Rattle.kapi_missing.specs.declared.index.Bars.{Bars}
 
 -- ---- truths
 
-pub true_or_false : (b : Bool) → (b ≡ true) ⊎ (b ≡ false)
-true_or_false true = inl refl
-true_or_false false = inr refl
-
-left : (a b : Bool) → a ≡ true → (a || b) ≡ true
-left a b h = rw h refl
-
-right : (a b : Bool) → b ≡ true → (a || b) ≡ true
-right true b h = refl
-right false b h = h
-
 -- what follows from the opposite of what is false
 pub not_false : (a b : Bool) → (a ≡ false → b ≡ false) → b ≡ true → a ≡ true
 not_false true b leads h = refl
@@ -38,28 +28,16 @@ not_false false b leads h = absurd (let none = leads refl in cc)
 
 plain_covers : (which : Dimension) (x y : List ℕ) → has_star x ≡ false → entry_covers which x y ≡ true → bytes_eq x y ≡ true
 plain_covers which x y plain h =
-    let split = rw plain at (covers_split which x y) in sym (sym h ∙ split ∙ or_none (bytes_eq x y))
-  where
-    or_none : (a : Bool) → (a || false) ≡ a
-    or_none true = refl
-    or_none false = refl
+    let split = rw plain at (covers_split which x y) in sym (sym h ∙ split ∙ or_false (bytes_eq x y))
 
 plain_list : (which : Dimension) (xs : List (List ℕ)) (y : List ℕ) → list_any has_star xs ≡ false → some_covers which xs y ≡ true → list_any (λ x. bytes_eq x y) xs ≡ true
 plain_list which [] y plain h = absurd cc
-plain_list which (x ∷ xs) y plain h = by_case (or_cases (entry_covers which x y) (some_covers which xs y) h) (plain_list which xs y (later (has_star x) (list_any has_star xs) plain))
+plain_list which (x ∷ xs) y plain h = by_case (or_cases (entry_covers which x y) (some_covers which xs y) h) (plain_list which xs y (or_parts (has_star x) (list_any has_star xs) plain).1)
   where
-    first : (a b : Bool) → (a || b) ≡ false → a ≡ false
-    first true b none = absurd cc
-    first false b none = refl
-
-    later : (a b : Bool) → (a || b) ≡ false → b ≡ false
-    later true b none = absurd cc
-    later false b none = none
-
     by_case : (entry_covers which x y ≡ true) ⊎ (some_covers which xs y ≡ true) → (some_covers which xs y ≡ true → list_any (λ x. bytes_eq x y) xs ≡ true)
         → list_any (λ x. bytes_eq x y) (x ∷ xs) ≡ true
-    by_case (inl here) more = left (bytes_eq x y) (list_any (λ x. bytes_eq x y) xs) (plain_covers which x y (first (has_star x) (list_any has_star xs) plain) here)
-    by_case (inr there) more = right (bytes_eq x y) (list_any (λ x. bytes_eq x y) xs) (more there)
+    by_case (inl here) more = or_left (bytes_eq x y) (list_any (λ x. bytes_eq x y) xs) (plain_covers which x y (or_parts (has_star x) (list_any has_star xs) plain).0 here)
+    by_case (inr there) more = or_right (bytes_eq x y) (list_any (λ x. bytes_eq x y) xs) (more there)
 
 -- names cover themselves alone
 names_list : (xs : List (List ℕ)) (y : List ℕ) → some_covers dimension.Names xs y ≡ true → list_any (λ x. bytes_eq x y) xs ≡ true
@@ -147,7 +125,7 @@ at_more (z ∷ xs) y (suc n) x is = by_case (at_more xs y n x is)
 
 second : (w v x : Bool) → v ≡ true → (w || (v || x)) ≡ true
 second true v x h = refl
-second false v x h = left v x h
+second false v x h = or_left v x h
 
 third : (w v g x : Bool) → g ≡ true → (w || (v || (g || x))) ≡ true
 third true v g x h = refl
@@ -166,7 +144,7 @@ last true v g r n u h = refl
 last false true g r n u h = refl
 last false false true r n u h = refl
 last false false false true n u h = refl
-last false false false false n u h = right n u h
+last false false false false n u h = or_right n u h
 
 -- ---- all that bar are near
 
@@ -195,7 +173,7 @@ module _ (bars : Bars) (which : Sort) (wanted : PolicyRule) where
 
   placed_found : (n : ℕ) (rule : PolicyRule) (i j k l : ℕ) → IsPlaced bars.is_held bars.index n rule which → barred bars.is_held which rule wanted i j k l ≡ true → found n ≡ true
   placed_found n rule i j k l (inl wide) h =
-      left (has_number bars.index.wide.items n)
+      or_left (has_number bars.index.wide.items n)
       (under wanted.verbs n || (under wanted.api_groups n || (under wanted.resources n || (under wanted.resource_names n || under wanted.non_resource_urls n)))) wide
   placed_found n rule i j k l (inr key) h =
       listed_found key.0 n
@@ -208,8 +186,8 @@ module _ (bars : Bars) (which : Sort) (wanted : PolicyRule) where
         where
           by_case : (meets bars.is_held key.0 rule e ≡ true) ⊎ (list_any (meets bars.is_held key.0 rule) es ≡ true)
               → (list_any (meets bars.is_held key.0 rule) es ≡ true → listed_under bars.index.places es n ≡ true) → listed_under bars.index.places (e ∷ es) n ≡ true
-          by_case (inl here) more = left (has_number (numbers_at bars.index.places e) n) (under es n) (key.2 e (met_is_listed bars.is_held key.0 rule e key.1.1 here))
-          by_case (inr there) more = right (has_number (numbers_at bars.index.places e) n) (under es n) (more there)
+          by_case (inl here) more = or_left (has_number (numbers_at bars.index.places e) n) (under es n) (key.2 e (met_is_listed bars.is_held key.0 rule e key.1.1 here))
+          by_case (inr there) more = or_right (has_number (numbers_at bars.index.places e) n) (under es n) (more there)
 
   -- a rule that bars an atom is found
   pub all_found : AreAllPlaced bars → (i j k l n : ℕ) → at (map (λ b. barred bars.is_held which b wanted i j k l) (rules_in bars)) n ≡ true → found n ≡ true

@@ -1,13 +1,14 @@
 -- The atoms of a rule once: those of the rule without repeated entries.
 use Rattle.std.proofs.Common.{◌≡◌, ℕ, ◌==◌, Bool, true, false, not, ◌&&◌, ◌||◌, if◌then◌else◌, List, [], ◌∷◌, ◌++◌, length, map, refl, ap, subst, sym, ◌∙◌, append_assoc, append-nil}
 use Rattle.std.proofs.Math.Dec.{eqb-suc-zero}
-use Rattle.std.proofs.lemmas.Bool.{and_parts}
+use Rattle.std.proofs.lemmas.Bool.{and_parts, or_left, or_right, or_parts, or_from}
 use Rattle.std.proofs.lemmas.Grind.{fold-append, flat_map-append}
 use Rattle.std.proofs.lemmas.List.Folds.{list_any-append}
 use Rattle.std.specs.List.{filter, flat_map, fold, list_any}
 use Rattle.std.specs.Str.{bytes_eq}
+use Rattle.kapi_text.proofs.Booleans.{or_false, and_false, absorbed, regrouped, passing, failing}
 use Rattle.kapi_model.specs.declared.policy_rule.PolicyRule.{PolicyRule}
-use Rattle.kapi_rules.proofs.Covers.{and_false, itself, or_false, same}
+use Rattle.kapi_rules.proofs.Covers.{itself, same}
 use Rattle.kapi_rules.proofs.Law.{any_weaker}
 use Rattle.kapi_rules.proofs.Listed.{same_decides}
 use Rattle.kapi_rules.proofs.Parts.{any_flat_map, any_map, any_same}
@@ -67,16 +68,6 @@ grown b found (a ∷ list) = by_case (list_any (λ f. same_atom f a) found) refl
     there : list_any (λ f. same_atom f a) found ≡ true → same_atom b a ≡ true → has_atom found b ≡ true
     there t e = rw (are_same b a e) (sym (either_way a found) ∙ t)
 
-    absorbed : (x y z : Bool) → (y ≡ true → x ≡ true) → (x || z) ≡ (x || (y || z))
-    absorbed true y z more = refl
-    absorbed false true z more = absurd (let never = more refl in cc)
-    absorbed false false z more = refl
-
-    regrouped : (x y z : Bool) → ((x || (y || false)) || z) ≡ (x || (y || z))
-    regrouped true y z = refl
-    regrouped false true z = refl
-    regrouped false false z = refl
-
     by_case : (t : Bool) → list_any (λ f. same_atom f a) found ≡ t
         → ((longer : List Atom) → has_atom (fold with_atom longer list) b ≡ (has_atom longer b || has_atom list b))
         → has_atom (fold with_atom (with_atom found a) list) b ≡ (has_atom found b || (same_atom b a || has_atom list b))
@@ -89,15 +80,8 @@ grown b found (a ∷ list) = by_case (list_any (λ f. same_atom f a) found) refl
 taken : (found list : List Atom) → ((b : Atom) → has_atom list b ≡ true → has_atom found b ≡ true) → fold with_atom found list ≡ found
 taken found [] all = refl
 taken found (a ∷ list) all =
-    let here : list_any (λ f. same_atom f a) found ≡ true = either_way a found ∙ all a (left_or (same_atom a a) (has_atom list a) (is_itself a)) in
-    rw here (taken found list (λ b there. all b (right_or (same_atom b a) (has_atom list b) there)))
-  where
-    left_or : (x y : Bool) → x ≡ true → (x || y) ≡ true
-    left_or x y h = rw h refl
-
-    right_or : (x y : Bool) → y ≡ true → (x || y) ≡ true
-    right_or true y h = refl
-    right_or false y h = h
+    let here : list_any (λ f. same_atom f a) found ≡ true = either_way a found ∙ all a (or_left (same_atom a a) (has_atom list a) (is_itself a)) in
+    rw here (taken found list (λ b there. all b (or_right (same_atom b a) (has_atom list b) there)))
 
 pub filter_append : (p : Atom → Bool) (xs ys : List Atom) → filter p (xs ++ ys) ≡ filter p xs ++ filter p ys
 filter_append p [] ys = refl
@@ -111,16 +95,6 @@ pub kept_by : (p : Atom → Bool) (b : Atom) (list : List Atom) → has_atom (fi
 kept_by p b [] = sym (and_false (p b))
 kept_by p b (a ∷ list) = by_case (p a) refl (kept_by p b list)
   where
-    passing : (x y z : Bool) → (y ≡ true → x ≡ true) → (y || (x && z)) ≡ (x && (y || z))
-    passing true y z more = refl
-    passing false true z more = absurd (let never = more refl in cc)
-    passing false false z more = refl
-
-    failing : (x y z : Bool) → (y ≡ true → x ≡ false) → (x && z) ≡ (x && (y || z))
-    failing true true z more = absurd (let never = more refl in cc)
-    failing true false z more = refl
-    failing false y z more = refl
-
     by_case : (t : Bool) → p a ≡ t → has_atom (filter p list) b ≡ (p b && has_atom list b)
         → has_atom (filter p (a ∷ list)) b ≡ (p b && (same_atom b a || has_atom list b))
     by_case true t more = rw (t, more) (passing (p b) (same_atom b a) (has_atom list b) (λ e. ap p (are_same b a e) ∙ t))
@@ -159,11 +133,7 @@ module _ (p : Atom → Bool) where
           let parts = and_parts (p b) (has_atom (f word) b) (sym (kept_by p b (f word)) ∙ there) in
           let inside : has_atom (flat_map f before) b ≡ true =
           any_flat_map (same_atom b) f before ∙ any_weaker (bytes_eq word) (λ x. has_atom (f x) b) before (λ x is. rw (← same word x is) parts.1) listed in
-          grown b found (filter p (flat_map f before)) ∙ rw (kept_by p b (flat_map f before), parts.0, inside) (or_true (has_atom found b))
-        where
-          or_true : (t : Bool) → (t || true) ≡ true
-          or_true true = refl
-          or_true false = refl
+          grown b found (filter p (flat_map f before)) ∙ rw (kept_by p b (flat_map f before), parts.0, inside) (or_right (has_atom found b) true refl)
 
   once_from : (f : List ℕ → List Atom) (before words : List (List ℕ)) → AddSame (flat_map f (before ++ words)) (flat_map f (fold with_word before words))
   once_from f before [] found = ap (λ r. added found (flat_map f r)) (append-nil before)
@@ -244,13 +214,6 @@ abbrev AreApart : List Atom → Type 0
 AreApart [] = Unit {0}
 AreApart (x ∷ xs) = (has_atom xs x ≡ false) × AreApart xs
 
-false_or : (a b : Bool) → (a || b) ≡ false → (a ≡ false) × (b ≡ false)
-false_or true b h = absurd cc
-false_or false b h = (refl, h)
-
-both_false : (a b : Bool) → a ≡ false → b ≡ false → (a || b) ≡ false
-both_false a b p q = rw (p, q) refl
-
 word_turned : (a b : List ℕ) → bytes_eq a b ≡ false → bytes_eq b a ≡ false
 word_turned a b h = by_case (bytes_eq b a) refl
   where
@@ -261,8 +224,8 @@ word_turned a b h = by_case (bytes_eq b a) refl
 words_push : (xs : List (List ℕ)) (y : List ℕ) → AreWordsApart xs → list_any (bytes_eq y) xs ≡ false → AreWordsApart (xs ++ y ∷ [])
 words_push [] y apart none = (refl, tt)
 words_push (x ∷ xs) y apart none =
-    let parts = false_or (bytes_eq y x) (list_any (bytes_eq y) xs) none in (
-      list_any-append (bytes_eq x) xs (y ∷ []) ∙ both_false (list_any (bytes_eq x) xs) (bytes_eq x y || false) apart.0 (or_false (bytes_eq x y) ∙ word_turned y x parts.0),
+    let parts = or_parts (bytes_eq y x) (list_any (bytes_eq y) xs) none in (
+      list_any-append (bytes_eq x) xs (y ∷ []) ∙ or_from (list_any (bytes_eq x) xs) (bytes_eq x y || false) apart.0 (or_false (bytes_eq x y) ∙ word_turned y x parts.0),
       words_push xs y apart.1 parts.1,
     )
 
@@ -282,13 +245,9 @@ once_apart words = words_stay [] words tt
 apart_append : (xs ys : List Atom) → AreApart xs → AreApart ys → ((b : Atom) → has_atom xs b ≡ true → has_atom ys b ≡ false) → AreApart (xs ++ ys)
 apart_append [] ys p q no_common = q
 apart_append (x ∷ xs) ys p q no_common = (
-  list_any-append (same_atom x) xs ys ∙ both_false (has_atom xs x) (has_atom ys x) p.0 (no_common x (rw (is_itself x) refl)),
-  apart_append xs ys p.1 q (λ b there. no_common b (either (same_atom b x) (has_atom xs b) there)),
+  list_any-append (same_atom x) xs ys ∙ or_from (has_atom xs x) (has_atom ys x) p.0 (no_common x (rw (is_itself x) refl)),
+  apart_append xs ys p.1 q (λ b there. no_common b (or_right (same_atom b x) (has_atom xs b) there)),
 )
-  where
-    either : (s t : Bool) → t ≡ true → (s || t) ≡ true
-    either true t h = refl
-    either false t h = h
 
 -- the atoms of each entry are told from those of the others by one of their texts
 apart_flat : (text : Atom → List ℕ) (f : List ℕ → List Atom) → ((x : List ℕ) (b : Atom) → has_atom (f x) b ≡ true → text b ≡ x) → ((x : List ℕ) → AreApart (f x))
@@ -403,7 +362,7 @@ module _ (p : Atom → Bool) where
       → filter (λ a. p a && not (has_atom (found ++ x ∷ []) a)) xs ≡ filter (λ a. p a && not (has_atom found a)) xs
   apart_kept found x [] none = refl
   apart_kept found x (y ∷ xs) none =
-      let parts = false_or (same_atom x y) (has_atom xs x) none in
+      let parts = or_parts (same_atom x y) (has_atom xs x) none in
       let test : has_atom (found ++ x ∷ []) y ≡ has_atom found y =
       list_any-append (same_atom y) found (x ∷ []) ∙ rw (turned y x, parts.0) (or_false (has_atom found y)) in
       rw test (by_case (p y && not (has_atom found y)) (apart_kept found x xs parts.1))

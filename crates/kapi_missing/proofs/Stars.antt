@@ -1,6 +1,6 @@
 -- An entry without a star covers itself alone.
 use Rattle.std.proofs.Common.{◌≡◌, ℕ, zero, suc, ◌==◌, ◌-◌, nat_eq, Bool, true, false, ◌&&◌, ◌||◌, ◌⊎◌, inl, inr, List, [], ◌∷◌, length, drop, Option, Some, None, refl, arith}
-use Rattle.std.proofs.lemmas.Bool.{and_parts, or_cases}
+use Rattle.std.proofs.lemmas.Bool.{and_parts, or_cases, or_left, or_right}
 use Rattle.std.proofs.lemmas.Bool.Decides.{nat_tests}
 use Rattle.std.specs.Cmp.Lexicographic.{pointwise}
 use Rattle.std.specs.List.{ends_with, filter, list_any, starts_with}
@@ -20,24 +20,17 @@ any_with_has : (x : List ℕ) (o : Option (List ℕ)) → is_any_with x o ≡ tr
 any_with_has x None h = absurd cc
 any_with_has x (Some s) h = rw (same x (42 ∷ 47 ∷ s) h) refl
 
-right : (a b : Bool) → b ≡ true → (a || b) ≡ true
-right true b h = refl
-right false b h = h
-
-left : (a b : Bool) → a ≡ true → (a || b) ≡ true
-left a b h = rw h refl
-
 any_behind : (n : ℕ) (xs : List ℕ) → has_star (drop n xs) ≡ true → has_star xs ≡ true
 any_behind zero xs h = h
 any_behind (suc n) [] h = h
-any_behind (suc n) (x ∷ xs) h = right (x == 42) (has_star xs) (any_behind n xs h)
+any_behind (suc n) (x ∷ xs) h = or_right (x == 42) (has_star xs) (any_behind n xs h)
 
 first_star : (x : ℕ) → nat_eq 42 x ≡ true → (x == 42) ≡ true
 first_star x h = grind (arith, nat_tests)
 
 begins_has : (xs : List ℕ) → pointwise nat_eq star xs ≡ true → has_star xs ≡ true
 begins_has [] h = absurd cc
-begins_has (x ∷ xs) h = let parts = and_parts (nat_eq 42 x) (pointwise nat_eq [] xs) h in left (x == 42) (has_star xs) (first_star x parts.0)
+begins_has (x ∷ xs) h = let parts = and_parts (nat_eq 42 x) (pointwise nat_eq [] xs) h in or_left (x == 42) (has_star xs) (first_star x parts.0)
 
 beginning_has : (x y : List ℕ) → beginning_matches x y ≡ true → has_star x ≡ true
 beginning_has x y h =
@@ -58,7 +51,7 @@ by_star false false true itself more = refl
 by_star false false false itself more = refl
 
 word_split : (x y : List ℕ) → word_matches x y ≡ (bytes_eq x y || (has_star x && word_matches x y))
-word_split x y = by_star (word_matches x y) (bytes_eq x y) (has_star x) (right (bytes_eq x star) (bytes_eq x y)) (λ h. cases (or_cases (bytes_eq x star) (bytes_eq x y) h))
+word_split x y = by_star (word_matches x y) (bytes_eq x y) (has_star x) (or_right (bytes_eq x star) (bytes_eq x y)) (λ h. cases (or_cases (bytes_eq x star) (bytes_eq x y) h))
   where
     cases : (bytes_eq x star ≡ true) ⊎ (bytes_eq x y ≡ true) → (bytes_eq x y ≡ true) ⊎ (has_star x ≡ true)
     cases (inl h) = inr (star_has x h)
@@ -70,7 +63,7 @@ covers_split dimension.Groups x y = word_split x y
 covers_split dimension.Names x y = by_star (bytes_eq x y) (bytes_eq x y) (has_star x) (λ h. h) (λ h. inl h)
 covers_split dimension.Resources x y =
     by_star (word_matches x y || is_any_with x (after_slash y)) (bytes_eq x y) (has_star x)
-    (λ h. left (word_matches x y) (is_any_with x (after_slash y)) (right (bytes_eq x star) (bytes_eq x y) h))
+    (λ h. or_left (word_matches x y) (is_any_with x (after_slash y)) (or_right (bytes_eq x star) (bytes_eq x y) h))
     (λ h. cases (or_cases (word_matches x y) (is_any_with x (after_slash y)) h))
   where
     by_word : (bytes_eq x star ≡ true) ⊎ (bytes_eq x y ≡ true) → (bytes_eq x y ≡ true) ⊎ (has_star x ≡ true)
@@ -81,7 +74,7 @@ covers_split dimension.Resources x y =
     cases (inl h) = by_word (or_cases (bytes_eq x star) (bytes_eq x y) h)
     cases (inr h) = inr (any_with_has x (after_slash y) h)
 covers_split dimension.Urls x y =
-    by_star (bytes_eq x y || beginning_matches x y) (bytes_eq x y) (has_star x) (left (bytes_eq x y) (beginning_matches x y)) (λ h. cases (or_cases (bytes_eq x y) (beginning_matches x y) h))
+    by_star (bytes_eq x y || beginning_matches x y) (bytes_eq x y) (has_star x) (or_left (bytes_eq x y) (beginning_matches x y)) (λ h. cases (or_cases (bytes_eq x y) (beginning_matches x y) h))
   where
     cases : (bytes_eq x y ≡ true) ⊎ (beginning_matches x y ≡ true) → (bytes_eq x y ≡ true) ⊎ (has_star x ≡ true)
     cases (inl h) = inl h

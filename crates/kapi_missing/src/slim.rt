@@ -376,7 +376,7 @@ fn is_alone(sort: Sort, dimension: Dimension, rule: &PolicyRule) -> bool
     }
 }
 
-// The same where it may be worth it.
+// A rule without the entries all of whose atoms one rule stops, where that may be worth it.
 #[tactic(auto, using(crate::proofs::Dead::slim_itself))]
 fn slim_list(
     alloc: Global,

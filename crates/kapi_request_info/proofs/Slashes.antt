@@ -2,6 +2,7 @@
 use Rattle.std.proofs.Common.{◌≡◌, ℕ, zero, suc, Bool, true, false, not, ◌==◌, length, ◌&&◌, if◌then◌else◌, List, [], ◌∷◌, codes, Result, Ok, Err, refl, sym, IfOk}
 use Rattle.std.specs.List.{list_all}
 use Rattle.std.specs.Str.{bytes_eq, is_utf8}
+use Rattle.std.proofs.lemmas.Bool.{and_parts}
 use Rattle.kapi_http.specs.declared.message.Method.{Method}
 use Rattle.kapi_request_info.specs.declared.attributes.Attributes.{Attributes}
 use Rattle.kapi_request_info.specs.declared.attributes.InfoError.{InfoError}
@@ -16,11 +17,6 @@ use Rattle.kapi_request_info.specs.Slashes.{HasNoSlash}
 abbrev AllName : List (List ℕ) → Type 0
 AllName names = list_all names_something names ≡ true
 
-both : (a b : Bool) → (a && b) ≡ true → (a ≡ true) × (b ≡ true)
-both true true h = (refl, refl)
-both true false h = cc
-both false b h = cc
-
 last_not : (a b c d : Bool) → (a && (b && (c && not d))) ≡ true → d ≡ false
 last_not true true true false h = refl
 last_not true true true true h = cc
@@ -34,8 +30,8 @@ no_slash s h = last_not (not (length s == 0)) (not (bytes_eq s (codes "."))) (no
 
 part_no_slash : (names : List (List ℕ)) (i : ℕ) → AllName names → has_slash (part names i) ≡ false
 part_no_slash [] i h = refl
-part_no_slash (s ∷ names) zero h = no_slash s (both (names_something s) (list_all names_something names) h).0
-part_no_slash (s ∷ names) (suc i) h = part_no_slash names i (both (names_something s) (list_all names_something names) h).1
+part_no_slash (s ∷ names) zero h = no_slash s (and_parts (names_something s) (list_all names_something names) h).0
+part_no_slash (s ∷ names) (suc i) h = part_no_slash names i (and_parts (names_something s) (list_all names_something names) h).1
 
 -- the segments of a path each name something
 checked_names : (b c d : Bool) (names found : List (List ℕ)) → b ≡ list_all names_something names
@@ -60,7 +56,7 @@ kept_names : (b c : Bool) (first name third : List ℕ) (more : List (List ℕ))
     → PartsName (if b then (if c then (name, first ∷ name ∷ third ∷ more) else (name, third ∷ more)) else ([], first ∷ name ∷ third ∷ more))
 kept_names true true first name third more h = h
 kept_names true false first name third more h =
-    (both (names_something name) (list_all names_something (third ∷ more)) (both (names_something first) (list_all names_something (name ∷ third ∷ more)) h).1).1
+    (and_parts (names_something name) (list_all names_something (third ∷ more)) (and_parts (names_something first) (list_all names_something (name ∷ third ∷ more)) h).1).1
 kept_names false c first name third more h = h
 
 same_names : (b : Bool) (names : List (List ℕ)) (name : List ℕ) → AllName names → PartsName (if b then (name, names) else ([], names))
@@ -94,7 +90,7 @@ either_slashless true r s h k = h
 either_slashless false r s h k = k
 
 rest_names : (name : List ℕ) (names : List (List ℕ)) → AllName (name ∷ names) → AllName names
-rest_names name names h = (both (names_something name) (list_all names_something names) h).1
+rest_names name names h = (and_parts (names_something name) (list_all names_something names) h).1
 
 attributes_slashless : (method : Method) (path : List ℕ) (names : List (List ℕ)) (query : List QueryPair)
     → AllName names → Slashless (attributes_by method path names query)

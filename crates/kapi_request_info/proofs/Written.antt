@@ -3,7 +3,7 @@ use Rattle.std.proofs.Common.{◌≡◌, ℕ, ◌+◌, ◌<◌, ◌==◌, ◌/�
 use Rattle.std.specs.Char.{is_ascii_hexdigit}
 use Rattle.std.specs.Fmt.{digit_glyph}
 use Rattle.std.specs.List.{list_all, slice_split, position_or_len, before_first, after_first}
-use Rattle.std.proofs.lemmas.Bool.{cases_Bool}
+use Rattle.std.proofs.lemmas.Bool.{cases_Bool, and_parts}
 use Rattle.std.proofs.lemmas.Bool.Decides.{nat_tests}
 use Rattle.std.proofs.lemmas.List.{append-nil, drop_all}
 use Rattle.std.proofs.lemmas.List.Elements.{All-nil, All-cons, All-head, All-tail, All-append, All-weaker}
@@ -87,11 +87,6 @@ decoded_written set (s ∷ names) is_set small =
     let first = percent_decode-percent_encode set s (All-head (λ s. All IsByte s) s names small) (λ k d _. percent_escaped set (get_or s k d) is_set) in
     rw first (ap (λ r. s ∷ r) (decoded_written set names is_set (All-tail (λ s. All IsByte s) s names small)))
 
-both : (a b : Bool) → (a && b) ≡ true → (a ≡ true) × (b ≡ true)
-both true true h = (refl, refl)
-both true false h = cc
-both false b h = cc
-
 not_empty : (a b : Bool) → (not a && b) ≡ true → a ≡ false
 not_empty true b h = cc
 not_empty false b h = refl
@@ -100,8 +95,8 @@ kept_segments : (names : List (List ℕ)) → list_all names_something names ≡
 unfolding without_last_empty
 kept_segments [] h = refl
 kept_segments (s ∷ []) h =
-    rw (not_empty (length s == 0) _ (both (names_something s) true h).0)
-kept_segments (s ∷ t ∷ names) h = ap (λ r. s ∷ r) (kept_segments (t ∷ names) (both (names_something s) (list_all names_something (t ∷ names)) h).1)
+    rw (not_empty (length s == 0) _ (and_parts (names_something s) true h).0)
+kept_segments (s ∷ t ∷ names) h = ap (λ r. s ∷ r) (kept_segments (t ∷ names) (and_parts (names_something s) (list_all names_something (t ∷ names)) h).1)
 
 -- ---- the escapes that are looked at
 
@@ -168,7 +163,7 @@ no_query_from_path : (b : ℕ) → IsOfPath b → (b == 63) ≡ false
 no_query_from_path b h = grind (arith, nat_tests)
 
 target_from_path : (b : ℕ) → IsOfPath b → is_target_byte b ≡ true
-target_from_path b h = (both (is_target_byte b) (not (b == 63)) h).0
+target_from_path b h = (and_parts (is_target_byte b) (not (b == 63)) h).0
 
 target_written : (set : AsciiSet) (names : List (List ℕ)) → IsSegmentSet set → list_all is_target_byte (written set names) ≡ true
 target_written set names is_set =
@@ -232,7 +227,7 @@ no_end : (b : ℕ) → (is_target_byte b && not (b == 47 || b == 63)) ≡ true �
 no_end b h = grind (arith, nat_tests)
 
 target_from_authority : (b : ℕ) → (is_target_byte b && not (b == 47 || b == 63)) ≡ true → is_target_byte b ≡ true
-target_from_authority b h = (both (is_target_byte b) (not (b == 47 || b == 63)) h).0
+target_from_authority b h = (and_parts (is_target_byte b) (not (b == 47 || b == 63)) h).0
 
 authority_bytes : (authority : List ℕ) → is_authority authority ≡ true → All (λ b. (is_target_byte b && not (b == 47 || b == 63)) ≡ true) authority
 authority_bytes authority h = AllPass-from_list_all (λ b. is_target_byte b && not (b == 47 || b == 63)) authority h

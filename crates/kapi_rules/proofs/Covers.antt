@@ -1,12 +1,13 @@
 -- Each part of an atom covers itself, covers what a covered part covers, and matches what a covered part matches.
 use Rattle.std.proofs.Common.{◌≡◌, ℕ, ◌==◌, nat_eq, Bool, true, false, ◌&&◌, ◌||◌, ◌⊎◌, inl, inr, List, [], ◌∷◌, ◌++◌, length, drop, Option, Some, None, refl, ap, ◌∙◌, append_assoc}
 use Rattle.std.proofs.Math.Dec.{eqb-suc-zero}
-use Rattle.std.proofs.lemmas.Bool.{and_parts, or_cases}
+use Rattle.std.proofs.lemmas.Bool.{and_parts, or_cases, and_from, or_left, or_right}
 use Rattle.std.proofs.lemmas.Bool.Decides.{Decides-eqb}
 use Rattle.std.proofs.lemmas.List.Folds.{list_all-append}
 use Rattle.std.proofs.lemmas.Slice.Eq.{bytes_eq-Decides, starts_is}
 use Rattle.std.specs.List.{ends_with, list_any, starts_with}
 use Rattle.std.specs.Str.{bytes_eq}
+use Rattle.kapi_text.proofs.Booleans.{or_false, and_false}
 use Rattle.kapi_rules.proofs.Texts.{all_stars}
 use Rattle.kapi_rules.specs.Atoms.{after_slash, atom_allows, implies, is_any_with, names_allow, names_cover, only_names, resource_covers, rule_of}
 use Rattle.kapi_rules.specs.Entries.{beginning_matches, resource_matches, star, subresource_matches, url_matches, without_stars, word_matches}
@@ -19,16 +20,6 @@ use Rattle.kapi_rules.specs.declared.atom.Names.TheVariants as names
 use Rattle.kapi_rules.specs.declared.point.Point.{Point}
 use Rattle.kapi_rules.specs.declared.point.Point.TheVariants as point
 
-pub both : (a b : Bool) → a ≡ true → b ≡ true → (a && b) ≡ true
-both a b p q = rw (p, q) refl
-
-left : (a b : Bool) → a ≡ true → (a || b) ≡ true
-left a b p = rw p refl
-
-right : (a b : Bool) → b ≡ true → (a || b) ≡ true
-right true b p = refl
-right false b p = p
-
 pub same : (x y : List ℕ) → bytes_eq x y ≡ true → x ≡ y
 same x y e = (bytes_eq-Decides x y).0 e
 
@@ -38,13 +29,13 @@ itself x = (bytes_eq-Decides x x).1 refl
 -- ---- verbs and groups
 
 word_itself : (x : List ℕ) → word_matches x x ≡ true
-word_itself x = right (bytes_eq x star) (bytes_eq x x) (itself x)
+word_itself x = or_right (bytes_eq x star) (bytes_eq x x) (itself x)
 
 word_onward : (x y z : List ℕ) → word_matches x y ≡ true → word_matches y z ≡ true → word_matches x z ≡ true
 word_onward x y z h k = by_case (or_cases (bytes_eq x star) (bytes_eq x y) h)
   where
     by_case : (bytes_eq x star ≡ true) ⊎ (bytes_eq x y ≡ true) → word_matches x z ≡ true
-    by_case (inl all) = left (bytes_eq x star) (bytes_eq x z) all
+    by_case (inl all) = or_left (bytes_eq x star) (bytes_eq x z) all
     by_case (inr e) = rw (same x y e) k
 
 -- ---- resources
@@ -88,11 +79,11 @@ subresource_cases b r s plain h = by_case (or_cases (word_matches b (r ++ 47 ∷
     by_case (inr e) = inr (rw (same b (42 ∷ 47 ∷ s) e) refl)
 
 star_matches : (a r s : List ℕ) → bytes_eq a star ≡ true → resource_matches a r s ≡ true
-star_matches a r [] all = left (bytes_eq a star) (bytes_eq a r) all
+star_matches a r [] all = or_left (bytes_eq a star) (bytes_eq a r) all
 star_matches a r (c ∷ s) all = rw (eqb-suc-zero (length s), all) refl
 
 any_matches : (a r s : List ℕ) (n : ℕ) → n ≡ length s → (n == 0) ≡ false → bytes_eq a (42 ∷ 47 ∷ s) ≡ true → resource_matches a r s ≡ true
-any_matches a r s n is some e = rw (← is, some) (right (word_matches a (r ++ 47 ∷ s)) (bytes_eq a (42 ∷ 47 ∷ s)) e)
+any_matches a r s n is some e = rw (← is, some) (or_right (word_matches a (r ++ 47 ∷ s)) (bytes_eq a (42 ∷ 47 ∷ s)) e)
 
 -- a resource entry matches what a covered entry matches, on a resource without a slash
 resource_onward : (a b r s : List ℕ) → after_slash r ≡ None → resource_covers a b ≡ true → resource_matches b r s ≡ true → resource_matches a r s ≡ true
@@ -117,20 +108,20 @@ resource_onward a b r s plain h k = by_case (or_cases (word_matches a b) (is_any
         by_subresource : (b ≡ star) ⊎ (after_slash b ≡ Some (c ∷ t)) → resource_matches a r (c ∷ t) ≡ true
         by_subresource (inl is) = absurd (let none = rw is at any in cc)
         by_subresource (inr is) =
-            rw (eqb-suc-zero (length t)) (right (word_matches a (r ++ 47 ∷ (c ∷ t))) (bytes_eq a (42 ∷ 47 ∷ (c ∷ t))) (let there = rw is at any in there))
+            rw (eqb-suc-zero (length t)) (or_right (word_matches a (r ++ 47 ∷ (c ∷ t))) (bytes_eq a (42 ∷ 47 ∷ (c ∷ t))) (let there = rw is at any in there))
 
     by_case : (word_matches a b ≡ true) ⊎ (is_any_with a (after_slash b) ≡ true) → resource_matches a r s ≡ true
     by_case (inl w) = by_word (or_cases (bytes_eq a star) (bytes_eq a b) w)
     by_case (inr any) = slashed s k any
 
 resource_itself : (a : List ℕ) → resource_covers a a ≡ true
-resource_itself a = left (word_matches a a) (is_any_with a (after_slash a)) (word_itself a)
+resource_itself a = or_left (word_matches a a) (is_any_with a (after_slash a)) (word_itself a)
 
 resource_covers_onward : (a b c : List ℕ) → resource_covers a b ≡ true → resource_covers b c ≡ true → resource_covers a c ≡ true
 resource_covers_onward a b c h k = by_case (or_cases (word_matches a b) (is_any_with a (after_slash b)) h)
   where
     by_word : (bytes_eq a star ≡ true) ⊎ (bytes_eq a b ≡ true) → resource_covers a c ≡ true
-    by_word (inl all) = left (word_matches a c) (is_any_with a (after_slash c)) (left (bytes_eq a star) (bytes_eq a c) all)
+    by_word (inl all) = or_left (word_matches a c) (is_any_with a (after_slash c)) (or_left (bytes_eq a star) (bytes_eq a c) all)
     by_word (inr e) = rw (same a b e) k
 
     by_next : is_any_with a (after_slash b) ≡ true → (word_matches b c ≡ true) ⊎ (is_any_with b (after_slash c) ≡ true) → resource_covers a c ≡ true
@@ -139,9 +130,9 @@ resource_covers_onward a b c h k = by_case (or_cases (word_matches a b) (is_any_
         by_other : (bytes_eq b star ≡ true) ⊎ (bytes_eq b c ≡ true) → resource_covers a c ≡ true
         by_other (inl all) = absurd (let is = same b star all in let none = rw is at any in cc)
         by_other (inr e) =
-            right (word_matches a c) (is_any_with a (after_slash c)) (let is = same b c e in let there = rw is at any in there)
+            or_right (word_matches a c) (is_any_with a (after_slash c)) (let is = same b c e in let there = rw is at any in there)
     by_next any (inr other) =
-        right (word_matches a c) (is_any_with a (after_slash c)) (let is = any_with_is b (after_slash c) other in let there = rw is at any in there)
+        or_right (word_matches a c) (is_any_with a (after_slash c)) (let is = any_with_is b (after_slash c) other in let there = rw is at any in there)
 
     by_case : (word_matches a b ≡ true) ⊎ (is_any_with a (after_slash b) ≡ true) → resource_covers a c ≡ true
     by_case (inl w) = by_word (or_cases (bytes_eq a star) (bytes_eq a b) w)
@@ -202,7 +193,7 @@ begins_with : (text front rest : List ℕ) → text ≡ front ++ rest → starts
 begins_with text front rest e = (starts_is Decides-eqb text front (starts_with nat_eq text front) refl).1 rest e
 
 url_itself : (x : List ℕ) → url_matches x x ≡ true
-url_itself x = left (bytes_eq x x) (beginning_matches x x) (itself x)
+url_itself x = or_left (bytes_eq x x) (beginning_matches x x) (itself x)
 
 -- covering a URL entry and matching a path are one test
 url_onward : (x y z : List ℕ) → url_matches x y ≡ true → url_matches y z ≡ true → url_matches x z ≡ true
@@ -218,8 +209,8 @@ url_onward x y z h k = by_first (or_cases (bytes_eq x y) (beginning_matches x y)
         let front : without_stars y ≡ without_stars x ++ without_stars middle = ap without_stars is ∙ stars_behind x middle in
         let whole : z ≡ without_stars x ++ (without_stars middle ++ last) =
         begins z (without_stars y) second.1 ∙ ap (λ (t : List ℕ). t ++ last) front ∙ append_assoc (without_stars x) (without_stars middle) last in
-        right (bytes_eq x z) (beginning_matches x z)
-        (both (ends_with nat_eq x star) (starts_with nat_eq z (without_stars x)) first.0 (begins_with z (without_stars x) (without_stars middle ++ last) whole))
+        or_right (bytes_eq x z) (beginning_matches x z)
+        (and_from (ends_with nat_eq x star) (starts_with nat_eq z (without_stars x)) first.0 (begins_with z (without_stars x) (without_stars middle ++ last) whole))
 
     by_second : beginning_matches x y ≡ true → (bytes_eq y z ≡ true) ⊎ (beginning_matches y z ≡ true) → url_matches x z ≡ true
     by_second p (inl e) = rw (← same y z e) h
@@ -242,19 +233,19 @@ four a b c d a1 b1 c1 d1 a2 b2 c2 d2 fa fb fc fd h k =
     let k1 = and_parts a2 (b2 && (c2 && d2)) k in
     let k2 = and_parts b2 (c2 && d2) k1.1 in
     let k3 = and_parts c2 d2 k2.1 in
-    both a (b && (c && d)) (fa h1.0 k1.0) (both b (c && d) (fb h2.0 k2.0) (both c d (fc h3.0 k3.0) (fd h3.1 k3.1)))
+    and_from a (b && (c && d)) (fa h1.0 k1.0) (and_from b (c && d) (fb h2.0 k2.0) (and_from c d (fc h3.0 k3.0) (fd h3.1 k3.1)))
 
 two : (a b a1 b1 a2 b2 : Bool) → (a1 ≡ true → a2 ≡ true → a ≡ true) → (b1 ≡ true → b2 ≡ true → b ≡ true)
     → (a1 && b1) ≡ true → (a2 && b2) ≡ true → (a && b) ≡ true
 two a b a1 b1 a2 b2 fa fb h k =
     let h1 = and_parts a1 b1 h in
     let k1 = and_parts a2 b2 k in
-    both a b (fa h1.0 k1.0) (fb h1.1 k1.1)
+    and_from a b (fa h1.0 k1.0) (fb h1.1 k1.1)
 
 pub implies_itself : (a : Atom) → implies a a ≡ true
 implies_itself (atom.Resource a) =
-    both _ _ (word_itself a.verb) (both _ _ (word_itself a.group) (both _ _ (resource_itself a.resource) (names_itself a.names)))
-implies_itself (atom.Url a) = both _ _ (word_itself a.verb) (url_itself a.url)
+    and_from _ _ (word_itself a.verb) (and_from _ _ (word_itself a.group) (and_from _ _ (resource_itself a.resource) (names_itself a.names)))
+implies_itself (atom.Url a) = and_from _ _ (word_itself a.verb) (url_itself a.url)
 
 pub implies_onward : (a b c : Atom) → implies a b ≡ true → implies b c ≡ true → implies a c ≡ true
 implies_onward (atom.Resource a) (atom.Resource b) (atom.Resource c) h k =
@@ -275,14 +266,6 @@ implies_allows (atom.Url a) (atom.Resource b) p plain h k = absurd cc
 implies_allows (atom.Url a) (atom.Url b) (point.Resource p) plain h k = k
 implies_allows (atom.Url a) (atom.Url b) (point.Url p) plain h k =
     two _ _ _ _ _ _ (word_onward a.verb b.verb p.verb) (url_onward a.url b.url p.path) h k
-
-pub or_false : (t : Bool) → (t || false) ≡ t
-or_false true = refl
-or_false false = refl
-
-pub and_false : (t : Bool) → (t && false) ≡ false
-and_false true = refl
-and_false false = refl
 
 -- an atom allows what the rule of the atom alone allows
 pub alone_allows : (a : Atom) (p : Point) → allows (rule_of a) p ≡ atom_allows a p

@@ -1,6 +1,6 @@
 -- What an empty list of missing atoms says.
 use Rattle.std.proofs.Common.{◌≡◌, Bool, true, false, not, ◌||◌, ◌⊎◌, inl, inr, List, [], ◌∷◌, ◌++◌, refl, sym, ◌∙◌}
-use Rattle.std.proofs.lemmas.Bool.{or_cases}
+use Rattle.std.proofs.lemmas.Bool.{or_cases, or_right}
 use Rattle.std.specs.List.{filter, flat_map, fold, list_any}
 use Rattle.kapi_model.specs.declared.policy_rule.PolicyRule.{PolicyRule}
 use Rattle.kapi_rules.proofs.Covers.{implies_allows}
@@ -19,13 +19,9 @@ pub any_weaker : {X : Type 0} (p q : X → Bool) (xs : List X) → ((x : X) → 
 any_weaker p q [] weaker h = h
 any_weaker p q (x ∷ xs) weaker h = by_case (or_cases (p x) (list_any p xs) h) (any_weaker p q xs weaker)
   where
-    either : (a b : Bool) → b ≡ true → (a || b) ≡ true
-    either true b e = refl
-    either false b e = e
-
     by_case : (p x ≡ true) ⊎ (list_any p xs ≡ true) → (list_any p xs ≡ true → list_any q xs ≡ true) → (q x || list_any q xs) ≡ true
     by_case (inl here) more = rw (weaker x here) refl
-    by_case (inr there) more = either (q x) (list_any q xs) (more there)
+    by_case (inr there) more = or_right (q x) (list_any q xs) (more there)
 
 -- where no element passes the one test, what each that passes the other leads to
 any_leads : {X : Type 0} (p q : X → Bool) (c : Bool) (xs : List X) → ((x : X) → p x ≡ false → q x ≡ true → c ≡ true)

@@ -1,11 +1,12 @@
 -- What the missing list holds: just the wanted atoms that no held rule implies, each once.
 use Rattle.std.proofs.Common.{◌≡◌, ℕ, ◌<◌, Bool, true, false, ◌&&◌, ◌||◌, List, [], ◌∷◌, ◌++◌, length, get_or, refl, sym, ap, ◌∙◌, arith, Decides}
-use Rattle.std.proofs.lemmas.Bool.{and_parts}
+use Rattle.std.proofs.lemmas.Bool.{and_parts, and_from}
 use Rattle.std.proofs.lemmas.List.Folds.{list_any-append, list_any_at}
 use Rattle.std.proofs.lemmas.List.Quantifiers.{all_pairs_push}
 use Rattle.std.specs.List.{AllPairs, filter, flat_map, fold, list_any}
+use Rattle.kapi_text.proofs.Booleans.{or_false, and_false, absorbed, regrouped, passing, failing}
 use Rattle.kapi_model.specs.declared.policy_rule.PolicyRule.{PolicyRule}
-use Rattle.kapi_rules.proofs.Covers.{and_false, both, itself, or_false, same}
+use Rattle.kapi_rules.proofs.Covers.{itself, same}
 use Rattle.kapi_rules.proofs.Law.{any_weaker}
 use Rattle.kapi_rules.specs.Atoms.{atoms, resource_atom, url_atom}
 use Rattle.kapi_rules.specs.Missing.{each_once, is_missing, missing, same_atom, same_names, with_atom}
@@ -43,8 +44,8 @@ same_are (atom.Url a) (atom.Url b) h =
 
 same_itself : (a : Atom) → same_atom a a ≡ true
 same_itself (atom.Resource a) =
-    both _ _ (itself a.verb) (both _ _ (itself a.group) (both _ _ (itself a.resource) (same_names_itself a.names)))
-same_itself (atom.Url a) = both _ _ (itself a.verb) (itself a.url)
+    and_from _ _ (itself a.verb) (and_from _ _ (itself a.group) (and_from _ _ (itself a.resource) (same_names_itself a.names)))
+same_itself (atom.Url a) = and_from _ _ (itself a.verb) (itself a.url)
 
 pub same_decides : (a b : Atom) → Decides (same_atom a b) (a ≡ b)
 same_decides a b = (same_are a b, λ e. rw e (same_itself b))
@@ -61,16 +62,6 @@ grown b found (a ∷ list) = by_case (list_any (λ f. same_atom f a) found) refl
     there t e =
         any_weaker (λ f. same_atom f a) (same_atom b) found (λ f i. rw (same_are f a i) e) t
 
-    absorbed : (x y z : Bool) → (y ≡ true → x ≡ true) → (x || z) ≡ (x || (y || z))
-    absorbed true y z more = refl
-    absorbed false true z more = absurd (let never = more refl in cc)
-    absorbed false false z more = refl
-
-    regrouped : (x y z : Bool) → ((x || (y || false)) || z) ≡ (x || (y || z))
-    regrouped true y z = refl
-    regrouped false true z = refl
-    regrouped false false z = refl
-
     by_case : (t : Bool) → list_any (λ f. same_atom f a) found ≡ t
         → ((longer : List Atom) → list_any (same_atom b) (fold with_atom longer list) ≡ (list_any (same_atom b) longer || list_any (same_atom b) list))
         → list_any (same_atom b) (fold with_atom (with_atom found a) list) ≡ (list_any (same_atom b) found || (same_atom b a || list_any (same_atom b) list))
@@ -85,16 +76,6 @@ kept_by : (p : Atom → Bool) (b : Atom) (list : List Atom) → list_any (same_a
 kept_by p b [] = sym (and_false (p b))
 kept_by p b (a ∷ list) = by_case (p a) refl (kept_by p b list)
   where
-    passing : (x y z : Bool) → (y ≡ true → x ≡ true) → (y || (x && z)) ≡ (x && (y || z))
-    passing true y z more = refl
-    passing false true z more = absurd (let never = more refl in cc)
-    passing false false z more = refl
-
-    failing : (x y z : Bool) → (y ≡ true → x ≡ false) → (x && z) ≡ (x && (y || z))
-    failing true true z more = absurd (let never = more refl in cc)
-    failing true false z more = refl
-    failing false y z more = refl
-
     by_case : (t : Bool) → p a ≡ t → list_any (same_atom b) (filter p list) ≡ (p b && list_any (same_atom b) list)
         → list_any (same_atom b) (filter p (a ∷ list)) ≡ (p b && (same_atom b a || list_any (same_atom b) list))
     by_case true t more =

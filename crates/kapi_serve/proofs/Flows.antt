@@ -1,6 +1,6 @@
 -- What was read, accepted, fed and answered, where lists are joined.
 use Rattle.std.proofs.Common.{◌≡◌, ℕ, ◌==◌, Bool, true, false, ◌||◌, if◌then◌else◌, List, [], ◌∷◌, ◌++◌, refl, sym, ap, ◌∙◌, append_assoc}
-use Rattle.std.proofs.lemmas.Bool.{eq-eqb, eqb-false, ne_eqb}
+use Rattle.std.proofs.lemmas.Bool.{eq-eqb, eqb-false, ne_eqb, or_parts}
 use Rattle.kapi_core.specs.declared.event.Answer.{Answer}
 use Rattle.kapi_core.specs.declared.event.Answer.TheVariants as answer
 use Rattle.kapi_core.specs.declared.event.ConnId.{ConnId}
@@ -152,16 +152,11 @@ answered_more c [] ns = refl
 answered_more c (m ∷ ms) ns =
     ap (λ r. answered_by c m.event m.answer ++ r) (answered_more c ms ns) ∙ sym (append_assoc (answered_by c m.event m.answer) (answered_to c ms) (answered_to c ns))
 
--- neither of two holds
-neither : (a b : Bool) → (a || b) ≡ false → b ≡ false
-neither true b h = absurd (cc)
-neither false b h = h
-
 -- what is not closed is not closed later
 pub closes_later : (c : ConnId) (ms ns : List Made) → closes c (ms ++ ns) ≡ false → closes c ns ≡ false
 unfolding closes
 closes_later c [] ns h = h
-closes_later c (m ∷ ms) ns h = closes_later c ms ns (neither (is_close_of c m.event) (closes c (ms ++ ns)) h)
+closes_later c (m ∷ ms) ns h = closes_later c ms ns (or_parts (is_close_of c m.event) (closes c (ms ++ ns)) h).1
 
 -- one of two still holds
 either_still : (a b c : Bool) → (a || b) ≡ true → (b ≡ true → c ≡ true) → (a || c) ≡ true

@@ -1,12 +1,12 @@
 -- What is kept of clients suits their connections over all that a server does.
 use Rattle.std.proofs.Common.{◌≡◌, ℕ, ◌+◌, ◌<◌, ◌≤◌, suc, Bool, true, false, if◌then◌else◌, List, [], ◌∷◌, ◌++◌, length, drop, get_or, set, Option, Some, None, Result, Ok, Err, inl, inr, refl, sym, ap, ◌∙◌, subst, arith}
 use Rattle.std.specs.Prelude.{◌⊎◌, OnOk, is_err}
-use Rattle.std.specs.List.{AllByRecursion, remove}
+use Rattle.std.specs.List.{AllByRecursion, HoldsAt, remove}
 use Rattle.std.specs.Map.{lookup}
 use Rattle.std.specs.BTreeMap.{is_at}
 use Rattle.std.specs.Ordering.{nat_cmp}
 use Rattle.std.proofs.lemmas.Bool.{cases_eq, cases_lt, true≢false}
-use Rattle.std.proofs.lemmas.List.{drop_all, get_or_default}
+use Rattle.std.proofs.lemmas.List.{drop_all, get_or_default, get_or-set_other, get_or-set_same}
 use Rattle.kapi_aggregation.specs.Members.{Has}
 use Rattle.kapi_core.proofs.Effects.{number_of}
 use Rattle.kapi_core.specs.Machine.{Link, Machine, link_at, step}
@@ -34,7 +34,7 @@ use Rattle.kapi_serve.specs.Ports.{Report}
 use Rattle.kapi_serve.specs.Private.Moments.{Ends}
 use Rattle.kapi_serve.specs.Private.Pieces.{IsCounted, IsSent, joined, owed}
 use Rattle.kapi_serve.specs.Private.Progresses.{both}
-use Rattle.kapi_serve.specs.Private.Stands.{AllSuit, AreDue, Finishes, GoesOn, HasNoRequest, IsAwakeOrQuiet, IsNew, IsNumbered, IsQuiet, IsServed, Keeps, PassesBy, Rise, Stays, Suits, Tends, Waits}
+use Rattle.kapi_serve.specs.Private.Stands.{AllSuit, AreDue, AreRoused, Finishes, GoesOn, HasNoRequest, IsAwakeOrQuiet, IsNew, IsNumbered, IsQuiet, IsRoused, IsServed, Keeps, PassesBy, Rise, Stays, Suits, Tends, Waits}
 use Rattle.kapi_serve.specs.Rests.{AreAtRest, Rests}
 use Rattle.kapi_serve.proofs.Connections.{answered_nothing, answered_same, closed_gone, goes_both, goes_event, goes_none, gone_request, opened_request, pumped_request, request_answered, served_gone, shown_gone, stays_both, stays_none, turn_stays, unfed_stays, unserved_stays}
 use Rattle.kapi_serve.proofs.Numbers.{opened_next}
@@ -97,6 +97,12 @@ keeps_pending c p counted = record { id = refl; phase = refl; fed = refl; watchi
 
 pub keeps_blocked : (c : Client) → Keeps c (record c { blocked = true })
 keeps_blocked c = record { id = refl; phase = refl; fed = refl; watching = refl; counted = λ h. h }
+
+pub keeps_shown : (c : Client) (b : Bool) → Keeps c (record c { shown = b })
+keeps_shown c b = record { id = refl; phase = refl; fed = refl; watching = refl; counted = λ h. h }
+
+pub waits_shown : (c : Client) (b : Bool) → Waits c (record c { shown = b })
+waits_shown c b = record { seat = refl; phase = refl; blocked = refl; count = refl }
 
 pub waits_pending : (c : Client) (p : Pending) → owed p ≡ owed c.pending → p.count ≡ c.pending.count → Waits c (record c { pending = p })
 waits_pending c p same count = record { seat = ap (λ o. record { slot = c.slot; conn = c.id; owed = o }) same; phase = refl; blocked = refl; count = count }
@@ -404,8 +410,43 @@ awake_more aw bw cs more all = each_to (λ c. IsAwakeOrQuiet aw c) (λ c. IsAwak
     by_case c (inr quiet) = inr quiet
 
 -- more connections are awake
+pub stands_awake : (m : Machine) (cs : List Client) (aw bw : List ℕ) → ((k : ℕ) → Has aw k → Has bw k) → AllSuit m cs aw → AllSuit m cs bw
+stands_awake m cs aw bw more s = record { numbered = s.numbered; suit = s.suit; rise = s.rise; asleep = awake_more aw bw cs more s.asleep }
+
+-- the machine stays as it is, and what is kept suits it still
+pub on_each : (a : Running) (cs ds : List Client) (aw bw : List ℕ) → ((m : Machine) → AllSuit m cs aw → AllSuit m ds bw) → SuitOn a a cs aw ds bw
+on_each a cs ds aw bw each = λ m r s. (m, r, each m s)
+
 pub on_woken : (a : Running) (cs : List Client) (aw bw : List ℕ) → ((k : ℕ) → Has aw k → Has bw k) → SuitOn a a cs aw cs bw
-on_woken a cs aw bw more = λ m r s. (m, r, record { numbered = s.numbered; suit = s.suit; rise = s.rise; asleep = awake_more aw bw cs more s.asleep })
+on_woken a cs aw bw more = on_each a cs cs aw bw (λ m s. stands_awake m cs aw bw more s)
+
+-- a client that is awake may have to be shown something
+pub stands_roused : (m : Machine) (cs : List Client) (aw bw : List ℕ) (i : ℕ) (c : Client) → i < length cs → c ≡ get_or cs i c → Has bw (get_or cs i c).id.0 → ((k : ℕ) → Has aw k → Has bw k) → AllSuit m cs aw
+    → AllSuit m (set cs i (record c { shown = false })) bw
+stands_roused m cs aw bw i c below is awake more s =
+    let e : Client = record c { shown = false } in
+    let own : Suits m c = subst (λ x. Suits m x) (sym is) (each_at (λ x. Suits m x) cs i c s.suit below) in
+    record {
+      numbered = s.numbered;
+      suit = each_put (λ x. Suits m x) cs i e s.suit (suits_kept m c e (keeps_shown c false) own);
+      rise = rise_set cs i c e s.rise below (ap (λ x. x.id) is);
+      asleep = each_put (λ x. IsAwakeOrQuiet bw x) cs i e (awake_more aw bw cs more s.asleep) (inl (subst (λ x. Has bw x.id.0) (sym is) awake));
+    }
+
+-- one client more may have something to show
+roused_next : (cs : List Client) (n : ℕ) → HoldsAt IsRoused cs n → AreRoused n cs → AreRoused (suc n) cs
+roused_next cs n here before i below = by_place (cases_lt i n)
+  where
+    by_place : (i < n) ⊎ (n ≤ i) → HoldsAt IsRoused cs i
+    by_place (inl under) = before i under
+    by_place (inr past) = let same : n ≡ i = omega (arith, below, past) in subst (λ k. HoldsAt IsRoused cs k) same here
+
+pub roused_kept : (cs : List Client) (n : ℕ) (c : Client) → n < length cs → c ≡ get_or cs n c → c.watching ≡ false → AreRoused n cs → AreRoused (suc n) cs
+roused_kept cs n c below is unwatched = roused_next cs n (λ d. subst (λ x. IsRoused x) (is ∙ get_or_default cs n c d below) (λ watching. absurd (true≢false (sym watching ∙ unwatched))))
+
+pub roused_set : (cs : List Client) (n : ℕ) (e : Client) → n < length cs → e.shown ≡ false → AreRoused n cs → AreRoused (suc n) (set cs n e)
+roused_set cs n e below unshown before = roused_next (set cs n e) n (λ d. subst (λ x. IsRoused x) (sym (get_or-set_same cs n e d below)) (λ watching. unshown))
+    (λ i under d. subst (λ x. IsRoused x) (sym (get_or-set_other cs n i e d (λ same. absurd (omega (arith, under, same))))) (before i under d))
 
 -- one client is changed, which is awake
 pub stands_set : (m n : Machine) (cs : List Client) (aw bw : List ℕ) (i : ℕ) (d e : Client) → AllSuit m cs aw → i < length cs → GoesOn (get_or cs i d).id.0 m n → e.id ≡ (get_or cs i d).id → Suits n e
@@ -498,7 +539,7 @@ stands_free m cs aw i c below is s =
   where
     by_case : IsAwakeOrQuiet aw c → IsAwakeOrQuiet aw (record c { blocked = false })
     by_case (inl has) = inl has
-    by_case (inr quiet) = inr (record { phase = quiet.phase; fed = quiet.fed; watching = quiet.watching; owed = quiet.owed })
+    by_case (inr quiet) = inr (record { phase = quiet.phase; fed = quiet.fed; shown = quiet.shown; owed = quiet.owed })
 
 -- a client's bytes have ended
 pub stands_ended : (m : Machine) (cs : List Client) (aw : List ℕ) (i : ℕ) (c : Client) → i < length cs → c ≡ get_or cs i c → Has aw (get_or cs i c).id.0 → AllSuit m cs aw

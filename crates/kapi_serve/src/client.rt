@@ -51,17 +51,26 @@ pub struct Client {
     pub(crate) fed: bool,
     /// A watch of the connection runs.
     pub(crate) watching: bool,
+    /// The watch has shown all that is due to it, unless the objects of the machine have changed since.
+    pub(crate) shown: bool,
     /// The slot takes no bytes until it reports that it does.
     pub(crate) blocked: bool,
     pub(crate) pending: Pending,
 }
 
 impl Client {
-    /// Whether nothing can be done before the slot reports something.
+    /// Whether nothing can be done before the slot reports something, or the objects of the machine change.
     pub(crate) fn is_quiet(&self) -> bool
         ensures { result ≡ true → IsQuiet self.now }
     {
-        self.phase == Phase::Open && !self.fed && !self.watching && self.pending.is_empty()
+        self.phase == Phase::Open && !self.fed && self.has_shown() && self.pending.is_empty()
+    }
+
+    /// Whether nothing is due to a watch of the connection, if it has one.
+    fn has_shown(&self) -> bool
+        ensures { result ≡ true → self.now.watching ≡ true → self.now.shown ≡ true }
+    {
+        if self.watching { self.shown } else { true }
     }
 
     /// Writes pending bytes until the slot takes no more.
@@ -159,6 +168,7 @@ impl Client {
         match core.serve(self.id) {
             Ok(Some(output)) => {
                 self.watching = core.is_watching(self.id);
+                self.shown = false;
                 self.send(rt, desk, publishing, output);
                 Progress::Made
             }
@@ -195,10 +205,14 @@ impl Client {
             Ok(Some(output)) => {
                 self.fed = true;
                 self.watching = core.is_watching(self.id);
+                self.shown = false;
                 self.send(rt, desk, publishing, output);
                 Progress::Made
             }
-            Ok(None) => Progress::Still,
+            Ok(None) => {
+                self.shown = true;
+                Progress::Still
+            }
             Err(_refused) => Progress::Starved,
         }
     }

@@ -1,10 +1,10 @@
-ghost use Rattle.std.specs.Prelude.{◌≡◌, ◌<◌, ◌+◌, [], ◌∷◌, ◌++◌, drop, None, IfSome, OnOk, ◌==◌, length, map, suc, vec_len, vec_capacity};
+ghost use Rattle.std.specs.Prelude.{◌≡◌, ◌⊎◌, ◌<◌, ◌+◌, [], ◌∷◌, ◌++◌, drop, true, None, IfSome, OnOk, ◌==◌, length, map, suc, vec_len, vec_capacity};
 ghost use Rattle.std.specs.List.{HoldsAt, position};
 ghost use Rattle.kapi_core.specs.Machine.{Machine};
 ghost use Rattle.kapi_serve.specs.Acts.{IsFree};
 ghost use Rattle.kapi_serve.specs.Private.Clients.{freed, freed_on, others, seats_of};
 ghost use Rattle.kapi_serve.specs.Private.Moments.{Ends, FeedsOrEnds, Moves, MovesAfter, unasked};
-ghost use Rattle.kapi_serve.specs.Private.Stands.{IsAwakeAt, IsNew, IsNumbered, IsOf, IsOfNone, Rise, Stands, StandsOn};
+ghost use Rattle.kapi_serve.specs.Private.Stands.{AreRoused, IsAwakeAt, IsNew, IsNumbered, IsOf, IsOfNone, Rise, Stands, StandsOn};
 ghost use Rattle.kapi_serve.specs.declared.client.Client.{Client as AClient};
 ghost use Rattle.kapi_serve.specs.declared.client.Phase.TheVariants as phase;
 ghost use Rattle.kapi_serve.specs.declared.port.Entry.TheVariants as entry;
@@ -24,8 +24,10 @@ use std::alloc::Global;
 pub(crate) struct Clients {
     alloc: Global,
     pub(crate) list: Vec<Client>,
-    /// The connections at which something may be done before their slots report anything.
+    /// The connections at which something may be done before their slots report anything, or the objects change.
     pub(crate) awake: Awake,
+    /// The revision of the objects when the connections with a watch were last woken.
+    woken: u64,
 }
 
 /// The result of a read.
@@ -46,6 +48,7 @@ impl Clients {
             alloc,
             list: Vec::new(alloc),
             awake: Awake::new(alloc),
+            woken: 0,
         }
     }
 
@@ -121,6 +124,7 @@ impl Clients {
             phase: Phase::Open,
             fed: false,
             watching: false,
+            shown: false,
             blocked: false,
             pending: Pending::new(self.alloc),
         });
@@ -191,6 +195,46 @@ impl Clients {
         for index in 0..self.list.len() {
             self.list[index].blocked = false;
         }
+    }
+
+    /// Wakes each connection with a watch, where the objects have changed since that was last done. What memory does not
+    /// suffice for is done the next time.
+    pub(crate) fn wake(&mut self, revision: u64)
+        ensures seats { seats_of self.new.list.items ≡ seats_of self.old.list.items }
+        ensures stands { (m : Machine) → Stands m self.old → Stands m self.new }
+        ensures woken { (self.new.woken ≡ self.old.woken) ⊎ AreRoused (length self.new.list.items) self.new.list.items }
+    {
+        if revision == self.woken {
+            return;
+        }
+        let (mut all, count) = (true, self.list.len());
+        for index in 0..count {
+            if !self.rouse(index) {
+                all = false;
+            }
+        }
+        if all {
+            self.woken = revision;
+        }
+    }
+
+    /// Wakes a connection, if it has a watch. False where memory does not suffice.
+    fn rouse(&mut self, index: usize) -> bool
+        requires { index < length self.old.list.items }
+        ensures seats { seats_of self.new.list.items ≡ seats_of self.old.list.items }
+        ensures count { length self.new.list.items ≡ length self.old.list.items }
+        ensures stands { (m : Machine) → Stands m self.old → Stands m self.new }
+        ensures woken { self.new.woken ≡ self.old.woken }
+        ensures roused { result ≡ true → AreRoused index self.old.list.items → AreRoused (suc index) self.new.list.items }
+    {
+        if !self.list[index].watching {
+            return true;
+        }
+        if self.awake.add(self.list[index].id).is_err() {
+            return false;
+        }
+        self.list[index].shown = false;
+        true
     }
 
     /// Reads a piece from a slot and feeds it. A connection that cannot be noted as awake is closed.

@@ -149,6 +149,7 @@ impl Server {
         ensures settles { Settles core.old core.new self.old.clients self.new.clients (result ≡ progress.Still) }
     {
         let mut progress = self.publishing.make_turns(rt, core, desk);
+        self.clients.wake(core.revision());
         let mut position = 0;
         while position < self.clients.awake.len() {
             let visited = self.visit(rt, core, desk, ports, position);

@@ -206,6 +206,16 @@ impl<C: Clock + Drop> Sockets<C> {
         }
     }
 
+    /// Whether a stream has an event for its next turn, or a client may wait to be accepted.
+    fn is_some_ready(&self) -> bool {
+        self.listeners.iter().any(|listener| listener.waiting)
+            || self
+                .streams
+                .iter()
+                .flatten()
+                .any(|stream| stream.is_ready())
+    }
+
     /// Begins a round, after so many milliseconds at most. None where the wait fails.
     fn begin_round(&mut self, most: u64) -> Option<()>
         ensures doors { doors self.new.listeners.items ≡ doors self.old.listeners.items }
@@ -283,9 +293,11 @@ impl<C: Clock + Drop> Ports for Sockets<C> {
         if let Some(event) = self.go_on() {
             return Some(event);
         }
-        self.begin_round(0)?;
-        if let Some(event) = self.go_on() {
-            return Some(event);
+        if self.is_some_ready() {
+            self.begin_round(0)?;
+            if let Some(event) = self.go_on() {
+                return Some(event);
+            }
         }
         self.begin_round(WAIT)?;
         Some(self.go_on().unwrap_or(PortEvent::Idle))

@@ -25,6 +25,10 @@ pub(crate) struct Stream {
     socket: TcpStream,
     /// The socket may have bytes, or their end.
     readable: bool,
+    /// The bytes have ended, or the socket has failed, so that a read tells of it.
+    ended: bool,
+    /// All bytes that came were read; an event tells of more.
+    drained: bool,
     /// The socket may take bytes again.
     writable: bool,
     read_left: usize,
@@ -39,6 +43,8 @@ impl Stream {
         Stream {
             socket,
             readable: false,
+            ended: false,
+            drained: false,
             writable: false,
             read_left: READ_SHARE,
             write_left: WRITE_SHARE,
@@ -54,6 +60,9 @@ impl Stream {
     {
         if event.is_writable() && self.blocked_since.is_some() {
             self.writable = true;
+        }
+        if event.is_read_closed() || event.is_error() {
+            self.ended = true;
         }
         if event.is_readable() || event.is_read_closed() || event.is_error() {
             self.readable = true;
@@ -71,13 +80,22 @@ impl Stream {
         }
         if self.readable {
             self.readable = false;
+            self.drained = false;
             self.read_left = READ_SHARE;
             return Some(PortEvent::Readable(slot));
         }
         None
     }
 
-    /// Reads within the share. When it is used up, or writes wait for their turn, reading goes on at the next turn.
+    /// Whether the stream has an event for its next turn.
+    pub(crate) fn is_ready(&self) -> bool
+        ensures { result ≡ (self.now.writable || self.now.readable) }
+    {
+        self.writable || self.readable
+    }
+
+    /// Reads within the share. When it is used up, or writes wait for their turn, reading goes on at the next turn. A
+    /// read that is given less than it asks for has emptied the socket, and the next one need not ask.
     pub(crate) fn read(&mut self, buffer: &mut [u8]) -> io::Result<usize>
         ensures len { length buffer.new ≡ length buffer.old }
         ensures bound { IfOk result (λ n. n ≤ length buffer.new) }
@@ -89,7 +107,11 @@ impl Stream {
             self.readable = true;
             return Err(io::Error::from(ErrorKind::WouldBlock));
         }
+        if self.drained {
+            return Err(io::Error::from(ErrorKind::WouldBlock));
+        }
         let count = self.socket.read(&mut buffer[..most])?;
+        self.drained = count < most && !self.ended;
         self.read_left -= count;
         Ok(count)
     }

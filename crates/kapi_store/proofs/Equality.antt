@@ -1,9 +1,10 @@
 -- The test of equality decides equality, where there is no float.
-use Rattle.std.proofs.Common.{◌≡◌, Bool, true, false, ◌&&◌, ◌||◌, refl, sym, ap, ◌∙◌}
+use Rattle.std.proofs.Common.{◌≡◌, true, false, ◌&&◌, refl, sym, ap, ◌∙◌}
 use Rattle.std.specs.Bool.{Decides}
 use Rattle.std.specs.Cmp.{first_so, second_so, booleans_Decides, signed_Decides, unsigned_Decides}
 use Rattle.std.specs.Str.{bytes_eq}
 use Rattle.std.proofs.lemmas.Slice.Eq.{bytes_eq-Decides}
+use Rattle.std.proofs.lemmas.Bool.{or_parts, and_from}
 use Rattle.serde_json.specs.Data.{Num, unsigned, negative, float, Data, null, boolean, number, string, array, object, Items, no_items, item, Members, no_members, member}
 use Rattle.serde_json.specs.Find.{is_float}
 use Rattle.serde_json.specs.Written.{has_float, items_have_float, members_have_float}
@@ -76,14 +77,6 @@ mutual
       ∙ ap (λ t. member l t ms) (tree_equal d e (first_so (same_tree d e) (same_members ms ns) rest))
       ∙ ap (member l e) (members_equal ms ns (second_so (same_tree d e) (same_members ms ns) rest))
 
--- of two tests that are false together, each is false
-neither : (a b : Bool) → (a || b) ≡ false → (a ≡ false) × (b ≡ false)
-neither true b h = (h, absurd (cc h))
-neither false b h = (refl, h)
-
-both : (a b : Bool) → a ≡ true → b ≡ true → (a && b) ≡ true
-both a b h k = rw (h, k) refl
-
 number_same : (n : Num) → is_float n ≡ false → same_number n n ≡ true
 number_same (unsigned x) h = (unsigned_Decides x x).1 refl
 number_same (negative x) h = (signed_Decides x x).1 refl
@@ -101,15 +94,15 @@ mutual
   items_same : (ds : Items) → items_have_float ds ≡ false → same_items ds ds ≡ true
   items_same no_items h = refl
   items_same (item d ds) h =
-      let parts = neither (has_float d) (items_have_float ds) h in
-      both (same_tree d d) (same_items ds ds) (tree_same d parts.0) (items_same ds parts.1)
+      let parts = or_parts (has_float d) (items_have_float ds) h in
+      and_from (same_tree d d) (same_items ds ds) (tree_same d parts.0) (items_same ds parts.1)
 
   members_same : (ms : Members) → members_have_float ms ≡ false → same_members ms ms ≡ true
   members_same no_members h = refl
   members_same (member k d ms) h =
-      let parts = neither (has_float d) (members_have_float ms) h in
-      both (bytes_eq k k) (same_tree d d && same_members ms ms) ((bytes_eq-Decides k k).1 refl)
-      (both (same_tree d d) (same_members ms ms) (tree_same d parts.0) (members_same ms parts.1))
+      let parts = or_parts (has_float d) (members_have_float ms) h in
+      and_from (bytes_eq k k) (same_tree d d && same_members ms ms) ((bytes_eq-Decides k k).1 refl)
+      (and_from (same_tree d d) (same_members ms ms) (tree_same d parts.0) (members_same ms parts.1))
 
 -- the test of a tree without a float against another decides whether they are equal
 pub same_decides : (a b : Data) → has_float a ≡ false → Decides (same_tree a b) (a ≡ b)

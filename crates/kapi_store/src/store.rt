@@ -78,12 +78,13 @@ impl Store {
     ghost use Rattle.kapi_store.specs.Stamps.{with_stamps_of as with_stamps};
     ghost use Rattle.kapi_store.specs.Plain.{Plain, PlainChange, RefinesPlain, plain_of, plain_change, has_object as has_object_at, has_namespace as has_namespace_of, free_place, revisions_left, creation, creation_in_place, replacement, replacement_in_place, removal, opened, written, trees};
     ghost use Rattle.kapi_store.specs.Plain.{changes_after as changes_after_in, replaceable as replaceable_at, holds_objects as holds_objects_in, is_full_namespace, removable, replaced, window_start as window_start_of};
+    ghost use Rattle.kapi_store.specs.Limits.{last_revision, window_limit};
     ghost use Rattle.kapi_store.specs.Listing.{listed_objects, listed_trees, shown};
 
     /// A store with no object and no change, whose counter starts at `first`; it has the memory for all changes that
     /// it will keep.
     pub fn new(alloc: Global, table: Sequence<ResourceRow>, first: u64) -> Result<Store, Memory>
-        requires { first ≤ LAST_REVISION }
+        requires { first ≤ last_revision }
         ensures table { IfOk result (λ s. s.table ≡ table) }
         ensures objects { IfOk result (λ s. objects_of s ≡ []) }
         ensures first { IfOk result (λ s. s.first ≡ first) }
@@ -164,7 +165,7 @@ impl Store {
     /// The changes after a revision, the oldest first; none where some of them may be kept no longer: where the
     /// revision is below the first one, or below the current one less `WINDOW`. Allocates nothing.
     pub fn changes_after(&self, revision: u64) -> Result<Changes<'_>, TooOld>
-        ensures too_old { IsErr result ↔ (revision < max (self.now.revision - WINDOW) self.now.first) }
+        ensures too_old { IsErr result ↔ (revision < max (self.now.revision - window_limit) self.now.first) }
         ensures changes { IfOk result (λ c. changes_of c ≡ filter (λ d. nat_lt revision d.revision) self.now.window) }
         ensures all { (history : List PlainChange) (p : Plain) → RefinesPlain self.now history p
             → Gives (λ _. Some tt) (λ c. map plain_change (changes_of c)) result (changes_after_in history p revision) }
@@ -216,7 +217,7 @@ impl Store {
     #[tactic(auto, unfolding(crate::specs::Plain::revisions_left))]
     pub fn check_revisions(&self, count: u64) -> Result<(), StoreError>
         ensures gives { Gives fault_of (λ u. u) result (revisions_left (plain_of self.now) count) }
-        ensures left { OnOk result (self.now.revision + count ≤ LAST_REVISION) }
+        ensures left { OnOk result (self.now.revision + count ≤ last_revision) }
     {
         if count > LAST_REVISION - self.revision {
             return Err(StoreError::RevisionsUsedUp);

@@ -1,2 +1,3 @@
+pub mod Booleans
 pub mod Prefixes
 pub mod Numbers

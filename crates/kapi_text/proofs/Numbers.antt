@@ -1,5 +1,5 @@
 -- A number, digit by digit.
-use Rattle.std.proofs.Common.{◌≡◌, ℕ, ◌+◌, ◌-◌, ◌*◌, ◌^◌, ◌<◌, ◌≤◌, Bool, true, false, ◌&&◌, List, length, take, drop, get_or, arith, refl, drop-cons, subst, add-one, lit<, nat_le}
+use Rattle.std.proofs.Common.{◌≡◌, ℕ, ◌+◌, ◌-◌, ◌*◌, ◌^◌, ◌<◌, ◌≤◌, true, List, length, take, drop, get_or, arith, drop-cons, subst, add-one, lit<, nat_le}
 use Rattle.std.specs.List.{list_all}
 use Rattle.std.specs.Char.{is_ascii_digit}
 use Rattle.std.specs.Int.{IsInRange}
@@ -9,17 +9,13 @@ use Rattle.std.proofs.lemmas.Nat.{pow-add}
 use Rattle.std.proofs.lemmas.Int.Digits.{digits_value_more}
 use Rattle.std.proofs.lemmas.Str.{digit_value_digit}
 use Rattle.std.proofs.lemmas.Bool.Decides.{nat_tests}
-
--- the tests of a chain
-pub both : (a b : Bool) → (a && b) ≡ true → (a ≡ true) × (b ≡ true)
-both true b h = (refl, h)
-both false b h = absurd (cc h)
+use Rattle.std.proofs.lemmas.Bool.{and_parts}
 
 -- the first digit of the rest, and the digits behind it
 pub parted : (value : List ℕ) (i : ℕ) → i < length value → list_all is_ascii_digit (drop i value) ≡ true
     → (is_ascii_digit (get_or value i 0) ≡ true) × (list_all is_ascii_digit (drop (i + 1) value) ≡ true)
 parted value i below h =
-    both (is_ascii_digit (get_or value i 0)) (list_all is_ascii_digit (drop (i + 1) value))
+    and_parts (is_ascii_digit (get_or value i 0)) (list_all is_ascii_digit (drop (i + 1) value))
     (rw add-one (subst (λ xs. list_all is_ascii_digit xs ≡ true) (drop-cons value i 0 below) h))
 
 pub room : (i n : ℕ) → i < 18 → n < 10 ^ i → n * 10 + 9 < 18446744073709551616
@@ -27,7 +23,7 @@ room i n below small = let low : i ≤ 17 = omega (arith, below) in let most : 1
 
 -- a digit is from 48 to 57
 pub in_range : (b : ℕ) → is_ascii_digit b ≡ true → IsInRange 48 57 b
-in_range b h = let k = both (nat_le 48 b) (nat_le b 57) h in (grind (arith, nat_tests, k.0), grind (arith, nat_tests, k.1))
+in_range b h = let k = and_parts (nat_le 48 b) (nat_le b 57) h in (grind (arith, nat_tests, k.0), grind (arith, nat_tests, k.1))
 
 -- one digit more
 pub digit_more : (value : List ℕ) (i n r : ℕ) → i < length value → list_all is_ascii_digit (drop i value) ≡ true

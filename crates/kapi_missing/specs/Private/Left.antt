@@ -43,7 +43,7 @@ left_one_name parts verb group resource i name = left_name parts verb group reso
 abbrev pub left_verb : List Marks → PolicyRule → List ℕ → List ℕ → List ℕ → List Atom
 left_verb parts rule group resource verb = each (left_name parts verb group resource) 0 (names_of rule.resource_names)
 
--- the same of the parts that have the verb at that position
+-- the atoms of one verb on one resource of one group, of the parts that have the verb at that position
 abbrev pub near_verb : List Marks → PolicyRule → List ℕ → List ℕ → ℕ → List ℕ → List Atom
 near_verb parts rule group resource i verb = left_verb (filter (marked level.Verbs i) parts) rule group resource verb
 
@@ -51,7 +51,7 @@ near_verb parts rule group resource i verb = left_verb (filter (marked level.Ver
 abbrev pub left_resource : List Marks → PolicyRule → List ℕ → List ℕ → List Atom
 left_resource parts rule group resource = each (near_verb parts rule group resource) 0 rule.verbs
 
--- the same of the parts that have the resource at that position
+-- the atoms of one resource of one group, of the parts that have the resource at that position
 abbrev pub near_resource : List Marks → PolicyRule → List ℕ → ℕ → List ℕ → List Atom
 near_resource parts rule group i resource = left_resource (filter (marked level.Resources i) parts) rule group resource
 
@@ -59,7 +59,7 @@ near_resource parts rule group i resource = left_resource (filter (marked level.
 abbrev pub left_group : List Marks → PolicyRule → List ℕ → List Atom
 left_group parts rule group = each (near_resource parts rule group) 0 rule.resources
 
--- the same of the parts that have the group at that position
+-- the atoms of one group, of the parts that have the group at that position
 abbrev pub near_group : List Marks → PolicyRule → ℕ → List ℕ → List Atom
 near_group parts rule i group = left_group (filter (marked level.Groups i) parts) rule group
 
@@ -79,7 +79,7 @@ left_url_verb parts url i verb = if list_any (url_marked i) parts then url_atom 
 abbrev pub left_url : List Marks → PolicyRule → List ℕ → List Atom
 left_url parts rule url = each (left_url_verb parts url) 0 rule.verbs
 
--- the same of the parts that have the URL at that position
+-- the atoms of one URL, of the parts that have the URL at that position
 abbrev pub near_url : List Marks → PolicyRule → ℕ → List ℕ → List Atom
 near_url parts rule i url = left_url (filter (marked level.Groups i) parts) rule url
 

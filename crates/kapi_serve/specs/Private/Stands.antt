@@ -82,12 +82,20 @@ IsServed c = c.pending.count < 1048576 → (c.fed ≡ false) ⊎ (c.phase ≡ ph
 
 -- ---- all clients
 
--- nothing can be done at a client before its slot reports something
+-- nothing can be done at a client before its slot reports something, or the objects of the machine change
 pub record IsQuiet (c : Client) : Type 0 where
   pub phase : c.phase ≡ phase.Open
   pub fed : c.fed ≡ false
-  pub watching : c.watching ≡ false
+  pub shown : c.watching ≡ true → c.shown ≡ true
   pub owed : owed c.pending ≡ []
+
+-- a watch of the client, if it has one, may have something to show
+abbrev pub IsRoused : Client → Type 0
+IsRoused c = c.watching ≡ true → c.shown ≡ false
+
+-- this holds of the clients before a place
+abbrev pub AreRoused : ℕ → List Client → Type 0
+AreRoused place cs = (i : ℕ) → i < place → HoldsAt IsRoused cs i
 
 -- a client that has just connected
 pub record IsNew (c : Client) : Type 0 where
@@ -110,7 +118,7 @@ pub record AllSuit (m : Machine) (cs : List Client) (awake : List ℕ) : Type 0 
   pub rise : Rise cs
   pub asleep : AllByRecursion (λ c. IsAwakeOrQuiet awake c) cs
 
--- the same of the clients that are served
+-- what is kept of the clients that are served suits their connections
 abbrev pub Stands : Machine → Clients → Type 0
 Stands m cs = AllSuit m cs.list.items cs.awake.numbers.items
 

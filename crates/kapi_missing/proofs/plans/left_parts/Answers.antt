@@ -1,5 +1,5 @@
 use Rattle.std.proofs.Common.{refl, ◌∙◌}
-use Rattle.kapi_rules.proofs.Covers.{or_false}
+use Rattle.kapi_text.proofs.Booleans.{or_false}
 use Rattle.kapi_missing.proofs.Both.{both_left}
 use Rattle.kapi_missing.specs.Private.Marks.{has}
 use Rattle.kapi_missing.proofs.plans.left_parts.Goals as goal

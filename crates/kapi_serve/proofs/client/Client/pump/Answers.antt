@@ -1,7 +1,7 @@
 use Rattle.kapi_core.specs.declared.event.Event.TheVariants as event
-use Rattle.std.proofs.Common.{◌++◌, ◌∷◌, refl, sym, ap, ◌∙◌}
+use Rattle.std.proofs.Common.{◌++◌, ◌∷◌, true, refl, sym, ap, ◌∙◌}
 use Rattle.kapi_serve.specs.Private.Clients.{seat_of}
-use Rattle.kapi_serve.proofs.Tending.{keeps_nothing, tends_nothing, tends_out, tends_shown, tends_unshown, waits_nothing}
+use Rattle.kapi_serve.proofs.Tending.{keeps_nothing, keeps_on, keeps_shown, tends_nothing, tends_on, tends_out, tends_shown, tends_unshown, waits_nothing, waits_on, waits_shown}
 use Rattle.kapi_serve.proofs.Going.{adds_nothing, goes_nothing, goes_out, goes_shown, goes_still, goes_unshown}
 use Rattle.kapi_serve.proofs.client.Client.pump.Goals as goal
 
@@ -48,7 +48,8 @@ returns-in-Ok-Some-clause-tends g c =
 
 pub returns-in-Ok-None-clause-tends : goal.returns-in-Ok-None-clause-tends
 returns-in-Ok-None-clause-tends g c =
-    tends_unshown _ _ _ _ c.in-Ok-None.field-0 c.is_ready.ensures.keeps c.in-Ok-None.ensures (cc) (λ closed. c.is_open.ensures.going c.if-not-is_open.false (sym c.is_ready.ensures.waits.phase ∙ closed))
+    tends_on _ _ _ _ _ _ (tends_unshown _ _ _ _ c.in-Ok-None.field-0 c.is_ready.ensures.keeps c.in-Ok-None.ensures (cc) (λ closed. c.is_open.ensures.going c.if-not-is_open.false (sym c.is_ready.ensures.waits.phase ∙ closed)))
+    (tends_nothing _ _ _ (keeps_shown _ true))
 
 pub returns-in-Ok-None-clause-still : goal.returns-in-Ok-None-clause-still
-returns-in-Ok-None-clause-still g c = λ h. (c.is_ready.ensures.waits, c.is_ready.ensures.keeps)
+returns-in-Ok-None-clause-still g c = λ h. (waits_on _ _ _ c.is_ready.ensures.waits (waits_shown _ true), keeps_on _ _ _ c.is_ready.ensures.keeps (keeps_shown _ true))

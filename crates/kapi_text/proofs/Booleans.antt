@@ -30,6 +30,35 @@ pub and_false : (a : Bool) → (a && false) ≡ false
 and_false true = refl
 and_false false = refl
 
+-- two tests that follow from each other are the same
+pub by_truth : (a b : Bool) → (a ≡ true → b ≡ true) → (b ≡ true → a ≡ true) → a ≡ b
+by_truth true b there back = sym (there refl)
+by_truth false true there back = back refl
+by_truth false false there back = refl
+
+pub regrouped : (x y z : Bool) → ((x || (y || false)) || z) ≡ (x || (y || z))
+regrouped true y z = refl
+regrouped false true z = refl
+regrouped false false z = refl
+
+-- what implies the first of two adds nothing
+pub absorbed : (x y z : Bool) → (y ≡ true → x ≡ true) → (x || z) ≡ (x || (y || z))
+absorbed true y z more = refl
+absorbed false true z more = absurd (let never = more refl in cc)
+absorbed false false z more = refl
+
+-- what implies a factor stands before it or within it
+pub passing : (x y z : Bool) → (y ≡ true → x ≡ true) → (y || (x && z)) ≡ (x && (y || z))
+passing true y z more = refl
+passing false true z more = absurd (let never = more refl in cc)
+passing false false z more = refl
+
+-- what excludes a factor adds nothing within it
+pub failing : (x y z : Bool) → (y ≡ true → x ≡ false) → (x && z) ≡ (x && (y || z))
+failing true true z more = absurd (let never = more refl in cc)
+failing true false z more = refl
+failing false y z more = refl
+
 -- a factor that is the same at each element
 pub any_after : {X : Type 0} (c : Bool) (p : X → Bool) (xs : List X) → list_any (λ x. c && p x) xs ≡ (c && list_any p xs)
 any_after true p xs = refl

@@ -8,6 +8,7 @@ use kapi_text::Text;
 use std::alloc::{AllocError, Global};
 use std::cell::Cell;
 use std::io::{self, Read, Write};
+use std::process::Abort;
 use std::sync::Wait;
 use std::test::Fail;
 
@@ -157,6 +158,44 @@ fn questions_are_answered_by_what_is_published_then(rt: HostRuntime) -> Result<(
     Ok(())
 }
 
+fn is_text(rt: &impl Abort, text: &str, wanted: &str) {
+    assert_eq!(rt; text, wanted);
+}
+
+/// Checks what a seat reports whose desk is closed.
+fn is_busy(rt: &impl Abort, alloc: Global, seat: &mut Seat) -> Result<(), Fail> {
+    let closed = told(alloc, seat, QUESTIONS)?;
+    is_text(
+        rt,
+        closed.as_str(),
+        "error Busy\nerror Busy\nbad\nerror Busy\n",
+    );
+    Ok(())
+}
+
+/// Checks that each answer is flushed before the next question is read.
+fn is_flushed(rt: &impl Abort, alloc: Global, seat: &mut Seat) {
+    let unflushed = Cell::new(0);
+    let mut patient = Patient {
+        bytes: QUESTIONS.as_bytes(),
+        unflushed: &unflushed,
+    };
+    let mut counting = Counting {
+        unflushed: &unflushed,
+    };
+    let flushed = answer_run(alloc, seat, &mut patient, &mut counting);
+    assert!(rt; flushed.is_ok() && unflushed.get() == 0);
+}
+
+/// Checks that a client which cannot be read, or written to, is told so.
+fn is_broken(rt: &impl Abort, alloc: Global, seat: &mut Seat) {
+    let unread = answer_run(alloc, seat, &mut Broken, &mut Vec::new(alloc));
+    assert!(rt; unread == Err(AnswerFault::Read));
+    let mut reader = QUESTIONS.as_bytes();
+    let unwritten = answer_run(alloc, seat, &mut reader, &mut Broken);
+    assert!(rt; unwritten == Err(AnswerFault::Write));
+}
+
 #[test]
 fn a_client_that_breaks_is_told(rt: HostRuntime) -> Result<(), Fail> {
     let alloc = rt.alloc();
@@ -170,25 +209,8 @@ fn a_client_that_breaks_is_told(rt: HostRuntime) -> Result<(), Fail> {
     let Some(seat) = seats.get_mut(0) else {
         return Err(Fail::new("no seat"));
     };
-    let closed = told(alloc, seat, QUESTIONS)?;
-    assert_eq!(rt;
-        closed.as_str(),
-        "error Busy\nerror Busy\nbad\nerror Busy\n"
-    );
-    let unflushed = Cell::new(0);
-    let mut patient = Patient {
-        bytes: QUESTIONS.as_bytes(),
-        unflushed: &unflushed,
-    };
-    let mut counting = Counting {
-        unflushed: &unflushed,
-    };
-    let flushed = answer_run(alloc, seat, &mut patient, &mut counting);
-    assert!(rt; flushed.is_ok() && unflushed.get() == 0);
-    let unread = answer_run(alloc, seat, &mut Broken, &mut Vec::new(alloc));
-    assert_eq!(rt; unread, Err(AnswerFault::Read));
-    let mut reader = QUESTIONS.as_bytes();
-    let unwritten = answer_run(alloc, seat, &mut reader, &mut Broken);
-    assert_eq!(rt; unwritten, Err(AnswerFault::Write));
+    is_busy(&rt, alloc, seat)?;
+    is_flushed(&rt, alloc, seat);
+    is_broken(&rt, alloc, seat);
     Ok(())
 }

@@ -6,6 +6,7 @@ use kapi_core::{Answer, ConnId, Core, Event};
 use kapi_index::IndexedPolicy;
 use kapi_text::Memory;
 use std::alloc::Global;
+use std::process::Abort;
 use std::test::Fail;
 
 const MAP: &str = "/api/v1/namespaces/default/configmaps/b";
@@ -98,28 +99,82 @@ fn is_at_its_end(alloc: Global, core: &mut Core<IndexedPolicy>, conn: u64) -> Re
     Ok(event.as_slice().ends_with(ENDED))
 }
 
-/// A watch from the first revision of the window shows all its changes, one at the current revision none. One change
-/// more ends the watches that saw no change; one connection goes on with its next request, the other ends.
+fn is_so(rt: &impl Abort, so: bool, what: &str) {
+    assert!(rt; so, "{what}");
+}
+
+/// Starts a watch from the first revision of the window, beside which no request is served, and one whose connection
+/// closes after it.
+fn watches_start(
+    rt: &impl Abort,
+    alloc: Global,
+    core: &mut Core<IndexedPolicy>,
+) -> Result<(), Memory> {
+    watched(alloc, core, 1, "6")?;
+    let get = request(alloc, "GET", MAP, "")?;
+    let beside = exchange(alloc, core, 1, get.as_bytes())?;
+    is_so(rt, beside.is_empty(), "no request beside a watch");
+    let head = exchange(alloc, core, 2, CLOSING)?;
+    let closes = holds(head.as_slice(), "\r\nConnection: close\r\n\r\n");
+    is_so(rt, closes, "the connection closes");
+    Ok(())
+}
+
+/// Checks that a watch from the first revision of the window shows all its changes, one at the current revision none.
+fn window_is_shown(
+    rt: &impl Abort,
+    alloc: Global,
+    core: &mut Core<IndexedPolicy>,
+) -> Result<(), Memory> {
+    update(alloc, core, 1_024)?;
+    let wrong = first_wrong(alloc, core, STARTS)?;
+    is_so(rt, wrong.is_none(), "where watches start");
+    let all = count_modified(alloc, core, 3)?;
+    is_so(rt, all == Some(1_024), "all changes");
+    let none = count_modified(alloc, core, 4)?;
+    is_so(rt, none == Some(0), "no change");
+    Ok(())
+}
+
+/// Checks that one change more ends the watches that saw no change.
+fn watches_end(
+    rt: &impl Abort,
+    alloc: Global,
+    core: &mut Core<IndexedPolicy>,
+) -> Result<(), Memory> {
+    update(alloc, core, 1)?;
+    is_so(rt, is_at_its_end(alloc, core, 1)?, "the first ends");
+    is_so(rt, is_at_its_end(alloc, core, 2)?, "the second ends");
+    let more = sent(alloc, core, &Event::Pump(ConnId(1)))?;
+    is_so(rt, more.is_empty(), "nothing comes behind the end");
+    Ok(())
+}
+
+fn has_ended(alloc: Global, core: &mut Core<IndexedPolicy>, conn: u64) -> Result<bool, Memory> {
+    let answer = core.step(&feed(alloc, conn, b"")?)?;
+    Ok(matches!(answer, Answer::Ended))
+}
+
+/// Checks that one connection goes on with its next request, and the other has ended.
+fn one_goes_on(
+    rt: &impl Abort,
+    alloc: Global,
+    core: &mut Core<IndexedPolicy>,
+) -> Result<(), Memory> {
+    let found = sent(alloc, core, &Event::Serve(ConnId(1)))?;
+    is_so(rt, has_code(found.as_slice(), "200"), "the request behind");
+    is_so(rt, has_ended(alloc, core, 2)?, "the other has ended");
+    Ok(())
+}
+
 #[test]
 fn shows_the_whole_window_and_ends_below_it(rt: HostRuntime) -> Result<(), Fail> {
     let alloc = rt.alloc();
     let mut core = started(alloc)?;
-    watched(alloc, &mut core, 1, "6")?;
-    let get = request(alloc, "GET", MAP, "")?;
-    assert!(rt; exchange(alloc, &mut core, 1, get.as_bytes())?.is_empty());
-    let head = exchange(alloc, &mut core, 2, CLOSING)?;
-    assert!(rt; holds(head.as_slice(), "\r\nConnection: close\r\n\r\n"));
-    update(alloc, &mut core, 1_024)?;
-    assert_eq!(rt; first_wrong(alloc, &mut core, STARTS)?, None);
-    assert_eq!(rt; count_modified(alloc, &mut core, 3)?, Some(1_024));
-    assert_eq!(rt; count_modified(alloc, &mut core, 4)?, Some(0));
-    update(alloc, &mut core, 1)?;
-    assert!(rt; is_at_its_end(alloc, &mut core, 1)?);
-    assert!(rt; is_at_its_end(alloc, &mut core, 2)?);
-    assert!(rt; sent(alloc, &mut core, &Event::Pump(ConnId(1)))?.is_empty());
-    let found = sent(alloc, &mut core, &Event::Serve(ConnId(1)))?;
-    assert!(rt; has_code(found.as_slice(), "200"));
-    assert!(rt; matches!(core.step(&feed(alloc, 2, b"")?)?, Answer::Ended));
+    watches_start(&rt, alloc, &mut core)?;
+    window_is_shown(&rt, alloc, &mut core)?;
+    watches_end(&rt, alloc, &mut core)?;
+    one_goes_on(&rt, alloc, &mut core)?;
     Ok(())
 }
 
@@ -157,23 +212,39 @@ fn rechecking(alloc: Global) -> Result<Core<IndexedPolicy>, Memory> {
     Ok(core)
 }
 
+/// Deletes ann's binding.
+fn rights_are_taken(alloc: Global, core: &mut Core<IndexedPolicy>) -> Result<(), Memory> {
+    let target = format!(in alloc; "{BINDINGS}/b")?;
+    let delete = request(alloc, "DELETE", target.as_str(), "")?;
+    exchange(alloc, core, 0, delete.as_bytes())?;
+    Ok(())
+}
+
+/// Checks that the watch ends with the refusal.
+fn is_refused(
+    rt: &impl Abort,
+    alloc: Global,
+    core: &mut Core<IndexedPolicy>,
+) -> Result<(), Memory> {
+    let event = sent(alloc, core, &Event::Pump(ConnId(1)))?;
+    let told = holds(event.as_slice(), "\"reason\":\"Forbidden\"");
+    is_so(rt, told, "the reason");
+    let ends = event
+        .as_slice()
+        .ends_with(b"\"type\":\"ERROR\"}\n\r\n0\r\n\r\n");
+    is_so(rt, ends, "the end of the body");
+    Ok(())
+}
+
 /// A watch that is below the window and whose rights were taken away ends with the refusal.
 #[test]
 fn a_watch_at_its_end_is_refused_first(rt: HostRuntime) -> Result<(), Fail> {
     let alloc = rt.alloc();
     let mut core = rechecking(alloc)?;
     let head = exchange(alloc, &mut core, 1, AS_ANN)?;
-    assert!(rt; has_code(head.as_slice(), "200"));
+    is_so(&rt, has_code(head.as_slice(), "200"), "the watch starts");
     update(alloc, &mut core, 1_025)?;
-    let target = format!(in alloc; "{BINDINGS}/b")?;
-    let delete = request(alloc, "DELETE", target.as_str(), "")?;
-    exchange(alloc, &mut core, 0, delete.as_bytes())?;
-    let event = sent(alloc, &mut core, &Event::Pump(ConnId(1)))?;
-    assert!(rt; holds(event.as_slice(), "\"reason\":\"Forbidden\""));
-    assert!(rt;
-        event
-            .as_slice()
-            .ends_with(b"\"type\":\"ERROR\"}\n\r\n0\r\n\r\n")
-    );
+    rights_are_taken(alloc, &mut core)?;
+    is_refused(&rt, alloc, &mut core)?;
     Ok(())
 }

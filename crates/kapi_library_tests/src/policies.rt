@@ -1,4 +1,5 @@
 //! A policy that is walked and one which has an index, asked once each after a change of each kind.
+use crate::store::is_so;
 use kapi_index::IndexedPolicy;
 use kapi_model::{
     ClusterRole, ClusterRoleBinding, Identity, PolicyRule, RoleKind, RoleRef, Subject,
@@ -73,14 +74,39 @@ fn may_get_pods<P: Policy>(alloc: Global, policy: &P) -> Result<bool, AllocError
     Ok(is_allowed && policy.held(&ann, "")?.len() == 1)
 }
 
-fn assert_decides<P: Policy>(rt: &impl Abort, alloc: Global, policy: &mut P) -> Result<(), Fail> {
-    policy.apply(&role_is_put(alloc)?)?;
-    policy.apply(&binding_is_put(alloc)?)?;
-    assert!(rt; may_get_pods(alloc, policy)?);
-    assert!(rt; policy.role_rules(&role_ref(alloc)?, "").is_some());
-    policy.apply(&binding_is_deleted(alloc)?)?;
-    assert!(rt; !may_get_pods(alloc, policy)?);
+fn has_role<P: Policy>(alloc: Global, policy: &P) -> Result<bool, AllocError> {
+    Ok(policy.role_rules(&role_ref(alloc)?, "").is_some())
+}
+
+fn apply<P: Policy>(
+    policy: &mut P,
+    change: Result<PolicyChange, AllocError>,
+) -> Result<(), AllocError> {
+    policy.apply(&change?)
+}
+
+/// Checks that the role is there, and whether ann may get pods.
+fn decides<P: Policy>(
+    rt: &impl Abort,
+    alloc: Global,
+    policy: &P,
+    wanted: bool,
+) -> Result<(), AllocError> {
+    is_so(rt, has_role(alloc, policy)?, "the role");
+    is_so(rt, may_get_pods(alloc, policy)? == wanted, "the decision");
     Ok(())
+}
+
+fn assert_decides<P: Policy>(
+    rt: &impl Abort,
+    alloc: Global,
+    policy: &mut P,
+) -> Result<(), AllocError> {
+    apply(policy, role_is_put(alloc))?;
+    apply(policy, binding_is_put(alloc))?;
+    decides(rt, alloc, policy, true)?;
+    apply(policy, binding_is_deleted(alloc))?;
+    decides(rt, alloc, policy, false)
 }
 
 #[test]
@@ -89,5 +115,6 @@ fn both_policies_decide(rt: HostRuntime) -> Result<(), Fail> {
     let mut plain = kapi_policy::PlainPolicy::new(alloc);
     assert_decides(&rt, alloc, &mut plain)?;
     let mut indexed = IndexedPolicy::new(alloc);
-    assert_decides(&rt, alloc, &mut indexed)
+    assert_decides(&rt, alloc, &mut indexed)?;
+    Ok(())
 }

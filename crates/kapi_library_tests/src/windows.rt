@@ -1,5 +1,5 @@
 //! The edges of the window of changes, as watches see them.
-use crate::store::{is_text, key, object, put_all, row, store_at};
+use crate::store::{is_number, is_text, key, object, put_all, row, store_at};
 use kapi_model::{ResourceRow, Selector};
 use kapi_store::Store;
 use kapi_watch::{Watch, WatchError};
@@ -128,23 +128,35 @@ fn create_namespaces(
     Ok(())
 }
 
+/// The letter and number of namespaces that are created, what a watch shows then, and its revision.
+static MOVES: [(&str, u64, &str, u64); 3] = [
+    ("o", 600, "nothing", 603),
+    ("p", 600, "nothing", 1_203),
+    ("q", 1_025, "ERROR", 1_203),
+];
+
+/// Checks that a watch moves so.
+fn are_moves(
+    rt: &impl Abort,
+    alloc: Global,
+    store: &mut Store,
+    watch: &mut Watch,
+    moves: &[(&str, u64, &str, u64)],
+) -> Result<(), Fail> {
+    for (letter, count, wanted, position) in moves {
+        create_namespaces(alloc, store, letter, *count)?;
+        pump(rt, store, watch, wanted);
+        is_number(rt, watch.position(), *position);
+    }
+    Ok(())
+}
+
 #[test]
 fn a_watch_moves_on_past_changes_of_other_resources(rt: HostRuntime) -> Result<(), Fail> {
     let alloc = rt.alloc();
     let mut store = updated(alloc, 0)?;
     let mut watch = watch_all(alloc, &store, Some(3))??;
-    create_namespaces(alloc, &mut store, "o", 600)?;
-    pump(&rt, &store, &mut watch, "nothing");
-    create_namespaces(alloc, &mut store, "p", 600)?;
-    pump(&rt, &store, &mut watch, "nothing");
-    is_text(
-        &rt,
-        format!(in alloc; "{}", watch.position())?.as_str(),
-        "1203",
-    );
-    create_namespaces(alloc, &mut store, "q", 1_025)?;
-    pump(&rt, &store, &mut watch, "ERROR");
-    Ok(())
+    are_moves(&rt, alloc, &mut store, &mut watch, &MOVES)
 }
 
 #[test]

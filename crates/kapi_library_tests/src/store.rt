@@ -13,11 +13,11 @@ use std::process::Abort;
 use std::test::Fail;
 
 /// Each assertion is in a function of its own: what an assertion expands to is proved once.
-fn is_so(rt: &impl Abort, so: bool, what: &str) {
+pub fn is_so(rt: &impl Abort, so: bool, what: &str) {
     assert!(rt; so, "{what}");
 }
 
-fn is_number(rt: &impl Abort, number: u64, wanted: u64) {
+pub fn is_number(rt: &impl Abort, number: u64, wanted: u64) {
     assert_eq!(rt; number, wanted);
 }
 

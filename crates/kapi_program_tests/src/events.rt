@@ -4,6 +4,7 @@ use kapi_core::{Answer, ConnId, Core, Event};
 use kapi_index::IndexedPolicy;
 use kapi_text::Memory;
 use std::alloc::Global;
+use std::process::Abort;
 use std::test::Fail;
 
 const CREATE: &[u8] =
@@ -24,6 +25,7 @@ fn name_of(answer: &Answer) -> &'static str {
     match answer {
         Answer::Opened(_) => "opened",
         Answer::Done => "done",
+        Answer::Full => "full",
         Answer::Nothing => "nothing",
         Answer::Sent(_) => "sent",
         _ => "another",
@@ -70,16 +72,29 @@ fn runs_a_create_and_a_get(rt: HostRuntime) -> Result<(), Fail> {
     Ok(())
 }
 
+/// Feeds a piece, and compares the name of the answer.
+fn is_fed(
+    rt: &impl Abort,
+    alloc: Global,
+    core: &mut Core<IndexedPolicy>,
+    piece: &[u8],
+    wanted: &str,
+) -> Result<(), Memory> {
+    let answer = core.step(&feed(alloc, 0, piece)?)?;
+    assert_eq!(rt; name_of(&answer), wanted);
+    Ok(())
+}
+
 #[test]
 fn keeps_2_097_152_bytes(rt: HostRuntime) -> Result<(), Fail> {
     let alloc = rt.alloc();
     let mut core = opened_at(alloc, 0)?;
     let piece = vec![in alloc; b'\n'; 65_536]?;
     for _ in 0..32 {
-        assert!(rt; matches!(core.step(&feed(alloc, 0, piece.as_slice())?)?, Answer::Done));
+        is_fed(&rt, alloc, &mut core, piece.as_slice(), "done")?;
     }
-    assert!(rt; matches!(core.step(&feed(alloc, 0, b"x")?)?, Answer::Full));
-    assert!(rt; matches!(core.step(&feed(alloc, 0, b"")?)?, Answer::Done));
+    is_fed(&rt, alloc, &mut core, b"x", "full")?;
+    is_fed(&rt, alloc, &mut core, b"", "done")?;
     Ok(())
 }
 
@@ -101,6 +116,8 @@ fn creates_from_a_body_of_1_048_576_bytes(rt: HostRuntime) -> Result<(), Fail> {
 }
 
 const ROLES: &str = "/apis/rbac.authorization.k8s.io/v1/namespaces/default/roles";
+
+const MAP: &str = r#"{"metadata":{"name":"x"}}"#;
 
 const READER: &str =
     r#"{"metadata":{"name":"reader"},"rules":[{"verbs":["get"],"apiGroups":[""],"resources":["configmaps"]}]}"#;
@@ -124,9 +141,9 @@ fn changes_told(
 fn tells_what_changed_in_the_policy(rt: HostRuntime) -> Result<(), Fail> {
     let alloc = rt.alloc();
     let mut core = opened_at(alloc, 0)?;
-    let config_map = r#"{"metadata":{"name":"x"}}"#;
-    assert_eq!(rt; changes_told(alloc, &mut core, MAPS, config_map)?, 0);
-    assert_eq!(rt; changes_told(alloc, &mut core, ROLES, READER)?, 1);
-    assert_eq!(rt; changes_told(alloc, &mut core, ROLES, READER)?, 0);
+    for (target, body, count) in [(MAPS, MAP, 0), (ROLES, READER, 1), (ROLES, READER, 0)] {
+        let told = changes_told(alloc, &mut core, target, body)?;
+        assert_eq!(rt; told, count);
+    }
     Ok(())
 }
