@@ -1,11 +1,11 @@
 # make demo      plays scripts/demo.txt and shows it as a transcript, each event with its answer; it proves nothing (wants python3)
 # make replay    plays the stored transcript of a policy; it proves nothing
-# make test      the gate: every proof from nothing, the must-fail edits, the tests and the program's stored run
+# make test      the gate: every proof, but what an earlier run on this machine passed over the same files, the must-fail edits, the tests and the program's stored run
 # make kapi      proves and builds the program, and says where it lies
 # make install   proves and builds the program and copies it to PREFIX/bin, which is /usr/local/bin if PREFIX is not named
 # make serve     proves and builds the program, and starts it as a server on 127.0.0.1: port 8001 for root, port 8002 for ann
 # make serve-demo starts the same server for ten minutes, says when it is up, and proves nothing first (wants curl)
-# make growths   plays each script of the folder SCRIPTS, or each case of a transcript of that name, with every growth of memory refused in turn (wants cc and python3)
+# make growths   plays each script of the folder SCRIPTS, or each case of a transcript of that name that loads no file and rechecks no rights, with every growth of memory refused in turn (wants cc and python3)
 # make live      changes the policy of a server while two clients ask what it allows, and looks at what they are told (wants python3)
 # make hostile   attacks a server as a client without rights may, sends it policies that are made to be costly, and prints what each costs (wants python3)
 # make missing    compares the permissions that a refusal tells with those that the rule says, for 100,000 random roles (wants python3)
@@ -13,7 +13,7 @@
 # make restart   kills a server behind a running informer and starts it again (wants python3 with the package kubernetes, which PYTHON may name)
 # make kubectl-demo  starts a server and the door for kubectl before it, and runs the commands of docs/USING.md (wants kubectl and python3)
 # make statuses  the program's exit statuses, what it writes on standard error, and that it serves the kinds of tools/kinds.txt (wants python3)
-# make pages     runs the commands of docs/USING.md and docs/COMPARE.md, and looks whether they print what the pages show (wants curl and python3)
+# make pages     runs the commands of docs/USING.md, docs/COMPARE.md and docs/AUDIT.md, and looks whether they print what the pages show (wants curl, jq and python3)
 # make edits     tries the edits of crates/NAME/edits, which the gate does not, of all crates or of those that CRATES names; takes hours for all
 # make audit-demo  answers a stored file of questions by a stored policy; it proves nothing
 # make compare-demo  compares two stored policies, and asks of one who may read secrets and who could become anybody; it proves nothing

@@ -3,7 +3,7 @@
 
 usage: growths.py PROGRAM REFUSE.SO FOLDER|TRANSCRIPT
 
-FOLDER has scripts, each a file NAME.txt; of a TRANSCRIPT each case is a script, but those that load a file.
+FOLDER has scripts, each a file NAME.txt; of a TRANSCRIPT each case is a script, but those that load a file or recheck rights.
 
 A refused growth may end the program with a message before its first event or between two events; else the event's answer is
 `error Memory`, the same line once more gets the undisturbed answer, and so do all lines after it. Whatever differs is printed,

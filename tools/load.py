@@ -4,6 +4,7 @@
 usage: load.py KAPI ECHO     KAPI is the built program, ECHO the built tools/echo.c, which is measured beside it
 """
 import json
+import os
 import pathlib
 import re
 import socket
@@ -65,6 +66,46 @@ def rates(port, path, connections, times=3):
     return ", ".join(re.search(r"Requests/sec:\s+(\d+)", text)[1] for text in told)
 
 
+# What wrk sends for each kind of request: wrk's own get of the path, or what a script makes, a number of its own in each.
+WRITE = """
+local number = 0
+request = function()
+  number = number + 1
+  return wrk.format("%s", "%s", {["Content-Type"] = "application/json"}, string.format('{"metadata":{"name":"%s","namespace":"default"},"data":{"key":"%s"}}', number))
+end
+"""
+KINDS = {
+    "a get": (ANN, f"{MAPS}/map-0", None),
+    "a denied get": (ANN, "/api/v1/namespaces/default/secrets/a", None),
+    "a post": (ROOT, MAPS, WRITE % ("POST", MAPS, "made-%d", "x")),
+    "a put": (ROOT, f"{MAPS}/map-0", WRITE % ("PUT", f"{MAPS}/map-0", "map-0", "%d")),
+}
+
+
+def seconds_of(process):
+    """Seconds of processor time of a process."""
+    fields = pathlib.Path(f"/proc/{process.pid}/stat").read_text().rsplit(")", 1)[1].split()
+    return (int(fields[11]) + int(fields[12])) / os.sysconf("SC_CLK_TCK")
+
+
+def time_of_each(process, port, path, script=None):
+    """Microseconds of a process for each request that wrk makes in four seconds over 8 connections."""
+    with tempfile.NamedTemporaryFile("w", suffix=".lua") as file:
+        file.write(script or "")
+        file.flush()
+        before = seconds_of(process)
+        words = ["wrk", "-t1", "-c8", "-d4s", *(["-s", file.name] if script else []), f"http://127.0.0.1:{port}{path}"]
+        told = subprocess.run(words, capture_output=True, text=True).stdout
+    return (seconds_of(process) - before) * 1_000_000 / int(re.search(r"(\d+) requests in", told)[1])
+
+
+def beside_the_echo(server, echo, name):
+    """The processor time of a request beside that of the echo, of three pairs of runs in turns."""
+    port, path, script = KINDS[name]
+    pairs = [(time_of_each(server.process, port, path, script), time_of_each(echo, ECHO, "/")) for _pair in range(3)]
+    print(f"{name}, 8 connections, processor time beside the echo's:", ", ".join(f"{ours / theirs:.2f} ({ours:.1f} us)" for ours, theirs in pairs))
+
+
 def drip(sockets, is_over):
     """Each connection sends one byte a second of a head that never ends."""
     head = b"GET /healthz HTTP/1.1\r\nHost: a\r\nX: " + b"y" * 10_000
@@ -109,6 +150,37 @@ def change(times):
     client.close()
 
 
+def ask(client, method, path, body=""):
+    """Sends a request and waits for its answer, which comes in one piece."""
+    client.sendall(f"{method} {path} HTTP/1.1\r\nHost: a\r\nContent-Length: {len(body)}\r\n\r\n{body}".encode())
+    return client.recv(65536)
+
+
+def cost(server, requests):
+    """Microseconds of the server's processor time for each of some requests of root."""
+    client, before = socket.create_connection(("127.0.0.1", ROOT)), seconds_of(server.process)
+    for request in requests:
+        ask(client, *request)
+    client.close()
+    return round((seconds_of(server.process) - before) * 1_000_000 / len(requests), 1)
+
+
+def beside_watches(program, count, namespace, times=10_000):
+    """What a get and a put cost beside so many watches of a namespace, in microseconds."""
+    with Server(program) as server:
+        root = socket.create_connection(("127.0.0.1", ROOT))
+        ask(root, "POST", "/api/v1/namespaces", json.dumps({"apiVersion": "v1", "kind": "Namespace", "metadata": {"name": "other"}}))
+        watches = [socket.create_connection(("127.0.0.1", ROOT)) for _watch in range(count)]
+        for watch in watches:
+            ask(watch, "GET", f"/api/v1/namespaces/{namespace}/configmaps?watch=1")
+        gets = [("GET", f"{MAPS}/map-0")] * times
+        puts = [("PUT", f"{MAPS}/map-0", json.dumps(config_map("map-0") | {"data": {"key": str(number)}})) for number in range(times if namespace != "default" else 400)]
+        told = cost(server, gets), cost(server, puts)
+        for each in [root, *watches]:
+            each.close()
+        return told
+
+
 def main():
     program, echo = sys.argv[1:]
     with tempfile.NamedTemporaryFile() as reply:
@@ -121,6 +193,9 @@ def main():
         for _pair in range(5):
             print("a get, and the same bytes from an echo, 8 connections:", rates(ANN, f"{MAPS}/map-0", 8, 1), rates(ECHO, "/", 8, 1))
         print("a denied get, 10 bindings:", rates(ANN, "/api/v1/namespaces/default/secrets/a", 8))
+    for name in KINDS:
+        with Server(program) as server:
+            beside_the_echo(server, echo, name)
     echo.kill()
     with Server(program, bindings=10_000) as server:
         print("a denied get, 10,000 bindings:", rates(ANN, "/api/v1/namespaces/default/secrets/a", 8))
@@ -136,6 +211,8 @@ def main():
         change(20_000)
         print("a watcher that reads nothing, kB resident after 2,000 and after 22,000 changes:", before, server.resident())
         watcher.close()
+    for count, namespace in ((0, "other"), (240, "other"), (240, "default")):
+        print(f"a get and a put of a configmap, us of processor time, beside {count} watches of the namespace {namespace}:", *beside_watches(program, count, namespace))
     with Server(program, maps=10_000) as server:
         print("10,000 configmaps of 100 bytes, kB resident:", server.resident())
 

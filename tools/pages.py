@@ -1,16 +1,18 @@
 #!/usr/bin/env python3
-"""Runs the commands of docs/USING.md and docs/COMPARE.md as they stand there, and looks whether each line that a page shows as an answer is printed.
+"""Runs the commands of docs/USING.md, docs/COMPARE.md and docs/AUDIT.md as they stand there, and looks whether what a page shows is printed.
 
-usage: pages.py PROGRAM      PROGRAM is the built program; wants curl, and for its Python block the package kubernetes
+usage: pages.py PROGRAM      PROGRAM is the built program; wants curl and jq, and for its Python block the package kubernetes
 
 A block of a page is run where its first line is a command; the next block without commands is what the page shows. Lines with kubectl, jq or make are
 left out. The server is started with the objects of the page, and with the options that a command `kapi serve` of the page has. An indented line that
-begins with `$` is a command, run in scripts/compare, and the indented lines below it are what it prints. Status 1 where a line lacks.
+begins with `$` is a command, run in scripts/compare, and the indented lines below it are what it prints. The jq command of AUDIT is run on scripts/audit/cluster.json,
+and what it makes is audited by the stored questions. Status 1 where a line lacks.
 """
 import os
 import pathlib
 import re
 import shlex
+import shutil
 import subprocess
 import sys
 import tempfile
@@ -130,13 +132,26 @@ def indented(program, name):
     return count, lacking
 
 
+def audited(program):
+    """How many lines of the stored audit were looked for, its policy made by the command of AUDIT, and those that lack."""
+    stored = HERE / "scripts/audit"
+    commands = next(lines for language, lines in blocks((HERE / "docs/AUDIT.md").read_text(encoding="utf-8")) if language == "sh")
+    with tempfile.TemporaryDirectory() as room:
+        shutil.copy(stored / "cluster.json", room)
+        subprocess.run("\n".join(line for line in commands if not line.startswith("kubectl ")), shell=True, cwd=room, check=True)
+        made = pathlib.Path(room, "policy.jsonl").read_text(encoding="utf-8").splitlines()
+        told = subprocess.run([program, "audit", f"{room}/policy.jsonl", stored / "questions.jsonl"], capture_output=True, text=True, timeout=60).stdout.splitlines()
+    pairs = [((stored / "policy.jsonl").read_text(encoding="utf-8").splitlines(), made), ((stored / "answers").read_text(encoding="utf-8").splitlines(), told)]
+    return sum(len(wanted) for wanted, _ in pairs), [line for wanted, printed in pairs if wanted != printed for line in wanted]
+
+
 def main(program):
     program = os.path.abspath(program)
     server = Server(program)
     with tempfile.TemporaryDirectory() as room:
         try:
             server.start(START)
-            pages = {"docs/USING.md": looked_at(server, "docs/USING.md", room), "docs/COMPARE.md": indented(program, "docs/COMPARE.md")}
+            pages = {"docs/USING.md": looked_at(server, "docs/USING.md", room), "docs/COMPARE.md": indented(program, "docs/COMPARE.md"), "docs/AUDIT.md": audited(program)}
         finally:
             server.stop()
     for name, (count, lacking) in pages.items():

@@ -12,7 +12,7 @@ STEPS = [
     ("Read what it asks for: verb, resource, namespace, name", "kapi_request_info", "400"),
     ("May the caller act as whom the request names?", "kapi_guard", "403, each missing permission"),
     ("Does a rule that is bound allow it?", "kapi_policy, kapi_index", "403, the missing permission"),
-    ("Find the resource and the action", "kapi_route", "404, 405, 415"),
+    ("Find the resource and action; read the query", "kapi_route", "400, 404, 405, 410, 415, 504"),
     ("Check the body, existence, version, validity", "kapi_admission, kapi_patch, kapi_answer", "400, 404, 409, 422, each fault"),
     ("Does the caller hold what a role or binding gives?", "kapi_guard, kapi_missing", "403, each missing permission"),
     ("Prepare the write, with all its memory", "kapi_store", "503, where revisions are used up"),

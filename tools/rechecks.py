@@ -102,6 +102,7 @@ def scene(kapi, rechecks):
         is_slow_right, count = slow(root, rechecks)
     finally:
         server.kill()
+        server.wait()
     name = "looked at anew" if rechecks else "looked at when a watch starts"
     print(f"rights are {name}: the slow client saw {count} of {CHANGES} changes:", "as it should be" if is_quick_right and is_slow_right else "otherwise")
     return is_quick_right and is_slow_right

@@ -13,10 +13,10 @@ def escaped(text):
 
 
 class Case:
-    """A case that is read: the lines of its script, whom its connections were opened for, and the one that was taken last."""
+    """A case that is read: whether a script can say it, its script, whom its connections were opened for, and the one that was taken last."""
 
-    def __init__(self, loads):
-        self.loads, self.script, self.opened, self.taken = loads, [], [], None
+    def __init__(self, is_script):
+        self.is_script, self.script, self.opened, self.taken = is_script, [], [], None
 
     def take(self, names):
         if names not in self.opened:
@@ -44,12 +44,14 @@ class Case:
 
 
 def scripts(text):
-    """The script of each case that loads no file, each a list of lines."""
+    """The script of each case that loads no file and rechecks no rights, each a list of lines."""
     lines = [line for line in text.split(b"\n") if line and not line.startswith(b"#")]
-    cases = [Case(False)]
+    cases = [Case(True)]
     for at, line in enumerate(lines):
         if line == b"begin" or line.startswith(b"load "):
-            cases.append(Case(line != b"begin"))
-        elif not cases[-1].loads:
+            cases.append(Case(line == b"begin"))
+        elif line == b"recheck":
+            cases[-1].is_script = False
+        elif cases[-1].is_script:
             cases[-1].read(line, lines[at + 1 :])
     return [case.script for case in cases if case.script]
