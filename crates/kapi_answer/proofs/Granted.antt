@@ -1,5 +1,5 @@
 -- What an answer changes was granted to the caller.
-use Rattle.std.proofs.Common.{◌≡◌, ◌+◌, inl, inr, ℕ, List, [], ◌∷◌, Bool, Option, None, Some, Result, Ok, Err, ok_or, length, refl}
+use Rattle.std.proofs.Common.{◌≡◌, ◌+◌, inl, inr, ℕ, List, [], ◌∷◌, Option, None, Some, Result, Ok, Err, ok_or, length, refl}
 use Rattle.std.specs.Fmt.{decimal}
 use Rattle.std.specs.List.{AllByRecursion}
 use Rattle.std.specs.Map.{lookup}
@@ -11,7 +11,6 @@ use Rattle.kapi_http.specs.declared.message.HttpFault.{HttpFault}
 use Rattle.kapi_http.specs.declared.message.HttpRequest.{HttpRequest}
 use Rattle.kapi_policy.specs.Objects.{PolicyObjects}
 use Rattle.kapi_model.specs.declared.identity.Identity.{Identity}
-use Rattle.kapi_reply.specs.Refusals.{Asked}
 use Rattle.kapi_reply.specs.declared.refusal.Refused.{Refused}
 use Rattle.kapi_request_info.specs.Attributes.{info}
 use Rattle.kapi_reviews.specs.Reviews.{reviewed}
@@ -38,7 +37,7 @@ use Rattle.kapi_stored_policy.specs.Kind.{policy_kind}
 use Rattle.kapi_answer.proofs.Escalated.{passed_is_granted}
 use Rattle.kapi_stored_policy.proofs.Granted.{deletion_is_granted, stamped_is_granted}
 use Rattle.kapi_stored_policy.specs.Granted.{AreGranted, IsDeletion, IsGrantedAt}
-use Rattle.kapi_answer.specs.Answer.{Passed, Plan, Task, answer, answer_as, answer_asked, answer_by, answer_passed, asked_by, carried_out, checked, create, delete, deletes, escalation_checked, passes, place_in, planned, planned_at, planned_creation, planned_for, planned_on, replace, task, tell, tells, to_be_created, to_be_replaced, told, told_well, watch, watching}
+use Rattle.kapi_answer.specs.Answer.{Passed, Plan, Task, answer, answer_as, answer_asked, answer_by, answer_passed, carried_out, checked, create, delete, deletes, escalation_checked, passes, place_in, planned, planned_at, planned_creation, planned_for, planned_on, replace, task, tell, tells, to_be_created, to_be_replaced, told, told_well, watch, watching}
 use Rattle.kapi_answer.specs.Authorization.{authorized}
 use Rattle.kapi_answer.specs.Collection.{listed, to_delete_all}
 use Rattle.kapi_answer.specs.Create.{Admitted, admitted, created, creates, with_namespace_on, stored, to_create, valid}

@@ -18,7 +18,6 @@ use Rattle.kapi_tree.specs.declared.given.GivenText.TheVariants as given
 use Rattle.kapi_patch.specs.Merge.{merged}
 use Rattle.kapi_policy.specs.Objects.{PolicyObjects}
 use Rattle.kapi_model.specs.declared.identity.Identity.{Identity}
-use Rattle.kapi_reply.specs.Refusals.{Asked}
 use Rattle.kapi_reply.specs.declared.refusal.Refused.{Refused}
 use Rattle.kapi_request_info.specs.Attributes.{info}
 use Rattle.kapi_request_info.specs.Faults.{TargetFault}
@@ -44,7 +43,7 @@ use Rattle.kapi_watch.proofs.Lists.{standing_is_named}
 use Rattle.kapi_watch.specs.Histories.{IsNamedBy, IsCreation}
 use Rattle.kapi_answer.proofs.Granted.{review_tells, then_keeps}
 use Rattle.kapi_answer.proofs.NamedTrees.{IsHome, is_home, new_named, other_named}
-use Rattle.kapi_answer.specs.Answer.{Passed, Plan, Task, answer, answer_as, answer_asked, answer_by, answer_passed, asked_by, carried_out, checked, create, delete, deletes, escalation_checked, passes, place_in, planned, planned_at, planned_creation, planned_for, planned_on, replace, task, tell, tells, to_be_created, to_be_replaced, told, told_well, watch, watching}
+use Rattle.kapi_answer.specs.Answer.{Passed, Plan, Task, answer, answer_as, answer_asked, answer_by, answer_passed, carried_out, checked, create, delete, deletes, escalation_checked, passes, place_in, planned, planned_at, planned_creation, planned_for, planned_on, replace, task, tell, tells, to_be_created, to_be_replaced, told, told_well, watch, watching}
 use Rattle.kapi_answer.specs.Authorization.{authorized}
 use Rattle.kapi_answer.specs.Collection.{chosen, deletes_all, listed, to_delete_all}
 use Rattle.kapi_answer.specs.Create.{Admitted, admitted, admitted_from, created, creates, given_name, in_namespace, key_of, name_text, stored, to_create, to_place, valid}

@@ -1,20 +1,15 @@
 -- What is written at a place has the namespace and the name of that place.
-use Rattle.std.proofs.Common.{◌≡◌, ℕ, Bool, true, false, not, List, [], ◌∷◌, Option, None, Some, Ok, codes, bytes_eq, if◌then◌else◌, true≢false, refl, sym, ap, ◌∙◌, subst}
-use Rattle.std.proofs.lemmas.Map.Text.{is_eq-slice_cmp}
-use Rattle.std.proofs.lemmas.Slice.Eq.{bytes_eq-Decides}
-use Rattle.std.specs.Cmp.Lexicographic.{slice_cmp}
+use Rattle.std.proofs.Common.{◌≡◌, ℕ, Bool, true, false, List, [], ◌∷◌, Option, None, Some, Ok, codes, bytes_eq, if◌then◌else◌, refl, sym, ap, ◌∙◌, subst}
 use Rattle.std.specs.Option.{option_and_then, unwrap_or}
-use Rattle.std.specs.Ordering.{nat_cmp, is_eq, match_ordering}
-use Rattle.std.specs.declared.cmp.Ordering.{Ordering}
-use Rattle.std.specs.declared.cmp.Ordering.TheVariants.{Less, Equal, Greater}
 use Rattle.serde_json.proofs.Views.{get_member-put}
-use Rattle.serde_json.specs.Data.{Data, null, boolean, number, string, array, object, Members, no_members, member, put}
-use Rattle.serde_json.specs.Find.{as_str, get, get_member}
+use Rattle.serde_json.specs.Data.{Data, null, boolean, number, string, array, object, put}
+use Rattle.serde_json.specs.Find.{as_str, get}
 use Rattle.kapi_model.specs.declared.row.ResourceRow.{ResourceRow}
 use Rattle.kapi_tree.proofs.Puts.{put_if_other}
 use Rattle.kapi_tree.specs.Given.{given_of, text_given}
 use Rattle.kapi_tree.specs.Tree.{in_metadata, members_or_none, metadata_of, unless_null, with_member_of, with_text, without, without_member}
 use Rattle.kapi_tree.specs.declared.given.GivenText.TheVariants as given
+use Rattle.kapi_stored_policy.proofs.Admitted.{without_other}
 use Rattle.kapi_route.specs.declared.route.Part.{Part}
 use Rattle.kapi_route.specs.declared.route.Part.TheVariants as part
 use Rattle.kapi_store.specs.Stamps.{metadata_text}
@@ -73,26 +68,6 @@ text_same q a b same = ap (λ o. unwrap_or (option_and_then as_str (option_and_t
 
 pub named_same : (k : Key) (a b : Data) → get (codes "metadata") a ≡ get (codes "metadata") b → IsNamedBy k b → IsNamedBy k a
 named_same k a b same h = (text_same (codes "namespace") a b same ∙ h.0, text_same (codes "name") a b same ∙ h.1)
-
--- ---- a member that is taken out
-
-skips : (q k : List ℕ) (d : Data) (ms : Members) → bytes_eq q k ≡ false → get_member q (member k d ms) ≡ get_member q ms
-skips q k d ms h =
-    let P : Ordering → Type 0 = λ o. is_eq o ≡ false → match_ordering o (get_member q ms) (Some d) (get_member q ms) ≡ get_member q ms in
-    let cases : P (slice_cmp nat_cmp q k) = elim (slice_cmp nat_cmp q k) as P [ Less ↦ λ i. refl | Equal ↦ λ i. absurd (true≢false i) | Greater ↦ λ i. refl ] in
-    cases (is_eq-slice_cmp q k ∙ h)
-
-other_than : (q k l : List ℕ) → bytes_eq q k ≡ false → bytes_eq k l ≡ true → bytes_eq q l ≡ false
-other_than q k l h is = ap (bytes_eq q) (sym ((bytes_eq-Decides k l).0 is)) ∙ h
-
-without_other : (q k : List ℕ) (ms : Members) → bytes_eq q k ≡ false → get_member q (without k ms) ≡ get_member q ms
-without_other q k no_members h = refl
-without_other q k (member l d ms) h = by_case (bytes_eq k l) refl (without_other q k ms h)
-  where
-    by_case : (b : Bool) → bytes_eq k l ≡ b → get_member q (without k ms) ≡ get_member q ms
-        → get_member q (if not b then member l d (without k ms) else without k ms) ≡ get_member q (member l d ms)
-    by_case true is rest = rest ∙ sym (skips q l d ms (other_than q k l h is))
-    by_case false is rest = ap (λ r. match_ordering (slice_cmp nat_cmp q l) r (Some d) r) rest
 
 -- ---- a status leaves the metadata as it is
 

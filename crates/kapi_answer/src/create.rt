@@ -1,7 +1,7 @@
 //! The creation of an object.
 ghost use Rattle.std.specs.Prelude.{◌≡◌, [], true, Ok, Some, IfOk, IfSome, OnOk, map as map_of};
 ghost use Rattle.std.specs.Option.{option_map};
-ghost use Rattle.kapi_text.specs.Gives.{Gives};
+ghost use Rattle.kapi_text.specs.Gives.{Gives, ◌>>=◌ as and_then};
 ghost use Rattle.serde_json.specs.View.{view};
 ghost use Rattle.kapi_admission.specs.Admission.{read_as};
 ghost use Rattle.kapi_tree.specs.Object.{tree_of};
@@ -65,7 +65,21 @@ pub fn check_body(
     check_namespace(alloc, namespace, &name, &body.given.namespace)?;
     let key = key_at(alloc, row, namespace_on(row, namespace), name)?;
     check_place(alloc, store, &key)?;
-    let object = check_validity(alloc, &key.name, body.object)?;
+    at_place(alloc, row, namespace, key, body.object)
+}
+
+/// The object that a body was read as at its place, where it is valid.
+fn at_place(
+    alloc: Global,
+    row: &ResourceRow,
+    namespace: &str,
+    key: Key,
+    object: Result<Object, Sequence<FieldFault>>,
+) -> Result<NewObject, CheckError>
+    ensures gives { Gives refused_by new_data result (and_then (valid key.name (object_data object)) (λ tree. Ok (key, in_place row.now namespace.now tree))) }
+    ensures key { IfOk result (λ new. new.key ≡ key) }
+{
+    let object = check_validity(alloc, &key.name, object)?;
     let object = placed(alloc, row, namespace, object)?;
     Ok(NewObject { key, object })
 }

@@ -3,7 +3,9 @@ ghost use Rattle.kapi_text.specs.Gives.{Gives};
 ghost use Rattle.kapi_reply.specs.Refusals.{refused_by};
 ghost use Rattle.kapi_reply.specs.Replies as replies;
 ghost use Rattle.kapi_request_info.specs.Attributes as attributes_of;
+ghost use Rattle.kapi_policy.specs.Objects.{PolicyObjects};
 ghost use Rattle.kapi_route.specs.Routes.{resource_data};
+ghost use Rattle.kapi_route.specs.declared.route.Action.TheVariants as action;
 ghost use Rattle.std.specs.Map.{lookup};
 ghost use Rattle.kapi_store.specs.Keys.{is_key};
 ghost use Rattle.kapi_store.specs.Plain.{Plain as APlain, free_place, plain_of};
@@ -38,9 +40,10 @@ use kapi_reply::{
     target_reply, watch_reply,
 };
 use kapi_request_info::{Attributes, InfoError, info};
-use kapi_route::{Action, ResourceRoute, Route, check_media_type, check_query, find_route};
+use kapi_route::{Action, Part, ResourceRoute, Route, check_media_type, check_query, find_route};
 use kapi_store::{Key, Ready, Store};
 use kapi_text::{Memory, Text, TryCopy};
+use kapi_watch::Watch;
 use std::alloc::{AllocError, Global};
 
 /// A complete answer, and the write that it reports, which is still to be made.
@@ -196,30 +199,55 @@ fn prepare(
     ensures watch { IfOk result (λ p. option_map (λ w. w.watch) p.watch ≡ watch_in passed) }
 {
     match passed {
-        Passed::Told(outcome) => {
-            let Outcome {
-                code,
-                content,
-                body,
-                write,
-            } = outcome;
+        Passed::Told(outcome) => tell(alloc, close, outcome),
+        Passed::Watching(watch) => {
+            let watching = watching(alloc, identity, attributes, close, watch)?;
             Ok(Prepared {
-                reply: content_reply(alloc, code, content, close, body)?,
-                write,
-                watch: None,
+                reply: watch_reply(alloc, close)?,
+                write: None,
+                watch: Some(watching),
             })
         }
-        Passed::Watching(watch) => Ok(Prepared {
-            reply: watch_reply(alloc, close)?,
-            write: None,
-            watch: Some(Watching {
-                watch,
-                close,
-                identity: identity.copy(alloc)?,
-                attributes: attributes.copy(alloc)?,
-            }),
-        }),
     }
+}
+
+/// The answer that reports an outcome.
+fn tell(alloc: Global, close: bool, outcome: Outcome) -> Result<Prepared, Memory>
+    ensures reply { IfOk result (λ p. p.reply ≡ replies.content_reply outcome.code outcome.content close outcome.body.items) }
+    ensures write { IfOk result (λ p. p.write ≡ outcome.write) }
+    ensures watch { IfOk result (λ p. p.watch ≡ None) }
+{
+    let Outcome {
+        code,
+        content,
+        body,
+        write,
+    } = outcome;
+    Ok(Prepared {
+        reply: content_reply(alloc, code, content, close, body)?,
+        write,
+        watch: None,
+    })
+}
+
+/// The watch of a connection, with who asked for it and what was asked.
+fn watching(
+    alloc: Global,
+    identity: &Identity,
+    attributes: &Attributes,
+    close: bool,
+    watch: Watch,
+) -> Result<Watching, Memory>
+    ensures { IfOk result (λ w. w ≡ record { watch = watch; close = close; identity = identity.now; attributes = attributes.now }) }
+{
+    let identity = identity.copy(alloc)?;
+    let attributes = attributes.copy(alloc)?;
+    Ok(Watching {
+        watch,
+        close,
+        identity,
+        attributes,
+    })
 }
 
 /// The checks of a request whose attributes are known, in their order; the first that fails decides. The write is
@@ -315,6 +343,73 @@ fn plan_on<P: Policy>(
     ensures ready { IfOk result (IsReady (plain_of store.now)) }
     ensures told { IfOk result ChangesNothing }
 {
+    let (row, namespace, filter) = (task.row, task.namespace, task.filter);
+    match action {
+        Action::Get => Ok(Plan::Tell(find(alloc, store, &place_in(alloc, task)?)?)),
+        Action::List => Ok(Plan::Tell(list(alloc, store, row, namespace, filter)?)),
+        Action::Watch => Ok(Plan::Watch(begin(alloc, store, row, namespace, filter)?)),
+        Action::Create => plan_creation(alloc, policy, store, task),
+        Action::Update(part) => plan_update(alloc, policy, store, part, task),
+        Action::Patch(part) => plan_patch(alloc, policy, store, part, task),
+        Action::Delete => plan_delete(alloc, store, task),
+        Action::DeleteCollection => plan_delete_all(alloc, store, task),
+    }
+}
+
+/// Plans the update of an object, where the identity may write it.
+#[tactic(auto, unfolding(crate::specs::Answer::planned_on))]
+fn plan_update<P: Policy>(
+    alloc: Global,
+    policy: &P,
+    store: &Store,
+    part: Part,
+    task: Task<'_>,
+) -> Result<Plan, CheckError>
+    ensures gives { Gives refused_by plan_data result (planned_on (action.Update part) (plain_of store.now) (task_data (P.content policy.now) task.entry)) }
+    ensures ready { IfOk result (IsReady (plain_of store.now)) }
+    ensures told { IfOk result ChangesNothing }
+{
+    let key = place_in(alloc, task)?;
+    let new = check_update(alloc, store, task.row, part, key, task.body)?;
+    plan_replace(alloc, policy, task, new)
+}
+
+/// Plans the patch of an object, where the identity may write it.
+#[tactic(auto, unfolding(crate::specs::Answer::planned_on))]
+fn plan_patch<P: Policy>(
+    alloc: Global,
+    policy: &P,
+    store: &Store,
+    part: Part,
+    task: Task<'_>,
+) -> Result<Plan, CheckError>
+    ensures gives { Gives refused_by plan_data result (planned_on (action.Patch part) (plain_of store.now) (task_data (P.content policy.now) task.entry)) }
+    ensures ready { IfOk result (IsReady (plain_of store.now)) }
+    ensures told { IfOk result ChangesNothing }
+{
+    let key = place_in(alloc, task)?;
+    let new = check_patch(alloc, store, task.row, part, key, task.body)?;
+    plan_replace(alloc, policy, task, new)
+}
+
+/// Plans the deletion of an object.
+#[tactic(auto, unfolding(crate::specs::Answer::planned_on))]
+fn plan_delete(alloc: Global, store: &Store, task: Task<'_>) -> Result<Plan, CheckError>
+    ensures gives { (objects : PolicyObjects) → Gives refused_by plan_data result (planned_on action.Delete (plain_of store.now) (task_data objects task.entry)) }
+    ensures ready { IfOk result (IsReady (plain_of store.now)) }
+    ensures told { IfOk result ChangesNothing }
+{
+    let key = place_in(alloc, task)?;
+    Ok(Plan::Delete(check_delete(alloc, store, key, task.body)?))
+}
+
+/// Plans the deletion of the objects of a collection.
+#[tactic(auto, unfolding(crate::specs::Answer::planned_on))]
+fn plan_delete_all(alloc: Global, store: &Store, task: Task<'_>) -> Result<Plan, CheckError>
+    ensures gives { (objects : PolicyObjects) → Gives refused_by plan_data result (planned_on action.DeleteCollection (plain_of store.now) (task_data objects task.entry)) }
+    ensures ready { IfOk result (IsReady (plain_of store.now)) }
+    ensures told { IfOk result ChangesNothing }
+{
     let Task {
         row,
         namespace,
@@ -322,30 +417,8 @@ fn plan_on<P: Policy>(
         body,
         ..
     } = task;
-    match action {
-        Action::Get => Ok(Plan::Tell(find(alloc, store, &place_in(alloc, task)?)?)),
-        Action::List => Ok(Plan::Tell(list(alloc, store, row, namespace, filter)?)),
-        Action::Watch => Ok(Plan::Watch(begin(alloc, store, row, namespace, filter)?)),
-        Action::Create => plan_creation(alloc, policy, store, task),
-        Action::Update(part) => {
-            let key = place_in(alloc, task)?;
-            let new = check_update(alloc, store, row, part, key, body)?;
-            plan_replace(alloc, policy, task, new)
-        }
-        Action::Patch(part) => {
-            let key = place_in(alloc, task)?;
-            let new = check_patch(alloc, store, row, part, key, body)?;
-            plan_replace(alloc, policy, task, new)
-        }
-        Action::Delete => {
-            let key = place_in(alloc, task)?;
-            Ok(Plan::Delete(check_delete(alloc, store, key, body)?))
-        }
-        Action::DeleteCollection => {
-            let all = check_delete_all(alloc, store, row, namespace, filter, body)?;
-            Ok(Plan::Delete(all))
-        }
-    }
+    let all = check_delete_all(alloc, store, row, namespace, filter, body)?;
+    Ok(Plan::Delete(all))
 }
 
 /// The place that a task's path names.

@@ -1,10 +1,12 @@
 //! Reviews, which are answered and not kept.
-ghost use Rattle.std.specs.Prelude.{◌≡◌, [], None, IfOk};
-ghost use Rattle.kapi_text.specs.Gives.{Gives};
+ghost use Rattle.std.specs.Prelude.{◌≡◌, [], None, Ok, IfOk};
+ghost use Rattle.kapi_http.specs.declared.message.StatusCode.TheVariants as status;
+ghost use Rattle.kapi_text.specs.Gives.{Gives, ◌>>=◌ as and_then};
 ghost use Rattle.kapi_tree.specs.Object.{tree_of};
 ghost use Rattle.kapi_reply.specs.Refusals.{refused_by};
 ghost use Rattle.kapi_reviews.specs.Reviews.{reviewed};
 ghost use Rattle.kapi_answer.specs.Create.{valid};
+ghost use Rattle.kapi_answer.specs.Outcome.{told};
 ghost use Rattle.kapi_answer.specs.Outcomes.{admitted_data, outcome_data};
 ghost use Rattle.kapi_answer.specs.Review as reviews;
 ghost use Rattle.kapi_answer.specs.Review.{in_review_namespace, to_answer, to_review};
@@ -76,7 +78,21 @@ fn answer_body<P: Policy>(
     check_review_namespace(alloc, row, namespace, &body.given.namespace)?;
     let object = check_validity(alloc, &Text::copy_of(alloc, "")?, body.object)?;
     let object = with_namespace(alloc, row, namespace, object)?;
-    let answer = answer_valid(alloc, policy, identity, kind, &object)?;
+    answer_review(alloc, policy, identity, kind, &object)
+}
+
+/// The outcome of a review of its resource type's kind, or its faults.
+fn answer_review<P: Policy>(
+    alloc: Global,
+    policy: &P,
+    identity: &Identity,
+    kind: ReviewKind,
+    object: &Object,
+) -> Result<Outcome, CheckError>
+    ensures gives { Gives refused_by outcome_data result (and_then (valid [] (reviewed (P.content policy.now) identity.now kind (tree_of object.now))) (λ answer. Ok (told status.Created answer))) }
+    ensures told { IfOk result (λ o. o.write ≡ None) }
+{
+    let answer = answer_valid(alloc, policy, identity, kind, object)?;
     Ok(Outcome {
         code: StatusCode::Created,
         content: Content::Json,

@@ -1,8 +1,8 @@
 //! The update of an object, whole or in its status, and its patch.
-ghost use Rattle.std.specs.Prelude.{◌≡◌, Some, true, IfOk, IfSome};
+ghost use Rattle.std.specs.Prelude.{◌≡◌, Ok, Some, true, IfOk, IfSome};
 ghost use Rattle.std.specs.Map.{lookup};
 ghost use Rattle.serde_json.specs.View.{view};
-ghost use Rattle.kapi_text.specs.Gives.{Gives};
+ghost use Rattle.kapi_text.specs.Gives.{Gives, ◌>>=◌ as and_then};
 ghost use Rattle.kapi_tree.specs.Object.{tree_of};
 ghost use Rattle.kapi_tree.specs.Order.{is_ordered};
 ghost use Rattle.kapi_patch.specs.Merge.{merged};
@@ -10,8 +10,8 @@ ghost use Rattle.kapi_reply.specs.Refusals.{refused_by};
 ghost use Rattle.kapi_store.specs.Keys.{is_key};
 ghost use Rattle.kapi_store.specs.Plain.{plain_of};
 ghost use Rattle.kapi_store.specs.State.{Fits};
-ghost use Rattle.kapi_answer.specs.Create.{stored};
-ghost use Rattle.kapi_answer.specs.Outcomes.{Stands, admitted_data, new_data, outcome_data};
+ghost use Rattle.kapi_answer.specs.Create.{stored, valid};
+ghost use Rattle.kapi_answer.specs.Outcomes.{Stands, admitted_data, new_data, object_data, outcome_data};
 ghost use Rattle.kapi_answer.specs.Update as updates;
 ghost use Rattle.kapi_answer.specs.Update.{keeping_status, patch_of, replaces, to_patch, to_replace, to_update};
 
@@ -23,12 +23,12 @@ use crate::delete::existing;
 use crate::outcome::{NewObject, Outcome, Replacement};
 use kapi_admission::{ObjectError, read_tree};
 use kapi_http::StatusCode;
-use kapi_model::ResourceRow;
+use kapi_model::{FieldFault, ResourceRow};
 use kapi_patch::merge_patch;
 use kapi_reply::{BadWord, CheckError, Content, Refusal};
 use kapi_route::Part;
 use kapi_store::{Key, Shared, Store};
-use kapi_text::{Memory, Text, TryCopy};
+use kapi_text::{Memory, Sequence, Text, TryCopy};
 use kapi_tree::{GivenText, Object};
 use serde_json::Value;
 use std::alloc::Global;
@@ -111,7 +111,23 @@ fn check_replacement(
         &body.given.namespace,
     )?;
     let old = replaceable(alloc, store, &key, &body.given.resource_version)?;
-    let object = check_validity(alloc, &key.name, body.object)?;
+    in_place_of(alloc, row, part, key, old, body.object)
+}
+
+/// The object that a body was read as in place of the stored one, where it is valid.
+fn in_place_of(
+    alloc: Global,
+    row: &ResourceRow,
+    part: Part,
+    key: Key,
+    old: &Shared,
+    object: Result<Object, Sequence<FieldFault>>,
+) -> Result<Replacement, CheckError>
+    ensures gives { Gives refused_by (λ r. new_data r.new) result (and_then (valid key.name (object_data object)) (λ tree. Ok (key, updates.replacing part row.now key (tree_of old.now) tree))) }
+    ensures key { IfOk result (λ r. r.new.key ≡ key) }
+    ensures old { IfOk result (λ r. tree_of r.old ≡ tree_of old.now) }
+{
+    let object = check_validity(alloc, &key.name, object)?;
     let object = replacing(alloc, part, row, &key, old.get(), object)?;
     Ok(Replacement {
         new: NewObject { key, object },

@@ -1,5 +1,8 @@
+ghost use Rattle.std.specs.Prelude.{◌≡◌, Some};
+ghost use Rattle.kapi_http.specs.Inbox.{after_next, next_of};
+
 use kapi_answer::Watching;
-use kapi_http::Inbox;
+use kapi_http::{HttpFault, HttpRequest, Inbox};
 use kapi_model::Identity;
 
 /// An open connection: the identity that makes its requests, the bytes not served yet, and the watch that it shows, if
@@ -9,4 +12,15 @@ pub struct Connection {
     pub identity: Identity,
     pub inbox: Inbox,
     pub watching: Option<Watching>,
+}
+
+impl Connection {
+    /// Takes the first item out, and shows this watch from now on, if there is one.
+    pub fn finish(&mut self, item: &Result<HttpRequest, HttpFault>, watching: Option<Watching>)
+        requires { next_of self.old.inbox ≡ Some item.now }
+        ensures { self.new ≡ record self.old { inbox = after_next self.old.inbox item.now; watching = watching } }
+    {
+        self.inbox.done(item);
+        self.watching = watching;
+    }
 }

@@ -40,8 +40,7 @@ pub fn finish_request(
         → links.new.entries ≡ set_value (is_at (nat_cmp id)) links.old.entries (record c { inbox = after_next c.inbox item.now; watching = watching }) }
 {
     if let Some(connection) = links.get_mut(&id) {
-        connection.inbox.done(item);
-        connection.watching = watching;
+        connection.finish(item, watching);
     }
 }
 

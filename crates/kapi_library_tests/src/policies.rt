@@ -58,20 +58,32 @@ fn binding_is_deleted(alloc: Global) -> Result<PolicyChange, AllocError> {
     Ok(PolicyChange::Delete(PolicyKey::ClusterRoleBinding(name)))
 }
 
-fn may_get_pods<P: Policy>(alloc: Global, policy: &P) -> Result<bool, AllocError> {
-    let ann = Identity {
+fn ann(alloc: Global) -> Result<Identity, AllocError> {
+    Ok(Identity {
         user: Text::copy_of(alloc, "ann")?,
         groups: Sequence::new(Vec::new(alloc)),
-    };
-    let pods = Point::Resource(ResourcePoint {
+    })
+}
+
+/// What it is to get the pod `p`.
+fn pod(alloc: Global) -> Result<Point, AllocError> {
+    Ok(Point::Resource(ResourcePoint {
         verb: Text::copy_of(alloc, "get")?,
         group: Text::copy_of(alloc, "")?,
         resource: Text::copy_of(alloc, "pods")?,
         subresource: Text::copy_of(alloc, "")?,
         name: Text::copy_of(alloc, "p")?,
-    });
-    let is_allowed = matches!(policy.decide(&ann, "", &pods), Decision::Allowed(_));
-    Ok(is_allowed && policy.held(&ann, "")?.len() == 1)
+    }))
+}
+
+fn is_allowed<P: Policy>(policy: &P, identity: &Identity, point: &Point) -> bool {
+    matches!(policy.decide(identity, "", point), Decision::Allowed(_))
+}
+
+fn may_get_pods<P: Policy>(alloc: Global, policy: &P) -> Result<bool, AllocError> {
+    let ann = ann(alloc)?;
+    let may_get = is_allowed(policy, &ann, &pod(alloc)?);
+    Ok(may_get && policy.held(&ann, "")?.len() == 1)
 }
 
 fn has_role<P: Policy>(alloc: Global, policy: &P) -> Result<bool, AllocError> {

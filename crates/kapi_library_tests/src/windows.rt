@@ -47,6 +47,11 @@ fn watch_all(
     Ok(Watch::start(alloc, store, &row, "", &selector, "", revision))
 }
 
+/// A watch of all config maps, which starts.
+fn started(alloc: Global, store: &Store, revision: Option<u64>) -> Result<Watch, Fail> {
+    Ok(watch_all(alloc, store, revision)??)
+}
+
 /// A word for what a watch shows next.
 fn next_word(watch: &Watch, store: &Store) -> &'static str {
     match watch.next(store).event {
@@ -106,7 +111,7 @@ fn pump(rt: &impl Abort, store: &Store, watch: &mut Watch, wanted: &str) {
 fn a_watch_expires_after_its_first_objects(rt: HostRuntime) -> Result<(), Fail> {
     let alloc = rt.alloc();
     let mut store = updated(alloc, 0)?;
-    let mut watch = watch_all(alloc, &store, None)??;
+    let mut watch = started(alloc, &store, None)?;
     update(alloc, &mut store, 1_025)?;
     pump(&rt, &store, &mut watch, "ADDED");
     pump(&rt, &store, &mut watch, "ERROR");
@@ -155,7 +160,7 @@ fn are_moves(
 fn a_watch_moves_on_past_changes_of_other_resources(rt: HostRuntime) -> Result<(), Fail> {
     let alloc = rt.alloc();
     let mut store = updated(alloc, 0)?;
-    let mut watch = watch_all(alloc, &store, Some(3))??;
+    let mut watch = started(alloc, &store, Some(3))?;
     are_moves(&rt, alloc, &mut store, &mut watch, &MOVES)
 }
 
@@ -163,7 +168,7 @@ fn a_watch_moves_on_past_changes_of_other_resources(rt: HostRuntime) -> Result<(
 fn a_stopped_watch_shows_nothing_any_more(rt: HostRuntime) -> Result<(), Fail> {
     let alloc = rt.alloc();
     let store = updated(alloc, 0)?;
-    let mut watch = watch_all(alloc, &store, None)??;
+    let mut watch = started(alloc, &store, None)?;
     pump(&rt, &store, &mut watch, "ADDED");
     is_text(&rt, watch.stop().kind(), "ERROR");
     pump(&rt, &store, &mut watch, "nothing");

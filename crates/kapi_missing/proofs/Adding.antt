@@ -1,20 +1,24 @@
 -- One rule more among those that are found by their entries.
-use Rattle.std.proofs.Common.{◌≡◌, ℕ, zero, suc, ◌==◌, ◌<◌, Bool, true, false, ◌&&◌, ◌||◌, ◌⊎◌, inl, inr, if◌then◌else◌, List, [], ◌∷◌, ◌++◌, length, map, get_or, refl, ap, subst, sym, ◌∙◌, arith}
+use Rattle.std.proofs.Common.{◌≡◌, ℕ, zero, suc, ◌==◌, ◌<◌, Bool, true, false, not, ◌&&◌, ◌||◌, ◌⊎◌, inl, inr, if◌then◌else◌, List, [], ◌∷◌, ◌++◌, length, map, get_or, refl, ap, subst, sym, ◌∙◌, arith}
 use Rattle.std.proofs.lemmas.List.Folds.{list_any-append}
+use Rattle.std.proofs.lemmas.Bool.{or_left, or_right}
 use Rattle.std.proofs.lemmas.Bool.Decides.{nat_tests}
 use Rattle.std.specs.List.{list_any}
 use Rattle.std.specs.Str.{bytes_eq}
 use Rattle.kapi_text.proofs.Booleans.{or_false, by_truth}
 use Rattle.kapi_model.specs.declared.policy_rule.PolicyRule.{PolicyRule}
 use Rattle.kapi_rules.proofs.Law.{any_weaker}
-use Rattle.kapi_missing.proofs.Placed.{at_more, some_at}
+use Rattle.kapi_missing.proofs.Pieces.{not_near, regrouped}
+use Rattle.kapi_missing.proofs.Placed.{at_more, at_within, marked_at, not_false, same_number, some_at}
 use Rattle.kapi_missing.proofs.Repeats.{from_some}
-use Rattle.kapi_missing.proofs.Seen.{turned_word}
-use Rattle.kapi_missing.specs.Private.Index.{AreBars, IsAt, IsPlaced, Keeps, has_number, rules_in}
+use Rattle.kapi_missing.specs.Private.Index.{AreAllPlaced, AreBars, IsAt, IsPlaced, Keeps, has_pattern, patterned, rules_in, sets_in}
+use Rattle.kapi_missing.specs.Private.Sets.{has_number, in_words, stands, stands_at, stands_under}
 use Rattle.kapi_missing.specs.Private.Marks.{at}
-use Rattle.kapi_missing.specs.Private.Masks.{AreAllMasks}
+use Rattle.kapi_missing.specs.Private.Bars.{barred, entries_in, is_near_to, rule_in}
+use Rattle.kapi_missing.specs.Private.Stopped.{stops_at}
+use Rattle.kapi_missing.specs.declared.bars.Dimension.{Dimension}
 use Rattle.kapi_missing.specs.declared.bars.Sort.{Sort}
-use Rattle.kapi_missing.specs.declared.bars.Sort.TheVariants as sort
+use Rattle.kapi_missing.specs.declared.bars.Dimension.TheVariants as dimension
 use Rattle.kapi_missing.specs.declared.index.Bars.{Bars}
 use Rattle.kapi_missing.specs.declared.index.Index.{Index}
 
@@ -43,55 +47,58 @@ through t rules numbers has =
     by_truth (list_any (λ n. at (map t rules) n) numbers) (list_any t rules) (λ h. from_some (λ n. at (map t rules) n) numbers h (λ n is. some_at t rules n is))
     (λ h. position_of t rules h (λ n is. any_weaker (λ k. k == n) (at (map t rules)) numbers (λ k same. let e : k ≡ n = grind (arith, nat_tests) in rw e is) (has n is)))
 
--- ---- what is put under an entry
-
-pub put_has : (new old : List ℕ) (number : ℕ) (entry e : List ℕ) → new ≡ (if bytes_eq e entry then old ++ number ∷ [] else old)
-    → (n : ℕ) → has_number new n ≡ (has_number old n || (bytes_eq entry e && (number == n)))
-put_has new old number entry e is n = rw (is, turned_word entry e) (by_case (bytes_eq e entry))
-  where
-    by_case : (t : Bool) → has_number (if t then old ++ number ∷ [] else old) n ≡ (has_number old n || (t && (number == n)))
-    by_case true = list_any-append (λ m. m == n) old (number ∷ []) ∙ ap (λ r. has_number old n || r) (or_false (number == n))
-    by_case false = sym (or_false (has_number old n))
-
--- one entry more
-pub put_more : (a b c d : Bool) → ((a || (b && d)) || (c && d)) ≡ (a || ((b || c) && d))
-put_more true b c d = refl
-put_more false true c true = refl
-put_more false true true false = refl
-put_more false true false false = refl
-put_more false false c d = refl
-
 -- ---- one rule more
 
-kept : (held : Bool) (old new : Index) (n : ℕ) (rule : PolicyRule) (which : Sort) → Keeps old new → IsPlaced held old n rule which → IsPlaced held new n rule which
-kept held old new n rule which keeps (inl wide) = inl (keeps.0 n wide)
-kept held old new n rule which keeps (inr key) = inr (key.0, key.1, λ e listed. keeps.1 e n (key.2 e listed))
+kept : (old new : Index) (n : ℕ) (rule : PolicyRule) → Keeps old new → IsPlaced old n rule → IsPlaced new n rule
+kept old new n rule keeps placed =
+    (λ d e is. keeps.0 d e n (placed.0 d e is), λ url hash is. keeps.1 hash n (placed.1 url hash is), λ none. keeps.2 n (placed.2 none))
 
-pub one_more : (held : Bool) (rules : List PolicyRule) (rule : PolicyRule) (old new : Bars) (middle : Index) (n : ℕ) → n ≡ length (rules_in old)
-    → new.is_held ≡ old.is_held → rules_in new ≡ rules_in old ++ rule ∷ []
-    → IsPlaced old.is_held middle n rule sort.Resources → Keeps old.index middle → IsPlaced old.is_held new.index n rule sort.Urls → Keeps middle new.index
-    → (AreAllMasks old.seen old.is_held (rules_in old) old.masks.items → AreAllMasks new.seen old.is_held (rules_in old ++ rule ∷ []) new.masks.items)
+-- one element more of a list, and what is put for it
+pub put_step : (a b l p e : Bool) → ((a || (l && e)) ≡ true → b ≡ true) → (a || ((l || p) && e)) ≡ true → (b || (p && e)) ≡ true
+put_step true b l p e before h = or_left b (p && e) (before refl)
+put_step false b true p e before h = or_left b (p && e) (before h)
+put_step false b false p e before h = or_right b (p && e) h
+
+-- what is put for some element of a list
+pub put_own : (a l : Bool) (n : ℕ) → l ≡ true → (a || (l && (n == n))) ≡ true
+put_own a l n is = or_right a (l && (n == n)) (rw is (same_number n))
+
+pub placed_all : (index : Index) (n : ℕ) (rule : PolicyRule)
+    → ((e : List ℕ) → list_any (λ x. bytes_eq x e) rule.verbs ≡ true → stands_under index.verbs e n ≡ true)
+    → ((e : List ℕ) → list_any (λ x. bytes_eq x e) rule.api_groups ≡ true → stands_under index.groups e n ≡ true)
+    → ((e : List ℕ) → list_any (λ x. bytes_eq x e) rule.resources ≡ true → stands_under index.resources e n ≡ true)
+    → ((e : List ℕ) → list_any (λ x. bytes_eq x e) rule.resource_names ≡ true → stands_under index.names e n ≡ true)
+    → ((e : List ℕ) → list_any (λ x. bytes_eq x e) rule.non_resource_urls ≡ true → stands_under index.urls e n ≡ true)
+    → ((hash : ℕ) → list_any (has_pattern false hash) rule.resources ≡ true → stands_at index.patterns hash n ≡ true)
+    → ((hash : ℕ) → list_any (has_pattern true hash) rule.non_resource_urls ≡ true → stands_at index.patterns hash n ≡ true)
+    → ((length rule.resource_names == 0) ≡ true → stands index.nameless.items n ≡ true) → IsPlaced index n rule
+placed_all index n rule verbs groups resources names urls any_url begins none = (by_list, by_pattern, none)
+  where
+    by_list : (d : Dimension) (e : List ℕ) → list_any (λ x. bytes_eq x e) (entries_in d rule) ≡ true → stands_under (sets_in d index) e n ≡ true
+    by_list dimension.Verbs e is = verbs e is
+    by_list dimension.Groups e is = groups e is
+    by_list dimension.Resources e is = resources e is
+    by_list dimension.Names e is = names e is
+    by_list dimension.Urls e is = urls e is
+
+    by_pattern : (url : Bool) (hash : ℕ) → list_any (has_pattern url hash) (patterned url rule) ≡ true → stands_at index.patterns hash n ≡ true
+    by_pattern true hash is = begins hash is
+    by_pattern false hash is = any_url hash is
+
+pub one_more : (held : Bool) (rules : List PolicyRule) (rule : PolicyRule) (old new : Bars) (n : ℕ) → n ≡ length (rules_in old)
+    → new.is_held ≡ old.is_held → rules_in new ≡ rules_in old ++ rule ∷ [] → IsPlaced new.index n rule → Keeps old.index new.index
     → AreBars held rules old → AreBars held (rules ++ rule ∷ []) new
-one_more held rules rule old new middle n last same_held same_rules on_resources keeps on_urls keeps_on masks are = (
+one_more held rules rule old new n last same_held same_rules own keeps are = (
   same_held ∙ are.0,
   same_rules ∙ ap (λ rs. rs ++ rule ∷ []) are.1,
-  (
-    λ m r is which.
-        let here : IsAt (rules_in old ++ rule ∷ []) m r = subst (λ (rs : List PolicyRule). IsAt rs m r) same_rules is in
-        subst (λ (h : Bool). IsPlaced h new.index m r which) (sym same_held) (by_case m r which (at_more (rules_in old) rule m r here)),
-    subst (λ (h : Bool). AreAllMasks new.seen h (rules_in new) new.masks.items) (sym same_held)
-        (subst (λ (rs : List PolicyRule). AreAllMasks new.seen old.is_held rs new.masks.items) (sym same_rules) (masks are.2.1)),
-  ),
+  λ m r is.
+      let here : IsAt (rules_in old ++ rule ∷ []) m r = subst (λ (rs : List PolicyRule). IsAt rs m r) same_rules is in
+      by_case m r (at_more (rules_in old) rule m r here),
 )
   where
-    own : (which : Sort) → IsPlaced old.is_held new.index n rule which
-    own sort.Resources = kept old.is_held middle new.index n rule sort.Resources keeps_on on_resources
-    own sort.Urls = on_urls
-
-    by_case : (m : ℕ) (r : PolicyRule) (which : Sort) → IsAt (rules_in old) m r ⊎ ((m ≡ length (rules_in old)) × (rule ≡ r)) → IsPlaced old.is_held new.index m r which
-    by_case m r which (inl before) = kept old.is_held middle new.index m r which keeps_on (kept old.is_held old.index middle m r which keeps (are.2.0 m r before which))
-    by_case m r which (inr now) =
-        subst (λ (k : ℕ). IsPlaced old.is_held new.index k r which) (last ∙ sym now.0) (subst (λ (q : PolicyRule). IsPlaced old.is_held new.index n q which) now.1 (own which))
+    by_case : (m : ℕ) (r : PolicyRule) → IsAt (rules_in old) m r ⊎ ((m ≡ length (rules_in old)) × (rule ≡ r)) → IsPlaced new.index m r
+    by_case m r (inl before) = kept old.index new.index m r keeps (are.2 m r before)
+    by_case m r (inr now) = subst (λ (k : ℕ). IsPlaced new.index k r) (last ∙ sym now.0) (subst (λ (q : PolicyRule). IsPlaced new.index n q) now.1 own)
 
 pub map_push : {X Y : Type 0} (f : X → Y) (xs : List X) (x : X) → map f (xs ++ x ∷ []) ≡ map f xs ++ f x ∷ []
 map_push f [] x = refl
@@ -100,3 +107,34 @@ map_push f (y ∷ xs) x = ap (λ r. f y ∷ r) (map_push f xs x)
 pub map_long : {X Y : Type 0} (f : X → Y) (xs : List X) → length xs ≡ length (map f xs)
 map_long f [] = refl
 map_long f (x ∷ xs) = ap suc (map_long f xs)
+
+-- ---- all that bar are near
+
+pub all_near : (bars : Bars) (which : Sort) (wanted : PolicyRule) (words numbers : List ℕ) (count : ℕ) → count ≡ length bars.rules.items
+    → ((n : ℕ) (b : PolicyRule) → IsPlaced bars.index n b → is_near_to bars.is_held which b wanted ≡ true → in_words words n ≡ true)
+    → ((n : ℕ) → n < count → in_words words n ≡ true → has_number numbers n ≡ true) → AreAllPlaced bars
+    → (i j k l : ℕ) → list_any (stops_at bars which wanted i j k l) numbers ≡ list_any (λ b. barred bars.is_held which b wanted i j k l) (rules_in bars)
+all_near bars which wanted words numbers count is in_those listed placed i j k l = through (λ b. barred bars.is_held which b wanted i j k l) (rules_in bars) numbers has
+  where
+    has : (n : ℕ) → at (map (λ b. barred bars.is_held which b wanted i j k l) (rules_in bars)) n ≡ true → has_number numbers n ≡ true
+    has n h =
+        marked_at (λ b. barred bars.is_held which b wanted i j k l) (rules_in bars) n h (λ rule here bars_it.
+        let within : n < length (rules_in bars) = at_within (rules_in bars) n rule here in
+        let below : n < count = rw (is ∙ map_long rule_in bars.rules.items) within in
+        let near : is_near_to bars.is_held which rule wanted ≡ true =
+        not_false (is_near_to bars.is_held which rule wanted) (barred bars.is_held which rule wanted i j k l) (λ none. not_near bars.is_held which rule wanted none i j k l) bars_it in
+        listed n below (in_those n rule (placed n rule here) near))
+
+-- what is left after the first rules, beside all
+pub then_alone : (a f s r left v : Bool) → left ≡ (a && not f) → v ≡ (left && not r) → (f || s) ≡ r → v ≡ (a && not r)
+then_alone a f s r left v one two all = two ∙ ap (λ x. x && not r) one ∙ by_case a f s r all
+  where
+    by_case : (a f s r : Bool) → (f || s) ≡ r → ((a && not f) && not r) ≡ (a && not r)
+    by_case true true s true all = refl
+    by_case true true s false all = absurd cc
+    by_case true false s r all = refl
+    by_case false f s r all = refl
+
+-- beside the others
+pub then_rest : (a f s r left v : Bool) → left ≡ (a && not f) → v ≡ (left && not s) → (f || s) ≡ r → v ≡ (a && not r)
+then_rest a f s r left v one two all = two ∙ ap (λ x. x && not s) one ∙ regrouped a f s ∙ ap (λ x. a && not x) all

@@ -4,10 +4,10 @@ pub mod Pieces
 pub mod Each
 pub mod Repeats
 pub mod Placed
-pub mod Masked
+pub mod Bits
 pub mod Adding
-pub mod Losing
 pub mod Both
 pub mod Lefts
 pub mod Sliced
 pub mod Dead
+pub mod Singles

@@ -1,21 +1,21 @@
--- The rules that bar an atom are among those found by the entries of the wanted rule.
-use Rattle.std.proofs.Common.{◌≡◌, ℕ, zero, suc, ◌==◌, Bool, true, false, ◌&&◌, ◌||◌, ◌⊎◌, inl, inr, if◌then◌else◌, List, [], ◌∷◌, ◌++◌, length, map, refl, ap, sym, ◌∙◌}
-use Rattle.std.proofs.lemmas.Bool.{and_parts, or_cases, or_left, or_right, or_parts}
-use Rattle.std.specs.List.{list_any}
+-- Where a rule that meets an entry stands.
+use Rattle.std.proofs.Common.{◌≡◌, ℕ, zero, suc, ◌+◌, ◌<◌, ◌≤◌, ◌==◌, nat_eq, Bool, true, false, ◌&&◌, ◌||◌, ◌⊎◌, inl, inr, if◌then◌else◌, List, [], ◌∷◌, ◌++◌, length, map, take, Option, Some, None, refl, ap, subst, sym, ◌∙◌, arith}
+use Rattle.std.proofs.lemmas.Bool.{and_parts, or_cases, or_left, or_right}
+use Rattle.std.proofs.lemmas.Bool.Decides.{nat_tests}
+use Rattle.std.specs.List.{list_any, starts_with}
 use Rattle.std.specs.Str.{bytes_eq}
-use Rattle.kapi_text.proofs.Booleans.{or_false}
 use Rattle.kapi_model.specs.declared.policy_rule.PolicyRule.{PolicyRule}
+use Rattle.kapi_rules.proofs.Covers.{same}
+use Rattle.kapi_rules.specs.Atoms.{after_slash, is_any_with}
+use Rattle.kapi_rules.specs.Entries.{beginning_matches, star, without_stars, word_matches}
 use Rattle.kapi_missing.proofs.Pieces.{none_at}
-use Rattle.kapi_missing.proofs.Stars.{covers_split}
-use Rattle.kapi_missing.specs.Private.Bars.{barred, entries_in, entry_covers, is_wide, meets, name_marks, some_covers}
-use Rattle.kapi_missing.specs.Private.Index.{AreAllPlaced, IsAt, IsPlaced, has_number, is_list_of, listed_under, numbers_at, rules_in}
+use Rattle.kapi_missing.specs.Private.Bars.{entries_in, entry_covers, meets, some_name_met}
+use Rattle.kapi_missing.specs.Private.Index.{IsAt, IsPlaced, StandsByStar, any_stands, has_pattern, is_starred, sets_in}
 use Rattle.kapi_missing.specs.Private.Marks.{at}
-use Rattle.kapi_missing.specs.Private.Words.{has_star}
+use Rattle.kapi_missing.specs.Private.Sets.{fingerprint, stands, stands_at, stands_under}
 use Rattle.kapi_missing.specs.declared.bars.Dimension.{Dimension}
 use Rattle.kapi_missing.specs.declared.bars.Dimension.TheVariants as dimension
-use Rattle.kapi_missing.specs.declared.bars.Sort.{Sort}
-use Rattle.kapi_missing.specs.declared.bars.Sort.TheVariants as sort
-use Rattle.kapi_missing.specs.declared.index.Bars.{Bars}
+use Rattle.kapi_missing.specs.declared.index.Index.{Index}
 
 -- ---- truths
 
@@ -24,83 +24,8 @@ pub not_false : (a b : Bool) → (a ≡ false → b ≡ false) → b ≡ true �
 not_false true b leads h = refl
 not_false false b leads h = absurd (let none = leads refl in cc)
 
--- ---- a list in which a rule meets its entries alone
-
-plain_covers : (which : Dimension) (x y : List ℕ) → has_star x ≡ false → entry_covers which x y ≡ true → bytes_eq x y ≡ true
-plain_covers which x y plain h =
-    let split = rw plain at (covers_split which x y) in sym (sym h ∙ split ∙ or_false (bytes_eq x y))
-
-plain_list : (which : Dimension) (xs : List (List ℕ)) (y : List ℕ) → list_any has_star xs ≡ false → some_covers which xs y ≡ true → list_any (λ x. bytes_eq x y) xs ≡ true
-plain_list which [] y plain h = absurd cc
-plain_list which (x ∷ xs) y plain h = by_case (or_cases (entry_covers which x y) (some_covers which xs y) h) (plain_list which xs y (or_parts (has_star x) (list_any has_star xs) plain).1)
-  where
-    by_case : (entry_covers which x y ≡ true) ⊎ (some_covers which xs y ≡ true) → (some_covers which xs y ≡ true → list_any (λ x. bytes_eq x y) xs ≡ true)
-        → list_any (λ x. bytes_eq x y) (x ∷ xs) ≡ true
-    by_case (inl here) more = or_left (bytes_eq x y) (list_any (λ x. bytes_eq x y) xs) (plain_covers which x y (or_parts (has_star x) (list_any has_star xs) plain).0 here)
-    by_case (inr there) more = or_right (bytes_eq x y) (list_any (λ x. bytes_eq x y) xs) (more there)
-
--- names cover themselves alone
-names_list : (xs : List (List ℕ)) (y : List ℕ) → some_covers dimension.Names xs y ≡ true → list_any (λ x. bytes_eq x y) xs ≡ true
-names_list xs y h = h
-
-pub met_is_listed : (held : Bool) (which : Dimension) (rule : PolicyRule) (y : List ℕ) → is_wide held which rule ≡ false → meets held which rule y ≡ true
-    → list_any (λ x. bytes_eq x y) (entries_in which rule) ≡ true
-met_is_listed false which rule y plain h = h
-met_is_listed true dimension.Verbs rule y plain h = plain_list dimension.Verbs rule.verbs y plain h
-met_is_listed true dimension.Groups rule y plain h = plain_list dimension.Groups rule.api_groups y plain h
-met_is_listed true dimension.Resources rule y plain h = plain_list dimension.Resources rule.resources y plain h
-met_is_listed true dimension.Names rule y plain h = h
-met_is_listed true dimension.Urls rule y plain h = plain_list dimension.Urls rule.non_resource_urls y plain h
-
--- ---- a rule that bars an atom meets some entry of each list
-
 pub some_at : {X : Type 0} (p : X → Bool) (xs : List X) (i : ℕ) → at (map p xs) i ≡ true → list_any p xs ≡ true
 some_at p xs i h = not_false (list_any p xs) (at (map p xs) i) (λ none. none_at p xs none i) h
-
-some_name : (held : Bool) (rule : PolicyRule) (listed : List (List ℕ)) (l : ℕ) → (length rule.resource_names == 0) ≡ false → at (name_marks held rule listed) l ≡ true
-    → list_any (meets held dimension.Names rule) listed ≡ true
-some_name held rule [] zero some h = absurd cc
-some_name held rule [] (suc l) some h = absurd cc
-some_name held rule (x ∷ xs) l some h = some_at (meets held dimension.Names rule) (x ∷ xs) l (listed_marks held (rw some at h))
-  where
-    listed_marks : (t : Bool) → at (if t && false then map (λ e. true) (x ∷ xs) else map (meets held dimension.Names rule) (x ∷ xs)) l ≡ true
-        → at (map (meets held dimension.Names rule) (x ∷ xs)) l ≡ true
-    listed_marks true m = m
-    listed_marks false m = m
-
-pub some_met : (held : Bool) (which : Sort) (d : Dimension) (rule wanted : PolicyRule) (i j k l : ℕ) → is_list_of which d ≡ true → is_wide held d rule ≡ false
-    → barred held which rule wanted i j k l ≡ true → list_any (meets held d rule) (entries_in d wanted) ≡ true
-some_met held sort.Resources d rule wanted i j k l of plain h =
-    let g = and_parts (at (map (meets held dimension.Groups rule) wanted.api_groups) i) (at (map (meets held dimension.Resources rule) wanted.resources) j
-    && (at (map (meets held dimension.Verbs rule) wanted.verbs) k && at (name_marks held rule wanted.resource_names) l)) h in
-    let r = and_parts (at (map (meets held dimension.Resources rule) wanted.resources) j)
-    (at (map (meets held dimension.Verbs rule) wanted.verbs) k && at (name_marks held rule wanted.resource_names) l) g.1 in
-    let v = and_parts (at (map (meets held dimension.Verbs rule) wanted.verbs) k) (at (name_marks held rule wanted.resource_names) l) r.1 in
-    by_list d of plain g.0 r.0 v.0 v.1
-  where
-    by_list : (d : Dimension) → is_list_of sort.Resources d ≡ true → is_wide held d rule ≡ false
-        → at (map (meets held dimension.Groups rule) wanted.api_groups) i ≡ true → at (map (meets held dimension.Resources rule) wanted.resources) j ≡ true
-        → at (map (meets held dimension.Verbs rule) wanted.verbs) k ≡ true → at (name_marks held rule wanted.resource_names) l ≡ true
-        → list_any (meets held d rule) (entries_in d wanted) ≡ true
-    by_list dimension.Groups of plain g r v n = some_at (meets held dimension.Groups rule) wanted.api_groups i g
-    by_list dimension.Resources of plain g r v n = some_at (meets held dimension.Resources rule) wanted.resources j r
-    by_list dimension.Verbs of plain g r v n = some_at (meets held dimension.Verbs rule) wanted.verbs k v
-    by_list dimension.Names of plain g r v n = some_name held rule wanted.resource_names l plain n
-    by_list dimension.Urls of plain g r v n = absurd cc
-some_met held sort.Urls d rule wanted i j k l of plain h =
-    let u = and_parts (at (map (meets held dimension.Urls rule) wanted.non_resource_urls) i) (at (true ∷ []) j && (at (map (meets held dimension.Verbs rule) wanted.verbs) k && at (true ∷ []) l)) h in
-    let m = and_parts (at (true ∷ []) j) (at (map (meets held dimension.Verbs rule) wanted.verbs) k && at (true ∷ []) l) u.1 in
-    let v = and_parts (at (map (meets held dimension.Verbs rule) wanted.verbs) k) (at (true ∷ []) l) m.1 in
-    by_list d of u.0 v.0
-  where
-    by_list : (d : Dimension) → is_list_of sort.Urls d ≡ true
-        → at (map (meets held dimension.Urls rule) wanted.non_resource_urls) i ≡ true → at (map (meets held dimension.Verbs rule) wanted.verbs) k ≡ true
-        → list_any (meets held d rule) (entries_in d wanted) ≡ true
-    by_list dimension.Urls of u v = some_at (meets held dimension.Urls rule) wanted.non_resource_urls i u
-    by_list dimension.Verbs of u v = some_at (meets held dimension.Verbs rule) wanted.verbs k v
-    by_list dimension.Groups of u v = absurd cc
-    by_list dimension.Resources of u v = absurd cc
-    by_list dimension.Names of u v = absurd cc
 
 -- ---- positions
 
@@ -121,75 +46,126 @@ at_more (z ∷ xs) y (suc n) x is = by_case (at_more xs y n x is)
     by_case (inl here) = inl here
     by_case (inr last) = inr (ap suc last.0, last.1)
 
--- ---- one of some truths
+pub at_within : {X : Type 0} (xs : List X) (n : ℕ) (x : X) → IsAt xs n x → n < length xs
+at_within [] n x is = absurd is
+at_within (y ∷ xs) zero x is = omega arith
+at_within (y ∷ xs) (suc n) x is = let more = at_within xs n x is in omega (arith, more)
 
-second : (w v x : Bool) → v ≡ true → (w || (v || x)) ≡ true
-second true v x h = refl
-second false v x h = or_left v x h
+-- ---- an entry of a rule that meets the other
 
-third : (w v g x : Bool) → g ≡ true → (w || (v || (g || x))) ≡ true
-third true v g x h = refl
-third false v g x h = second v g x h
+-- some element that passes, for what follows from each
+from_any : {X : Type 0} {C : Type 0} (p : X → Bool) (xs : List X) → list_any p xs ≡ true
+    → ((x : X) → p x ≡ true → ((q : X → Bool) → q x ≡ true → list_any q xs ≡ true) → C) → C
+from_any p [] h leads = absurd cc
+from_any {X} {C} p (x ∷ xs) h leads =
+    by_case (or_cases (p x) (list_any p xs) h) (λ there. from_any p xs there (λ y is among. leads y is (λ q more. or_right (q x) (list_any q xs) (among q more))))
+  where
+    by_case : (p x ≡ true) ⊎ (list_any p xs ≡ true) → (list_any p xs ≡ true → C) → C
+    by_case (inl here) rest = leads x here (λ q is. or_left (q x) (list_any q xs) is)
+    by_case (inr there) rest = rest there
 
-fourth : (w v g r x : Bool) → r ≡ true → (w || (v || (g || (r || x)))) ≡ true
-fourth true v g r x h = refl
-fourth false v g r x h = third v g r x h
+starts_at : (front path : List ℕ) → starts_with nat_eq path front ≡ true → (length front < length path + 1) × (take (length front) path ≡ front)
+starts_at [] path h = (omega arith, refl)
+starts_at (x ∷ front) [] h = absurd cc
+starts_at (x ∷ front) (y ∷ path) h =
+    let parts = and_parts (nat_eq x y) (starts_with nat_eq path front) h in
+    let more = starts_at front path parts.1 in
+    let e : y ≡ x = grind (arith, nat_tests) in
+    (omega (arith, more.0), rw e (ap (λ r. x ∷ r) more.1))
 
-fifth : (w v g r n x : Bool) → n ≡ true → (w || (v || (g || (r || (n || x))))) ≡ true
-fifth true v g r n x h = refl
-fifth false v g r n x h = fourth v g r n x h
+or_true : (a : Bool) → (a || true) ≡ true
+or_true true = refl
+or_true false = refl
 
-last : (w v g r n u : Bool) → u ≡ true → (w || (v || (g || (r || (n || u))))) ≡ true
-last true v g r n u h = refl
-last false true g r n u h = refl
-last false false true r n u h = refl
-last false false false true n u h = refl
-last false false false false n u h = or_right n u h
+pub same_number : (m : ℕ) → (m == m) ≡ true
+same_number m = grind (arith, nat_tests)
 
--- ---- all that bar are near
+module _ (index : Index) (n : ℕ) (rule : PolicyRule) (placed : IsPlaced index n rule) where
+  abbrev Found : Dimension → List ℕ → Type 0
+  Found d y = (stands_under (sets_in d index) y n ≡ true) ⊎ StandsByStar d index y n
 
-module _ (bars : Bars) (which : Sort) (wanted : PolicyRule) where
-  abbrev under : List (List ℕ) → ℕ → Bool
-  under entries n = listed_under bars.index.places entries n
+  by_word : (d : Dimension) (x y : List ℕ) → ((q : List ℕ → Bool) → q x ≡ true → list_any q (entries_in d rule) ≡ true) → bytes_eq x y ≡ true
+      → stands_under (sets_in d index) y n ≡ true
+  by_word d x y among is = placed.0 d y (among (λ e. bytes_eq e y) is)
 
-  -- the number is wide, or stands under an entry of some list of the wanted rule
-  abbrev pub found : ℕ → Bool
-  found n =
-      has_number bars.index.wide.items n
-      || (listed_under bars.index.places wanted.verbs n
-      || (listed_under bars.index.places wanted.api_groups n
-      || (listed_under bars.index.places wanted.resources n
-      || (listed_under bars.index.places wanted.resource_names n || listed_under bars.index.places wanted.non_resource_urls n))))
-
-  listed_found : (d : Dimension) (n : ℕ) → listed_under bars.index.places (entries_in d wanted) n ≡ true → found n ≡ true
-  listed_found dimension.Verbs n h = second (has_number bars.index.wide.items n) (under wanted.verbs n)
-      (under wanted.api_groups n || (under wanted.resources n || (under wanted.resource_names n || under wanted.non_resource_urls n))) h
-  listed_found dimension.Groups n h = third (has_number bars.index.wide.items n) (under wanted.verbs n) (under wanted.api_groups n)
-      (under wanted.resources n || (under wanted.resource_names n || under wanted.non_resource_urls n)) h
-  listed_found dimension.Resources n h = fourth (has_number bars.index.wide.items n) (under wanted.verbs n) (under wanted.api_groups n) (under wanted.resources n)
-      (under wanted.resource_names n || under wanted.non_resource_urls n) h
-  listed_found dimension.Names n h = fifth (has_number bars.index.wide.items n) (under wanted.verbs n) (under wanted.api_groups n) (under wanted.resources n) (under wanted.resource_names n) (under wanted.non_resource_urls n) h
-  listed_found dimension.Urls n h = last (has_number bars.index.wide.items n) (under wanted.verbs n) (under wanted.api_groups n) (under wanted.resources n) (under wanted.resource_names n) (under wanted.non_resource_urls n) h
-
-  placed_found : (n : ℕ) (rule : PolicyRule) (i j k l : ℕ) → IsPlaced bars.is_held bars.index n rule which → barred bars.is_held which rule wanted i j k l ≡ true → found n ≡ true
-  placed_found n rule i j k l (inl wide) h =
-      or_left (has_number bars.index.wide.items n)
-      (under wanted.verbs n || (under wanted.api_groups n || (under wanted.resources n || (under wanted.resource_names n || under wanted.non_resource_urls n)))) wide
-  placed_found n rule i j k l (inr key) h =
-      listed_found key.0 n
-      (from_listed (entries_in key.0 wanted) (some_met bars.is_held which key.0 rule wanted i j k l key.1.0 key.1.1 h))
+  covered : (d : Dimension) (x y : List ℕ) → ((q : List ℕ → Bool) → q x ≡ true → list_any q (entries_in d rule) ≡ true) → entry_covers d x y ≡ true → Found d y
+  covered dimension.Verbs x y among h = by_case (or_cases (bytes_eq x star) (bytes_eq x y) h)
     where
-      from_listed : (es : List (List ℕ)) → list_any (meets bars.is_held key.0 rule) es ≡ true → listed_under bars.index.places es n ≡ true
-      from_listed [] some = absurd cc
-      from_listed (e ∷ es) some =
-          by_case (or_cases (meets bars.is_held key.0 rule e) (list_any (meets bars.is_held key.0 rule) es) some) (from_listed es)
-        where
-          by_case : (meets bars.is_held key.0 rule e ≡ true) ⊎ (list_any (meets bars.is_held key.0 rule) es ≡ true)
-              → (list_any (meets bars.is_held key.0 rule) es ≡ true → listed_under bars.index.places es n ≡ true) → listed_under bars.index.places (e ∷ es) n ≡ true
-          by_case (inl here) more = or_left (has_number (numbers_at bars.index.places e) n) (under es n) (key.2 e (met_is_listed bars.is_held key.0 rule e key.1.1 here))
-          by_case (inr there) more = or_right (has_number (numbers_at bars.index.places e) n) (under es n) (more there)
+      by_case : (bytes_eq x star ≡ true) ⊎ (bytes_eq x y ≡ true) → Found dimension.Verbs y
+      by_case (inl is) = inr (by_word dimension.Verbs x star among is)
+      by_case (inr is) = inl (by_word dimension.Verbs x y among is)
+  covered dimension.Groups x y among h = by_case (or_cases (bytes_eq x star) (bytes_eq x y) h)
+    where
+      by_case : (bytes_eq x star ≡ true) ⊎ (bytes_eq x y ≡ true) → Found dimension.Groups y
+      by_case (inl is) = inr (by_word dimension.Groups x star among is)
+      by_case (inr is) = inl (by_word dimension.Groups x y among is)
+  covered dimension.Names x y among h = inl (by_word dimension.Names x y among h)
+  covered dimension.Resources x y among h = by_case (or_cases (word_matches x y) (is_any_with x (after_slash y)) h)
+    where
+      by_rest : (o : Option (List ℕ)) → is_any_with x o ≡ true → any_stands index.patterns o n ≡ true
+      by_rest None is = absurd cc
+      by_rest (Some rest) is =
+          let e : x ≡ 42 ∷ 47 ∷ rest = same x (42 ∷ 47 ∷ rest) is in
+          placed.1 false (fingerprint (42 ∷ 47 ∷ rest)) (among (has_pattern false (fingerprint (42 ∷ 47 ∷ rest))) (rw e (same_number (fingerprint (42 ∷ 47 ∷ rest)))))
 
-  -- a rule that bars an atom is found
-  pub all_found : AreAllPlaced bars → (i j k l n : ℕ) → at (map (λ b. barred bars.is_held which b wanted i j k l) (rules_in bars)) n ≡ true → found n ≡ true
-  all_found placed i j k l n h =
-      marked_at (λ b. barred bars.is_held which b wanted i j k l) (rules_in bars) n h (λ rule here is. placed_found n rule i j k l (placed.0 n rule here which) is)
+      by_text : (bytes_eq x star ≡ true) ⊎ (bytes_eq x y ≡ true) → Found dimension.Resources y
+      by_text (inl is) = inr (or_left (stands_under index.resources star n) (any_stands index.patterns (after_slash y) n) (by_word dimension.Resources x star among is))
+      by_text (inr is) = inl (by_word dimension.Resources x y among is)
+
+      by_case : (word_matches x y ≡ true) ⊎ (is_any_with x (after_slash y) ≡ true) → Found dimension.Resources y
+      by_case (inl is) = by_text (or_cases (bytes_eq x star) (bytes_eq x y) is)
+      by_case (inr is) = inr (or_right (stands_under index.resources star n) (any_stands index.patterns (after_slash y) n) (by_rest (after_slash y) is))
+  covered dimension.Urls x y among h = by_case (or_cases (bytes_eq x y) (beginning_matches x y) h)
+    where
+      by_case : (bytes_eq x y ≡ true) ⊎ (beginning_matches x y ≡ true) → Found dimension.Urls y
+      by_case (inl is) = inl (by_word dimension.Urls x y among is)
+      by_case (inr is) =
+          let parts = and_parts (is_starred x) (starts_with nat_eq y (without_stars x)) is in
+          let start = starts_at (without_stars x) y parts.1 in
+          let key = fingerprint (without_stars x) in
+          let here : has_pattern true key x ≡ true = rw parts.0 (same_number key) in
+          inr (length (without_stars x), start.0, ap (λ t. stands_at index.patterns (fingerprint t) n) start.1 ∙ placed.1 true key (among (has_pattern true key) here))
+
+  pub met_stands : (held : Bool) (d : Dimension) (y : List ℕ) → meets held d rule y ≡ true
+      → (stands_under (sets_in d index) y n ≡ true) ⊎ ((held ≡ true) × StandsByStar d index y n)
+  met_stands false d y h = inl (placed.0 d y h)
+  met_stands true d y h = from_any (λ e. entry_covers d e y) (entries_in d rule) h (λ x is among. by_star (covered d x y among is))
+    where
+      by_star : Found d y → (stands_under (sets_in d index) y n ≡ true) ⊎ ((true ≡ true) × StandsByStar d index y n)
+      by_star (inl is) = inl is
+      by_star (inr is) = inr (refl, is)
+
+  -- what is marked of the rules that meet an entry
+  pub met_marked : (held : Bool) (d : Dimension) (y : List ℕ) (old under new : Bool) → ((old || stands_under (sets_in d index) y n) ≡ true → under ≡ true)
+      → (under ≡ true → new ≡ true) → (StandsByStar d index y n → new ≡ true) → (old || meets held d rule y) ≡ true → new ≡ true
+  met_marked held d y old under new listed kept by_star h = by_case (or_cases old (meets held d rule y) h)
+    where
+      by_met : (stands_under (sets_in d index) y n ≡ true) ⊎ ((held ≡ true) × StandsByStar d index y n) → new ≡ true
+      by_met (inl is) = kept (listed (or_right old (stands_under (sets_in d index) y n) is))
+      by_met (inr star) = by_star star.1
+
+      by_case : (old ≡ true) ⊎ (meets held d rule y ≡ true) → new ≡ true
+      by_case (inl is) = kept (listed (or_left old (stands_under (sets_in d index) y n) is))
+      by_case (inr met) = by_met (met_stands held d y met)
+
+  pub names_marked : (held : Bool) (names : List (List ℕ)) (old middle new : Bool)
+      → ((old || ((held || (length names == 0)) && stands index.nameless.items n)) ≡ true → middle ≡ true)
+      → ((middle || list_any (meets held dimension.Names rule) names) ≡ true → new ≡ true) → some_name_met held rule names ≡ true → new ≡ true
+  names_marked held [] old middle new none all h =
+      let there : ((held || true) && stands index.nameless.items n) ≡ true = rw (placed.2 h, or_true held) refl in
+      all (or_left middle false (none (or_right old ((held || true) && stands index.nameless.items n) there)))
+  names_marked held (x ∷ names) old middle new none all h =
+      by_case (or_cases (held && (length rule.resource_names == 0)) (list_any (meets held dimension.Names rule) (x ∷ names)) h)
+    where
+      by_case : ((held && (length rule.resource_names == 0)) ≡ true) ⊎ (list_any (meets held dimension.Names rule) (x ∷ names) ≡ true) → new ≡ true
+      by_case (inl is) =
+          let parts = and_parts held (length rule.resource_names == 0) is in
+          let there : ((held || (length (x ∷ names) == 0)) && stands index.nameless.items n) ≡ true = rw (parts.0, placed.2 parts.1) refl in
+          all (or_left middle (list_any (meets held dimension.Names rule) (x ∷ names)) (none (or_right old ((held || (length (x ∷ names) == 0)) && stands index.nameless.items n) there)))
+      by_case (inr is) = all (or_right middle (list_any (meets held dimension.Names rule) (x ∷ names)) is)
+
+-- one element more of a list, and what is marked for it
+pub mark_step : (a b l p : Bool) → ((a || l) ≡ true → b ≡ true) → (a || (l || p)) ≡ true → (b || p) ≡ true
+mark_step true b l p before h = or_left b p (before refl)
+mark_step false b true p before h = or_left b p (before refl)
+mark_step false b false p before h = or_right b p h

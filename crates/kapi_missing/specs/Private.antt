@@ -3,9 +3,10 @@ pub mod Once
 pub mod Words
 pub mod Marks
 pub mod Bars
-pub mod Masks
+pub mod Sets
 pub mod Left
 pub mod Slices
 pub mod Index
 pub mod Stopped
 pub mod Slim
+pub mod Alone

@@ -1,6 +1,6 @@
 //! What stops an atom of a wanted rule from being missing: a held rule that implies it, or an earlier wanted rule that has it.
 ghost use Rattle.std.specs.Prelude.{◌≡◌, ◌∷◌, [], ℕ, true, map, IfOk};
-ghost use Rattle.kapi_missing.specs.Private.Bars.{barred, entries_in, entry_covers as covers_entry, is_near_to, meets, name_marks, rule_in, some_covers, some_name_met, wanted_at, whole_name_marks};
+ghost use Rattle.kapi_missing.specs.Private.Bars.{barred, entries_in, entry_covers as covers_entry, meets, name_marks, rule_in, some_covers, wanted_at, whole_name_marks};
 ghost use Rattle.kapi_rules.specs.Entries.{word_matches as word_entry_matches};
 ghost use Rattle.kapi_missing.specs.Private.Marks.{has};
 ghost use Rattle.kapi_missing.specs.Private.Words.{texts_at};
@@ -40,6 +40,41 @@ pub fn entries_of(rule: &PolicyRule, dimension: Dimension) -> &[Text]
         Dimension::Resources => rule.resources.as_slice(),
         Dimension::Names => rule.resource_names.as_slice(),
         Dimension::Urls => rule.non_resource_urls.as_slice(),
+    }
+}
+
+/// How many entries the list has.
+pub fn length_of(rule: &PolicyRule, dimension: Dimension) -> usize {
+    entries_of(rule, dimension).len()
+}
+
+/// How many entries the rule has.
+pub fn size_of(rule: &PolicyRule) -> usize {
+    length_of(rule, Dimension::Verbs)
+        .saturating_add(length_of(rule, Dimension::Groups))
+        .saturating_add(length_of(rule, Dimension::Resources))
+        .saturating_add(length_of(rule, Dimension::Names))
+        .saturating_add(length_of(rule, Dimension::Urls))
+}
+
+/// The sort of the atoms of a rule that has those of one sort.
+pub fn sort_of(rule: &PolicyRule) -> Sort {
+    if rule.api_groups.as_slice().is_empty() {
+        Sort::Urls
+    } else {
+        Sort::Resources
+    }
+}
+
+/// How many atoms such a rule has.
+pub fn size_in_atoms(rule: &PolicyRule) -> usize {
+    let verbs = length_of(rule, Dimension::Verbs);
+    match sort_of(rule) {
+        Sort::Resources => length_of(rule, Dimension::Groups)
+            .saturating_mul(length_of(rule, Dimension::Resources))
+            .saturating_mul(length_of(rule, Dimension::Names).max(1))
+            .saturating_mul(verbs),
+        Sort::Urls => length_of(rule, Dimension::Urls).saturating_mul(verbs),
     }
 }
 
@@ -271,58 +306,4 @@ pub fn whole_part(alloc: Global, sort: Sort, rule: &PolicyRule) -> Result<Marks,
             names: one_mark(alloc, true)?,
         }),
     }
-}
-
-// The bar meets some entry.
-fn is_some_met(bar: &Bar<'_>, is_held: bool, dimension: Dimension, entries: &[Text]) -> bool
-    ensures { result ≡ list_any (meets is_held dimension (rule_in bar.now)) entries.now }
-{
-    entries
-        .iter()
-        .any(|entry| is_met(bar, is_held, dimension, entry.as_str()))
-}
-
-fn is_some_name_met(bar: &Bar<'_>, is_held: bool, names: &[Text]) -> bool
-    ensures { result ≡ some_name_met is_held (rule_in bar.now) names.now }
-{
-    let is_all = bar.names.all.is_empty();
-    if names.is_empty() {
-        is_all
-    } else {
-        (is_held && is_all) || is_some_met(bar, is_held, Dimension::Names, names)
-    }
-}
-
-/// Whether the bar meets an entry of each list of the wanted rule. It takes no memory.
-pub fn is_near(bar: &Bar<'_>, is_held: bool, sort: Sort, rule: &PolicyRule) -> bool
-    ensures { result ≡ is_near_to is_held sort (rule_in bar.now) rule.now }
-{
-    match sort {
-        Sort::Resources => is_near_resources(bar, is_held, rule),
-        Sort::Urls => is_near_urls(bar, is_held, rule),
-    }
-}
-
-fn is_near_resources(bar: &Bar<'_>, is_held: bool, rule: &PolicyRule) -> bool
-    ensures { result ≡ is_near_to is_held Sort.Resources (rule_in bar.now) rule.now }
-{
-    is_some_met(
-        bar,
-        is_held,
-        Dimension::Resources,
-        rule.resources.as_slice(),
-    ) && (is_some_name_met(bar, is_held, rule.resource_names.as_slice())
-        && (is_some_met(bar, is_held, Dimension::Verbs, rule.verbs.as_slice())
-            && is_some_met(bar, is_held, Dimension::Groups, rule.api_groups.as_slice())))
-}
-
-fn is_near_urls(bar: &Bar<'_>, is_held: bool, rule: &PolicyRule) -> bool
-    ensures { result ≡ is_near_to is_held Sort.Urls (rule_in bar.now) rule.now }
-{
-    is_some_met(
-        bar,
-        is_held,
-        Dimension::Urls,
-        rule.non_resource_urls.as_slice(),
-    ) && is_some_met(bar, is_held, Dimension::Verbs, rule.verbs.as_slice())
 }

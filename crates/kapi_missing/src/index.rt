@@ -1,24 +1,29 @@
 //! Rules that may stop atoms, found by the entries of the wanted rule.
-ghost use Rattle.std.specs.Prelude.{◌≡◌, ◌==◌, ◌∷◌, [], ◌++◌, ◌&&◌, ◌||◌, if◌then◌else◌, ℕ, Bool, List, map, true, false, IfOk, OnOk};
+ghost use Rattle.std.specs.Prelude.{◌≡◌, ◌==◌, ◌∷◌, [], ◌++◌, ◌&&◌, ◌||◌, ℕ, Bool, List, length, true, IfOk, OnOk, MatchOption};
 ghost use Rattle.std.specs.List.{list_any};
-ghost use Rattle.std.specs.Str.{bytes_eq};
 ghost use Rattle.kapi_model.specs.declared.policy_rule.PolicyRule.{PolicyRule as PolicyRuleValue};
-ghost use Rattle.kapi_missing.specs.Private.Bars.{entries_in};
-ghost use Rattle.kapi_missing.specs.Private.Index.{AreBars, IsKey, IsPlaced, Keeps, has_number, is_list_of, numbers_at};
+ghost use Rattle.kapi_rules.specs.Entries.{without_stars as without_last_stars};
+ghost use Rattle.kapi_missing.specs.Private.Index.{AreBars, IsPlaced, Keeps, has_pattern, is_starred as starred, open_start};
+ghost use Rattle.kapi_missing.specs.Private.Sets.{stands, stands_at};
 
-use crate::bars::{Bar, Dimension, Sort, bar_of, entries_of};
-use crate::masks::{Masks, Seen, masks_of, words_in};
-use crate::wide::is_wide;
+use crate::bars::{Bar, bar_of};
+use crate::sets::{Block, Patterns, Sets, add_number, continued, put_at, put_under_all};
 use kapi_model::PolicyRule;
 use kapi_text::{Memory, Text};
 use std::alloc::Global;
 use std::collections::BTreeMap;
 
-/// The numbers of rules. Each stands under the entries of one list in which its rule meets these alone, or else is wide.
+/// The numbers of rules: under each entry of each of their lists, and apart those that list no names. Those with an entry
+/// that covers others by a star stand under a fingerprint of that too.
 #[derive(Drop)]
 pub struct Index<'a> {
-    pub places: BTreeMap<&'a str, Vec<usize>>,
-    pub wide: Vec<usize>,
+    pub verbs: Sets<'a>,
+    pub groups: Sets<'a>,
+    pub resources: Sets<'a>,
+    pub names: Sets<'a>,
+    pub urls: Sets<'a>,
+    pub patterns: Patterns,
+    pub nameless: Vec<Block>,
 }
 
 /// Rules that may stop atoms: held ones, or wanted ones.
@@ -26,150 +31,125 @@ pub struct Index<'a> {
 pub struct Bars<'a> {
     pub is_held: bool,
     pub rules: Vec<Bar<'a>>,
-    pub masks: Vec<Masks>,
-    pub seen: BTreeMap<&'a str, Seen>,
     pub index: Index<'a>,
 }
 
-/// No bars yet. Of these rules there may be some: a rule is put where the fewest of them are.
-pub fn no_bars<'a>(
-    alloc: Global,
-    is_held: bool,
-    rules: &'a [PolicyRule],
-) -> Result<Bars<'a>, Memory>
-    ensures { IfOk result (AreBars is_held []) }
+/// No bars yet.
+pub fn no_bars<'a>(alloc: Global, is_held: bool) -> Bars<'a>
+    ensures { AreBars is_held [] result }
 {
-    Ok(Bars {
+    Bars {
         is_held,
         rules: Vec::new(alloc),
-        masks: Vec::new(alloc),
-        seen: words_in(alloc, rules)?,
         index: Index {
-            places: BTreeMap::new(alloc),
-            wide: Vec::new(alloc),
+            verbs: BTreeMap::new(alloc),
+            groups: BTreeMap::new(alloc),
+            resources: BTreeMap::new(alloc),
+            names: BTreeMap::new(alloc),
+            urls: BTreeMap::new(alloc),
+            patterns: BTreeMap::new(alloc),
+            nameless: Vec::new(alloc),
         },
-    })
-}
-
-// How many rules share entries of the list.
-fn cost(seen: &BTreeMap<&str, Seen>, entries: &[Text]) -> usize {
-    let mut total: usize = 0;
-    for entry in entries {
-        total = total.saturating_add(count_of(seen, entry.as_str()));
-    }
-    total
-}
-
-fn count_of(seen: &BTreeMap<&str, Seen>, word: &str) -> usize {
-    match seen.get(word) {
-        Some(word) => word.count,
-        None => 0,
     }
 }
 
-fn is_dearer(
-    seen: &BTreeMap<&str, Seen>,
-    rule: &PolicyRule,
-    best: Option<Dimension>,
-    dimension: Dimension,
-) -> bool {
-    match best {
-        Some(other) => {
-            cost(seen, entries_of(rule, other)) <= cost(seen, entries_of(rule, dimension))
-        }
-        None => false,
-    }
-}
-
-// The list that fewer rules share.
-fn better(
-    seen: &BTreeMap<&str, Seen>,
-    rule: &PolicyRule,
-    is_held: bool,
-    sort: Sort,
-    best: Option<Dimension>,
-    dimension: Dimension,
-) -> Option<Dimension>
-    requires list { is_list_of sort dimension ≡ true }
-    requires best { IsKey is_held sort rule.now best }
-    ensures { IsKey is_held sort rule.now result }
+fn is_starred(entry: &[u8]) -> bool
+    ensures { result ≡ starred entry.now }
 {
-    if is_wide(rule, is_held, dimension) || is_dearer(seen, rule, best, dimension) {
-        best
+    entry.ends_with(b"*")
+}
+
+// The text before the last byte where that is a star; without it the text has no stars at its end.
+#[tactic(auto, using(kapi_rules::proofs::Texts::without_stars_kept))]
+fn before_last_star(text: &[u8]) -> Option<&[u8]>
+    ensures { MatchOption result (without_last_stars text.now ≡ text.now) (λ front. text.now ≡ front.now ++ 42 ∷ []) }
+{
+    match text.split_last() {
+        Some((last, front)) => { if *last == b'*' { Some(front) } else { None } }
+        None => None,
+    }
+}
+
+// The text without the stars at its end.
+#[tactic(auto, using(kapi_rules::proofs::Texts::without_stars_append))]
+fn without_stars(text: &[u8]) -> &[u8]
+    ensures { result.now ≡ without_last_stars text.now }
+{
+    let mut front = text;
+    while let Some(shorter) = before_last_star(front) {
+        front = shorter;
+    }
+    front
+}
+
+fn is_open(entry: &[u8]) -> bool
+    ensures { result ≡ open_start entry.now }
+{
+    entry.starts_with(b"*")
+}
+
+// A URL with stars at its end stands for what begins with the text before them, and a resource with a star at its start
+// for itself.
+fn put_pattern(
+    patterns: &mut Patterns,
+    entry: &[u8],
+    is_url: bool,
+    number: usize,
+) -> Result<(), Memory>
+    ensures { OnOk result ((h n : ℕ) → (stands_at patterns.old h n || (has_pattern is_url h entry.now && (number == n))) ≡ true → stands_at patterns.new h n ≡ true) }
+{
+    if is_url {
+        if is_starred(entry) {
+            return put_at(patterns, continued(0, without_stars(entry)), number);
+        }
+    } else if is_open(entry) {
+        return put_at(patterns, continued(0, entry), number);
+    }
+    Ok(())
+}
+
+fn put_patterns(
+    patterns: &mut Patterns,
+    entries: &[Text],
+    is_url: bool,
+    number: usize,
+) -> Result<(), Memory>
+    ensures { OnOk result ((h n : ℕ) → (stands_at patterns.old h n || (list_any (has_pattern is_url h) entries.now && (number == n))) ≡ true → stands_at patterns.new h n ≡ true) }
+{
+    for entry in entries {
+        put_pattern(patterns, entry.as_str().as_bytes(), is_url, number)?;
+    }
+    Ok(())
+}
+
+fn put_nameless(nameless: &mut Vec<Block>, names: &[Text], number: usize) -> Result<(), Memory>
+    ensures { OnOk result ((n : ℕ) → (stands nameless.old.items n || ((length names.now == 0) && (number == n))) ≡ true → stands nameless.new.items n ≡ true) }
+{
+    if names.is_empty() {
+        add_number(nameless, number)
     } else {
-        Some(dimension)
+        Ok(())
     }
 }
 
-// The list under whose entries the rule is put, if there is one in which it meets these alone.
-fn key_of(
-    seen: &BTreeMap<&str, Seen>,
-    rule: &PolicyRule,
-    is_held: bool,
-    sort: Sort,
-) -> Option<Dimension>
-    ensures { IsKey is_held sort rule.now result }
-{
-    match sort {
-        Sort::Resources => {
-            let best = better(seen, rule, is_held, sort, None, Dimension::Resources);
-            let best = better(seen, rule, is_held, sort, best, Dimension::Names);
-            let best = better(seen, rule, is_held, sort, best, Dimension::Verbs);
-            better(seen, rule, is_held, sort, best, Dimension::Groups)
-        }
-        Sort::Urls => {
-            let best = better(seen, rule, is_held, sort, None, Dimension::Urls);
-            better(seen, rule, is_held, sort, best, Dimension::Verbs)
-        }
-    }
-}
-
-fn put_under<'a>(
-    places: &mut BTreeMap<&'a str, Vec<usize>>,
-    entry: &'a str,
-    number: usize,
-) -> Result<(), Memory>
-    ensures { OnOk result ((e : List ℕ) → numbers_at places.new e ≡ (if bytes_eq e entry.now then numbers_at places.old e ++ number ∷ [] else numbers_at places.old e)) }
-{
-    places.entry(entry)?.or_default().push(number)?;
-    Ok(())
-}
-
-fn put_under_all<'a>(
-    places: &mut BTreeMap<&'a str, Vec<usize>>,
-    entries: &'a [Text],
-    number: usize,
-) -> Result<(), Memory>
-    ensures { OnOk result ((e : List ℕ) (n : ℕ) → has_number (numbers_at places.new e) n
-        ≡ (has_number (numbers_at places.old e) n || (list_any (λ x. bytes_eq x e) entries.now && (number == n)))) }
-{
-    for entry in entries {
-        put_under(places, entry.as_str(), number)?;
-    }
-    Ok(())
-}
-
-fn place<'a>(
-    index: &mut Index<'a>,
-    seen: &BTreeMap<&str, Seen>,
-    rule: &'a PolicyRule,
-    is_held: bool,
-    sort: Sort,
-    number: usize,
-) -> Result<(), Memory>
-    ensures placed { OnOk result (IsPlaced is_held index.new number rule.now sort) }
+fn place<'a>(index: &mut Index<'a>, rule: &'a PolicyRule, number: usize) -> Result<(), Memory>
+    ensures placed { OnOk result (IsPlaced index.new number rule.now) }
     ensures kept { OnOk result (Keeps index.old index.new) }
 {
-    match key_of(seen, rule, is_held, sort) {
-        Some(dimension) => {
-            put_under_all(&mut index.places, entries_of(rule, dimension), number)?;
-            Ok(())
-        }
-        None => {
-            index.wide.push(number)?;
-            Ok(())
-        }
-    }
+    let urls = rule.non_resource_urls.as_slice();
+    put_under_all(&mut index.verbs, rule.verbs.as_slice(), number)?;
+    put_under_all(&mut index.groups, rule.api_groups.as_slice(), number)?;
+    put_under_all(&mut index.resources, rule.resources.as_slice(), number)?;
+    put_under_all(&mut index.names, rule.resource_names.as_slice(), number)?;
+    put_under_all(&mut index.urls, urls, number)?;
+    put_nameless(&mut index.nameless, rule.resource_names.as_slice(), number)?;
+    put_patterns(
+        &mut index.patterns,
+        rule.resources.as_slice(),
+        false,
+        number,
+    )?;
+    put_patterns(&mut index.patterns, urls, true, number)
 }
 
 /// One rule more.
@@ -177,24 +157,7 @@ pub fn add_bar<'a>(alloc: Global, bars: &mut Bars<'a>, rule: &'a PolicyRule) -> 
     ensures { OnOk result ((held : Bool) (rules : List PolicyRuleValue) → AreBars held rules bars.old → AreBars held (rules ++ rule.now ∷ []) bars.new) }
 {
     let number = bars.rules.len();
-    let is_held = bars.is_held;
-    place(
-        &mut bars.index,
-        &bars.seen,
-        rule,
-        is_held,
-        Sort::Resources,
-        number,
-    )?;
-    place(
-        &mut bars.index,
-        &bars.seen,
-        rule,
-        is_held,
-        Sort::Urls,
-        number,
-    )?;
-    bars.masks.push(masks_of(&bars.seen, rule, is_held))?;
+    place(&mut bars.index, rule, number)?;
     bars.rules.push(bar_of(alloc, rule)?)?;
     Ok(())
 }
@@ -203,7 +166,7 @@ pub fn add_bar<'a>(alloc: Global, bars: &mut Bars<'a>, rule: &'a PolicyRule) -> 
 pub fn held_bars<'a>(alloc: Global, held: &'a [PolicyRule]) -> Result<Bars<'a>, Memory>
     ensures { IfOk result (AreBars true held.now) }
 {
-    let mut bars = no_bars(alloc, true, held)?;
+    let mut bars = no_bars(alloc, true);
     for rule in held {
         add_bar(alloc, &mut bars, rule)?;
     }

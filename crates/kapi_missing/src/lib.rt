@@ -1,19 +1,20 @@
 //! What the holder of some rules lacks of others, at a cost that hostile rules cannot drive up.
 #![tactic(auto)]
 
+mod alone;
 mod bars;
 mod entries;
 mod index;
 mod left;
 mod marks;
-mod masks;
 mod missing_atoms;
+mod near;
 mod once;
 mod plans;
+mod sets;
 mod slices;
 mod slim;
 mod stopped;
-mod wide;
 mod words;
 
 pub use missing_atoms::missing;

@@ -67,8 +67,8 @@ fn is_any_kept(marks: &[bool], others: &[bool], keep: Keep) -> bool
     false
 }
 
-// Whether the piece has an atom. It takes no memory.
-fn is_piece(marks: &Marks, bar: &Marks, g: Keep, r: Keep, v: Keep, n: Keep) -> bool
+/// Whether the piece has an atom. It takes no memory.
+pub fn is_piece(marks: &Marks, bar: &Marks, g: Keep, r: Keep, v: Keep, n: Keep) -> bool
     ensures { result ≡ is_some_piece marks.now bar.now g r v n }
 {
     is_any_kept(marks.groups.as_slice(), bar.groups.as_slice(), g)
@@ -102,9 +102,9 @@ fn piece_of(
     })
 }
 
-// A piece of what is marked, unless it is empty.
+/// A piece of what is marked, unless it is empty.
 #[tactic(auto, using(crate::proofs::Pieces::no_piece))]
-fn push_piece(
+pub fn push_piece(
     alloc: Global,
     list: &mut Vec<Marks>,
     marks: &Marks,
@@ -162,4 +162,25 @@ pub fn without(alloc: Global, parts: Vec<Marks>, bar: &Marks) -> Result<Vec<Mark
         push_left(alloc, &mut list, marks, bar)?;
     }
     Ok(list)
+}
+
+fn marked_in(marks: &[bool]) -> usize {
+    marks.iter().filter(|mark| **mark).count()
+}
+
+fn atoms_in(marks: &Marks) -> usize {
+    let groups = marked_in(marks.groups.as_slice());
+    groups
+        .saturating_mul(marked_in(marks.resources.as_slice()))
+        .saturating_mul(marked_in(marks.verbs.as_slice()))
+        .saturating_mul(marked_in(marks.names.as_slice()))
+}
+
+/// How many atoms the parts have: no two have one in common.
+pub fn atoms_of(parts: &[Marks]) -> usize {
+    let mut total: usize = 0;
+    for marks in parts {
+        total = total.saturating_add(atoms_in(marks));
+    }
+    total
 }

@@ -11,7 +11,7 @@ ghost use Rattle.kapi_missing.specs.Private.Slices.{AddsLeft};
 
 use crate::bars::{Dimension, Sort, whole_part};
 use crate::index::{Bars, add_bar, held_bars, no_bars};
-use crate::marks::Marks;
+use crate::marks::{Marks, atoms_of};
 use crate::once::once_rule;
 use crate::slices::{Halves, by_sorts, cut, sliced_list};
 use crate::slim::slim;
@@ -140,7 +140,7 @@ fn push_cut(
 ) -> Result<(), Memory>
     ensures { OnOk result (AddsLeft held.now earlier.now list.old.items list.new.items rule) }
 {
-    match sliced_list(held, earlier, &rule) {
+    match sliced_list(alloc, held, earlier, &rule)? {
         Some(last) => push_slices(alloc, held, earlier, list, rule, last, 64),
         None => push_planned(alloc, held, earlier, list, rule),
     }
@@ -192,25 +192,6 @@ fn push_wanted(
     push_by_sorts(alloc, held, earlier, list, rule)
 }
 
-fn marked_in(marks: &[bool]) -> usize {
-    marks.iter().filter(|mark| **mark).count()
-}
-
-// How many atoms the parts have: no two parts have one in common.
-fn atoms_of(parts: &[Marks]) -> usize {
-    let mut total: usize = 0;
-    for marks in parts {
-        let on_groups = marked_in(marks.groups.as_slice()).saturating_mul(marked_in(
-            marks.resources.as_slice(),
-        ));
-        let on_verbs = marked_in(marks.verbs.as_slice()).saturating_mul(marked_in(
-            marks.names.as_slice(),
-        ));
-        total = total.saturating_add(on_groups.saturating_mul(on_verbs));
-    }
-    total
-}
-
 fn atoms_in(plans: &[Plan]) -> usize {
     let mut total: usize = 0;
     for plan in plans {
@@ -243,7 +224,7 @@ pub fn plans(
     ensures room { OnOk result (found.new.items ≡ found.old.items) }
 {
     let held = held_bars(alloc, held)?;
-    let mut earlier = no_bars(alloc, false, wanted)?;
+    let mut earlier = no_bars(alloc, false);
     let mut list = Vec::new(alloc);
     let mut atoms: usize = 0;
     for rule in wanted {

@@ -2,8 +2,10 @@
 ghost use Rattle.std.specs.Prelude.{◌≡◌, ◌==◌, length, IfOk};
 ghost use Rattle.kapi_missing.specs.Private.Slices.{AreHalves, list_with as list_in, may_cut as may_cut_in, number, with_entries as changed_rule};
 
-use crate::bars::{Dimension, entries_of};
+use crate::bars::{Dimension, Sort, entries_of, length_of, size_of, sort_of};
 use crate::index::Bars;
+use crate::near::{near, sets_of};
+use crate::sets::{Block, count};
 use kapi_model::PolicyRule;
 use kapi_text::{Memory, Sequence, Text, TryCopy};
 use std::alloc::Global;
@@ -123,10 +125,6 @@ fn sorts_apart(alloc: Global, rule: &PolicyRule) -> Result<Option<Halves>, Memor
     Ok(Some(Halves { first, second }))
 }
 
-fn length_of(rule: &PolicyRule, dimension: Dimension) -> usize {
-    entries_of(rule, dimension).len()
-}
-
 // The first list of several entries, or the last one while it is long. Names are not cut: beside them nothing is left
 // that has several entries, so that each rule found stops its names alone.
 fn list_to_cut(rule: &PolicyRule, last: Dimension) -> Option<Dimension> {
@@ -166,25 +164,33 @@ pub fn cut(alloc: Global, rule: &PolicyRule, last: Dimension) -> Result<Option<H
     }
 }
 
-fn count_under(bars: &Bars<'_>, word: &str) -> usize {
-    match bars.index.places.get(word) {
-        Some(numbers) => numbers.len(),
+fn count_in(blocks: &[Block]) -> usize {
+    let mut total: usize = 0;
+    for block in blocks {
+        total = total.saturating_add(block.bits.count_ones() as usize);
+    }
+    total
+}
+
+fn count_under(bars: &Bars<'_>, dimension: Dimension, text: &str) -> usize {
+    match sets_of(&bars.index, dimension).get(text) {
+        Some(blocks) => count_in(blocks.as_slice()),
         None => 0,
     }
 }
 
-// How many rules are found by the entries.
-fn found_by(bars: &Bars<'_>, entries: &[Text]) -> usize {
+// How many rules list the entries.
+fn found_by(bars: &Bars<'_>, dimension: Dimension, entries: &[Text]) -> usize {
     let mut total: usize = 0;
     for entry in entries {
-        total = total.saturating_add(count_under(bars, entry.as_str()));
+        total = total.saturating_add(count_under(bars, dimension, entry.as_str()));
     }
     total
 }
 
 fn found_in(held: &Bars<'_>, earlier: &Bars<'_>, rule: &PolicyRule, dimension: Dimension) -> usize {
     let entries = entries_of(rule, dimension);
-    found_by(held, entries).saturating_add(found_by(earlier, entries))
+    found_by(held, dimension, entries).saturating_add(found_by(earlier, dimension, entries))
 }
 
 // Into how many rules of one entry each the lists before that one are cut.
@@ -198,15 +204,6 @@ fn outer_of(rule: &PolicyRule, last: Dimension) -> usize {
         Dimension::Verbs => resources,
         Dimension::Names => verbs,
     }
-}
-
-/// How many entries the rule has.
-pub fn size_of(rule: &PolicyRule) -> usize {
-    length_of(rule, Dimension::Verbs)
-        .saturating_add(length_of(rule, Dimension::Groups))
-        .saturating_add(length_of(rule, Dimension::Resources))
-        .saturating_add(length_of(rule, Dimension::Names))
-        .saturating_add(length_of(rule, Dimension::Urls))
 }
 
 // Whole, the rules found by the list are each asked about each of its entries, and for several parts where several
@@ -237,30 +234,35 @@ fn is_better_cut(
     if length_of(rule, last) <= SLICE {
         return false;
     }
-    let by_list = found_in(held, earlier, rule, last);
+    let by_list = found_in(held, earlier, rule, last).min(found);
     is_worth_it(rule, last, by_list, found.saturating_sub(by_list))
 }
 
-// How many rules are found at all.
-fn found_at_all(held: &Bars<'_>, earlier: &Bars<'_>, rule: &PolicyRule) -> usize {
-    held.index
-        .wide
-        .len()
-        .saturating_add(earlier.index.wide.len())
-        .saturating_add(found_in(held, earlier, rule, Dimension::Urls))
-        .saturating_add(found_in(held, earlier, rule, Dimension::Groups))
-        .saturating_add(found_in(held, earlier, rule, Dimension::Resources))
-        .saturating_add(found_in(held, earlier, rule, Dimension::Verbs))
-        .saturating_add(found_in(held, earlier, rule, Dimension::Names))
+// How many rules meet an entry of each list.
+fn found_at_all(
+    alloc: Global,
+    held: &Bars<'_>,
+    earlier: &Bars<'_>,
+    rule: &PolicyRule,
+) -> Result<usize, Memory> {
+    let sort = sort_of(rule);
+    let held = near(alloc, held, sort, rule)?;
+    let earlier = near(alloc, earlier, sort, rule)?;
+    Ok(count(held.as_slice()).saturating_add(count(earlier.as_slice())))
 }
 
 /// The list down to which it is worth it to cut the rule.
-pub fn sliced_list(held: &Bars<'_>, earlier: &Bars<'_>, rule: &PolicyRule) -> Option<Dimension> {
+pub fn sliced_list(
+    alloc: Global,
+    held: &Bars<'_>,
+    earlier: &Bars<'_>,
+    rule: &PolicyRule,
+) -> Result<Option<Dimension>, Memory> {
     if size_of(rule) <= SLICE {
-        return None;
+        return Ok(None);
     }
-    let found = found_at_all(held, earlier, rule);
-    if is_better_cut(held, earlier, rule, Dimension::Urls, found) {
+    let found = found_at_all(alloc, held, earlier, rule)?;
+    let last = if is_better_cut(held, earlier, rule, Dimension::Urls, found) {
         Some(Dimension::Urls)
     } else if is_better_cut(held, earlier, rule, Dimension::Groups, found) {
         Some(Dimension::Groups)
@@ -272,5 +274,6 @@ pub fn sliced_list(held: &Bars<'_>, earlier: &Bars<'_>, rule: &PolicyRule) -> Op
         Some(Dimension::Names)
     } else {
         None
-    }
+    };
+    Ok(last)
 }

@@ -3,24 +3,25 @@ ghost use Rattle.std.specs.Prelude.{◌≡◌, ◌==◌, ◌&&◌, ◌||◌, not
 ghost use Rattle.std.specs.List.{filter, list_all, list_any};
 ghost use Rattle.kapi_model.specs.declared.policy_rule.PolicyRule.{PolicyRule as PolicyRuleValue};
 ghost use Rattle.kapi_missing.specs.Private.Bars.{entries_in, meets, rule_in};
-ghost use Rattle.kapi_missing.specs.Private.Index.{AreBars, numbers_at};
+ghost use Rattle.kapi_missing.specs.Private.Index.{AreBars};
 ghost use Rattle.kapi_missing.specs.Private.Left.{left_atoms};
 ghost use Rattle.kapi_missing.specs.Private.Slim.{AreAlive, AreDead, IsSlim, changed as changed_in, has_word_of, is_alone as is_alone_in, knows_star as knows_star_in, meets_all, meets_beside, meets_names, meets_unless, stops_word};
 ghost use Rattle.kapi_missing.specs.Private.Words.{is_in};
 
-use crate::bars::{Bar, Dimension, Sort, entries_of, is_met, list_of};
+use crate::bars::{Bar, Dimension, Sort, entries_of, is_met, list_of, size_in_atoms};
 use crate::entries::lists;
 use crate::index::Bars;
-use crate::masks::{Masks, may_meet, wanted_masks};
-use crate::slices::{number_of, size_of, with_entries};
+use crate::near::near;
+use crate::sets::numbers_in;
+use crate::slices::{number_of, with_entries};
 use crate::words::{add_word, has_word};
 use kapi_model::PolicyRule;
 use kapi_text::{Memory, Sequence, Text, TryCopy};
 use std::alloc::Global;
 use std::collections::BTreeSet;
 
-/// A rule with no more entries than these stays as it is.
-const SMALL: usize = 8;
+/// A rule with no more atoms than these stays as it is.
+const FEW: usize = 256;
 
 // The list is too short to meet so many entries.
 fn is_short(bar: &Bar<'_>, is_held: bool, dimension: Dimension, entries: &[Text]) -> bool {
@@ -168,25 +169,6 @@ fn add_dead<'a, 'b>(
     }
 }
 
-// A rule is tried once, and not where the masks tell that it meets no entry of some list.
-fn is_tried(
-    tried: &mut BTreeSet<usize>,
-    bars: &Bars<'_>,
-    number: usize,
-    sort: Sort,
-    masks: &Masks,
-) -> Result<bool, Memory> {
-    let is_unlike = match bars.masks.get(number) {
-        Some(bar) => !may_meet(bar, masks, sort),
-        None => true,
-    };
-    if is_unlike {
-        return Ok(true);
-    }
-    let is_new = tried.insert(number)?;
-    Ok(!is_new)
-}
-
 fn add_number<'a, 'b>(
     dead: &mut Dead<'a, 'b>,
     bars: &Bars<'a>,
@@ -203,55 +185,6 @@ fn add_number<'a, 'b>(
     }
 }
 
-fn add_numbers<'a, 'b>(
-    dead: &mut Dead<'a, 'b>,
-    tried: &mut BTreeSet<usize>,
-    bars: &Bars<'a>,
-    numbers: &[usize],
-    sort: Sort,
-    dimension: Dimension,
-    rule: &'b PolicyRule,
-    masks: &Masks,
-) -> Result<(), Memory>
-    ensures { OnOk result (AreDead bars.now sort dimension rule.now dead.old → AreDead bars.now sort dimension rule.now dead.new) }
-{
-    for number in numbers {
-        if !is_tried(tried, bars, *number, sort, masks)? {
-            add_number(dead, bars, *number, sort, dimension, rule)?;
-        }
-    }
-    Ok(())
-}
-
-fn add_listed<'a, 'b>(
-    dead: &mut Dead<'a, 'b>,
-    tried: &mut BTreeSet<usize>,
-    bars: &Bars<'a>,
-    entries: &[Text],
-    sort: Sort,
-    dimension: Dimension,
-    rule: &'b PolicyRule,
-    masks: &Masks,
-) -> Result<(), Memory>
-    ensures { OnOk result (AreDead bars.now sort dimension rule.now dead.old → AreDead bars.now sort dimension rule.now dead.new) }
-{
-    for entry in entries {
-        if let Some(numbers) = bars.index.places.get(entry.as_str()) {
-            add_numbers(
-                dead,
-                tried,
-                bars,
-                numbers.as_slice(),
-                sort,
-                dimension,
-                rule,
-                masks,
-            )?;
-        }
-    }
-    Ok(())
-}
-
 fn dead_words<'a, 'b>(
     alloc: Global,
     bars: &Bars<'a>,
@@ -265,32 +198,11 @@ fn dead_words<'a, 'b>(
         words: BTreeSet::new(alloc),
         own: BTreeSet::new(alloc),
     };
-    let mut tried = BTreeSet::new(alloc);
-    let masks = wanted_masks(&bars.seen, rule);
-    let wide = bars.index.wide.as_slice();
-    add_numbers(
-        &mut dead, &mut tried, bars, wide, sort, dimension, rule, &masks,
-    )?;
-    let verbs = rule.verbs.as_slice();
-    add_listed(
-        &mut dead, &mut tried, bars, verbs, sort, dimension, rule, &masks,
-    )?;
-    let groups = rule.api_groups.as_slice();
-    add_listed(
-        &mut dead, &mut tried, bars, groups, sort, dimension, rule, &masks,
-    )?;
-    let names = rule.resource_names.as_slice();
-    add_listed(
-        &mut dead, &mut tried, bars, names, sort, dimension, rule, &masks,
-    )?;
-    let resources = rule.resources.as_slice();
-    add_listed(
-        &mut dead, &mut tried, bars, resources, sort, dimension, rule, &masks,
-    )?;
-    let urls = rule.non_resource_urls.as_slice();
-    add_listed(
-        &mut dead, &mut tried, bars, urls, sort, dimension, rule, &masks,
-    )?;
+    let words = near(alloc, bars, sort, rule)?;
+    let numbers = numbers_in(alloc, words.as_slice(), bars.rules.len())?;
+    for number in numbers.as_slice() {
+        add_number(&mut dead, bars, *number, sort, dimension, rule)?;
+    }
     Ok(dead)
 }
 
@@ -387,8 +299,8 @@ fn slim_list(
 ) -> Result<PolicyRule, Memory>
     ensures { IfOk result (IsSlim bars.now rule) }
 {
-    let is_small = size_of(&rule) <= SMALL || entries_of(&rule, dimension).len() < 2;
-    if is_small || !is_alone(sort, dimension, &rule) {
+    let is_short = entries_of(&rule, dimension).len() < 2;
+    if is_short || !is_alone(sort, dimension, &rule) {
         return Ok(rule);
     }
     slim_in(alloc, bars, sort, dimension, rule)
@@ -408,7 +320,8 @@ fn slim_resources(alloc: Global, bars: &Bars<'_>, rule: PolicyRule) -> Result<Po
 fn slim_beside(alloc: Global, bars: &Bars<'_>, rule: PolicyRule) -> Result<PolicyRule, Memory>
     ensures { IfOk result (IsSlim bars.now rule) }
 {
-    if bars.rules.is_empty() {
+    let atoms = size_in_atoms(&rule);
+    if bars.rules.is_empty() || atoms <= FEW {
         return Ok(rule);
     }
     let slim = slim_resources(alloc, bars, rule)?;

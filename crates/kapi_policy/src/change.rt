@@ -1,3 +1,5 @@
+ghost use Rattle.std.specs.Prelude.{◌≡◌, IfOk};
+
 use kapi_model::{ClusterRole, ClusterRoleBinding, Role, RoleBinding};
 use kapi_text::{Text, TryCopy};
 use std::alloc::{AllocError, Global};
@@ -58,23 +60,36 @@ impl TryCopy for NamespacedName {
     }
 }
 
+// Owned copies of a key and a value.
+fn copy_both<K: TryCopy + Drop, V: TryCopy + Drop>(
+    alloc: Global,
+    key: &K,
+    value: &V,
+) -> Result<(K, V), AllocError>
+    ensures { IfOk result (λ both. both ≡ (key.now, value.now)) }
+{
+    Ok((key.copy(alloc)?, value.copy(alloc)?))
+}
+
 impl TryCopy for PolicyPut {
     fn copy(&self, alloc: Global) -> Result<PolicyPut, AllocError> {
         match self {
             PolicyPut::Role(place, role) => {
-                Ok(PolicyPut::Role(place.copy(alloc)?, role.copy(alloc)?))
+                let (place, role) = copy_both(alloc, place, role)?;
+                Ok(PolicyPut::Role(place, role))
             }
             PolicyPut::ClusterRole(name, role) => {
-                Ok(PolicyPut::ClusterRole(name.copy(alloc)?, role.copy(alloc)?))
+                let (name, role) = copy_both(alloc, name, role)?;
+                Ok(PolicyPut::ClusterRole(name, role))
             }
-            PolicyPut::RoleBinding(place, binding) => Ok(PolicyPut::RoleBinding(
-                place.copy(alloc)?,
-                binding.copy(alloc)?,
-            )),
-            PolicyPut::ClusterRoleBinding(name, binding) => Ok(PolicyPut::ClusterRoleBinding(
-                name.copy(alloc)?,
-                binding.copy(alloc)?,
-            )),
+            PolicyPut::RoleBinding(place, binding) => {
+                let (place, binding) = copy_both(alloc, place, binding)?;
+                Ok(PolicyPut::RoleBinding(place, binding))
+            }
+            PolicyPut::ClusterRoleBinding(name, binding) => {
+                let (name, binding) = copy_both(alloc, name, binding)?;
+                Ok(PolicyPut::ClusterRoleBinding(name, binding))
+            }
         }
     }
 }

@@ -1,7 +1,8 @@
 ghost use Rattle.std.specs.Prelude.{◌≡◌, map, IfOk, IsOk, OnErr, OnOk};
+ghost use Rattle.std.specs.BTreeMap.{insert_entry};
 ghost use Rattle.kapi_policy.specs.All.{all_bindings};
 ghost use Rattle.kapi_policy.specs.Views.{binding_of};
-ghost use Rattle.kapi_policy.specs.Objects.{PolicyObjects, no_objects, with_object, without_object};
+ghost use Rattle.kapi_policy.specs.Objects.{PolicyObjects, name_cmp, no_objects, place_cmp, with_object, without_object};
 
 use crate::binding::Binding;
 use crate::change::{NamespacedName, PolicyChange, PolicyKey, PolicyPut};
@@ -17,6 +18,36 @@ use kapi_text::{Memory, Text, TryCopy};
 use std::alloc::Global;
 use std::collections::BTreeMap;
 use std::marker::Model;
+
+/// Puts a copy of the value at the place. A failed allocation changes nothing.
+fn put_at<V: TryCopy + Drop>(
+    alloc: Global,
+    map: &mut BTreeMap<NamespacedName, V>,
+    place: &NamespacedName,
+    value: &V,
+) -> Result<(), Memory>
+    ensures done { OnOk result (map.new.entries ≡ insert_entry place_cmp map.old.entries place.now value.now) }
+    ensures kept { OnErr result (map.new.entries ≡ map.old.entries) }
+{
+    let (place, value) = (place.copy(alloc)?, value.copy(alloc)?);
+    drop(map.insert(place, value)?);
+    Ok(())
+}
+
+/// Puts a copy of the value under the name. A failed allocation changes nothing.
+fn put_named<V: TryCopy + Drop>(
+    alloc: Global,
+    map: &mut BTreeMap<Text, V>,
+    name: &Text,
+    value: &V,
+) -> Result<(), Memory>
+    ensures done { OnOk result (map.new.entries ≡ insert_entry name_cmp map.old.entries name.now value.now) }
+    ensures kept { OnErr result (map.new.entries ≡ map.old.entries) }
+{
+    let (name, value) = (name.copy(alloc)?, value.copy(alloc)?);
+    drop(map.insert(name, value)?);
+    Ok(())
+}
 
 /// A policy that checks each binding in turn.
 #[derive(Drop)]
@@ -80,24 +111,17 @@ impl PlainPolicy {
     {
         let alloc = self.alloc;
         match object {
-            PolicyPut::Role(place, role) => {
-                let (place, role) = (place.copy(alloc)?, role.copy(alloc)?);
-                drop(self.roles.insert(place, role)?);
-            }
+            PolicyPut::Role(place, role) => put_at(alloc, &mut self.roles, place, role),
             PolicyPut::ClusterRole(name, role) => {
-                let (name, role) = (name.copy(alloc)?, role.copy(alloc)?);
-                drop(self.cluster_roles.insert(name, role)?);
+                put_named(alloc, &mut self.cluster_roles, name, role)
             }
             PolicyPut::RoleBinding(place, binding) => {
-                let (place, binding) = (place.copy(alloc)?, binding.copy(alloc)?);
-                drop(self.role_bindings.insert(place, binding)?);
+                put_at(alloc, &mut self.role_bindings, place, binding)
             }
             PolicyPut::ClusterRoleBinding(name, binding) => {
-                let (name, binding) = (name.copy(alloc)?, binding.copy(alloc)?);
-                drop(self.cluster_role_bindings.insert(name, binding)?);
+                put_named(alloc, &mut self.cluster_role_bindings, name, binding)
             }
         }
-        Ok(())
     }
 
     /// Takes the object at that place out, if there is one.

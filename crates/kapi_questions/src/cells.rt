@@ -1,11 +1,8 @@
 //! The cells of a line, in printable ASCII.
 ghost use Rattle.std.specs.Prelude.{◌≡◌, ◌++◌, IfOk, OnOk, codes, decimal, string_bytes};
-ghost use Rattle.serde_json.specs.View.{view};
-ghost use Rattle.serde_json.specs.Written.{compact_text};
 ghost use Rattle.kapi_access.specs.Views.{gain_of, way_of};
 ghost use Rattle.kapi_lines.specs.Escapes.{escaped};
 ghost use Rattle.kapi_policy.specs.Views.{binding_of};
-ghost use Rattle.kapi_reply.specs.Status.{atom_list as listed};
 ghost use Rattle.kapi_questions.specs.Cells as cells;
 
 use crate::table::Row;
@@ -13,9 +10,9 @@ use kapi_access::{Gain, Grantee, Way};
 use kapi_lines::{copy_of, write_escaped};
 use kapi_model::RoleRef;
 use kapi_policy::{Binding, BindingKind};
-use kapi_rules::{Atom, Names, ResourceAtom};
+use kapi_reply::atom_list;
+use kapi_rules::Atom;
 use kapi_text::{Memory, Sequence};
-use serde_json::{Value, json};
 use std::alloc::{AllocError, Global};
 
 fn escape(alloc: Global, bytes: &[u8]) -> Result<Sequence<u8>, Memory>
@@ -109,32 +106,28 @@ fn by_text(alloc: Global, binding: &Binding<'_>, rule: usize) -> Result<String, 
     Ok(text)
 }
 
-/// The parts of an atom as a JSON list: its name is left out where it speaks of all names.
-pub fn atom_list(alloc: Global, atom: &Atom) -> Result<Value, Memory>
-    ensures { IfOk result (λ v. view v ≡ listed atom.now) }
+/// A binding as a cell.
+fn binding_cell(alloc: Global, binding: &Binding<'_>) -> Result<Sequence<u8>, Memory>
+    ensures { IfOk result (λ s. s ≡ escaped (cells.binding_text (binding_of binding.now))) }
 {
-    match atom {
-        Atom::Resource(atom) => resource_atom_list(alloc, atom),
-        Atom::Url(atom) => json!(in alloc; [(atom.verb.as_str()), (atom.url.as_str())]),
-    }
+    let text = binding_text(alloc, binding)?;
+    escape(alloc, text.as_bytes())
 }
 
-fn resource_atom_list(alloc: Global, atom: &ResourceAtom) -> Result<Value, Memory>
-    ensures { IfOk result (λ v. view v ≡ listed (Atom.Resource atom.now)) }
+/// A rule of a role as a cell.
+fn rule_cell(alloc: Global, role: &RoleRef, rule: usize) -> Result<Sequence<u8>, Memory>
+    ensures { IfOk result (λ s. s ≡ escaped (cells.rule_text role.now rule)) }
 {
-    match &atom.names {
-        Names::All => json!(in alloc; [
-            (atom.verb.as_str()),
-            (atom.group.as_str()),
-            (atom.resource.as_str())
-        ]),
-        Names::One(name) => json!(in alloc; [
-            (atom.verb.as_str()),
-            (atom.group.as_str()),
-            (atom.resource.as_str()),
-            (name.as_str())
-        ]),
-    }
+    let text = rule_text(alloc, role, rule)?;
+    escape(alloc, text.as_bytes())
+}
+
+/// A rule of the role of a binding as a cell.
+fn by_cell(alloc: Global, binding: &Binding<'_>, rule: usize) -> Result<Sequence<u8>, Memory>
+    ensures { IfOk result (λ s. s ≡ escaped (cells.by_text (binding_of binding.now) rule)) }
+{
+    let text = by_text(alloc, binding, rule)?;
+    escape(alloc, text.as_bytes())
 }
 
 fn atom_cell(alloc: Global, atom: &Atom) -> Result<Sequence<u8>, Memory>
@@ -148,12 +141,11 @@ fn atom_cell(alloc: Global, atom: &Atom) -> Result<Sequence<u8>, Memory>
 pub fn gain_row(alloc: Global, gain: &Gain<'_>) -> Result<Row, Memory>
     ensures { IfOk result (λ r. r ≡ cells.gain_row (gain_of gain.now)) }
 {
-    let by = by_text(alloc, &gain.binding, gain.rule)?;
     Ok(Row {
         subject: subject_cell(alloc, &gain.to)?,
         namespace: namespace_cell(alloc, gain.binding.namespace)?,
         what: atom_cell(alloc, &gain.gain)?,
-        by: escape(alloc, by.as_bytes())?,
+        by: by_cell(alloc, &gain.binding, gain.rule)?,
     })
 }
 
@@ -161,13 +153,11 @@ pub fn gain_row(alloc: Global, gain: &Gain<'_>) -> Result<Row, Memory>
 pub fn way_row(alloc: Global, way: &Way<'_>) -> Result<Row, Memory>
     ensures { IfOk result (λ r. r ≡ cells.way_row (way_of way.now)) }
 {
-    let binding = binding_text(alloc, &way.binding)?;
-    let rule = rule_text(alloc, way.binding.role, way.rule)?;
     Ok(Row {
         subject: subject_cell(alloc, &way.to)?,
         namespace: namespace_cell(alloc, way.binding.namespace)?,
-        what: escape(alloc, binding.as_bytes())?,
-        by: escape(alloc, rule.as_bytes())?,
+        what: binding_cell(alloc, &way.binding)?,
+        by: rule_cell(alloc, way.binding.role, way.rule)?,
     })
 }
 

@@ -13,4 +13,4 @@ pub use reply::{
     Asked, Content, WrittenReply, content_reply, deletion_text, expired_text, fault_reply,
     refusal_reply, refusal_text, target_reply, watch_reply,
 };
-pub use status::Subject;
+pub use status::{Subject, atom_list};

@@ -1,16 +1,19 @@
-ghost use Rattle.std.specs.Prelude.{◌≡◌, map as map_of, string_bytes, IfOk, OnOk};
+ghost use Rattle.std.specs.Prelude.{◌≡◌, codes, map as map_of, string_bytes, IfOk, OnOk};
 ghost use Rattle.std.specs.Option.{option_map};
-ghost use Rattle.serde_json.specs.View.{view, members_view};
+ghost use Rattle.serde_json.specs.Data.{array, number, object, string, unsigned, no_members, put as with_member};
+ghost use Rattle.serde_json.specs.View.{view, items_of, members_view};
 ghost use Rattle.serde_json.specs.Written.{compact_text};
+ghost use Rattle.kapi_http.specs.Message.{status_number};
 ghost use Rattle.kapi_reply.specs.Status as status_object;
-ghost use Rattle.kapi_reply.specs.Status.{with_text, with_some_text, with_causes, with_subject, with_some_object, deleted_status, details_of, status_of};
+ghost use Rattle.kapi_reply.specs.Status.{with_text, with_some_text, with_causes, with_subject, with_some_object, deleted_details, deleted_status, details_of, status_of};
 ghost use Rattle.kapi_reply.specs.Views.{subject_data, failure_data};
 
 use kapi_http::{Method, StatusCode};
 use kapi_model::FieldFault;
 use kapi_rules::{Atom, Names, Point, ResourceAtom};
 use kapi_text::Memory;
-use serde_json::{Map, Value, json, put};
+use kapi_tree::tree_form::text_value;
+use serde_json::{Map, Value, put};
 use std::alloc::Global;
 
 /// The subject of a failure: a resource request's group, resource and name, each left out where it is empty.
@@ -44,26 +47,64 @@ pub fn failure_status(
     ensures { IfOk result (λ v. view v ≡ status_of (option_map subject_data subject.entry) (failure_data failure)) }
 {
     let mut status = Map::new(alloc);
-    put_text(&mut status, alloc, "apiVersion", "v1")?;
-    put(
-        &mut status,
-        alloc,
-        "code",
-        Value::from(failure.code.number()),
-    )?;
-    let details = details(alloc, subject, failure.causes)?;
-    put_some_object(&mut status, alloc, "details", details)?;
-    put_text(&mut status, alloc, "kind", "Status")?;
-    put_text(&mut status, alloc, "message", failure.message.as_str())?;
-    put(
-        &mut status,
-        alloc,
-        "metadata",
-        Value::Object(Map::new(alloc)),
-    )?;
-    put_some_text(&mut status, alloc, "reason", failure.reason)?;
-    put_text(&mut status, alloc, "status", "Failure")?;
+    put_code(&mut status, alloc, failure.code)?;
+    put_details(&mut status, alloc, subject, failure.causes)?;
+    put_words(&mut status, alloc, failure.message.as_str(), failure.reason)?;
     Ok(Value::Object(status))
+}
+
+/// Puts the version of a Status object, and the code of a failure.
+fn put_code(map: &mut Map<String, Value>, alloc: Global, code: StatusCode) -> Result<(), Memory>
+    ensures { OnOk result (members_view map.new.entries ≡
+        with_member (codes "code") (number (unsigned (status_number code)))
+        (with_text (codes "apiVersion") (codes "v1") (members_view map.old.entries))) }
+{
+    put_text(map, alloc, "apiVersion", "v1")?;
+    put(map, alloc, "code", Value::from(code.number()))
+}
+
+/// Puts the details of a failure, where there are some.
+fn put_details(
+    map: &mut Map<String, Value>,
+    alloc: Global,
+    subject: Option<Subject<'_>>,
+    causes: Vec<Value>,
+) -> Result<(), Memory>
+    ensures { OnOk result (members_view map.new.entries ≡
+        with_some_object (codes "details") (details_of (option_map subject_data subject.entry) (map_of view causes.items))
+        (members_view map.old.entries)) }
+{
+    let details = details(alloc, subject, causes)?;
+    put_some_object(map, alloc, "details", details)
+}
+
+/// Puts the members of a failure's Status object that come after its details.
+fn put_words(
+    map: &mut Map<String, Value>,
+    alloc: Global,
+    message: &str,
+    reason: &str,
+) -> Result<(), Memory>
+    ensures { OnOk result (members_view map.new.entries ≡
+        with_text (codes "status") (codes "Failure")
+        (with_some_text (codes "reason") reason.now
+        (with_member (codes "metadata") (object no_members)
+        (with_text (codes "message") message.now
+        (with_text (codes "kind") (codes "Status") (members_view map.old.entries)))))) }
+{
+    put_text(map, alloc, "kind", "Status")?;
+    put_text(map, alloc, "message", message)?;
+    put_metadata(map, alloc)?;
+    put_some_text(map, alloc, "reason", reason)?;
+    put_text(map, alloc, "status", "Failure")
+}
+
+/// Puts the metadata of a Status object, which are empty.
+fn put_metadata(map: &mut Map<String, Value>, alloc: Global) -> Result<(), Memory>
+    ensures { OnOk result (members_view map.new.entries ≡
+        with_member (codes "metadata") (object no_members) (members_view map.old.entries)) }
+{
+    put(map, alloc, "metadata", Value::Object(Map::new(alloc)))
 }
 
 /// The Status object of a deletion: its subject, and the uid of what was deleted.
@@ -71,21 +112,51 @@ pub fn failure_status(
 pub fn deletion_status(alloc: Global, subject: Subject<'_>, uid: &str) -> Result<Value, Memory>
     ensures { IfOk result (λ v. view v ≡ deleted_status (subject_data subject.entry) uid.now) }
 {
+    let mut status = Map::new(alloc);
+    put_text(&mut status, alloc, "apiVersion", "v1")?;
+    put_deletion(&mut status, alloc, subject, uid)?;
+    put_success(&mut status, alloc)?;
+    Ok(Value::Object(status))
+}
+
+/// The details of a deletion: its subject, and the uid of what was deleted.
+fn deletion_details(
+    alloc: Global,
+    subject: Subject<'_>,
+    uid: &str,
+) -> Result<Map<String, Value>, Memory>
+    ensures { IfOk result (λ m. members_view m.entries ≡ deleted_details (subject_data subject.entry) uid.now) }
+{
     let mut details = Map::new(alloc);
     put_subject(&mut details, alloc, Some(subject))?;
     put_text(&mut details, alloc, "uid", uid)?;
-    let mut status = Map::new(alloc);
-    put_text(&mut status, alloc, "apiVersion", "v1")?;
-    put(&mut status, alloc, "details", Value::Object(details))?;
-    put_text(&mut status, alloc, "kind", "Status")?;
-    put(
-        &mut status,
-        alloc,
-        "metadata",
-        Value::Object(Map::new(alloc)),
-    )?;
-    put_text(&mut status, alloc, "status", "Success")?;
-    Ok(Value::Object(status))
+    Ok(details)
+}
+
+/// Puts the details of a deletion.
+fn put_deletion(
+    map: &mut Map<String, Value>,
+    alloc: Global,
+    subject: Subject<'_>,
+    uid: &str,
+) -> Result<(), Memory>
+    ensures { OnOk result (members_view map.new.entries ≡
+        with_member (codes "details") (object (deleted_details (subject_data subject.entry) uid.now)) (members_view map.old.entries)) }
+{
+    let details = deletion_details(alloc, subject, uid)?;
+    put(map, alloc, "details", Value::Object(details))
+}
+
+/// Puts the members of a deletion's Status object that come after its details.
+fn put_success(map: &mut Map<String, Value>, alloc: Global) -> Result<(), Memory>
+    ensures { OnOk result (members_view map.new.entries ≡
+        with_text (codes "status") (codes "Success")
+        (with_member (codes "metadata") (object no_members)
+        (with_text (codes "kind") (codes "Status") (members_view map.old.entries)))) }
+{
+    put_text(map, alloc, "kind", "Status")?;
+    put_metadata(map, alloc)?;
+    put_text(map, alloc, "status", "Success")
 }
 
 #[tactic(auto, using(crate::proofs::Members::no_members_in), unfolding(crate::specs::Status::with_some_object))]
@@ -197,7 +268,10 @@ pub fn missing_atom(alloc: Global, atom: &Atom) -> Result<Value, Memory>
 fn missing(alloc: Global, parts: &str) -> Result<Value, Memory>
     ensures { IfOk result (λ v. view v ≡ status_object.missing parts.now) }
 {
-    json!(in alloc; {"message": parts, "reason": "MissingPermission"})
+    let mut cause = Map::new(alloc);
+    put_text(&mut cause, alloc, "message", parts)?;
+    put_text(&mut cause, alloc, "reason", "MissingPermission")?;
+    Ok(Value::Object(cause))
 }
 
 fn point_text(alloc: Global, point: &Point) -> Result<String, Memory>
@@ -212,46 +286,62 @@ fn atom_text(alloc: Global, atom: &Atom) -> Result<String, Memory>
     atom_list(alloc, atom)?.to_string(alloc)
 }
 
+/// The texts as values, in order.
+fn text_items(alloc: Global, texts: &[&str]) -> Result<Vec<Value>, Memory>
+    ensures { IfOk result (λ v. map_of view v.items ≡ map_of (λ text. string text.now) texts.now) }
+{
+    let mut items = Vec::new(alloc);
+    for text in texts {
+        items.push(text_value(alloc, text)?)?;
+    }
+    Ok(items)
+}
+
+/// A list of texts.
+fn text_list(alloc: Global, texts: &[&str]) -> Result<Value, Memory>
+    ensures { IfOk result (λ v. view v ≡ array (items_of (map_of (λ text. string text.now) texts.now))) }
+{
+    Ok(Value::Array(text_items(alloc, texts)?))
+}
+
 fn point_list(alloc: Global, point: &Point) -> Result<Value, Memory>
     ensures { IfOk result (λ v. view v ≡ status_object.point_list point.now) }
 {
     match point {
-        Point::Resource(point) => json!(in alloc; [
-            (point.verb.as_str()),
-            (point.group.as_str()),
-            (point.resource.as_str()),
-            (point.subresource.as_str()),
-            (point.name.as_str())
-        ]),
-        Point::Url(point) => json!(in alloc; [(point.verb.as_str()), (point.path.as_str())]),
+        Point::Resource(point) => {
+            let parts = [
+                point.verb.as_str(),
+                point.group.as_str(),
+                point.resource.as_str(),
+                point.subresource.as_str(),
+                point.name.as_str(),
+            ];
+            text_list(alloc, &parts)
+        }
+        Point::Url(point) => text_list(alloc, &[point.verb.as_str(), point.path.as_str()]),
     }
 }
 
-fn atom_list(alloc: Global, atom: &Atom) -> Result<Value, Memory>
+/// The parts of an atom as a JSON list: its name is left out where it speaks of all names.
+pub fn atom_list(alloc: Global, atom: &Atom) -> Result<Value, Memory>
     ensures { IfOk result (λ v. view v ≡ status_object.atom_list atom.now) }
 {
     match atom {
         Atom::Resource(atom) => resource_atom_list(alloc, atom),
-        Atom::Url(atom) => json!(in alloc; [(atom.verb.as_str()), (atom.url.as_str())]),
+        Atom::Url(atom) => text_list(alloc, &[atom.verb.as_str(), atom.url.as_str()]),
     }
 }
 
-/// The parts of an atom on a resource: its name is left out where it speaks of all names.
+/// The parts of an atom on a resource.
 fn resource_atom_list(alloc: Global, atom: &ResourceAtom) -> Result<Value, Memory>
     ensures { IfOk result (λ v. view v ≡ status_object.resource_atom_list atom.now) }
 {
+    let verb = atom.verb.as_str();
+    let group = atom.group.as_str();
+    let resource = atom.resource.as_str();
     match &atom.names {
-        Names::All => json!(in alloc; [
-            (atom.verb.as_str()),
-            (atom.group.as_str()),
-            (atom.resource.as_str())
-        ]),
-        Names::One(name) => json!(in alloc; [
-            (atom.verb.as_str()),
-            (atom.group.as_str()),
-            (atom.resource.as_str()),
-            (name.as_str())
-        ]),
+        Names::All => text_list(alloc, &[verb, group, resource]),
+        Names::One(name) => text_list(alloc, &[verb, group, resource, name.as_str()]),
     }
 }
 
@@ -281,7 +371,11 @@ pub fn missing_atoms(alloc: Global, atoms: &[Atom]) -> Result<Vec<Value>, Memory
 fn field_cause(alloc: Global, field: &str, words: &str) -> Result<Value, Memory>
     ensures { IfOk result (λ v. view v ≡ status_object.field_cause field.now words.now) }
 {
-    json!(in alloc; {"field": field, "message": words, "reason": "FieldValueInvalid"})
+    let mut cause = Map::new(alloc);
+    put_text(&mut cause, alloc, "field", field)?;
+    put_text(&mut cause, alloc, "message", words)?;
+    put_text(&mut cause, alloc, "reason", "FieldValueInvalid")?;
+    Ok(Value::Object(cause))
 }
 
 /// The cause where a binding is to refer to another role.

@@ -51,18 +51,32 @@ fn resource_attributes(
 {
     let (namespace, parts) = namespace_and_parts(rest);
     let (verb, name) = verb_and_name(method, part(parts, 1), query.as_slice())?;
+    let point = resource_point(alloc, verb, group, parts, name)?;
     Ok(Attributes {
         namespace: Text::copy_of(alloc, namespace)?,
-        point: Point::Resource(ResourcePoint {
-            verb: Text::copy_of(alloc, verb)?,
-            group: Text::copy_of(alloc, group)?,
-            resource: Text::copy_of(alloc, part(parts, 0))?,
-            subresource: Text::copy_of(alloc, part(parts, 2))?,
-            name: Text::copy_of(alloc, name)?,
-        }),
+        point: Point::Resource(point),
         version: Text::copy_of(alloc, version)?,
         parts: parts.len(),
         query,
+    })
+}
+
+/// The point of a request about the resource, and the subresource if any, that the parts name.
+fn resource_point(
+    alloc: Global,
+    verb: &str,
+    group: &str,
+    parts: &[Text],
+    name: &str,
+) -> Result<ResourcePoint, Memory>
+    ensures { IfOk result (λ p. p ≡ record { verb = verb.now; group = group.now; resource = part_of parts.now 0; subresource = part_of parts.now 2; name = name.now }) }
+{
+    Ok(ResourcePoint {
+        verb: Text::copy_of(alloc, verb)?,
+        group: Text::copy_of(alloc, group)?,
+        resource: Text::copy_of(alloc, part(parts, 0))?,
+        subresource: Text::copy_of(alloc, part(parts, 2))?,
+        name: Text::copy_of(alloc, name)?,
     })
 }
 

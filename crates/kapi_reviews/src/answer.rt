@@ -1,8 +1,11 @@
 //! The text of the answer to a review.
-ghost use Rattle.std.specs.Prelude.{◌≡◌, IfOk, OnOk};
+ghost use Rattle.std.specs.Prelude.{◌≡◌, IfOk, OnOk, codes};
+ghost use Rattle.serde_json.specs.Data.{string, object, no_members, put as with_member};
 ghost use Rattle.serde_json.specs.View.{view, members_view};
+ghost use Rattle.kapi_tree.specs.Contents as tree;
 ghost use Rattle.kapi_policy.specs.Views.{decision_of};
 ghost use Rattle.kapi_reviews.specs.Answers as written;
+ghost use Rattle.kapi_reviews.specs.Kinds.{kind_text};
 
 use crate::kind::ReviewKind;
 use crate::question::Question;
@@ -24,6 +27,26 @@ fn attributes_key(point: &Point) -> &'static str
     }
 }
 
+/// Puts the attributes of a point on a resource, without its namespace.
+fn put_resource(
+    alloc: Global,
+    members: &mut Map<String, Value>,
+    point: &ResourcePoint,
+) -> Result<(), Memory>
+    ensures { OnOk result (members_view members.new.entries ≡
+        tree.put_text (codes "name") point.now.name
+        (tree.put_text (codes "subresource") point.now.subresource
+        (tree.put_text (codes "resource") point.now.resource
+        (tree.put_text (codes "group") point.now.group
+        (tree.put_text (codes "verb") point.now.verb (members_view members.old.entries)))))) }
+{
+    put_text(alloc, members, "verb", point.verb.as_str())?;
+    put_text(alloc, members, "group", point.group.as_str())?;
+    put_text(alloc, members, "resource", point.resource.as_str())?;
+    put_text(alloc, members, "subresource", point.subresource.as_str())?;
+    put_text(alloc, members, "name", point.name.as_str())
+}
+
 #[tactic(auto, unfolding(crate::specs::Answers::attributes_members))]
 fn resource_members(
     alloc: Global,
@@ -34,16 +57,7 @@ fn resource_members(
 {
     let mut members = Map::new(alloc);
     put_text(alloc, &mut members, "namespace", namespace)?;
-    put_text(alloc, &mut members, "verb", point.verb.as_str())?;
-    put_text(alloc, &mut members, "group", point.group.as_str())?;
-    put_text(alloc, &mut members, "resource", point.resource.as_str())?;
-    put_text(
-        alloc,
-        &mut members,
-        "subresource",
-        point.subresource.as_str(),
-    )?;
-    put_text(alloc, &mut members, "name", point.name.as_str())?;
+    put_resource(alloc, &mut members, point)?;
     Ok(members)
 }
 
@@ -141,6 +155,46 @@ fn metadata_members(
     Ok(members)
 }
 
+/// Puts a text at a key, also where it is empty.
+fn put_word(
+    alloc: Global,
+    members: &mut Map<String, Value>,
+    key: &str,
+    text: &str,
+) -> Result<(), Memory>
+    ensures { OnOk result (members_view members.new.entries ≡ with_member key.now (string text.now) (members_view members.old.entries)) }
+{
+    put(members, alloc, key, text_value(alloc, text)?)
+}
+
+/// Puts the version and the kind of a review.
+fn put_kind(alloc: Global, members: &mut Map<String, Value>, kind: ReviewKind) -> Result<(), Memory>
+    ensures { OnOk result (members_view members.new.entries ≡
+        with_member (codes "kind") (string (kind_text kind))
+        (with_member (codes "apiVersion") (string (codes "authorization.k8s.io/v1")) (members_view members.old.entries))) }
+{
+    put_word(alloc, members, "apiVersion", "authorization.k8s.io/v1")?;
+    put_word(alloc, members, "kind", kind.as_str())
+}
+
+/// The version, the kind and the metadata of a review.
+fn head_members(
+    alloc: Global,
+    kind: ReviewKind,
+    namespace: &str,
+) -> Result<Map<String, Value>, Memory>
+    ensures { IfOk result (λ m. members_view m.entries ≡
+        with_member (codes "metadata") (object (written.metadata_members kind namespace.now))
+        (with_member (codes "kind") (string (kind_text kind))
+        (with_member (codes "apiVersion") (string (codes "authorization.k8s.io/v1")) no_members))) }
+{
+    let mut members = Map::new(alloc);
+    put_kind(alloc, &mut members, kind)?;
+    let metadata = metadata_members(alloc, kind, namespace)?;
+    put(&mut members, alloc, "metadata", Value::Object(metadata))?;
+    Ok(members)
+}
+
 /// The review with its answer.
 #[tactic(auto, unfolding(crate::specs::Answers::review_tree))]
 pub fn review_tree(
@@ -152,17 +206,7 @@ pub fn review_tree(
 ) -> Result<Value, Memory>
     ensures { IfOk result (λ v. view v ≡ written.review_tree kind namespace.now (view spec) (view status)) }
 {
-    let metadata = Value::Object(metadata_members(alloc, kind, namespace)?);
-    let version = text_value(alloc, "authorization.k8s.io/v1")?;
-    let mut members = Map::new(alloc);
-    put(&mut members, alloc, "apiVersion", version)?;
-    put(
-        &mut members,
-        alloc,
-        "kind",
-        text_value(alloc, kind.as_str())?,
-    )?;
-    put(&mut members, alloc, "metadata", metadata)?;
+    let mut members = head_members(alloc, kind, namespace)?;
     put(&mut members, alloc, "spec", spec)?;
     put(&mut members, alloc, "status", status)?;
     Ok(Value::Object(members))

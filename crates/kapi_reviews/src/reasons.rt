@@ -1,5 +1,5 @@
 //! Why a point is allowed, in words.
-ghost use Rattle.std.specs.Prelude.{◌≡◌, IfOk, option_map, string_bytes};
+ghost use Rattle.std.specs.Prelude.{◌≡◌, ◌++◌, IfOk, OnOk, codes, decimal, option_map, string_bytes};
 ghost use Rattle.kapi_policy.specs.Views.{decision_of, granted_of};
 ghost use Rattle.kapi_reviews.specs.Answers as written;
 
@@ -16,22 +16,32 @@ fn binding_text(kind: BindingKind) -> &'static str
     }
 }
 
+/// Adds a word, after what parts it from the words before.
+fn push_word(text: &mut String, part: &str, word: &str) -> Result<(), Memory>
+    ensures { OnOk result (string_bytes text.new ≡ string_bytes text.old ++ part.now ++ word.now) }
+{
+    text.push_str(part)?;
+    text.push_str(word)
+}
+
+/// Adds the index of a rule.
+fn push_rule(alloc: Global, text: &mut String, rule: usize) -> Result<(), Memory>
+    ensures { OnOk result (string_bytes text.new ≡ string_bytes text.old ++ codes ", rule " ++ decimal rule) }
+{
+    let number = format!(in alloc; "{rule}")?;
+    push_word(text, ", rule ", number.as_str())
+}
+
 /// The rule that allows a point, by its binding, its role and its index there.
 #[tactic(auto, unfolding(crate::specs::Answers::grant_text))]
 fn grant_text(alloc: Global, grant: &Grant<'_>) -> Result<String, Memory>
     ensures { IfOk result (λ s. string_bytes s ≡ written.grant_text (granted_of grant.now)) }
 {
-    let rule = grant.rule;
-    let rule = format!(in alloc; "{rule}")?;
     let mut text = String::from_str(alloc, binding_text(grant.kind))?;
-    text.push_str(" ")?;
-    text.push_str(grant.binding)?;
-    text.push_str(", ")?;
-    text.push_str(grant.role.kind.as_str())?;
-    text.push_str(" ")?;
-    text.push_str(grant.role.name.as_str())?;
-    text.push_str(", rule ")?;
-    text.push_str(rule.as_str())?;
+    push_word(&mut text, " ", grant.binding)?;
+    push_word(&mut text, ", ", grant.role.kind.as_str())?;
+    push_word(&mut text, " ", grant.role.name.as_str())?;
+    push_rule(alloc, &mut text, grant.rule)?;
     Ok(text)
 }
 

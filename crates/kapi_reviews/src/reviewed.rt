@@ -5,6 +5,8 @@ ghost use Rattle.kapi_tree.specs.Contents.{put_text, text_at};
 ghost use Rattle.serde_json.specs.View.{view};
 ghost use Rattle.kapi_text.specs.Gives.{Gives};
 ghost use Rattle.kapi_tree.specs.Object.{tree_of};
+ghost use Rattle.kapi_policy.specs.Views.{decision_of};
+ghost use Rattle.kapi_reviews.specs.Answers as written;
 ghost use Rattle.kapi_reviews.specs.Questions as asks;
 ghost use Rattle.kapi_reviews.specs.Reviews as answers;
 ghost use Rattle.kapi_reviews.specs.Reviews.{reviewed, told};
@@ -12,17 +14,33 @@ ghost use Rattle.kapi_reviews.specs.Reviews.{reviewed, told};
 use crate::answer::{decision_tree, question_tree, review_tree};
 use crate::faults::{collect_review_faults, namespace_of};
 use crate::kind::ReviewKind;
-use crate::question::read_question;
+use crate::question::{Question, read_question};
 use crate::review_error::ReviewError;
 use crate::rules::rules_tree;
 use kapi_admission::table_faults::text_in;
 use kapi_model::Identity;
-use kapi_policy::Policy;
+use kapi_policy::{Decision, Policy};
 use kapi_text::{Memory, Sequence};
 use kapi_tree::tree_form::put_text;
 use kapi_tree::{Object, member};
 use serde_json::{Map, Value};
 use std::alloc::Global;
+
+/// The answer to a question of which the decision is known.
+fn decided_answer(
+    alloc: Global,
+    kind: ReviewKind,
+    namespace: &str,
+    question: &Question,
+    decision: &Decision<'_>,
+) -> Result<Value, Memory>
+    ensures { IfOk result (λ v. view v ≡ written.review_tree kind namespace.now
+        (written.question_tree kind question.now) (written.decision_tree (decision_of decision.now))) }
+{
+    let status = decision_tree(alloc, decision)?;
+    let spec = question_tree(alloc, kind, question)?;
+    review_tree(alloc, kind, namespace, spec, status)
+}
 
 /// The answer to a review of access: what it asks, and the decision.
 #[tactic(auto, unfolding(crate::specs::Reviews::access_answer))]
@@ -42,9 +60,7 @@ fn access_answer<P: Policy>(
         question.namespace.as_str(),
         &question.point,
     );
-    let status = decision_tree(alloc, &decision)?;
-    let spec = question_tree(alloc, kind, &question)?;
-    review_tree(alloc, kind, namespace, spec, status)
+    decided_answer(alloc, kind, namespace, &question, &decision)
 }
 
 /// The `spec` of a review of rules.

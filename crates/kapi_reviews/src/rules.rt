@@ -90,11 +90,16 @@ fn resource_rules(alloc: Global, rules: &[PolicyRule]) -> Result<Vec<Value>, Mem
 pub fn rules_tree(alloc: Global, rules: &[PolicyRule]) -> Result<Value, Memory>
     ensures { IfOk result (λ v. view v ≡ written.rules_tree rules.now) }
 {
-    let urls = Value::Array(url_rules(alloc, rules)?);
-    let resources = Value::Array(resource_rules(alloc, rules)?);
     let mut members = Map::new(alloc);
     put(&mut members, alloc, "incomplete", Value::Bool(false))?;
-    put(&mut members, alloc, "nonResourceRules", urls)?;
-    put(&mut members, alloc, "resourceRules", resources)?;
+    let urls = url_rules(alloc, rules)?;
+    put(&mut members, alloc, "nonResourceRules", Value::Array(urls))?;
+    let resources = resource_rules(alloc, rules)?;
+    put(
+        &mut members,
+        alloc,
+        "resourceRules",
+        Value::Array(resources),
+    )?;
     Ok(Value::Object(members))
 }

@@ -728,6 +728,13 @@ round_last a b cs ds aw bw p still past one = λ m r s.
     let t = one.goes m r s in
     (t.0, t.1, t.2, λ h. due_last t.0 ds (drop p bw) (drop_all p bw past) (t.3 h))
 
+-- behind the visits those that watch were woken, unless nothing was to be done
+pub settles_woken : (a b : Running) (cs ds es : List Client) (aw bw xw : List ℕ) (still now later : Type 0) → (later → still × now) → SettlesOn a b cs aw ds bw still → ((m : Machine) → AllSuit m ds bw → AllSuit m es xw) → (now → es ≡ ds)
+    → SettlesOn a b cs aw es xw later
+settles_woken a b cs ds es aw bw xw still now later before one woken same = λ m r s.
+    let t = one m r s in
+    (t.0, t.1, woken t.0 t.2, λ h. subst (λ xs. AreAtRest t.0 xs) (sym (same (before h).1)) (t.3 (before h).0))
+
 pub settles_on : (a b x : Running) (cs ds es : List Client) (aw bw xw : List ℕ) (still : Type 0) → SuitOn a b cs aw ds bw → SettlesOn b x ds bw es xw still → SettlesOn a x cs aw es xw still
 settles_on a b x cs ds es aw bw xw still one other = λ m r s.
     let t = one m r s in

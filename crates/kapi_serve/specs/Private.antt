@@ -4,4 +4,5 @@ pub mod Clients
 pub mod Turns
 pub mod Stands
 pub mod Progresses
+pub mod Ready
 pub mod Moments

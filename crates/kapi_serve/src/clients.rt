@@ -1,4 +1,4 @@
-ghost use Rattle.std.specs.Prelude.{◌≡◌, ◌⊎◌, ◌<◌, ◌+◌, [], ◌∷◌, ◌++◌, drop, true, None, IfSome, OnOk, ◌==◌, length, map, suc, vec_len, vec_capacity};
+ghost use Rattle.std.specs.Prelude.{◌≡◌, ◌<◌, ◌+◌, [], ◌∷◌, ◌++◌, drop, true, None, IfSome, OnOk, ◌==◌, length, map, suc, vec_len, vec_capacity};
 ghost use Rattle.std.specs.List.{HoldsAt, position};
 ghost use Rattle.kapi_core.specs.Machine.{Machine};
 ghost use Rattle.kapi_serve.specs.Acts.{IsFree};
@@ -8,11 +8,13 @@ ghost use Rattle.kapi_serve.specs.Private.Stands.{AreRoused, IsAwakeAt, IsNew, I
 ghost use Rattle.kapi_serve.specs.declared.client.Client.{Client as AClient};
 ghost use Rattle.kapi_serve.specs.declared.client.Phase.TheVariants as phase;
 ghost use Rattle.kapi_serve.specs.declared.port.Entry.TheVariants as entry;
+ghost use Rattle.kapi_serve.specs.declared.progress.Progress.TheVariants as progress;
 
 use crate::awake::Awake;
 use crate::client::{Client, Phase};
 use crate::pending::Pending;
 use crate::port::{PortFault, Ports};
+use crate::progress::Progress;
 use kapi_core::{ConnId, Core};
 use kapi_model::Identity;
 use kapi_policy::Policy;
@@ -27,7 +29,7 @@ pub(crate) struct Clients {
     /// The connections at which something may be done before their slots report anything, or the objects change.
     pub(crate) awake: Awake,
     /// The revision of the objects when the connections with a watch were last woken.
-    woken: u64,
+    pub(crate) woken: u64,
 }
 
 /// The result of a read.
@@ -199,13 +201,15 @@ impl Clients {
 
     /// Wakes each connection with a watch, where the objects have changed since that was last done. What memory does not
     /// suffice for is done the next time.
-    pub(crate) fn wake(&mut self, revision: u64)
+    pub(crate) fn wake(&mut self, revision: u64) -> Progress
         ensures seats { seats_of self.new.list.items ≡ seats_of self.old.list.items }
         ensures stands { (m : Machine) → Stands m self.old → Stands m self.new }
-        ensures woken { (self.new.woken ≡ self.old.woken) ⊎ AreRoused (length self.new.list.items) self.new.list.items }
+        ensures still { result ≡ progress.Still → (self.new ≡ self.old) × (self.new.woken ≡ revision) }
+        ensures made { result ≡ progress.Made → (self.new.woken ≡ revision) × AreRoused (length self.new.list.items) self.new.list.items }
+        ensures starved { result ≡ progress.Starved → self.new.woken ≡ self.old.woken }
     {
         if revision == self.woken {
-            return;
+            return Progress::Still;
         }
         let (mut all, count) = (true, self.list.len());
         for index in 0..count {
@@ -213,9 +217,11 @@ impl Clients {
                 all = false;
             }
         }
-        if all {
-            self.woken = revision;
+        if !all {
+            return Progress::Starved;
         }
+        self.woken = revision;
+        Progress::Made
     }
 
     /// Wakes a connection, if it has a watch. False where memory does not suffice.

@@ -65,6 +65,7 @@ impl Server {
     ) -> Progress
         ensures goes { GoesAfter event (at core.old desk.old self.old (Q.report ports.old)) (at core.new desk.new self.new (Q.report ports.new)) }
         ensures settles { Settles core.old core.new self.old.clients self.new.clients (result ≡ progress.Still) }
+        ensures woken { result ≡ progress.Still → self.new.clients.woken ≡ core.new.store.revision }
     {
         self.publishing.retry(rt, desk);
         self.take(rt, core, desk, ports, buffer, event);
@@ -127,6 +128,7 @@ impl Server {
     ) -> Progress
         ensures goes { Goes (at core.old desk.old self.old (Q.report ports.old)) (at core.new desk.new self.new (Q.report ports.new)) }
         ensures settles { Settles core.old core.new self.old.clients self.new.clients (result ≡ progress.Still) }
+        ensures woken { result ≡ progress.Still → self.new.clients.woken ≡ core.new.store.revision }
     {
         for _ in rt.forever() {
             let progress = self.round(rt, core, desk, ports);
@@ -137,7 +139,8 @@ impl Server {
         unreachable!()
     }
 
-    /// Goes once over the connections at which something may be done.
+    /// Goes once over the connections at which something may be done, and then wakes those with a watch, where the objects
+    /// have changed.
     fn round<R: Wait, P: Policy + Drop, Q: Ports>(
         &mut self,
         rt: &R,
@@ -147,16 +150,16 @@ impl Server {
     ) -> Progress
         ensures goes { Goes (at core.old desk.old self.old (Q.report ports.old)) (at core.new desk.new self.new (Q.report ports.new)) }
         ensures settles { Settles core.old core.new self.old.clients self.new.clients (result ≡ progress.Still) }
+        ensures woken { result ≡ progress.Still → self.new.clients.woken ≡ core.new.store.revision }
     {
         let mut progress = self.publishing.make_turns(rt, core, desk);
-        self.clients.wake(core.revision());
         let mut position = 0;
         while position < self.clients.awake.len() {
             let visited = self.visit(rt, core, desk, ports, position);
             progress = progress.and(visited);
             position = self.clients.pass(position);
         }
-        progress
+        progress.and(self.clients.wake(core.revision()))
     }
 
     /// Writes, serves and pumps an awake connection, and makes the turns that follow.

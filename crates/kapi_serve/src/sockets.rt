@@ -1,9 +1,11 @@
-ghost use Rattle.std.specs.Prelude.{◌≡◌, ◌<◌, ◌≤◌, ◌++◌, ◌∷◌, [], All, HoldsAt, IfOk, IfSome, None, OnOk, Some, true, vec_len};
+ghost use Rattle.std.specs.Prelude.{◌≡◌, ◌<◌, ◌≤◌, ◌||◌, ◌++◌, ◌∷◌, [], All, HoldsAt, IfOk, IfSome, None, OnOk, Some, true, vec_len};
 ghost use Rattle.mio.specs.Event.{event_token};
 ghost use Rattle.std.specs.IoError.{error_kind};
+ghost use Rattle.std.specs.List.{list_any};
 ghost use Rattle.std.specs.declared.io.Error.{Error as AnError};
 ghost use Rattle.std.specs.declared.io.ErrorKind.TheVariants as kind;
 ghost use Rattle.kapi_serve.specs.Listening.{CameByDoor, doors};
+ghost use Rattle.kapi_serve.specs.Private.Ready.{has_turn_next};
 ghost use Rattle.kapi_serve.specs.declared.port.PortEvent.TheVariants as event;
 ghost use Rattle.kapi_serve.specs.declared.port.PortFault.TheVariants as fault;
 
@@ -207,13 +209,10 @@ impl<C: Clock + Drop> Sockets<C> {
     }
 
     /// Whether a stream has an event for its next turn, or a client may wait to be accepted.
-    fn is_some_ready(&self) -> bool {
-        self.listeners.iter().any(|listener| listener.waiting)
-            || self
-                .streams
-                .iter()
-                .flatten()
-                .any(|stream| stream.is_ready())
+    fn is_some_ready(&self) -> bool
+        ensures { result ≡ (list_any (λ listener. listener.waiting) self.entry.now.listeners.items || list_any has_turn_next self.entry.now.streams.items) }
+    {
+        is_some_waiting(self.listeners.as_slice()) || is_some_turn_next(self.streams.as_slice())
     }
 
     /// Begins a round, after so many milliseconds at most. None where the wait fails.
@@ -256,6 +255,30 @@ impl<C: Clock + Drop> Sockets<C> {
         }
         self.failures += 1;
         PortFault::Failed
+    }
+}
+
+/// Whether a client may wait to be accepted.
+fn is_some_waiting(listeners: &[Listener]) -> bool
+    ensures { result ≡ list_any (λ listener. listener.waiting) listeners.now }
+{
+    listeners.iter().any(|listener| listener.waiting)
+}
+
+/// Whether a stream has an event for its next turn.
+fn is_some_turn_next(streams: &[Option<Stream>]) -> bool
+    ensures { result ≡ list_any has_turn_next streams.now }
+{
+    streams.iter().any(|place| is_ready_at(place))
+}
+
+/// Whether there is a stream, which has an event for its next turn.
+fn is_ready_at(place: &Option<Stream>) -> bool
+    ensures { result ≡ has_turn_next place.now }
+{
+    match place {
+        Some(stream) => stream.is_ready(),
+        None => false,
     }
 }
 

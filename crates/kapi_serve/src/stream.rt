@@ -1,7 +1,8 @@
-ghost use Rattle.std.specs.Prelude.{◌≡◌, ◌||◌, ◌+◌, ◌≤◌, None, Some, true, false, IfOk, IsErr, length};
+ghost use Rattle.std.specs.Prelude.{◌≡◌, ◌||◌, ◌+◌, ◌<◌, ◌≤◌, None, Some, true, false, IfOk, IsErr, length};
 ghost use Rattle.std.specs.declared.time.Duration.{Duration as ADuration};
-ghost use Rattle.mio.specs.Event.{is_writable};
+ghost use Rattle.mio.specs.Event.{is_error, is_read_closed, is_writable};
 ghost use Rattle.kapi_serve.specs.Private.Turns.{may_be_read, turn_of};
+ghost use Rattle.kapi_serve.specs.declared.port.PortEvent.TheVariants as event;
 
 use crate::port::PortEvent;
 use mio::event::Event;
@@ -56,6 +57,7 @@ impl Stream {
     pub(crate) fn note(&mut self, event: &Event)
         ensures readable { self.new.readable ≡ (may_be_read event.now || self.old.readable) }
         ensures writable { is_writable event.now ≡ true → (since : ADuration) → self.old.blocked_since ≡ Some since → self.new.writable ≡ true }
+        ensures ended { (is_read_closed event.now || is_error event.now) ≡ true → self.new.ended ≡ true }
         ensures same { (self.new.read_left ≡ self.old.read_left) × (self.new.write_left ≡ self.old.write_left) }
     {
         if event.is_writable() && self.blocked_since.is_some() {
@@ -71,7 +73,8 @@ impl Stream {
 
     /// The event of the stream on this slot, if it is ready. Its share is whole then.
     pub(crate) fn take_turn(&mut self, slot: usize) -> Option<PortEvent>
-        ensures { result ≡ turn_of slot self.old.writable self.old.readable }
+        ensures event { result ≡ turn_of slot self.old.writable self.old.readable }
+        ensures asks { result ≡ Some (event.Readable slot) → self.new.drained ≡ false }
     {
         if self.writable {
             self.writable = false;
@@ -101,6 +104,8 @@ impl Stream {
         ensures bound { IfOk result (λ n. n ≤ length buffer.new) }
         ensures share { IfOk result (λ n. n + self.new.read_left ≡ self.old.read_left) }
         ensures used_up { self.old.read_left ≡ 0 → IsErr result × (self.new.readable ≡ true) }
+        ensures drained { IfOk result (λ n. self.new.drained ≡ true → (n < length buffer.old) × (n < self.old.read_left) × (self.old.ended ≡ false)) }
+        ensures kept { IsErr result → self.new.drained ≡ self.old.drained }
     {
         let most = self.read_left.min(buffer.len());
         if most == 0 || self.writable {

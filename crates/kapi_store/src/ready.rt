@@ -1,7 +1,8 @@
 use crate::change::{Change, Shared};
 use crate::key::Key;
 use crate::slots::share_at;
-use kapi_text::Memory;
+use kapi_text::{Memory, TryCopy};
+use kapi_tree::Object;
 use std::alloc::Global;
 use std::collections::BTreeMap;
 use std::marker::Model;
@@ -33,7 +34,7 @@ impl Model for Ready {
 }
 
 impl Ready {
-    ghost use Rattle.std.specs.Prelude.{◌≡◌, ◌+◌, ◌≤◌, IfOk, List, [], ◌∷◌, map, length};
+    ghost use Rattle.std.specs.Prelude.{◌≡◌, ◌+◌, ◌≤◌, IfOk, List, [], ◌∷◌, None, Some, map, length};
     ghost use Rattle.std.specs.List.Sorted.{IsStrictlySortedBy};
     ghost use Rattle.std.specs.Map.{keys_of};
     ghost use Rattle.kapi_store.specs.declared.store.TheConstants.{LAST_REVISION};
@@ -74,6 +75,43 @@ impl Ready {
         let mut list = Vec::with_capacity(alloc, 1)?;
         list.push(change)?;
         Ok(Ready { list, kept })
+    }
+
+    /// The write that creates an object at the key.
+    pub(crate) fn creation(
+        alloc: Global,
+        revision: u64,
+        key: &Key,
+        object: Object,
+    ) -> Result<Ready, Memory>
+        ensures { IfOk result (λ r. r ≡ record { revision = revision; key = key.now; old = None; new = Some object } ∷ []) }
+    {
+        let change = Change {
+            revision,
+            key: key.copy(alloc)?,
+            old: None,
+            new: Some(Shared::new(alloc, object)?),
+        };
+        Ready::of_one(alloc, change)
+    }
+
+    /// The write that replaces the object at the key.
+    pub(crate) fn replacement(
+        alloc: Global,
+        revision: u64,
+        key: Key,
+        old: &Shared,
+        object: Object,
+    ) -> Result<Ready, Memory>
+        ensures { IfOk result (λ r. r ≡ record { revision = revision; key = key; old = Some old.now; new = Some object } ∷ []) }
+    {
+        let change = Change {
+            revision,
+            key,
+            old: Some(old.share()?),
+            new: Some(Shared::new(alloc, object)?),
+        };
+        Ready::of_one(alloc, change)
     }
 
     /// The write that removes the objects at the keys, by the revisions after this one.

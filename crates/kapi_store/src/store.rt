@@ -9,7 +9,7 @@ use crate::slots::{find, place, reserve_slot};
 use crate::stamps::{admitted, at_revision, created, is_unchanged, with_stamps_of};
 use crate::window::{Changes, WINDOW, Window};
 use kapi_model::{ResourceRow, Selector};
-use kapi_text::{Memory, Sequence, Text, TryCopy};
+use kapi_text::{Memory, Sequence, Text};
 use kapi_tree::{GivenText, Object};
 use std::alloc::Global;
 use std::collections::BTreeMap;
@@ -262,14 +262,8 @@ impl Store {
     {
         self.check_revisions(1)?;
         let revision = self.revision + 1;
-        let new = Shared::new(self.alloc, created(self.alloc, object, revision)?)?;
-        let change = Change {
-            revision,
-            key: key.copy(self.alloc)?,
-            old: None,
-            new: Some(new),
-        };
-        let ready = Ready::of_one(self.alloc, change)?;
+        let new = created(self.alloc, object, revision)?;
+        let ready = Ready::creation(self.alloc, revision, &key, new)?;
         reserve_slot(self.alloc, &mut self.slots, &mut self.spare, key)?;
         Ok(ready)
     }
@@ -329,13 +323,7 @@ impl Store {
         self.check_revisions(1)?;
         let revision = self.revision + 1;
         let new = at_revision(self.alloc, object, old, revision)?;
-        let change = Change {
-            revision,
-            key,
-            old: Some(old.share()?),
-            new: Some(Shared::new(self.alloc, new)?),
-        };
-        Ok(Ready::of_one(self.alloc, change)?)
+        Ok(Ready::replacement(self.alloc, revision, key, old, new)?)
     }
 
     /// Whether the namespace holds an object of a namespaced resource type. The call reads the first object of each

@@ -2,6 +2,7 @@ ghost use Rattle.std.specs.Prelude.{◌≡◌, ◌++◌, IfOk, OnOk, map, option
 ghost use Rattle.kapi_tree.specs.Object.{tree_of};
 ghost use Rattle.kapi_store.specs.Changes.{IsStep};
 ghost use Rattle.kapi_store.specs.Plain.{plain_change};
+ghost use Rattle.kapi_stored_policy.specs.declared.kind.PolicyKind.TheVariants as of_kind;
 ghost use Rattle.kapi_stored_policy.specs.Kind as kind;
 ghost use Rattle.kapi_stored_policy.specs.Reading as reading;
 
@@ -60,23 +61,43 @@ fn put_at(alloc: Global, kind: PolicyKind, key: &Key, object: &Object) -> Result
     ensures { IfOk result (λ p. p ≡ reading.put_at kind key.now (tree_of object.now)) }
 {
     match kind {
-        PolicyKind::Role => {
-            let role = admitted_role(alloc, object)?;
-            Ok(PolicyPut::Role(place_of(alloc, key)?, role))
-        }
-        PolicyKind::RoleBinding => {
-            let binding = admitted_role_binding(alloc, object)?;
-            Ok(PolicyPut::RoleBinding(place_of(alloc, key)?, binding))
-        }
-        PolicyKind::ClusterRole => {
-            let role = admitted_cluster_role(alloc, object)?;
-            Ok(PolicyPut::ClusterRole(key.name.copy(alloc)?, role))
-        }
-        PolicyKind::ClusterRoleBinding => {
-            let binding = admitted_cluster_role_binding(alloc, object)?;
-            Ok(PolicyPut::ClusterRoleBinding(key.name.copy(alloc)?, binding))
-        }
+        PolicyKind::Role => put_role(alloc, key, object),
+        PolicyKind::RoleBinding => put_role_binding(alloc, key, object),
+        PolicyKind::ClusterRole => put_cluster_role(alloc, key, object),
+        PolicyKind::ClusterRoleBinding => put_cluster_role_binding(alloc, key, object),
     }
+}
+
+/// The put of a role at a key.
+fn put_role(alloc: Global, key: &Key, object: &Object) -> Result<PolicyPut, Memory>
+    ensures { IfOk result (λ p. p ≡ reading.put_at of_kind.Role key.now (tree_of object.now)) }
+{
+    let role = admitted_role(alloc, object)?;
+    Ok(PolicyPut::Role(place_of(alloc, key)?, role))
+}
+
+/// The put of a role binding at a key.
+fn put_role_binding(alloc: Global, key: &Key, object: &Object) -> Result<PolicyPut, Memory>
+    ensures { IfOk result (λ p. p ≡ reading.put_at of_kind.RoleBinding key.now (tree_of object.now)) }
+{
+    let binding = admitted_role_binding(alloc, object)?;
+    Ok(PolicyPut::RoleBinding(place_of(alloc, key)?, binding))
+}
+
+/// The put of a cluster role at a key.
+fn put_cluster_role(alloc: Global, key: &Key, object: &Object) -> Result<PolicyPut, Memory>
+    ensures { IfOk result (λ p. p ≡ reading.put_at of_kind.ClusterRole key.now (tree_of object.now)) }
+{
+    let role = admitted_cluster_role(alloc, object)?;
+    Ok(PolicyPut::ClusterRole(key.name.copy(alloc)?, role))
+}
+
+/// The put of a cluster role binding at a key.
+fn put_cluster_role_binding(alloc: Global, key: &Key, object: &Object) -> Result<PolicyPut, Memory>
+    ensures { IfOk result (λ p. p ≡ reading.put_at of_kind.ClusterRoleBinding key.now (tree_of object.now)) }
+{
+    let binding = admitted_cluster_role_binding(alloc, object)?;
+    Ok(PolicyPut::ClusterRoleBinding(key.name.copy(alloc)?, binding))
 }
 
 fn key_at(alloc: Global, kind: PolicyKind, key: &Key) -> Result<PolicyKey, Memory>

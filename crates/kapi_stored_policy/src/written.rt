@@ -2,6 +2,7 @@ ghost use Rattle.std.specs.Prelude.{◌≡◌, IfOk};
 ghost use Rattle.std.specs.Option.{option_map};
 ghost use Rattle.kapi_tree.specs.Object.{tree_of};
 ghost use Rattle.kapi_rbac_types.specs.Trees.{cluster_role_binding_of, cluster_role_of, role_binding_of, role_of};
+ghost use Rattle.kapi_stored_policy.specs.declared.kind.PolicyKind.TheVariants as of_kind;
 ghost use Rattle.kapi_stored_policy.specs.Kind as kind;
 ghost use Rattle.kapi_stored_policy.specs.Written as stored;
 ghost use Rattle.kapi_stored_policy.specs.Written.{versions_of};
@@ -29,23 +30,63 @@ pub fn written_at(
     ensures { IfOk result (λ w. w ≡ stored.written_at kind key.now (option_map (λ o. tree_of o.now) old.entry) (tree_of new.now)) }
 {
     match kind {
-        PolicyKind::Role => {
-            let versions = roles(alloc, old, new)?;
-            Ok(WrittenObject::Role(place_of(alloc, key)?, versions))
-        }
-        PolicyKind::RoleBinding => {
-            let versions = role_bindings(alloc, old, new)?;
-            Ok(WrittenObject::RoleBinding(place_of(alloc, key)?, versions))
-        }
-        PolicyKind::ClusterRole => {
-            let versions = cluster_roles(alloc, old, new)?;
-            Ok(WrittenObject::ClusterRole(key.name.copy(alloc)?, versions))
-        }
-        PolicyKind::ClusterRoleBinding => {
-            let versions = cluster_role_bindings(alloc, old, new)?;
-            Ok(WrittenObject::ClusterRoleBinding(key.name.copy(alloc)?, versions))
-        }
+        PolicyKind::Role => written_role(alloc, key, old, new),
+        PolicyKind::RoleBinding => written_role_binding(alloc, key, old, new),
+        PolicyKind::ClusterRole => written_cluster_role(alloc, key, old, new),
+        PolicyKind::ClusterRoleBinding => written_cluster_role_binding(alloc, key, old, new),
     }
+}
+
+/// A role that is written at a key.
+fn written_role(
+    alloc: Global,
+    key: &Key,
+    old: Option<&Object>,
+    new: &Object,
+) -> Result<WrittenObject, Memory>
+    ensures { IfOk result (λ w. w ≡ stored.written_at of_kind.Role key.now (option_map (λ o. tree_of o.now) old.entry) (tree_of new.now)) }
+{
+    let versions = roles(alloc, old, new)?;
+    Ok(WrittenObject::Role(place_of(alloc, key)?, versions))
+}
+
+/// A role binding that is written at a key.
+fn written_role_binding(
+    alloc: Global,
+    key: &Key,
+    old: Option<&Object>,
+    new: &Object,
+) -> Result<WrittenObject, Memory>
+    ensures { IfOk result (λ w. w ≡ stored.written_at of_kind.RoleBinding key.now (option_map (λ o. tree_of o.now) old.entry) (tree_of new.now)) }
+{
+    let versions = role_bindings(alloc, old, new)?;
+    Ok(WrittenObject::RoleBinding(place_of(alloc, key)?, versions))
+}
+
+/// A cluster role that is written at a key.
+fn written_cluster_role(
+    alloc: Global,
+    key: &Key,
+    old: Option<&Object>,
+    new: &Object,
+) -> Result<WrittenObject, Memory>
+    ensures { IfOk result (λ w. w ≡ stored.written_at of_kind.ClusterRole key.now (option_map (λ o. tree_of o.now) old.entry) (tree_of new.now)) }
+{
+    let versions = cluster_roles(alloc, old, new)?;
+    Ok(WrittenObject::ClusterRole(key.name.copy(alloc)?, versions))
+}
+
+/// A cluster role binding that is written at a key.
+fn written_cluster_role_binding(
+    alloc: Global,
+    key: &Key,
+    old: Option<&Object>,
+    new: &Object,
+) -> Result<WrittenObject, Memory>
+    ensures { IfOk result (λ w. w ≡ stored.written_at of_kind.ClusterRoleBinding key.now (option_map (λ o. tree_of o.now) old.entry) (tree_of new.now)) }
+{
+    let versions = cluster_role_bindings(alloc, old, new)?;
+    Ok(WrittenObject::ClusterRoleBinding(key.name.copy(alloc)?, versions))
 }
 
 fn place_of(alloc: Global, key: &Key) -> Result<NamespacedName, Memory>

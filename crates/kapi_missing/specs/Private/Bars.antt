@@ -6,7 +6,6 @@ use Rattle.kapi_model.specs.declared.policy_rule.PolicyRule.{PolicyRule}
 use Rattle.kapi_rules.specs.Atoms.{resource_covers}
 use Rattle.kapi_rules.specs.Entries.{url_matches, word_matches}
 use Rattle.kapi_missing.specs.Private.Marks.{at, some_has}
-use Rattle.kapi_missing.specs.Private.Words.{has_star}
 use Rattle.kapi_missing.specs.declared.bars.Bar.{Bar}
 use Rattle.kapi_missing.specs.declared.bars.Dimension.{Dimension}
 use Rattle.kapi_missing.specs.declared.bars.Dimension.TheVariants as dimension
@@ -48,14 +47,6 @@ some_covers dimension entries other = list_any (λ e. entry_covers dimension e o
 abbrev pub meets : Bool → Dimension → PolicyRule → List ℕ → Bool
 meets held which rule entry =
     if held then some_covers which (entries_in which rule) entry else list_any (λ e. bytes_eq e entry) (entries_in which rule)
-
--- the rule may meet an entry that this list of it does not have
-abbrev pub is_wide : Bool → Dimension → PolicyRule → Bool
-is_wide held dimension.Names rule = length rule.resource_names == 0
-is_wide held dimension.Verbs rule = held && list_any has_star rule.verbs
-is_wide held dimension.Groups rule = held && list_any has_star rule.api_groups
-is_wide held dimension.Resources rule = held && list_any has_star rule.resources
-is_wide held dimension.Urls rule = held && list_any has_star rule.non_resource_urls
 
 -- the listed names that are met; where none is listed, all names are one entry
 abbrev pub name_marks : Bool → PolicyRule → List (List ℕ) → List Bool

@@ -1,65 +1,81 @@
 -- Rules that may stop atoms, found by the entries of a wanted rule.
-use Rattle.std.specs.Prelude.{◌≡◌, ℕ, zero, suc, ◌==◌, Bool, true, false, ◌⊎◌, List, [], ◌∷◌, map, Option, Some, None}
-use Rattle.std.specs.BTreeMap.{BTreeMap, get_by}
-use Rattle.std.specs.Cmp.Lexicographic.{slice_cmp}
+use Rattle.std.specs.Prelude.{◌≡◌, ℕ, zero, suc, ◌+◌, ◌==◌, ◌<◌, nat_eq, Bool, true, false, ◌&&◌, ◌||◌, List, [], ◌∷◌, length, map, take, Option, Some, None}
+use Rattle.std.specs.BTreeMap.{BTreeMap}
 use Rattle.std.specs.Global.{Vec}
-use Rattle.std.specs.List.{list_any}
-use Rattle.std.specs.Option.{option_map_or}
-use Rattle.std.specs.Ordering.{nat_cmp}
+use Rattle.std.specs.List.{ends_with, list_any, starts_with}
 use Rattle.std.specs.Str.{bytes_eq}
 use denote.Ref.{Bor}
 use Rattle.kapi_model.specs.declared.policy_rule.PolicyRule.{PolicyRule}
-use Rattle.kapi_missing.specs.Private.Bars.{entries_in, is_wide, rule_in}
-use Rattle.kapi_missing.specs.Private.Masks.{AreAllMasks}
+use Rattle.kapi_rules.specs.Atoms.{after_slash}
+use Rattle.kapi_rules.specs.Entries.{star, without_stars}
+use Rattle.kapi_missing.specs.Private.Bars.{entries_in, meets, rule_in, some_name_met}
+use Rattle.kapi_missing.specs.Private.Sets.{fingerprint, stands, stands_at, stands_under}
 use Rattle.kapi_missing.specs.declared.bars.Dimension.{Dimension}
 use Rattle.kapi_missing.specs.declared.bars.Dimension.TheVariants as dimension
-use Rattle.kapi_missing.specs.declared.bars.Sort.{Sort}
-use Rattle.kapi_missing.specs.declared.bars.Sort.TheVariants as sort
 use Rattle.kapi_missing.specs.declared.index.Bars.{Bars}
 use Rattle.kapi_missing.specs.declared.index.Index.{Index}
+use Rattle.kapi_missing.specs.declared.sets.Block.{Block}
 
--- the list has the number
-abbrev pub has_number : List ℕ → ℕ → Bool
-has_number numbers n = list_any (λ m. m == n) numbers
+-- the sets of one of the lists
+abbrev pub sets_in : Dimension → Index → BTreeMap (Bor (List ℕ)) (Vec Block)
+sets_in dimension.Verbs index = index.verbs
+sets_in dimension.Groups index = index.groups
+sets_in dimension.Resources index = index.resources
+sets_in dimension.Names index = index.names
+sets_in dimension.Urls index = index.urls
 
--- the numbers under that entry
-abbrev pub numbers_at : BTreeMap (Bor (List ℕ)) (Vec ℕ) → List ℕ → List ℕ
-numbers_at places entry = option_map_or (λ v. v.items) (get_by (λ k. slice_cmp nat_cmp entry k.now) places) []
+-- the entry ends with a star
+abbrev pub is_starred : List ℕ → Bool
+is_starred entry = ends_with nat_eq entry star
 
--- the number stands under some of the entries
-abbrev pub listed_under : BTreeMap (Bor (List ℕ)) (Vec ℕ) → List (List ℕ) → ℕ → Bool
-listed_under places entries n = list_any (λ e. has_number (numbers_at places e) n) entries
+-- the entry begins with a star
+abbrev pub open_start : List ℕ → Bool
+open_start entry = starts_with nat_eq entry star
 
--- atoms of that sort have an entry of that list
-abbrev pub is_list_of : Sort → Dimension → Bool
-is_list_of sort.Resources dimension.Verbs = true
-is_list_of sort.Resources dimension.Groups = true
-is_list_of sort.Resources dimension.Resources = true
-is_list_of sort.Resources dimension.Names = true
-is_list_of sort.Resources dimension.Urls = false
-is_list_of sort.Urls dimension.Verbs = true
-is_list_of sort.Urls dimension.Groups = false
-is_list_of sort.Urls dimension.Resources = false
-is_list_of sort.Urls dimension.Names = false
-is_list_of sort.Urls dimension.Urls = true
+-- it is the fingerprint of what such an entry covers, of a URL of all that begins so, of a resource by its own text
+abbrev pub has_pattern : Bool → ℕ → List ℕ → Bool
+has_pattern true hash entry = is_starred entry && (fingerprint (without_stars entry) == hash)
+has_pattern false hash entry = open_start entry && (fingerprint entry == hash)
 
--- a list in which the rule meets the entries alone that it has there
-abbrev pub IsKey : Bool → Sort → PolicyRule → Option Dimension → Type 0
-IsKey held which rule None = Unit {0}
-IsKey held which rule (Some d) = (is_list_of which d ≡ true) × (is_wide held d rule ≡ false)
+-- the list of URLs, or that of resources
+abbrev pub patterned : Bool → PolicyRule → List (List ℕ)
+patterned true rule = rule.non_resource_urls
+patterned false rule = rule.resources
 
--- the number stands under each entry of such a list, or is among the wide
-abbrev pub IsPlaced : Bool → Index → ℕ → PolicyRule → Sort → Type 0
-IsPlaced held index n rule which =
-    (has_number index.wide.items n ≡ true)
-    ⊎ ((d : Dimension) × IsKey held which rule (Some d)
-    × ((e : List ℕ) → list_any (λ x. bytes_eq x e) (entries_in d rule) ≡ true → has_number (numbers_at index.places e) n ≡ true))
+-- the number of a rule stands under its entries, under the fingerprints of those with stars, and apart where it lists no names
+abbrev pub IsPlaced : Index → ℕ → PolicyRule → Type 0
+IsPlaced index n rule =
+    ((d : Dimension) (e : List ℕ) → list_any (λ x. bytes_eq x e) (entries_in d rule) ≡ true → stands_under (sets_in d index) e n ≡ true)
+    × ((url : Bool) (hash : ℕ) → list_any (has_pattern url hash) (patterned url rule) ≡ true → stands_at index.patterns hash n ≡ true)
+    × ((length rule.resource_names == 0) ≡ true → stands index.nameless.items n ≡ true)
 
 -- what stands in the one stands in the other
 abbrev pub Keeps : Index → Index → Type 0
 Keeps old new =
-    ((n : ℕ) → has_number old.wide.items n ≡ true → has_number new.wide.items n ≡ true)
-    × ((e : List ℕ) (n : ℕ) → has_number (numbers_at old.places e) n ≡ true → has_number (numbers_at new.places e) n ≡ true)
+    ((d : Dimension) (e : List ℕ) (n : ℕ) → stands_under (sets_in d old) e n ≡ true → stands_under (sets_in d new) e n ≡ true)
+    × ((hash n : ℕ) → stands_at old.patterns hash n ≡ true → stands_at new.patterns hash n ≡ true)
+    × ((n : ℕ) → stands old.nameless.items n ≡ true → stands new.nameless.items n ≡ true)
+
+-- the number stands under the fingerprint of the entry that covers what has that text behind its first slash
+abbrev pub any_stands : BTreeMap ℕ (Vec Block) → Option (List ℕ) → ℕ → Bool
+any_stands patterns None n = false
+any_stands patterns (Some behind) n = stands_at patterns (fingerprint (42 ∷ 47 ∷ behind)) n
+
+-- the number stands where a rule does that has an entry with a star that covers the other
+abbrev pub StandsByStar : Dimension → Index → List ℕ → ℕ → Type 0
+StandsByStar dimension.Verbs index entry n = stands_under index.verbs star n ≡ true
+StandsByStar dimension.Groups index entry n = stands_under index.groups star n ≡ true
+StandsByStar dimension.Resources index entry n = (stands_under index.resources star n || any_stands index.patterns (after_slash entry) n) ≡ true
+StandsByStar dimension.Names index entry n = ⊥
+StandsByStar dimension.Urls index entry n = (m : ℕ) × (m < length entry + 1) × (stands_at index.patterns (fingerprint (take m entry)) n ≡ true)
+
+-- the rule meets one of the entries of that list
+abbrev pub meets_some : Bool → Dimension → PolicyRule → List (List ℕ) → Bool
+meets_some held dimension.Names rule entries = some_name_met held rule entries
+meets_some held dimension.Verbs rule entries = list_any (meets held dimension.Verbs rule) entries
+meets_some held dimension.Groups rule entries = list_any (meets held dimension.Groups rule) entries
+meets_some held dimension.Resources rule entries = list_any (meets held dimension.Resources rule) entries
+meets_some held dimension.Urls rule entries = list_any (meets held dimension.Urls rule) entries
 
 -- the rules
 abbrev pub rules_in : Bars → List PolicyRule
@@ -71,11 +87,9 @@ IsAt [] i x = ⊥
 IsAt (y ∷ xs) zero x = y ≡ x
 IsAt (y ∷ xs) (suc i) x = IsAt xs i x
 
--- each rule is placed, for either sort of atoms, and has its masks
+-- each rule is placed
 abbrev pub AreAllPlaced : Bars → Type 0
-AreAllPlaced bars =
-    ((n : ℕ) (rule : PolicyRule) → IsAt (rules_in bars) n rule → (which : Sort) → IsPlaced bars.is_held bars.index n rule which)
-    × AreAllMasks bars.seen bars.is_held (rules_in bars) bars.masks.items
+AreAllPlaced bars = (n : ℕ) (rule : PolicyRule) → IsAt (rules_in bars) n rule → IsPlaced bars.index n rule
 
 -- they are those rules, held or wanted, and each is placed
 abbrev pub AreBars : Bool → List PolicyRule → Bars → Type 0

@@ -1,4 +1,4 @@
-use Rattle.std.proofs.Common.{◌≡◌, Option, None, Result, Ok, sym, ap, ◌∙◌, subst}
+use Rattle.std.proofs.Common.{◌≡◌, None, Result, sym, ap, ◌∙◌, subst}
 use Rattle.kapi_text.specs.Gives.{Gives, ◌>>=◌}
 use Rattle.kapi_reply.specs.Refusals.{refused_by}
 use Rattle.kapi_reply.specs.declared.refusal.Refused.{Refused}

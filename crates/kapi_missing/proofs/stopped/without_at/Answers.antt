@@ -10,4 +10,4 @@ returns-in_ok-without_bar-in-Some c = λ i j k l.
     let h = c.in-Some.ensures.lookup in
     c.in_ok-without_bar-in-Some.ensures i j k l
     ∙ ap (λ (r : Bool). some_has c.args.parts.items i j k l && not r)
-    (sym (mark_there (λ (b : PolicyRule). barred c.args.bars.now.is_held c.args.wanted.now.sort b c.args.wanted.now.rule.now i j k l) rule_in c.args.bars.now.rules.items c.deref.result.now c.args.number c.in-Some.bar.now c.deref.ensures.value h.3.0 h.1))
+    (sym (mark_there (λ (b : PolicyRule). barred c.args.bars.now.is_held c.args.sort b c.args.rule.now i j k l) rule_in c.args.bars.now.rules.items c.deref.result.now c.args.number c.in-Some.bar.now c.deref.ensures.value h.3.0 h.1))

@@ -1,7 +1,7 @@
 use Rattle.std.proofs.Common.{ap, sym, ◌∙◌, arith}
 use Rattle.kapi_serve.specs.Private.Clients.{seats_of}
 use Rattle.kapi_serve.proofs.Going.{adds_nothing, goes_nothing, goes_on, goes_still, goes_unasked}
-use Rattle.kapi_serve.proofs.Tending.{both_still, on_both, on_each, on_passing, passes_nothing, round_first, round_last, round_next, settles_on}
+use Rattle.kapi_serve.proofs.Tending.{both_still, on_passing, passes_nothing, round_first, round_last, round_next, settles_on, settles_woken}
 use Rattle.kapi_serve.proofs.server.Server.round.Goals as goal
 
 pub loop-position-init : goal.loop-position-init
@@ -16,9 +16,13 @@ loop-position-preserved g c = (
 
 pub returns-clause-goes : goal.returns-clause-goes
 returns-clause-goes g c =
-    goes_on _ _ _ (goes_unasked _ _ _ _ _ _ _ _ _ (c.make_turns-progress.ensures.goes _)) (goes_on _ _ _ (goes_still _ _ _ c.wake.ensures.seats (adds_nothing _)) c.loop-position.invariant.0)
+    goes_on _ _ _ (goes_unasked _ _ _ _ _ _ _ _ _ (c.make_turns-progress.ensures.goes _)) (goes_on _ _ _ c.loop-position.invariant.0 (goes_still _ _ _ c.wake.ensures.seats (adds_nothing _)))
 
 pub returns-clause-settles : goal.returns-clause-settles
 returns-clause-settles g c =
-    settles_on _ _ _ _ _ _ _ _ _ _ (on_both _ _ _ _ _ _ _ _ _ (on_passing _ _ _ _ c.make_turns-progress.ensures.passes) (on_each _ _ _ _ _ c.wake.ensures.stands))
-    (round_last _ _ _ _ _ _ _ _ (omega (arith, c.loop-position-test.false, c.len.ensures)) c.loop-position.invariant.1)
+    settles_on _ _ _ _ _ _ _ _ _ _ (on_passing _ _ _ _ c.make_turns-progress.ensures.passes)
+    (settles_woken _ _ _ _ _ _ _ _ _ _ _ (λ h. both_still _ _ (sym c.and.ensures ∙ h)) (round_last _ _ _ _ _ _ _ _ (omega (arith, c.loop-position-test.false, c.len.ensures)) c.loop-position.invariant.1)
+    c.wake.ensures.stands (λ h. ap (λ d. d.list.items) (c.wake.ensures.still h).0))
+
+pub returns-clause-woken : goal.returns-clause-woken
+returns-clause-woken g c = λ h. (c.wake.ensures.still (both_still _ _ (sym c.and.ensures ∙ h)).1).1 ∙ c.revision.ensures

@@ -13,11 +13,10 @@ use Rattle.kapi_store.proofs.store.Store.create_in_place.Goals as goal
 pub returns-clause-fits : goal.returns-clause-fits
 returns-clause-fits c =
     let now : state_of c.self.inside ≡ c.args.self.now = c.self.view_is in
-    let Q : Key → Type 0 = λ k. IsSome (lookup (is_key k) c.reserve_slot.new.slots.entries) in
     let left : c.args.self.now.revision + 1 ≤ last_revision = c.in_ok-check_revisions.ensures.left in
     fits_one _ _ _ c.in_ok-ready.ensures refl
     (let e : c.args.self.now.revision ≡ c.self.inside.revision = ap (λ s. s.revision) (sym now) in omega arith)
-    (λ _. subst Q (sym c.in_ok-copy.ensures) c.in_ok-reserve_slot.ensures.slot)
+    (λ _. c.in_ok-reserve_slot.ensures.slot)
 
 pub invariant_of-self : goal.invariant_of-self
 invariant_of-self c = moved_store (state_of c.self.inside) _ c.self.invariant c.reserve_slot.ensures.ordered c.reserve_slot.ensures.spare refl refl refl

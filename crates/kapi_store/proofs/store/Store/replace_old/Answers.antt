@@ -41,15 +41,15 @@ returns-clause-gives c =
     let same : same_tree (with_stamps_of old (tree_of c.args.object)) old ≡ false
     = ap (λ t. same_tree t old) (sym c.in_ok-object.ensures) ∙ sym c.is_unchanged.ensures.test ∙ c.if-is_unchanged.false in
     let left : revisions_left (plain_of c.args.self.now) 1 ≡ Ok tt = c.in_ok-check_revisions.ensures.gives in
-    replaced_by (plain_of c.args.self.now) c.args.key (tree_of c.args.object) old c.in_ok-of_one.field-0 (c.self.inside.revision + 1) c.in_ok-share.field-0 c.in_ok-new-2.field-0
-    same left c.in_ok-of_one.ensures (ap (λ s. s.revision + 1) c.self.view_is) (ap tree_of c.in_ok-share.ensures)
-    (ap tree_of c.in_ok-new-2.ensures ∙ c.in_ok-new.ensures ∙ ap (stamped_tree (uid_in old) (decimal (c.self.inside.revision + 1))) c.in_ok-object.ensures)
+    replaced_by (plain_of c.args.self.now) c.args.key (tree_of c.args.object) old c.in_ok-replacement.field-0 (c.self.inside.revision + 1) c.args.old.now c.in_ok-new.new
+    same left c.in_ok-replacement.ensures (ap (λ s. s.revision + 1) c.self.view_is) refl
+    (c.in_ok-new.ensures ∙ ap (stamped_tree (uid_in old) (decimal (c.self.inside.revision + 1))) c.in_ok-object.ensures)
 
 pub returns-clause-fits : goal.returns-clause-fits
 returns-clause-fits c =
     let at : c.args.self.now.revision ≡ c.self.inside.revision = ap (λ s. s.revision) (sym c.self.view_is) in
     let left : c.args.self.now.revision + 1 ≤ last_revision = c.in_ok-check_revisions.ensures.left in
-    fits_one c.args.self.now _ _ c.in_ok-of_one.ensures (omega arith) (omega arith)
+    fits_one c.args.self.now _ _ c.in_ok-replacement.ensures (omega arith) (omega arith)
     (λ _. slot_of_tree c.args.self.now c.args.key (tree_of c.args.old.now) (subst (λ s. IsStrictlySortedBy key_cmp (keys_of s.slots)) c.self.view_is c.self.invariant.slots) c.requires)
 
 -- no changes were prepared, and the trees are equal
@@ -60,6 +60,6 @@ returns-then-is_unchanged-clause-unchanged c =
 
 pub returns-clause-unchanged : goal.returns-clause-unchanged
 returns-clause-unchanged c = (
-  λ none. absurd (cc (c.in_ok-of_one.ensures, none)),
+  λ none. absurd (cc (c.in_ok-replacement.ensures, none)),
   λ is. absurd (cc (c.is_unchanged.ensures.decides.1 (c.in_ok-object.ensures ∙ is), c.if-is_unchanged.false)),
 )
