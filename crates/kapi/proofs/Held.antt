@@ -1,12 +1,11 @@
 -- An answer about machines is an answer about the files that make them.
-use Rattle.std.proofs.Common.{◌≡◌, ℕ, ◌==◌, not, Bool, List, length, Option, None, Some, Result, Ok, Err, IfOk, refl, sym, ap, ap₂, ◌∙◌, subst}
-use Rattle.std.specs.declared.alloc.AllocError.{AllocError}
+use Rattle.std.proofs.Common.{◌≡◌, ℕ, ◌==◌, not, Bool, List, length, Option, None, Some, Result, Ok, Err, refl, sym, ap, ap₂, ◌∙◌, subst}
 use Rattle.kapi_text.specs.Gives.{Fails, Gives, ◌>>=◌}
 use Rattle.kapi_core.specs.Machine.{Machine, policy_of}
 use Rattle.kapi_core.specs.Running.{Running}
 use Rattle.kapi_core.specs.Refines.{Refines}
 use Rattle.kapi_loading.specs.Faults as loading
-use Rattle.kapi_loading.specs.Faults.{FileFault, bad_line}
+use Rattle.kapi_loading.specs.Faults.{FileFault}
 use Rattle.kapi_loading.specs.declared.fault.StartError.{StartError}
 use Rattle.kapi_loading.specs.declared.fault.StartError.TheVariants as start
 use Rattle.kapi_lines.specs.Lines.{NumberedLine}
@@ -15,11 +14,11 @@ use Rattle.kapi_access.specs.Gained.{gained}
 use Rattle.kapi_access.specs.declared.identities.Identities.{Identities}
 use Rattle.kapi_questions.specs.Answers.{gains_text}
 use Rattle.kapi_questions.specs.Lines as lined
-use Rattle.kapi_questions.specs.Lines.{LineError, answered_lines, no_question}
+use Rattle.kapi_questions.specs.Lines.{LineError, answered_lines}
 use Rattle.kapi_questions.specs.declared.answer.Form.{Form}
 use Rattle.kapi_questions.specs.declared.lines.LineFault.{LineFault}
 use Rattle.kapi_questions.specs.declared.lines.LineFault.TheVariants as line_fault
-use Rattle.kapi.specs.Policies.{Comparison, FilesError, Holds, IsLoaded, IsPolicyOf, Reply, as_first, as_question, as_second, comparison, fault_told, first_fault, is_settled, lines_on, question_fault, second_fault}
+use Rattle.kapi.specs.Policies.{FilesError, Holds, IsLoaded, IsPolicyOf, Reply, as_first, as_question, as_second, comparison, fault_told, first_fault, is_settled, lines_on, question_fault, second_fault}
 use Rattle.kapi.specs.declared.policies.FilesFault.{FilesFault}
 use Rattle.kapi.specs.declared.policies.LoadedPolicy.{LoadedPolicy}
 

@@ -13,7 +13,7 @@ use Rattle.clap.specs.declared.error.kind.ErrorKind.{ErrorKind}
 use Rattle.clap.specs.declared.error.kind.ErrorKind.TheVariants.{DisplayHelp, DisplayVersion, OutOfMemory}
 use Rattle.clap.specs.declared.parser.matches.ArgMatches.{ArgMatches}
 use Rattle.clap.proofs.OnLiterals.{clap_on_literals}
-use Rattle.kapi.specs.Asked.{AreWrong, Asked, Files, Names, Options, Policies, Reads, Risks, Shows, Transcripts, Who, asked, asked_by, compare_in, files_in, is_shown, options_in, risks_in, told, transcripts_in, who_in}
+use Rattle.kapi.specs.Asked.{AreWrong, Asked, Names, Reads, Risks, Shows, Who, asked, asked_by, compare_in, files_in, is_shown, options_in, risks_in, told, transcripts_in, who_in}
 use Rattle.kapi.specs.Asked.{AskRisks, AskWho, Audit, Compare, Replay, Script, Serve, Show}
 use Rattle.kapi.specs.CommandLine.{kapi}
 use Rattle.kapi.specs.declared.program.Command.{Command}

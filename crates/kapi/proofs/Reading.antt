@@ -1,14 +1,9 @@
 -- The values of a command line's words.
-use Rattle.std.proofs.Common.{◌≡◌, ℕ, ◌&&◌, Bool, true, false, List, [], ◌∷◌, ◌++◌, length, Option, Some, None, option_map, Result, Ok, Err, nat_lt, refl, ap, lt-ltb, ltb-true}
-use Rattle.std.specs.Char.{digit_value}
-use Rattle.std.specs.List.{list_all}
-use Rattle.std.specs.Result.{result_ok}
-use Rattle.std.specs.Str.Parse.{AllDigits, ParsesUnsigned, digits_value, without_leading_plus}
-use Rattle.clap.specs.ValueTests.{is_numeral}
+use Rattle.std.proofs.Common.{◌≡◌, List, ◌++◌, Option, option_map}
 use Rattle.clap.specs.Matches.{first_value, matched_of, raw_values}
 use Rattle.clap.specs.Walk.{Text, all_of, first_of, rows_of}
 use Rattle.clap.specs.declared.parser.matches.Found.{Found}
-use Rattle.clap.proofs.WalkLemmas.{both, first_value-rows, raw_values-rows}
+use Rattle.clap.proofs.WalkLemmas.{first_value-rows, raw_values-rows}
 use Rattle.kapi.specs.declared.program.Listen.{Listen}
 
 pub first_value_rows : (f : Found) (id : Text) → first_value f id ≡ first_of id (rows_of f)

@@ -1,13 +1,15 @@
 //! Questions about the policies of files.
 use crate::ending::Ending;
-use crate::policies::{Answered, FilesFault, compare_files, risks_file, who_file, who_wanted};
+use crate::policies::{
+    Answered, Compared, FilesFault, compare_files, risks_file, who_file, who_wanted,
+};
 use crate::program::{CompareFiles, RisksFile, WhoQuestion, WhoWanted, WhoWords};
-use crate::telling::{tell_reason, tell_unread};
+use crate::telling::{print, read_file, tell_reason};
 use kapi_access::Identities;
 use kapi_questions::{Form, question_of};
 use kapi_reasons::object_reason;
-use std::fs::{self, Files};
-use std::io::{self, BufWriter, Write};
+use std::fs::Files;
+use std::io;
 use std::sync::Wait;
 use std::thread::Threads;
 
@@ -24,32 +26,39 @@ pub fn run_compare<R: Files + Print + Eprint + AllocGlobal + Wait + Threads + Sy
     rt: &R,
     files: &CompareFiles,
 ) -> io::Result<Ending> {
-    let Some(before) = read(rt, files.before.as_str())? else {
+    let Some(before) = read_file(rt, files.before.as_str())? else {
         return Ok(Ending::Stopped);
     };
-    let Some(after) = read(rt, files.after.as_str())? else {
+    let Some(after) = read_file(rt, files.after.as_str())? else {
         return Ok(Ending::Stopped);
     };
-    match compare_files(
+    let compared = compare_files(
         rt.alloc(),
         rt,
         form(files.json),
         identities(files.usual_groups),
         before.as_slice(),
         after.as_slice(),
-    ) {
+    );
+    let before = file_of(files.before.as_str(), before.as_slice());
+    let after = file_of(files.after.as_str(), after.as_slice());
+    tell_compared(rt, &before, &after, compared)
+}
+
+fn tell_compared<R: Print + Eprint + AllocGlobal>(
+    rt: &R,
+    before: &Source<'_>,
+    after: &Source<'_>,
+    compared: Result<Compared, FilesFault>,
+) -> io::Result<Ending> {
+    match compared {
         Ok(compared) => {
             print(rt, compared.text.as_slice())?;
-            tell_unsettled(rt, files.before.as_str(), compared.before_settled)?;
-            tell_unsettled(rt, files.after.as_str(), compared.after_settled)?;
+            tell_unsettled(rt, before.name, compared.before_settled)?;
+            tell_unsettled(rt, after.name, compared.after_settled)?;
             Ok(Ending::of_comparison(compared.gains))
         }
-        Err(fault) => refuse(
-            rt,
-            fault,
-            &file_of(files.before.as_str(), before.as_slice()),
-            &file_of(files.after.as_str(), after.as_slice()),
-        ),
+        Err(fault) => refuse(rt, fault, before, after),
     }
 }
 
@@ -59,7 +68,7 @@ pub fn run_who<R: Files + Print + Eprint + AllocGlobal + Wait>(
     words: &WhoWords,
 ) -> io::Result<Ending> {
     let policy = words.policy.as_str();
-    let Some(objects) = read(rt, policy)? else {
+    let Some(objects) = read_file(rt, policy)? else {
         return Ok(Ending::Stopped);
     };
     let policy = file_of(policy, objects.as_slice());
@@ -69,7 +78,7 @@ pub fn run_who<R: Files + Print + Eprint + AllocGlobal + Wait>(
             tell_who(rt, &policy, &file_of("", b"".as_slice()), asked)
         }
         WhoQuestion::File(file) => {
-            let Some(lines) = read(rt, file.as_str())? else {
+            let Some(lines) = read_file(rt, file.as_str())? else {
                 return Ok(Ending::Stopped);
             };
             let form = form(words.json);
@@ -118,7 +127,7 @@ pub fn run_risks<R: Files + Print + Eprint + AllocGlobal + Wait>(
     file: &RisksFile,
 ) -> io::Result<Ending> {
     let policy = file.policy.as_str();
-    let Some(objects) = read(rt, policy)? else {
+    let Some(objects) = read_file(rt, policy)? else {
         return Ok(Ending::Stopped);
     };
     match risks_file(rt.alloc(), rt, form(file.json), objects.as_slice()) {
@@ -144,23 +153,6 @@ fn identities(usual: bool) -> Identities {
     } else {
         Identities::Any
     }
-}
-
-/// The bytes of a file; none where it cannot be read, after a line on standard error.
-fn read<R: Files + Eprint + AllocGlobal>(rt: &R, file: &str) -> io::Result<Option<Vec<u8>>> {
-    match fs::read(rt, file) {
-        Ok(bytes) => Ok(Some(bytes)),
-        Err(error) => {
-            tell_unread(rt, file, &error)?;
-            Ok(None)
-        }
-    }
-}
-
-fn print<R: Print + AllocGlobal>(rt: &R, text: &[u8]) -> io::Result<()> {
-    let mut writer = BufWriter::new(rt.alloc(), io::writer(rt))?;
-    writer.write_all(text)?;
-    writer.flush()
 }
 
 fn tell_unsettled(rt: &impl Eprint, file: &str, settled: bool) -> io::Result<()> {

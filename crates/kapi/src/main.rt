@@ -35,24 +35,19 @@ use program::{AuditFiles, Command, CommandFault};
 use replaying::run_replay;
 use serving::run_serve;
 use std::env::{self, Env};
-use std::fs::{self, Files};
-use std::io::{self, BufWriter, Write};
+use std::fs::Files;
+use std::io::{self, BufWriter};
+use std::net::{Net, TcpListener, TcpStream};
 use std::process::ExitCode;
 use std::sync::Wait;
 use std::thread::Threads;
-use telling::{tell_reason, tell_stopped, tell_unread};
+use std::time::Clock;
+use telling::{print, read_file, tell_reason, tell_stopped};
 use wrong_words::complaint;
 
 fn main(rt: HostRuntime) -> io::Result<ExitCode> {
     let ended = match named_command(&rt) {
-        Ok(Command::Script) => run_script(&rt),
-        Ok(Command::Audit(files)) => run_audit(&rt, &files),
-        Ok(Command::Serve(options)) => run_serve(&rt, &options),
-        Ok(Command::Replay(options)) => run_replay(&rt, &options),
-        Ok(Command::Compare(files)) => run_compare(&rt, &files),
-        Ok(Command::Who(words)) => run_who(&rt, &words),
-        Ok(Command::Risks(file)) => run_risks(&rt, &file),
-        Ok(Command::Show(text)) => show(&rt, &text),
+        Ok(command) => run(&rt, &command),
         Err(fault) => refuse(&rt, fault),
     };
     let ending = match ended {
@@ -60,6 +55,36 @@ fn main(rt: HostRuntime) -> io::Result<ExitCode> {
         Err(error) => tell_stopped(&rt, &error)?,
     };
     Ok(ending.status())
+}
+
+/// Runs a command.
+fn run<
+    R: Files
+        + Env
+        + Input
+        + Print
+        + Eprint
+        + AllocGlobal
+        + Wait
+        + Threads
+        + Clock
+        + Clone
+        + Drop
+        + Send
+        + Sync
+        + Net<Listener = TcpListener, Stream = TcpStream>
+        + 'static,
+>(rt: &R, command: &Command) -> io::Result<Ending> {
+    match command {
+        Command::Script => run_script(rt),
+        Command::Audit(files) => run_audit(rt, files),
+        Command::Serve(options) => run_serve(rt, options),
+        Command::Replay(options) => run_replay(rt, options),
+        Command::Compare(files) => run_compare(rt, files),
+        Command::Who(words) => run_who(rt, words),
+        Command::Risks(file) => run_risks(rt, file),
+        Command::Show(text) => show(rt, text),
+    }
 }
 
 /// Prints the text of help or of the version.
@@ -108,35 +133,40 @@ fn run_audit<R: Files + Print + Eprint + AllocGlobal + Threads + Wait + Sync>(
     rt: &R,
     files: &AuditFiles,
 ) -> io::Result<Ending> {
-    let policy = match fs::read(rt, files.policy.as_str()) {
-        Ok(policy) => policy,
-        Err(error) => return tell_unread(rt, files.policy.as_str(), &error),
+    let Some(policy) = read_file(rt, files.policy.as_str())? else {
+        return Ok(Ending::Stopped);
     };
-    let questions = match fs::read(rt, files.questions.as_str()) {
-        Ok(questions) => questions,
-        Err(error) => return tell_unread(rt, files.questions.as_str(), &error),
+    let Some(questions) = read_file(rt, files.questions.as_str())? else {
+        return Ok(Ending::Stopped);
     };
-    match audit(rt, policy.as_slice(), questions.as_slice(), files.readers) {
+    let (policy, questions) = (policy.as_slice(), questions.as_slice());
+    match audit(rt, policy, questions, files.readers) {
         Ok(answers) => {
-            let mut writer = BufWriter::new(rt.alloc(), io::writer(rt))?;
-            writer.write_all(answers.as_slice())?;
-            writer.flush()?;
+            print(rt, answers.as_slice())?;
             Ok(Ending::Done)
         }
-        Err(fault) => {
-            eprintln!(rt; "{fault}")?;
-            match fault {
-                AuditFault::PolicyLine(_line) => {
-                    tell_reason(rt, object_reason(rt.alloc(), 0, policy.as_slice()))?;
-                }
-                AuditFault::QuestionLine(line) => {
-                    tell_reason(rt, question_reason(rt.alloc(), questions.as_slice(), line))?;
-                }
-                AuditFault::Memory | AuditFault::Busy => {}
-            }
-            Ok(Ending::Stopped)
-        }
+        Err(fault) => refuse_audit(rt, fault, policy, questions),
     }
+}
+
+/// Reports why an audit has no answers: status 1.
+fn refuse_audit<R: Eprint + AllocGlobal>(
+    rt: &R,
+    fault: AuditFault,
+    policy: &[u8],
+    questions: &[u8],
+) -> io::Result<Ending> {
+    eprintln!(rt; "{fault}")?;
+    match fault {
+        AuditFault::PolicyLine(_line) => {
+            tell_reason(rt, object_reason(rt.alloc(), 0, policy))?;
+        }
+        AuditFault::QuestionLine(line) => {
+            tell_reason(rt, question_reason(rt.alloc(), questions, line))?;
+        }
+        AuditFault::Memory | AuditFault::Busy => {}
+    }
+    Ok(Ending::Stopped)
 }
 
 fn audit<R: AllocGlobal + Threads + Wait + Sync>(

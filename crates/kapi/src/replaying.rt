@@ -1,6 +1,6 @@
 use crate::ending::Ending;
 use crate::program::ReplayOptions;
-use crate::telling::tell_unread;
+use crate::telling::read_file;
 use kapi_replay::{NamedFile, loaded_names, replay_run};
 use kapi_text::{Memory, Sequence, Text};
 use std::alloc::Global;
@@ -16,21 +16,23 @@ pub fn run_replay<R: Files + Print + Eprint + AllocGlobal + Wait>(
 ) -> io::Result<Ending> {
     let mut transcripts = Vec::new(rt.alloc());
     for name in options.files.iter() {
-        match fs::read(rt, name.as_str()) {
-            Ok(bytes) => transcripts.push(named(rt.alloc(), name.as_str(), bytes)?)?,
-            Err(error) => return tell_unread(rt, name.as_str(), &error),
-        }
+        let Some(bytes) = read_file(rt, name.as_str())? else {
+            return Ok(Ending::Stopped);
+        };
+        transcripts.push(named(rt.alloc(), name.as_str(), bytes)?)?;
     }
-    let files = loaded_files(rt, transcripts.as_slice())?;
+    play(rt, transcripts.as_slice(), options.write)
+}
+
+fn play<R: Files + Print + Eprint + AllocGlobal + Wait>(
+    rt: &R,
+    transcripts: &[NamedFile],
+    write: bool,
+) -> io::Result<Ending> {
+    let files = loaded_files(rt, transcripts)?;
     let mut writer = BufWriter::new(rt.alloc(), io::writer(rt))?;
-    let played = replay_run(
-        rt.alloc(),
-        rt,
-        files.as_slice(),
-        transcripts.as_slice(),
-        options.write,
-        &mut writer,
-    );
+    let files = files.as_slice();
+    let played = replay_run(rt.alloc(), rt, files, transcripts, write, &mut writer);
     writer.flush()?;
     if let Err(fault) = &played {
         eprintln!(rt; "{fault}")?;

@@ -7,13 +7,13 @@ use crate::beginning::{BeginError, begin, first_of};
 use crate::ending::Ending;
 use crate::program::{Listen, ServeOptions};
 use crate::system_reason::Reason;
-use crate::telling::{tell_reason, tell_unread};
+use crate::telling::{read_file, tell_reason};
 use kapi_desk::Seat;
 use kapi_loading::{StartError, Started};
 use kapi_reasons::object_reason;
 use kapi_serve::{Sockets, serve_loop};
 use kapi_text::TryCopy;
-use std::fs::{self, Files};
+use std::fs::Files;
 use std::io;
 use std::net::{Ipv4Addr, Net, SocketAddr, TcpListener, TcpStream};
 use std::sync::Wait;
@@ -43,12 +43,8 @@ pub fn run_serve<
         + Net<Listener = TcpListener, Stream = TcpStream>
         + 'static,
 >(rt: &R, options: &ServeOptions) -> io::Result<Ending> {
-    let objects = match &options.load {
-        Some(file) => match fs::read(rt, file.as_str()) {
-            Ok(objects) => objects,
-            Err(error) => return tell_unread(rt, file.as_str(), &error),
-        },
-        None => Vec::new(rt.alloc()),
+    let Some(objects) = read_objects(rt, options)? else {
+        return Ok(Ending::Stopped);
     };
     let seats = match options.answer {
         Some(_port) => options.readers,
@@ -62,6 +58,17 @@ pub fn run_serve<
     match begin(rt.alloc(), rt, objects.as_slice(), first, seconds, seats) {
         Ok(started) => serve_ports(rt, started, options),
         Err(fault) => refuse_begin(rt, fault, first_of(first, seconds), objects.as_slice()),
+    }
+}
+
+/// The objects that a server begins with; none where their file cannot be read.
+fn read_objects<R: Files + Eprint + AllocGlobal>(
+    rt: &R,
+    options: &ServeOptions,
+) -> io::Result<Option<Vec<u8>>> {
+    match &options.load {
+        Some(file) => read_file(rt, file.as_str()),
+        None => Ok(Some(Vec::new(rt.alloc()))),
     }
 }
 

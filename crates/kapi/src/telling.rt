@@ -1,9 +1,31 @@
-//! Faults, on standard error.
+//! Files that are read, answers on standard output, and faults on standard error.
 use crate::ending::Ending;
 use crate::system_reason::Reason;
 use kapi_text::Memory;
 use std::fmt::Display;
-use std::io;
+use std::fs::{self, Files};
+use std::io::{self, BufWriter, Write};
+
+/// The bytes of a file; none where it cannot be read, after a line on standard error.
+pub fn read_file<R: Files + Eprint + AllocGlobal>(
+    rt: &R,
+    file: &str,
+) -> io::Result<Option<Vec<u8>>> {
+    match fs::read(rt, file) {
+        Ok(bytes) => Ok(Some(bytes)),
+        Err(error) => {
+            tell_unread(rt, file, &error)?;
+            Ok(None)
+        }
+    }
+}
+
+/// Prints an answer.
+pub fn print<R: Print + AllocGlobal>(rt: &R, text: &[u8]) -> io::Result<()> {
+    let mut writer = BufWriter::new(rt.alloc(), io::writer(rt))?;
+    writer.write_all(text)?;
+    writer.flush()
+}
 
 /// The reason below a fault, where there is one and memory for it.
 pub fn tell_reason<T: Display + Drop>(

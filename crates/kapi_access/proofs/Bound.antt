@@ -1,7 +1,6 @@
 -- Whom a binding gives its role, and what it is to hold a rule.
-use Rattle.std.proofs.Common.{◌≡◌, ◌⊎◌, inl, inr, ℕ, suc, Bool, true, false, cond, not, ◌&&◌, ◌||◌, ◌==◌, if◌then◌else◌, List, [], ◌∷◌, ◌++◌, length, map, nat_lt, Option, Some, None, refl, sym, ap, subst, codes, ◌∙◌, ◌+◌, arith}
-use Rattle.std.proofs.lemmas.Bool.Decides.{nat_tests}
-use Rattle.std.specs.List.{filter, list_any, position, position_or_len}
+use Rattle.std.proofs.Common.{◌≡◌, ◌⊎◌, inl, inr, ℕ, Bool, true, false, not, ◌&&◌, ◌||◌, ◌==◌, if◌then◌else◌, List, [], ◌∷◌, ◌++◌, length, map, Option, Some, None, refl, sym, ap, subst, ◌∙◌, ◌+◌}
+use Rattle.std.specs.List.{filter, list_any, position}
 use Rattle.std.specs.Option.{is_some, unwrap_or}
 use Rattle.std.specs.Str.{bytes_eq}
 use Rattle.kapi_text.proofs.Booleans.{or_false}
@@ -9,14 +8,14 @@ use Rattle.kapi_model.specs.declared.policy_rule.PolicyRule.{PolicyRule}
 use Rattle.kapi_model.specs.declared.subject.Subject.{Subject}
 use Rattle.kapi_model.specs.declared.subject.Subject.TheVariants.{User, Group, ServiceAccount}
 use Rattle.kapi_model.specs.Identities.{is_in, is_master}
-use Rattle.kapi_model.specs.Subjects.{colon, subject_matches, namespace_of}
+use Rattle.kapi_model.specs.Subjects.{account_user, subject_matches, namespace_of}
 use Rattle.kapi_model.specs.declared.binding.RoleBinding.{RoleBinding}
 use Rattle.kapi_model.specs.declared.identity.Identity.{Identity}
 use Rattle.kapi_rules.proofs.Covers.{itself, same}
 use Rattle.kapi_rules.proofs.Parts.{any_flat_map, any_same}
 use Rattle.kapi_rules.specs.Rules.{allows}
 use Rattle.kapi_rules.specs.declared.point.Point.{Point}
-use Rattle.kapi_policy.proofs.Decisions.{allowed_where_held}
+use Rattle.kapi_policy.proofs.Decisions.{allowed_where_held, is_some_position}
 use Rattle.kapi_policy.specs.All.{all_bindings, bindings_in_namespaces, has_namespace}
 use Rattle.kapi_policy.specs.Decided.{Binding, bindings_in, bindings_of, cluster_binding, given, held, is_in as is_there, namespace_binding, rules_of}
 use Rattle.kapi_policy.specs.Objects.{PolicyObjects}
@@ -39,7 +38,7 @@ named (Group name) namespace identity = or_false (is_in name identity)
 named (ServiceAccount a) namespace identity = by_case (length (namespace_of a namespace) == 0)
   where
     user : List ℕ
-    user = codes "system:serviceaccount:" ++ (namespace_of a namespace ++ colon ∷ a.name)
+    user = account_user (namespace_of a namespace) a.name
 
     by_case : (b : Bool) → list_any (λ g. matches g identity) (if b then [] else grantee.User user ∷ []) ≡ (not b && bytes_eq identity.user user)
     by_case true = refl
@@ -48,29 +47,6 @@ named (ServiceAccount a) namespace identity = by_case (length (namespace_of a na
 pub bound_by : (b : Binding) (identity : Identity) → list_any (λ g. matches g identity) (grantees b) ≡ list_any (λ s. subject_matches s b.namespace identity) b.subjects
 bound_by b identity =
     any_flat_map (λ g. matches g identity) (whom b.namespace) b.subjects ∙ any_same _ _ b.subjects (λ s. named s b.namespace identity)
-
--- ---- the first index
-
-none_below : (n : ℕ) → nat_lt 0 (suc n) ≡ true
-none_below n = grind (arith, nat_tests)
-
-one_more_is_below : (m n : ℕ) → nat_lt (1 + m) (suc n) ≡ nat_lt m n
-one_more_is_below m n = grind (arith, nat_tests)
-
-place_is_below : {X : Type 0} (p : X → Bool) (xs : List X) → nat_lt (position_or_len p xs) (length xs) ≡ list_any p xs
-place_is_below p [] = refl
-place_is_below p (x ∷ xs) =
-    elim (p x) as (λ b. p x ≡ b → nat_lt (position_or_len p (x ∷ xs)) (length (x ∷ xs)) ≡ list_any p (x ∷ xs)) [
-      | true ↦ λ is. rw is (none_below (length xs))
-      | false ↦ λ is. rw is (one_more_is_below (position_or_len p xs) (length xs) ∙ place_is_below p xs)
-    ] refl
-
-is_some_if : (b : Bool) (n : ℕ) → is_some (cond b (Some n) None) ≡ b
-is_some_if true n = refl
-is_some_if false n = refl
-
-is_some_position : {X : Type 0} (p : X → Bool) (xs : List X) → is_some (position p xs) ≡ list_any p xs
-is_some_position p xs = is_some_if (nat_lt (position_or_len p xs) (length xs)) _ ∙ place_is_below p xs
 
 -- ---- rules that a binding gives
 

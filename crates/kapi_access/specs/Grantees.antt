@@ -1,5 +1,5 @@
 -- Whom a binding gives its role (Kubernetes, 'Using RBAC Authorization', 'Referring to subjects').
-use Rattle.std.specs.Prelude.{ℕ, List, [], ◌∷◌, ◌++◌, length, Bool, ◌==◌, if◌then◌else◌, codes}
+use Rattle.std.specs.Prelude.{ℕ, List, [], ◌∷◌, length, Bool, ◌==◌, if◌then◌else◌}
 use Rattle.std.specs.List.{flat_map}
 use Rattle.std.specs.Option.{unwrap_or}
 use Rattle.std.specs.Str.{bytes_eq}
@@ -8,7 +8,7 @@ use Rattle.kapi_model.specs.declared.subject.Subject.{Subject}
 use Rattle.kapi_model.specs.declared.subject.Subject.TheVariants.{User, Group, ServiceAccount}
 use Rattle.kapi_model.specs.declared.identity.Identity.{Identity}
 use Rattle.kapi_model.specs.Identities.{is_in}
-use Rattle.kapi_model.specs.Subjects.{colon, namespace_of}
+use Rattle.kapi_model.specs.Subjects.{account_user, namespace_of}
 use Rattle.kapi_policy.specs.All.{all_bindings}
 use Rattle.kapi_policy.specs.Decided.{Binding, rules_of}
 use Rattle.kapi_policy.specs.Objects.{PolicyObjects}
@@ -21,7 +21,7 @@ use Rattle.kapi_access.specs.Usual.{authenticated, anonymous, unauthenticated, u
 -- the user of a service account, `system:serviceaccount:NAMESPACE:NAME`; in no namespace there is none
 abbrev pub account : List ℕ → List ℕ → List Grantee
 account namespace name =
-    if length namespace == 0 then [] else grantee.User (codes "system:serviceaccount:" ++ (namespace ++ colon ∷ name)) ∷ []
+    if length namespace == 0 then [] else grantee.User (account_user namespace name) ∷ []
 
 -- the user or group that a subject of a binding in the namespace names
 abbrev pub whom : List ℕ → Subject → List Grantee

@@ -5,7 +5,7 @@ ghost use Rattle.kapi_rules.specs.Atoms.{after_slash};
 ghost use Rattle.kapi_policy.specs.All.{all_bindings};
 ghost use Rattle.kapi_policy.specs.Views.{binding_of};
 ghost use Rattle.kapi_access.specs.Gained.{can_match as can_match_of, gained, gained_as, gained_from, is_nothing, lines_by, lines_of};
-ghost use Rattle.kapi_access.specs.Grantees.{alone as alone_of, grantees as grantees_of, stranger as stranger_of};
+ghost use Rattle.kapi_access.specs.Grantees.{alone as alone_of, stranger as stranger_of};
 ghost use Rattle.kapi_access.specs.Stood.{AreAmong, bindings_at};
 ghost use Rattle.kapi_access.specs.Views.{gain_of, line_for};
 

@@ -1,11 +1,10 @@
 //! Whom a binding gives its role.
-ghost use Rattle.std.specs.Prelude.{◌≡◌, ◌∷◌, ◌++◌, IfOk, OnOk};
+ghost use Rattle.std.specs.Prelude.{◌≡◌, ◌++◌, IfOk, OnOk};
 ghost use Rattle.std.specs.List.{flat_map};
-ghost use Rattle.kapi_model.specs.Subjects.{namespace_of as namespace_of_account};
 ghost use Rattle.kapi_policy.specs.Views.{binding_of};
 ghost use Rattle.kapi_access.specs.Grantees.{account as account_of, grantees as grantees_of, whom};
 
-use kapi_model::{ServiceAccount, Subject};
+use kapi_model::{Subject, account_namespace, account_user};
 use kapi_policy::Binding;
 use kapi_text::{Memory, Text, TryCopy};
 use std::alloc::{AllocError, Global};
@@ -26,28 +25,6 @@ impl TryCopy for Grantee {
     }
 }
 
-// The prefix, the first one, a colon, and the name.
-fn prefixed(alloc: Global, prefix: &str, first: &str, name: &str) -> Result<Text, Memory>
-    ensures { IfOk result (λ t. t ≡ prefix.now ++ (first.now ++ 58 ∷ name.now)) }
-{
-    let mut text = String::from_str(alloc, prefix)?;
-    text.push_str(first)?;
-    text.push_str(":")?;
-    text.push_str(name)?;
-    Ok(Text::new(text))
-}
-
-// The namespace of a service account, or where it has none the binding's.
-fn namespace_of<'a>(account: &'a ServiceAccount, binding_namespace: &'a str) -> &'a str
-    ensures { result.now ≡ namespace_of_account account.now binding_namespace.now }
-{
-    if account.namespace.as_str().is_empty() {
-        binding_namespace
-    } else {
-        account.namespace.as_str()
-    }
-}
-
 fn push_account(
     alloc: Global,
     list: &mut Vec<Grantee>,
@@ -59,7 +36,7 @@ fn push_account(
     if namespace.is_empty() {
         return Ok(());
     }
-    let user = prefixed(alloc, "system:serviceaccount:", namespace, name)?;
+    let user = account_user(alloc, namespace, name)?;
     list.push(Grantee::User(user))?;
     Ok(())
 }
@@ -85,7 +62,7 @@ fn push_whom(
             push_account(
                 alloc,
                 list,
-                namespace_of(account, namespace),
+                account_namespace(account, namespace),
                 account.name.as_str(),
             )
         }

@@ -4,7 +4,7 @@ ghost use Rattle.std.specs.List.{flat_map, fold, position};
 ghost use Rattle.kapi_rules.specs.Entries.{word_matches};
 ghost use Rattle.kapi_policy.specs.All.{all_bindings};
 ghost use Rattle.kapi_policy.specs.Views.{binding_of};
-ghost use Rattle.kapi_access.specs.Risks.{has_some as has_some_of, has_word as has_word_of, is_risky as is_risky_rule, lets_impersonate as lets_act, lets_on_roles as lets_role, risks as risks_of};
+ghost use Rattle.kapi_access.specs.Risks.{has_word as has_word_of, is_risky as is_risky_rule, lets_impersonate as lets_act, lets_on_roles as lets_role, risks as risks_of};
 ghost use Rattle.kapi_access.specs.Views.{way_of};
 ghost use Rattle.kapi_access.specs.Who.{first_ways, ways_of, with_way};
 

@@ -1,7 +1,6 @@
 //! By what a user or group may do something.
 ghost use Rattle.std.specs.Prelude.{◌≡◌, ◌||◌, map, OnOk};
 ghost use Rattle.std.specs.List.{fold};
-ghost use Rattle.std.specs.Option.{unwrap_or};
 ghost use Rattle.kapi_policy.specs.Views.{binding_of};
 ghost use Rattle.kapi_access.specs.Grantees.{role_of};
 ghost use Rattle.kapi_access.specs.Views.{counts as counts_there};

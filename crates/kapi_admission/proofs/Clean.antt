@@ -1,10 +1,10 @@
 -- What was admitted has no fault: the tree that a resource type keeps of a body without faults has no faults.
-use Rattle.std.proofs.Common.{◌≡◌, ◌∙◌, ℕ, List, [], ◌∷◌, ◌++◌, true, false, Option, Some, None, refl, sym, ap, codes, bytes_eq, length, ◌==◌, true≢false}
+use Rattle.std.proofs.Common.{◌≡◌, ◌∙◌, ℕ, List, [], ◌∷◌, ◌++◌, true, false, Option, Some, None, refl, sym, ap, codes, length, ◌==◌, true≢false}
 use Rattle.std.proofs.Math.Dec.{eqb-suc-zero}
 use Rattle.std.specs.Option.{option_and_then}
 use Rattle.serde_json.proofs.Views.{get_member-put}
-use Rattle.serde_json.specs.Data.{Data, null, boolean, number, string, array, object, Members, no_members, member, put}
-use Rattle.serde_json.specs.Find.{get, get_member}
+use Rattle.serde_json.specs.Data.{Data, string, object, Members, no_members, member, put}
+use Rattle.serde_json.specs.Find.{get_member}
 use Rattle.kapi_model.specs.declared.row.ResourceRow.{ResourceRow}
 use Rattle.kapi_model.specs.declared.row.Schema.{Schema}
 use Rattle.kapi_model.specs.declared.row.Schema.TheVariants.{Open, Role, ClusterRole, RoleBinding, ClusterRoleBinding}

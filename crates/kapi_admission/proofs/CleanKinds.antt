@@ -1,9 +1,9 @@
 -- Roles, bindings and their parts have, as they are written, what is kept of them by their tables.
-use Rattle.std.proofs.Common.{◌≡◌, ◌∙◌, ℕ, suc, List, [], ◌∷◌, ◌++◌, Bool, true, false, ◌&&◌, ◌||◌, Option, Some, None, refl, sym, ap, subst, codes, is_some, if◌then◌else◌, length, ◌==◌, bytes_eq}
+use Rattle.std.proofs.Common.{◌≡◌, ◌∙◌, ℕ, List, [], ◌∷◌, Bool, true, false, ◌&&◌, ◌||◌, Option, Some, None, refl, sym, ap, subst, codes, is_some, if◌then◌else◌, length, ◌==◌, bytes_eq}
 use Rattle.std.proofs.Math.Dec.{eqb-suc-zero}
 use Rattle.std.proofs.lemmas.Slice.Eq.{bytes_eq-Decides}
 use Rattle.std.specs.Option.{option_and_then, option_map, unwrap_or}
-use Rattle.serde_json.specs.Data.{Data, null, boolean, number, string, array, object, Items, no_items, item, Members, no_members, put}
+use Rattle.serde_json.specs.Data.{Data, string, array, object, Items, no_items, item, Members, no_members, put}
 use Rattle.serde_json.specs.Find.{as_object, get_member}
 use Rattle.kapi_model.specs.FaultKind.{fault}
 use Rattle.kapi_model.specs.Kinds.{operator_of, operator_text, rbac_group, role_kind, role_kind_text, subject_kind, subject_kind_text}
@@ -12,18 +12,17 @@ use Rattle.kapi_model.specs.declared.fault.FieldFault.{FieldFault}
 use Rattle.kapi_model.specs.declared.kinds.RoleKind.TheVariants as role_kinds
 use Rattle.kapi_model.specs.declared.kinds.SubjectKind.{SubjectKind}
 use Rattle.kapi_model.specs.declared.kinds.SubjectKind.TheVariants.{User, Group, ServiceAccount}
-use Rattle.kapi_model.specs.declared.row.Schema.TheVariants as schema
 use Rattle.kapi_model.specs.declared.selector.Operator.TheVariants.{In, NotIn, Exists, DoesNotExist}
 use Rattle.kapi_tree.proofs.Fields.{verbs_at, groups_at, resources_at, names_at, urls_at, key_at, operator_here, values_at, labels_at, expressions_at, account_kind_at, account_name_at, account_group_at, account_namespace_at}
 use Rattle.kapi_tree.proofs.Puts.{put_if_other, put_if_here, list_there, written_at_once}
-use Rattle.kapi_tree.specs.Contents.{text_if, text_at, text_of, text_value, items_if, items_at, list_value, read_items, write_items, rule_of, rule_tree, rules_of, requirement_of, requirement_tree, selector_of, selector_tree, aggregation_of, aggregation_tree, aggregation_in, subject_from, subject_of, subject_tree, subject_kind_at, subjects_of, role_kind_at, role_ref_if, role_ref_of, role_ref_tree, role_content, cluster_role_content, binding_content, content_of}
+use Rattle.kapi_tree.specs.Contents.{text_if, text_at, text_of, text_value, items_if, items_at, list_value, read_items, write_items, rule_of, rule_tree, rules_of, requirement_of, requirement_tree, selector_of, selector_tree, aggregation_of, aggregation_tree, aggregation_in, subject_from, subject_of, subject_tree, subject_kind_at, subjects_of, role_ref_if, role_ref_of, role_ref_tree, role_content, cluster_role_content, binding_content}
 use Rattle.kapi_tree.specs.Tree.{is_empty, member_of, unless_null}
 use Rattle.kapi_admission.proofs.CleanLists.{parts, list_parts}
 use Rattle.kapi_admission.proofs.CleanTables.{Found, text_written}
 use Rattle.kapi_admission.proofs.KeptParts.{Keeps, filled, part_value}
-use Rattle.kapi_admission.specs.Shapes.{Says, passes, chosen, element_faults, part_faults, row_faults, rows_faults}
-use Rattle.kapi_admission.specs.Tables.{rows_of, account, urls}
-use Rattle.kapi_admission.specs.Typed.{need_faults, items_faults, list_faults, is_right, is_required, member_path, object_faults, text_faults, text_item_faults}
+use Rattle.kapi_admission.specs.Shapes.{Says, passes, element_faults, part_faults, rows_faults}
+use Rattle.kapi_admission.specs.Tables.{rows_of, urls}
+use Rattle.kapi_admission.specs.Typed.{need_faults, list_faults, is_right, is_required, member_path, object_faults, text_faults, text_item_faults}
 use Rattle.kapi_admission.specs.declared.table.Part.{Part}
 use Rattle.kapi_admission.specs.declared.table.Part.TheVariants as part
 use Rattle.kapi_admission.specs.declared.table.Table.{Table}

@@ -1,6 +1,6 @@
 -- Lists and texts without faults have none as they are kept.
-use Rattle.std.proofs.Common.{◌≡◌, ℕ, ◌+◌, List, [], ◌∷◌, ◌++◌, false, Option, Some, None, refl, ap}
-use Rattle.serde_json.specs.Data.{Data, null, boolean, number, string, array, object, Items, no_items, item}
+use Rattle.std.proofs.Common.{◌≡◌, ℕ, ◌+◌, List, [], ◌∷◌, ◌++◌, false, Option, Some, None, refl}
+use Rattle.serde_json.specs.Data.{Data, string, array, Items, no_items, item}
 use Rattle.kapi_tree.specs.Contents.{items_if, list_value, read_items, write_items, text_of}
 use Rattle.kapi_admission.specs.Typed.{need_faults, is_given, items_faults, list_faults, text_faults, text_item_faults, item_path}
 use Rattle.kapi_tree.specs.Tree.{is_empty}

@@ -1,9 +1,9 @@
 -- An object that has, by its table, what is kept of another has no fault where the other has none.
-use Rattle.std.proofs.Common.{◌≡◌, ◌∙◌, ℕ, suc, zero, List, [], ◌∷◌, ◌++◌, Bool, true, false, not, ◌&&◌, ◌||◌, Option, Some, None, refl, sym, ap, subst, is_some, if◌then◌else◌, length, ◌==◌, bytes_eq}
+use Rattle.std.proofs.Common.{◌≡◌, ◌∙◌, ℕ, suc, zero, List, [], ◌∷◌, Bool, true, false, not, ◌&&◌, ◌||◌, Option, Some, None, refl, ap, subst, is_some, if◌then◌else◌, length, ◌==◌, bytes_eq}
 use Rattle.std.proofs.Math.Dec.{eqb-suc-zero}
 use Rattle.std.proofs.lemmas.Slice.Eq.{bytes_eq-Decides}
 use Rattle.std.specs.Cmp.{first_so, second_so}
-use Rattle.serde_json.specs.Data.{Data, null, boolean, number, string, array, object, Items}
+use Rattle.serde_json.specs.Data.{Data, string, array, object, Items}
 use Rattle.serde_json.specs.Find.{as_object}
 use Rattle.kapi_model.specs.FaultKind.{fault}
 use Rattle.kapi_model.specs.declared.fault.FaultKind.TheVariants.{Required, BadValue}

@@ -4,8 +4,8 @@ use Rattle.serde_json.specs.Data.{Data, string, object, Items, Members, no_membe
 use Rattle.kapi_model.specs.declared.row.ResourceRow.{ResourceRow}
 use Rattle.kapi_tree.proofs.Closed.{Closed, IfThere, in_metadata_holds, present_holds, put_if_holds, content_holds}
 use Rattle.kapi_tree.specs.Contents.{content_of}
-use Rattle.kapi_tree.specs.Tree.{is_empty_object, members_or_none, in_metadata, metadata_member, put_if}
-use Rattle.kapi_admission.specs.Admission.{put_entries, kept_entries, kept_names, kept_place, kept_metadata, filled, kept_tree, version_of}
+use Rattle.kapi_tree.specs.Tree.{is_empty_object, members_or_none, in_metadata, metadata_member}
+use Rattle.kapi_admission.specs.Admission.{put_entries, kept_names, kept_place, kept_metadata, filled, kept_tree, version_of}
 
 module _ {P : Data → Type 0} {I : Items → Type 0} {M : Members → Type 0} (c : Closed P I M) where
   metadata_member_holds : (k : List ℕ) (d : Data) → P d → IfThere c (metadata_member k d)

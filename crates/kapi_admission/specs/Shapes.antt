@@ -1,15 +1,14 @@
 -- What is wrong with an object by its table, in the order of the rows.
-use Rattle.std.specs.Prelude.{ℕ, zero, suc, List, [], ◌∷◌, ◌++◌, length, Bool, true, false, not, ◌||◌, ◌==◌, if◌then◌else◌, Option, Some, None, option_map, codes}
+use Rattle.std.specs.Prelude.{ℕ, zero, suc, List, [], ◌∷◌, ◌++◌, length, Bool, true, not, ◌||◌, ◌==◌, if◌then◌else◌, Option, Some, None}
 use Rattle.std.specs.Str.{bytes_eq}
-use Rattle.serde_json.specs.Data.{Data, string, array, object, Items, Members, no_members}
+use Rattle.serde_json.specs.Data.{Data, object}
 use Rattle.kapi_model.specs.declared.fault.FieldFault.{FieldFault}
 use Rattle.kapi_model.specs.declared.fault.FaultKind.TheVariants.{NotAllowedHere}
 use Rattle.kapi_model.specs.declared.row.Schema.{Schema}
 use Rattle.kapi_model.specs.declared.row.Schema.TheVariants as schema
 use Rattle.kapi_model.specs.FaultKind.{fault}
-use Rattle.kapi_model.specs.Kinds.{rbac_group}
-use Rattle.kapi_tree.specs.Contents.{text_if, text_at, text_of, items_if, read_items, write_items, labels_in, put_labels, text_value, list_value, members_value}
-use Rattle.kapi_tree.specs.Tree.{is_empty, is_empty_object, member_of, members_or_none, put_if}
+use Rattle.kapi_tree.specs.Contents.{text_at}
+use Rattle.kapi_tree.specs.Tree.{member_of}
 use Rattle.kapi_admission.specs.declared.metadata.Entries.TheVariants.{Labels}
 use Rattle.kapi_admission.specs.declared.table.Choice.{Choice}
 use Rattle.kapi_admission.specs.declared.table.Choice.TheVariants.{One, Two, Three}
@@ -20,14 +19,11 @@ use Rattle.kapi_admission.specs.declared.table.Table.{Table}
 use Rattle.kapi_admission.specs.declared.table.Table.TheVariants as table
 use Rattle.kapi_admission.specs.declared.table.When.{When}
 use Rattle.kapi_admission.specs.declared.table.When.TheVariants as when
-use Rattle.kapi_admission.specs.declared.table.Written.{Written}
-use Rattle.kapi_admission.specs.declared.table.Written.TheVariants as written
-use Rattle.kapi_admission.specs.declared.text_rule.TextRule.{TextRule}
 use Rattle.kapi_admission.specs.declared.text_rule.TextRule.TheVariants as rule
 use Rattle.kapi_admission.specs.declared.typed_list.Need.{Need}
 use Rattle.kapi_admission.specs.Faults.{entries_faults}
 use Rattle.kapi_admission.specs.Tables.{rows_of, word_text}
-use Rattle.kapi_admission.specs.Typed.{is_given, is_right, item_path, list_faults, member_path, need_faults, object_faults, text_faults, text_item_faults}
+use Rattle.kapi_admission.specs.Typed.{is_given, is_right, list_faults, member_path, need_faults, object_faults, text_faults, text_item_faults}
 
 -- whether a condition holds of an object; a text that is absent or mistyped is as the empty one
 abbrev pub passes : When → Data → Bool

@@ -1,9 +1,9 @@
 -- What is wrong with texts, lists and objects as members, and where it is reported (Kubernetes, 'API Conventions',
 -- 'Typical status codes', for the fields).
-use Rattle.std.specs.Prelude.{ℕ, ◌+◌, List, [], ◌∷◌, ◌++◌, length, Bool, true, false, ◌&&◌, ◌||◌, ◌==◌, if◌then◌else◌, Option, Some, None, is_some, option_and_then, codes, decimal}
+use Rattle.std.specs.Prelude.{ℕ, ◌+◌, List, [], ◌∷◌, ◌++◌, length, Bool, true, false, ◌&&◌, ◌||◌, ◌==◌, if◌then◌else◌, Option, Some, None, is_some, codes, decimal}
 use Rattle.std.specs.Str.{bytes_eq}
 use Rattle.serde_json.specs.Data.{Data, null, string, array, Items, no_items, item}
-use Rattle.serde_json.specs.Find.{get, as_object, as_str}
+use Rattle.serde_json.specs.Find.{as_object}
 use Rattle.kapi_model.specs.declared.fault.FaultKind.TheVariants.{Required, NotAllowedHere, WrongType, BadValue}
 use Rattle.kapi_model.specs.declared.fault.FieldFault.{FieldFault}
 use Rattle.kapi_admission.specs.declared.typed_list.Need.{Need}
@@ -12,7 +12,6 @@ use Rattle.kapi_admission.specs.declared.text_rule.TextRule.{TextRule}
 use Rattle.kapi_admission.specs.declared.text_rule.TextRule.TheVariants as rule
 use Rattle.kapi_model.specs.FaultKind.{fault}
 use Rattle.kapi_tree.specs.Tree.{is_empty, member_of}
-use Rattle.kapi_admission.specs.Faults.{entries_faults}
 use Rattle.kapi_model.specs.Kinds.{operator_of, rbac_group, role_kind, subject_kind}
 use Rattle.kapi_model.specs.Names.{is_dns_subdomain, is_path_segment, is_label_key, is_label_value}
 

@@ -1,6 +1,5 @@
 ghost use Rattle.std.specs.Prelude.{◌≡◌, [], true, false, Some, OnOk, IfOk, ok_or, string_bytes};
-ghost use Rattle.serde_json.specs.Data.{Data, object, string};
-ghost use Rattle.serde_json.specs.Data.{put as put_member};
+ghost use Rattle.serde_json.specs.Data.{Data, object};
 ghost use Rattle.serde_json.specs.Find.{get};
 ghost use Rattle.serde_json.specs.View.{view, members_view};
 ghost use Rattle.serde_json.specs.Written as written;
@@ -26,7 +25,7 @@ use kapi_tree::Object;
 use kapi_tree::contents::content;
 use kapi_tree::given::{Given, GivenText, given_in};
 use kapi_tree::tree::{has_no_members, member_of_metadata};
-use kapi_tree::tree_form::text_value;
+use kapi_tree::tree_form::put_string;
 use serde_json::{Map, Value, put};
 use std::alloc::Global;
 
@@ -89,18 +88,6 @@ fn kept_metadata(
     Ok(kept)
 }
 
-/// Puts a text at a key.
-fn put_text(
-    alloc: Global,
-    members: &mut Map<String, Value>,
-    key: &str,
-    text: &str,
-) -> Result<(), Memory>
-    ensures { OnOk result (members_view members.new.entries ≡ put_member key.now (string text.now) (members_view members.old.entries)) }
-{
-    put(members, alloc, key, text_value(alloc, text)?)
-}
-
 /// What is kept beside the metadata, with kind and version filled in; `version` is the resource type's.
 fn filled(
     alloc: Global,
@@ -112,8 +99,8 @@ fn filled(
     ensures { IfOk result (λ m. object (members_view m.entries) ≡ admission.filled row.now (view tree)) }
 {
     let mut members = content(alloc, row.schema, tree)?;
-    put_text(alloc, &mut members, "apiVersion", version)?;
-    put_text(alloc, &mut members, "kind", row.kind.as_str())?;
+    put_string(alloc, &mut members, "apiVersion", version)?;
+    put_string(alloc, &mut members, "kind", row.kind.as_str())?;
     Ok(members)
 }
 

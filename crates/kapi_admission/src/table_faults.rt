@@ -9,7 +9,6 @@ ghost use Rattle.kapi_admission.specs.declared.table.Table.{Table as TableOf};
 ghost use Rattle.kapi_admission.specs.Faults.{entries_faults};
 ghost use Rattle.kapi_admission.specs.Shapes as shape;
 ghost use Rattle.kapi_admission.specs.Shapes.{element_faults, forbidden_faults, part_faults, row_faults, rows_faults, table_faults, typed_faults};
-ghost use Rattle.kapi_admission.specs.Tables.{word_text};
 ghost use Rattle.kapi_admission.specs.Typed as typed;
 
 use crate::metadata::{Entries, push_entries_faults, push_fault};

@@ -2,7 +2,6 @@
 ghost use Rattle.std.specs.Prelude.{◌≡◌, [], codes, is_some, map, option_map, IfOk};
 ghost use Rattle.std.proofs.Props.{props};
 ghost use Rattle.kapi_model.specs.Kinds.{rbac_group};
-ghost use Rattle.kapi_model.specs.Selector.{labels_of};
 ghost use Rattle.kapi_tree.specs.Object.{tree_of};
 ghost use Rattle.kapi_store.specs.Plain.{plain_of, trees};
 ghost use Rattle.kapi_store.specs.Listing.{shown};

@@ -1,6 +1,6 @@
 //! What an aggregated cluster role takes from the others.
-ghost use Rattle.std.specs.Prelude.{◌≡◌, [], map, IfOk, OnOk, option_copied};
-ghost use Rattle.std.specs.List.{find, flat_map, fold};
+ghost use Rattle.std.specs.Prelude.{◌≡◌, map, IfOk, OnOk, option_copied};
+ghost use Rattle.std.specs.List.{find, fold};
 ghost use Rattle.std.specs.Str.{bytes_eq};
 ghost use Rattle.kapi_aggregation.specs.Unions.{is_meant as is_meant_by, rules_meant, union, union_for as union_for_role, with_rule};
 ghost use Rattle.kapi_aggregation.specs.Lent.{roles_of};

@@ -13,7 +13,7 @@ use Rattle.kapi_store.specs.declared.key.Key.{Key}
 use Rattle.kapi_store.specs.declared.ready.Ready.{Ready}
 use Rattle.kapi_answer.specs.declared.create.Admitted.{Admitted as AdmittedBody}
 use Rattle.kapi_answer.specs.declared.outcome.Outcome.{Outcome as OutcomeOf}
-use Rattle.kapi_answer.specs.declared.respond.Prepared.{Prepared}
+use Rattle.kapi_answer.specs.declared.prepared.Prepared.{Prepared}
 use Rattle.kapi_answer.specs.declared.outcome.Deletion.{Deletion as DeletionOf}
 use Rattle.kapi_answer.specs.declared.outcome.NewObject.{NewObject}
 use Rattle.kapi_answer.specs.declared.outcome.Replacement.{Replacement}

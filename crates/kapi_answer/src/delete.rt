@@ -4,7 +4,7 @@ ghost use Rattle.serde_json.specs.Find.{as_str};
 ghost use Rattle.serde_json.specs.View.{view};
 ghost use Rattle.kapi_text.specs.Gives.{Gives};
 ghost use Rattle.kapi_tree.specs.Object.{tree_of};
-ghost use Rattle.kapi_tree.specs.Tree.{in_metadata, member_of};
+ghost use Rattle.kapi_tree.specs.Tree.{in_metadata};
 ghost use Rattle.kapi_reply.specs.Refusals.{refused_by};
 ghost use Rattle.std.specs.List.{IsDistinct};
 ghost use Rattle.kapi_store.specs.Keys.{is_key};

@@ -1,14 +1,14 @@
-//! The answers to requests: the checks in their order, a file for each kind of action, and the writes of the answers.
+//! What requests answer or change: a file for each kind of action, and the writes of the answers.
 #![tactic(auto)]
 
 mod authorization;
 mod collection;
-mod create;
-mod delete;
+pub mod create;
+pub mod delete;
 mod escalation;
 mod escalation_refusal;
 mod get;
-mod health;
+pub mod health;
 mod impersonation;
 pub mod laws;
 mod list_members;
@@ -16,13 +16,19 @@ mod list_text;
 mod listed_keys;
 pub mod loading;
 pub mod outcome;
-pub mod respond;
+mod plan;
+mod prepared;
 mod review;
 pub mod task;
 mod update;
 pub mod watch;
 
+pub use authorization::authorize;
+pub use impersonation::impersonate;
 pub use kapi_reply::WrittenReply;
 pub use loading::{LoadError, load};
-pub use respond::{Prepared, answer};
+pub use outcome::{Outcome, Passed, Plan};
+pub use plan::plan_for;
+pub use prepared::Prepared;
+pub use update::replace;
 pub use watch::{After, EventReply, Watching, event_reply, recheck};

@@ -1,12 +1,12 @@
 //! Members and items of JSON texts, written one after the other.
-ghost use Rattle.std.specs.Prelude.{◌≡◌, ◌++◌, ◌∷◌, OnOk, IfOk};
+ghost use Rattle.std.specs.Prelude.{◌≡◌, ◌++◌, ◌∷◌, OnOk};
 ghost use Rattle.json.specs.Print.{quoted};
 ghost use Rattle.kapi_tree.specs.Object.{tree_of};
 ghost use Rattle.serde_json.specs.Written.{comma_if, compact_text};
 
 use kapi_text::Memory;
 use kapi_tree::Object;
-use serde_json::Value;
+use kapi_tree::tree_form::quote;
 use std::alloc::Global;
 
 /// Writes a member whose value is a text behind the text so far: the key, a colon and the value.
@@ -31,13 +31,6 @@ fn push_text(alloc: Global, text: &mut Vec<u8>, value: &str) -> Result<(), Memor
 {
     let quoted = quote(alloc, value)?;
     text.extend_from_slice(quoted.as_slice())
-}
-
-/// A text as a JSON string.
-fn quote(alloc: Global, text: &str) -> Result<Vec<u8>, Memory>
-    ensures { IfOk result (λ b. b.items ≡ quoted text.now) }
-{
-    Value::try_from_str(alloc, text)?.to_vec(alloc)
 }
 
 /// Writes an object as an item of an array: after a comma, where an item comes before it.

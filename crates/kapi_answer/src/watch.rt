@@ -3,10 +3,9 @@ ghost use Rattle.std.specs.Prelude.{◌≡◌, List, Ok, None, IfOk, option_map}
 ghost use Rattle.serde_json.specs.Data.{Data};
 ghost use Rattle.serde_json.specs.Written.{compact_text};
 ghost use Rattle.kapi_text.specs.Gives.{Gives};
-ghost use Rattle.kapi_model.specs.declared.row.ResourceRow.{ResourceRow as Row};
 ghost use Rattle.kapi_reply.specs.Refusals.{refused_by};
 ghost use Rattle.kapi_store.specs.Plain.{Plain, PlainChange, RefinesPlain, plain_of};
-ghost use Rattle.kapi_watch.specs.Running.{IsFresh, RefinesWatch, watch_data};
+ghost use Rattle.kapi_watch.specs.Running.{IsFresh, watch_data};
 ghost use Rattle.kapi_watch.specs.Shown.{event_of};
 ghost use Rattle.kapi_watch.specs.Text.{object_text_of};
 ghost use Rattle.kapi_watch.specs.Watches.{startable};

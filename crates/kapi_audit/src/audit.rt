@@ -1,4 +1,4 @@
-ghost use Rattle.std.specs.Prelude.{◌≡◌, ◌≤◌, [], All, IfOk, MatchResult, OnOk, map, length};
+ghost use Rattle.std.specs.Prelude.{◌≡◌, ◌≤◌, [], All, IfOk, map, length};
 ghost use Rattle.kapi_text.specs.Gives.{Gives};
 ghost use Rattle.kapi_core.specs.Table.{access_reviews_row};
 ghost use Rattle.kapi_desk.specs.Boards.{Chair, fresh, informed};

@@ -1,9 +1,9 @@
 //! Entries of URLs, those with a star at their end as a case of their own.
-ghost use Rattle.std.specs.Prelude.{◌≡◌, ◌∷◌, ◌++◌, [], nat_eq, IfOk, MatchOption, map};
+ghost use Rattle.std.specs.Prelude.{◌≡◌, IfOk, map};
 ghost use Rattle.std.specs.List.{list_any};
-ghost use Rattle.kapi_rules.specs.Entries.{without_stars as without_last_stars};
 ghost use Rattle.kapi_compiled_rules.specs.Compiled.{compiled_url, url_admits};
 
+use kapi_rules::without_stars;
 use kapi_text::{Memory, Sequence, Text, TryCopy};
 use std::alloc::Global;
 
@@ -14,29 +14,6 @@ pub enum Url {
     Path(Text),
     /// Each path with this beginning. Stars at the end are left out.
     Front(Sequence<u8>),
-}
-
-// The text before the last byte where that is a star; without it the text has no stars at its end.
-#[tactic(auto, using(kapi_rules::proofs::Texts::without_stars_kept))]
-fn before_last_star(text: &[u8]) -> Option<&[u8]>
-    ensures { MatchOption result (without_last_stars text.now ≡ text.now) (λ front. text.now ≡ front.now ++ 42 ∷ []) }
-{
-    match text.split_last() {
-        Some((last, front)) => { if *last == b'*' { Some(front) } else { None } }
-        None => None,
-    }
-}
-
-// The text without the stars at its end.
-#[tactic(auto, using(kapi_rules::proofs::Texts::without_stars_append))]
-fn without_stars(text: &[u8]) -> &[u8]
-    ensures { result.now ≡ without_last_stars text.now }
-{
-    let mut front = text;
-    while let Some(shorter) = before_last_star(front) {
-        front = shorter;
-    }
-    front
 }
 
 fn copied(alloc: Global, bytes: &[u8]) -> Result<Sequence<u8>, Memory>

@@ -1,4 +1,4 @@
-ghost use Rattle.std.specs.Prelude.{true, ◌≡◌, ◌≤◌, ◌&&◌, ◌++◌, List, nat_lt, nat_le, length, [], IfOk, IfSome, IsTrue, if◌then◌else◌};
+ghost use Rattle.std.specs.Prelude.{true, ◌≡◌, ◌≤◌, ◌&&◌, nat_lt, nat_le, length, IfOk, IsTrue, if◌then◌else◌};
 ghost use Rattle.std.specs.BTreeMap.{is_at};
 ghost use Rattle.std.specs.Map.{remove_entry};
 ghost use Rattle.std.specs.Ordering.{nat_cmp};
@@ -19,10 +19,11 @@ use crate::links::{advance_watch, feed_at, finish_request};
 use crate::opening::open_objects;
 use crate::write::{load_object, make_turn, make_write};
 use kapi_aggregation::Tracker;
-use kapi_answer::{After, LoadError, Prepared, answer, event_reply, recheck};
+use kapi_answer::{After, LoadError, Prepared, event_reply, recheck};
 use kapi_http::{FeedError, Inbox};
 use kapi_model::{Identity, ResourceRow};
 use kapi_policy::{Policy, PolicyStep};
+use kapi_respond::answer;
 use kapi_store::Store;
 use kapi_text::{Memory, Sequence};
 use kapi_watch::Next;

@@ -1,4 +1,4 @@
-ghost use Rattle.std.specs.Prelude.{◌≡◌, map as map_of};
+ghost use Rattle.std.specs.Prelude.{◌≡◌};
 ghost use Rattle.std.specs.List.{list_all, list_any};
 ghost use Rattle.kapi_core.specs.Table as tables;
 ghost use Rattle.kapi_core.specs.Table.{fits, required_rows, row_of};

@@ -1,5 +1,5 @@
 //! Writes of the store and of the policy, in one step.
-ghost use Rattle.std.specs.Prelude.{◌≡◌, ◌++◌, IfOk, IfSome, OnErr, OnOk};
+ghost use Rattle.std.specs.Prelude.{◌≡◌, IfOk, IfSome, OnErr, OnOk};
 ghost use Rattle.kapi_aggregation.specs.Marks.{CoversAsMuch};
 ghost use Rattle.kapi_answer.specs.Outcomes.{changes_data};
 ghost use Rattle.kapi_core.specs.Private.Writes.{LoadsInto, TurnsInto, Writes};

@@ -1,7 +1,7 @@
 ghost use Rattle.std.specs.Prelude.{◌≡◌, ◌↔◌, ◌+◌, ◌≤◌, ◌<◌, List, [], ◌∷◌, ◌++◌, drop, fold, length, replicate, true, Err, IfOk, IsOk, MatchResult};
 ghost use Rattle.left_right.specs.Sides.{view as view_of};
 ghost use Rattle.kapi_desk.specs.Boards.{fresh, informed};
-ghost use Rattle.kapi_desk.specs.Pages.{Shelf, opening_in, opening_page, steps_in};
+ghost use Rattle.kapi_desk.specs.Pages.{Shelf, opening_in, steps_in};
 ghost use Rattle.kapi_desk.specs.Private.Copies.{IsPaged, absorbed, reader_of};
 ghost use Rattle.kapi_desk.specs.Private.Stages.{IsAt, IsNoted, Stands, steps_among};
 ghost use Rattle.kapi_desk.specs.Steps.{after};

@@ -1,5 +1,5 @@
 -- An identity that makes requests as another may impersonate.
-use Rattle.std.proofs.Common.{◌≡◌, ◌==◌, inl, inr, ℕ, List, [], ◌∷◌, length, map, Bool, true, false, not, if◌then◌else◌, Option, Some, None, Result, Ok, Err, refl, sym, ◌∙◌, codes}
+use Rattle.std.proofs.Common.{◌≡◌, ◌==◌, inl, inr, ℕ, List, ◌∷◌, length, map, Bool, true, false, not, if◌then◌else◌, Option, Some, None, Ok, Err, refl, sym, ◌∙◌, codes}
 use Rattle.std.specs.List.{filter}
 use Rattle.std.proofs.Math.Dec.{eqb-suc-zero}
 use Rattle.kapi_guard.specs.Impersonation.{MakesAs, asked_of, denied, effective, group_question, impersonated, is_denied, questions, service_account, user_question}

@@ -1,5 +1,5 @@
 -- A text without a colon names no service account.
-use Rattle.std.proofs.Common.{◌≡◌, ℕ, ◌+◌, List, [], ◌∷◌, length, Bool, true, false, not, cond, ◌||◌, ◌==◌, Option, None, refl, arith}
+use Rattle.std.proofs.Common.{◌≡◌, ℕ, ◌+◌, List, [], ◌∷◌, length, Bool, true, false, not, cond, ◌||◌, ◌==◌, None, refl, arith}
 use Rattle.std.specs.List.{list_any, position_or_len}
 use Rattle.kapi_guard.specs.Impersonation.{account_in}
 

@@ -1,6 +1,6 @@
 -- Which identity may impersonate which, and with which groups (Kubernetes, 'Authenticating', 'User impersonation' and
 -- 'Anonymous requests'; 'Managing Service Accounts').
-use Rattle.std.specs.Prelude.{◌≡◌, ◌⊎◌, ℕ, ◌==◌, nat_eq, Bool, not, ◌&&◌, ◌||◌, if◌then◌else◌, List, [], ◌∷◌, ◌++◌, length, map, codes, Option, Some, None, Result, Ok, Err}
+use Rattle.std.specs.Prelude.{◌≡◌, ◌⊎◌, ℕ, ◌==◌, Bool, not, ◌&&◌, ◌||◌, if◌then◌else◌, List, [], ◌∷◌, ◌++◌, length, map, codes, Option, Some, None, Result, Ok, Err}
 use Rattle.std.specs.List.{after_first, before_first, filter, list_any}
 use Rattle.std.specs.Str.{bytes_eq}
 use Rattle.kapi_model.specs.Names.{is_dns_label, is_dns_subdomain}

@@ -1,5 +1,5 @@
 //! Which identities write rules without holding them.
-ghost use Rattle.std.specs.Prelude.{◌≡◌, IfOk, codes};
+ghost use Rattle.std.specs.Prelude.{◌≡◌, IfOk};
 ghost use Rattle.kapi_guard.specs.Exempt.{binding as binding_of, escalating as escalating_of, exemption as exemption_of, is_exempt as is_exempt_by, plural as plural_of, role_point as role_point_of};
 
 use crate::write::{PolicyWrite, WrittenObject};

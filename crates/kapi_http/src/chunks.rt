@@ -6,7 +6,7 @@ ghost use Rattle.kapi_http.specs.declared.chunks.ChunkState.TheVariants.{Data, D
 
 use crate::message::Refusal;
 use crate::rules::BODY_LIMIT;
-use kapi_text::Memory;
+use kapi_text::{Memory, hex_value};
 use std::alloc::Global;
 
 /// The most bytes of a body in chunks as sent, with its size lines and line ends.
@@ -97,19 +97,6 @@ fn is_wrong(spot: ChunkState) -> bool
     ensures { result ≡ is_wrong_of spot }
 {
     matches!(spot, ChunkState::Wrong)
-}
-
-// The value of a hexadecimal digit of either case.
-fn hex_value(digit: u8) -> Option<u8>
-    ensures value { result ≡ (if is_digit digit 16 then Some (digit_value digit) else None) }
-    ensures small { IfSome result (λ v. v < 16) }
-{
-    match digit {
-        b'0'..=b'9' => Some(digit - b'0'),
-        b'a'..=b'f' => Some(digit - b'a' + 10),
-        b'A'..=b'F' => Some(digit - b'A' + 10),
-        _ => None,
-    }
 }
 
 // The size with one digit more, or the first above the limit.

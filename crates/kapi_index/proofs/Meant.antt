@@ -1,13 +1,12 @@
 -- Which identities the subjects of a binding match, by their keys.
-use Rattle.std.proofs.Common.{◌≡◌, ℕ, ◌==◌, Bool, true, false, not, ◌&&◌, ◌||◌, if◌then◌else◌, List, [], ◌∷◌, ◌++◌, length, refl, sym, ap, ◌∙◌}
-use Rattle.std.specs.Prelude.{codes}
+use Rattle.std.proofs.Common.{◌≡◌, ℕ, ◌==◌, Bool, true, false, not, ◌&&◌, ◌||◌, if◌then◌else◌, List, [], ◌∷◌, length, refl, sym, ap, ◌∙◌}
 use Rattle.std.proofs.lemmas.List.Folds.{list_any-append}
 use Rattle.std.specs.BTreeMap.Range.{is_from_start}
 use Rattle.std.specs.List.{filter, list_any}
 use Rattle.std.specs.Str.{bytes_eq}
 use Rattle.std.specs.declared.collections.Bound.{Bound as Start}
 use Rattle.kapi_policy.specs.Objects.{name_cmp}
-use Rattle.kapi_model.specs.Subjects.{is_account, subject_matches, namespace_of}
+use Rattle.kapi_model.specs.Subjects.{account_user, is_account, subject_matches, namespace_of}
 use Rattle.kapi_model.specs.declared.identity.Identity.{Identity}
 use Rattle.kapi_model.specs.declared.subject.Subject.{Subject}
 use Rattle.kapi_model.specs.declared.subject.Subject.TheVariants.{User, Group, ServiceAccount}
@@ -25,7 +24,7 @@ account_meant : (user namespace name : List ℕ) → is_account user namespace n
 account_meant user namespace name = by_test (length namespace == 0) refl
   where
     whole : List ℕ
-    whole = codes "system:serviceaccount:" ++ (namespace ++ 58 ∷ name)
+    whole = account_user namespace name
 
     by_test : (b : Bool) → (length namespace == 0) ≡ b → (not (length namespace == 0) && bytes_eq user whole) ≡ is_key user (if length namespace == 0 then [] else whole ∷ [])
     by_test true is = rw is refl

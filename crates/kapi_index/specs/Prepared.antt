@@ -1,15 +1,14 @@
 -- The users and groups that the subjects of a binding match (Kubernetes, 'Using RBAC Authorization', 'Referring to
 -- subjects').
-use Rattle.std.specs.Prelude.{ℕ, ◌==◌, List, [], ◌∷◌, ◌++◌, length, if◌then◌else◌, codes}
+use Rattle.std.specs.Prelude.{ℕ, ◌==◌, List, [], ◌∷◌, length, if◌then◌else◌}
 use Rattle.std.specs.List.{flat_map}
-use Rattle.kapi_model.specs.Subjects.{namespace_of}
+use Rattle.kapi_model.specs.Subjects.{account_user, namespace_of}
 use Rattle.kapi_model.specs.declared.subject.Subject.{Subject}
 use Rattle.kapi_model.specs.declared.subject.Subject.TheVariants.{User, Group, ServiceAccount}
 
 -- the user that a service account is; in no namespace there is none
 abbrev pub account_users : List ℕ → List ℕ → List (List ℕ)
-account_users namespace name =
-    if length namespace == 0 then [] else (codes "system:serviceaccount:" ++ (namespace ++ 58 ∷ name)) ∷ []
+account_users namespace name = if length namespace == 0 then [] else account_user namespace name ∷ []
 
 -- the user that a subject of a binding in a namespace is, if it is one
 abbrev pub user_of : List ℕ → Subject → List (List ℕ)

@@ -1,4 +1,4 @@
-ghost use Rattle.std.specs.Prelude.{◌≡◌, [], map, IfOk, IsOk, MatchOption, OnErr, OnOk, option_copied};
+ghost use Rattle.std.specs.Prelude.{◌≡◌, [], map, IfOk, MatchOption, OnErr, OnOk, option_copied};
 ghost use Rattle.std.specs.Map.{lookup};
 ghost use Rattle.std.specs.Str.{bytes_eq};
 ghost use Rattle.kapi_policy.specs.All.{all_bindings};

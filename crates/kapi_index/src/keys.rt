@@ -1,10 +1,8 @@
 //! The users and groups that the subjects of a binding match, prepared when the binding is put.
-ghost use Rattle.std.specs.Prelude.{◌≡◌, ◌∷◌, ◌++◌, [], IfOk, OnOk, codes, string_bytes};
-ghost use Rattle.std.specs.List.{flat_map};
-ghost use Rattle.kapi_model.specs.Subjects.{namespace_of as namespace_of_account};
+ghost use Rattle.std.specs.Prelude.{◌≡◌, ◌++◌, IfOk, OnOk};
 ghost use Rattle.kapi_index.specs.Prepared.{account_users, group_of, groups_of, user_of, users_of};
 
-use kapi_model::{ServiceAccount, Subject};
+use kapi_model::{Subject, account_namespace, account_user};
 use kapi_text::{Memory, Sequence, Text, TryCopy};
 use std::alloc::Global;
 
@@ -88,21 +86,10 @@ fn push_user(
             push_account(
                 alloc,
                 list,
-                namespace_of(account, namespace),
+                account_namespace(account, namespace),
                 account.name.as_str(),
             )
         }
-    }
-}
-
-/// The namespace of a service account, or where it has none the binding's.
-fn namespace_of<'a>(account: &'a ServiceAccount, binding_namespace: &'a str) -> &'a str
-    ensures { result.now ≡ namespace_of_account account.now binding_namespace.now }
-{
-    if account.namespace.as_str().is_empty() {
-        binding_namespace
-    } else {
-        account.namespace.as_str()
     }
 }
 
@@ -117,19 +104,8 @@ fn push_account(
     if namespace.is_empty() {
         return Ok(());
     }
-    list.push(prefixed(alloc, "system:serviceaccount:", namespace, name)?)?;
+    list.push(account_user(alloc, namespace, name)?)?;
     Ok(())
-}
-
-/// The prefix, the first text, a colon, and the name.
-fn prefixed(alloc: Global, prefix: &str, first: &str, name: &str) -> Result<Text, Memory>
-    ensures { IfOk result (λ t. t ≡ prefix.now ++ (first.now ++ 58 ∷ name.now)) }
-{
-    let mut text = String::from_str(alloc, prefix)?;
-    text.push_str(first)?;
-    text.push_str(":")?;
-    text.push_str(name)?;
-    Ok(Text::new(text))
 }
 
 fn groups(alloc: Global, subjects: &[Subject]) -> Result<Vec<Text>, Memory>

@@ -1,5 +1,5 @@
 //! Sets of names under keys.
-ghost use Rattle.std.specs.Prelude.{◌≡◌, ℕ, ◌==◌, ◌&&◌, ◌||◌, ◌∷◌, not, List, [], length, OnErr, OnOk, option_copied};
+ghost use Rattle.std.specs.Prelude.{◌≡◌, ◌==◌, ◌∷◌, [], length, OnErr, OnOk, option_copied};
 ghost use Rattle.std.specs.BTreeMap.Range.{is_from_start};
 ghost use Rattle.std.specs.List.{find};
 ghost use Rattle.std.specs.Range.Bound.{bound_map};

@@ -1,5 +1,5 @@
 use crate::items::expect;
-use kapi_http::{HttpFault, HttpRequest, Inbox, Method};
+use kapi_http::{Header, HttpFault, HttpRequest, Inbox, Method};
 use std::alloc::Global;
 use std::process::Abort;
 use std::test::Fail;
@@ -30,11 +30,15 @@ static FIELDS: [(&str, &[u8]); 4] = [
     ("Content-Length", b"3"),
 ];
 
+fn compare_field(rt: &impl Abort, header: &Header, name: &str, value: &[u8]) {
+    assert_eq!(rt; header.name.as_str(), name);
+    assert_eq!(rt; header.value.as_slice(), value);
+}
+
 fn compare_fields(rt: &impl Abort, request: &HttpRequest, fields: &[(&str, &[u8])]) {
     assert_eq!(rt; request.headers.as_slice().len(), fields.len());
     for (header, (name, value)) in request.headers.as_slice().iter().zip(fields) {
-        assert_eq!(rt; header.name.as_str(), *name);
-        assert_eq!(rt; header.value.as_slice(), *value);
+        compare_field(rt, header, name, value);
     }
 }
 

@@ -82,6 +82,20 @@ fn updated(alloc: Global, count: u64) -> Result<Store, Fail> {
     Ok(store)
 }
 
+/// Checks that a watch which starts from the revision, after so many updates, shows this first.
+fn is_started(
+    rt: &impl Abort,
+    alloc: Global,
+    count: u64,
+    revision: Option<u64>,
+    wanted: &str,
+) -> Result<(), Fail> {
+    let store = updated(alloc, count)?;
+    let started = watch_all(alloc, &store, revision)?;
+    is_text(rt, word(&started, &store), wanted);
+    Ok(())
+}
+
 /// Checks that watches which start so show this first.
 fn are_started(
     rt: &impl Abort,
@@ -89,9 +103,7 @@ fn are_started(
     rows: &[(u64, Option<u64>, &str)],
 ) -> Result<(), Fail> {
     for (count, revision, wanted) in rows {
-        let store = updated(alloc, *count)?;
-        let started = watch_all(alloc, &store, *revision)?;
-        is_text(rt, word(&started, &store), wanted);
+        is_started(rt, alloc, *count, *revision, wanted)?;
     }
     Ok(())
 }
@@ -107,15 +119,20 @@ fn pump(rt: &impl Abort, store: &Store, watch: &mut Watch, wanted: &str) {
     watch.shown(watch.next(store).place);
 }
 
+/// Pumps a watch for each of the words, and compares what it shows.
+fn pump_all(rt: &impl Abort, store: &Store, watch: &mut Watch, words: &[&str]) {
+    for wanted in words {
+        pump(rt, store, watch, wanted);
+    }
+}
+
 #[test]
 fn a_watch_expires_after_its_first_objects(rt: HostRuntime) -> Result<(), Fail> {
     let alloc = rt.alloc();
     let mut store = updated(alloc, 0)?;
     let mut watch = started(alloc, &store, None)?;
     update(alloc, &mut store, 1_025)?;
-    pump(&rt, &store, &mut watch, "ADDED");
-    pump(&rt, &store, &mut watch, "ERROR");
-    pump(&rt, &store, &mut watch, "ERROR");
+    pump_all(&rt, &store, &mut watch, &["ADDED", "ERROR", "ERROR"]);
     Ok(())
 }
 
@@ -164,13 +181,18 @@ fn a_watch_moves_on_past_changes_of_other_resources(rt: HostRuntime) -> Result<(
     are_moves(&rt, alloc, &mut store, &mut watch, &MOVES)
 }
 
+/// Stops a watch after its first event.
+fn stop(rt: &impl Abort, store: &Store, watch: &mut Watch) {
+    pump(rt, store, watch, "ADDED");
+    is_text(rt, watch.stop().kind(), "ERROR");
+    pump(rt, store, watch, "nothing");
+}
+
 #[test]
 fn a_stopped_watch_shows_nothing_any_more(rt: HostRuntime) -> Result<(), Fail> {
     let alloc = rt.alloc();
     let store = updated(alloc, 0)?;
     let mut watch = started(alloc, &store, None)?;
-    pump(&rt, &store, &mut watch, "ADDED");
-    is_text(&rt, watch.stop().kind(), "ERROR");
-    pump(&rt, &store, &mut watch, "nothing");
+    stop(&rt, &store, &mut watch);
     Ok(())
 }

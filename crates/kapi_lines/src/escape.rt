@@ -1,10 +1,10 @@
-ghost use Rattle.std.specs.Prelude.{◌≡◌, ◌++◌, ◌<◌, ◌∷◌, [], IfOk, IfSome, OnOk, if◌then◌else◌, Some, None, option_map};
-ghost use Rattle.std.specs.Char.{digit_char, digit_value, is_digit};
+ghost use Rattle.std.specs.Prelude.{◌≡◌, ◌<◌, IfOk, OnOk, Some, None, option_map};
+ghost use Rattle.std.specs.Char.{digit_char};
 ghost use Rattle.std.specs.Io.KnownBytes.{Appends};
 ghost use Rattle.std.specs.Option.{is_some};
 ghost use Rattle.kapi_lines.specs.Escapes.{after_backslash as after_backslash_of, by_digits as by_digits_of, escaped, escaped_byte, read as read_of, unescaped};
 
-use kapi_text::Memory;
+use kapi_text::{Memory, hex_value};
 use std::alloc::Global;
 use std::io::{self, Write};
 
@@ -69,19 +69,6 @@ fn by_digits(high: u8, low: u8) -> Effect
     match (hex_value(high), hex_value(low)) {
         (Some(high), Some(low)) => Effect::Byte(high * 16 + low),
         _ => Effect::Bad,
-    }
-}
-
-/// The value of a hexadecimal digit of either case.
-fn hex_value(digit: u8) -> Option<u8>
-    ensures value { result ≡ (if is_digit digit 16 then Some (digit_value digit) else None) }
-    ensures small { IfSome result (λ v. v < 16) }
-{
-    match digit {
-        b'0'..=b'9' => Some(digit - b'0'),
-        b'a'..=b'f' => Some(digit - b'a' + 10),
-        b'A'..=b'F' => Some(digit - b'A' + 10),
-        _ => None,
     }
 }
 

@@ -25,7 +25,6 @@ use Rattle.kapi_core.specs.declared.event.Turned.{Turned}
 use Rattle.kapi_desk.specs.Boards.{Board}
 use Rattle.kapi_policy.specs.Steps.{after_changes}
 use Rattle.kapi_desk.specs.Steps.{after, step_of}
-use Rattle.kapi_policy.specs.Objects.{PolicyObjects, applied}
 use Rattle.kapi_policy.specs.declared.change.PolicyChange.{PolicyChange}
 use Rattle.kapi_store.specs.Faults.{StoreFault}
 use Rattle.kapi_store.specs.Plain.{PlainChange}

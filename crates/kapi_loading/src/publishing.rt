@@ -1,5 +1,5 @@
 //! The policy of a file, published step by step.
-ghost use Rattle.std.specs.Prelude.{◌≡◌, ◌++◌, [], IfErr, OnOk, map, Ok};
+ghost use Rattle.std.specs.Prelude.{◌≡◌, ◌++◌, [], OnOk, map, Ok};
 ghost use Rattle.kapi_core.specs.Machine.{Machine};
 ghost use Rattle.kapi_policy.specs.Steps.{after_changes};
 ghost use Rattle.kapi_desk.specs.Steps.{after, step_of};

@@ -15,7 +15,6 @@ use Rattle.kapi_missing.proofs.Seen.{turned_word}
 use Rattle.std.proofs.lemmas.Bool.{and_parts, cases_eq, or_cases, or_left, or_right}
 use Rattle.std.proofs.lemmas.Bool.Decides.{nat_tests}
 use Rattle.std.proofs.lemmas.List.Folds.{list_any-append}
-use Rattle.std.specs.List.{list_any}
 use Rattle.kapi_text.proofs.Booleans.{or_false}
 use Rattle.kapi_missing.specs.Private.Sets.{block_has, blocks_at, fingerprint, in_word, in_words, stands, stands_at, stands_under}
 use Rattle.kapi_missing.specs.declared.sets.Block.{Block}

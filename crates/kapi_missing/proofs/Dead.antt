@@ -1,5 +1,5 @@
 -- What is left of a rule is left without its dead entries.
-use Rattle.std.proofs.Common.{◌≡◌, ℕ, zero, suc, ◌==◌, Bool, true, false, not, ◌&&◌, ◌||◌, if◌then◌else◌, List, [], ◌∷◌, ◌++◌, length, map, Option, Some, None, refl, ap, sym, subst, ◌∙◌, ◌⊎◌, inl, inr}
+use Rattle.std.proofs.Common.{◌≡◌, ℕ, zero, suc, ◌==◌, Bool, true, false, not, ◌&&◌, ◌||◌, if◌then◌else◌, List, [], ◌∷◌, ◌++◌, length, map, Some, refl, ap, sym, subst, ◌∙◌, ◌⊎◌, inl, inr}
 use Rattle.std.proofs.Math.Dec.{eqb-suc-zero}
 use Rattle.std.proofs.lemmas.Bool.{and_parts, or_cases, not-true, or_right}
 use Rattle.std.specs.List.{filter, flat_map, list_all, list_any}
@@ -15,7 +15,7 @@ use Rattle.kapi_rules.specs.declared.atom.Names.TheVariants as names
 use Rattle.kapi_missing.proofs.Lefts.{at_map, held_stops, held_url_stops, own_stops, own_url_stops}
 use Rattle.kapi_missing.proofs.Placed.{some_at}
 use Rattle.kapi_missing.proofs.Repeats.{filter_append}
-use Rattle.kapi_missing.proofs.Sliced.{none, of_group, of_lists, of_resource, of_rule, of_url, of_verb}
+use Rattle.kapi_missing.proofs.Sliced.{none, of_group, of_resource, of_rule, of_url, of_verb}
 use Rattle.kapi_missing.specs.Private.Bars.{entries_in, meets, name_marks}
 use Rattle.kapi_missing.specs.Private.Index.{AreBars, IsAt, rules_in}
 use Rattle.kapi_missing.specs.Private.Left.{is_stopped, left_atoms}

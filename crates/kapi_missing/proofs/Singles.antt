@@ -1,23 +1,20 @@
 -- What single atoms are stopped by.
 use Rattle.std.proofs.Common.{◌≡◌, ℕ, zero, suc, ◌+◌, ◌<◌, ◌≤◌, ◌≢◌, ◌==◌, Bool, true, false, not, ◌&&◌, ◌||◌, ◌⊎◌, inl, inr, if◌then◌else◌, List, [], ◌∷◌, ◌++◌, length, map, get_or, refl, ap, sym, ◌∙◌, arith}
-use Rattle.std.proofs.lemmas.Bool.{and_parts, cases_eq, or_cases, or_left, or_right}
-use Rattle.std.proofs.lemmas.List.{get_or-set_other, get_or_append_left, get_or_past, get_or_push, length_push}
-use Rattle.std.proofs.lemmas.List.Folds.{list_any-append}
+use Rattle.std.proofs.lemmas.Bool.{and_parts, cases_eq, or_left, or_right}
+use Rattle.std.proofs.lemmas.List.{get_or_append_left, get_or_past, get_or_push, length_push}
 use Rattle.std.specs.Global.{Vec}
 use Rattle.std.specs.List.{list_any}
-use Rattle.kapi_text.proofs.Booleans.{or_false}
 use Rattle.kapi_model.specs.declared.policy_rule.PolicyRule.{PolicyRule}
 use Rattle.kapi_missing.proofs.Adding.{map_long, map_push, through}
 use Rattle.kapi_missing.proofs.Bits.{full_bit, le_or_lt}
 use Rattle.kapi_missing.proofs.Lefts.{at_map}
 use Rattle.kapi_missing.proofs.Placed.{at_within, marked_at}
 use Rattle.kapi_missing.specs.Private.Alone.{AreRows, Rowed, in_row}
-use Rattle.kapi_missing.specs.Private.Bars.{barred, meets, name_marks, rule_in, some_name_met}
+use Rattle.kapi_missing.specs.Private.Bars.{barred, meets, name_marks, rule_in}
 use Rattle.kapi_missing.specs.Private.Index.{AreAllPlaced, IsPlaced, meets_some, rules_in}
-use Rattle.kapi_missing.specs.Private.Marks.{at, has, some_has}
+use Rattle.kapi_missing.specs.Private.Marks.{at, has}
 use Rattle.kapi_missing.specs.Private.Sets.{has_number, in_words}
 use Rattle.kapi_missing.specs.Private.Stopped.{stops_at}
-use Rattle.kapi_missing.specs.declared.bars.Dimension.{Dimension}
 use Rattle.kapi_missing.specs.declared.bars.Dimension.TheVariants as dimension
 use Rattle.kapi_missing.specs.declared.bars.Sort.{Sort}
 use Rattle.kapi_missing.specs.declared.bars.Sort.TheVariants as sort

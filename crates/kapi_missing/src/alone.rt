@@ -1,7 +1,6 @@
 //! Parts of few atoms, of which each is looked at alone.
 ghost use Rattle.std.specs.Prelude.{◌≡◌, ℕ, ◌&&◌, ◌||◌, not, map, true, [], ◌∷◌, IfOk, OnOk};
 ghost use Rattle.std.specs.List.{list_any};
-ghost use Rattle.kapi_model.specs.declared.policy_rule.PolicyRule.{PolicyRule as PolicyRuleValue};
 ghost use Rattle.kapi_missing.specs.Private.Alone.{AreRows, Rowed, in_row};
 ghost use Rattle.kapi_missing.specs.Private.Bars.{barred, name_marks};
 ghost use Rattle.kapi_missing.specs.Private.Index.{AreAllPlaced, meets_some, rules_in};

@@ -1,14 +1,14 @@
 //! Rules that may stop atoms, found by the entries of the wanted rule.
-ghost use Rattle.std.specs.Prelude.{◌≡◌, ◌==◌, ◌∷◌, [], ◌++◌, ◌&&◌, ◌||◌, ℕ, Bool, List, length, true, IfOk, OnOk, MatchOption};
+ghost use Rattle.std.specs.Prelude.{◌≡◌, ◌==◌, ◌∷◌, [], ◌++◌, ◌&&◌, ◌||◌, ℕ, Bool, List, length, true, IfOk, OnOk};
 ghost use Rattle.std.specs.List.{list_any};
 ghost use Rattle.kapi_model.specs.declared.policy_rule.PolicyRule.{PolicyRule as PolicyRuleValue};
-ghost use Rattle.kapi_rules.specs.Entries.{without_stars as without_last_stars};
 ghost use Rattle.kapi_missing.specs.Private.Index.{AreBars, IsPlaced, Keeps, has_pattern, is_starred as starred, open_start};
 ghost use Rattle.kapi_missing.specs.Private.Sets.{stands, stands_at};
 
 use crate::bars::{Bar, bar_of};
 use crate::sets::{Block, Patterns, Sets, add_number, continued, put_at, put_under_all};
 use kapi_model::PolicyRule;
+use kapi_rules::without_stars;
 use kapi_text::{Memory, Text};
 use std::alloc::Global;
 use std::collections::BTreeMap;
@@ -57,29 +57,6 @@ fn is_starred(entry: &[u8]) -> bool
     ensures { result ≡ starred entry.now }
 {
     entry.ends_with(b"*")
-}
-
-// The text before the last byte where that is a star; without it the text has no stars at its end.
-#[tactic(auto, using(kapi_rules::proofs::Texts::without_stars_kept))]
-fn before_last_star(text: &[u8]) -> Option<&[u8]>
-    ensures { MatchOption result (without_last_stars text.now ≡ text.now) (λ front. text.now ≡ front.now ++ 42 ∷ []) }
-{
-    match text.split_last() {
-        Some((last, front)) => { if *last == b'*' { Some(front) } else { None } }
-        None => None,
-    }
-}
-
-// The text without the stars at its end.
-#[tactic(auto, using(kapi_rules::proofs::Texts::without_stars_append))]
-fn without_stars(text: &[u8]) -> &[u8]
-    ensures { result.now ≡ without_last_stars text.now }
-{
-    let mut front = text;
-    while let Some(shorter) = before_last_star(front) {
-        front = shorter;
-    }
-    front
 }
 
 fn is_open(entry: &[u8]) -> bool

@@ -7,7 +7,7 @@ ghost use Rattle.kapi_missing.specs.Private.Left.{each, left, left_group, left_n
 use crate::marks::{Marks, is_marked};
 use crate::plans::Plan;
 use kapi_model::PolicyRule;
-use kapi_rules::{Atom, Names, ResourceAtom, UrlAtom};
+use kapi_rules::{Atom, Names, UrlAtom, resource_atom};
 use kapi_text::{Memory, Text, TryCopy};
 use std::alloc::Global;
 
@@ -58,23 +58,6 @@ fn is_any_marked(parts: &[&Marks], level: Level, position: usize) -> bool
         }
     }
     false
-}
-
-fn resource_atom(
-    alloc: Global,
-    verb: &Text,
-    group: &Text,
-    resource: &Text,
-    names: Names,
-) -> Result<Atom, Memory>
-    ensures { IfOk result (λ a. a ≡ named_atom verb.now group.now resource.now names) }
-{
-    Ok(Atom::Resource(ResourceAtom {
-        verb: verb.copy(alloc)?,
-        group: group.copy(alloc)?,
-        resource: resource.copy(alloc)?,
-        names,
-    }))
 }
 
 // One atom with all names.

@@ -1,7 +1,6 @@
 //! The rules that meet an entry of each list of the wanted one.
 ghost use Rattle.std.specs.Prelude.{◌≡◌, ◌+◌, ◌<◌, ◌==◌, ◌&&◌, ◌||◌, ℕ, true, length, take, IfOk};
 ghost use Rattle.std.specs.List.{list_any};
-ghost use Rattle.std.specs.Option.{option_copied};
 ghost use Rattle.kapi_model.specs.declared.policy_rule.PolicyRule.{PolicyRule as PolicyRuleValue};
 ghost use Rattle.kapi_rules.specs.Atoms.{after_slash as behind_slash};
 ghost use Rattle.kapi_missing.specs.Private.Bars.{entries_in, is_near_to, meets, some_name_met};
@@ -12,6 +11,7 @@ use crate::bars::{Dimension, Sort, entries_of, size_of};
 use crate::index::{Bars, Index};
 use crate::sets::{Patterns, Sets, common, continued, mark, mark_at, mark_under, no_numbers, step};
 use kapi_model::PolicyRule;
+use kapi_rules::after_slash;
 use kapi_text::{Memory, Text};
 use std::alloc::Global;
 
@@ -32,20 +32,6 @@ pub fn sets_of<'b, 'a>(index: &'b Index<'a>, dimension: Dimension) -> &'b Sets<'
         Dimension::Names => &index.names,
         Dimension::Urls => &index.urls,
     }
-}
-
-// The text behind the first slash, if there is one.
-fn after_slash(text: &[u8]) -> Option<&[u8]>
-    ensures { option_copied result ≡ behind_slash text.now }
-{
-    let mut rest = text;
-    while let [byte, after @ ..] = rest {
-        if *byte == b'/' {
-            return Some(after);
-        }
-        rest = after;
-    }
-    None
 }
 
 // The rules with the entry that covers all resources with that text behind their first slash.

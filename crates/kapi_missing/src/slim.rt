@@ -1,8 +1,8 @@
 //! Wanted rules without the entries all of whose atoms one rule stops.
 ghost use Rattle.std.specs.Prelude.{◌≡◌, ◌==◌, ◌&&◌, ◌||◌, not, ℕ, List, true, false, IfOk, OnOk};
-ghost use Rattle.std.specs.List.{filter, list_all, list_any};
+ghost use Rattle.std.specs.List.{filter, list_all};
 ghost use Rattle.kapi_model.specs.declared.policy_rule.PolicyRule.{PolicyRule as PolicyRuleValue};
-ghost use Rattle.kapi_missing.specs.Private.Bars.{entries_in, meets, rule_in};
+ghost use Rattle.kapi_missing.specs.Private.Bars.{meets, rule_in};
 ghost use Rattle.kapi_missing.specs.Private.Index.{AreBars};
 ghost use Rattle.kapi_missing.specs.Private.Left.{left_atoms};
 ghost use Rattle.kapi_missing.specs.Private.Slim.{AreAlive, AreDead, IsSlim, changed as changed_in, has_word_of, is_alone as is_alone_in, knows_star as knows_star_in, meets_all, meets_beside, meets_names, meets_unless, stops_word};

@@ -11,9 +11,13 @@ use Rattle.kapi_model.specs.Identities.{is_in}
 abbrev pub colon : ℕ
 colon = 58
 
--- the user `system:serviceaccount:NAMESPACE:NAME`; in no namespace there is no service account
+-- the user that a service account is: `system:serviceaccount:NAMESPACE:NAME`
+abbrev pub account_user : List ℕ → List ℕ → List ℕ
+account_user namespace name = codes "system:serviceaccount:" ++ (namespace ++ colon ∷ name)
+
+-- the user is that service account; in no namespace there is none
 abbrev pub is_account : List ℕ → List ℕ → List ℕ → Bool
-is_account user namespace name = not (length namespace == 0) && bytes_eq user (codes "system:serviceaccount:" ++ (namespace ++ colon ∷ name))
+is_account user namespace name = not (length namespace == 0) && bytes_eq user (account_user namespace name)
 
 -- a service account that has no namespace is one of the binding's
 abbrev pub namespace_of : Account → List ℕ → List ℕ

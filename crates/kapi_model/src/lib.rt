@@ -27,7 +27,7 @@ pub use fault::{FaultKind, FieldFault};
 pub use identity::Identity;
 pub use kinds::{RBAC_GROUP, RoleKind, SubjectKind};
 pub use labels::Labels;
-pub use matching::subject_matches;
+pub use matching::{account_namespace, account_user, subject_matches};
 pub use names::{
     check_label_key, check_label_value, check_name, check_namespace_name, check_object_name,
     check_rbac_name,

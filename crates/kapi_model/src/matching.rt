@@ -1,10 +1,11 @@
-ghost use Rattle.std.specs.Prelude.{◌≡◌, ◌++◌, ◌∷◌, ◌==◌, if◌then◌else◌};
+ghost use Rattle.std.specs.Prelude.{◌≡◌, ◌++◌, ◌∷◌, IfOk};
 ghost use Rattle.std.specs.Str.{bytes_eq};
 ghost use Rattle.kapi_model.specs.Subjects as meaning;
 
 use crate::identity::Identity;
 use crate::subject::{ServiceAccount, Subject};
-use kapi_text::is_joined;
+use kapi_text::{Memory, Text, is_joined};
+use std::alloc::Global;
 
 /// Whether the text is the prefix, the first text, a colon, and the name.
 #[tactic(auto, using(kapi_text::proofs::Prefixes::bytes_eq_append))]
@@ -31,8 +32,19 @@ fn is_account(user: &str, namespace: &str, name: &str) -> bool
         )
 }
 
+/// The user that the service account of the name in the namespace is.
+pub fn account_user(alloc: Global, namespace: &str, name: &str) -> Result<Text, Memory>
+    ensures { IfOk result (λ t. t ≡ meaning.account_user namespace.now name.now) }
+{
+    let mut text = String::from_str(alloc, "system:serviceaccount:")?;
+    text.push_str(namespace)?;
+    text.push_str(":")?;
+    text.push_str(name)?;
+    Ok(Text::new(text))
+}
+
 /// The namespace of a service account, or where it has none the binding's.
-fn namespace_of<'a>(account: &'a ServiceAccount, binding_namespace: &'a str) -> &'a str
+pub fn account_namespace<'a>(account: &'a ServiceAccount, binding_namespace: &'a str) -> &'a str
     ensures { result.now ≡ meaning.namespace_of account.now binding_namespace.now }
 {
     if account.namespace.as_str().is_empty() {
@@ -52,7 +64,7 @@ pub fn subject_matches(subject: &Subject, binding_namespace: &str, identity: &Id
         Subject::Group(name) => identity.is_in(name.as_str()),
         Subject::ServiceAccount(account) => is_account(
             identity.user.as_str(),
-            namespace_of(account, binding_namespace),
+            account_namespace(account, binding_namespace),
             account.name.as_str(),
         ),
     }

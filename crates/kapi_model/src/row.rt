@@ -1,5 +1,3 @@
-ghost use Rattle.std.specs.Prelude.{◌≡◌, IfOk};
-
 use kapi_text::{Text, TryCopy};
 use std::alloc::{AllocError, Global};
 

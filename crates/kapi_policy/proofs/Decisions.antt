@@ -37,7 +37,7 @@ is_some_if : (b : Bool) (n : ℕ) → is_some (cond b (Some n) None) ≡ b
 is_some_if true n = refl
 is_some_if false n = refl
 
-is_some_position : {X : Type 0} (p : X → Bool) (xs : List X) → is_some (position p xs) ≡ list_any p xs
+pub is_some_position : {X : Type 0} (p : X → Bool) (xs : List X) → is_some (position p xs) ≡ list_any p xs
 is_some_position p xs = is_some_if (nat_lt (position_or_len p xs) (length xs)) _ ∙ place_is_below p xs
 
 -- ---- allowed just where a held rule allows

@@ -1,5 +1,5 @@
 -- All bindings of a policy (Kubernetes, 'Using RBAC Authorization', 'RoleBinding and ClusterRoleBinding').
-use Rattle.std.specs.Prelude.{ℕ, ◌==◌, Bool, not, List, ◌++◌, length, map}
+use Rattle.std.specs.Prelude.{◌==◌, Bool, not, List, ◌++◌, length, map}
 use Rattle.std.specs.List.{filter}
 use Rattle.kapi_model.specs.declared.binding.RoleBinding.{RoleBinding}
 use Rattle.kapi_policy.specs.declared.change.NamespacedName.{NamespacedName}

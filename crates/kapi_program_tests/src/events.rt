@@ -39,14 +39,19 @@ fn bytes_of(answer: &Answer) -> &[u8] {
     }
 }
 
+/// Bytes that are fed and served.
+fn push_request(alloc: Global, events: &mut Vec<Event>, bytes: &[u8]) -> Result<(), Memory> {
+    events.push(feed(alloc, 0, bytes)?)?;
+    events.push(Event::Serve(ConnId(0)))?;
+    Ok(())
+}
+
 /// A create and a get, then a serve, a pump and a turn that have nothing to do.
 fn create_and_get(alloc: Global) -> Result<Vec<Event>, Memory> {
     let mut events = Vec::new(alloc);
     events.push(open_root(alloc)?)?;
-    events.push(feed(alloc, 0, CREATE)?)?;
-    events.push(Event::Serve(ConnId(0)))?;
-    events.push(feed(alloc, 0, GET)?)?;
-    events.push(Event::Serve(ConnId(0)))?;
+    push_request(alloc, &mut events, CREATE)?;
+    push_request(alloc, &mut events, GET)?;
     events.push(Event::Serve(ConnId(0)))?;
     events.push(Event::Pump(ConnId(0)))?;
     events.push(Event::Turn)?;
@@ -54,21 +59,45 @@ fn create_and_get(alloc: Global) -> Result<Vec<Event>, Memory> {
     Ok(events)
 }
 
+/// Compares the names of answers.
+fn are_named(rt: &impl Abort, answers: &[Answer], names: &[&str]) {
+    assert_eq!(rt; answers.len(), names.len());
+    for (answer, name) in answers.iter().zip(names) {
+        assert_eq!(rt; name_of(answer), *name);
+    }
+}
+
+/// The bytes of answers, one behind the other.
+fn all_bytes(alloc: Global, answers: &[Answer]) -> Result<Vec<u8>, Memory> {
+    let mut sent = Vec::new(alloc);
+    for answer in answers {
+        sent.extend_from_slice(bytes_of(answer))?;
+    }
+    Ok(sent)
+}
+
+/// Runs a create and a get, and compares the answers.
+fn is_run(
+    rt: &impl Abort,
+    alloc: Global,
+    core: &mut Core<IndexedPolicy>,
+    events: &[Event],
+) -> Result<(), Memory> {
+    let outputs = core.run(events);
+    assert!(rt; outputs.stopped.is_none());
+    let answers = outputs.answers.as_slice();
+    are_named(rt, answers, TOLD);
+    let sent = all_bytes(alloc, answers)?;
+    assert_eq!(rt; sent.as_slice(), CREATED_AND_FOUND);
+    Ok(())
+}
+
 #[test]
 fn runs_a_create_and_a_get(rt: HostRuntime) -> Result<(), Fail> {
     let alloc = rt.alloc();
-    let mut core = core_at(alloc, 0)?;
     let events = create_and_get(alloc)?;
-    let outputs = core.run(events.as_slice());
-    assert!(rt; outputs.stopped.is_none());
-    let answers = outputs.answers.into_vec();
-    assert_eq!(rt; answers.len(), TOLD.len());
-    let mut sent = Vec::new(alloc);
-    for (answer, told) in answers.iter().zip(TOLD) {
-        assert_eq!(rt; name_of(answer), *told);
-        sent.extend_from_slice(bytes_of(answer))?;
-    }
-    assert_eq!(rt; sent.as_slice(), CREATED_AND_FOUND);
+    let mut core = core_at(alloc, 0)?;
+    is_run(&rt, alloc, &mut core, events.as_slice())?;
     Ok(())
 }
 
@@ -85,33 +114,59 @@ fn is_fed(
     Ok(())
 }
 
+/// Feeds 32 times the piece, and then one byte and no byte.
+fn are_kept(
+    rt: &impl Abort,
+    alloc: Global,
+    core: &mut Core<IndexedPolicy>,
+    piece: &[u8],
+) -> Result<(), Memory> {
+    for _ in 0..32 {
+        is_fed(rt, alloc, core, piece, "done")?;
+    }
+    is_fed(rt, alloc, core, b"x", "full")?;
+    is_fed(rt, alloc, core, b"", "done")
+}
+
 #[test]
 fn keeps_2_097_152_bytes(rt: HostRuntime) -> Result<(), Fail> {
     let alloc = rt.alloc();
-    let mut core = opened_at(alloc, 0)?;
     let piece = vec![in alloc; b'\n'; 65_536]?;
-    for _ in 0..32 {
-        is_fed(&rt, alloc, &mut core, piece.as_slice(), "done")?;
-    }
-    is_fed(&rt, alloc, &mut core, b"x", "full")?;
-    is_fed(&rt, alloc, &mut core, b"", "done")?;
+    let mut core = opened_at(alloc, 0)?;
+    are_kept(&rt, alloc, &mut core, piece.as_slice())?;
     Ok(())
 }
 
 const LONGEST_BODY: &[u8] =
     b"POST /api/v1/namespaces/default/configmaps HTTP/1.1\r\nHost: a\r\nContent-Length: 1048576\r\n\r\n{\"metadata\":{\"name\":\"a\"},\"data\":{\"k\":\"";
 
-#[test]
-fn creates_from_a_body_of_1_048_576_bytes(rt: HostRuntime) -> Result<(), Fail> {
-    let alloc = rt.alloc();
-    let mut core = opened_at(alloc, 0)?;
+/// A create whose body has 1,048,576 bytes.
+fn longest_create(alloc: Global) -> Result<Vec<u8>, Memory> {
     let mut request = Vec::from_slice(alloc, LONGEST_BODY)?;
     let value = vec![in alloc; b'v'; 1048535]?;
     request.extend_from_slice(value.as_slice())?;
     request.extend_from_slice(b"\"}}")?;
-    let created = exchange(alloc, &mut core, 0, request.as_slice())?;
+    Ok(request)
+}
+
+fn is_created(
+    rt: &impl Abort,
+    alloc: Global,
+    core: &mut Core<IndexedPolicy>,
+    request: &[u8],
+) -> Result<(), Memory> {
+    let created = exchange(alloc, core, 0, request)?;
     assert!(rt; created.as_slice().starts_with(b"HTTP/1.1 201 Created\r\n"));
     assert!(rt; created.len() > 1_048_576);
+    Ok(())
+}
+
+#[test]
+fn creates_from_a_body_of_1_048_576_bytes(rt: HostRuntime) -> Result<(), Fail> {
+    let alloc = rt.alloc();
+    let request = longest_create(alloc)?;
+    let mut core = opened_at(alloc, 0)?;
+    is_created(&rt, alloc, &mut core, request.as_slice())?;
     Ok(())
 }
 

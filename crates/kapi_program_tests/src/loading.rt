@@ -5,6 +5,7 @@ use kapi_index::IndexedPolicy;
 use kapi_model::Identity;
 use kapi_text::{Memory, Sequence, Text};
 use std::alloc::Global;
+use std::process::Abort;
 use std::test::Fail;
 
 /// Objects in their order, each behind its outcome: how many changes of the policy it makes, or why it is not loaded.
@@ -72,20 +73,38 @@ fn is_answered(
     Ok(has_code(reply.as_slice(), code))
 }
 
+/// Opens a connection of ann.
+fn open_ann(alloc: Global, core: &mut Core<IndexedPolicy>) -> Result<(), Memory> {
+    core.step(&Event::Open(Identity {
+        user: Text::copy_of(alloc, "ann")?,
+        groups: Sequence::new(Vec::new(alloc)),
+    }))?;
+    Ok(())
+}
+
+/// The object that ann may get, and one that she may not get.
+const ASKED: [(&str, &str); 2] = [
+    ("/api/v1/namespaces/n/configmaps/x", "200"),
+    ("/api/v1/namespaces/default/configmaps/x", "403"),
+];
+
+fn are_answered(
+    rt: &impl Abort,
+    alloc: Global,
+    core: &mut Core<IndexedPolicy>,
+) -> Result<(), Memory> {
+    open_ann(alloc, core)?;
+    for (target, code) in ASKED {
+        assert!(rt; is_answered(alloc, core, target, code)?);
+    }
+    Ok(())
+}
+
 #[test]
 fn loads_objects(rt: HostRuntime) -> Result<(), Fail> {
     let alloc = rt.alloc();
     let mut core = core_at(alloc, 0)?;
     assert_eq!(rt; first_wrong(&mut core, OBJECTS), None);
-    core.step(&Event::Open(Identity {
-        user: Text::copy_of(alloc, "ann")?,
-        groups: Sequence::new(Vec::new(alloc)),
-    }))?;
-    let (held, not_held) = (
-        "/api/v1/namespaces/n/configmaps/x",
-        "/api/v1/namespaces/default/configmaps/x",
-    );
-    assert!(rt; is_answered(alloc, &mut core, held, "200")?);
-    assert!(rt; is_answered(alloc, &mut core, not_held, "403")?);
+    are_answered(&rt, alloc, &mut core)?;
     Ok(())
 }

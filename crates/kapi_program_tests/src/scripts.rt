@@ -1,7 +1,10 @@
 use kapi_index::IndexedPolicy;
 use kapi_script::{ScriptFault, script_run};
+use kapi_text::Memory;
 use std::alloc::Global;
 use std::io::{self, BufWriter, Read};
+use std::process::Abort;
+use std::str;
 use std::test::Fail;
 
 /// The answers to a script that comes in one piece.
@@ -41,25 +44,29 @@ const BAD_LINES: &[&str] = &[
     "list",
 ];
 
+/// A script whose third line is that one.
+fn around(alloc: Global, line: &str) -> Result<Vec<u8>, Memory> {
+    let mut script = Vec::from_slice(alloc, b"open a\n\n")?;
+    script.extend_from_slice(line.as_bytes())?;
+    script.extend_from_slice(b"\nserve 0\n")?;
+    Ok(script)
+}
+
+/// Checks that a script ends at its third line, behind the answer to the first.
+fn stops_behind(rt: &impl Abort, alloc: Global, script: &[u8]) {
+    let mut reader = script;
+    let mut writer = Vec::new(alloc);
+    let played = script_run(alloc, IndexedPolicy::new(alloc), &mut reader, &mut writer);
+    let third = str::from_utf8(script).unwrap_or("");
+    assert_eq!(rt; played, Err(ScriptFault::BadLine(3)), "{third}");
+    assert_eq!(rt; writer.as_slice(), b"conn 0\n".as_slice());
+}
+
 #[test]
 fn stops_at_a_bad_line(rt: HostRuntime) -> Result<(), Fail> {
     for line in BAD_LINES {
-        let mut script = Vec::from_slice(rt.alloc(), b"open a\n\n")?;
-        script.extend_from_slice(line.as_bytes())?;
-        script.extend_from_slice(b"\nserve 0\n")?;
-        let mut reader = script.as_slice();
-        let mut writer = Vec::new(rt.alloc());
-        assert_eq!(rt;
-            script_run(
-                rt.alloc(),
-                IndexedPolicy::new(rt.alloc()),
-                &mut reader,
-                &mut writer
-            ),
-            Err(ScriptFault::BadLine(3)),
-            "{line}"
-        );
-        assert_eq!(rt; writer.as_slice(), b"conn 0\n".as_slice());
+        let script = around(rt.alloc(), line)?;
+        stops_behind(&rt, rt.alloc(), script.as_slice());
     }
     Ok(())
 }
@@ -102,28 +109,27 @@ fn long_script(alloc: Global) -> Result<(String, String), Fail> {
     Ok((script, answers))
 }
 
+/// Checks the answers to a script whose bytes come one by one.
+fn drips(rt: &impl Abort, alloc: Global, script: &[u8], answers: &[u8]) {
+    let mut reader = Dripping {
+        text: script,
+        at: 0,
+        fails: false,
+    };
+    let mut writer = Vec::new(alloc);
+    let played = script_run(alloc, IndexedPolicy::new(alloc), &mut reader, &mut writer);
+    assert_eq!(rt; played, Ok(()));
+    assert!(rt; writer.as_slice() == answers);
+}
+
 #[test]
 fn plays_a_long_script_in_any_pieces(rt: HostRuntime) -> Result<(), Fail> {
     let (script, answers) = long_script(rt.alloc())?;
     assert!(rt; script.len() > 200_000);
-    let told = answers_to(rt.alloc(), script.as_str().as_bytes())?;
-    assert!(rt; told.as_slice() == answers.as_str().as_bytes());
-    let mut reader = Dripping {
-        text: script.as_str().as_bytes(),
-        at: 0,
-        fails: false,
-    };
-    let mut writer = Vec::new(rt.alloc());
-    assert_eq!(rt;
-        script_run(
-            rt.alloc(),
-            IndexedPolicy::new(rt.alloc()),
-            &mut reader,
-            &mut writer
-        ),
-        Ok(())
-    );
-    assert!(rt; writer.as_slice() == answers.as_str().as_bytes());
+    let (script, answers) = (script.as_str().as_bytes(), answers.as_str().as_bytes());
+    let told = answers_to(rt.alloc(), script)?;
+    assert!(rt; told.as_slice() == answers);
+    drips(&rt, rt.alloc(), script, answers);
     Ok(())
 }
 

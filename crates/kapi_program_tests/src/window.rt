@@ -167,14 +167,22 @@ fn one_goes_on(
     Ok(())
 }
 
+fn goes_through_the_window(
+    rt: &impl Abort,
+    alloc: Global,
+    core: &mut Core<IndexedPolicy>,
+) -> Result<(), Memory> {
+    watches_start(rt, alloc, core)?;
+    window_is_shown(rt, alloc, core)?;
+    watches_end(rt, alloc, core)?;
+    one_goes_on(rt, alloc, core)
+}
+
 #[test]
 fn shows_the_whole_window_and_ends_below_it(rt: HostRuntime) -> Result<(), Fail> {
     let alloc = rt.alloc();
     let mut core = started(alloc)?;
-    watches_start(&rt, alloc, &mut core)?;
-    window_is_shown(&rt, alloc, &mut core)?;
-    watches_end(&rt, alloc, &mut core)?;
-    one_goes_on(&rt, alloc, &mut core)?;
+    goes_through_the_window(&rt, alloc, &mut core)?;
     Ok(())
 }
 
@@ -236,15 +244,23 @@ fn is_refused(
     Ok(())
 }
 
+fn starts_and_is_refused(
+    rt: &impl Abort,
+    alloc: Global,
+    core: &mut Core<IndexedPolicy>,
+) -> Result<(), Memory> {
+    let head = exchange(alloc, core, 1, AS_ANN)?;
+    is_so(rt, has_code(head.as_slice(), "200"), "the watch starts");
+    update(alloc, core, 1_025)?;
+    rights_are_taken(alloc, core)?;
+    is_refused(rt, alloc, core)
+}
+
 /// A watch that is below the window and whose rights were taken away ends with the refusal.
 #[test]
 fn a_watch_at_its_end_is_refused_first(rt: HostRuntime) -> Result<(), Fail> {
     let alloc = rt.alloc();
     let mut core = rechecking(alloc)?;
-    let head = exchange(alloc, &mut core, 1, AS_ANN)?;
-    is_so(&rt, has_code(head.as_slice(), "200"), "the watch starts");
-    update(alloc, &mut core, 1_025)?;
-    rights_are_taken(alloc, &mut core)?;
-    is_refused(&rt, alloc, &mut core)?;
+    starts_and_is_refused(&rt, alloc, &mut core)?;
     Ok(())
 }

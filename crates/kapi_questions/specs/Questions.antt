@@ -1,5 +1,5 @@
 -- Questions of whom a policy allows something, as words tell them.
-use Rattle.std.specs.Prelude.{ℕ, ◌==◌, Bool, true, false, if◌then◌else◌, List, [], ◌∷◌, codes, Option, Some, None}
+use Rattle.std.specs.Prelude.{ℕ, ◌==◌, Bool, false, if◌then◌else◌, List, [], ◌∷◌, codes, Option, Some, None}
 use Rattle.std.specs.List.{after_first, before_first, slice_split}
 use Rattle.std.specs.Str.{bytes_eq, is_utf8}
 use Rattle.kapi_rules.specs.declared.point.Point.{Point}

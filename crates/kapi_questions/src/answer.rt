@@ -1,10 +1,9 @@
 //! The answers as they are printed.
-ghost use Rattle.std.specs.Prelude.{◌≡◌, ◌++◌, ◌==◌, ◌∷◌, [], length, map, not, IfOk, OnOk};
+ghost use Rattle.std.specs.Prelude.{◌≡◌, ◌++◌, ◌==◌, ◌∷◌, length, map, not, IfOk, OnOk};
 ghost use Rattle.std.specs.List.{flat_map};
 ghost use Rattle.kapi_access.specs.Gained.{gained};
 ghost use Rattle.kapi_access.specs.Risks.{risks as risks_of};
 ghost use Rattle.kapi_access.specs.Views.{gain_of, way_of};
-ghost use Rattle.kapi_access.specs.Who.{who_may};
 ghost use Rattle.kapi_policy.specs.All.{all_bindings};
 ghost use Rattle.kapi_policy.specs.Views.{binding_of};
 ghost use Rattle.kapi_questions.specs.Answers as answers;

@@ -1,5 +1,5 @@
 //! The cells of a line, in printable ASCII.
-ghost use Rattle.std.specs.Prelude.{◌≡◌, ◌++◌, IfOk, OnOk, codes, decimal, string_bytes};
+ghost use Rattle.std.specs.Prelude.{◌≡◌, IfOk, string_bytes};
 ghost use Rattle.kapi_access.specs.Views.{gain_of, way_of};
 ghost use Rattle.kapi_lines.specs.Escapes.{escaped};
 ghost use Rattle.kapi_policy.specs.Views.{binding_of};

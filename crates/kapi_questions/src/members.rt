@@ -1,8 +1,7 @@
 //! The lines as JSON objects.
-ghost use Rattle.std.specs.Prelude.{◌≡◌, ◌++◌, ◌∷◌, [], IfOk, OnOk, codes};
+ghost use Rattle.std.specs.Prelude.{◌≡◌, ◌++◌, IfOk, OnOk, codes};
 ghost use Rattle.serde_json.specs.Data.{number, string, unsigned, put as with_member};
 ghost use Rattle.serde_json.specs.View.{view, members_view};
-ghost use Rattle.serde_json.specs.Written.{compact_text};
 ghost use Rattle.kapi_access.specs.Views.{gain_of, way_of};
 ghost use Rattle.kapi_model.specs.Kinds.{role_kind_text};
 ghost use Rattle.kapi_policy.specs.Views.{binding_of};
@@ -14,21 +13,9 @@ use kapi_access::{Gain, Grantee, Way};
 use kapi_policy::Binding;
 use kapi_reply::atom_list;
 use kapi_text::Memory;
-use kapi_tree::tree_form::text_value;
+use kapi_tree::tree_form::put_string;
 use serde_json::{Map, Value, put};
 use std::alloc::Global;
-
-/// Puts a text at a key, also where it is empty.
-fn put_word(
-    alloc: Global,
-    members: &mut Map<String, Value>,
-    key: &str,
-    text: &str,
-) -> Result<(), Memory>
-    ensures { OnOk result (members_view members.new.entries ≡ with_member key.now (string text.now) (members_view members.old.entries)) }
-{
-    put(members, alloc, key, text_value(alloc, text)?)
-}
 
 /// Puts a binding and its role.
 fn put_binding(
@@ -43,11 +30,11 @@ fn put_binding(
         (with_member (codes "bindingKind") (string (cells.binding_kind (binding_of binding.now).kind))
         (with_member (codes "binding") (string (binding_of binding.now).name) (members_view members.old.entries)))))) }
 {
-    put_word(alloc, members, "binding", binding.name)?;
-    put_word(alloc, members, "bindingKind", binding_kind(binding.kind))?;
-    put_word(alloc, members, "namespace", binding.namespace)?;
-    put_word(alloc, members, "role", binding.role.name.as_str())?;
-    put_word(alloc, members, "roleKind", binding.role.kind.as_str())
+    put_string(alloc, members, "binding", binding.name)?;
+    put_string(alloc, members, "bindingKind", binding_kind(binding.kind))?;
+    put_string(alloc, members, "namespace", binding.namespace)?;
+    put_string(alloc, members, "role", binding.role.name.as_str())?;
+    put_string(alloc, members, "roleKind", binding.role.kind.as_str())
 }
 
 /// Puts the index of a rule, and the subject.
@@ -63,8 +50,8 @@ fn put_subject(
         (with_member (codes "rule") (number (unsigned rule)) (members_view members.old.entries)))) }
 {
     put(members, alloc, "rule", Value::from(rule as u64))?;
-    put_word(alloc, members, "subject", subject_name(to))?;
-    put_word(alloc, members, "subjectKind", subject_kind(to))
+    put_string(alloc, members, "subject", subject_name(to))?;
+    put_string(alloc, members, "subjectKind", subject_kind(to))
 }
 
 fn gain_tree(alloc: Global, gain: &Gain<'_>) -> Result<Value, Memory>

@@ -1,7 +1,5 @@
 //! Questions of whom a policy allows something, as words tell them.
-ghost use Rattle.std.specs.Prelude.{◌≡◌, IfOk, map, option_map};
-ghost use Rattle.std.specs.List.{slice_split};
-ghost use Rattle.kapi_rules.specs.Points.{HasPlainResource};
+ghost use Rattle.std.specs.Prelude.{◌≡◌, IfOk, map};
 ghost use Rattle.kapi_questions.specs.Questions as asks;
 ghost use Rattle.kapi_questions.specs.Questions.{after, before, words_in};
 

@@ -1,5 +1,5 @@
 //! Tables whose columns are as wide as their longest cells.
-ghost use Rattle.std.specs.Prelude.{◌≡◌, ◌++◌, IfOk, OnOk, replicate};
+ghost use Rattle.std.specs.Prelude.{◌≡◌, ◌++◌, OnOk, replicate};
 ghost use Rattle.kapi_questions.specs.Tables as tables;
 ghost use Rattle.kapi_questions.specs.Tables.{padded, row_line, widths_of};
 

@@ -1,13 +1,11 @@
 -- What is written of a selector is read as it, with its labels in order.
 use Rattle.std.proofs.Common.{◌≡◌, ◌∙◌, List, [], ◌∷◌, refl, ap, codes}
-use Rattle.std.specs.Option.{option_and_then, unwrap_or}
+use Rattle.std.specs.Option.{unwrap_or}
 use Rattle.serde_json.specs.Data.{Members, no_members, member}
-use Rattle.serde_json.specs.Find.{get_member}
 use Rattle.kapi_tree.specs.Contents.{text_if, text_at, texts_at, items_if, items_at, read_items, write_items, members_value, put_labels, labels_in, operator_at, requirement_of, requirement_tree, selector_of, selector_tree}
 use Rattle.kapi_model.specs.Kinds.{operator_of}
 use Rattle.kapi_tree.specs.Tree.{members_or_none}
-use Rattle.kapi_tree.specs.Tree.{unless_null, member_of}
-use Rattle.kapi_model.specs.declared.selector.Label.{Label}
+use Rattle.kapi_tree.specs.Tree.{member_of}
 use Rattle.kapi_model.specs.declared.selector.Operator.TheVariants.{In}
 use Rattle.kapi_model.specs.declared.selector.Requirement.{Requirement}
 use Rattle.kapi_model.specs.declared.selector.Selector.{Selector}

@@ -1,5 +1,5 @@
 -- The first line of a script that is no event.
-use Rattle.std.proofs.Common.{◌≡◌, ℕ, ◌+◌, ◌==◌, Bool, true, false, ◌||◌, List, [], ◌∷◌, length, Option, Some, None, is_none, is_some, refl, ◌∙◌}
+use Rattle.std.proofs.Common.{◌≡◌, ℕ, ◌+◌, ◌==◌, Bool, true, false, ◌||◌, List, [], ◌∷◌, length, Option, Some, None, is_some, refl}
 use Rattle.std.specs.Prelude.{slice_index}
 use Rattle.kapi_core.specs.declared.event.Event.{Event}
 use Rattle.kapi_lines.specs.Lines.{lines_of, numbered_from, parts_of}

@@ -1,5 +1,5 @@
 -- What a core has loaded, line by line.
-use Rattle.std.proofs.Common.{◌≡◌, ℕ, suc, ◌+◌, Bool, true, false, List, [], ◌∷◌, Option, None, Some, Result, Ok, Err, is_some, is_err, map, refl, sym, ap, ◌∙◌, subst, add-one, drop, drop-cons, get_or, length, ◌<◌, ◌≤◌}
+use Rattle.std.proofs.Common.{◌≡◌, ℕ, suc, ◌+◌, true, false, List, ◌∷◌, Option, None, Some, Result, Ok, Err, is_some, is_err, map, refl, sym, ap, ◌∙◌, subst, add-one, drop, drop-cons, get_or, length, ◌<◌, ◌≤◌}
 use Rattle.std.proofs.lemmas.List.{drop_all}
 use Rattle.kapi_text.specs.Gives.{Fails, ◌>>=◌}
 use Rattle.kapi_answer.specs.Load.{LoadFault, fault_told, loads}
@@ -9,10 +9,10 @@ use Rattle.kapi_core.specs.Opening.{opening}
 use Rattle.kapi_core.specs.ProgramTable.{program_rows}
 use Rattle.kapi_core.specs.Refines.{Loads, Refines}
 use Rattle.kapi_core.specs.Running.{Running}
-use Rattle.kapi_lines.specs.Lines.{NumberedLine, line_of, lines_of}
+use Rattle.kapi_lines.specs.Lines.{line_of, lines_of}
 use Rattle.kapi_lines.specs.declared.line.Line.{Line}
-use Rattle.kapi_loading.specs.Faults.{FileFault, bad_line}
-use Rattle.kapi_loading.specs.Loading.{loaded, machine_from, made_by, made_of, turned}
+use Rattle.kapi_loading.specs.Faults.{FileFault}
+use Rattle.kapi_loading.specs.Loading.{loaded, machine_from, made_by, turned}
 use Rattle.kapi_policy.specs.declared.change.PolicyChange.{PolicyChange}
 
 -- of lines those from a place on are still to be loaded

@@ -1,6 +1,5 @@
 -- What a script's answers say of its case.
 use Rattle.std.proofs.Common.{◌≡◌, ℕ, Bool, true, false, ◌&&◌, List, [], ◌∷◌, ◌++◌, Option, Some, None, Result, Ok, Err, IfOk, refl, sym, ap, subst, ◌∙◌, length, append-nil, append_assoc}
-use Rattle.std.specs.Io.KnownBytes.{Appends}
 use Rattle.kapi_core.specs.Machine.{Machine, with_rechecks}
 use Rattle.kapi_lines.proofs.Appending.{appends_nothing}
 use Rattle.kapi_replay.specs.Failures.{Fails, FailsAs, FailsBy, FailsOn, IsBadLine, IsNotLoaded, differences, number_at, script_text}

@@ -1,6 +1,5 @@
 //! Transcripts, played one after the other.
 ghost use Rattle.std.specs.Prelude.{◌≡◌, ◌&&◌, ◌++◌, IfOk, OnOk};
-ghost use Rattle.std.specs.Io.KnownBytes.{Appends};
 ghost use Rattle.kapi_replay.specs.Outcomes as comes;
 ghost use Rattle.kapi_replay.specs.Outcomes.{AreFailures, IsOutcome, IsReplayed, wanted_in};
 ghost use Rattle.kapi_replay.specs.Reports.{is_well as is_well_of};

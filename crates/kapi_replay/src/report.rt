@@ -1,8 +1,7 @@
 //! The report of a transcript.
 ghost use Rattle.std.specs.Prelude.{◌≡◌, ◌++◌, IfOk, OnOk, option_map};
-ghost use Rattle.std.specs.List.{flat_map};
 ghost use Rattle.kapi_replay.specs.Reports as reports;
-ghost use Rattle.kapi_replay.specs.Reports.{came_for as came_for_of, failures_text, report_text, rewritten, rewritten_from, rewritten_line};
+ghost use Rattle.kapi_replay.specs.Reports.{came_for as came_for_of, failures_text, report_text, rewritten, rewritten_line};
 
 use crate::failure::{Failure, Outcome};
 use kapi_lines::{nth, split_lines};

@@ -1,11 +1,9 @@
 //! The table of refusals: the whole failure of each.
-ghost use Rattle.std.specs.Prelude.{◌≡◌, [], ◌∷◌, ◌++◌, codes, map as map_of, string_bytes, IfOk};
+ghost use Rattle.std.specs.Prelude.{◌≡◌, [], ◌++◌, codes, map as map_of, string_bytes, IfOk};
 ghost use Rattle.std.specs.Option.{option_map};
 ghost use Rattle.serde_json.specs.View.{view};
 ghost use Rattle.kapi_reply.specs.Refusals as table;
-ghost use Rattle.kapi_reply.specs.Refusals.{denied_text, escalation_text, fault_failure, word_text};
-ghost use Rattle.kapi_reply.specs.Status as status_object;
-ghost use Rattle.kapi_reply.specs.Status.{invalid_field};
+ghost use Rattle.kapi_reply.specs.Refusals.{denied_text, escalation_text, fault_failure};
 ghost use Rattle.kapi_reply.specs.Views.{asked_data, failure_data, subject_data};
 
 use crate::refusal::{NamedRole, OldRevision, Refusal, Revisions, Sought};

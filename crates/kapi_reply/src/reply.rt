@@ -1,5 +1,5 @@
 //! Replies with JSON bodies, and the replies to refused requests.
-ghost use Rattle.std.specs.Prelude.{◌≡◌, [], false, Some, map as map_of, IfOk};
+ghost use Rattle.std.specs.Prelude.{◌≡◌, false, Some, map as map_of, IfOk};
 ghost use Rattle.std.specs.Option.{option_map};
 ghost use Rattle.serde_json.specs.View.{items_of, view};
 ghost use Rattle.serde_json.specs.Written.{compact_text, items_have_float};

@@ -12,7 +12,7 @@ use kapi_http::{Method, StatusCode};
 use kapi_model::FieldFault;
 use kapi_rules::{Atom, Names, Point, ResourceAtom};
 use kapi_text::Memory;
-use kapi_tree::tree_form::text_value;
+use kapi_tree::tree_form::{put_string, text_value};
 use serde_json::{Map, Value, put};
 use std::alloc::Global;
 
@@ -59,7 +59,7 @@ fn put_code(map: &mut Map<String, Value>, alloc: Global, code: StatusCode) -> Re
         with_member (codes "code") (number (unsigned (status_number code)))
         (with_text (codes "apiVersion") (codes "v1") (members_view map.old.entries))) }
 {
-    put_text(map, alloc, "apiVersion", "v1")?;
+    put_string(alloc, map, "apiVersion", "v1")?;
     put(map, alloc, "code", Value::from(code.number()))
 }
 
@@ -92,11 +92,11 @@ fn put_words(
         (with_text (codes "message") message.now
         (with_text (codes "kind") (codes "Status") (members_view map.old.entries)))))) }
 {
-    put_text(map, alloc, "kind", "Status")?;
-    put_text(map, alloc, "message", message)?;
+    put_string(alloc, map, "kind", "Status")?;
+    put_string(alloc, map, "message", message)?;
     put_metadata(map, alloc)?;
     put_some_text(map, alloc, "reason", reason)?;
-    put_text(map, alloc, "status", "Failure")
+    put_string(alloc, map, "status", "Failure")
 }
 
 /// Puts the metadata of a Status object, which are empty.
@@ -113,7 +113,7 @@ pub fn deletion_status(alloc: Global, subject: Subject<'_>, uid: &str) -> Result
     ensures { IfOk result (λ v. view v ≡ deleted_status (subject_data subject.entry) uid.now) }
 {
     let mut status = Map::new(alloc);
-    put_text(&mut status, alloc, "apiVersion", "v1")?;
+    put_string(alloc, &mut status, "apiVersion", "v1")?;
     put_deletion(&mut status, alloc, subject, uid)?;
     put_success(&mut status, alloc)?;
     Ok(Value::Object(status))
@@ -129,7 +129,7 @@ fn deletion_details(
 {
     let mut details = Map::new(alloc);
     put_subject(&mut details, alloc, Some(subject))?;
-    put_text(&mut details, alloc, "uid", uid)?;
+    put_string(alloc, &mut details, "uid", uid)?;
     Ok(details)
 }
 
@@ -154,9 +154,9 @@ fn put_success(map: &mut Map<String, Value>, alloc: Global) -> Result<(), Memory
         (with_member (codes "metadata") (object no_members)
         (with_text (codes "kind") (codes "Status") (members_view map.old.entries)))) }
 {
-    put_text(map, alloc, "kind", "Status")?;
+    put_string(alloc, map, "kind", "Status")?;
     put_metadata(map, alloc)?;
-    put_text(map, alloc, "status", "Success")
+    put_string(alloc, map, "status", "Success")
 }
 
 #[tactic(auto, using(crate::proofs::Members::no_members_in), unfolding(crate::specs::Status::with_some_object))]
@@ -218,22 +218,6 @@ fn put_subject(
     }
 }
 
-fn put_text(
-    map: &mut Map<String, Value>,
-    alloc: Global,
-    key: &str,
-    text: &str,
-) -> Result<(), Memory>
-    ensures { OnOk result (members_view map.new.entries ≡ with_text key.now text.now (members_view map.old.entries)) }
-{
-    put(
-        map,
-        alloc,
-        key,
-        Value::String(String::from_str(alloc, text)?),
-    )
-}
-
 #[tactic(auto, unfolding(crate::specs::Status::with_some_text))]
 fn put_some_text(
     map: &mut Map<String, Value>,
@@ -246,7 +230,7 @@ fn put_some_text(
     if text.is_empty() {
         Ok(())
     } else {
-        put_text(map, alloc, key, text)
+        put_string(alloc, map, key, text)
     }
 }
 
@@ -269,8 +253,8 @@ fn missing(alloc: Global, parts: &str) -> Result<Value, Memory>
     ensures { IfOk result (λ v. view v ≡ status_object.missing parts.now) }
 {
     let mut cause = Map::new(alloc);
-    put_text(&mut cause, alloc, "message", parts)?;
-    put_text(&mut cause, alloc, "reason", "MissingPermission")?;
+    put_string(alloc, &mut cause, "message", parts)?;
+    put_string(alloc, &mut cause, "reason", "MissingPermission")?;
     Ok(Value::Object(cause))
 }
 
@@ -372,9 +356,9 @@ fn field_cause(alloc: Global, field: &str, words: &str) -> Result<Value, Memory>
     ensures { IfOk result (λ v. view v ≡ status_object.field_cause field.now words.now) }
 {
     let mut cause = Map::new(alloc);
-    put_text(&mut cause, alloc, "field", field)?;
-    put_text(&mut cause, alloc, "message", words)?;
-    put_text(&mut cause, alloc, "reason", "FieldValueInvalid")?;
+    put_string(alloc, &mut cause, "field", field)?;
+    put_string(alloc, &mut cause, "message", words)?;
+    put_string(alloc, &mut cause, "reason", "FieldValueInvalid")?;
     Ok(Value::Object(cause))
 }
 

@@ -1,6 +1,6 @@
 -- The attributes of a request, from its method and target (Kubernetes, 'Authorization Overview', request attributes and
 -- verbs).
-use Rattle.std.specs.Prelude.{ℕ, List, Result, Ok, Err}
+use Rattle.std.specs.Prelude.{ℕ, List, Result}
 use Rattle.kapi_http.specs.declared.message.Method.{Method}
 use Rattle.kapi_request_info.specs.declared.attributes.Attributes.{Attributes}
 use Rattle.kapi_text.specs.Gives.{◌>>=◌}

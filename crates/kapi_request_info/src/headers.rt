@@ -1,5 +1,5 @@
 //! The impersonation that the header fields of a request name (Kubernetes, 'Authenticating', 'User impersonation').
-ghost use Rattle.std.specs.Prelude.{◌≡◌, ◌++◌};
+ghost use Rattle.std.specs.Prelude.{◌≡◌};
 ghost use Rattle.std.specs.List.{list_any};
 ghost use Rattle.kapi_text.specs.Gives.{Gives};
 ghost use Rattle.kapi_request_info.specs.Fields.{is_named as is_named_by};

@@ -1,5 +1,5 @@
 //! What the segments of a path are about (Kubernetes, 'Authorization Overview', request attributes and verbs).
-ghost use Rattle.std.specs.Prelude.{◌≡◌, IfOk, string_bytes, flat_map, take, [], ◌∷◌};
+ghost use Rattle.std.specs.Prelude.{◌≡◌, IfOk, string_bytes, flat_map, ◌∷◌};
 ghost use Rattle.kapi_text.specs.Gives.{Gives};
 ghost use Rattle.kapi_request_info.specs.Faults.{fault_of};
 ghost use Rattle.kapi_request_info.specs.Given.{GivesInfo};

@@ -14,7 +14,7 @@ use kapi_model::Identity;
 use kapi_policy::Decision;
 use kapi_rules::{Point, ResourcePoint, UrlPoint};
 use kapi_text::Memory;
-use kapi_tree::tree_form::{put_text, put_texts, text_value};
+use kapi_tree::tree_form::{put_string, put_text, put_texts};
 use serde_json::{Map, Value, put};
 use std::alloc::Global;
 
@@ -130,12 +130,7 @@ pub fn decision_tree(alloc: Global, decision: &Decision<'_>) -> Result<Value, Me
         Value::Bool(decision.is_allowed()),
     )?;
     if let Some(reason) = reason(alloc, decision)? {
-        put(
-            &mut members,
-            alloc,
-            "reason",
-            text_value(alloc, reason.as_str())?,
-        )?;
+        put_string(alloc, &mut members, "reason", reason.as_str())?;
     }
     Ok(Value::Object(members))
 }
@@ -155,26 +150,14 @@ fn metadata_members(
     Ok(members)
 }
 
-/// Puts a text at a key, also where it is empty.
-fn put_word(
-    alloc: Global,
-    members: &mut Map<String, Value>,
-    key: &str,
-    text: &str,
-) -> Result<(), Memory>
-    ensures { OnOk result (members_view members.new.entries ≡ with_member key.now (string text.now) (members_view members.old.entries)) }
-{
-    put(members, alloc, key, text_value(alloc, text)?)
-}
-
 /// Puts the version and the kind of a review.
 fn put_kind(alloc: Global, members: &mut Map<String, Value>, kind: ReviewKind) -> Result<(), Memory>
     ensures { OnOk result (members_view members.new.entries ≡
         with_member (codes "kind") (string (kind_text kind))
         (with_member (codes "apiVersion") (string (codes "authorization.k8s.io/v1")) (members_view members.old.entries))) }
 {
-    put_word(alloc, members, "apiVersion", "authorization.k8s.io/v1")?;
-    put_word(alloc, members, "kind", kind.as_str())
+    put_string(alloc, members, "apiVersion", "authorization.k8s.io/v1")?;
+    put_string(alloc, members, "kind", kind.as_str())
 }
 
 /// The version, the kind and the metadata of a review.

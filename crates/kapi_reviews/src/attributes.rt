@@ -1,6 +1,5 @@
 //! What the attributes of a review specify.
-ghost use Rattle.std.specs.Prelude.{◌≡◌, option_map};
-ghost use Rattle.std.specs.List.{after_first, before_first};
+ghost use Rattle.std.specs.Prelude.{◌≡◌};
 ghost use Rattle.serde_json.specs.View.{view};
 ghost use Rattle.kapi_tree.specs.Tree.{member_of};
 ghost use Rattle.kapi_reviews.specs.Attributes as told;

@@ -1,17 +1,16 @@
 //! What is wrong with a review, in the order of its members.
-ghost use Rattle.std.specs.Prelude.{◌≡◌, ◌++◌, ◌∷◌, [], codes, IfOk, OnOk};
+ghost use Rattle.std.specs.Prelude.{◌≡◌, ◌++◌, codes, IfOk, OnOk};
 ghost use Rattle.serde_json.specs.View.{view};
-ghost use Rattle.kapi_model.specs.FaultKind.{fault};
 ghost use Rattle.kapi_tree.specs.Tree.{member_of};
 ghost use Rattle.kapi_reviews.specs.Faults as wrong;
 
 use crate::attributes::{has, is_right_namespace, is_right_resource, is_right_subresource};
 use crate::kind::ReviewKind;
-use kapi_admission::collect_faults;
 use kapi_admission::text_rule::{TextRule, push_text_faults_at};
 use kapi_admission::typed_list::{Need, is_given, push_list_faults_at};
+use kapi_admission::{collect_faults, push_fault};
 use kapi_model::{FaultKind, FieldFault, Schema};
-use kapi_text::{Memory, Text};
+use kapi_text::Memory;
 use kapi_tree::member;
 use kapi_tree::tree::member_of_metadata;
 use serde_json::Value;
@@ -22,20 +21,6 @@ const RESOURCE: &str = "spec.resourceAttributes";
 
 /// The path of the attributes of a URL.
 const URL: &str = "spec.nonResourceAttributes";
-
-/// Adds a fault.
-fn push_fault(
-    alloc: Global,
-    faults: &mut Vec<FieldFault>,
-    field: &str,
-    cause: FaultKind,
-) -> Result<(), Memory>
-    ensures { OnOk result (faults.new.items ≡ faults.old.items ++ fault field.now cause ∷ []) }
-{
-    let field = Text::copy_of(alloc, field)?;
-    faults.push(FieldFault { field, cause })?;
-    Ok(())
-}
 
 /// Adds a fault where a key has another value than a text, or a text that was not found right.
 #[tactic(auto, unfolding(crate::specs::Faults::judged_faults))]

@@ -1,5 +1,5 @@
 //! Why a point is allowed, in words.
-ghost use Rattle.std.specs.Prelude.{◌≡◌, ◌++◌, IfOk, OnOk, codes, decimal, option_map, string_bytes};
+ghost use Rattle.std.specs.Prelude.{◌≡◌, ◌++◌, IfOk, OnOk, codes, decimal, string_bytes};
 ghost use Rattle.kapi_policy.specs.Views.{decision_of, granted_of};
 ghost use Rattle.kapi_reviews.specs.Answers as written;
 

@@ -163,7 +163,8 @@ fn push_named(
     Ok(())
 }
 
-fn resource_atom(
+/// The atom of a verb on a resource of a group, of these names.
+pub fn resource_atom(
     alloc: Global,
     verb: &Text,
     group: &Text,

@@ -61,8 +61,8 @@ fn is_rest(subresource: &[u8], covered: &[u8]) -> bool
     }
 }
 
-// The text behind the first slash, if there is one.
-fn after_slash(text: &[u8]) -> Option<&[u8]>
+/// The text behind the first slash, if there is one.
+pub fn after_slash(text: &[u8]) -> Option<&[u8]>
     ensures { option_copied result ≡ behind_slash text.now }
 {
     let mut rest = text;

@@ -98,9 +98,9 @@ fn beginning_matches(entry: &[u8], path: &[u8]) -> bool
     entry.ends_with(b"*") && path.starts_with(without_stars(entry))
 }
 
-// The text without the stars at its end.
+/// The text without the stars at its end.
 #[tactic(auto, using(crate::proofs::Texts::without_stars_append))]
-fn without_stars(text: &[u8]) -> &[u8]
+pub fn without_stars(text: &[u8]) -> &[u8]
     ensures { result.now ≡ without_last_stars text.now }
 {
     let mut front = text;

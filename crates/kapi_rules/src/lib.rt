@@ -8,8 +8,10 @@ pub mod laws;
 mod point;
 mod rule;
 
-pub use atom::{Atom, Names, ResourceAtom, UrlAtom, atoms};
-pub use covering::{implies, resource_covers, some_name_covers, some_resource_covers};
-pub use entries::{is_listed, some_url_matches, some_word_matches, url_matches, word_matches};
+pub use atom::{Atom, Names, ResourceAtom, UrlAtom, atoms, resource_atom};
+pub use covering::{after_slash, implies, resource_covers, some_name_covers, some_resource_covers};
+pub use entries::{
+    is_listed, some_url_matches, some_word_matches, url_matches, without_stars, word_matches,
+};
 pub use point::{Point, ResourcePoint, UrlPoint};
 pub use rule::allows;

@@ -1,8 +1,8 @@
-ghost use Rattle.std.specs.Prelude.{◌≡◌, ◌+◌, ◌<◌, ◌≤◌, ◌++◌, [], ◌∷◌, Bool, List, ℕ, None, Some, Err, OnOk, IfOk, IfErr, IfSome, length, take};
+ghost use Rattle.std.specs.Prelude.{◌≡◌, ◌+◌, ◌<◌, ◌≤◌, ◌++◌, [], ◌∷◌, Bool, List, ℕ, None, Some, Err, OnOk, IfOk, IfErr, length, take};
 ghost use Rattle.kapi_script.specs.declared.script.ScriptFault.TheVariants as Fault;
 ghost use Rattle.std.specs.Io.KnownBytes.{Appends, Consumes, IsAtEnd};
 ghost use Rattle.kapi_core.specs.Machine.{Machine};
-ghost use Rattle.kapi_core.specs.Refines.{Keeps, Refines, Steps};
+ghost use Rattle.kapi_core.specs.Refines.{Refines};
 ghost use Rattle.kapi_script.specs.Private.Playing.{is_bad_play, Ends, Goes, Play, Plays, ReachedBy, Reading, ReadsOn, played_text};
 ghost use Rattle.kapi_policy.specs.Objects.{no_objects};
 ghost use Rattle.kapi_script.specs.Gains.{NobodyGainsFrom};

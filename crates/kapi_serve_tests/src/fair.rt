@@ -1,10 +1,7 @@
 //! A client that has sent many requests beside one that has sent one.
-ghost use Rattle.std.specs.Prelude.{◌≡◌};
 
-use crate::fixture::{core, desk, master};
-use kapi_serve::{PortEvent, PortFault, Ports, Sockets, serve_loop};
-use std::io::Write;
-use std::net::{Ipv4Addr, SocketAddr, TcpStream};
+use crate::fixture::{client, master, serve};
+use kapi_serve::{PortEvent, PortFault, Ports, Sockets};
 use std::test::Fail;
 use std::time::Clock;
 
@@ -54,21 +51,15 @@ fn a_client_is_answered_after_two_shares_of_another_at_most(rt: HostRuntime) -> 
     let alloc = rt.alloc();
     let mut sockets = Sockets::new(alloc, &rt, &rt)?;
     let port = sockets.listen(&rt, 0, master(alloc)?)?;
-    let address = SocketAddr::from((Ipv4Addr::LOCALHOST, port));
-    let mut greedy = TcpStream::connect(&rt, address)?;
-    greedy.write_all(GET.repeat(alloc, 500)?.as_bytes())?;
-    let mut other = TcpStream::connect(&rt, address)?;
-    other.write_all(GET.as_bytes())?;
-    let mut core = core(alloc)?;
-    let (mut desk, seats) = desk(alloc, &rt)?;
+    let many = GET.repeat(alloc, 500)?;
+    let _greedy = client(&rt, port, many.as_bytes())?;
+    let _other = client(&rt, port, GET.as_bytes())?;
     let mut ports = UntilSecond {
         sockets,
         read: 0,
         over: false,
     };
-    serve_loop(&rt, &mut core, &mut desk, &mut ports);
-    drop(seats);
-    drop(desk.close(&rt));
+    serve(alloc, &rt, &mut ports)?;
     assert!(rt; 0 < ports.read && ports.read <= 4_096);
     Ok(())
 }

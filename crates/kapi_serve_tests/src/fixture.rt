@@ -7,6 +7,8 @@ use kapi_model::Identity;
 use kapi_serve::{Ports, serve_loop};
 use kapi_text::{Sequence, Text};
 use std::alloc::{AllocError, Global};
+use std::io::{self, Write};
+use std::net::{Ipv4Addr, Net, SocketAddr, TcpListener, TcpStream};
 use std::sync::Wait;
 
 /// A request that creates the ConfigMap `a`.
@@ -53,12 +55,12 @@ pub fn master(alloc: Global) -> Result<Identity, AllocError> {
     identity(alloc, "root", "system:masters")
 }
 
-pub fn core(alloc: Global) -> Result<Core<IndexedPolicy>, AllocError> {
+fn core(alloc: Global) -> Result<Core<IndexedPolicy>, AllocError> {
     Core::new(alloc, program_table(alloc)?, IndexedPolicy::new(alloc), 0)
 }
 
 /// A desk with one seat.
-pub fn desk<R: Wait>(alloc: Global, rt: &R) -> Result<(Desk, Vec<Seat>), AllocError>
+fn desk<R: Wait>(alloc: Global, rt: &R) -> Result<(Desk, Vec<Seat>), AllocError>
     ensures { IfOk result (λ r. r.0.waiting ≡ []) }
 {
     Desk::new(alloc, rt, IndexedPolicy::new(alloc), 1)
@@ -80,4 +82,15 @@ pub fn serve<R: Wait, P: Ports>(alloc: Global, rt: &R, ports: &mut P) -> Result<
     drop(seats);
     drop(desk.close(rt));
     Ok(())
+}
+
+/// A client of a port of this machine that has sent those bytes.
+pub fn client<R: Net<Listener = TcpListener, Stream = TcpStream>>(
+    rt: &R,
+    port: u16,
+    bytes: &[u8],
+) -> io::Result<TcpStream> {
+    let mut stream = TcpStream::connect(rt, SocketAddr::from((Ipv4Addr::LOCALHOST, port)))?;
+    stream.write_all(bytes)?;
+    Ok(stream)
 }

@@ -1,9 +1,6 @@
-ghost use Rattle.std.specs.Prelude.{◌≡◌};
-
-use crate::fixture::{CREATE, CREATED, core, desk, master};
-use kapi_serve::{PortEvent, PortFault, Ports, Sockets, serve_loop};
-use std::io::{Read, Write};
-use std::net::{Ipv4Addr, SocketAddr, TcpStream};
+use crate::fixture::{CREATE, CREATED, client, master, serve};
+use kapi_serve::{PortEvent, PortFault, Ports, Sockets};
+use std::io::Read;
 use std::sync::atomic::{AtomicBool, Ordering};
 use std::test::Fail;
 use std::time::Clock;
@@ -57,15 +54,10 @@ fn a_client_of_127_0_0_1_is_answered(rt: HostRuntime) -> Result<(), Fail> {
     let alloc = rt.alloc();
     let mut sockets = Sockets::new(alloc, &rt, &rt)?;
     let port = sockets.listen(&rt, 0, master(alloc)?)?;
-    let mut client = TcpStream::connect(&rt, SocketAddr::from((Ipv4Addr::LOCALHOST, port)))?;
-    client.write_all(CREATE)?;
-    let mut core = core(alloc)?;
-    let (mut desk, seats) = desk(alloc, &rt)?;
+    let mut client = client(&rt, port, CREATE)?;
     let over = AtomicBool::new(true);
     let mut ports = UntilIdle::new(sockets, &over, 3);
-    serve_loop(&rt, &mut core, &mut desk, &mut ports);
-    drop(seats);
-    drop(desk.close(&rt));
+    serve(alloc, &rt, &mut ports)?;
     let mut got = [0u8; 1024];
     let count = client.read(&mut got)?;
     assert_eq!(rt; &got[..count], CREATED);

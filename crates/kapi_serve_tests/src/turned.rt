@@ -43,24 +43,61 @@ fn event(alloc: Global, object: String, change: &str) -> Result<String, AllocErr
     format!(in alloc; "{length:x}\r\n{text}\r\n")
 }
 
+fn push_sum(
+    alloc: Global,
+    text: &mut String,
+    revision: u64,
+    rules: &str,
+    change: &str,
+) -> Result<(), AllocError> {
+    let event = event(alloc, sum(alloc, revision, rules)?, change)?;
+    text.push_str(event.as_str())
+}
+
+fn push_part(
+    alloc: Global,
+    text: &mut String,
+    revision: u64,
+    change: &str,
+) -> Result<(), AllocError> {
+    let event = event(alloc, part(alloc, revision)?, change)?;
+    text.push_str(event.as_str())
+}
+
 /// The events that the watcher gets: the turns are among the changes.
 fn shown(alloc: Global) -> Result<String, AllocError> {
     let mut text = String::from_str(alloc, WATCHED)?;
-    text.push_str(event(alloc, sum(alloc, 6, "[]")?, "ADDED")?.as_str())?;
-    text.push_str(event(alloc, part(alloc, 7)?, "ADDED")?.as_str())?;
-    text.push_str(event(alloc, sum(alloc, 8, RULES)?, "MODIFIED")?.as_str())?;
-    text.push_str(event(alloc, part(alloc, 9)?, "DELETED")?.as_str())?;
-    text.push_str(event(alloc, sum(alloc, 10, "[]")?, "MODIFIED")?.as_str())?;
+    push_sum(alloc, &mut text, 6, "[]", "ADDED")?;
+    push_part(alloc, &mut text, 7, "ADDED")?;
+    push_sum(alloc, &mut text, 8, RULES, "MODIFIED")?;
+    push_part(alloc, &mut text, 9, "DELETED")?;
+    push_sum(alloc, &mut text, 10, "[]", "MODIFIED")?;
     Ok(text)
+}
+
+fn push_reply(
+    alloc: Global,
+    text: &mut String,
+    status: &str,
+    object: &str,
+) -> Result<(), AllocError> {
+    let reply = reply(alloc, status, object)?;
+    text.push_str(reply.as_str())
 }
 
 /// The replies to the writer: the turn was made when the writer asks.
 fn replied(alloc: Global) -> Result<String, AllocError> {
-    let mut text = reply(alloc, "201 Created", sum(alloc, 6, "[]")?.as_str())?;
-    text.push_str(reply(alloc, "201 Created", part(alloc, 7)?.as_str())?.as_str())?;
-    text.push_str(reply(alloc, "200 OK", sum(alloc, 8, RULES)?.as_str())?.as_str())?;
-    text.push_str(reply(alloc, "200 OK", DELETED)?.as_str())?;
-    text.push_str(reply(alloc, "200 OK", sum(alloc, 10, "[]")?.as_str())?.as_str())?;
+    let mut text = String::new(alloc);
+    push_reply(
+        alloc,
+        &mut text,
+        "201 Created",
+        sum(alloc, 6, "[]")?.as_str(),
+    )?;
+    push_reply(alloc, &mut text, "201 Created", part(alloc, 7)?.as_str())?;
+    push_reply(alloc, &mut text, "200 OK", sum(alloc, 8, RULES)?.as_str())?;
+    push_reply(alloc, &mut text, "200 OK", DELETED)?;
+    push_reply(alloc, &mut text, "200 OK", sum(alloc, 10, "[]")?.as_str())?;
     Ok(text)
 }
 

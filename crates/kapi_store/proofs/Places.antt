@@ -1,5 +1,5 @@
 -- Free places, and places of objects that were found.
-use Rattle.std.proofs.Common.{◌≡◌, Bool, true, false, List, Option, None, Some, Result, Ok, Err, IsSome, option_map, is_some, if◌then◌else◌, ok_or, sym, refl, ◌∙◌}
+use Rattle.std.proofs.Common.{◌≡◌, Bool, true, false, List, Option, None, Some, Result, Ok, Err, IsSome, option_map, if◌then◌else◌, ok_or, sym, refl, ◌∙◌}
 use Rattle.std.specs.Map.{keys_of, lookup}
 use Rattle.std.specs.List.Sorted.{IsStrictlySortedBy}
 use Rattle.serde_json.specs.Data.{Data}

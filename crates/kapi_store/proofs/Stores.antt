@@ -1,18 +1,16 @@
 -- What holds of every store, from one change to the next, and the model that it refines.
-use Rattle.std.proofs.Common.{◌≡◌, ℕ, suc, ◌+◌, ◌-◌, ◌≤◌, ◌<◌, min, max, Ok, Err, List, [], ◌∷◌, ◌++◌, Option, None, IsSome, length, map, drop, refl, sym, ap, ◌∙◌, subst, arith, append_assoc}
+use Rattle.std.proofs.Common.{◌≡◌, ℕ, suc, ◌+◌, ◌-◌, ◌≤◌, ◌<◌, min, max, Ok, Err, List, [], ◌∷◌, ◌++◌, IsSome, length, map, drop, refl, sym, ap, ◌∙◌, subst, arith}
 use Rattle.std.specs.Prelude.{nat_lt}
 use Rattle.std.specs.List.{filter}
 use Rattle.std.specs.List.Sorted.{IsStrictlySortedBy}
 use Rattle.std.proofs.lemmas.Bool.{lt-ltb, le-ltb}
 use Rattle.std.specs.Map.{keys_of, lookup}
 use Rattle.std.proofs.lemmas.List.{map-append, length-append, length-map, length-drop}
-use Rattle.kapi_tree.specs.declared.object.Object.{Object}
 use Rattle.kapi_model.specs.declared.row.ResourceRow.{ResourceRow}
 use Rattle.kapi_store.specs.declared.change.Change.{Change}
-use Rattle.kapi_store.specs.declared.key.Key.{Key}
 use Rattle.kapi_store.specs.Limits.{last_revision, window_limit}
 use Rattle.kapi_store.specs.Keys.{key_cmp, is_key}
-use Rattle.kapi_store.specs.Changes.{placed, placed_all, left_by, last_of, Follow, revision_of, AreRemovals}
+use Rattle.kapi_store.specs.Changes.{placed_all, left_by, last_of, Follow, revision_of, AreRemovals}
 use Rattle.kapi_store.specs.State.{State, objects, live, IsSpare, HasSlot, Same, Fits, IsStore}
 use Rattle.kapi_store.specs.Plain.{Plain, PlainChange, RefinesPlain, plain_of, plain_change, changes_after, opened, written, trees, trees_left_by}
 use Rattle.kapi_store.proofs.Keys.{key_total}

@@ -12,7 +12,7 @@ use Rattle.kapi_store.proofs.Trees.{lookup_trees}
 use Rattle.kapi_tree.specs.declared.object.Object.{Object}
 use Rattle.kapi_store.specs.declared.key.Key.{Key}
 use Rattle.kapi_store.specs.declared.change.Change.{Change}
-use Rattle.kapi_store.specs.Changes.{placed, placed_all, left_by, AreRemovals, IsStep, IsWrite}
+use Rattle.kapi_store.specs.Changes.{placed, placed_all, AreRemovals, IsStep, IsWrite}
 use Rattle.kapi_store.specs.State.{HasSlot}
 
 pub placed_all_append : {X : Type 0} (vs ws : List (Key × Option X)) (os : List (Key × X)) → placed_all (vs ++ ws) os ≡ placed_all ws (placed_all vs os)

@@ -1,15 +1,13 @@
 -- The model of the store: a map of trees and a counter; what each call makes of them, beside the list of all changes
 -- ever.
-use Rattle.std.specs.Prelude.{◌≡◌, ℕ, ◌+◌, ◌-◌, max, nat_lt, nat_le, Bool, true, false, not, ◌&&◌, if◌then◌else◌, List, [], ◌∷◌, ◌++◌, Option, None, Some, map, length, Result, Ok, Err, codes, ok_or, unwrap_or, option_map, option_and_then, is_some}
+use Rattle.std.specs.Prelude.{◌≡◌, ℕ, ◌+◌, ◌-◌, max, nat_lt, nat_le, Bool, true, false, not, ◌&&◌, if◌then◌else◌, List, [], ◌∷◌, Option, None, Some, map, length, Result, Ok, Err, codes, ok_or, option_map, is_some}
 use Rattle.std.specs.List.{filter, list_any, list_all}
 use Rattle.std.specs.Str.{bytes_eq}
 use Rattle.std.specs.Map.{lookup}
 use Rattle.serde_json.specs.Data.{Data}
-use Rattle.serde_json.specs.Find.{as_str}
 use Rattle.kapi_text.specs.Gives.{◌>>=◌}
 use Rattle.kapi_tree.specs.Given.{given_of}
 use Rattle.kapi_tree.specs.Object.{tree_of}
-use Rattle.kapi_tree.specs.Tree.{in_metadata}
 use Rattle.kapi_tree.specs.declared.given.GivenText.{GivenText}
 use Rattle.kapi_tree.specs.declared.given.GivenText.TheVariants as given
 use Rattle.kapi_tree.specs.declared.object.Object.{Object}

@@ -18,7 +18,7 @@ mod worked;
 pub use change::{Change, Shared};
 pub use error::{StoreError, TooOld};
 pub use key::Key;
-pub use listing::Listed;
+pub use listing::{Listed, is_asked};
 pub use ready::Ready;
 pub use store::{LAST_REVISION, Store};
 pub use window::{Changes, WINDOW};

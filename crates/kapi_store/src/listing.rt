@@ -32,7 +32,7 @@ pub(crate) struct Selection<'a> {
 }
 
 /// Whether a text is the one that is asked for; where an empty text is asked for, any text is.
-fn is_asked(asked: &str, text: &Text) -> bool
+pub fn is_asked(asked: &str, text: &Text) -> bool
     ensures { result ≡ is_asked_of asked.now text.now }
 {
     asked.is_empty() || asked == text.as_str()

@@ -63,7 +63,7 @@ impl Model for Store {
 }
 
 impl Store {
-    ghost use Rattle.std.specs.Prelude.{◌≡◌, ◌+◌, ◌-◌, ◌≤◌, ◌<◌, max, nat_lt, ◌↔◌, List, [], ◌∷◌, ◌++◌, map, length, Some, IfOk, OnOk, IsErr, IsSome, option_copied, option_map};
+    ghost use Rattle.std.specs.Prelude.{◌≡◌, ◌+◌, ◌-◌, ◌≤◌, ◌<◌, max, nat_lt, ◌↔◌, List, [], ◌∷◌, ◌++◌, map, length, Some, IfOk, OnOk, IsErr, option_copied, option_map};
     ghost use Rattle.std.specs.List.{filter, list_all, list_any, IsDistinct};
     ghost use Rattle.std.specs.Map.{lookup, keys_of};
     ghost use Rattle.serde_json.specs.Data.{Data};

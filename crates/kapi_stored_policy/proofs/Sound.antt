@@ -1,5 +1,5 @@
 -- A write of the store leaves no role and no binding with faults where there was none.
-use Rattle.std.proofs.Common.{◌≡◌, ◌∙◌, ℕ, ◌+◌, List, [], ◌∷◌, Bool, true, false, cond, Option, Some, None, Result, Ok, Err, IfOk, decimal, map, refl, sym, ap, subst, if◌then◌else◌, length, ◌==◌}
+use Rattle.std.proofs.Common.{◌≡◌, ◌∙◌, ℕ, ◌+◌, List, [], ◌∷◌, Bool, true, false, cond, Option, Some, None, Result, Ok, Err, IfOk, decimal, refl, sym, ap, subst, if◌then◌else◌, length}
 use Rattle.std.specs.BTreeMap.{insert_entry}
 use Rattle.std.specs.Map.{lookup, remove_entry}
 use Rattle.std.specs.Ordering.{is_eq, match_ordering}
@@ -7,7 +7,6 @@ use Rattle.std.specs.declared.cmp.Ordering.{Ordering}
 use Rattle.std.specs.declared.cmp.Ordering.TheVariants.{Less, Equal, Greater}
 use Rattle.serde_json.specs.Data.{Data}
 use Rattle.kapi_text.specs.Gives.{◌>>=◌}
-use Rattle.kapi_model.specs.declared.fault.FieldFault.{FieldFault}
 use Rattle.kapi_model.specs.declared.row.ResourceRow.{ResourceRow}
 use Rattle.kapi_tree.specs.Object.{stamped_tree}
 use Rattle.kapi_tree.specs.Given.{given_of}
@@ -15,7 +14,6 @@ use Rattle.kapi_admission.specs.Admission.{faults_on}
 use Rattle.kapi_rbac_types.specs.Trees.{read_as}
 use Rattle.kapi_store.proofs.Keys.{key_same}
 use Rattle.kapi_store.specs.Changes.{placed, placed_all}
-use Rattle.kapi_store.specs.Faults.{StoreFault}
 use Rattle.kapi_store.specs.Keys.{key_cmp, is_key}
 use Rattle.kapi_store.specs.Plain.{Plain, PlainChange, creation, creation_at, creation_in_place, free_place, removable, removal, removals, replaceable, replaced, replacement, replacement_at, revisions_left, trees_left_by, written}
 use Rattle.kapi_store.specs.Same.{same_tree}

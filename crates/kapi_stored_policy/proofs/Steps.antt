@@ -1,6 +1,5 @@
 -- The policy changes of one step.
 use Rattle.std.proofs.Common.{◌≡◌, List, [], ◌∷◌, ◌++◌, Option, None, Some, map, option_map, refl, sym, ap, subst}
-use Rattle.std.specs.List.{flat_map}
 use Rattle.serde_json.specs.Data.{Data}
 use Rattle.kapi_tree.specs.Object.{tree_of}
 use Rattle.kapi_policy.specs.declared.change.PolicyChange.{PolicyChange}

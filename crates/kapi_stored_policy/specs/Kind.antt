@@ -1,5 +1,5 @@
 -- Which keys are places of policy objects (Kubernetes API, rbac.authorization.k8s.io/v1).
-use Rattle.std.specs.Prelude.{ℕ, ◌==◌, if◌then◌else◌, List, length, Option, Some, None, codes}
+use Rattle.std.specs.Prelude.{◌==◌, if◌then◌else◌, length, Option, Some, None, codes}
 use Rattle.std.specs.Str.{bytes_eq}
 use Rattle.kapi_model.specs.Kinds.{rbac_group}
 use Rattle.kapi_store.specs.declared.key.Key.{Key}

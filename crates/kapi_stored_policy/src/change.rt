@@ -3,12 +3,11 @@ ghost use Rattle.kapi_tree.specs.Object.{tree_of};
 ghost use Rattle.kapi_store.specs.Changes.{IsStep};
 ghost use Rattle.kapi_store.specs.Plain.{plain_change};
 ghost use Rattle.kapi_stored_policy.specs.declared.kind.PolicyKind.TheVariants as of_kind;
-ghost use Rattle.kapi_stored_policy.specs.Kind as kind;
 ghost use Rattle.kapi_stored_policy.specs.Reading as reading;
 
-use crate::kind::{PolicyKind, policy_kind};
+use crate::kind::{PolicyKind, place_of, policy_kind};
 use kapi_model::{ClusterRole, ClusterRoleBinding, Role, RoleBinding};
-use kapi_policy::{NamespacedName, PolicyChange, PolicyKey, PolicyPut, PolicyStep};
+use kapi_policy::{PolicyChange, PolicyKey, PolicyPut, PolicyStep};
 use kapi_rbac_types::{
     admitted_cluster_role, admitted_cluster_role_binding, admitted_role, admitted_role_binding,
 };
@@ -109,13 +108,4 @@ fn key_at(alloc: Global, kind: PolicyKind, key: &Key) -> Result<PolicyKey, Memor
         PolicyKind::ClusterRole => Ok(PolicyKey::ClusterRole(key.name.copy(alloc)?)),
         PolicyKind::ClusterRoleBinding => Ok(PolicyKey::ClusterRoleBinding(key.name.copy(alloc)?)),
     }
-}
-
-fn place_of(alloc: Global, key: &Key) -> Result<NamespacedName, Memory>
-    ensures { IfOk result (λ p. p ≡ kind.place_of key.now) }
-{
-    Ok(NamespacedName {
-        namespace: key.namespace.copy(alloc)?,
-        name: key.name.copy(alloc)?,
-    })
 }

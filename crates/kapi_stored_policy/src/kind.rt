@@ -1,7 +1,10 @@
-ghost use Rattle.std.specs.Prelude.{◌≡◌};
+ghost use Rattle.std.specs.Prelude.{◌≡◌, IfOk};
 ghost use Rattle.kapi_stored_policy.specs.Kind as kind;
 
+use kapi_policy::NamespacedName;
 use kapi_store::Key;
+use kapi_text::{Memory, TryCopy};
+use std::alloc::Global;
 
 /// The four kinds of policy objects (Kubernetes API, rbac.authorization.k8s.io/v1).
 #[derive(Clone, Copy, Debug, PartialEq, Eq)]
@@ -39,4 +42,14 @@ fn cluster_kind(key: &Key) -> Option<PolicyKind>
         "clusterrolebindings" => Some(PolicyKind::ClusterRoleBinding),
         _other => None,
     }
+}
+
+/// The namespace and the name of a key.
+pub fn place_of(alloc: Global, key: &Key) -> Result<NamespacedName, Memory>
+    ensures { IfOk result (λ p. p ≡ kind.place_of key.now) }
+{
+    Ok(NamespacedName {
+        namespace: key.namespace.copy(alloc)?,
+        name: key.name.copy(alloc)?,
+    })
 }

@@ -3,14 +3,12 @@ ghost use Rattle.std.specs.Option.{option_map};
 ghost use Rattle.kapi_tree.specs.Object.{tree_of};
 ghost use Rattle.kapi_rbac_types.specs.Trees.{cluster_role_binding_of, cluster_role_of, role_binding_of, role_of};
 ghost use Rattle.kapi_stored_policy.specs.declared.kind.PolicyKind.TheVariants as of_kind;
-ghost use Rattle.kapi_stored_policy.specs.Kind as kind;
 ghost use Rattle.kapi_stored_policy.specs.Written as stored;
 ghost use Rattle.kapi_stored_policy.specs.Written.{versions_of};
 
-use crate::kind::PolicyKind;
+use crate::kind::{PolicyKind, place_of};
 use kapi_guard::{Versions, WrittenObject};
 use kapi_model::{ClusterRole, ClusterRoleBinding, Role, RoleBinding};
-use kapi_policy::NamespacedName;
 use kapi_rbac_types::{
     admitted_cluster_role, admitted_cluster_role_binding, admitted_role, admitted_role_binding,
 };
@@ -87,15 +85,6 @@ fn written_cluster_role_binding(
 {
     let versions = cluster_role_bindings(alloc, old, new)?;
     Ok(WrittenObject::ClusterRoleBinding(key.name.copy(alloc)?, versions))
-}
-
-fn place_of(alloc: Global, key: &Key) -> Result<NamespacedName, Memory>
-    ensures { IfOk result (λ p. p ≡ kind.place_of key.now) }
-{
-    Ok(NamespacedName {
-        namespace: key.namespace.copy(alloc)?,
-        name: key.name.copy(alloc)?,
-    })
 }
 
 fn roles(alloc: Global, old: Option<&Object>, new: &Object) -> Result<Versions<Role>, Memory>

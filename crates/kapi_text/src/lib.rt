@@ -6,7 +6,7 @@ pub mod joined;
 pub mod sequence;
 pub mod text;
 
-pub use digits::{are_digits, number};
+pub use digits::{are_digits, hex_value, number};
 pub use joined::is_joined;
 pub use sequence::{Sequence, TryCopy};
 use std::alloc::AllocError;

@@ -1,5 +1,5 @@
 -- A line more of a transcript.
-use Rattle.std.proofs.Common.{◌≡◌, ◌++◌, List, ◌∷◌, ap, ◌∙◌, sym, append_assoc, Result, Ok, Err, OnOk}
+use Rattle.std.proofs.Common.{◌≡◌, ◌++◌, List, ◌∷◌, sym, append_assoc, Result, Ok, Err, OnOk}
 use Rattle.kapi_lines.specs.Lines.{NumberedLine}
 use Rattle.kapi_transcript.specs.Cases.{PlainDraft, cases_from, ended, next}
 use Rattle.kapi_transcript.specs.Forms.{form_of}

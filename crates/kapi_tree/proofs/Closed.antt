@@ -1,10 +1,10 @@
 -- What holds of texts, and of lists and objects of such parts, holds of what a resource type keeps of a body.
-use Rattle.std.proofs.Common.{ℕ, List, [], ◌∷◌, Bool, true, false, ◌||◌, if◌then◌else◌, Option, Some, None, codes, length, ◌==◌}
+use Rattle.std.proofs.Common.{ℕ, List, [], ◌∷◌, Bool, true, false, if◌then◌else◌, Option, Some, None, codes, length, ◌==◌}
 use Rattle.std.specs.Option.{option_and_then}
 use Rattle.std.specs.Ordering.{nat_cmp, match_ordering}
 use Rattle.std.specs.declared.cmp.Ordering.TheVariants.{Less, Equal, Greater}
 use Rattle.std.specs.Cmp.Lexicographic.{slice_cmp}
-use Rattle.serde_json.specs.Data.{Data, null, boolean, number, string, array, object, Items, no_items, item, Members, no_members, member, put}
+use Rattle.serde_json.specs.Data.{Data, null, string, array, object, Items, no_items, item, Members, no_members, member, put}
 use Rattle.serde_json.specs.Find.{get, get_member}
 use Rattle.kapi_tree.specs.Contents.{put_text, put_items, text_value, list_value, members_value, put_texts, write_items, rule_tree, rules_of, requirement_tree, selector_tree, aggregation_tree, aggregation_in, put_named, of_rbac_group, subject_tree, subjects_of, role_ref_tree, role_ref_of, put_labels, role_content, cluster_role_content, binding_content, content_of}
 use Rattle.kapi_model.specs.Kinds.{operator_text, rbac_group, role_kind_text, subject_kind_text}

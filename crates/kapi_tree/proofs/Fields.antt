@@ -1,10 +1,9 @@
 -- The members of rules, selectors, subjects and references to roles as they are written.
-use Rattle.std.proofs.Common.{◌≡◌, ◌∙◌, ℕ, List, Option, Some, None, false, refl, ap, codes, bytes_eq}
+use Rattle.std.proofs.Common.{◌≡◌, ◌∙◌, ℕ, List, Some, None, false, refl, ap, codes, bytes_eq}
 use Rattle.std.specs.Option.{option_and_then}
 use Rattle.serde_json.specs.Data.{string, array, Members, no_members, put}
 use Rattle.serde_json.specs.Find.{get_member}
-use Rattle.kapi_model.specs.Kinds.{operator_of, operator_text, rbac_group, role_kind_text, subject_kind_text}
-use Rattle.kapi_model.specs.declared.kinds.SubjectKind.{SubjectKind}
+use Rattle.kapi_model.specs.Kinds.{operator_of, operator_text, subject_kind_text}
 use Rattle.kapi_model.specs.declared.kinds.SubjectKind.TheVariants as kind
 use Rattle.kapi_model.specs.declared.policy_rule.PolicyRule.{PolicyRule}
 use Rattle.kapi_model.specs.declared.selector.Label.{Label}

@@ -10,7 +10,7 @@ use Rattle.serde_json.specs.Data.{Members, member}
 use Rattle.serde_json.specs.View.{view, members_view}
 use Rattle.serde_json.specs.declared.value.Value.{Value}
 use Rattle.kapi_tree.proofs.Ordered.{none_removed, key_first, others_in_order}
-use Rattle.kapi_tree.specs.Order.{in_order, precedes}
+use Rattle.kapi_tree.specs.Order.{in_order}
 use Rattle.kapi_tree.specs.Tree.{without}
 
 abbrev pub Entry : Type 0

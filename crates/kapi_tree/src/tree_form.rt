@@ -1,5 +1,7 @@
-ghost use Rattle.std.specs.Prelude.{◌≡◌, IfOk, OnOk, List, ℕ};
-ghost use Rattle.serde_json.specs.Data.{Data, array, string};
+ghost use Rattle.std.specs.Prelude.{◌≡◌, IfOk, OnOk};
+ghost use Rattle.json.specs.Print.{quoted};
+ghost use Rattle.serde_json.specs.Data.{Data, string};
+ghost use Rattle.serde_json.specs.Data.{put as put_member};
 ghost use Rattle.serde_json.specs.View.{view, items_view, members_view};
 ghost use Rattle.kapi_tree.specs.Tree as trees;
 ghost use Rattle.kapi_tree.specs.Contents as form;
@@ -41,6 +43,13 @@ pub fn text_value(alloc: Global, text: &str) -> Result<Value, Memory>
     ensures { IfOk result (λ v. view v ≡ string text.now) }
 {
     Ok(Value::String(String::from_str(alloc, text)?))
+}
+
+/// A text as a JSON string.
+pub fn quote(alloc: Global, text: &str) -> Result<Vec<u8>, Memory>
+    ensures { IfOk result (λ b. b.items ≡ quoted text.now) }
+{
+    Value::try_from_str(alloc, text)?.to_vec(alloc)
 }
 
 impl FromTree for Text {
@@ -112,6 +121,18 @@ pub fn write_items<T: ToTree>(alloc: Global, values: &[T]) -> Result<Vec<Value>,
     Ok(items)
 }
 
+/// Puts a text at a key, also where it is empty.
+pub fn put_string(
+    alloc: Global,
+    members: &mut Map<String, Value>,
+    key: &str,
+    text: &str,
+) -> Result<(), Memory>
+    ensures { OnOk result (members_view members.new.entries ≡ put_member key.now (string text.now) (members_view members.old.entries)) }
+{
+    put(members, alloc, key, text_value(alloc, text)?)
+}
+
 /// Puts a text at a key, unless it is empty.
 pub fn put_text(
     alloc: Global,
@@ -125,7 +146,7 @@ pub fn put_text(
     if text.is_empty() {
         return Ok(());
     }
-    put(members, alloc, key, text_value(alloc, text)?)
+    put_string(alloc, members, key, text)
 }
 
 /// Puts a list at a key, unless it is empty.

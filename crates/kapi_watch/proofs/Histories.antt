@@ -1,5 +1,5 @@
 -- What a store writes goes on with its history.
-use Rattle.std.proofs.Common.{◌≡◌, ℕ, ◌+◌, Bool, true, false, List, [], ◌∷◌, ◌++◌, Option, None, Some, Result, Ok, Err, IfSome, is_some, if◌then◌else◌, ok_or, length, refl, sym, ◌∙◌, subst}
+use Rattle.std.proofs.Common.{◌≡◌, ℕ, ◌+◌, Bool, true, false, List, [], ◌∷◌, ◌++◌, Option, None, Some, Result, Ok, Err, IfSome, if◌then◌else◌, ok_or, length, refl, sym, ◌∙◌, subst}
 use Rattle.std.specs.List.{AllByRecursion, IsDistinct}
 use Rattle.std.specs.Map.{lookup, remove_entry}
 use Rattle.serde_json.specs.Data.{Data}
@@ -10,7 +10,7 @@ use Rattle.kapi_store.proofs.Windows.{Follow_append}
 use Rattle.kapi_store.specs.Changes.{placed, placed_all, Follow}
 use Rattle.kapi_store.specs.Faults.{StoreFault, Missing}
 use Rattle.kapi_store.specs.Keys.{is_key, key_cmp}
-use Rattle.kapi_store.specs.Plain.{Plain, PlainChange, RefinesPlain, trees_left_by, creation_at, creation_in_place, free_place, has_object, removable, removals, replaced, replacement_at, revisions_left}
+use Rattle.kapi_store.specs.Plain.{Plain, PlainChange, RefinesPlain, trees_left_by, creation_at, creation_in_place, free_place, removable, removals, replaced, replacement_at, revisions_left}
 use Rattle.kapi_store.specs.Same.{same_tree}
 use Rattle.kapi_store.specs.Stamps.{with_stamps_of}
 use Rattle.kapi_store.specs.State.{State}

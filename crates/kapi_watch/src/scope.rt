@@ -3,13 +3,13 @@ ghost use Rattle.std.specs.Prelude.{◌≡◌, IfOk, map, option_map, slice_get}
 ghost use Rattle.std.specs.List.{filter_map};
 ghost use Rattle.kapi_tree.specs.Object.{tree_of};
 ghost use Rattle.kapi_store.specs.Lent.{changes_of};
-ghost use Rattle.kapi_store.specs.Listing.{is_listed, is_asked as is_asked_of, is_within as is_within_of};
+ghost use Rattle.kapi_store.specs.Listing.{is_listed, is_within as is_within_of};
 ghost use Rattle.kapi_store.specs.Plain.{plain_change};
 ghost use Rattle.kapi_watch.specs.Shown.{selected as selected_of, shown_of, found_of};
 
 use crate::event::Event;
 use kapi_model::{ResourceRow, Selector};
-use kapi_store::{Change, Changes, Key, Shared};
+use kapi_store::{Change, Changes, Key, Shared, is_asked};
 use kapi_text::{Memory, Text, TryCopy};
 use kapi_tree::Object;
 use std::alloc::Global;
@@ -30,13 +30,6 @@ pub struct Scope {
 pub struct Found<'a> {
     pub revision: u64,
     pub event: Event<'a>,
-}
-
-/// Whether a text is the one that is asked for; where an empty text is asked for, any text is.
-fn is_asked(asked: &Text, text: &Text) -> bool
-    ensures { result ≡ is_asked_of asked.now text.now }
-{
-    asked.as_str().is_empty() || asked == text
 }
 
 impl Scope {
@@ -64,7 +57,8 @@ impl Scope {
     {
         self.row.group == key.group
             && (self.row.plural == key.resource
-                && (is_asked(&self.namespace, &key.namespace) && is_asked(&self.name, &key.name)))
+                && (is_asked(self.namespace.as_str(), &key.namespace)
+                    && is_asked(self.name.as_str(), &key.name)))
     }
 
     /// Whether the object is watched.

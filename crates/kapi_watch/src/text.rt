@@ -7,9 +7,10 @@ ghost use Rattle.kapi_watch.specs.Shown.{at_version, event_of};
 ghost use Rattle.kapi_watch.specs.Text.{type_of, object_text_of, event_tree};
 
 use crate::event::Event;
-use crate::written::{quote, versioned_text};
+use crate::written::versioned_text;
 use kapi_text::Memory;
 use kapi_tree::Object;
+use kapi_tree::tree_form::quote;
 use std::alloc::Global;
 
 /// The text of an object with the revision as its version.

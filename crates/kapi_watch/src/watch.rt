@@ -1,7 +1,6 @@
 //! Watches of a store's changes.
 ghost use Rattle.std.specs.Prelude.{◌≡◌, true, false, List, IfOk, None, map, option_map, unwrap_or};
 ghost use Rattle.kapi_tree.specs.Object.{tree_of};
-ghost use Rattle.kapi_store.specs.Listing.{shown as listed_of};
 ghost use Rattle.kapi_text.specs.Gives.{Gives};
 ghost use Rattle.kapi_store.specs.Plain.{Plain, PlainChange, RefinesPlain, changes_after, plain_of};
 ghost use Rattle.kapi_watch.specs.Shown.{event_of};

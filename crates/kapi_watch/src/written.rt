@@ -8,15 +8,9 @@ ghost use Rattle.serde_json.specs.Written.{comma_if, compact_text, has_float, me
 ghost use Rattle.kapi_watch.specs.Shown.{changed_at, with_changed};
 
 use kapi_text::Memory;
+use kapi_tree::tree_form::quote;
 use serde_json::{Map, Value};
 use std::alloc::Global;
-
-/// A text as a JSON string.
-pub(crate) fn quote(alloc: Global, text: &str) -> Result<Vec<u8>, Memory>
-    ensures { IfOk result (λ b. b.items ≡ quoted text.now) }
-{
-    Value::try_from_str(alloc, text)?.to_vec(alloc)
-}
 
 /// Writes a member's key and the colon behind it: after a comma, where a member comes before it.
 fn push_key(alloc: Global, text: &mut Vec<u8>, later: bool, key: &str) -> Result<(), Memory>

@@ -1,11 +1,11 @@
 -- Rules without the entries of one list whose atoms are all stopped.
-use Rattle.std.specs.Prelude.{◌≡◌, ℕ, ◌==◌, Bool, true, false, not, ◌&&◌, ◌||◌, if◌then◌else◌, List, [], ◌∷◌, length, Option, Some, None}
+use Rattle.std.specs.Prelude.{◌≡◌, ℕ, ◌==◌, Bool, true, false, not, ◌&&◌, ◌||◌, if◌then◌else◌, List, length, Option, Some, None}
 use Rattle.std.specs.List.{filter, list_all, list_any}
 use Rattle.kapi_model.specs.declared.policy_rule.PolicyRule.{PolicyRule}
 use Rattle.kapi_rules.specs.Atoms.{atoms}
 use Rattle.kapi_rules.specs.Missing.{rule_implies, same_atom}
 use Rattle.kapi_rules.specs.declared.atom.Atom.{Atom}
-use Rattle.kapi_missing.specs.Private.Bars.{entries_in, meets, rule_in}
+use Rattle.kapi_missing.specs.Private.Bars.{entries_in, meets}
 use Rattle.kapi_missing.specs.Private.Index.{AreBars, rules_in}
 use Rattle.kapi_missing.specs.Private.Slices.{number}
 use Rattle.kapi_missing.specs.Private.Words.{is_in}

@@ -1,4 +1,4 @@
-use Rattle.std.proofs.Common.{◌≡◌, None, lit<}
+use Rattle.std.proofs.Common.{None, lit<}
 use Rattle.std.proofs.lemmas.Str.Pattern.{split_once_first}
 use Rattle.kapi_guard.proofs.Accounts.{no_account}
 use Rattle.kapi_guard.proofs.service_account.account_in.Goals as goal

@@ -1,7 +1,5 @@
-use Rattle.std.proofs.Common.{◌∙◌, ap, arith}
+use Rattle.std.proofs.Common.{◌∙◌, arith}
 use Rattle.kapi_loading.proofs.Loaded.{all_listed, all_loaded, line_loaded, line_refused}
-use Rattle.kapi_policy.specs.Steps.{after_changes}
-use Rattle.kapi_desk.specs.Steps.{after}
 use Rattle.kapi_loading.proofs.publishing.load_lines.Goals as goal
 
 pub loop-line-preserved : goal.loop-line-preserved

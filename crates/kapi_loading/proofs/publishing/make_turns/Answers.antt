@@ -1,8 +1,6 @@
-use Rattle.std.proofs.Common.{◌∙◌, ap, arith, subst, Ok, ◌-◌, ◌+◌}
+use Rattle.std.proofs.Common.{◌∙◌, arith, subst, Ok, ◌-◌, ◌+◌}
 use Rattle.kapi_loading.proofs.Loaded.{all_turned, no_turn_left, none_listed, turn_made, turns_listed}
 use Rattle.kapi_core.specs.Refines.{Turns}
-use Rattle.kapi_policy.specs.Steps.{after_changes}
-use Rattle.kapi_desk.specs.Steps.{after}
 use Rattle.kapi_loading.proofs.publishing.make_turns.Goals as goal
 
 pub loop-preserved : goal.loop-preserved

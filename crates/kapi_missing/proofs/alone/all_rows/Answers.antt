@@ -1,4 +1,4 @@
-use Rattle.std.proofs.Common.{◌≡◌, ℕ, ◌||◌, false, length, sym, subst, arith}
+use Rattle.std.proofs.Common.{◌≡◌, ◌||◌, false, length, sym, subst, arith}
 use Rattle.std.proofs.lemmas.Bool.{or_left}
 use Rattle.std.proofs.lemmas.Grind.{common_steps}
 use Rattle.kapi_missing.proofs.Singles.{no_row, rows_weaker}

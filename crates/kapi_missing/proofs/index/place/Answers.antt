@@ -1,10 +1,6 @@
-use Rattle.std.proofs.Common.{◌≡◌, ◌==◌, ◌&&◌, ◌||◌, length}
 use Rattle.std.proofs.lemmas.Bool.{or_left}
 use Rattle.std.proofs.lemmas.Result.{on_ok_weaker}
-use Rattle.std.specs.List.{list_any}
-use Rattle.std.specs.Str.{bytes_eq}
 use Rattle.kapi_missing.proofs.Adding.{placed_all, put_own}
-use Rattle.kapi_missing.specs.Private.Index.{has_pattern}
 use Rattle.kapi_missing.specs.declared.index.Index.{Index}
 use Rattle.kapi_missing.proofs.index.place.Goals as goal
 

@@ -1,4 +1,3 @@
-use Rattle.std.proofs.Common.{◌&&◌}
 use Rattle.std.proofs.lemmas.Bool.{and_parts}
 use Rattle.std.proofs.lemmas.Result.{IfOk-weaker}
 use Rattle.kapi_missing.proofs.near.near_resources.Goals as goal

@@ -1,7 +1,6 @@
-use Rattle.std.proofs.Common.{◌≡◌, ℕ, ◌<◌, ◌+◌, true, length, arith, refl, ◌∷◌, ◌++◌, [], bit_and, get_or}
+use Rattle.std.proofs.Common.{◌<◌, length, arith}
 use Rattle.std.proofs.lemmas.Grind.{common_steps}
 use Rattle.kapi_missing.proofs.Bits.{full_bit, word_common}
-use Rattle.kapi_missing.specs.Private.Sets.{in_word}
 use Rattle.kapi_missing.proofs.sets.common.Goals as goal
 
 pub loop-place-init : goal.loop-place-init

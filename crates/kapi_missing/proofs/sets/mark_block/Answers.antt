@@ -1,4 +1,4 @@
-use Rattle.std.proofs.Common.{◌≡◌, ◌<◌, ◌≤◌, length, arith}
+use Rattle.std.proofs.Common.{◌<◌, ◌≤◌, length, arith}
 use Rattle.std.proofs.lemmas.Grind.{common_steps}
 use Rattle.kapi_missing.proofs.Bits.{block_marked, block_outside}
 use Rattle.kapi_missing.proofs.sets.mark_block.Goals as goal

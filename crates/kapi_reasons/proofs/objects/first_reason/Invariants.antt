@@ -1,4 +1,3 @@
-use Rattle.std.proofs.Common.{◌≡◌}
 use Rattle.kapi_core.specs.Machine.{Machine}
 use Rattle.kapi_core.specs.Refines.{Refines}
 use Rattle.kapi_reasons.proofs.Loaded.{LoadedTo}

@@ -1,4 +1,3 @@
-use Rattle.std.proofs.Common.{◌∙◌}
 use Rattle.kapi_replay.proofs.Played.{all_failures, more_failures, none_left}
 use Rattle.kapi_replay.proofs.replay.failures_of.Goals as goal
 

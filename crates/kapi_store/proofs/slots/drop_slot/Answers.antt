@@ -1,4 +1,4 @@
-use Rattle.std.proofs.Common.{◌∙◌, List, Option, Some, None, ap, sym, subst}
+use Rattle.std.proofs.Common.{◌∙◌, List, Option, None, ap, sym, subst}
 use Rattle.kapi_tree.specs.declared.object.Object.{Object}
 use Rattle.kapi_store.specs.declared.key.Key.{Key}
 use Rattle.kapi_store.specs.Keys.{key_cmp, is_key}

@@ -1,7 +1,6 @@
-use Rattle.std.proofs.Common.{◌≡◌, ◌∙◌, Bool, true, false, Option, None, Some, Bor, option_copied, ap, sym, refl, rules}
+use Rattle.std.proofs.Common.{◌≡◌, ◌∙◌, true, false, Option, None, Some, Bor, option_copied, ap, sym, refl, rules}
 use Rattle.std.specs.Map.{lookup}
 use Rattle.std.specs.Option.{is_some}
-use Rattle.kapi_tree.specs.declared.object.Object.{Object}
 use Rattle.kapi_store.specs.Keys.{key_cmp, is_key}
 use Rattle.kapi_store.specs.State.{live}
 use Rattle.kapi_store.proofs.Keys.{key_total, key_same}

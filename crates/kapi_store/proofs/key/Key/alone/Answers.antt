@@ -1,4 +1,4 @@
-use Rattle.std.proofs.Common.{◌≡◌, ◌++◌, ◌∷◌, [], ap, ◌∙◌}
+use Rattle.std.proofs.Common.{◌++◌, ◌∷◌, [], ap, ◌∙◌}
 use Rattle.kapi_store.proofs.Keys.{one_distinct}
 use Rattle.kapi_store.proofs.key.Key.alone.Goals as goal
 

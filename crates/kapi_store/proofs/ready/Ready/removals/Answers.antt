@@ -1,4 +1,4 @@
-use Rattle.std.proofs.Common.{◌≡◌, ℕ, ◌+◌, suc, None, List, [], ◌∷◌, ◌++◌, map, length, ap, sym, subst, ◌∙◌, refl, append-nil, arith}
+use Rattle.std.proofs.Common.{◌≡◌, ◌+◌, suc, None, List, [], ◌∷◌, ◌++◌, map, length, ap, sym, subst, ◌∙◌, refl, append-nil, arith}
 use Rattle.std.proofs.lemmas.Grind.{common_steps}
 use Rattle.std.specs.Vec.Iter.{into_iter_items}
 use Rattle.std.proofs.lemmas.List.{length-append}

@@ -1,8 +1,6 @@
-use Rattle.std.proofs.Common.{◌≡◌, ℕ, ◌≤◌, ◌<◌, ◌-◌, max, List, Ok, Err, map, ap, sym, subst, refl, ◌∙◌, arith}
+use Rattle.std.proofs.Common.{◌≡◌, ℕ, ◌-◌, Ok, map, ap, sym, subst, refl, ◌∙◌, arith}
 use Rattle.std.specs.Prelude.{nat_lt}
 use Rattle.std.specs.List.{filter}
-use Rattle.kapi_store.specs.declared.change.Change.{Change}
-use Rattle.kapi_store.specs.Limits.{window_limit}
 use Rattle.kapi_store.specs.Changes.{last_of}
 use Rattle.kapi_store.specs.Lent.{changes_of}
 use Rattle.kapi_store.specs.Plain.{plain_change}

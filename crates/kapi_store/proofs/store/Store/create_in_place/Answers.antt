@@ -1,8 +1,5 @@
-use Rattle.std.proofs.Common.{◌≡◌, ◌+◌, ◌≤◌, ◌∙◌, Ok, IsSome, refl, sym, ap, subst, arith}
-use Rattle.std.specs.Map.{lookup}
-use Rattle.kapi_store.specs.declared.key.Key.{Key}
+use Rattle.std.proofs.Common.{◌≡◌, ◌+◌, ◌≤◌, Ok, refl, sym, ap, subst, arith}
 use Rattle.kapi_store.specs.Limits.{last_revision}
-use Rattle.kapi_store.specs.Keys.{is_key}
 use Rattle.kapi_store.specs.Plain.{free_place, plain_of}
 use Rattle.kapi_store.specs.View.{state_of}
 use Rattle.kapi_store.specs.State.{State}

@@ -1,6 +1,6 @@
-use Rattle.std.proofs.Common.{◌≡◌, Option, Some, option_copied, option_map, sym, ◌∙◌, ap}
+use Rattle.std.proofs.Common.{◌≡◌, Some, option_copied, option_map, sym, ◌∙◌, ap}
 use Rattle.kapi_tree.specs.Object.{tree_of}
-use Rattle.kapi_store.specs.State.{State, objects}
+use Rattle.kapi_store.specs.State.{objects}
 use Rattle.kapi_store.specs.View.{state_of}
 use Rattle.kapi_store.specs.Keys.{is_key}
 use Rattle.std.specs.Map.{lookup}

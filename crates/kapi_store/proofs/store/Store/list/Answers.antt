@@ -1,4 +1,4 @@
-use Rattle.std.proofs.Common.{◌≡◌, List, map, sym, subst}
+use Rattle.std.proofs.Common.{List, sym, subst}
 use Rattle.std.specs.List.{IsDistinct}
 use Rattle.std.specs.Map.{keys_of}
 use Rattle.std.proofs.lemmas.Result.{IfOk-weaker}
@@ -6,7 +6,7 @@ use Rattle.kapi_tree.specs.declared.object.Object.{Object}
 use Rattle.kapi_tree.specs.Object.{tree_of}
 use Rattle.kapi_store.specs.declared.key.Key.{Key}
 use Rattle.kapi_store.specs.Keys.{is_key}
-use Rattle.kapi_store.specs.Listing.{is_listed, shown}
+use Rattle.kapi_store.specs.Listing.{is_listed}
 use Rattle.kapi_store.specs.State.{live}
 use Rattle.kapi_store.proofs.Keys.{filter_distinct}
 use Rattle.kapi_store.proofs.store.Store.list.Goals as goal

@@ -1,4 +1,4 @@
-use Rattle.std.proofs.Common.{◌≡◌, ◌+◌, ◌≤◌, List, length, ap, sym, subst, arith}
+use Rattle.std.proofs.Common.{◌≡◌, ◌+◌, ◌≤◌, length, subst, arith}
 use Rattle.kapi_store.specs.Limits.{last_revision}
 use Rattle.kapi_store.specs.Changes.{Follow, revision_of}
 use Rattle.kapi_store.specs.State.{State}

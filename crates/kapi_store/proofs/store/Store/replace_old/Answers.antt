@@ -1,4 +1,4 @@
-use Rattle.std.proofs.Common.{◌≡◌, ◌+◌, ◌≤◌, [], Ok, true, false, IsSome, ap, sym, subst, refl, ◌∙◌, arith, rules}
+use Rattle.std.proofs.Common.{◌≡◌, ◌+◌, ◌≤◌, Ok, true, false, ap, sym, subst, refl, ◌∙◌, arith, rules}
 use Rattle.std.specs.List.Sorted.{IsStrictlySortedBy}
 use Rattle.std.specs.Map.{keys_of}
 use Rattle.std.specs.Fmt.{decimal}
@@ -7,7 +7,7 @@ use Rattle.kapi_store.specs.Limits.{last_revision}
 use Rattle.kapi_store.specs.Keys.{key_cmp}
 use Rattle.kapi_store.specs.Same.{same_tree}
 use Rattle.kapi_store.specs.Stamps.{with_stamps_of, uid_in}
-use Rattle.kapi_store.specs.Plain.{plain_of, plain_change, revisions_left}
+use Rattle.kapi_store.specs.Plain.{plain_of, revisions_left}
 use Rattle.kapi_store.specs.View.{state_of}
 use Rattle.kapi_store.specs.State.{State, Fits}
 use Rattle.kapi_store.proofs.Stores.{fits_none, fits_one}

@@ -1,16 +1,14 @@
-use Rattle.std.proofs.Common.{◌≡◌, Result, Ok, Err, OnOk, Option, Some, None, IsSome, option_copied, option_map, sym, ◌∙◌, ap, subst}
+use Rattle.std.proofs.Common.{◌≡◌, Option, Some, None, option_copied, option_map, sym, ◌∙◌, ap, subst}
 use Rattle.serde_json.specs.Data.{Data}
 use Rattle.std.specs.Map.{lookup}
 use Rattle.std.proofs.lemmas.Result.{IfOk-weaker}
 use Rattle.kapi_text.specs.Gives.{Gives}
 use Rattle.kapi_tree.specs.Object.{tree_of}
 use Rattle.kapi_store.specs.Faults.{fault_of}
-use Rattle.kapi_store.specs.Keys.{key_cmp, is_key}
+use Rattle.kapi_store.specs.Keys.{is_key}
 use Rattle.kapi_store.specs.Plain.{admitted, trees}
-use Rattle.kapi_store.specs.State.{State, objects}
+use Rattle.kapi_store.specs.State.{objects}
 use Rattle.kapi_store.specs.View.{state_of}
-use Rattle.kapi_store.proofs.Keys.{key_total}
-use Rattle.kapi_store.proofs.SlotSteps.{slot_there}
 use Rattle.kapi_store.proofs.Trees.{lookup_trees}
 use Rattle.kapi_store.proofs.store.Store.replaceable.Goals as goal
 

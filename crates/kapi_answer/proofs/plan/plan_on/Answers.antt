@@ -1,4 +1,4 @@
-use Rattle.kapi_answer.proofs.respond.plan_on.Goals as goal
+use Rattle.kapi_answer.proofs.plan.plan_on.Goals as goal
 
 pub returns-in-Delete-clause-gives : goal.returns-in-Delete-clause-gives
 returns-in-Delete-clause-gives g c = rw c.in-Delete.is (c.plan_delete.ensures.gives (g.P.Policy.content c.args.policy.now))

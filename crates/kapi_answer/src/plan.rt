@@ -1,0 +1,231 @@
+//! What a resource request that passes all checks but the store's answers or changes, by its action.
+ghost use Rattle.std.specs.Prelude.{◌≡◌, None, Ok, IfOk};
+ghost use Rattle.kapi_text.specs.Gives.{Gives};
+ghost use Rattle.kapi_reply.specs.Refusals.{refused_by};
+ghost use Rattle.kapi_policy.specs.Objects.{PolicyObjects};
+ghost use Rattle.kapi_route.specs.Routes.{resource_data};
+ghost use Rattle.kapi_route.specs.declared.route.Action.TheVariants as action;
+ghost use Rattle.std.specs.Map.{lookup};
+ghost use Rattle.kapi_store.specs.Keys.{is_key};
+ghost use Rattle.kapi_store.specs.Plain.{Plain as APlain, plain_of};
+ghost use Rattle.kapi_watch.specs.Watches.{startable};
+ghost use Rattle.kapi_answer.specs.Answer.{planned_creation, planned_for, planned_on, to_be_created, to_be_replaced};
+ghost use Rattle.kapi_answer.specs.Review as reviews;
+ghost use Rattle.kapi_answer.specs.Create as creation;
+ghost use Rattle.kapi_answer.specs.Outcomes.{ChangesNothing, IsReady, Stands, new_data, plan_data, task_data};
+
+use crate::collection::{check_delete_all, list};
+use crate::create::{check_create, key_at, namespace_on};
+use crate::delete::check_delete;
+use crate::escalation::check_escalation;
+use crate::get::find;
+use crate::outcome::{NewObject, Plan, Replacement};
+use crate::review::{review_kind, tell_review};
+use crate::task::Task;
+use crate::update::{check_patch, check_update};
+use crate::watch::{begin, check_since};
+use kapi_http::HttpRequest;
+use kapi_model::Identity;
+use kapi_policy::Policy;
+use kapi_reply::CheckError;
+use kapi_request_info::Attributes;
+use kapi_route::{Action, Part, ResourceRoute, check_media_type, check_query};
+use kapi_store::{Key, Store};
+use kapi_text::{Memory, Text};
+use std::alloc::Global;
+
+/// The checks of a resource request, from its query on.
+#[tactic(auto, unfolding(crate::specs::Answer::planned_for))]
+pub fn plan_for<P: Policy>(
+    alloc: Global,
+    policy: &P,
+    store: &Store,
+    identity: &Identity,
+    request: &HttpRequest,
+    attributes: &Attributes,
+    route: ResourceRoute<'_>,
+) -> Result<Plan, CheckError>
+    ensures gives { Gives refused_by plan_data result (planned_for (P.content policy.now) (plain_of store.now) identity.now request.now attributes.now (resource_data route.entry)) }
+    ensures ready { IfOk result (IsReady (plain_of store.now)) }
+    ensures told { IfOk result ChangesNothing }
+{
+    let query = attributes.query.as_slice();
+    let filter = check_query(alloc, route.action, store.revision(), query)?;
+    check_since(store, filter.since)?;
+    check_media_type(request.method, request.headers.as_slice())?;
+    let task = Task {
+        identity,
+        row: route.row,
+        namespace: namespace_on(route.row, attributes.namespace.as_str()),
+        name: route.point.name.as_str(),
+        filter: &filter,
+        body: request.body.as_slice(),
+    };
+    plan_on(alloc, policy, store, route.action, task)
+}
+
+/// The plan of a resource request by its action.
+#[tactic(auto, unfolding(crate::specs::Answer::planned_on))]
+fn plan_on<P: Policy>(
+    alloc: Global,
+    policy: &P,
+    store: &Store,
+    action: Action,
+    task: Task<'_>,
+) -> Result<Plan, CheckError>
+    requires { startable (plain_of store.now) task.filter.now.since ≡ Ok tt }
+    ensures gives { Gives refused_by plan_data result (planned_on action (plain_of store.now) (task_data (P.content policy.now) task.entry)) }
+    ensures ready { IfOk result (IsReady (plain_of store.now)) }
+    ensures told { IfOk result ChangesNothing }
+{
+    let (row, namespace, filter) = (task.row, task.namespace, task.filter);
+    match action {
+        Action::Get => Ok(Plan::Tell(find(alloc, store, &place_in(alloc, task)?)?)),
+        Action::List => Ok(Plan::Tell(list(alloc, store, row, namespace, filter)?)),
+        Action::Watch => Ok(Plan::Watch(begin(alloc, store, row, namespace, filter)?)),
+        Action::Create => plan_creation(alloc, policy, store, task),
+        Action::Update(part) => plan_update(alloc, policy, store, part, task),
+        Action::Patch(part) => plan_patch(alloc, policy, store, part, task),
+        Action::Delete => plan_delete(alloc, store, task),
+        Action::DeleteCollection => plan_delete_all(alloc, store, task),
+    }
+}
+
+/// Plans the update of an object, where the identity may write it.
+#[tactic(auto, unfolding(crate::specs::Answer::planned_on))]
+fn plan_update<P: Policy>(
+    alloc: Global,
+    policy: &P,
+    store: &Store,
+    part: Part,
+    task: Task<'_>,
+) -> Result<Plan, CheckError>
+    ensures gives { Gives refused_by plan_data result (planned_on (action.Update part) (plain_of store.now) (task_data (P.content policy.now) task.entry)) }
+    ensures ready { IfOk result (IsReady (plain_of store.now)) }
+    ensures told { IfOk result ChangesNothing }
+{
+    let key = place_in(alloc, task)?;
+    let new = check_update(alloc, store, task.row, part, key, task.body)?;
+    plan_replace(alloc, policy, task, new)
+}
+
+/// Plans the patch of an object, where the identity may write it.
+#[tactic(auto, unfolding(crate::specs::Answer::planned_on))]
+fn plan_patch<P: Policy>(
+    alloc: Global,
+    policy: &P,
+    store: &Store,
+    part: Part,
+    task: Task<'_>,
+) -> Result<Plan, CheckError>
+    ensures gives { Gives refused_by plan_data result (planned_on (action.Patch part) (plain_of store.now) (task_data (P.content policy.now) task.entry)) }
+    ensures ready { IfOk result (IsReady (plain_of store.now)) }
+    ensures told { IfOk result ChangesNothing }
+{
+    let key = place_in(alloc, task)?;
+    let new = check_patch(alloc, store, task.row, part, key, task.body)?;
+    plan_replace(alloc, policy, task, new)
+}
+
+/// Plans the deletion of an object.
+#[tactic(auto, unfolding(crate::specs::Answer::planned_on))]
+fn plan_delete(alloc: Global, store: &Store, task: Task<'_>) -> Result<Plan, CheckError>
+    ensures gives { (objects : PolicyObjects) → Gives refused_by plan_data result (planned_on action.Delete (plain_of store.now) (task_data objects task.entry)) }
+    ensures ready { IfOk result (IsReady (plain_of store.now)) }
+    ensures told { IfOk result ChangesNothing }
+{
+    let key = place_in(alloc, task)?;
+    Ok(Plan::Delete(check_delete(alloc, store, key, task.body)?))
+}
+
+/// Plans the deletion of the objects of a collection.
+#[tactic(auto, unfolding(crate::specs::Answer::planned_on))]
+fn plan_delete_all(alloc: Global, store: &Store, task: Task<'_>) -> Result<Plan, CheckError>
+    ensures gives { (objects : PolicyObjects) → Gives refused_by plan_data result (planned_on action.DeleteCollection (plain_of store.now) (task_data objects task.entry)) }
+    ensures ready { IfOk result (IsReady (plain_of store.now)) }
+    ensures told { IfOk result ChangesNothing }
+{
+    let Task {
+        row,
+        namespace,
+        filter,
+        body,
+        ..
+    } = task;
+    let all = check_delete_all(alloc, store, row, namespace, filter, body)?;
+    Ok(Plan::Delete(all))
+}
+
+/// The place that a task's path names.
+fn place_in(alloc: Global, task: Task<'_>) -> Result<Key, Memory>
+    ensures { IfOk result (λ k. k ≡ creation.key_at task.entry.row.now task.entry.namespace.now task.entry.name.now) }
+{
+    key_at(
+        alloc,
+        task.row,
+        task.namespace,
+        Text::copy_of(alloc, task.name)?,
+    )
+}
+
+/// Plans the answer to a review, or the creation of any other object.
+#[tactic(auto, unfolding(crate::specs::Answer::planned_creation))]
+fn plan_creation<P: Policy>(
+    alloc: Global,
+    policy: &P,
+    store: &Store,
+    task: Task<'_>,
+) -> Result<Plan, CheckError>
+    ensures gives { Gives refused_by plan_data result (planned_creation (reviews.review_kind task.entry.row.now) (plain_of store.now) (task_data (P.content policy.now) task.entry)) }
+    ensures ready { IfOk result (IsReady (plain_of store.now)) }
+    ensures told { IfOk result ChangesNothing }
+{
+    match review_kind(task.row) {
+        Some(kind) => Ok(Plan::Tell(tell_review(alloc, policy, kind, task)?)),
+        None => {
+            let new = check_create(alloc, store, task.row, task.namespace, task.body)?;
+            plan_create(alloc, policy, task, new)
+        }
+    }
+}
+
+/// Plans the creation of an object that passed its checks, where the identity may write it.
+#[tactic(auto, unfolding(crate::specs::Answer::to_be_created))]
+fn plan_create<P: Policy>(
+    alloc: Global,
+    policy: &P,
+    task: Task<'_>,
+    new: NewObject,
+) -> Result<Plan, CheckError>
+    ensures gives { (s : APlain) → lookup (is_key new.key) s.objects ≡ None → Gives refused_by plan_data result (to_be_created s (task_data (P.content policy.now) task.entry) (new_data new)) }
+    ensures same { IfOk result (λ plan. plan ≡ Plan.Create new) }
+{
+    let (identity, name) = (task.identity, task.name);
+    check_escalation(alloc, policy, identity, name, &new.key, None, &new.object)?;
+    Ok(Plan::Create(new))
+}
+
+/// Plans the replacement of an object that passed its checks, where the identity may write it.
+#[tactic(auto, unfolding(crate::specs::Answer::to_be_replaced))]
+fn plan_replace<P: Policy>(
+    alloc: Global,
+    policy: &P,
+    task: Task<'_>,
+    replacement: Replacement,
+) -> Result<Plan, CheckError>
+    ensures gives { (s : APlain) → Stands s replacement → Gives refused_by plan_data result (to_be_replaced s (task_data (P.content policy.now) task.entry) (new_data replacement.new)) }
+    ensures same { IfOk result (λ plan. plan ≡ Plan.Replace replacement) }
+{
+    let (new, old) = (&replacement.new, replacement.old.get());
+    let (identity, name) = (task.identity, task.name);
+    check_escalation(
+        alloc,
+        policy,
+        identity,
+        name,
+        &new.key,
+        Some(old),
+        &new.object,
+    )?;
+    Ok(Plan::Replace(replacement))
+}
