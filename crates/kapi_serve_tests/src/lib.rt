@@ -9,6 +9,8 @@ mod fair;
 #[cfg(test)]
 mod fixture;
 #[cfg(test)]
+mod gone;
+#[cfg(test)]
 mod live;
 #[cfg(test)]
 mod loopback;
