@@ -97,6 +97,32 @@ def elevens():
     return [rule(*[[it] for it in parts]) for parts in itertools.product(*[entries(11, letter) for letter in "vgrn"])]
 
 
+def some_of(count, chosen, values, seed):
+    """Rules of some of the values of each part, by chance."""
+    dice = random.Random(seed)
+    return [rule(*[dice.sample(entries(values, letter), chosen) for letter in "vgrn"]) for _ in range(count)]
+
+
+def with_unheld(rules):
+    """The same rules, each with a resource that nobody holds."""
+    return [{**it, "resources": it["resources"] + ["unheld"]} for it in rules]
+
+
+def slashed(verbs=("get",)):
+    """One rule of many resources behind a slash."""
+    return rule(verbs, [""], [f"a{it}/x{it}" for it in range(RULES)])
+
+
+def any_with():
+    """Rules of one resource behind a slash each, of all before it."""
+    return [rule(["get"], [""], [f"*/x{it}"]) for it in range(RULES)]
+
+
+def beginnings():
+    """Rules of all paths with a beginning."""
+    return [{"verbs": ["get"], "nonResourceURLs": [f"/{it}*"]} for it in entries(RULES)]
+
+
 class Client:
     """Requests over one connection, and what each costs the server in seconds of processor time."""
 
@@ -212,6 +238,13 @@ CASES = (
     ("the same against single pairs, and then a rule for each name", 0.5, lambda it: check(it, diagonal(), [product()], True)),
     ("ten rules of 5,000 names behind 7,000 of one, none held", 0.5, lambda it: check(it, [], repeats(), False)),
     (f"{RULES:,} rules against one with as many names", 0.5, lambda it: check(it, [rule(["get"], [""], ["pods"], entries(RULES))], names(), True)),
+    (f"{RULES:,} rules of two of eleven of each part against as many", 0.5, lambda it: check(it, some_of(RULES, 2, 11, 1), some_of(RULES, 2, 11, 2), True)),
+    ("the same, each with a resource that nobody holds", None, lambda it: check(it, some_of(RULES, 2, 11, 1), with_unheld(some_of(RULES, 2, 11, 2)), False)),
+    (f"{RULES:,} rules of three of ten of each part against as many", 0.5, lambda it: check(it, some_of(RULES, 3, 10, 1), some_of(RULES, 3, 10, 2), True)),
+    ("8,000 rules of four of ten of each part against as many", 0.5, lambda it: check(it, some_of(8_000, 4, 10, 1), some_of(8_000, 4, 10, 2), True)),
+    (f"{RULES:,} resources behind a slash against a rule for all before each", 0.5, lambda it: check(it, any_with(), [slashed()], True)),
+    ("the same of two verbs, one of them held", None, lambda it: check(it, any_with(), [slashed(["get", "list"])], False)),
+    (f"{RULES:,} paths against a rule for the beginning of each", 0.5, lambda it: check(it, beginnings(), [long_paths()], True)),
     (f"a turn of {RULES:,} rules", 0.2, turn),
     (f"{WRITES:,} roles", None, lambda it: writes(it, f"{RBAC}/namespaces/default/roles")),
     (f"{WRITES:,} cluster roles", None, lambda it: writes(it, f"{RBAC}/clusterroles")),

@@ -198,6 +198,7 @@ pub fn admit(alloc: Global, row: &ResourceRow, tree: Value) -> Result<Admitted, 
     }
 }
 
+/// A refusal of the whole request.
 pub fn bad_request(word: BadWord) -> CheckError
     ensures { refused_by result ≡ Some (asked_for (Refusal.BadRequest word)) }
 {

@@ -1,6 +1,6 @@
 -- One rule more among those that are found by their entries.
 use Rattle.std.proofs.Common.{◌≡◌, ℕ, zero, suc, ◌==◌, ◌<◌, Bool, true, false, not, ◌&&◌, ◌||◌, ◌⊎◌, inl, inr, List, [], ◌∷◌, ◌++◌, length, map, get_or, refl, ap, subst, sym, ◌∙◌, arith}
-use Rattle.std.proofs.lemmas.Bool.{or_left, or_right}
+use Rattle.std.proofs.lemmas.Bool.{and_parts, eqb-true, or_cases, or_left, or_right}
 use Rattle.std.proofs.lemmas.Bool.Decides.{nat_tests}
 use Rattle.std.specs.List.{list_any}
 use Rattle.std.specs.Str.{bytes_eq}
@@ -10,7 +10,7 @@ use Rattle.kapi_rules.proofs.Law.{any_weaker}
 use Rattle.kapi_missing.proofs.Pieces.{not_near, regrouped}
 use Rattle.kapi_missing.proofs.Placed.{at_more, at_within, marked_at, not_false, same_number, some_at}
 use Rattle.kapi_missing.proofs.Repeats.{from_some}
-use Rattle.kapi_missing.specs.Private.Index.{AreAllPlaced, AreBars, IsAt, IsPlaced, Keeps, has_pattern, patterned, rules_in, sets_in}
+use Rattle.kapi_missing.specs.Private.Index.{AddsOnly, AreAllPlaced, AreBars, IsAt, IsExact, IsPlaced, Keeps, has_pattern, lists, patterned, rules_in, sets_in}
 use Rattle.kapi_missing.specs.Private.Sets.{has_number, in_words, stands, stands_at, stands_under}
 use Rattle.kapi_missing.specs.Private.Marks.{at}
 use Rattle.kapi_missing.specs.Private.Bars.{barred, entries_in, is_near_to, rule_in}
@@ -84,19 +84,55 @@ placed_all index n rule verbs groups resources names urls any_url begins none = 
     by_pattern true hash is = begins hash is
     by_pattern false hash is = any_url hash is
 
+pub adds_only : (old new : Index) (rule : PolicyRule) (number : ℕ)
+    → ((e : List ℕ) (n : ℕ) → stands_under new.verbs e n ≡ true → (stands_under old.verbs e n || (list_any (λ x. bytes_eq x e) rule.verbs && (number == n))) ≡ true)
+    → ((e : List ℕ) (n : ℕ) → stands_under new.groups e n ≡ true → (stands_under old.groups e n || (list_any (λ x. bytes_eq x e) rule.api_groups && (number == n))) ≡ true)
+    → ((e : List ℕ) (n : ℕ) → stands_under new.resources e n ≡ true → (stands_under old.resources e n || (list_any (λ x. bytes_eq x e) rule.resources && (number == n))) ≡ true)
+    → ((e : List ℕ) (n : ℕ) → stands_under new.names e n ≡ true → (stands_under old.names e n || (list_any (λ x. bytes_eq x e) rule.resource_names && (number == n))) ≡ true)
+    → ((e : List ℕ) (n : ℕ) → stands_under new.urls e n ≡ true → (stands_under old.urls e n || (list_any (λ x. bytes_eq x e) rule.non_resource_urls && (number == n))) ≡ true)
+    → AddsOnly old new rule number
+adds_only old new rule number verbs groups resources names urls dimension.Verbs e n is = verbs e n is
+adds_only old new rule number verbs groups resources names urls dimension.Groups e n is = groups e n is
+adds_only old new rule number verbs groups resources names urls dimension.Resources e n is = resources e n is
+adds_only old new rule number verbs groups resources names urls dimension.Names e n is = names e n is
+adds_only old new rule number verbs groups resources names urls dimension.Urls e n is = urls e n is
+
+at_kept : {X : Type 0} (f : X → Bool) (xs : List X) (y : X) (m : ℕ) → at (map f xs) m ≡ true → at (map f (xs ++ y ∷ [])) m ≡ true
+at_kept f [] y m h = absurd cc
+at_kept f (x ∷ xs) y zero h = h
+at_kept f (x ∷ xs) y (suc m) h = at_kept f xs y m h
+
+at_last : {X : Type 0} (f : X → Bool) (xs : List X) (y : X) → at (map f (xs ++ y ∷ [])) (length xs) ≡ f y
+at_last f [] y = refl
+at_last f (x ∷ xs) y = at_last f xs y
+
+exact_more : (old new : Bars) (rule : PolicyRule) (n : ℕ) → n ≡ length (rules_in old) → rules_in new ≡ rules_in old ++ rule ∷ []
+    → AddsOnly old.index new.index rule n → IsExact old → IsExact new
+exact_more old new rule n last same only exact d e m h =
+    ap (λ rs. at (map (lists d e) rs) m) same ∙ by_case (or_cases (stands_under (sets_in d old.index) e m) (lists d e rule && (n == m)) (only d e m h))
+  where
+    by_case : (stands_under (sets_in d old.index) e m ≡ true) ⊎ ((lists d e rule && (n == m)) ≡ true) → at (map (lists d e) (rules_in old ++ rule ∷ [])) m ≡ true
+    by_case (inl before) = at_kept (lists d e) (rules_in old) rule m (exact d e m before)
+    by_case (inr now) =
+        let parts = and_parts (lists d e rule) (n == m) now in
+        ap (λ k. at (map (lists d e) (rules_in old ++ rule ∷ [])) k) (sym (eqb-true n m parts.1) ∙ last) ∙ at_last (lists d e) (rules_in old) rule ∙ parts.0
+
 pub one_more : (held : Bool) (rules : List PolicyRule) (rule : PolicyRule) (old new : Bars) (n : ℕ) → n ≡ length (rules_in old)
-    → new.is_held ≡ old.is_held → rules_in new ≡ rules_in old ++ rule ∷ [] → IsPlaced new.index n rule → Keeps old.index new.index
+    → new.is_held ≡ old.is_held → rules_in new ≡ rules_in old ++ rule ∷ [] → IsPlaced new.index n rule → Keeps old.index new.index → AddsOnly old.index new.index rule n
     → AreBars held rules old → AreBars held (rules ++ rule ∷ []) new
-one_more held rules rule old new n last same_held same_rules own keeps are = (
+one_more held rules rule old new n last same_held same_rules own keeps only are = (
   same_held ∙ are.0,
   same_rules ∙ ap (λ rs. rs ++ rule ∷ []) are.1,
-  λ m r is.
-      let here : IsAt (rules_in old ++ rule ∷ []) m r = subst (λ (rs : List PolicyRule). IsAt rs m r) same_rules is in
-      by_case m r (at_more (rules_in old) rule m r here),
+  (
+    λ m r is.
+        let here : IsAt (rules_in old ++ rule ∷ []) m r = subst (λ (rs : List PolicyRule). IsAt rs m r) same_rules is in
+        by_case m r (at_more (rules_in old) rule m r here),
+    exact_more old new rule n last same_rules only are.2.1,
+  ),
 )
   where
     by_case : (m : ℕ) (r : PolicyRule) → IsAt (rules_in old) m r ⊎ ((m ≡ length (rules_in old)) × (rule ≡ r)) → IsPlaced new.index m r
-    by_case m r (inl before) = kept old.index new.index m r keeps (are.2 m r before)
+    by_case m r (inl before) = kept old.index new.index m r keeps (are.2.0 m r before)
     by_case m r (inr now) = subst (λ (k : ℕ). IsPlaced new.index k r) (last ∙ sym now.0) (subst (λ (q : PolicyRule). IsPlaced new.index n q) now.1 own)
 
 pub map_push : {X Y : Type 0} (f : X → Y) (xs : List X) (x : X) → map f (xs ++ x ∷ []) ≡ map f xs ++ f x ∷ []
@@ -122,7 +158,7 @@ all_near bars which wanted words numbers count is in_those listed placed i j k l
         let below : n < count = rw (is ∙ map_long rule_in bars.rules.items) within in
         let near : is_near_to bars.is_held which rule wanted ≡ true =
         not_false (is_near_to bars.is_held which rule wanted) (barred bars.is_held which rule wanted i j k l) (λ none. not_near bars.is_held which rule wanted none i j k l) bars_it in
-        listed n below (in_those n rule (placed n rule here) near))
+        listed n below (in_those n rule (placed.0 n rule here) near))
 
 -- what is left after the first rules, beside all
 pub then_alone : (a f s r left v : Bool) → left ≡ (a && not f) → v ≡ (left && not r) → (f || s) ≡ r → v ≡ (a && not r)

@@ -1,10 +1,10 @@
 -- Numbers as bits of words.
-use Rattle.std.proofs.Common.{◌≡◌, ℕ, zero, suc, ◌*◌, ◌/◌, ◌%◌, ◌^◌, ◌+◌, ◌-◌, ◌<◌, ◌≤◌, ◌≢◌, ◌==◌, Bool, true, false, not, ◌&&◌, ◌||◌, ◌⊎◌, inl, inr, List, [], ◌∷◌, ◌++◌, length, get_or, set, take, refl, ap, sym, ◌∙◌, arith, max}
+use Rattle.std.proofs.Common.{◌≡◌, ℕ, zero, suc, ◌*◌, ◌/◌, ◌%◌, ◌^◌, ◌+◌, ◌<◌, ◌≤◌, ◌≢◌, ◌==◌, Bool, true, false, ◌&&◌, ◌||◌, ◌⊎◌, inl, inr, List, [], ◌∷◌, ◌++◌, length, get_or, replicate, set, take, refl, ap, sym, ◌∙◌, arith, max}
 use lib.Bits.{bit_and}
 use Rattle.std.proofs.Math.Dec.{eqb-suc-zero}
 use Rattle.std.specs.Int.{bit_at, w64}
 use Rattle.std.specs.Int.RustNames.{bit_or}
-use Rattle.std.proofs.lemmas.Nat.Bits.{bit_at_and, bit_at_ones, bit_at_or, bit_at_set_same, bit_at-lt, bit_at-zero}
+use Rattle.std.proofs.lemmas.Nat.Bits.{bit_at_and, bit_at_ones, bit_at_or, bit_at_set_other, bit_at_set_same, bit_at-lt, bit_at-zero}
 use Rattle.std.proofs.lemmas.List.{get_or-set_other, get_or-set_same, get_or_append_left, get_or_default, get_or_past, get_or_push, length_push}
 use Rattle.std.specs.BTreeMap.{BTreeMap}
 use Rattle.std.specs.Global.{Vec}
@@ -12,11 +12,11 @@ use Rattle.std.specs.Str.{bytes_eq}
 use denote.Ref.{Bor}
 use Rattle.kapi_rules.proofs.Covers.{same}
 use Rattle.kapi_missing.proofs.Seen.{turned_word}
-use Rattle.std.proofs.lemmas.Bool.{and_parts, cases_eq, or_cases, or_left, or_right}
+use Rattle.std.proofs.lemmas.Bool.{and_from, and_parts, cases_eq, eq-eqb, eqb-false, eqb-true, or_cases, or_left, or_right}
 use Rattle.std.proofs.lemmas.Bool.Decides.{nat_tests}
 use Rattle.std.proofs.lemmas.List.Folds.{list_any-append}
-use Rattle.kapi_text.proofs.Booleans.{or_false}
-use Rattle.kapi_missing.specs.Private.Sets.{block_has, blocks_at, fingerprint, in_word, in_words, stands, stands_at, stands_under}
+use Rattle.kapi_text.proofs.Booleans.{and_false, or_false}
+use Rattle.kapi_missing.specs.Private.Sets.{block_has, blocks_at, fingerprint, has_bit, in_word, in_words, stands, stands_at, stands_under}
 use Rattle.kapi_missing.specs.declared.sets.Block.{Block}
 
 at_most_one : (n : ℕ) → n < 2 → max 1 n ≡ 1
@@ -27,6 +27,9 @@ bit_set marks place below = bit_at_set_same w64 marks place below
 
 pub bits_kept : (marks more i : ℕ) → bit_at marks i ≡ 1 → bit_at (bit_or marks more) i ≡ 1
 bits_kept marks more i h = rw (bit_at_or marks more i, h) (at_most_one _ (bit_at-lt more i))
+
+pub no_other_bit : (bits place i : ℕ) → place < 64 → bit_at (bit_or bits (1 * 2 ^ place % 2 ^ 64)) i ≡ 1 → (place == i) ≡ false → bit_at bits i ≡ 1
+no_other_bit bits place i below is other = sym (bit_at_set_other w64 bits place below i (λ e. eqb-false place i other (sym e))) ∙ is
 
 pub bits_kept_right : (marks more i : ℕ) → bit_at more i ≡ 1 → bit_at (bit_or marks more) i ≡ 1
 bits_kept_right marks more i h = rw (bit_at_or marks more i, h) (by_bit (bit_at marks i) (bit_at-lt marks i))
@@ -63,6 +66,37 @@ number_added place bits more number at_place is kept n h = by_case (or_cases ((p
       where
         same_number : (m : ℕ) → (m == m) ≡ true
         same_number m = grind (arith, nat_tests)
+
+pub number_only : (place bits more number : ℕ) → place ≡ number / 64 → ((i : ℕ) → bit_at more i ≡ 1 → (number % 64 == i) ≡ false → bit_at bits i ≡ 1)
+    → (n : ℕ) → ((place == n / 64) && (bit_at more (n % 64) == 1)) ≡ true → (((place == n / 64) && (bit_at bits (n % 64) == 1)) || (number == n)) ≡ true
+number_only place bits more number at_place only n h = by_case (number % 64 == n % 64) refl
+  where
+    parts : ((place == n / 64) ≡ true) × ((bit_at more (n % 64) == 1) ≡ true)
+    parts = and_parts (place == n / 64) (bit_at more (n % 64) == 1) h
+
+    by_case : (t : Bool) → (number % 64 == n % 64) ≡ t → (((place == n / 64) && (bit_at bits (n % 64) == 1)) || (number == n)) ≡ true
+    by_case false other =
+        or_left ((place == n / 64) && (bit_at bits (n % 64) == 1)) (number == n)
+        (and_from (place == n / 64) (bit_at bits (n % 64) == 1) parts.0 (one_is (bit_at bits (n % 64)) (only (n % 64) (is_one (bit_at more (n % 64)) parts.1) other)))
+    by_case true same =
+        let low : number % 64 ≡ n % 64 = eqb-true (number % 64) (n % 64) same in
+        let high : place ≡ n / 64 = eqb-true place (n / 64) parts.0 in
+        or_right ((place == n / 64) && (bit_at bits (n % 64) == 1)) (number == n) (eq-eqb number n (omega (arith, low, high, at_place)))
+
+-- a block of no bits has no number
+pub no_bits : (place n : ℕ) → ((place == n / 64) && (bit_at 0 (n % 64) == 1)) ≡ false
+no_bits place n = rw (bit_at-zero (n % 64)) (and_false (place == n / 64))
+
+abbrev pub zeros : ℕ → List ℕ
+zeros count = replicate count 0
+
+pub no_word : (words : List ℕ) (count n : ℕ) → words ≡ zeros count → (bit_at (get_or words (n / 64) 0) (n % 64) == 1) ≡ false
+no_word words count n is = rw (is, all_zero count (n / 64), bit_at-zero (n % 64)) refl
+  where
+    all_zero : (m i : ℕ) → get_or (zeros m) i 0 ≡ 0
+    all_zero zero i = refl
+    all_zero (suc m) zero = refl
+    all_zero (suc m) (suc i) = all_zero m i
 
 pub stands_push : (blocks : List Block) (b : Block) (n : ℕ) → stands (blocks ++ b ∷ []) n ≡ (stands blocks n || block_has b n)
 stands_push blocks b n = list_any-append (λ x. block_has x n) blocks (b ∷ []) ∙ ap (λ r. stands blocks n || r) (or_false (block_has b n))
@@ -104,6 +138,38 @@ block_marked words b word within is n h = by_place (cases_eq (n / 64) b.place)
     by_place (inr other) =
         ap (λ w. bit_at w (n % 64) == 1) (get_or-set_other words b.place (n / 64) (bit_or word b.bits) 18446744073709551615 other)
         ∙ elsewhere other (or_cases (in_words words n) (block_has b n) h)
+
+either_bit : (a b i : ℕ) → bit_at (bit_or a b) i ≡ 1 → (bit_at a i ≡ 1) ⊎ (bit_at b i ≡ 1)
+either_bit a b i is = by_bit (bit_at a i) (bit_at b i) (bit_at-lt a i) (sym (bit_at_or a b i) ∙ is)
+  where
+    by_bit : (m k : ℕ) → m < 2 → max m k ≡ 1 → (m ≡ 1) ⊎ (k ≡ 1)
+    by_bit zero k below h = inr (omega (arith, h))
+    by_bit (suc zero) k below h = inl refl
+    by_bit (suc (suc m)) k below h = absurd (omega (arith, below))
+
+-- and no other number comes with it
+pub block_only : (words : List ℕ) (b : Block) (word : ℕ) → b.place < length words → word ≡ get_or words b.place word
+    → (n : ℕ) → has_bit (set words b.place (bit_or word b.bits)) n ≡ true → (has_bit words n || block_has b n) ≡ true
+block_only words b word within is n h = by_place (cases_eq (n / 64) b.place)
+  where
+    there : get_or words b.place 0 ≡ word
+    there = get_or_default words b.place 0 word within ∙ sym is
+
+    by_bit : n / 64 ≡ b.place → (bit_at word (n % 64) ≡ 1) ⊎ (bit_at b.bits (n % 64) ≡ 1) → (has_bit words n || block_has b n) ≡ true
+    by_bit here (inl old) =
+        or_left (has_bit words n) (block_has b n) (one_is (bit_at (get_or words (n / 64) 0) (n % 64)) (ap (λ w. bit_at w (n % 64)) (ap (λ p. get_or words p 0) here ∙ there) ∙ old))
+    by_bit here (inr new) =
+        or_right (has_bit words n) (block_has b n) (and_from (b.place == n / 64) (bit_at b.bits (n % 64) == 1) (eq-eqb b.place (n / 64) (sym here)) (one_is (bit_at b.bits (n % 64)) new))
+
+    by_place : (n / 64 ≡ b.place) ⊎ (n / 64 ≡ b.place → ⊥) → (has_bit words n || block_has b n) ≡ true
+    by_place (inl here) =
+        let now : get_or (set words b.place (bit_or word b.bits)) (n / 64) 0 ≡ bit_or word b.bits =
+        ap (λ p. get_or (set words b.place (bit_or word b.bits)) p 0) here ∙ get_or-set_same words b.place (bit_or word b.bits) 0 within in
+        by_bit here (either_bit word b.bits (n % 64)
+        (sym (ap (λ w. bit_at w (n % 64)) now) ∙ is_one (bit_at (get_or (set words b.place (bit_or word b.bits)) (n / 64) 0) (n % 64)) h))
+    by_place (inr other) =
+        or_left (has_bit words n) (block_has b n)
+        (sym (ap (λ w. bit_at w (n % 64) == 1) (get_or-set_other words b.place (n / 64) (bit_or word b.bits) 0 other)) ∙ h)
 
 -- a block behind the last word excludes nothing
 pub block_outside : (words : List ℕ) (b : Block) → length words ≤ b.place → (n : ℕ) → (in_words words n || block_has b n) ≡ true → in_words words n ≡ true
@@ -182,6 +248,21 @@ under_more old new text e number blocks more was here_is other_is grown n h = by
     by_case false other =
         ap (λ bs. stands bs n) (other_is other)
         ∙ part (bytes_eq text e) (or_cases (stands_under old e n) (bytes_eq text e && (number == n)) h) (turned_word text e ∙ other)
+
+-- and nothing else stands there
+pub under_only : (old new : BTreeMap (Bor (List ℕ)) (Vec Block)) (text e : List ℕ) (number : ℕ) (blocks more : List Block)
+    → blocks ≡ blocks_at old text → (bytes_eq e text ≡ true → blocks_at new e ≡ more) → (bytes_eq e text ≡ false → blocks_at new e ≡ blocks_at old e)
+    → ((m : ℕ) → stands more m ≡ true → (stands blocks m || (number == m)) ≡ true)
+    → (n : ℕ) → stands_under new e n ≡ true → (stands_under old e n || (bytes_eq text e && (number == n))) ≡ true
+under_only old new text e number blocks more was here_is other_is grown n h = by_case (bytes_eq e text) refl
+  where
+    by_case : (t : Bool) → bytes_eq e text ≡ t → (stands_under old e n || (bytes_eq text e && (number == n))) ≡ true
+    by_case true same_text =
+        let at_e : e ≡ text = same e text same_text in
+        let here : blocks_at old e ≡ blocks = ap (blocks_at old) at_e ∙ sym was in
+        let is : (stands blocks n || (number == n)) ≡ true = grown n (sym (ap (λ bs. stands bs n) (here_is same_text)) ∙ h) in
+        rw (turned_word text e, same_text) (ap (λ bs. stands bs n || (number == n)) here ∙ is)
+    by_case false other = or_left (stands_under old e n) (bytes_eq text e && (number == n)) (sym (ap (λ bs. stands bs n) (other_is other)) ∙ h)
 
 -- one beginning more of a path
 pub next_beginning : (patterns : BTreeMap ℕ (Vec Block)) (path : List ℕ) (i n hash : ℕ) (before now : Bool) → hash ≡ fingerprint (take (i + 1) path)

@@ -63,7 +63,7 @@ none_at p [] none i = refl
 none_at p (x ∷ xs) none zero = let parts = or_parts (p x) (list_any p xs) none in parts.0
 none_at p (x ∷ xs) none (suc i) = let parts = or_parts (p x) (list_any p xs) none in none_at p xs parts.1 i
 
-none_marked : (xs : List Bool) → list_any (λ mark. mark) xs ≡ false → (i : ℕ) → at xs i ≡ false
+pub none_marked : (xs : List Bool) → list_any (λ mark. mark) xs ≡ false → (i : ℕ) → at xs i ≡ false
 none_marked [] none i = refl
 none_marked (x ∷ xs) none zero = let parts = or_parts x (list_any (λ mark. mark) xs) none in parts.0
 none_marked (x ∷ xs) none (suc i) = let parts = or_parts x (list_any (λ mark. mark) xs) none in none_marked xs parts.1 i

@@ -1,78 +1,79 @@
--- What single atoms are stopped by.
-use Rattle.std.proofs.Common.{◌≡◌, ℕ, zero, suc, ◌+◌, ◌<◌, ◌≤◌, ◌≢◌, ◌==◌, Bool, true, false, not, ◌&&◌, ◌||◌, ◌⊎◌, inl, inr, if◌then◌else◌, List, [], ◌∷◌, ◌++◌, length, map, get_or, refl, ap, sym, ◌∙◌, arith}
-use Rattle.std.proofs.lemmas.Bool.{and_parts, cases_eq, or_left, or_right}
-use Rattle.std.proofs.lemmas.List.{get_or_append_left, get_or_past, get_or_push, length_push}
+-- What single atoms are stopped by, and what is left of parts whose atoms are looked at one by one.
+use Rattle.std.proofs.Common.{◌≡◌, ℕ, zero, suc, ◌+◌, ◌<◌, ◌≤◌, ◌≢◌, ◌*◌, ◌/◌, ◌%◌, ◌^◌, ◌==◌, Bool, true, false, ◌&&◌, ◌||◌, ◌⊎◌, inl, inr, if◌then◌else◌, List, [], ◌∷◌, ◌++◌, length, map, get_or, min, take, refl, ap, sym, ◌∙◌, arith}
+use lib.Bits.{bit_and}
+use Rattle.std.proofs.Math.Dec.{eqb-suc-zero}
+use Rattle.std.specs.Int.{bit_at}
+use Rattle.std.specs.Str.{bytes_eq}
+use Rattle.std.proofs.lemmas.Nat.Bits.{bit_at_and, bit_at-lt, bit_at-zero, shr_and_one}
+use Rattle.kapi_rules.proofs.Law.{any_weaker}
+use Rattle.kapi_rules.specs.Atoms.{after_slash, is_any_with}
+use Rattle.kapi_rules.specs.Entries.{beginning_matches, star, word_matches}
+use Rattle.std.proofs.lemmas.Bool.{and_parts, cases_eq, eq-eqb, eqb-true, ne_eqb, or_left, or_right}
+use Rattle.std.proofs.lemmas.List.{get_or_append_left, get_or_past, get_or_push, length-take-le, length_push, take_more}
 use Rattle.std.specs.Global.{Vec}
 use Rattle.std.specs.List.{list_any}
+use Rattle.kapi_text.proofs.Booleans.{and_false, and_true, by_truth, or_false}
 use Rattle.kapi_model.specs.declared.policy_rule.PolicyRule.{PolicyRule}
 use Rattle.kapi_missing.proofs.Adding.{map_long, map_push, through}
-use Rattle.kapi_missing.proofs.Bits.{full_bit, le_or_lt}
+use Rattle.kapi_missing.proofs.Bits.{bit_in_both, full_bit, is_one, le_or_lt, one_is}
 use Rattle.kapi_missing.proofs.Lefts.{at_map}
-use Rattle.kapi_missing.proofs.Placed.{at_within, marked_at}
-use Rattle.kapi_missing.specs.Private.Alone.{AreRows, Rowed, in_row}
-use Rattle.kapi_missing.specs.Private.Bars.{barred, meets, name_marks, rule_in}
-use Rattle.kapi_missing.specs.Private.Index.{AreAllPlaced, IsPlaced, meets_some, rules_in}
-use Rattle.kapi_missing.specs.Private.Marks.{at, has}
-use Rattle.kapi_missing.specs.Private.Sets.{has_number, in_words}
+use Rattle.kapi_missing.proofs.Placed.{at_within, marked_at, some_at}
+use Rattle.kapi_missing.specs.Private.Bars.{barred, entries_in, entry_covers, meets, name_marks, rule_in}
+use Rattle.kapi_missing.specs.Private.Index.{AreAllPlaced, IsExact, IsPlaced, lists, meets_some, rules_in, sets_in}
+use Rattle.kapi_missing.specs.Private.Marks.{at}
+use Rattle.kapi_missing.specs.Private.Rows.{AreListed, AreRows, SomeCommon, Listed, Rowed, in_listed, in_row, lists_at}
+use Rattle.kapi_missing.specs.Private.Sets.{has_bit, has_number, in_word, in_words, stands_under}
 use Rattle.kapi_missing.specs.Private.Stopped.{stops_at}
+use Rattle.kapi_missing.specs.declared.bars.Dimension.{Dimension}
 use Rattle.kapi_missing.specs.declared.bars.Dimension.TheVariants as dimension
 use Rattle.kapi_missing.specs.declared.bars.Sort.{Sort}
 use Rattle.kapi_missing.specs.declared.bars.Sort.TheVariants as sort
 use Rattle.kapi_missing.specs.declared.index.Bars.{Bars}
 use Rattle.kapi_missing.specs.declared.index.Index.{Index}
-use Rattle.kapi_missing.specs.declared.alone.Rows.{Rows}
-use Rattle.kapi_missing.specs.declared.marks.Marks.{Marks}
+use Rattle.kapi_missing.specs.declared.rows.Rows.{Rows}
 
--- ---- parts that are cut
+-- ---- entries at their positions
 
-pub cut_first : (a b c d x : Bool) → (a && (b && (c && d))) ≡ (((a && x) && ((b && true) && ((c && true) && (d && true)))) || ((a && not x) && ((b && true) && ((c && true) && (d && true)))))
-cut_first false b c d x = refl
-cut_first true false c d true = refl
-cut_first true false c d false = refl
-cut_first true true false d true = refl
-cut_first true true false d false = refl
-cut_first true true true false true = refl
-cut_first true true true false false = refl
-cut_first true true true true true = refl
-cut_first true true true true false = refl
+pub entry_at : {X : Type 0} (f : X → Bool) (xs : List X) (n : ℕ) (x : X) → n < length xs → x ≡ get_or xs n x → at (map f xs) n ≡ f x
+entry_at f [] n x within is = absurd (omega (arith, within))
+entry_at f (y ∷ xs) zero x within is = ap f (sym is)
+entry_at f (y ∷ xs) (suc n) x within is = let less : n < length xs = omega (arith, within) in entry_at f xs n x less is
 
-pub cut_second : (a b c d x : Bool) → (a && (b && (c && d))) ≡ (((a && true) && ((b && x) && ((c && true) && (d && true)))) || ((a && true) && ((b && not x) && ((c && true) && (d && true)))))
-cut_second false b c d x = refl
-cut_second true false c d true = refl
-cut_second true false c d false = refl
-cut_second true true false d true = refl
-cut_second true true false d false = refl
-cut_second true true true false true = refl
-cut_second true true true false false = refl
-cut_second true true true true true = refl
-cut_second true true true true false = refl
+-- none is behind the end
+pub behind : {X : Type 0} (f : X → Bool) (xs : List X) (n : ℕ) → length xs ≤ n → at (map f xs) n ≡ false
+behind f [] n past = refl
+behind f (x ∷ xs) zero past = absurd (omega (arith, past))
+behind f (x ∷ xs) (suc n) past = let less : length xs ≤ n = omega (arith, past) in behind f xs n less
 
-pub cut_third : (a b c d x : Bool) → (a && (b && (c && d))) ≡ (((a && true) && ((b && true) && ((c && x) && (d && true)))) || ((a && true) && ((b && true) && ((c && not x) && (d && true)))))
-cut_third false b c d x = refl
-cut_third true false c d x = refl
-cut_third true true false d true = refl
-cut_third true true false d false = refl
-cut_third true true true false true = refl
-cut_third true true true false false = refl
-cut_third true true true true true = refl
-cut_third true true true true false = refl
+-- all names stand at the first position
+pub no_names : (held : Bool) (b : PolicyRule) (names : List (List ℕ)) (p : ℕ) → (length names == 0) ≡ true
+    → at (name_marks held b names) p ≡ ((length b.resource_names == 0) && (p == 0))
+no_names held b [] zero none = sym (and_true (length b.resource_names == 0))
+no_names held b [] (suc p) none = rw (eqb-suc-zero p) (sym (and_false (length b.resource_names == 0)))
+no_names held b (x ∷ names) p none = absurd (let never : false ≡ true = rw (eqb-suc-zero (length names)) at none in cc)
 
-pub cut_last : (a b c d x : Bool) → (a && (b && (c && d))) ≡ (((a && true) && ((b && true) && ((c && true) && (d && x)))) || ((a && true) && ((b && true) && ((c && true) && (d && not x)))))
-cut_last false b c d x = refl
-cut_last true false c d x = refl
-cut_last true true false d x = refl
-cut_last true true true false true = refl
-cut_last true true true false false = refl
-cut_last true true true true true = refl
-cut_last true true true true false = refl
+module _ (held : Bool) (b : PolicyRule) where
+  pub name_at : (names : List (List ℕ)) (p : ℕ) (x : List ℕ) → p < length names → x ≡ get_or names p x
+      → at (name_marks held b names) p ≡ ((held && (length b.resource_names == 0)) || meets held dimension.Names b x)
+  name_at [] p x within is = absurd (omega (arith, within))
+  name_at (y ∷ names) p x within is = by_case (held && (length b.resource_names == 0))
+    where
+      by_case : (t : Bool) → at (if t then map (λ e. true) (y ∷ names) else map (meets held dimension.Names b) (y ∷ names)) p ≡ (t || meets held dimension.Names b x)
+      by_case true = entry_at (λ e. true) (y ∷ names) p x within is
+      by_case false = entry_at (meets held dimension.Names b) (y ∷ names) p x within is
 
--- what two pieces add is what their part has
-pub two_pieces : (old middle new one other all : Bool) → all ≡ (one || other) → middle ≡ (old || one) → new ≡ (middle || other) → new ≡ (old || all)
-two_pieces old middle new one other all is first second = second ∙ ap (λ r. r || other) first ∙ grouped old one other ∙ ap (λ r. old || r) (sym is)
-  where
-    grouped : (a b c : Bool) → ((a || b) || c) ≡ (a || (b || c))
-    grouped true b c = refl
-    grouped false b c = refl
+  pub name_behind : (names : List (List ℕ)) (p : ℕ) → (length names == 0) ≡ false → length names ≤ p → at (name_marks held b names) p ≡ false
+  name_behind [] p some past = absurd cc
+  name_behind (y ∷ names) p some past = by_case (held && (length b.resource_names == 0))
+    where
+      by_case : (t : Bool) → at (if t then map (λ e. true) (y ∷ names) else map (meets held dimension.Names b) (y ∷ names)) p ≡ false
+      by_case true = behind (λ e. true) (y ∷ names) p past
+      by_case false = behind (meets held dimension.Names b) (y ∷ names) p past
+
+-- the one entry that is always marked
+pub only_one : (j : ℕ) → at (true ∷ []) j ≡ (j == 0)
+only_one zero = refl
+only_one (suc j) = sym (eqb-suc-zero j)
 
 -- ---- rows
 
@@ -142,39 +143,258 @@ name_rows index held (x ∷ names) rows some were n i b placed h = by_case (held
         were n i b placed (marked_at (meets held dimension.Names b) (x ∷ names) i m (λ e here yes. at_map (λ e. (held && (length b.resource_names == 0)) || (meets held dimension.Names b e || false)) (x ∷ names) i e here
         ∙ or_right (held && (length b.resource_names == 0)) (meets held dimension.Names b e || false) (or_left (meets held dimension.Names b e) false yes)))
 
--- ---- one part
+-- ---- words of four rows
 
--- the rules that bar an atom are among the numbers of its rows
-pub row_numbers : (bars : Bars) (which : Sort) (wanted : PolicyRule) (rows : Rows) (part : Marks) (words numbers : List ℕ) (count : ℕ) → count ≡ length bars.rules.items
-    → ((n i j k l : ℕ) → has part i j k l ≡ true → in_row rows.groups.items i n ≡ true → in_row rows.resources.items j n ≡ true
-    → in_row rows.verbs.items k n ≡ true → in_row rows.names.items l n ≡ true → in_words words n ≡ true)
-    → ((n : ℕ) → n < count → in_words words n ≡ true → has_number numbers n ≡ true) → AreAllPlaced bars → AreRows bars.index bars.is_held which wanted rows
-    → (i j k l : ℕ) → has part i j k l ≡ true
-    → list_any (stops_at bars which wanted i j k l) numbers ≡ list_any (λ b. barred bars.is_held which b wanted i j k l) (rules_in bars)
-row_numbers bars which wanted rows part words numbers count is in_those listed placed are i j k l within_part =
-    through (λ b. barred bars.is_held which b wanted i j k l) (rules_in bars) numbers has_it
+pub in_word_of : (words : List ℕ) (n place word : ℕ) → word ≡ in_word words place → n / 64 ≡ place → in_words words n ≡ true → bit_at word (n % 64) ≡ 1
+in_word_of words n place word is here h = rw (is, ← here) (is_one (bit_at (in_word words (n / 64)) (n % 64)) h)
+
+pub in_four : (a b c d i : ℕ) → bit_at a i ≡ 1 → bit_at b i ≡ 1 → bit_at c i ≡ 1 → bit_at d i ≡ 1 → bit_at (bit_and (bit_and a b) (bit_and c d)) i ≡ 1
+in_four a b c d i p q r s = bit_in_both (bit_and a b) (bit_and c d) i (bit_in_both a b i p q) (bit_in_both c d i r s)
+
+-- where no rule in the rows of its entries stops an atom, none does
+pub none_in_rows : (bars : Bars) (which : Sort) (wanted : PolicyRule) (rows : Rows) (i j k l : ℕ) → AreAllPlaced bars → AreRows bars.index bars.is_held which wanted rows
+    → ((n : ℕ) → n < length bars.rules.items → in_row rows.groups.items i n ≡ true → in_row rows.resources.items j n ≡ true
+    → in_row rows.verbs.items k n ≡ true → in_row rows.names.items l n ≡ true → stops_at bars which wanted i j k l n ≡ false)
+    → list_any (λ b. barred bars.is_held which b wanted i j k l) (rules_in bars) ≡ false
+none_in_rows bars which wanted rows i j k l placed are none = sym (through (λ b. barred bars.is_held which b wanted i j k l) (rules_in bars) [] has_it)
   where
     in_rows : (which : Sort) (b : PolicyRule) (n : ℕ) → IsPlaced bars.index n b → AreRows bars.index bars.is_held which wanted rows
-        → barred bars.is_held which b wanted i j k l ≡ true → in_words words n ≡ true
+        → barred bars.is_held which b wanted i j k l ≡ true
+        → (in_row rows.groups.items i n ≡ true) × (in_row rows.resources.items j n ≡ true) × (in_row rows.verbs.items k n ≡ true) × (in_row rows.names.items l n ≡ true)
     in_rows sort.Resources b n here are h =
         let g = and_parts _ _ h in
         let r = and_parts _ _ g.1 in
-        let v = and_parts _ _ r.1 in
-        in_those n i j k l within_part (are.0 n i b here g.0) (are.1 n j b here r.0) (are.2 n k b here v.0) (are.3 n l b here v.1)
+        let v = and_parts _ _ r.1 in (are.0 n i b here g.0, are.1 n j b here r.0, are.2 n k b here v.0, are.3 n l b here v.1)
     in_rows sort.Urls b n here are h =
         let g = and_parts _ _ h in
         let r = and_parts _ _ g.1 in
-        let v = and_parts _ _ r.1 in
-        in_those n i j k l within_part (are.0 n i b here g.0) (are.1 n j b here r.0) (are.2 n k b here v.0) (are.3 n l b here v.1)
+        let v = and_parts _ _ r.1 in (are.0 n i b here g.0, are.1 n j b here r.0, are.2 n k b here v.0, are.3 n l b here v.1)
 
-    has_it : (n : ℕ) → at (map (λ b. barred bars.is_held which b wanted i j k l) (rules_in bars)) n ≡ true → has_number numbers n ≡ true
+    has_it : (n : ℕ) → at (map (λ b. barred bars.is_held which b wanted i j k l) (rules_in bars)) n ≡ true → has_number [] n ≡ true
     has_it n h =
         marked_at (λ b. barred bars.is_held which b wanted i j k l) (rules_in bars) n h (λ rule here bars_it.
         let within : n < length (rules_in bars) = at_within (rules_in bars) n rule here in
-        let below : n < count = rw (is ∙ map_long rule_in bars.rules.items) within in
-        listed n below (in_rows which rule n (placed n rule here) are bars_it))
+        let below : n < length bars.rules.items = rw (map_long rule_in bars.rules.items) within in
+        let those = in_rows which rule n (placed.0 n rule here) are bars_it in
+        absurd (let never : true ≡ false = sym h ∙ none n below those.0 those.1 those.2 those.3 in cc))
 
--- what is left of a part is put to the others
-pub part_left : (old new left alone : Bool) (p q r : Bool) → new ≡ (old || left) → left ≡ ((p || false) && not q) → (p ≡ true → q ≡ r) → new ≡ (old || (p && not r))
-part_left old new left alone true q r appended is same = appended ∙ ap (λ x. old || x) (is ∙ ap not (same refl))
-part_left old new left alone false q r appended is same = appended ∙ ap (λ x. old || x) is
+-- ---- rules that list all entries of an atom
+
+pub bit_is : (word bit : ℕ) → (bit_and (word / 2 ^ bit) 1 == 1) ≡ true → bit_at word bit ≡ 1
+bit_is word bit h = sym (shr_and_one word bit) ∙ is_one (bit_and (word / 2 ^ bit) 1) h
+
+in_both : (a b i : ℕ) → bit_at (bit_and a b) i ≡ 1 → (bit_at a i ≡ 1) × (bit_at b i ≡ 1)
+in_both a b i is =
+    let least : min (bit_at a i) (bit_at b i) ≡ 1 = sym (bit_at_and a b i) ∙ is in
+    let first : bit_at a i < 2 = bit_at-lt a i in
+    let second : bit_at b i < 2 = bit_at-lt b i in (omega (arith, least, first, second), omega (arith, least, first, second))
+
+own_bit : (words : List ℕ) (place bit word : ℕ) → bit < 64 → word ≡ get_or words place 0 → bit_at word bit ≡ 1 → has_bit words (place * 64 + bit) ≡ true
+own_bit words place bit word below is set =
+    let high : (place * 64 + bit) / 64 ≡ place = omega (arith, below) in
+    let low : (place * 64 + bit) % 64 ≡ bit = omega (arith, below) in
+    rw (high, low) (one_is (bit_at (get_or words place 0) bit) (ap (λ w. bit_at w bit) (sym is) ∙ set))
+
+pub common_number : (groups resources verbs names : List ℕ) (place bit g r v m : ℕ) → bit < 64
+    → g ≡ get_or groups place 0 → r ≡ get_or resources place 0 → v ≡ get_or verbs place 0 → m ≡ get_or names place 0
+    → bit_at (bit_and (bit_and g r) (bit_and v m)) bit ≡ 1
+    → SomeCommon groups resources verbs names
+common_number groups resources verbs names place bit g r v m below is_g is_r is_v is_m set =
+    let halves = in_both (bit_and g r) (bit_and v m) bit set in
+    let first = in_both g r bit halves.0 in
+    let last = in_both v m bit halves.1 in (
+      place * 64 + bit,
+      own_bit groups place bit g below is_g first.0,
+      own_bit resources place bit r below is_r first.1,
+      own_bit verbs place bit v below is_v last.0,
+      own_bit names place bit m below is_m last.1,
+    )
+
+pub no_listed : (n : ℕ) → has_bit [] n ≡ false
+no_listed n = rw (bit_at-zero (n % 64)) refl
+
+-- what is listed is met
+listed_meets : (held : Bool) (d : Dimension) (e : List ℕ) (b : PolicyRule) → lists d e b ≡ true → meets held d b e ≡ true
+listed_meets false d e b is = is
+listed_meets true d e b is = any_weaker (λ x. bytes_eq x e) (λ x. entry_covers d x e) (entries_in d b) (λ x same. covers d x same) is
+  where
+    covers : (d : Dimension) (x : List ℕ) → bytes_eq x e ≡ true → entry_covers d x e ≡ true
+    covers dimension.Verbs x same = or_right (bytes_eq x star) (bytes_eq x e) same
+    covers dimension.Groups x same = or_right (bytes_eq x star) (bytes_eq x e) same
+    covers dimension.Resources x same = or_left (word_matches x e) (is_any_with x (after_slash e)) (or_right (bytes_eq x star) (bytes_eq x e) same)
+    covers dimension.Names x same = same
+    covers dimension.Urls x same = or_left (bytes_eq x e) (beginning_matches x e) same
+
+met_at : (held : Bool) (d : Dimension) (entries : List (List ℕ)) (i : ℕ) (b : PolicyRule) → lists_at d entries i b ≡ true → at (map (meets held d b) entries) i ≡ true
+met_at held d entries i b h =
+    marked_at (λ e. lists d e b) entries i h (λ e here is. at_map (meets held d b) entries i e here ∙ listed_meets held d e b is)
+
+name_met_at : (held : Bool) (names : List (List ℕ)) (l : ℕ) (b : PolicyRule) → lists_at dimension.Names names l b ≡ true → at (name_marks held b names) l ≡ true
+name_met_at held [] l b h = absurd (let never : false ≡ true = h in cc)
+name_met_at held (x ∷ names) l b h = by_case (held && (length b.resource_names == 0))
+  where
+    by_case : (t : Bool) → at (if t then map (λ e. true) (x ∷ names) else map (meets held dimension.Names b) (x ∷ names)) l ≡ true
+    by_case true = marked_at (λ e. lists dimension.Names e b) (x ∷ names) l h (λ e here is. at_map (λ e. true) (x ∷ names) l e here)
+    by_case false = met_at held dimension.Names (x ∷ names) l b h
+
+pub listed_stops : (bars : Bars) (wanted : PolicyRule) (rows : Rows) (i j k l n : ℕ) → AreListed bars wanted rows
+    → in_listed rows.groups.items i n ≡ true → in_listed rows.resources.items j n ≡ true → in_listed rows.verbs.items k n ≡ true → in_listed rows.names.items l n ≡ true
+    → list_any (λ b. barred bars.is_held sort.Resources b wanted i j k l) (rules_in bars) ≡ true
+listed_stops bars wanted rows i j k l n are g r v m =
+    some_at (λ b. barred bars.is_held sort.Resources b wanted i j k l) (rules_in bars) n
+    (marked_at (lists_at dimension.Groups wanted.api_groups i) (rules_in bars) n (are.0 i n g) (λ b here group.
+    let resource = sym (at_map (lists_at dimension.Resources wanted.resources j) (rules_in bars) n b here) ∙ are.1 j n r in
+    let verb = sym (at_map (lists_at dimension.Verbs wanted.verbs k) (rules_in bars) n b here) ∙ are.2 k n v in
+    let name = sym (at_map (lists_at dimension.Names wanted.resource_names l) (rules_in bars) n b here) ∙ are.3 l n m in
+    at_map (λ b. barred bars.is_held sort.Resources b wanted i j k l) (rules_in bars) n b here
+    ∙ rw (
+      met_at bars.is_held dimension.Groups wanted.api_groups i b group,
+      met_at bars.is_held dimension.Resources wanted.resources j b resource,
+      met_at bars.is_held dimension.Verbs wanted.verbs k b verb,
+      name_met_at bars.is_held wanted.resource_names l b name,
+    )
+    refl))
+
+pub listed_none : (bars : Bars) (d : Dimension) (entries : List (List ℕ)) (rows : List (Vec ℕ)) → length rows ≡ 0 → Listed bars d entries rows
+listed_none bars d entries [] none i n h = absurd (let never : false ≡ true = sym (no_listed n) ∙ h in cc)
+listed_none bars d entries (r ∷ rows) none i n h = absurd (omega (arith, none))
+
+-- one listed row more
+pub listed_pushed : (bars : Bars) (d : Dimension) (entries : List (List ℕ)) (rows : List (Vec ℕ)) (row : Vec ℕ) (i : ℕ) (e : List ℕ)
+    → length rows ≡ i → i < length entries → e ≡ get_or entries i e → IsExact bars → Listed bars d entries rows
+    → ((n : ℕ) → has_bit row.items n ≡ true → stands_under (sets_in d bars.index) e n ≡ true) → Listed bars d entries (rows ++ row ∷ [])
+listed_pushed bars d entries rows row i e long within is exact were own j n h = by_place (cases_eq j i)
+  where
+    all : List (List ℕ)
+    all = map (λ r. r.items) rows
+
+    long_all : length all ≡ i
+    long_all = sym (map_long (λ (r : Vec ℕ). r.items) rows) ∙ long
+
+    pushed : has_bit (get_or (all ++ row.items ∷ []) j []) n ≡ true
+    pushed = sym (ap (λ ls. has_bit (get_or ls j []) n) (map_push (λ (r : Vec ℕ). r.items) rows row)) ∙ h
+
+    at_entry : (b : PolicyRule) → lists_at d entries i b ≡ lists d e b
+    at_entry b = entry_at (λ x. lists d x b) entries i e within is
+
+    by_side : (j ≡ i → ⊥) → (j < i) ⊎ (i ≤ j) → at (map (lists_at d entries j) (rules_in bars)) n ≡ true
+    by_side other (inl before) =
+        let inside : j < length all = rw long_all before in
+        were j n (sym (ap (λ w. has_bit w n) (get_or_append_left all (row.items ∷ []) [] j inside)) ∙ pushed)
+    by_side other (inr behind) =
+        let apart : j ≢ i = other in
+        let past : length (all ++ row.items ∷ []) ≤ j = rw (length_push all row.items ∙ ap (λ k. k + 1) long_all) (omega (arith, behind, apart)) in
+        absurd (let never : false ≡ true = sym (no_listed n) ∙ (sym (ap (λ w. has_bit w n) (get_or_past (all ++ row.items ∷ []) j [] past)) ∙ pushed) in cc)
+
+    by_place : (j ≡ i) ⊎ (j ≡ i → ⊥) → at (map (lists_at d entries j) (rules_in bars)) n ≡ true
+    by_place (inl here) =
+        let there : has_bit row.items n ≡ true =
+        sym (ap (λ w. has_bit w n) (ap (λ k. get_or (all ++ row.items ∷ []) k []) here ∙ get_or_push all row.items [] i long_all)) ∙ pushed in
+        marked_at (lists d e) (rules_in bars) n (exact d e n (own n there)) (λ b at_b listed.
+        at_map (lists_at d entries j) (rules_in bars) n b at_b ∙ ap (λ k. lists_at d entries k b) here ∙ at_entry b ∙ listed)
+    by_place (inr other) = by_side other (le_or_lt j i)
+
+-- ---- positions one after another
+
+suc_same : (a b : ℕ) → (suc a == suc b) ≡ (a == b)
+suc_same a b =
+    by_truth (suc a == suc b) (a == b) (λ h. let e = eqb-true (suc a) (suc b) h in eq-eqb a b (omega (arith, e))) (λ h. eq-eqb (suc a) (suc b) (ap suc (eqb-true a b h)))
+
+-- one mark more
+pub at_pushed : (xs : List Bool) (x : Bool) (i : ℕ) → at (xs ++ x ∷ []) i ≡ (at xs i || ((i == length xs) && x))
+at_pushed [] x zero = refl
+at_pushed [] x (suc i) = rw (eqb-suc-zero i) refl
+at_pushed (y ∷ xs) x zero = let other : (0 == suc (length xs)) ≡ false = ne_eqb 0 (suc (length xs)) (λ e. omega (arith, e)) in rw other (sym (or_false y))
+at_pushed (y ∷ xs) x (suc i) = at_pushed xs x i ∙ ap (λ t. at xs i || (t && x)) (sym (suc_same i (length xs)))
+
+pub at_take_more : (xs : List Bool) (n k : ℕ) → n < length xs → at (take (n + 1) xs) k ≡ (at (take n xs) k || ((k == n) && at xs n))
+at_take_more xs n k within =
+    let before : n ≤ length xs = omega (arith, within) in
+    ap (λ ys. at ys k) (take_more xs n false within) ∙ at_pushed (take n xs) (at xs n) k ∙ ap (λ m. at (take n xs) k || ((k == m) && at xs n)) (length-take-le n xs before)
+
+pub at_none : (xs : List Bool) (i : ℕ) → length xs ≡ 0 → at xs i ≡ false
+at_none [] i none = refl
+at_none (x ∷ xs) i none = absurd (omega (arith, none))
+
+pub still_none : (xs : List Bool) (i : ℕ) → at xs i ≡ false → at (xs ++ false ∷ []) i ≡ false
+still_none xs i none = at_pushed xs false i ∙ rw none (and_false (i == length xs))
+
+pub only_there : (xs : List Bool) (i n : ℕ) → length xs ≡ n → at xs i ≡ false → at (xs ++ true ∷ []) i ≡ (i == n)
+only_there xs i n long none = at_pushed xs true i ∙ rw none (and_true (i == length xs)) ∙ ap (λ k. i == k) long
+
+pick : (a t f g m x e : Bool) → a ≡ (t && f) → x ≡ (m && g) → (e ≡ true → g ≡ f) → (a || (e && x)) ≡ ((t || (e && m)) && f)
+pick a t f g m x e is new same = rw (is, new) (by_case t f e same)
+  where
+    by_case : (t f e : Bool) → (e ≡ true → g ≡ f) → ((t && f) || (e && (m && g))) ≡ ((t || (e && m)) && f)
+    by_case true true e same = refl
+    by_case true false false same = refl
+    by_case true false true same = rw (same refl) (and_false m)
+    by_case false f false same = refl
+    by_case false f true same = rw (same refl) refl
+
+-- one name more of those that are left
+pub one_name_more : (names list : List Bool) (n : ℕ) (x : Bool) (f : ℕ → Bool) → n < length names → length list ≡ n → x ≡ (at names n && f n)
+    → ((m : ℕ) → at list m ≡ (at (take n names) m && f m)) → (m : ℕ) → at (list ++ x ∷ []) m ≡ (at (take (n + 1) names) m && f m)
+one_name_more names list n x f within long is were m =
+    at_pushed list x m
+    ∙ ap (λ k. at list m || ((m == k) && x)) long
+    ∙ pick (at list m) (at (take n names) m) (f m) (f n) (at names n) x (m == n) (were m) is (λ same. ap f (sym (eqb-true m n same)))
+    ∙ ap (λ t. t && f m) (sym (at_take_more names n m within))
+
+-- ---- what each level adds
+
+pub paired : (a b c d : Bool) → (a && (b && (c && d))) ≡ ((a && b) && (c && d))
+paired true b c d = refl
+paired false b c d = refl
+
+pub nothing_added : (old e a n : Bool) → n ≡ false → old ≡ (old || (e && (a && n)))
+nothing_added true e a n none = refl
+nothing_added false false a n none = refl
+nothing_added false true a n none = rw none (sym (and_false a))
+
+pub none_yet : (old e y : Bool) → old ≡ (old || (e && (false && y)))
+none_yet true e y = refl
+none_yet false false y = refl
+none_yet false true y = refl
+
+pub not_marked : (old e a m y : Bool) → m ≡ false → old ≡ (old || (e && ((a && m) && y)))
+not_marked true e a m y none = refl
+not_marked false false a m y none = refl
+not_marked false true false m y none = refl
+not_marked false true true m y none = rw none refl
+
+pub in_marked : (a b m y : Bool) → m ≡ true → ((a && b) && y) ≡ (a && ((b && m) && y))
+in_marked false b m y is = refl
+in_marked true false m y is = refl
+in_marked true true m y is = rw is refl
+
+pub grown : (old mid new e t more q y : Bool) → mid ≡ (old || (e && (t && y))) → new ≡ (mid || (e && (q && y))) → more ≡ (t || q) → new ≡ (old || (e && (more && y)))
+grown old mid new e t more q y was is next = is ∙ rw (was, next) (by_case old e t q)
+  where
+    by_case : (old e t q : Bool) → ((old || (e && (t && y))) || (e && (q && y))) ≡ (old || (e && ((t || q) && y)))
+    by_case true e t q = refl
+    by_case false false t q = refl
+    by_case false true false q = refl
+    by_case false true true false = or_false y
+    by_case false true true true = by_y y
+      where
+        by_y : (z : Bool) → (z || z) ≡ z
+        by_y true = refl
+        by_y false = refl
+
+pub gathered : (a b c d f : Bool) → (a && (b && (c && (d && f)))) ≡ ((a && (b && (c && d))) && f)
+gathered false b c d f = refl
+gathered true false c d f = refl
+gathered true true false d f = refl
+gathered true true true d f = refl
+
+-- the names that are left beside three entries, at the positions of these
+pub same_place : (f : ℕ → ℕ → ℕ → Bool) (i j k g r v : ℕ) (m n names : Bool) → m ≡ true → names ≡ (n && f g r v)
+    → (((i == g) && (j == r)) && ((k == v) && names)) ≡ (((i == g) && (j == r)) && (((k == v) && m) && (n && f i j k)))
+same_place f i j k g r v m n names marked is = by_case (i == g) (j == r) (k == v) refl refl refl
+  where
+    by_case : (a b c : Bool) → (i == g) ≡ a → (j == r) ≡ b → (k == v) ≡ c → ((a && b) && (c && names)) ≡ ((a && b) && ((c && m) && (n && f i j k)))
+    by_case false b c p q s = refl
+    by_case true false c p q s = refl
+    by_case true true false p q s = refl
+    by_case true true true p q s = rw (marked, eqb-true i g p, eqb-true j r q, eqb-true k v s) is

@@ -9,4 +9,4 @@ pub mod Slices
 pub mod Index
 pub mod Stopped
 pub mod Slim
-pub mod Alone
+pub mod Rows

@@ -1,289 +1,243 @@
 //! Parts of few atoms, of which each is looked at alone.
-ghost use Rattle.std.specs.Prelude.{◌≡◌, ℕ, ◌&&◌, ◌||◌, not, map, true, [], ◌∷◌, IfOk, OnOk};
+ghost use Rattle.std.specs.Prelude.{◌≡◌, ℕ, ◌==◌, ◌&&◌, ◌||◌, not, true, false, IfOk, OnOk};
 ghost use Rattle.std.specs.List.{list_any};
-ghost use Rattle.kapi_missing.specs.Private.Alone.{AreRows, Rowed, in_row};
-ghost use Rattle.kapi_missing.specs.Private.Bars.{barred, name_marks};
-ghost use Rattle.kapi_missing.specs.Private.Index.{AreAllPlaced, meets_some, rules_in};
+ghost use Rattle.kapi_missing.specs.Private.Bars.{barred};
+ghost use Rattle.kapi_missing.specs.Private.Index.{AreAllPlaced, rules_in};
 ghost use Rattle.kapi_missing.specs.Private.Marks.{at, has, some_has};
-ghost use Rattle.kapi_missing.specs.Private.Sets.{in_words};
+ghost use Rattle.kapi_missing.specs.Private.Rows.{AreKnown};
+ghost use Rattle.kapi_missing.specs.Private.Stopped.{is_left};
 
-use crate::bars::{Dimension, Sort};
+use crate::bars::Sort;
 use crate::index::Bars;
-use crate::left::Level;
-use crate::marks::{Keep, Marks, is_piece, push_piece};
-use crate::near::meeting;
-use crate::sets::{common, numbers_in};
-use crate::stopped::without_numbers;
+use crate::marks::{Marks, is_marked};
+use crate::rows::{Known, all_known};
+use crate::single::{Positions, is_stopped};
 use kapi_model::PolicyRule;
-use kapi_text::{Memory, Text};
+use kapi_text::Memory;
 use std::alloc::Global;
 
-/// The rules that meet each entry of the lists of a wanted rule. A list without rows excludes none.
-#[derive(Drop)]
-pub struct Rows {
-    pub groups: Vec<Vec<u64>>,
-    pub resources: Vec<Vec<u64>>,
-    pub verbs: Vec<Vec<u64>>,
-    pub names: Vec<Vec<u64>>,
-}
-
-fn rows_of(
-    alloc: Global,
+fn is_name_left(
+    part: &Marks,
     bars: &Bars<'_>,
-    dimension: Dimension,
-    entries: &[Text],
-) -> Result<Vec<Vec<u64>>, Memory>
-    ensures { IfOk result (λ v. Rowed bars.now.index (λ b. map (λ e. meets_some bars.now.is_held dimension b (e ∷ [])) entries.now) v.items) }
-{
-    let mut list = Vec::new(alloc);
-    for entry in entries {
-        list.push(meeting(alloc, bars, dimension, std::slice::from_ref(entry))?)?;
-    }
-    Ok(list)
-}
-
-fn rows_of_names(alloc: Global, bars: &Bars<'_>, names: &[Text]) -> Result<Vec<Vec<u64>>, Memory>
-    ensures { IfOk result (λ v. Rowed bars.now.index (λ b. name_marks bars.now.is_held b names.now) v.items) }
-{
-    if !names.is_empty() {
-        return rows_of(alloc, bars, Dimension::Names, names);
-    }
-    let mut list = Vec::new(alloc);
-    list.push(meeting(alloc, bars, Dimension::Names, names)?)?;
-    Ok(list)
-}
-
-fn all_rows(alloc: Global, bars: &Bars<'_>, sort: Sort, rule: &PolicyRule) -> Result<Rows, Memory>
-    ensures { IfOk result (AreRows bars.now.index bars.now.is_held sort rule.now) }
-{
-    let verbs = rows_of(alloc, bars, Dimension::Verbs, rule.verbs.as_slice())?;
-    match sort {
-        Sort::Resources => Ok(Rows {
-            groups: rows_of(alloc, bars, Dimension::Groups, rule.api_groups.as_slice())?,
-            resources: rows_of(alloc, bars, Dimension::Resources, rule.resources.as_slice())?,
-            verbs,
-            names: rows_of_names(alloc, bars, rule.resource_names.as_slice())?,
-        }),
-        Sort::Urls => Ok(Rows {
-            groups: rows_of(
-                alloc,
-                bars,
-                Dimension::Urls,
-                rule.non_resource_urls.as_slice(),
-            )?,
-            resources: Vec::new(alloc),
-            verbs,
-            names: Vec::new(alloc),
-        }),
-    }
-}
-
-// No other position is marked.
-fn is_only(marks: &[bool], position: usize) -> bool
-    ensures { result ≡ true → (i : ℕ) → at marks.now i ≡ true → i ≡ position }
-{
-    for (other, mark) in marks.iter().enumerate() {
-        if *mark && other != position {
-            return false;
-        }
-    }
-    true
-}
-
-// The row of the one position that is marked, and what excludes none where there are several.
-fn row_for<'a>(rows: &'a [Vec<u64>], marks: &[bool]) -> &'a [u64]
-    ensures { (n i : ℕ) → at marks.now i ≡ true → in_row rows.now i n ≡ true → in_words result.now n ≡ true }
-{
-    match first_of(marks) {
-        Some(position) => row_at(rows, marks, position),
-        None => &[],
-    }
-}
-
-fn row_at<'a>(rows: &'a [Vec<u64>], marks: &[bool], position: usize) -> &'a [u64]
-    ensures { (n i : ℕ) → at marks.now i ≡ true → in_row rows.now i n ≡ true → in_words result.now n ≡ true }
-{
-    if !is_only(marks, position) {
-        return &[];
-    }
-    match rows.get(position) {
-        Some(row) => row.as_slice(),
-        None => &[],
-    }
-}
-
-fn first_of(marks: &[bool]) -> Option<usize> {
-    marks.iter().position(|mark| *mark)
-}
-
-// All rules that stop an atom of the part, and maybe others.
-fn stopping(alloc: Global, rows: &Rows, part: &Marks) -> Result<Vec<u64>, Memory>
-    ensures { IfOk result (λ v. (n i j k l : ℕ) → has part.now i j k l ≡ true → in_row rows.now.groups.items i n ≡ true → in_row rows.now.resources.items j n ≡ true
-        → in_row rows.now.verbs.items k n ≡ true → in_row rows.now.names.items l n ≡ true → in_words v.items n ≡ true) }
-{
-    let groups = row_for(rows.groups.as_slice(), part.groups.as_slice());
-    let resources = row_for(rows.resources.as_slice(), part.resources.as_slice());
-    let verbs = row_for(rows.verbs.as_slice(), part.verbs.as_slice());
-    let names = row_for(rows.names.as_slice(), part.names.as_slice());
-    let words = common(alloc, groups, resources)?;
-    let words = common(alloc, words.as_slice(), verbs)?;
-    common(alloc, words.as_slice(), names)
-}
-
-fn without_part(
-    alloc: Global,
-    list: &mut Vec<Marks>,
-    part: Marks,
-    bars: &Bars<'_>,
-    rows: &Rows,
+    known: &Known,
     sort: Sort,
     rule: &PolicyRule,
-) -> Result<(), Memory>
-    ensures { OnOk result (AreAllPlaced bars.now → AreRows bars.now.index bars.now.is_held sort rule.now rows.now → (i j k l : ℕ) → some_has list.new.items i j k l
-        ≡ (some_has list.old.items i j k l || (has part i j k l && not (list_any (λ b. barred bars.now.is_held sort b rule.now i j k l) (rules_in bars.now))))) }
+    atom: Positions,
+) -> bool
+    ensures { AreAllPlaced bars.now → AreKnown bars.now sort rule.now known.now
+        → result ≡ (at part.now.names.items atom.name && is_left bars.now sort rule.now atom.group atom.resource atom.verb atom.name) }
 {
-    let words = stopping(alloc, rows, &part)?;
-    let numbers = numbers_in(alloc, words.as_slice(), bars.rules.len())?;
-    let mut parts = Vec::new(alloc);
-    parts.push(part)?;
-    let mut left = without_numbers(alloc, parts, bars, numbers.as_slice(), sort, rule)?;
-    list.append(&mut left)?;
-    Ok(())
+    is_marked(part.names.as_slice(), atom.name) && !is_stopped(bars, known, sort, rule, atom)
 }
 
-fn one_of(alloc: Global, position: usize) -> Result<Vec<bool>, Memory> {
+// The names of the part that no rule stops beside the other entries of the atom.
+fn names_left(
+    alloc: Global,
+    part: &Marks,
+    bars: &Bars<'_>,
+    known: &Known,
+    sort: Sort,
+    rule: &PolicyRule,
+    atom: Positions,
+) -> Result<Vec<bool>, Memory>
+    ensures { IfOk result (λ v. AreAllPlaced bars.now → AreKnown bars.now sort rule.now known.now → (l : ℕ) → at v.items l
+        ≡ (at part.now.names.items l && is_left bars.now sort rule.now atom.group atom.resource atom.verb l)) }
+{
+    let (group, resource, verb) = (atom.group, atom.resource, atom.verb);
+    let mut list = Vec::with_capacity(alloc, part.names.len())?;
+    for name in 0..part.names.len() {
+        let one = Positions {
+            group,
+            resource,
+            verb,
+            name,
+        };
+        list.push(is_name_left(part, bars, known, sort, rule, one))?;
+    }
+    Ok(list)
+}
+
+// That position alone is marked.
+fn only(alloc: Global, position: usize) -> Result<Vec<bool>, Memory>
+    ensures { IfOk result (λ v. (i : ℕ) → at v.items i ≡ (i == position)) }
+{
     let mut list = Vec::new(alloc);
-    for _ in 0..position {
+    for before in 0..position {
         list.push(false)?;
     }
     list.push(true)?;
     Ok(list)
 }
 
-fn all_of(alloc: Global, position: usize) -> Result<Marks, Memory> {
+#[tactic(auto, using(crate::proofs::Pieces::none_marked))]
+fn is_any(marks: &[bool]) -> bool
+    ensures { result ≡ false → (i : ℕ) → at marks.now i ≡ false }
+{
+    marks.iter().any(|mark| *mark)
+}
+
+#[tactic(auto, using(crate::proofs::Singles::paired))]
+fn names_beside(alloc: Global, names: Vec<bool>, atom: Positions) -> Result<Marks, Memory>
+    ensures { IfOk result (λ m. (i j k l : ℕ) → has m i j k l ≡ (((i == atom.group) && (j == atom.resource)) && ((k == atom.verb) && at names.items l))) }
+{
     Ok(Marks {
-        groups: one_of(alloc, position)?,
-        resources: one_of(alloc, position)?,
-        verbs: one_of(alloc, position)?,
-        names: one_of(alloc, position)?,
+        groups: only(alloc, atom.group)?,
+        resources: only(alloc, atom.resource)?,
+        verbs: only(alloc, atom.verb)?,
+        names,
     })
 }
 
-fn push_two(
+#[tactic(auto, using(crate::proofs::Singles::nothing_added))]
+fn push_names(
     alloc: Global,
     list: &mut Vec<Marks>,
-    marks: &Marks,
-    bar: &Marks,
-    level: Level,
+    names: Vec<bool>,
+    atom: Positions,
 ) -> Result<(), Memory>
-    ensures { OnOk result ((i j k l : ℕ) → some_has list.new.items i j k l ≡ (some_has list.old.items i j k l || has marks.now i j k l)) }
+    ensures { OnOk result ((i j k l : ℕ) → some_has list.new.items i j k l
+        ≡ (some_has list.old.items i j k l || (((i == atom.group) && (j == atom.resource)) && ((k == atom.verb) && at names.items l)))) }
 {
-    let (all, both, alone) = (Keep::All, Keep::Both, Keep::FirstAlone);
-    match level {
-        Level::Groups => {
-            push_piece(alloc, list, marks, bar, both, all, all, all)?;
-            push_piece(alloc, list, marks, bar, alone, all, all, all)
-        }
-        Level::Resources => {
-            push_piece(alloc, list, marks, bar, all, both, all, all)?;
-            push_piece(alloc, list, marks, bar, all, alone, all, all)
-        }
-        Level::Verbs => {
-            push_piece(alloc, list, marks, bar, all, all, both, all)?;
-            push_piece(alloc, list, marks, bar, all, all, alone, all)
-        }
-        Level::Names => {
-            push_piece(alloc, list, marks, bar, all, all, all, both)?;
-            push_piece(alloc, list, marks, bar, all, all, all, alone)
-        }
+    if is_any(names.as_slice()) {
+        list.push(names_beside(alloc, names, atom)?)?;
     }
+    Ok(())
 }
 
-fn is_cut(marks: &Marks, bar: &Marks, level: Level) -> bool {
-    let (all, both) = (Keep::All, Keep::Both);
-    match level {
-        Level::Groups => is_piece(marks, bar, both, all, all, all),
-        Level::Resources => is_piece(marks, bar, all, both, all, all),
-        Level::Verbs => is_piece(marks, bar, all, all, both, all),
-        Level::Names => is_piece(marks, bar, all, all, all, both),
-    }
-}
-
-fn push_cut(
+// What is left of the part beside a verb, a resource and a group.
+fn push_verb(
     alloc: Global,
     list: &mut Vec<Marks>,
-    marks: Marks,
-    bar: &Marks,
-    level: Level,
-) -> Result<(), Memory>
-    ensures { OnOk result ((i j k l : ℕ) → some_has list.new.items i j k l ≡ (some_has list.old.items i j k l || has marks i j k l)) }
-{
-    if is_cut(&marks, bar, level) {
-        push_two(alloc, list, &marks, bar, level)
-    } else {
-        list.push(marks)?;
-        Ok(())
-    }
-}
-
-fn cut_at(
-    alloc: Global,
-    parts: Vec<Marks>,
-    position: usize,
-    level: Level,
-) -> Result<Vec<Marks>, Memory>
-    ensures { IfOk result (λ v. (i j k l : ℕ) → some_has v.items i j k l ≡ some_has parts.items i j k l) }
-{
-    let bar = all_of(alloc, position)?;
-    let mut list = Vec::new(alloc);
-    for marks in parts {
-        push_cut(alloc, &mut list, marks, &bar, level)?;
-    }
-    Ok(list)
-}
-
-fn cut_level(
-    alloc: Global,
-    parts: Vec<Marks>,
-    length: usize,
-    level: Level,
-) -> Result<Vec<Marks>, Memory>
-    ensures { IfOk result (λ v. (i j k l : ℕ) → some_has v.items i j k l ≡ some_has parts.items i j k l) }
-{
-    let mut list = parts;
-    for position in 1..length {
-        list = cut_at(alloc, list, position, level)?;
-    }
-    Ok(list)
-}
-
-// The same atoms, in parts of one each.
-fn single(
-    alloc: Global,
-    parts: Vec<Marks>,
+    part: &Marks,
+    bars: &Bars<'_>,
+    known: &Known,
     sort: Sort,
     rule: &PolicyRule,
-) -> Result<Vec<Marks>, Memory>
-    ensures { IfOk result (λ v. (i j k l : ℕ) → some_has v.items i j k l ≡ some_has parts.items i j k l) }
+    atom: Positions,
+) -> Result<(), Memory>
+    ensures { OnOk result (AreAllPlaced bars.now → AreKnown bars.now sort rule.now known.now → (i j k l : ℕ) → some_has list.new.items i j k l
+        ≡ (some_has list.old.items i j k l || (((i == atom.group) && (j == atom.resource))
+        && (((k == atom.verb) && at part.now.verbs.items atom.verb) && (at part.now.names.items l && is_left bars.now sort rule.now i j k l))))) }
 {
-    let groups = match sort {
-        Sort::Resources => rule.api_groups.as_slice().len(),
-        Sort::Urls => rule.non_resource_urls.as_slice().len(),
-    };
-    let parts = cut_level(alloc, parts, groups, Level::Groups)?;
-    let parts = cut_level(
-        alloc,
-        parts,
-        rule.resources.as_slice().len(),
-        Level::Resources,
-    )?;
-    let parts = cut_level(alloc, parts, rule.verbs.as_slice().len(), Level::Verbs)?;
-    cut_level(
-        alloc,
-        parts,
-        rule.resource_names.as_slice().len(),
-        Level::Names,
-    )
+    if !is_marked(part.verbs.as_slice(), atom.verb) {
+        return Ok(());
+    }
+    let names = names_left(alloc, part, bars, known, sort, rule, atom)?;
+    push_names(alloc, list, names, atom)
+}
+
+fn push_verbs(
+    alloc: Global,
+    list: &mut Vec<Marks>,
+    part: &Marks,
+    bars: &Bars<'_>,
+    known: &Known,
+    sort: Sort,
+    rule: &PolicyRule,
+    atom: Positions,
+) -> Result<(), Memory>
+    ensures { OnOk result (AreAllPlaced bars.now → AreKnown bars.now sort rule.now known.now → (i j k l : ℕ) → some_has list.new.items i j k l
+        ≡ (some_has list.old.items i j k l || (((i == atom.group) && (j == atom.resource))
+        && (at part.now.verbs.items k && (at part.now.names.items l && is_left bars.now sort rule.now i j k l))))) }
+{
+    let (group, resource, name) = (atom.group, atom.resource, 0);
+    for verb in 0..part.verbs.len() {
+        let one = Positions {
+            group,
+            resource,
+            verb,
+            name,
+        };
+        push_verb(alloc, list, part, bars, known, sort, rule, one)?;
+    }
+    Ok(())
+}
+
+// What is left of the part beside a resource and a group.
+fn push_resource(
+    alloc: Global,
+    list: &mut Vec<Marks>,
+    part: &Marks,
+    bars: &Bars<'_>,
+    known: &Known,
+    sort: Sort,
+    rule: &PolicyRule,
+    atom: Positions,
+) -> Result<(), Memory>
+    ensures { OnOk result (AreAllPlaced bars.now → AreKnown bars.now sort rule.now known.now → (i j k l : ℕ) → some_has list.new.items i j k l
+        ≡ (some_has list.old.items i j k l || ((i == atom.group) && (((j == atom.resource) && at part.now.resources.items atom.resource)
+        && (at part.now.verbs.items k && (at part.now.names.items l && is_left bars.now sort rule.now i j k l)))))) }
+{
+    if !is_marked(part.resources.as_slice(), atom.resource) {
+        return Ok(());
+    }
+    push_verbs(alloc, list, part, bars, known, sort, rule, atom)
+}
+
+fn push_resources(
+    alloc: Global,
+    list: &mut Vec<Marks>,
+    part: &Marks,
+    bars: &Bars<'_>,
+    known: &Known,
+    sort: Sort,
+    rule: &PolicyRule,
+    group: usize,
+) -> Result<(), Memory>
+    ensures { OnOk result (AreAllPlaced bars.now → AreKnown bars.now sort rule.now known.now → (i j k l : ℕ) → some_has list.new.items i j k l
+        ≡ (some_has list.old.items i j k l || ((i == group) && (at part.now.resources.items j
+        && (at part.now.verbs.items k && (at part.now.names.items l && is_left bars.now sort rule.now i j k l)))))) }
+{
+    let (verb, name) = (0, 0);
+    for resource in 0..part.resources.len() {
+        let one = Positions {
+            group,
+            resource,
+            verb,
+            name,
+        };
+        push_resource(alloc, list, part, bars, known, sort, rule, one)?;
+    }
+    Ok(())
+}
+
+// What is left of the part beside a group, or beside a URL.
+fn push_group(
+    alloc: Global,
+    list: &mut Vec<Marks>,
+    part: &Marks,
+    bars: &Bars<'_>,
+    known: &Known,
+    sort: Sort,
+    rule: &PolicyRule,
+    group: usize,
+) -> Result<(), Memory>
+    ensures { OnOk result (AreAllPlaced bars.now → AreKnown bars.now sort rule.now known.now → (i j k l : ℕ) → some_has list.new.items i j k l
+        ≡ (some_has list.old.items i j k l || (((i == group) && at part.now.groups.items group) && (at part.now.resources.items j
+        && (at part.now.verbs.items k && (at part.now.names.items l && is_left bars.now sort rule.now i j k l)))))) }
+{
+    if !is_marked(part.groups.as_slice(), group) {
+        return Ok(());
+    }
+    push_resources(alloc, list, part, bars, known, sort, rule, group)
+}
+
+fn push_groups(
+    alloc: Global,
+    list: &mut Vec<Marks>,
+    part: &Marks,
+    bars: &Bars<'_>,
+    known: &Known,
+    sort: Sort,
+    rule: &PolicyRule,
+) -> Result<(), Memory>
+    ensures { OnOk result (AreAllPlaced bars.now → AreKnown bars.now sort rule.now known.now → (i j k l : ℕ) → some_has list.new.items i j k l
+        ≡ (some_has list.old.items i j k l || (has part.now i j k l && is_left bars.now sort rule.now i j k l))) }
+{
+    for group in 0..part.groups.len() {
+        push_group(alloc, list, part, bars, known, sort, rule, group)?;
+    }
+    Ok(())
 }
 
 /// What of some parts of the rule's atoms no bar stops.
@@ -297,11 +251,10 @@ pub fn without_alone(
     ensures { IfOk result (λ v. AreAllPlaced bars.now → (i j k l : ℕ) → some_has v.items i j k l
         ≡ (some_has parts.items i j k l && not (list_any (λ b. barred bars.now.is_held sort b rule.now i j k l) (rules_in bars.now)))) }
 {
-    let rows = all_rows(alloc, bars, sort, rule)?;
-    let singles = single(alloc, parts, sort, rule)?;
+    let found = all_known(alloc, bars, sort, rule)?;
     let mut list = Vec::new(alloc);
-    for part in singles {
-        without_part(alloc, &mut list, part, bars, &rows, sort, rule)?;
+    for part in parts {
+        push_groups(alloc, &mut list, &part, bars, &found, sort, rule)?;
     }
     Ok(list)
 }

@@ -231,6 +231,40 @@ fn all_marks(alloc: Global, entries: &[Text]) -> Result<Vec<bool>, Memory>
     Ok(list)
 }
 
+fn barred_resources(
+    alloc: Global,
+    bar: &Bar<'_>,
+    is_held: bool,
+    rule: &PolicyRule,
+) -> Result<Marks, Memory>
+    ensures { IfOk result (λ m. (i j k l : ℕ) → has m i j k l ≡ barred is_held Sort.Resources (rule_in bar.now) rule.now i j k l) }
+{
+    let (groups, resources) = (rule.api_groups.as_slice(), rule.resources.as_slice());
+    Ok(Marks {
+        groups: marks_in(alloc, bar, is_held, Dimension::Groups, groups)?,
+        resources: marks_in(alloc, bar, is_held, Dimension::Resources, resources)?,
+        verbs: marks_in(alloc, bar, is_held, Dimension::Verbs, rule.verbs.as_slice())?,
+        names: marks_in_names(alloc, bar, is_held, rule.resource_names.as_slice())?,
+    })
+}
+
+fn barred_urls(
+    alloc: Global,
+    bar: &Bar<'_>,
+    is_held: bool,
+    rule: &PolicyRule,
+) -> Result<Marks, Memory>
+    ensures { IfOk result (λ m. (i j k l : ℕ) → has m i j k l ≡ barred is_held Sort.Urls (rule_in bar.now) rule.now i j k l) }
+{
+    let urls = rule.non_resource_urls.as_slice();
+    Ok(Marks {
+        groups: marks_in(alloc, bar, is_held, Dimension::Urls, urls)?,
+        resources: one_mark(alloc, true)?,
+        verbs: marks_in(alloc, bar, is_held, Dimension::Verbs, rule.verbs.as_slice())?,
+        names: one_mark(alloc, true)?,
+    })
+}
+
 /// Which entries of the wanted rule the bar meets.
 pub fn barred_part(
     alloc: Global,
@@ -241,38 +275,9 @@ pub fn barred_part(
 ) -> Result<Marks, Memory>
     ensures { IfOk result (λ m. (i j k l : ℕ) → has m i j k l ≡ barred is_held sort (rule_in bar.now) rule.now i j k l) }
 {
-    let verbs = marks_in(alloc, bar, is_held, Dimension::Verbs, rule.verbs.as_slice())?;
     match sort {
-        Sort::Resources => Ok(Marks {
-            groups: marks_in(
-                alloc,
-                bar,
-                is_held,
-                Dimension::Groups,
-                rule.api_groups.as_slice(),
-            )?,
-            resources: marks_in(
-                alloc,
-                bar,
-                is_held,
-                Dimension::Resources,
-                rule.resources.as_slice(),
-            )?,
-            verbs,
-            names: marks_in_names(alloc, bar, is_held, rule.resource_names.as_slice())?,
-        }),
-        Sort::Urls => Ok(Marks {
-            groups: marks_in(
-                alloc,
-                bar,
-                is_held,
-                Dimension::Urls,
-                rule.non_resource_urls.as_slice(),
-            )?,
-            resources: one_mark(alloc, true)?,
-            verbs,
-            names: one_mark(alloc, true)?,
-        }),
+        Sort::Resources => barred_resources(alloc, bar, is_held, rule),
+        Sort::Urls => barred_urls(alloc, bar, is_held, rule),
     }
 }
 

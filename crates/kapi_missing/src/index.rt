@@ -2,7 +2,7 @@
 ghost use Rattle.std.specs.Prelude.{◌≡◌, ◌==◌, ◌∷◌, [], ◌++◌, ◌&&◌, ◌||◌, ℕ, Bool, List, length, true, IfOk, OnOk};
 ghost use Rattle.std.specs.List.{list_any};
 ghost use Rattle.kapi_model.specs.declared.policy_rule.PolicyRule.{PolicyRule as PolicyRuleValue};
-ghost use Rattle.kapi_missing.specs.Private.Index.{AreBars, IsPlaced, Keeps, has_pattern, is_starred as starred, open_start};
+ghost use Rattle.kapi_missing.specs.Private.Index.{AddsOnly, AreBars, IsPlaced, Keeps, has_pattern, is_starred as starred, open_start};
 ghost use Rattle.kapi_missing.specs.Private.Sets.{stands, stands_at};
 
 use crate::bars::{Bar, bar_of};
@@ -112,6 +112,7 @@ fn put_nameless(nameless: &mut Vec<Block>, names: &[Text], number: usize) -> Res
 fn place<'a>(index: &mut Index<'a>, rule: &'a PolicyRule, number: usize) -> Result<(), Memory>
     ensures placed { OnOk result (IsPlaced index.new number rule.now) }
     ensures kept { OnOk result (Keeps index.old index.new) }
+    ensures only { OnOk result (AddsOnly index.old index.new rule.now number) }
 {
     let urls = rule.non_resource_urls.as_slice();
     put_under_all(&mut index.verbs, rule.verbs.as_slice(), number)?;

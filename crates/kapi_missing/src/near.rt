@@ -5,24 +5,22 @@ ghost use Rattle.kapi_model.specs.declared.policy_rule.PolicyRule.{PolicyRule as
 ghost use Rattle.kapi_rules.specs.Atoms.{after_slash as behind_slash};
 ghost use Rattle.kapi_missing.specs.Private.Bars.{entries_in, is_near_to, meets, some_name_met};
 ghost use Rattle.kapi_missing.specs.Private.Index.{IsPlaced, StandsByStar, any_stands, meets_some, sets_in};
-ghost use Rattle.kapi_missing.specs.Private.Sets.{fingerprint, in_words, stands, stands_at};
+ghost use Rattle.kapi_missing.specs.Private.Sets.{fingerprint, has_bit, in_words, stands, stands_at, stands_under};
 
 use crate::bars::{Dimension, Sort, entries_of, size_of};
 use crate::index::{Bars, Index};
+use crate::marks::{Marks, atoms_of};
 use crate::sets::{Patterns, Sets, common, continued, mark, mark_at, mark_under, no_numbers, step};
 use kapi_model::PolicyRule;
 use kapi_rules::after_slash;
 use kapi_text::{Memory, Text};
 use std::alloc::Global;
 
-/// More atoms than these are not looked at alone.
-const FEW: usize = 256;
+/// The atoms of a rule of more entries than these are not looked at alone.
+const SHORT: usize = 1_024;
 
-/// Nor are those of a rule of more entries than these.
-const SHORT: usize = 64;
-
-/// The sets of one of the lists.
-pub fn sets_of<'b, 'a>(index: &'b Index<'a>, dimension: Dimension) -> &'b Sets<'a>
+// The sets of one of the lists.
+fn sets_of<'b, 'a>(index: &'b Index<'a>, dimension: Dimension) -> &'b Sets<'a>
     ensures { result.now ≡ sets_in dimension index.now }
 {
     match dimension {
@@ -132,6 +130,20 @@ pub fn meeting(
     Ok(words)
 }
 
+/// The rules that list the entry, and no others.
+pub fn listing(
+    alloc: Global,
+    bars: &Bars<'_>,
+    dimension: Dimension,
+    entry: &str,
+) -> Result<Vec<u64>, Memory>
+    ensures { IfOk result (λ v. (n : ℕ) → has_bit v.items n ≡ true → stands_under (sets_in dimension bars.now.index) entry.now n ≡ true) }
+{
+    let mut words = no_numbers(alloc, bars.rules.len())?;
+    mark_under(&mut words, sets_of(&bars.index, dimension), entry);
+    Ok(words)
+}
+
 fn meeting_in(
     alloc: Global,
     bars: &Bars<'_>,
@@ -184,15 +196,21 @@ pub fn near(
     }
 }
 
-/// Whether so many atoms are better looked at alone, each beside the words of all rules, than so many rules that are near,
-/// each beside the parts. Measured, an atom takes 6 nanoseconds for a word and an entry 3, and a rule 1,000 and 20 for an
-/// entry.
-pub fn are_few(bars: &Bars<'_>, rule: &PolicyRule, atoms: usize, near: usize) -> bool {
+/// Whether the atoms of the parts are better looked at alone, each beside the words of all rules, than so many rules that
+/// are near, each beside the parts. Measured, an atom takes 20 nanoseconds and 1 for a word, an entry 100 and 2 for a word,
+/// and a rule 1,000, 20 for an entry and 50 for a part.
+pub fn are_few(bars: &Bars<'_>, rule: &PolicyRule, parts: &[Marks], near: usize) -> bool {
     let size = size_of(rule);
-    let alone = atoms
-        .saturating_mul(6)
-        .saturating_add(size.saturating_mul(3))
-        .saturating_mul(bars.rules.len() / 64 + 1);
-    let is_small = atoms > 0 && atoms <= FEW && size <= SHORT;
-    is_small && alone < near.saturating_mul(size.saturating_mul(20).saturating_add(1000))
+    let atoms = atoms_of(parts);
+    if atoms == 0 || size > SHORT {
+        return false;
+    }
+    let words = bars.rules.len() / 64;
+    let rows = size.saturating_mul(words.saturating_mul(2).saturating_add(100));
+    let alone = atoms.saturating_mul(words.saturating_add(20));
+    let asked = size
+        .saturating_mul(20)
+        .saturating_add(parts.len().saturating_mul(50))
+        .saturating_add(1000);
+    alone.saturating_add(rows) < near.saturating_mul(asked)
 }

@@ -1,9 +1,9 @@
 //! Sets of the numbers of rules, as bits in words of sixty-four.
-ghost use Rattle.std.specs.Prelude.{◌≡◌, ◌==◌, ◌/◌, ◌+◌, ◌*◌, ◌^◌, ◌<◌, ◌&&◌, ◌||◌, ◌%◌, ℕ, List, true, IfOk, OnOk};
+ghost use Rattle.std.specs.Prelude.{◌≡◌, ◌==◌, ◌/◌, ◌+◌, ◌*◌, ◌^◌, ◌<◌, ◌&&◌, ◌||◌, ◌%◌, ℕ, List, true, false, IfOk, OnOk};
 ghost use Rattle.std.specs.Int.{bit_at};
 ghost use Rattle.std.specs.List.{fold, list_any};
 ghost use Rattle.std.specs.Str.{bytes_eq};
-ghost use Rattle.kapi_missing.specs.Private.Sets.{block_has, has_number, in_word, in_words, one_step, stands, stands_at, stands_under};
+ghost use Rattle.kapi_missing.specs.Private.Sets.{block_has, has_bit, has_number, in_word, in_words, one_step, stands, stands_at, stands_under};
 
 use kapi_text::{Memory, Text};
 use std::alloc::Global;
@@ -20,20 +20,22 @@ pub struct Block {
 pub type Sets<'a> = BTreeMap<&'a str, Vec<Block>>;
 
 // The bits with one more.
-#[tactic(auto, using(crate::proofs::Bits::bits_kept, crate::proofs::Bits::bit_set))]
+#[tactic(auto, using(crate::proofs::Bits::bits_kept, crate::proofs::Bits::bit_set, crate::proofs::Bits::no_other_bit))]
 fn with_bit(bits: u64, bit: usize) -> u64
     requires { bit < 64 }
     ensures set { bit_at result bit ≡ 1 }
     ensures kept { (i : ℕ) → bit_at bits i ≡ 1 → bit_at result i ≡ 1 }
+    ensures only { (i : ℕ) → bit_at result i ≡ 1 → (bit == i) ≡ false → bit_at bits i ≡ 1 }
 {
     bits | (1 << bit)
 }
 
 // The block with one number more of its word.
-#[tactic(auto, using(crate::proofs::Bits::number_added))]
+#[tactic(auto, using(crate::proofs::Bits::number_added, crate::proofs::Bits::number_only))]
 fn with_number(block: Block, number: usize) -> Block
     requires { block.place ≡ number / 64 }
-    ensures { (n : ℕ) → (block_has block n || (number == n)) ≡ true → block_has result n ≡ true }
+    ensures set { (n : ℕ) → (block_has block n || (number == n)) ≡ true → block_has result n ≡ true }
+    ensures only { (n : ℕ) → block_has result n ≡ true → (block_has block n || (number == n)) ≡ true }
 {
     Block {
         place: block.place,
@@ -41,8 +43,10 @@ fn with_number(block: Block, number: usize) -> Block
     }
 }
 
+#[tactic(auto, using(crate::proofs::Bits::no_bits))]
 fn push_number(blocks: &mut Vec<Block>, number: usize) -> Result<(), Memory>
-    ensures { OnOk result ((n : ℕ) → (stands blocks.old.items n || (number == n)) ≡ true → stands blocks.new.items n ≡ true) }
+    ensures added { OnOk result ((n : ℕ) → (stands blocks.old.items n || (number == n)) ≡ true → stands blocks.new.items n ≡ true) }
+    ensures only { OnOk result ((n : ℕ) → stands blocks.new.items n ≡ true → (stands blocks.old.items n || (number == n)) ≡ true) }
 {
     let place = number / 64;
     blocks.push(with_number(Block { place, bits: 0 }, number))?;
@@ -51,7 +55,8 @@ fn push_number(blocks: &mut Vec<Block>, number: usize) -> Result<(), Memory>
 
 // The last block again, with the number or before a block of it.
 fn push_behind(blocks: &mut Vec<Block>, last: Block, number: usize) -> Result<(), Memory>
-    ensures { OnOk result ((n : ℕ) → ((stands blocks.old.items n || block_has last n) || (number == n)) ≡ true → stands blocks.new.items n ≡ true) }
+    ensures added { OnOk result ((n : ℕ) → ((stands blocks.old.items n || block_has last n) || (number == n)) ≡ true → stands blocks.new.items n ≡ true) }
+    ensures only { OnOk result ((n : ℕ) → stands blocks.new.items n ≡ true → ((stands blocks.old.items n || block_has last n) || (number == n)) ≡ true) }
 {
     if last.place == number / 64 {
         blocks.push(with_number(last, number))?;
@@ -63,7 +68,8 @@ fn push_behind(blocks: &mut Vec<Block>, last: Block, number: usize) -> Result<()
 
 /// One number more.
 pub fn add_number(blocks: &mut Vec<Block>, number: usize) -> Result<(), Memory>
-    ensures { OnOk result ((n : ℕ) → (stands blocks.old.items n || (number == n)) ≡ true → stands blocks.new.items n ≡ true) }
+    ensures added { OnOk result ((n : ℕ) → (stands blocks.old.items n || (number == n)) ≡ true → stands blocks.new.items n ≡ true) }
+    ensures only { OnOk result ((n : ℕ) → stands blocks.new.items n ≡ true → (stands blocks.old.items n || (number == n)) ≡ true) }
 {
     match blocks.pop() {
         Some(last) => push_behind(blocks, last, number),
@@ -73,7 +79,8 @@ pub fn add_number(blocks: &mut Vec<Block>, number: usize) -> Result<(), Memory>
 
 /// The number under that text too.
 pub fn put_under<'a>(sets: &mut Sets<'a>, text: &'a str, number: usize) -> Result<(), Memory>
-    ensures { OnOk result ((e : List ℕ) (n : ℕ) → (stands_under sets.old e n || (bytes_eq text.now e && (number == n))) ≡ true → stands_under sets.new e n ≡ true) }
+    ensures added { OnOk result ((e : List ℕ) (n : ℕ) → (stands_under sets.old e n || (bytes_eq text.now e && (number == n))) ≡ true → stands_under sets.new e n ≡ true) }
+    ensures only { OnOk result ((e : List ℕ) (n : ℕ) → stands_under sets.new e n ≡ true → (stands_under sets.old e n || (bytes_eq text.now e && (number == n))) ≡ true) }
 {
     add_number(sets.entry(text)?.or_default(), number)
 }
@@ -84,8 +91,10 @@ pub fn put_under_all<'a>(
     entries: &'a [Text],
     number: usize,
 ) -> Result<(), Memory>
-    ensures { OnOk result ((e : List ℕ) (n : ℕ) → (stands_under sets.old e n || (list_any (λ x. bytes_eq x e) entries.now && (number == n))) ≡ true
+    ensures added { OnOk result ((e : List ℕ) (n : ℕ) → (stands_under sets.old e n || (list_any (λ x. bytes_eq x e) entries.now && (number == n))) ≡ true
         → stands_under sets.new e n ≡ true) }
+    ensures only { OnOk result ((e : List ℕ) (n : ℕ) → stands_under sets.new e n ≡ true
+        → (stands_under sets.old e n || (list_any (λ x. bytes_eq x e) entries.now && (number == n))) ≡ true) }
 {
     for entry in entries {
         put_under(sets, entry.as_str(), number)?;
@@ -123,12 +132,15 @@ pub fn put_at(patterns: &mut Patterns, hash: u64, number: usize) -> Result<(), M
 }
 
 // No numbers, up to that one.
-pub fn no_numbers(alloc: Global, count: usize) -> Result<Vec<u64>, Memory> {
+pub fn no_numbers(alloc: Global, count: usize) -> Result<Vec<u64>, Memory>
+    ensures { IfOk result (λ v. (n : ℕ) → has_bit v.items n ≡ false) }
+{
     Ok(vec![in alloc; 0; count / 64 + 1]?)
 }
 
 fn mark_block(words: &mut Vec<u64>, block: &Block)
-    ensures { (n : ℕ) → (in_words words.old.items n || block_has block.now n) ≡ true → in_words words.new.items n ≡ true }
+    ensures marked { (n : ℕ) → (in_words words.old.items n || block_has block.now n) ≡ true → in_words words.new.items n ≡ true }
+    ensures only { (n : ℕ) → has_bit words.new.items n ≡ true → (has_bit words.old.items n || block_has block.now n) ≡ true }
 {
     if block.place < words.len() {
         words[block.place] = words[block.place] | block.bits;
@@ -137,7 +149,8 @@ fn mark_block(words: &mut Vec<u64>, block: &Block)
 
 /// The numbers of the blocks too.
 pub fn mark(words: &mut Vec<u64>, blocks: &[Block])
-    ensures { (n : ℕ) → (in_words words.old.items n || stands blocks.now n) ≡ true → in_words words.new.items n ≡ true }
+    ensures marked { (n : ℕ) → (in_words words.old.items n || stands blocks.now n) ≡ true → in_words words.new.items n ≡ true }
+    ensures only { (n : ℕ) → has_bit words.new.items n ≡ true → (has_bit words.old.items n || stands blocks.now n) ≡ true }
 {
     for block in blocks {
         mark_block(words, block);
@@ -146,7 +159,8 @@ pub fn mark(words: &mut Vec<u64>, blocks: &[Block])
 
 /// The numbers under that text too.
 pub fn mark_under(words: &mut Vec<u64>, sets: &Sets<'_>, text: &str)
-    ensures { (n : ℕ) → (in_words words.old.items n || stands_under sets.now text.now n) ≡ true → in_words words.new.items n ≡ true }
+    ensures marked { (n : ℕ) → (in_words words.old.items n || stands_under sets.now text.now n) ≡ true → in_words words.new.items n ≡ true }
+    ensures only { (n : ℕ) → has_bit words.new.items n ≡ true → (has_bit words.old.items n || stands_under sets.now text.now n) ≡ true }
 {
     if let Some(blocks) = sets.get(text) {
         mark(words, blocks.as_slice());
@@ -225,4 +239,27 @@ pub fn count(words: &[u64]) -> usize {
         total = total.saturating_add(word.count_ones() as usize);
     }
     total
+}
+
+/// Those numbers as words, up to that many.
+pub fn words_with(alloc: Global, numbers: &[usize], count: usize) -> Result<Vec<u64>, Memory> {
+    let mut blocks = Vec::new(alloc);
+    for number in numbers {
+        add_number(&mut blocks, *number)?;
+    }
+    let mut words = no_numbers(alloc, count)?;
+    mark(&mut words, blocks.as_slice());
+    Ok(words)
+}
+
+/// The first number that both have.
+pub fn first_common(words: &[u64], others: &[u64]) -> Option<usize> {
+    for (place, word) in words.iter().enumerate() {
+        let both = *word & word_at(others, place);
+        if both != 0 {
+            let bit = both.trailing_zeros() as usize;
+            return Some(place.saturating_mul(64).saturating_add(bit));
+        }
+    }
+    None
 }

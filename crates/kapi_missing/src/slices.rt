@@ -4,8 +4,8 @@ ghost use Rattle.kapi_missing.specs.Private.Slices.{AreHalves, list_with as list
 
 use crate::bars::{Dimension, Sort, entries_of, length_of, size_of, sort_of};
 use crate::index::Bars;
-use crate::near::{near, sets_of};
-use crate::sets::{Block, count};
+use crate::near::{meeting, near};
+use crate::sets::count;
 use kapi_model::PolicyRule;
 use kapi_text::{Memory, Sequence, Text, TryCopy};
 use std::alloc::Global;
@@ -164,33 +164,32 @@ pub fn cut(alloc: Global, rule: &PolicyRule, last: Dimension) -> Result<Option<H
     }
 }
 
-fn count_in(blocks: &[Block]) -> usize {
-    let mut total: usize = 0;
-    for block in blocks {
-        total = total.saturating_add(block.bits.count_ones() as usize);
-    }
-    total
-}
-
-fn count_under(bars: &Bars<'_>, dimension: Dimension, text: &str) -> usize {
-    match sets_of(&bars.index, dimension).get(text) {
-        Some(blocks) => count_in(blocks.as_slice()),
-        None => 0,
-    }
-}
-
-// How many rules list the entries.
-fn found_by(bars: &Bars<'_>, dimension: Dimension, entries: &[Text]) -> usize {
+// How many rules meet the first entry, and how many each other one, together.
+fn met_by(
+    alloc: Global,
+    bars: &Bars<'_>,
+    dimension: Dimension,
+    entries: &[Text],
+) -> Result<usize, Memory> {
     let mut total: usize = 0;
     for entry in entries {
-        total = total.saturating_add(count_under(bars, dimension, entry.as_str()));
+        let row = meeting(alloc, bars, dimension, std::slice::from_ref(entry))?;
+        total = total.saturating_add(count(row.as_slice()));
     }
-    total
+    Ok(total)
 }
 
-fn found_in(held: &Bars<'_>, earlier: &Bars<'_>, rule: &PolicyRule, dimension: Dimension) -> usize {
+fn met_in(
+    alloc: Global,
+    held: &Bars<'_>,
+    earlier: &Bars<'_>,
+    rule: &PolicyRule,
+    dimension: Dimension,
+) -> Result<usize, Memory> {
     let entries = entries_of(rule, dimension);
-    found_by(held, dimension, entries).saturating_add(found_by(earlier, dimension, entries))
+    let held = met_by(alloc, held, dimension, entries)?;
+    let earlier = met_by(alloc, earlier, dimension, entries)?;
+    Ok(held.saturating_add(earlier))
 }
 
 // Into how many rules of one entry each the lists before that one are cut.
@@ -206,40 +205,38 @@ fn outer_of(rule: &PolicyRule, last: Dimension) -> usize {
     }
 }
 
-// Whole, the rules found by the list are each asked about each of its entries, and for several parts where several
-// entries stand before it. In slices, each slice has its entries copied and looked up, and the rules found otherwise are
-// asked about each slice. Measured in such questions, an entry of a slice takes 100, and a rule found otherwise 20.
-fn is_worth_it(rule: &PolicyRule, last: Dimension, found: usize, otherwise: usize) -> bool {
+// Whole, each near rule is asked about each entry of the list, and for several parts where several entries stand before
+// it. In slices, each slice has its entries copied and looked up, and the rules that meet one of them are asked about
+// those of the slice. Measured in such questions, an entry of a slice takes 100, and a rule 20 more.
+fn is_worth_it(rule: &PolicyRule, last: Dimension, near: usize, met: usize) -> bool {
     let length = length_of(rule, last);
     let outer = outer_of(rule, last);
-    let whole = found.saturating_mul(length).saturating_mul(outer.min(4));
+    let slices = length / SLICE + 1;
+    let whole = near.saturating_mul(length).saturating_mul(outer.min(4));
     let entries = size_of(rule).saturating_sub(length).saturating_add(SLICE);
-    let slice = entries
-        .saturating_mul(100)
-        .saturating_add(otherwise.saturating_mul(20));
-    outer
-        .saturating_mul(length / SLICE + 1)
-        .saturating_mul(slice)
-        < whole
+    let asked = near.min(met / slices).saturating_mul(SLICE + 20);
+    let slice = entries.saturating_mul(100).saturating_add(asked);
+    outer.saturating_mul(slices).saturating_mul(slice) < whole
 }
 
 // Whether the rule is better cut down to that list.
 fn is_better_cut(
+    alloc: Global,
     held: &Bars<'_>,
     earlier: &Bars<'_>,
     rule: &PolicyRule,
     last: Dimension,
-    found: usize,
-) -> bool {
+    near: usize,
+) -> Result<bool, Memory> {
     if length_of(rule, last) <= SLICE {
-        return false;
+        return Ok(false);
     }
-    let by_list = found_in(held, earlier, rule, last).min(found);
-    is_worth_it(rule, last, by_list, found.saturating_sub(by_list))
+    let met = met_in(alloc, held, earlier, rule, last)?;
+    Ok(is_worth_it(rule, last, near, met))
 }
 
 // How many rules meet an entry of each list.
-fn found_at_all(
+fn near_both(
     alloc: Global,
     held: &Bars<'_>,
     earlier: &Bars<'_>,
@@ -261,16 +258,16 @@ pub fn sliced_list(
     if size_of(rule) <= SLICE {
         return Ok(None);
     }
-    let found = found_at_all(alloc, held, earlier, rule)?;
-    let last = if is_better_cut(held, earlier, rule, Dimension::Urls, found) {
+    let near = near_both(alloc, held, earlier, rule)?;
+    let last = if is_better_cut(alloc, held, earlier, rule, Dimension::Urls, near)? {
         Some(Dimension::Urls)
-    } else if is_better_cut(held, earlier, rule, Dimension::Groups, found) {
+    } else if is_better_cut(alloc, held, earlier, rule, Dimension::Groups, near)? {
         Some(Dimension::Groups)
-    } else if is_better_cut(held, earlier, rule, Dimension::Resources, found) {
+    } else if is_better_cut(alloc, held, earlier, rule, Dimension::Resources, near)? {
         Some(Dimension::Resources)
-    } else if is_better_cut(held, earlier, rule, Dimension::Verbs, found) {
+    } else if is_better_cut(alloc, held, earlier, rule, Dimension::Verbs, near)? {
         Some(Dimension::Verbs)
-    } else if is_better_cut(held, earlier, rule, Dimension::Names, found) {
+    } else if is_better_cut(alloc, held, earlier, rule, Dimension::Names, near)? {
         Some(Dimension::Names)
     } else {
         None

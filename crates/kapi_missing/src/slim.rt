@@ -8,11 +8,13 @@ ghost use Rattle.kapi_missing.specs.Private.Left.{left_atoms};
 ghost use Rattle.kapi_missing.specs.Private.Slim.{AreAlive, AreDead, IsSlim, changed as changed_in, has_word_of, is_alone as is_alone_in, knows_star as knows_star_in, meets_all, meets_beside, meets_names, meets_unless, stops_word};
 ghost use Rattle.kapi_missing.specs.Private.Words.{is_in};
 
-use crate::bars::{Bar, Dimension, Sort, entries_of, is_met, list_of, size_in_atoms};
+use crate::bars::{
+    Bar, Dimension, Sort, entries_of, is_met, length_of, list_of, size_in_atoms, size_of,
+};
 use crate::entries::lists;
 use crate::index::Bars;
-use crate::near::near;
-use crate::sets::numbers_in;
+use crate::near::{meeting, near};
+use crate::sets::{first_common, numbers_in, words_with};
 use crate::slices::{number_of, with_entries};
 use crate::words::{add_word, has_word};
 use kapi_model::PolicyRule;
@@ -22,6 +24,9 @@ use std::collections::BTreeSet;
 
 /// A rule with no more atoms than these stays as it is.
 const FEW: usize = 256;
+
+/// So does one with no more entries than these.
+const SHORT: usize = 64;
 
 // The list is too short to meet so many entries.
 fn is_short(bar: &Bar<'_>, is_held: bool, dimension: Dimension, entries: &[Text]) -> bool {
@@ -144,8 +149,8 @@ fn add_met<'a>(
     Ok(())
 }
 
-// A bar without stars meets its own entries alone. Where they are fewer, they are noted, and else those of the rule
-// that it meets.
+// A bar without stars meets its own entries alone. Where they are fewer, they are noted, and else those of the asked
+// ones that it meets.
 fn add_dead<'a, 'b>(
     dead: &mut Dead<'a, 'b>,
     bar: &Bar<'a>,
@@ -153,6 +158,7 @@ fn add_dead<'a, 'b>(
     sort: Sort,
     dimension: Dimension,
     rule: &'b PolicyRule,
+    entries: &'b [Text],
 ) -> Result<(), Memory>
     ensures { OnOk result ((w : List ℕ) → has_word_of dead.new w ≡ true → (has_word_of dead.old w || stops_word is_held sort dimension rule.now w (rule_in bar.now)) ≡ true) }
 {
@@ -160,7 +166,6 @@ fn add_dead<'a, 'b>(
         return Ok(());
     }
     let list = list_of(bar, dimension);
-    let entries = entries_of(rule, dimension);
     let is_long = list.all.len() >= entries.len();
     if is_long || (is_held && !list.starred.is_empty()) {
         add_met(&mut dead.own, bar, is_held, dimension, entries)
@@ -176,13 +181,111 @@ fn add_number<'a, 'b>(
     sort: Sort,
     dimension: Dimension,
     rule: &'b PolicyRule,
+    entries: &'b [Text],
 ) -> Result<(), Memory>
     ensures { OnOk result (AreDead bars.now sort dimension rule.now dead.old → AreDead bars.now sort dimension rule.now dead.new) }
 {
     match bars.rules.get(number) {
-        Some(bar) => add_dead(dead, bar, bars.is_held, sort, dimension, rule),
+        Some(bar) => add_dead(dead, bar, bars.is_held, sort, dimension, rule, entries),
         None => Ok(()),
     }
+}
+
+fn is_full_at(
+    bars: &Bars<'_>,
+    number: usize,
+    sort: Sort,
+    dimension: Dimension,
+    rule: &PolicyRule,
+) -> bool {
+    match bars.rules.get(number) {
+        Some(bar) => is_full_beside(bar, bars.is_held, sort, dimension, rule),
+        None => false,
+    }
+}
+
+// Those of the rules that meet every entry of the other lists.
+fn full_rules(
+    alloc: Global,
+    bars: &Bars<'_>,
+    numbers: &[usize],
+    sort: Sort,
+    dimension: Dimension,
+    rule: &PolicyRule,
+) -> Result<Vec<u64>, Memory> {
+    let mut full = Vec::new(alloc);
+    for number in numbers {
+        if is_full_at(bars, *number, sort, dimension, rule) {
+            full.push(*number)?;
+        }
+    }
+    words_with(alloc, full.as_slice(), bars.rules.len())
+}
+
+// The entry, if a full rule meets it: the first of them that may is asked.
+fn add_entry<'a, 'b>(
+    alloc: Global,
+    dead: &mut Dead<'a, 'b>,
+    bars: &Bars<'a>,
+    full: &[u64],
+    sort: Sort,
+    dimension: Dimension,
+    rule: &'b PolicyRule,
+    entry: &'b Text,
+) -> Result<(), Memory>
+    ensures { OnOk result (AreDead bars.now sort dimension rule.now dead.old → AreDead bars.now sort dimension rule.now dead.new) }
+{
+    let entries = std::slice::from_ref(entry);
+    let row = meeting(alloc, bars, dimension, entries)?;
+    match first_common(row.as_slice(), full) {
+        Some(number) => add_number(dead, bars, number, sort, dimension, rule, entries),
+        None => Ok(()),
+    }
+}
+
+fn no_dead<'a, 'b>(alloc: Global) -> Dead<'a, 'b>
+    ensures { (w : List ℕ) → has_word_of result w ≡ false }
+{
+    Dead {
+        words: BTreeSet::new(alloc),
+        own: BTreeSet::new(alloc),
+    }
+}
+
+// Where many rules are near, each entry looks up its own.
+fn dead_entries<'a, 'b>(
+    alloc: Global,
+    bars: &Bars<'a>,
+    numbers: &[usize],
+    sort: Sort,
+    dimension: Dimension,
+    rule: &'b PolicyRule,
+) -> Result<Dead<'a, 'b>, Memory>
+    ensures { IfOk result (AreDead bars.now sort dimension rule.now) }
+{
+    let mut dead = no_dead(alloc);
+    let full = full_rules(alloc, bars, numbers, sort, dimension, rule)?;
+    for entry in entries_of(rule, dimension) {
+        add_entry(
+            alloc,
+            &mut dead,
+            bars,
+            full.as_slice(),
+            sort,
+            dimension,
+            rule,
+            entry,
+        )?;
+    }
+    Ok(dead)
+}
+
+// Whether so many near rules cost more, each asked about each entry, than the words of all rules and the other lists do.
+fn is_by_entry(bars: &Bars<'_>, dimension: Dimension, rule: &PolicyRule, near: usize) -> bool {
+    let others = size_of(rule).saturating_sub(length_of(rule, dimension));
+    near > (bars.rules.len() / 64)
+        .saturating_add(others)
+        .saturating_add(16)
 }
 
 fn dead_words<'a, 'b>(
@@ -194,14 +297,15 @@ fn dead_words<'a, 'b>(
 ) -> Result<Dead<'a, 'b>, Memory>
     ensures { IfOk result (AreDead bars.now sort dimension rule.now) }
 {
-    let mut dead = Dead {
-        words: BTreeSet::new(alloc),
-        own: BTreeSet::new(alloc),
-    };
     let words = near(alloc, bars, sort, rule)?;
     let numbers = numbers_in(alloc, words.as_slice(), bars.rules.len())?;
+    if is_by_entry(bars, dimension, rule, numbers.len()) {
+        return dead_entries(alloc, bars, numbers.as_slice(), sort, dimension, rule);
+    }
+    let mut dead = no_dead(alloc);
+    let entries = entries_of(rule, dimension);
     for number in numbers.as_slice() {
-        add_number(&mut dead, bars, *number, sort, dimension, rule)?;
+        add_number(&mut dead, bars, *number, sort, dimension, rule, entries)?;
     }
     Ok(dead)
 }
@@ -320,8 +424,8 @@ fn slim_resources(alloc: Global, bars: &Bars<'_>, rule: PolicyRule) -> Result<Po
 fn slim_beside(alloc: Global, bars: &Bars<'_>, rule: PolicyRule) -> Result<PolicyRule, Memory>
     ensures { IfOk result (IsSlim bars.now rule) }
 {
-    let atoms = size_in_atoms(&rule);
-    if bars.rules.is_empty() || atoms <= FEW {
+    let is_small = size_in_atoms(&rule) <= FEW || size_of(&rule) <= SHORT;
+    if bars.rules.is_empty() || is_small {
         return Ok(rule);
     }
     let slim = slim_resources(alloc, bars, rule)?;

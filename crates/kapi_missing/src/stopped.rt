@@ -9,15 +9,18 @@ ghost use Rattle.kapi_missing.specs.Private.Stopped.{stops_at};
 use crate::alone::without_alone;
 use crate::bars::{Bar, Sort, barred_part};
 use crate::index::Bars;
-use crate::marks::{Marks, atoms_of, without};
+use crate::marks::{Marks, without};
 use crate::near::{are_few, near};
-use crate::sets::numbers_in;
+use crate::sets::{count, numbers_in};
 use kapi_model::PolicyRule;
 use kapi_text::Memory;
 use std::alloc::Global;
 
-/// So many rules are tried before atoms are looked at alone.
-const FIRST: usize = 32;
+/// So many rules are asked before atoms are counted again.
+const SOME: usize = 64;
+
+/// So often at the most.
+const DEPTH: usize = 1_000;
 
 // The parts have no atoms.
 #[tactic(auto, using(crate::proofs::Pieces::none_there))]
@@ -80,7 +83,8 @@ pub fn without_numbers(
     Ok(left)
 }
 
-// What of that is left the other rules do not stop either. Where it is little beside them, its atoms are looked at alone.
+// What of that is left the other rules do not stop either. They are asked some at a time, and where by then looking at
+// each atom alone costs less, that is done. The depth bounds how often.
 fn without_rest(
     alloc: Global,
     left: Vec<Marks>,
@@ -88,13 +92,19 @@ fn without_rest(
     rest: &[usize],
     sort: Sort,
     rule: &PolicyRule,
+    depth: usize,
 ) -> Result<Vec<Marks>, Memory>
     ensures { IfOk result (λ v. AreAllPlaced bars.now → (i j k l : ℕ) (whole first : Bool) → some_has left.items i j k l ≡ (whole && not first)
         → (first || list_any (stops_at bars.now sort rule.now i j k l) rest.now) ≡ list_any (λ b. barred bars.now.is_held sort b rule.now i j k l) (rules_in bars.now)
         → some_has v.items i j k l ≡ (whole && not (list_any (λ b. barred bars.now.is_held sort b rule.now i j k l) (rules_in bars.now)))) }
 {
-    if are_few(bars, rule, atoms_of(left.as_slice()), rest.len()) {
+    if are_few(bars, rule, left.as_slice(), rest.len()) {
         return without_alone(alloc, left, bars, sort, rule);
+    }
+    if depth > 0 && rest.len() > SOME {
+        let (next, last) = rest.split_at(SOME);
+        let fewer = without_numbers(alloc, left, bars, next, sort, rule)?;
+        return without_rest(alloc, fewer, bars, last, sort, rule, depth - 1);
     }
     without_numbers(alloc, left, bars, rest, sort, rule)
 }
@@ -110,9 +120,14 @@ pub fn without_bars(
     ensures { IfOk result (λ v. AreAllPlaced bars.now → (i j k l : ℕ) → some_has v.items i j k l
         ≡ (some_has parts.items i j k l && not (list_any (λ b. barred bars.now.is_held sort b rule.now i j k l) (rules_in bars.now)))) }
 {
+    let is_done = is_none(parts.as_slice());
+    if is_done {
+        return Ok(parts);
+    }
     let words = near(alloc, bars, sort, rule)?;
+    if are_few(bars, rule, parts.as_slice(), count(words.as_slice())) {
+        return without_alone(alloc, parts, bars, sort, rule);
+    }
     let numbers = numbers_in(alloc, words.as_slice(), bars.rules.len())?;
-    let (first, rest) = numbers.as_slice().split_at(numbers.len().min(FIRST));
-    let left = without_numbers(alloc, parts, bars, first, sort, rule)?;
-    without_rest(alloc, left, bars, rest, sort, rule)
+    without_rest(alloc, parts, bars, numbers.as_slice(), sort, rule, DEPTH)
 }

@@ -9,6 +9,7 @@ use Rattle.kapi_model.specs.declared.policy_rule.PolicyRule.{PolicyRule}
 use Rattle.kapi_rules.specs.Atoms.{after_slash}
 use Rattle.kapi_rules.specs.Entries.{star, without_stars}
 use Rattle.kapi_missing.specs.Private.Bars.{entries_in, meets, rule_in, some_name_met}
+use Rattle.kapi_missing.specs.Private.Marks.{at}
 use Rattle.kapi_missing.specs.Private.Sets.{fingerprint, stands, stands_at, stands_under}
 use Rattle.kapi_missing.specs.declared.bars.Dimension.{Dimension}
 use Rattle.kapi_missing.specs.declared.bars.Dimension.TheVariants as dimension
@@ -87,9 +88,22 @@ IsAt [] i x = ⊥
 IsAt (y ∷ xs) zero x = y ≡ x
 IsAt (y ∷ xs) (suc i) x = IsAt xs i x
 
--- each rule is placed
+-- the rule lists the entry
+abbrev pub lists : Dimension → List ℕ → PolicyRule → Bool
+lists d e rule = list_any (λ x. bytes_eq x e) (entries_in d rule)
+
+-- the number is put under the entries of the rule, and under nothing else
+abbrev pub AddsOnly : Index → Index → PolicyRule → ℕ → Type 0
+AddsOnly old new rule number = (d : Dimension) (e : List ℕ) (n : ℕ) → stands_under (sets_in d new) e n ≡ true
+    → (stands_under (sets_in d old) e n || (lists d e rule && (number == n))) ≡ true
+
+-- the numbers under an entry are those of rules that list it
+abbrev pub IsExact : Bars → Type 0
+IsExact bars = (d : Dimension) (e : List ℕ) (n : ℕ) → stands_under (sets_in d bars.index) e n ≡ true → at (map (lists d e) (rules_in bars)) n ≡ true
+
+-- each rule is placed, and no other number
 abbrev pub AreAllPlaced : Bars → Type 0
-AreAllPlaced bars = (n : ℕ) (rule : PolicyRule) → IsAt (rules_in bars) n rule → IsPlaced bars.index n rule
+AreAllPlaced bars = ((n : ℕ) (rule : PolicyRule) → IsAt (rules_in bars) n rule → IsPlaced bars.index n rule) × IsExact bars
 
 -- they are those rules, held or wanted, and each is placed
 abbrev pub AreBars : Bool → List PolicyRule → Bars → Type 0

@@ -47,6 +47,10 @@ stands_at patterns hash n = stands (option_map_or (λ v. v.items) (get nat_cmp p
 abbrev pub in_word : List ℕ → ℕ → ℕ
 in_word words place = get_or words place 18446744073709551615
 
+-- the number is one of the words'
+abbrev pub has_bit : List ℕ → ℕ → Bool
+has_bit words n = bit_at (get_or words (n / 64) 0) (n % 64) == 1
+
 -- the words do not exclude the number
 abbrev pub in_words : List ℕ → ℕ → Bool
 in_words words n = bit_at (in_word words (n / 64)) (n % 64) == 1

@@ -15,4 +15,4 @@ returns c = λ held rules are.
     let is : rules_in new ≡ rules_in c.args.bars.now ++ c.args.rule.now ∷ [] =
     rw c.in_ok-push.ensures.items (map_push rule_in c.args.bars.now.rules.items c.in_ok-bar_of.field-0 ∙ ap (λ (r : PolicyRule). rules_in c.args.bars.now ++ r ∷ []) c.in_ok-bar_of.ensures) in
     one_more held rules c.args.rule.now old new c.len-number.result (len ∙ map_long rule_in c.args.bars.now.rules.items) refl is
-    c.in_ok-place.ensures.placed c.in_ok-place.ensures.kept are
+    c.in_ok-place.ensures.placed c.in_ok-place.ensures.kept c.in_ok-place.ensures.only are

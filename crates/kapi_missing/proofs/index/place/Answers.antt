@@ -1,6 +1,6 @@
 use Rattle.std.proofs.lemmas.Bool.{or_left}
 use Rattle.std.proofs.lemmas.Result.{on_ok_weaker}
-use Rattle.kapi_missing.proofs.Adding.{placed_all, put_own}
+use Rattle.kapi_missing.proofs.Adding.{adds_only, placed_all, put_own}
 use Rattle.kapi_missing.specs.declared.index.Index.{Index}
 use Rattle.kapi_missing.proofs.index.place.Goals as goal
 
@@ -19,12 +19,32 @@ returns-clause-placed c =
     } in
     on_ok_weaker c.put_patterns-2.result (λ urls.
     placed_all new n rule
-    (λ e is. c.in_ok-put_under_all.ensures e n (put_own _ _ n (rw c.as_slice.ensures is)))
-    (λ e is. c.in_ok-put_under_all-2.ensures e n (put_own _ _ n (rw c.as_slice-2.ensures is)))
-    (λ e is. c.in_ok-put_under_all-3.ensures e n (put_own _ _ n (rw c.as_slice-3.ensures is)))
-    (λ e is. c.in_ok-put_under_all-4.ensures e n (put_own _ _ n (rw c.as_slice-4.ensures is)))
-    (λ e is. c.in_ok-put_under_all-5.ensures e n (put_own _ _ n (rw c.as_slice-urls.ensures is)))
+    (λ e is. c.in_ok-put_under_all.ensures.added e n (put_own _ _ n (rw c.as_slice.ensures is)))
+    (λ e is. c.in_ok-put_under_all-2.ensures.added e n (put_own _ _ n (rw c.as_slice-2.ensures is)))
+    (λ e is. c.in_ok-put_under_all-3.ensures.added e n (put_own _ _ n (rw c.as_slice-3.ensures is)))
+    (λ e is. c.in_ok-put_under_all-4.ensures.added e n (put_own _ _ n (rw c.as_slice-4.ensures is)))
+    (λ e is. c.in_ok-put_under_all-5.ensures.added e n (put_own _ _ n (rw c.as_slice-urls.ensures is)))
     (λ h is. urls h n (or_left _ _ (c.in_ok-put_patterns.ensures h n (put_own _ _ n (rw c.as_slice-6.ensures is)))))
     (λ h is. urls h n (put_own _ _ n (rw c.as_slice-urls.ensures is)))
     (λ is. c.in_ok-put_nameless.ensures n (put_own _ _ n (rw c.as_slice-5.ensures is))))
+    c.put_patterns-2.ensures
+
+pub returns-clause-only : goal.returns-clause-only
+returns-clause-only c =
+    let new : Index = record {
+      verbs = c.put_under_all.new.sets;
+      groups = c.put_under_all-2.new.sets;
+      resources = c.put_under_all-3.new.sets;
+      names = c.put_under_all-4.new.sets;
+      urls = c.put_under_all-5.new.sets;
+      patterns = c.put_patterns-2.new.patterns;
+      nameless = c.put_nameless.new.nameless;
+    } in
+    on_ok_weaker c.put_patterns-2.result (λ urls.
+    adds_only c.args.index.now new c.args.rule.now c.args.number
+    (λ e n is. rw c.as_slice.ensures at (c.in_ok-put_under_all.ensures.only e n is))
+    (λ e n is. rw c.as_slice-2.ensures at (c.in_ok-put_under_all-2.ensures.only e n is))
+    (λ e n is. rw c.as_slice-3.ensures at (c.in_ok-put_under_all-3.ensures.only e n is))
+    (λ e n is. rw c.as_slice-4.ensures at (c.in_ok-put_under_all-4.ensures.only e n is))
+    (λ e n is. rw c.as_slice-urls.ensures at (c.in_ok-put_under_all-5.ensures.only e n is)))
     c.put_patterns-2.ensures

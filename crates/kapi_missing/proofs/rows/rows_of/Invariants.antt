@@ -1,0 +1,7 @@
+use Rattle.std.proofs.Common.{◌≡◌, [], ◌∷◌, length, map}
+use Rattle.kapi_missing.specs.Private.Rows.{Rowed}
+use Rattle.kapi_missing.specs.Private.Index.{meets_some}
+use Rattle.kapi_missing.proofs.rows.rows_of.Given as goal
+
+abbrev pub invariant-loop-entry : goal.invariant-loop-entry
+invariant-loop-entry l = (length l.list.items ≡ l.entry-index) × Rowed l.bars.index (λ b. map (λ e. meets_some l.bars.is_held l.dimension b (e ∷ [])) l.entries) l.list.items
