@@ -98,10 +98,16 @@ def elevens():
     return [rule(*[[it] for it in parts]) for parts in itertools.product(*[entries(11, letter) for letter in "vgrn"])]
 
 
-def some_of(count, chosen, values, seed):
+def some_of(count, chosen, values, seed, parts="vgrn"):
     """Rules of some of the values of each part, by chance."""
     dice = random.Random(seed)
-    return [rule(*[dice.sample(entries(values, letter), chosen) for letter in "vgrn"]) for _ in range(count)]
+    return [rule(*[dice.sample(entries(values, letter), chosen) for letter in parts]) for _ in range(count)]
+
+
+def some_paths(count, chosen, values, seed):
+    """Rules of some of the verbs and some of the paths, by chance."""
+    dice, paths = random.Random(seed), [f"/{it}" for it in entries(values)]
+    return [{"verbs": dice.sample(entries(values, "v"), chosen), "nonResourceURLs": dice.sample(paths, chosen)} for _ in range(count)]
 
 
 def with_unheld(rules):
@@ -239,10 +245,12 @@ CASES = (
     ("the same against single pairs, and then a rule for each name", 0.5, lambda it: check(it, diagonal(), [product()], True)),
     ("ten rules of 5,000 names behind 7,000 of one, none held", 0.5, lambda it: check(it, [], repeats(), False)),
     (f"{RULES:,} rules against one with as many names", 0.5, lambda it: check(it, [rule(["get"], [""], ["pods"], entries(RULES))], names(), True)),
-    (f"{RULES:,} rules of two of eleven of each part against as many", 1, lambda it: check(it, some_of(RULES, 2, 11, 1), some_of(RULES, 2, 11, 2), True)),
+    (f"{RULES:,} rules of two of eleven of each part against as many", 0.5, lambda it: check(it, some_of(RULES, 2, 11, 1), some_of(RULES, 2, 11, 2), True)),
     ("the same, each with a resource that nobody holds", None, lambda it: check(it, some_of(RULES, 2, 11, 1), with_unheld(some_of(RULES, 2, 11, 2)), False)),
-    (f"{RULES:,} rules of three of ten of each part against as many", 1, lambda it: check(it, some_of(RULES, 3, 10, 1), some_of(RULES, 3, 10, 2), True)),
-    ("8,000 rules of four of ten of each part against as many", 1, lambda it: check(it, some_of(8_000, 4, 10, 1), some_of(8_000, 4, 10, 2), True)),
+    (f"{RULES:,} rules of three of ten of each part against as many", 0.5, lambda it: check(it, some_of(RULES, 3, 10, 1), some_of(RULES, 3, 10, 2), True)),
+    ("8,000 rules of four of ten of each part against as many", 0.5, lambda it: check(it, some_of(8_000, 4, 10, 1), some_of(8_000, 4, 10, 2), True)),
+    ("2,400 rules of 22 of 44 of each part, without names, against as many", None, lambda it: check(it, some_of(2_400, 22, 44, 1, "vgr"), some_of(2_400, 22, 44, 2, "vgr"), True)),
+    ("1,500 rules of 50 of 100 paths and of verbs against as many", None, lambda it: check(it, some_paths(1_500, 50, 100, 1), some_paths(1_500, 50, 100, 2), True)),
     (f"{RULES:,} resources behind a slash against a rule for all before each", 0.5, lambda it: check(it, any_with(), [slashed()], True)),
     ("the same of two verbs, one of them held", None, lambda it: check(it, any_with(), [slashed(["get", "list"])], False)),
     (f"{RULES:,} paths against a rule for the beginning of each", 0.5, lambda it: check(it, beginnings(), [long_paths()], True)),

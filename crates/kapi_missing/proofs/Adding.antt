@@ -90,12 +90,16 @@ pub adds_only : (old new : Index) (rule : PolicyRule) (number : ℕ)
     → ((e : List ℕ) (n : ℕ) → stands_under new.resources e n ≡ true → (stands_under old.resources e n || (list_any (λ x. bytes_eq x e) rule.resources && (number == n))) ≡ true)
     → ((e : List ℕ) (n : ℕ) → stands_under new.names e n ≡ true → (stands_under old.names e n || (list_any (λ x. bytes_eq x e) rule.resource_names && (number == n))) ≡ true)
     → ((e : List ℕ) (n : ℕ) → stands_under new.urls e n ≡ true → (stands_under old.urls e n || (list_any (λ x. bytes_eq x e) rule.non_resource_urls && (number == n))) ≡ true)
+    → ((n : ℕ) → stands new.nameless.items n ≡ true → (stands old.nameless.items n || ((length rule.resource_names == 0) && (number == n))) ≡ true)
     → AddsOnly old new rule number
-adds_only old new rule number verbs groups resources names urls dimension.Verbs e n is = verbs e n is
-adds_only old new rule number verbs groups resources names urls dimension.Groups e n is = groups e n is
-adds_only old new rule number verbs groups resources names urls dimension.Resources e n is = resources e n is
-adds_only old new rule number verbs groups resources names urls dimension.Names e n is = names e n is
-adds_only old new rule number verbs groups resources names urls dimension.Urls e n is = urls e n is
+adds_only old new rule number verbs groups resources names urls nameless = (by_list, nameless)
+  where
+    by_list : (d : Dimension) (e : List ℕ) (n : ℕ) → stands_under (sets_in d new) e n ≡ true → (stands_under (sets_in d old) e n || (lists d e rule && (number == n))) ≡ true
+    by_list dimension.Verbs e n is = verbs e n is
+    by_list dimension.Groups e n is = groups e n is
+    by_list dimension.Resources e n is = resources e n is
+    by_list dimension.Names e n is = names e n is
+    by_list dimension.Urls e n is = urls e n is
 
 at_kept : {X : Type 0} (f : X → Bool) (xs : List X) (y : X) (m : ℕ) → at (map f xs) m ≡ true → at (map f (xs ++ y ∷ [])) m ≡ true
 at_kept f [] y m h = absurd cc
@@ -106,16 +110,27 @@ at_last : {X : Type 0} (f : X → Bool) (xs : List X) (y : X) → at (map f (xs 
 at_last f [] y = refl
 at_last f (x ∷ xs) y = at_last f xs y
 
+-- what is put under a test of a rule is of rules that pass it
+one_exact : (p : PolicyRule → Bool) (rules : List PolicyRule) (rule : PolicyRule) (n m : ℕ) (before now : Bool) → n ≡ length rules
+    → (before ≡ true → at (map p rules) m ≡ true) → (now ≡ true → (before || (p rule && (n == m))) ≡ true) → now ≡ true → at (map p (rules ++ rule ∷ [])) m ≡ true
+one_exact p rules rule n m before now last were only h = by_case (or_cases before (p rule && (n == m)) (only h))
+  where
+    by_case : (before ≡ true) ⊎ ((p rule && (n == m)) ≡ true) → at (map p (rules ++ rule ∷ [])) m ≡ true
+    by_case (inl there) = at_kept p rules rule m (were there)
+    by_case (inr own) =
+        let parts = and_parts (p rule) (n == m) own in
+        ap (λ k. at (map p (rules ++ rule ∷ [])) k) (sym (eqb-true n m parts.1) ∙ last) ∙ at_last p rules rule ∙ parts.0
+
 exact_more : (old new : Bars) (rule : PolicyRule) (n : ℕ) → n ≡ length (rules_in old) → rules_in new ≡ rules_in old ++ rule ∷ []
     → AddsOnly old.index new.index rule n → IsExact old → IsExact new
-exact_more old new rule n last same only exact d e m h =
-    ap (λ rs. at (map (lists d e) rs) m) same ∙ by_case (or_cases (stands_under (sets_in d old.index) e m) (lists d e rule && (n == m)) (only d e m h))
-  where
-    by_case : (stands_under (sets_in d old.index) e m ≡ true) ⊎ ((lists d e rule && (n == m)) ≡ true) → at (map (lists d e) (rules_in old ++ rule ∷ [])) m ≡ true
-    by_case (inl before) = at_kept (lists d e) (rules_in old) rule m (exact d e m before)
-    by_case (inr now) =
-        let parts = and_parts (lists d e rule) (n == m) now in
-        ap (λ k. at (map (lists d e) (rules_in old ++ rule ∷ [])) k) (sym (eqb-true n m parts.1) ∙ last) ∙ at_last (lists d e) (rules_in old) rule ∙ parts.0
+exact_more old new rule n last same only exact = (
+  λ d e m h.
+      ap (λ rs. at (map (lists d e) rs) m) same
+      ∙ one_exact (lists d e) (rules_in old) rule n m (stands_under (sets_in d old.index) e m) (stands_under (sets_in d new.index) e m) last (exact.0 d e m) (only.0 d e m) h,
+  λ m h.
+      ap (λ rs. at (map (λ b. length b.resource_names == 0) rs) m) same
+      ∙ one_exact (λ b. length b.resource_names == 0) (rules_in old) rule n m (stands old.index.nameless.items m) (stands new.index.nameless.items m) last (exact.1 m) (only.1 m) h,
+)
 
 pub one_more : (held : Bool) (rules : List PolicyRule) (rule : PolicyRule) (old new : Bars) (n : ℕ) → n ≡ length (rules_in old)
     → new.is_held ≡ old.is_held → rules_in new ≡ rules_in old ++ rule ∷ [] → IsPlaced new.index n rule → Keeps old.index new.index → AddsOnly old.index new.index rule n

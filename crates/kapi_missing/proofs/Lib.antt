@@ -1,4 +1,5 @@
 pub mod Stars
+pub mod Tiered
 pub mod Seen
 pub mod Pieces
 pub mod Each

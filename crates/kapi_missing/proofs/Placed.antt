@@ -1,18 +1,20 @@
 -- Where a rule that meets an entry stands.
-use Rattle.std.proofs.Common.{◌≡◌, ℕ, zero, suc, ◌+◌, ◌<◌, ◌==◌, nat_eq, Bool, true, false, ◌&&◌, ◌||◌, ◌⊎◌, inl, inr, List, [], ◌∷◌, ◌++◌, length, map, take, Option, Some, None, refl, ap, ◌∙◌, arith}
+use Rattle.std.proofs.Common.{◌≡◌, ℕ, zero, suc, ◌+◌, ◌<◌, ◌==◌, nat_eq, Bool, true, false, ◌&&◌, ◌||◌, ◌⊎◌, inl, inr, List, [], ◌∷◌, ◌++◌, length, map, take, Option, Some, None, refl, ap, sym, ◌∙◌, arith}
 use Rattle.std.proofs.lemmas.Bool.{and_parts, or_cases, or_left, or_right}
 use Rattle.std.proofs.lemmas.Bool.Decides.{nat_tests}
 use Rattle.std.specs.List.{list_any, starts_with}
 use Rattle.std.specs.Str.{bytes_eq}
+use Rattle.kapi_text.proofs.Booleans.{or_false}
 use Rattle.kapi_model.specs.declared.policy_rule.PolicyRule.{PolicyRule}
 use Rattle.kapi_rules.proofs.Covers.{same}
 use Rattle.kapi_rules.specs.Atoms.{after_slash, is_any_with}
 use Rattle.kapi_rules.specs.Entries.{beginning_matches, star, without_stars, word_matches}
 use Rattle.kapi_missing.proofs.Pieces.{none_at}
 use Rattle.kapi_missing.specs.Private.Bars.{entries_in, entry_covers, meets, some_name_met}
-use Rattle.kapi_missing.specs.Private.Index.{IsAt, IsPlaced, StandsByStar, any_stands, has_pattern, is_starred, sets_in}
+use Rattle.kapi_missing.specs.Private.Index.{IsAt, IsPlaced, StandsByStar, any_stands, has_pattern, is_starred, meets_some, sets_in}
 use Rattle.kapi_missing.specs.Private.Marks.{at}
 use Rattle.kapi_missing.specs.Private.Sets.{fingerprint, stands, stands_at, stands_under}
+use Rattle.kapi_missing.specs.Private.Slices.{number}
 use Rattle.kapi_missing.specs.declared.bars.Dimension.{Dimension}
 use Rattle.kapi_missing.specs.declared.bars.Dimension.TheVariants as dimension
 use Rattle.kapi_missing.specs.declared.index.Index.{Index}
@@ -134,6 +136,48 @@ module _ (index : Index) (n : ℕ) (rule : PolicyRule) (placed : IsPlaced index 
       by_star : Found d y → (stands_under (sets_in d index) y n ≡ true) ⊎ ((true ≡ true) × StandsByStar d index y n)
       by_star (inl is) = inl is
       by_star (inr is) = inr (refl, is)
+
+  -- a rule that meets one entry lists it, or meets it by a star, or as it lists no names
+  pub one_met : (held : Bool) (d : Dimension) (y : List ℕ) → meets_some held d rule (y ∷ []) ≡ true
+      → (stands_under (sets_in d index) y n ≡ true) ⊎ ((held ≡ true) × (StandsByStar d index y n ⊎ ((number d ≡ 4) × (stands index.nameless.items n ≡ true))))
+  one_met held d y h = by_dimension d h
+    where
+      by_star : (d : Dimension) → (stands_under (sets_in d index) y n ≡ true) ⊎ ((held ≡ true) × StandsByStar d index y n)
+          → (stands_under (sets_in d index) y n ≡ true) ⊎ ((held ≡ true) × (StandsByStar d index y n ⊎ ((number d ≡ 4) × (stands index.nameless.items n ≡ true))))
+      by_star d (inl is) = inl is
+      by_star d (inr star) = inr (star.0, inl star.1)
+
+      met : (d : Dimension) → (meets held d rule y || false) ≡ true
+          → (stands_under (sets_in d index) y n ≡ true) ⊎ ((held ≡ true) × (StandsByStar d index y n ⊎ ((number d ≡ 4) × (stands index.nameless.items n ≡ true))))
+      met d is = by_star d (met_stands held d y (sym (or_false (meets held d rule y)) ∙ is))
+
+      by_name : ((held && (length rule.resource_names == 0)) ≡ true) ⊎ ((meets held dimension.Names rule y || false) ≡ true)
+          → (stands_under (sets_in dimension.Names index) y n ≡ true)
+          ⊎ ((held ≡ true) × (StandsByStar dimension.Names index y n ⊎ ((number dimension.Names ≡ 4) × (stands index.nameless.items n ≡ true))))
+      by_name (inl all) = let parts = and_parts held (length rule.resource_names == 0) all in inr (parts.0, inr (refl, placed.2 parts.1))
+      by_name (inr is) = met dimension.Names is
+
+      by_dimension : (d : Dimension) → meets_some held d rule (y ∷ []) ≡ true
+          → (stands_under (sets_in d index) y n ≡ true) ⊎ ((held ≡ true) × (StandsByStar d index y n ⊎ ((number d ≡ 4) × (stands index.nameless.items n ≡ true))))
+      by_dimension dimension.Names is = by_name (or_cases (held && (length rule.resource_names == 0)) (meets held dimension.Names rule y || false) is)
+      by_dimension dimension.Verbs is = met dimension.Verbs is
+      by_dimension dimension.Groups is = met dimension.Groups is
+      by_dimension dimension.Resources is = met dimension.Resources is
+      by_dimension dimension.Urls is = met dimension.Urls is
+
+  -- the row of the rules that meet an entry, from that of those that list it
+  pub row_met : (held : Bool) (d : Dimension) (y : List ℕ) (listed new : Bool) → (stands_under (sets_in d index) y n ≡ true → listed ≡ true) → (listed ≡ true → new ≡ true)
+      → (held ≡ true → StandsByStar d index y n → new ≡ true) → (held ≡ true → number d ≡ 4 → stands index.nameless.items n ≡ true → new ≡ true)
+      → meets_some held d rule (y ∷ []) ≡ true → new ≡ true
+  row_met held d y listed new own kept by_star by_all h = by_case (one_met held d y h)
+    where
+      by_kind : (held ≡ true) → (StandsByStar d index y n ⊎ ((number d ≡ 4) × (stands index.nameless.items n ≡ true))) → new ≡ true
+      by_kind is (inl star) = by_star is star
+      by_kind is (inr all) = by_all is all.0 all.1
+
+      by_case : (stands_under (sets_in d index) y n ≡ true) ⊎ ((held ≡ true) × (StandsByStar d index y n ⊎ ((number d ≡ 4) × (stands index.nameless.items n ≡ true)))) → new ≡ true
+      by_case (inl is) = kept (own is)
+      by_case (inr other) = by_kind other.0 other.1
 
   -- what is marked of the rules that meet an entry
   pub met_marked : (held : Bool) (d : Dimension) (y : List ℕ) (old under new : Bool) → ((old || stands_under (sets_in d index) y n) ≡ true → under ≡ true)

@@ -19,10 +19,10 @@ use Rattle.kapi_missing.proofs.Bits.{bit_in_both, full_bit, is_one, le_or_lt, on
 use Rattle.kapi_missing.proofs.Lefts.{at_map}
 use Rattle.kapi_missing.proofs.Placed.{at_within, marked_at, some_at}
 use Rattle.kapi_missing.specs.Private.Bars.{barred, entries_in, entry_covers, meets, name_marks, rule_in}
-use Rattle.kapi_missing.specs.Private.Index.{AreAllPlaced, IsExact, IsPlaced, lists, meets_some, rules_in, sets_in}
+use Rattle.kapi_missing.specs.Private.Index.{AreAllPlaced, IsPlaced, lists, meets_some, rules_in}
 use Rattle.kapi_missing.specs.Private.Marks.{at}
-use Rattle.kapi_missing.specs.Private.Rows.{AreListed, AreRows, SomeCommon, Listed, Rowed, in_listed, in_row, lists_at}
-use Rattle.kapi_missing.specs.Private.Sets.{has_bit, has_number, in_word, in_words, stands_under}
+use Rattle.kapi_missing.specs.Private.Rows.{AreBeside, AreListed, AreRows, Listed, Rowed, in_listed, in_row, is_beside, is_named}
+use Rattle.kapi_missing.specs.Private.Sets.{has_bit, has_number, in_word, in_words, stands}
 use Rattle.kapi_missing.specs.Private.Stopped.{stops_at}
 use Rattle.kapi_missing.specs.declared.bars.Dimension.{Dimension}
 use Rattle.kapi_missing.specs.declared.bars.Dimension.TheVariants as dimension
@@ -30,7 +30,7 @@ use Rattle.kapi_missing.specs.declared.bars.Sort.{Sort}
 use Rattle.kapi_missing.specs.declared.bars.Sort.TheVariants as sort
 use Rattle.kapi_missing.specs.declared.index.Bars.{Bars}
 use Rattle.kapi_missing.specs.declared.index.Index.{Index}
-use Rattle.kapi_missing.specs.declared.rows.Rows.{Rows}
+use Rattle.kapi_missing.specs.declared.rows.Known.{Known}
 
 -- ---- entries at their positions
 
@@ -152,15 +152,15 @@ pub in_four : (a b c d i : ℕ) → bit_at a i ≡ 1 → bit_at b i ≡ 1 → bi
 in_four a b c d i p q r s = bit_in_both (bit_and a b) (bit_and c d) i (bit_in_both a b i p q) (bit_in_both c d i r s)
 
 -- where no rule in the rows of its entries stops an atom, none does
-pub none_in_rows : (bars : Bars) (which : Sort) (wanted : PolicyRule) (rows : Rows) (i j k l : ℕ) → AreAllPlaced bars → AreRows bars.index bars.is_held which wanted rows
-    → ((n : ℕ) → n < length bars.rules.items → in_row rows.groups.items i n ≡ true → in_row rows.resources.items j n ≡ true
-    → in_row rows.verbs.items k n ≡ true → in_row rows.names.items l n ≡ true → stops_at bars which wanted i j k l n ≡ false)
+pub none_in_rows : (bars : Bars) (which : Sort) (wanted : PolicyRule) (known : Known) (i j k l : ℕ) → AreAllPlaced bars → AreRows bars.index bars.is_held which wanted known
+    → ((n : ℕ) → n < length bars.rules.items → in_row known.groups.met.items i n ≡ true → in_row known.resources.met.items j n ≡ true
+    → in_row known.verbs.met.items k n ≡ true → in_row known.names.met.items l n ≡ true → stops_at bars which wanted i j k l n ≡ false)
     → list_any (λ b. barred bars.is_held which b wanted i j k l) (rules_in bars) ≡ false
-none_in_rows bars which wanted rows i j k l placed are none = sym (through (λ b. barred bars.is_held which b wanted i j k l) (rules_in bars) [] has_it)
+none_in_rows bars which wanted known i j k l placed are none = sym (through (λ b. barred bars.is_held which b wanted i j k l) (rules_in bars) [] has_it)
   where
-    in_rows : (which : Sort) (b : PolicyRule) (n : ℕ) → IsPlaced bars.index n b → AreRows bars.index bars.is_held which wanted rows
+    in_rows : (which : Sort) (b : PolicyRule) (n : ℕ) → IsPlaced bars.index n b → AreRows bars.index bars.is_held which wanted known
         → barred bars.is_held which b wanted i j k l ≡ true
-        → (in_row rows.groups.items i n ≡ true) × (in_row rows.resources.items j n ≡ true) × (in_row rows.verbs.items k n ≡ true) × (in_row rows.names.items l n ≡ true)
+        → (in_row known.groups.met.items i n ≡ true) × (in_row known.resources.met.items j n ≡ true) × (in_row known.verbs.met.items k n ≡ true) × (in_row known.names.met.items l n ≡ true)
     in_rows sort.Resources b n here are h =
         let g = and_parts _ _ h in
         let r = and_parts _ _ g.1 in
@@ -189,26 +189,27 @@ in_both a b i is =
     let first : bit_at a i < 2 = bit_at-lt a i in
     let second : bit_at b i < 2 = bit_at-lt b i in (omega (arith, least, first, second), omega (arith, least, first, second))
 
-own_bit : (words : List ℕ) (place bit word : ℕ) → bit < 64 → word ≡ get_or words place 0 → bit_at word bit ≡ 1 → has_bit words (place * 64 + bit) ≡ true
-own_bit words place bit word below is set =
-    let high : (place * 64 + bit) / 64 ≡ place = omega (arith, below) in
-    let low : (place * 64 + bit) % 64 ≡ bit = omega (arith, below) in
-    rw (high, low) (one_is (bit_at (get_or words place 0) bit) (ap (λ w. bit_at w bit) (sym is) ∙ set))
+pub own_here : (words : List ℕ) (n place word : ℕ) → word ≡ get_or words place 0 → n / 64 ≡ place → bit_at word (n % 64) ≡ 1 → has_bit words n ≡ true
+own_here words n place word is here set = rw here (one_is (bit_at (get_or words place 0) (n % 64)) (ap (λ w. bit_at w (n % 64)) (sym is) ∙ set))
 
-pub common_number : (groups resources verbs names : List ℕ) (place bit g r v m : ℕ) → bit < 64
-    → g ≡ get_or groups place 0 → r ≡ get_or resources place 0 → v ≡ get_or verbs place 0 → m ≡ get_or names place 0
-    → bit_at (bit_and (bit_and g r) (bit_and v m)) bit ≡ 1
-    → SomeCommon groups resources verbs names
-common_number groups resources verbs names place bit g r v m below is_g is_r is_v is_m set =
-    let halves = in_both (bit_and g r) (bit_and v m) bit set in
-    let first = in_both g r bit halves.0 in
-    let last = in_both v m bit halves.1 in (
-      place * 64 + bit,
-      own_bit groups place bit g below is_g first.0,
-      own_bit resources place bit r below is_r first.1,
-      own_bit verbs place bit v below is_v last.0,
-      own_bit names place bit m below is_m last.1,
-    )
+-- the first three entries are those that the bits of three words are about
+pub beside_resources : (known : Known) (i j k place g r v : ℕ) → ((n : ℕ) → n / 64 ≡ place → bit_at g (n % 64) ≡ 1 → in_listed known.groups.listed.items i n ≡ true)
+    → ((n : ℕ) → n / 64 ≡ place → bit_at r (n % 64) ≡ 1 → in_listed known.resources.listed.items j n ≡ true)
+    → ((n : ℕ) → n / 64 ≡ place → bit_at v (n % 64) ≡ 1 → in_listed known.verbs.listed.items k n ≡ true)
+    → AreBeside sort.Resources known i j k (bit_and g (bit_and r v)) place
+beside_resources known i j k place g r v of_group of_resource of_verb = λ n here set.
+    let first = in_both g (bit_and r v) (n % 64) set in
+    let last = in_both r v (n % 64) first.1 in
+    rw (of_group n here first.0, of_resource n here last.0, of_verb n here last.1) refl
+
+pub beside_urls : (known : Known) (i j k place g v : ℕ) → (j == 0) ≡ true → ((n : ℕ) → n / 64 ≡ place → bit_at g (n % 64) ≡ 1 → in_listed known.groups.listed.items i n ≡ true)
+    → ((n : ℕ) → n / 64 ≡ place → bit_at v (n % 64) ≡ 1 → in_listed known.verbs.listed.items k n ≡ true) → AreBeside sort.Urls known i j k (bit_and g v) place
+beside_urls known i j k place g v only of_url of_verb = λ n here set.
+    let first = in_both g v (n % 64) set in
+    rw (of_url n here first.0, only, of_verb n here first.1) refl
+
+pub no_bit : {C : Type 0} (bit : ℕ) → bit_at 0 bit ≡ 1 → C
+no_bit bit set = absurd (let never : 0 ≡ 1 = sym (bit_at-zero bit) ∙ set in omega (arith, never))
 
 pub no_listed : (n : ℕ) → has_bit [] n ≡ false
 no_listed n = rw (bit_at-zero (n % 64)) refl
@@ -225,74 +226,103 @@ listed_meets true d e b is = any_weaker (λ x. bytes_eq x e) (λ x. entry_covers
     covers dimension.Names x same = same
     covers dimension.Urls x same = or_left (bytes_eq x e) (beginning_matches x e) same
 
-met_at : (held : Bool) (d : Dimension) (entries : List (List ℕ)) (i : ℕ) (b : PolicyRule) → lists_at d entries i b ≡ true → at (map (meets held d b) entries) i ≡ true
-met_at held d entries i b h =
+pub met_at : (held : Bool) (d : Dimension) (entries : List (List ℕ)) (b : PolicyRule) (i : ℕ) → at (map (λ e. lists d e b) entries) i ≡ true → at (map (meets held d b) entries) i ≡ true
+met_at held d entries b i h =
     marked_at (λ e. lists d e b) entries i h (λ e here is. at_map (meets held d b) entries i e here ∙ listed_meets held d e b is)
 
-name_met_at : (held : Bool) (names : List (List ℕ)) (l : ℕ) (b : PolicyRule) → lists_at dimension.Names names l b ≡ true → at (name_marks held b names) l ≡ true
-name_met_at held [] l b h = absurd (let never : false ≡ true = h in cc)
-name_met_at held (x ∷ names) l b h = by_case (held && (length b.resource_names == 0))
+pub name_met_at : (held : Bool) (names : List (List ℕ)) (b : PolicyRule) (l : ℕ) → at (map (λ e. lists dimension.Names e b) names) l ≡ true → at (name_marks held b names) l ≡ true
+name_met_at held [] b l h = absurd (let never : false ≡ true = h in cc)
+name_met_at held (x ∷ names) b l h = by_case (held && (length b.resource_names == 0))
   where
     by_case : (t : Bool) → at (if t then map (λ e. true) (x ∷ names) else map (meets held dimension.Names b) (x ∷ names)) l ≡ true
     by_case true = marked_at (λ e. lists dimension.Names e b) (x ∷ names) l h (λ e here is. at_map (λ e. true) (x ∷ names) l e here)
-    by_case false = met_at held dimension.Names (x ∷ names) l b h
+    by_case false = met_at held dimension.Names (x ∷ names) b l h
 
-pub listed_stops : (bars : Bars) (wanted : PolicyRule) (rows : Rows) (i j k l n : ℕ) → AreListed bars wanted rows
-    → in_listed rows.groups.items i n ≡ true → in_listed rows.resources.items j n ≡ true → in_listed rows.verbs.items k n ≡ true → in_listed rows.names.items l n ≡ true
-    → list_any (λ b. barred bars.is_held sort.Resources b wanted i j k l) (rules_in bars) ≡ true
-listed_stops bars wanted rows i j k l n are g r v m =
-    some_at (λ b. barred bars.is_held sort.Resources b wanted i j k l) (rules_in bars) n
-    (marked_at (lists_at dimension.Groups wanted.api_groups i) (rules_in bars) n (are.0 i n g) (λ b here group.
-    let resource = sym (at_map (lists_at dimension.Resources wanted.resources j) (rules_in bars) n b here) ∙ are.1 j n r in
-    let verb = sym (at_map (lists_at dimension.Verbs wanted.verbs k) (rules_in bars) n b here) ∙ are.2 k n v in
-    let name = sym (at_map (lists_at dimension.Names wanted.resource_names l) (rules_in bars) n b here) ∙ are.3 l n m in
-    at_map (λ b. barred bars.is_held sort.Resources b wanted i j k l) (rules_in bars) n b here
-    ∙ rw (
-      met_at bars.is_held dimension.Groups wanted.api_groups i b group,
-      met_at bars.is_held dimension.Resources wanted.resources j b resource,
-      met_at bars.is_held dimension.Verbs wanted.verbs k b verb,
-      name_met_at bars.is_held wanted.resource_names l b name,
-    )
-    refl))
+module _ (bars : Bars) where
+  -- rows for one test serve for a weaker one
+  pub listed_weaker : (marks other : PolicyRule → List Bool) (rows : List (Vec ℕ)) → ((b : PolicyRule) (i : ℕ) → at (marks b) i ≡ true → at (other b) i ≡ true)
+      → Listed bars marks rows → Listed bars other rows
+  listed_weaker marks other rows leads were i n h =
+      marked_at (λ b. at (marks b) i) (rules_in bars) n (were i n h) (λ b here yes. at_map (λ b. at (other b) i) (rules_in bars) n b here ∙ leads b i yes)
 
-pub listed_none : (bars : Bars) (d : Dimension) (entries : List (List ℕ)) (rows : List (Vec ℕ)) → length rows ≡ 0 → Listed bars d entries rows
-listed_none bars d entries [] none i n h = absurd (let never : false ≡ true = sym (no_listed n) ∙ h in cc)
-listed_none bars d entries (r ∷ rows) none i n h = absurd (omega (arith, none))
+  pub listed_none : (marks : PolicyRule → List Bool) (rows : List (Vec ℕ)) → length rows ≡ 0 → Listed bars marks rows
+  listed_none marks [] none i n h = absurd (let never : false ≡ true = sym (no_listed n) ∙ h in cc)
+  listed_none marks (r ∷ rows) none i n h = absurd (omega (arith, none))
 
--- one listed row more
-pub listed_pushed : (bars : Bars) (d : Dimension) (entries : List (List ℕ)) (rows : List (Vec ℕ)) (row : Vec ℕ) (i : ℕ) (e : List ℕ)
-    → length rows ≡ i → i < length entries → e ≡ get_or entries i e → IsExact bars → Listed bars d entries rows
-    → ((n : ℕ) → has_bit row.items n ≡ true → stands_under (sets_in d bars.index) e n ≡ true) → Listed bars d entries (rows ++ row ∷ [])
-listed_pushed bars d entries rows row i e long within is exact were own j n h = by_place (cases_eq j i)
-  where
-    all : List (List ℕ)
-    all = map (λ r. r.items) rows
+  -- the row of all names
+  pub all_listed : (row : Vec ℕ) → ((n : ℕ) → has_bit row.items n ≡ true → at (map (λ b. length b.resource_names == 0) (rules_in bars)) n ≡ true)
+      → Listed bars (λ b. name_marks bars.is_held b []) (row ∷ [])
+  all_listed row own zero n h =
+      marked_at (λ b. length b.resource_names == 0) (rules_in bars) n (own n h) (λ b here yes. at_map (λ b. at (name_marks bars.is_held b []) 0) (rules_in bars) n b here ∙ yes)
+  all_listed row own (suc i) n h = absurd (let never : false ≡ true = sym (no_listed n) ∙ h in cc)
 
-    long_all : length all ≡ i
-    long_all = sym (map_long (λ (r : Vec ℕ). r.items) rows) ∙ long
+  -- one listed row more
+  pub listed_pushed : (p : PolicyRule → List ℕ → Bool) (entries : List (List ℕ)) (rows : List (Vec ℕ)) (row : Vec ℕ) (i : ℕ) (e : List ℕ)
+      → length rows ≡ i → i < length entries → e ≡ get_or entries i e → Listed bars (λ b. map (p b) entries) rows
+      → ((n : ℕ) → has_bit row.items n ≡ true → at (map (λ b. p b e) (rules_in bars)) n ≡ true) → Listed bars (λ b. map (p b) entries) (rows ++ row ∷ [])
+  listed_pushed p entries rows row i e long within is were own j n h = by_place (cases_eq j i)
+    where
+      all : List (List ℕ)
+      all = map (λ r. r.items) rows
 
-    pushed : has_bit (get_or (all ++ row.items ∷ []) j []) n ≡ true
-    pushed = sym (ap (λ ls. has_bit (get_or ls j []) n) (map_push (λ (r : Vec ℕ). r.items) rows row)) ∙ h
+      long_all : length all ≡ i
+      long_all = sym (map_long (λ (r : Vec ℕ). r.items) rows) ∙ long
 
-    at_entry : (b : PolicyRule) → lists_at d entries i b ≡ lists d e b
-    at_entry b = entry_at (λ x. lists d x b) entries i e within is
+      pushed : has_bit (get_or (all ++ row.items ∷ []) j []) n ≡ true
+      pushed = sym (ap (λ ls. has_bit (get_or ls j []) n) (map_push (λ (r : Vec ℕ). r.items) rows row)) ∙ h
 
-    by_side : (j ≡ i → ⊥) → (j < i) ⊎ (i ≤ j) → at (map (lists_at d entries j) (rules_in bars)) n ≡ true
-    by_side other (inl before) =
-        let inside : j < length all = rw long_all before in
-        were j n (sym (ap (λ w. has_bit w n) (get_or_append_left all (row.items ∷ []) [] j inside)) ∙ pushed)
-    by_side other (inr behind) =
-        let apart : j ≢ i = other in
-        let past : length (all ++ row.items ∷ []) ≤ j = rw (length_push all row.items ∙ ap (λ k. k + 1) long_all) (omega (arith, behind, apart)) in
-        absurd (let never : false ≡ true = sym (no_listed n) ∙ (sym (ap (λ w. has_bit w n) (get_or_past (all ++ row.items ∷ []) j [] past)) ∙ pushed) in cc)
+      by_side : (j ≡ i → ⊥) → (j < i) ⊎ (i ≤ j) → at (map (λ b. at (map (p b) entries) j) (rules_in bars)) n ≡ true
+      by_side other (inl before) =
+          let inside : j < length all = rw long_all before in
+          were j n (sym (ap (λ w. has_bit w n) (get_or_append_left all (row.items ∷ []) [] j inside)) ∙ pushed)
+      by_side other (inr behind) =
+          let apart : j ≢ i = other in
+          let past : length (all ++ row.items ∷ []) ≤ j = rw (length_push all row.items ∙ ap (λ k. k + 1) long_all) (omega (arith, behind, apart)) in
+          absurd (let never : false ≡ true = sym (no_listed n) ∙ (sym (ap (λ w. has_bit w n) (get_or_past (all ++ row.items ∷ []) j [] past)) ∙ pushed) in cc)
 
-    by_place : (j ≡ i) ⊎ (j ≡ i → ⊥) → at (map (lists_at d entries j) (rules_in bars)) n ≡ true
-    by_place (inl here) =
-        let there : has_bit row.items n ≡ true =
-        sym (ap (λ w. has_bit w n) (ap (λ k. get_or (all ++ row.items ∷ []) k []) here ∙ get_or_push all row.items [] i long_all)) ∙ pushed in
-        marked_at (lists d e) (rules_in bars) n (exact d e n (own n there)) (λ b at_b listed.
-        at_map (lists_at d entries j) (rules_in bars) n b at_b ∙ ap (λ k. lists_at d entries k b) here ∙ at_entry b ∙ listed)
-    by_place (inr other) = by_side other (le_or_lt j i)
+      by_place : (j ≡ i) ⊎ (j ≡ i → ⊥) → at (map (λ b. at (map (p b) entries) j) (rules_in bars)) n ≡ true
+      by_place (inl here) =
+          let there : has_bit row.items n ≡ true =
+          sym (ap (λ w. has_bit w n) (ap (λ k. get_or (all ++ row.items ∷ []) k []) here ∙ get_or_push all row.items [] i long_all)) ∙ pushed in
+          marked_at (λ b. p b e) (rules_in bars) n (own n there) (λ b at_b yes.
+          at_map (λ b. at (map (p b) entries) j) (rules_in bars) n b at_b ∙ ap (λ k. at (map (p b) entries) k) here ∙ entry_at (p b) entries i e within is ∙ yes)
+      by_place (inr other) = by_side other (le_or_lt j i)
+
+  -- a rule that surely meets the entries of an atom stops it
+  pub surely_stops : (which : Sort) (wanted : PolicyRule) (known : Known) (i j k l n : ℕ) → AreListed bars which wanted known → is_beside which known i j k n ≡ true
+      → is_named which known l n ≡ true → list_any (λ b. barred bars.is_held which b wanted i j k l) (rules_in bars) ≡ true
+  surely_stops sort.Resources wanted known i j k l n are beside name =
+      let g = and_parts (in_listed known.groups.listed.items i n) (in_listed known.resources.listed.items j n && in_listed known.verbs.listed.items k n) beside in
+      let r = and_parts (in_listed known.resources.listed.items j n) (in_listed known.verbs.listed.items k n) g.1 in
+      some_at (λ b. barred bars.is_held sort.Resources b wanted i j k l) (rules_in bars) n
+      (marked_at (λ b. at (map (meets bars.is_held dimension.Groups b) wanted.api_groups) i) (rules_in bars) n (are.0 i n g.0) (λ b here group.
+      let resource = sym (at_map (λ b. at (map (meets bars.is_held dimension.Resources b) wanted.resources) j) (rules_in bars) n b here) ∙ are.1 j n r.0 in
+      let verb = sym (at_map (λ b. at (map (meets bars.is_held dimension.Verbs b) wanted.verbs) k) (rules_in bars) n b here) ∙ are.2 k n r.1 in
+      let named = sym (at_map (λ b. at (name_marks bars.is_held b wanted.resource_names) l) (rules_in bars) n b here) ∙ are.3 l n name in
+      at_map (λ b. barred bars.is_held sort.Resources b wanted i j k l) (rules_in bars) n b here ∙ rw (group, resource, verb, named) refl))
+  surely_stops sort.Urls wanted known i j k l n are beside name =
+      let g = and_parts (in_listed known.groups.listed.items i n) ((j == 0) && in_listed known.verbs.listed.items k n) beside in
+      let r = and_parts (j == 0) (in_listed known.verbs.listed.items k n) g.1 in
+      some_at (λ b. barred bars.is_held sort.Urls b wanted i j k l) (rules_in bars) n
+      (marked_at (λ b. at (map (meets bars.is_held dimension.Urls b) wanted.non_resource_urls) i) (rules_in bars) n (are.0 i n g.0) (λ b here url.
+      let verb = sym (at_map (λ b. at (map (meets bars.is_held dimension.Verbs b) wanted.verbs) k) (rules_in bars) n b here) ∙ are.2 k n r.1 in
+      at_map (λ b. barred bars.is_held sort.Urls b wanted i j k l) (rules_in bars) n b here ∙ rw (url, only_one j, r.0, verb, only_one l, name) refl))
+
+-- the row of all names, which the rules without names meet
+pub all_rowed : (index : Index) (held : Bool) (row : Vec ℕ) → ((n : ℕ) → stands index.nameless.items n ≡ true → in_words row.items n ≡ true)
+    → Rowed index (λ b. name_marks held b []) (row ∷ [])
+all_rowed index held row own n zero b placed h = own n (placed.2 h)
+all_rowed index held row own n (suc i) b placed h = absurd (let never : false ≡ true = h in cc)
+
+-- bits of two words are the rules that stop
+pub surely_bit : (which : Sort) (known : Known) (i j k l place beside name bit : ℕ) → bit < 64 → AreBeside which known i j k beside place
+    → ((n : ℕ) → n / 64 ≡ place → bit_at name (n % 64) ≡ 1 → is_named which known l n ≡ true) → bit_at (bit_and beside name) bit ≡ 1
+    → (is_beside which known i j k (place * 64 + bit) ≡ true) × (is_named which known l (place * 64 + bit) ≡ true)
+surely_bit which known i j k l place beside name bit below are named set =
+    let high : (place * 64 + bit) / 64 ≡ place = omega (arith, below) in
+    let low : (place * 64 + bit) % 64 ≡ bit = omega (arith, below) in
+    let both = in_both beside name bit set in
+    (are (place * 64 + bit) high (rw low both.0), named (place * 64 + bit) high (rw low both.1))
 
 -- ---- positions one after another
 
@@ -398,3 +428,15 @@ same_place f i j k g r v m n names marked is = by_case (i == g) (j == r) (k == v
     by_case true false c p q s = refl
     by_case true true false p q s = refl
     by_case true true true p q s = rw (marked, eqb-true i g p, eqb-true j r q, eqb-true k v s) is
+
+-- nothing is left beside three entries, at the positions of these
+pub nothing_there : (f : ℕ → ℕ → ℕ → Bool) (i j k g r v : ℕ) (old m n : Bool) → (n && f g r v) ≡ false
+    → old ≡ (old || (((i == g) && (j == r)) && (((k == v) && m) && (n && f i j k))))
+nothing_there f i j k g r v old m n none = by_case (i == g) (j == r) (k == v) refl refl refl
+  where
+    by_case : (a b c : Bool) → (i == g) ≡ a → (j == r) ≡ b → (k == v) ≡ c → old ≡ (old || ((a && b) && ((c && m) && (n && f i j k))))
+    by_case false b c p q s = sym (or_false old)
+    by_case true false c p q s = sym (or_false old)
+    by_case true true false p q s = sym (or_false old)
+    by_case true true true p q s =
+        rw (eqb-true i g p, eqb-true j r q, eqb-true k v s, none, and_false m) (sym (or_false old))

@@ -13,14 +13,14 @@ use Rattle.kapi_rules.specs.declared.atom.Names.TheVariants as names
 use Rattle.kapi_missing.proofs.Each.{each_none, no_group_left, no_url_left}
 use Rattle.kapi_missing.proofs.Repeats.{filter_append}
 use Rattle.kapi_missing.specs.Private.Bars.{entries_in}
-use Rattle.kapi_missing.specs.Private.Index.{AreBars}
 use Rattle.kapi_missing.specs.Private.Left.{is_stopped, left, left_atoms, left_of, left_urls, near_group, near_url}
 use Rattle.kapi_missing.specs.Private.Slices.{AddsLeft, may_cut, with_entries}
+use Rattle.kapi_missing.specs.Private.Tiers.{AreTiers}
 use Rattle.kapi_missing.specs.declared.bars.Dimension.{Dimension}
 use Rattle.kapi_missing.specs.declared.bars.Dimension.TheVariants as dimension
-use Rattle.kapi_missing.specs.declared.index.Bars.{Bars}
 use Rattle.kapi_missing.specs.declared.marks.Marks.{Marks}
 use Rattle.kapi_missing.specs.declared.plans.Plan.{Plan}
+use Rattle.kapi_missing.specs.declared.tiers.Tiers.{Tiers}
 
 -- ---- lists of no and of one element
 
@@ -155,8 +155,8 @@ one_plan old plan = flat_map-append left_of old (plan ∷ []) ∙ ap (λ (r : Li
 pub no_plan : (old : List Plan) (plan : Plan) → left_of plan ≡ [] → flat_map left_of old ≡ flat_map left_of old ++ left_of plan
 no_plan old plan is = rw is (sym (append-nil (flat_map left_of old)))
 
-module _ (held earlier : Bars) where
-  pub adds_plan : (old new : List Plan) (rule : PolicyRule) (plan : Plan) → ((hs es : List PolicyRule) → AreBars true hs held → AreBars false es earlier → left_of plan ≡ left_atoms hs es rule)
+module _ (held earlier : Tiers) where
+  pub adds_plan : (old new : List Plan) (rule : PolicyRule) (plan : Plan) → ((hs es : List PolicyRule) → AreTiers true hs held → AreTiers false es earlier → left_of plan ≡ left_atoms hs es rule)
       → flat_map left_of new ≡ flat_map left_of old ++ left_of plan → AddsLeft held earlier old new rule
   adds_plan old new rule plan is grown = λ hs es are own. grown ∙ ap (λ (r : List Atom). flat_map left_of old ++ r) (is hs es are own)
 
@@ -174,6 +174,6 @@ module _ (held earlier : Bars) where
       ∙ ap (λ (r : List Atom). flat_map left_of old ++ r) (sym (two_halves hs es rule first second is))
 
   pub adds_slim : (old new : List Plan) (rule slim : PolicyRule)
-      → ((hs es : List PolicyRule) → AreBars true hs held → AreBars false es earlier → left_atoms hs es rule ≡ left_atoms hs es slim)
+      → ((hs es : List PolicyRule) → AreTiers true hs held → AreTiers false es earlier → left_atoms hs es rule ≡ left_atoms hs es slim)
       → AddsLeft held earlier old new slim → AddsLeft held earlier old new rule
   adds_slim old new rule slim is grown = λ hs es are own. grown hs es are own ∙ ap (λ (r : List Atom). flat_map left_of old ++ r) (sym (is hs es are own))

@@ -10,3 +10,4 @@ pub mod Index
 pub mod Stopped
 pub mod Slim
 pub mod Rows
+pub mod Tiers

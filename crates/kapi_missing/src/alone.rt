@@ -4,44 +4,54 @@ ghost use Rattle.std.specs.List.{list_any};
 ghost use Rattle.kapi_missing.specs.Private.Bars.{barred};
 ghost use Rattle.kapi_missing.specs.Private.Index.{AreAllPlaced, rules_in};
 ghost use Rattle.kapi_missing.specs.Private.Marks.{at, has, some_has};
-ghost use Rattle.kapi_missing.specs.Private.Rows.{AreKnown};
+ghost use Rattle.kapi_missing.specs.Private.Rows.{IsReady};
 ghost use Rattle.kapi_missing.specs.Private.Stopped.{is_left};
 
 use crate::bars::Sort;
 use crate::index::Bars;
 use crate::marks::{Marks, is_marked};
-use crate::rows::{Known, all_known};
-use crate::single::{Positions, is_stopped};
+use crate::rows::{Asked, known_of};
+use crate::single::{Positions, beside_word, is_stopped, is_surely_stopped};
 use kapi_model::PolicyRule;
 use kapi_text::Memory;
 use std::alloc::Global;
 
-fn is_name_left(
-    part: &Marks,
-    bars: &Bars<'_>,
-    known: &Known,
-    sort: Sort,
-    rule: &PolicyRule,
-    atom: Positions,
-) -> bool
-    ensures { AreAllPlaced bars.now → AreKnown bars.now sort rule.now known.now
-        → result ≡ (at part.now.names.items atom.name && is_left bars.now sort rule.now atom.group atom.resource atom.verb atom.name) }
+// Whether surely nothing is left beside the other entries of the atom. Most atoms that many rules stop are stopped by one
+// of the first 64, so these are looked at before all.
+fn are_surely_stopped(part: &Marks, asked: &Asked<'_, '_>, atom: Positions) -> bool
+    ensures { IsReady asked.now → result ≡ true → (l : ℕ) → (at part.now.names.items l && is_left asked.now atom.group atom.resource atom.verb l) ≡ false }
 {
-    is_marked(part.names.as_slice(), atom.name) && !is_stopped(bars, known, sort, rule, atom)
+    let (group, resource, verb) = (atom.group, atom.resource, atom.verb);
+    let beside = beside_word(&asked.known, asked.sort, atom, 0);
+    for name in 0..part.names.len() {
+        let one = Positions {
+            group,
+            resource,
+            verb,
+            name,
+        };
+        if is_marked(part.names.as_slice(), name) && !is_surely_stopped(asked, one, beside, 0) {
+            return false;
+        }
+    }
+    true
+}
+
+fn is_name_left(part: &Marks, asked: &Asked<'_, '_>, atom: Positions) -> bool
+    ensures { IsReady asked.now → result ≡ (at part.now.names.items atom.name && is_left asked.now atom.group atom.resource atom.verb atom.name) }
+{
+    is_marked(part.names.as_slice(), atom.name) && !is_stopped(asked, atom)
 }
 
 // The names of the part that no rule stops beside the other entries of the atom.
 fn names_left(
     alloc: Global,
     part: &Marks,
-    bars: &Bars<'_>,
-    known: &Known,
-    sort: Sort,
-    rule: &PolicyRule,
+    asked: &Asked<'_, '_>,
     atom: Positions,
 ) -> Result<Vec<bool>, Memory>
-    ensures { IfOk result (λ v. AreAllPlaced bars.now → AreKnown bars.now sort rule.now known.now → (l : ℕ) → at v.items l
-        ≡ (at part.now.names.items l && is_left bars.now sort rule.now atom.group atom.resource atom.verb l)) }
+    ensures { IfOk result (λ v. IsReady asked.now → (l : ℕ) → at v.items l
+        ≡ (at part.now.names.items l && is_left asked.now atom.group atom.resource atom.verb l)) }
 {
     let (group, resource, verb) = (atom.group, atom.resource, atom.verb);
     let mut list = Vec::with_capacity(alloc, part.names.len())?;
@@ -52,7 +62,7 @@ fn names_left(
             verb,
             name,
         };
-        list.push(is_name_left(part, bars, known, sort, rule, one))?;
+        list.push(is_name_left(part, asked, one))?;
     }
     Ok(list)
 }
@@ -61,7 +71,7 @@ fn names_left(
 fn only(alloc: Global, position: usize) -> Result<Vec<bool>, Memory>
     ensures { IfOk result (λ v. (i : ℕ) → at v.items i ≡ (i == position)) }
 {
-    let mut list = Vec::new(alloc);
+    let mut list = Vec::with_capacity(alloc, position.saturating_add(1))?;
     for before in 0..position {
         list.push(false)?;
     }
@@ -109,20 +119,20 @@ fn push_verb(
     alloc: Global,
     list: &mut Vec<Marks>,
     part: &Marks,
-    bars: &Bars<'_>,
-    known: &Known,
-    sort: Sort,
-    rule: &PolicyRule,
+    asked: &Asked<'_, '_>,
     atom: Positions,
 ) -> Result<(), Memory>
-    ensures { OnOk result (AreAllPlaced bars.now → AreKnown bars.now sort rule.now known.now → (i j k l : ℕ) → some_has list.new.items i j k l
+    ensures { OnOk result (IsReady asked.now → (i j k l : ℕ) → some_has list.new.items i j k l
         ≡ (some_has list.old.items i j k l || (((i == atom.group) && (j == atom.resource))
-        && (((k == atom.verb) && at part.now.verbs.items atom.verb) && (at part.now.names.items l && is_left bars.now sort rule.now i j k l))))) }
+        && (((k == atom.verb) && at part.now.verbs.items atom.verb) && (at part.now.names.items l && is_left asked.now i j k l))))) }
 {
     if !is_marked(part.verbs.as_slice(), atom.verb) {
         return Ok(());
     }
-    let names = names_left(alloc, part, bars, known, sort, rule, atom)?;
+    if are_surely_stopped(part, asked, atom) {
+        return Ok(());
+    }
+    let names = names_left(alloc, part, asked, atom)?;
     push_names(alloc, list, names, atom)
 }
 
@@ -130,15 +140,12 @@ fn push_verbs(
     alloc: Global,
     list: &mut Vec<Marks>,
     part: &Marks,
-    bars: &Bars<'_>,
-    known: &Known,
-    sort: Sort,
-    rule: &PolicyRule,
+    asked: &Asked<'_, '_>,
     atom: Positions,
 ) -> Result<(), Memory>
-    ensures { OnOk result (AreAllPlaced bars.now → AreKnown bars.now sort rule.now known.now → (i j k l : ℕ) → some_has list.new.items i j k l
+    ensures { OnOk result (IsReady asked.now → (i j k l : ℕ) → some_has list.new.items i j k l
         ≡ (some_has list.old.items i j k l || (((i == atom.group) && (j == atom.resource))
-        && (at part.now.verbs.items k && (at part.now.names.items l && is_left bars.now sort rule.now i j k l))))) }
+        && (at part.now.verbs.items k && (at part.now.names.items l && is_left asked.now i j k l))))) }
 {
     let (group, resource, name) = (atom.group, atom.resource, 0);
     for verb in 0..part.verbs.len() {
@@ -148,7 +155,7 @@ fn push_verbs(
             verb,
             name,
         };
-        push_verb(alloc, list, part, bars, known, sort, rule, one)?;
+        push_verb(alloc, list, part, asked, one)?;
     }
     Ok(())
 }
@@ -158,35 +165,29 @@ fn push_resource(
     alloc: Global,
     list: &mut Vec<Marks>,
     part: &Marks,
-    bars: &Bars<'_>,
-    known: &Known,
-    sort: Sort,
-    rule: &PolicyRule,
+    asked: &Asked<'_, '_>,
     atom: Positions,
 ) -> Result<(), Memory>
-    ensures { OnOk result (AreAllPlaced bars.now → AreKnown bars.now sort rule.now known.now → (i j k l : ℕ) → some_has list.new.items i j k l
+    ensures { OnOk result (IsReady asked.now → (i j k l : ℕ) → some_has list.new.items i j k l
         ≡ (some_has list.old.items i j k l || ((i == atom.group) && (((j == atom.resource) && at part.now.resources.items atom.resource)
-        && (at part.now.verbs.items k && (at part.now.names.items l && is_left bars.now sort rule.now i j k l)))))) }
+        && (at part.now.verbs.items k && (at part.now.names.items l && is_left asked.now i j k l)))))) }
 {
     if !is_marked(part.resources.as_slice(), atom.resource) {
         return Ok(());
     }
-    push_verbs(alloc, list, part, bars, known, sort, rule, atom)
+    push_verbs(alloc, list, part, asked, atom)
 }
 
 fn push_resources(
     alloc: Global,
     list: &mut Vec<Marks>,
     part: &Marks,
-    bars: &Bars<'_>,
-    known: &Known,
-    sort: Sort,
-    rule: &PolicyRule,
+    asked: &Asked<'_, '_>,
     group: usize,
 ) -> Result<(), Memory>
-    ensures { OnOk result (AreAllPlaced bars.now → AreKnown bars.now sort rule.now known.now → (i j k l : ℕ) → some_has list.new.items i j k l
+    ensures { OnOk result (IsReady asked.now → (i j k l : ℕ) → some_has list.new.items i j k l
         ≡ (some_has list.old.items i j k l || ((i == group) && (at part.now.resources.items j
-        && (at part.now.verbs.items k && (at part.now.names.items l && is_left bars.now sort rule.now i j k l)))))) }
+        && (at part.now.verbs.items k && (at part.now.names.items l && is_left asked.now i j k l)))))) }
 {
     let (verb, name) = (0, 0);
     for resource in 0..part.resources.len() {
@@ -196,7 +197,7 @@ fn push_resources(
             verb,
             name,
         };
-        push_resource(alloc, list, part, bars, known, sort, rule, one)?;
+        push_resource(alloc, list, part, asked, one)?;
     }
     Ok(())
 }
@@ -206,38 +207,46 @@ fn push_group(
     alloc: Global,
     list: &mut Vec<Marks>,
     part: &Marks,
-    bars: &Bars<'_>,
-    known: &Known,
-    sort: Sort,
-    rule: &PolicyRule,
+    asked: &Asked<'_, '_>,
     group: usize,
 ) -> Result<(), Memory>
-    ensures { OnOk result (AreAllPlaced bars.now → AreKnown bars.now sort rule.now known.now → (i j k l : ℕ) → some_has list.new.items i j k l
+    ensures { OnOk result (IsReady asked.now → (i j k l : ℕ) → some_has list.new.items i j k l
         ≡ (some_has list.old.items i j k l || (((i == group) && at part.now.groups.items group) && (at part.now.resources.items j
-        && (at part.now.verbs.items k && (at part.now.names.items l && is_left bars.now sort rule.now i j k l)))))) }
+        && (at part.now.verbs.items k && (at part.now.names.items l && is_left asked.now i j k l)))))) }
 {
     if !is_marked(part.groups.as_slice(), group) {
         return Ok(());
     }
-    push_resources(alloc, list, part, bars, known, sort, rule, group)
+    push_resources(alloc, list, part, asked, group)
 }
 
 fn push_groups(
     alloc: Global,
     list: &mut Vec<Marks>,
     part: &Marks,
-    bars: &Bars<'_>,
-    known: &Known,
-    sort: Sort,
-    rule: &PolicyRule,
+    asked: &Asked<'_, '_>,
 ) -> Result<(), Memory>
-    ensures { OnOk result (AreAllPlaced bars.now → AreKnown bars.now sort rule.now known.now → (i j k l : ℕ) → some_has list.new.items i j k l
-        ≡ (some_has list.old.items i j k l || (has part.now i j k l && is_left bars.now sort rule.now i j k l))) }
+    ensures { OnOk result (IsReady asked.now → (i j k l : ℕ) → some_has list.new.items i j k l
+        ≡ (some_has list.old.items i j k l || (has part.now i j k l && is_left asked.now i j k l))) }
 {
     for group in 0..part.groups.len() {
-        push_group(alloc, list, part, bars, known, sort, rule, group)?;
+        push_group(alloc, list, part, asked, group)?;
     }
     Ok(())
+}
+
+fn without_each(
+    alloc: Global,
+    parts: Vec<Marks>,
+    asked: &Asked<'_, '_>,
+) -> Result<Vec<Marks>, Memory>
+    ensures { IfOk result (λ v. IsReady asked.now → (i j k l : ℕ) → some_has v.items i j k l ≡ (some_has parts.items i j k l && is_left asked.now i j k l)) }
+{
+    let mut list = Vec::new(alloc);
+    for part in parts {
+        push_groups(alloc, &mut list, &part, asked)?;
+    }
+    Ok(list)
 }
 
 /// What of some parts of the rule's atoms no bar stops.
@@ -251,10 +260,12 @@ pub fn without_alone(
     ensures { IfOk result (λ v. AreAllPlaced bars.now → (i j k l : ℕ) → some_has v.items i j k l
         ≡ (some_has parts.items i j k l && not (list_any (λ b. barred bars.now.is_held sort b rule.now i j k l) (rules_in bars.now)))) }
 {
-    let found = all_known(alloc, bars, sort, rule)?;
-    let mut list = Vec::new(alloc);
-    for part in parts {
-        push_groups(alloc, &mut list, &part, bars, &found, sort, rule)?;
-    }
-    Ok(list)
+    let known = known_of(alloc, bars, sort, rule)?;
+    let asked = Asked {
+        bars,
+        sort,
+        rule,
+        known,
+    };
+    without_each(alloc, parts, &asked)
 }

@@ -100,7 +100,8 @@ fn put_patterns(
 }
 
 fn put_nameless(nameless: &mut Vec<Block>, names: &[Text], number: usize) -> Result<(), Memory>
-    ensures { OnOk result ((n : ℕ) → (stands nameless.old.items n || ((length names.now == 0) && (number == n))) ≡ true → stands nameless.new.items n ≡ true) }
+    ensures added { OnOk result ((n : ℕ) → (stands nameless.old.items n || ((length names.now == 0) && (number == n))) ≡ true → stands nameless.new.items n ≡ true) }
+    ensures only { OnOk result ((n : ℕ) → stands nameless.new.items n ≡ true → (stands nameless.old.items n || ((length names.now == 0) && (number == n))) ≡ true) }
 {
     if names.is_empty() {
         add_number(nameless, number)
@@ -138,15 +139,4 @@ pub fn add_bar<'a>(alloc: Global, bars: &mut Bars<'a>, rule: &'a PolicyRule) -> 
     place(&mut bars.index, rule, number)?;
     bars.rules.push(bar_of(alloc, rule)?)?;
     Ok(())
-}
-
-/// Held rules as bars.
-pub fn held_bars<'a>(alloc: Global, held: &'a [PolicyRule]) -> Result<Bars<'a>, Memory>
-    ensures { IfOk result (AreBars true held.now) }
-{
-    let mut bars = no_bars(alloc, true);
-    for rule in held {
-        add_bar(alloc, &mut bars, rule)?;
-    }
-    Ok(bars)
 }

@@ -17,6 +17,7 @@ mod single;
 mod slices;
 mod slim;
 mod stopped;
+mod tiers;
 mod words;
 
 pub use missing_atoms::missing;

@@ -184,3 +184,33 @@ pub fn atoms_of(parts: &[Marks]) -> usize {
     }
     total
 }
+
+fn copy_of(alloc: Global, marks: &[bool]) -> Result<Vec<bool>, Memory>
+    ensures { IfOk result (λ v. v.items ≡ marks.now) }
+{
+    let mut list = Vec::with_capacity(alloc, marks.len())?;
+    list.extend_from_slice(marks)?;
+    Ok(list)
+}
+
+fn copy_of_part(alloc: Global, part: &Marks) -> Result<Marks, Memory>
+    ensures { IfOk result (λ m. (i j k l : ℕ) → has m i j k l ≡ has part.now i j k l) }
+{
+    Ok(Marks {
+        groups: copy_of(alloc, part.groups.as_slice())?,
+        resources: copy_of(alloc, part.resources.as_slice())?,
+        verbs: copy_of(alloc, part.verbs.as_slice())?,
+        names: copy_of(alloc, part.names.as_slice())?,
+    })
+}
+
+/// The same parts once more.
+pub fn copy_of_parts(alloc: Global, parts: &[Marks]) -> Result<Vec<Marks>, Memory>
+    ensures { IfOk result (λ v. (i j k l : ℕ) → some_has v.items i j k l ≡ some_has parts.now i j k l) }
+{
+    let mut list = Vec::with_capacity(alloc, parts.len())?;
+    for part in parts {
+        list.push(copy_of_part(alloc, part)?)?;
+    }
+    Ok(list)
+}

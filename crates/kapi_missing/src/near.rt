@@ -1,16 +1,20 @@
 //! The rules that meet an entry of each list of the wanted one.
-ghost use Rattle.std.specs.Prelude.{◌≡◌, ◌+◌, ◌<◌, ◌==◌, ◌&&◌, ◌||◌, ℕ, true, length, take, IfOk};
+ghost use Rattle.std.specs.Prelude.{◌≡◌, ◌∷◌, [], ◌+◌, ◌<◌, ◌==◌, ◌&&◌, ◌||◌, ℕ, true, length, take, IfOk};
 ghost use Rattle.std.specs.List.{list_any};
 ghost use Rattle.kapi_model.specs.declared.policy_rule.PolicyRule.{PolicyRule as PolicyRuleValue};
 ghost use Rattle.kapi_rules.specs.Atoms.{after_slash as behind_slash};
 ghost use Rattle.kapi_missing.specs.Private.Bars.{entries_in, is_near_to, meets, some_name_met};
 ghost use Rattle.kapi_missing.specs.Private.Index.{IsPlaced, StandsByStar, any_stands, meets_some, sets_in};
+ghost use Rattle.kapi_missing.specs.Private.Slices.{number};
 ghost use Rattle.kapi_missing.specs.Private.Sets.{fingerprint, has_bit, in_words, stands, stands_at, stands_under};
 
 use crate::bars::{Dimension, Sort, entries_of, size_of};
 use crate::index::{Bars, Index};
 use crate::marks::{Marks, atoms_of};
-use crate::sets::{Patterns, Sets, common, continued, mark, mark_at, mark_under, no_numbers, step};
+use crate::sets::{
+    Patterns, Sets, common, continued, copied, mark, mark_at, mark_under, no_numbers, step,
+};
+use crate::slices::number_of;
 use kapi_model::PolicyRule;
 use kapi_rules::after_slash;
 use kapi_text::{Memory, Text};
@@ -19,8 +23,8 @@ use std::alloc::Global;
 /// The atoms of a rule of more entries than these are not looked at alone.
 const SHORT: usize = 1_024;
 
-// The sets of one of the lists.
-fn sets_of<'b, 'a>(index: &'b Index<'a>, dimension: Dimension) -> &'b Sets<'a>
+/// The sets of one of the lists.
+pub fn sets_of<'b, 'a>(index: &'b Index<'a>, dimension: Dimension) -> &'b Sets<'a>
     ensures { result.now ≡ sets_in dimension index.now }
 {
     match dimension {
@@ -130,18 +134,54 @@ pub fn meeting(
     Ok(words)
 }
 
-/// The rules that list the entry, and no others.
-pub fn listing(
+/// One bit for each rule: of those that meet an entry, where others may stand too, and of those that list it.
+#[derive(Drop)]
+pub struct Row {
+    pub met: Vec<u64>,
+    pub listed: Vec<u64>,
+}
+
+// The held rules that meet the entry without listing it: by an entry with a star, or a name since they list none.
+fn mark_besides(words: &mut Vec<u64>, bars: &Bars<'_>, dimension: Dimension, entry: &str)
+    ensures kept { (n : ℕ) → in_words words.old.items n ≡ true → in_words words.new.items n ≡ true }
+    ensures starred { bars.now.is_held ≡ true → (n : ℕ) → StandsByStar dimension bars.now.index entry.now n → in_words words.new.items n ≡ true }
+    ensures nameless { bars.now.is_held ≡ true → number dimension ≡ 4 → (n : ℕ) → stands bars.now.index.nameless.items n ≡ true → in_words words.new.items n ≡ true }
+{
+    if bars.is_held {
+        mark_starred(words, &bars.index, dimension, entry);
+        if number_of(dimension) == 4 {
+            mark(words, bars.index.nameless.as_slice());
+        }
+    }
+}
+
+/// The row of one entry of that list.
+pub fn row_of(
     alloc: Global,
     bars: &Bars<'_>,
     dimension: Dimension,
-    entry: &str,
-) -> Result<Vec<u64>, Memory>
-    ensures { IfOk result (λ v. (n : ℕ) → has_bit v.items n ≡ true → stands_under (sets_in dimension bars.now.index) entry.now n ≡ true) }
+    entry: &Text,
+) -> Result<Row, Memory>
+    ensures met { IfOk result (λ r. (n : ℕ) (rule : PolicyRuleValue) → IsPlaced bars.now.index n rule → meets_some bars.now.is_held dimension rule (entry.now ∷ []) ≡ true
+        → in_words r.met.items n ≡ true) }
+    ensures listed { IfOk result (λ r. (n : ℕ) → has_bit r.listed.items n ≡ true → stands_under (sets_in dimension bars.now.index) entry.now n ≡ true) }
 {
-    let mut words = no_numbers(alloc, bars.rules.len())?;
-    mark_under(&mut words, sets_of(&bars.index, dimension), entry);
-    Ok(words)
+    let mut listed = no_numbers(alloc, bars.rules.len())?;
+    mark_under(&mut listed, sets_of(&bars.index, dimension), entry.as_str());
+    let mut met = copied(alloc, listed.as_slice())?;
+    mark_besides(&mut met, bars, dimension, entry.as_str());
+    Ok(Row { met, listed })
+}
+
+/// The row of all names, which those meet and list that list none.
+pub fn row_of_all(alloc: Global, bars: &Bars<'_>) -> Result<Row, Memory>
+    ensures met { IfOk result (λ r. (n : ℕ) → stands bars.now.index.nameless.items n ≡ true → in_words r.met.items n ≡ true) }
+    ensures listed { IfOk result (λ r. (n : ℕ) → has_bit r.listed.items n ≡ true → stands bars.now.index.nameless.items n ≡ true) }
+{
+    let mut listed = no_numbers(alloc, bars.rules.len())?;
+    mark(&mut listed, bars.index.nameless.as_slice());
+    let met = copied(alloc, listed.as_slice())?;
+    Ok(Row { met, listed })
 }
 
 fn meeting_in(
@@ -197,17 +237,17 @@ pub fn near(
 }
 
 /// Whether the atoms of the parts are better looked at alone, each beside the words of all rules, than so many rules that
-/// are near, each beside the parts. Measured, an atom takes 20 nanoseconds and 1 for a word, an entry 100 and 2 for a word,
-/// and a rule 1,000, 20 for an entry and 50 for a part.
+/// are near, each beside the parts. Measured, an atom takes 10 nanoseconds and 1 for two words, since many are stopped by
+/// a rule of the first words, an entry 100 and 2 for a word, and a rule 1,000, 20 for an entry and 50 for a part.
 pub fn are_few(bars: &Bars<'_>, rule: &PolicyRule, parts: &[Marks], near: usize) -> bool {
     let size = size_of(rule);
-    let atoms = atoms_of(parts);
-    if atoms == 0 || size > SHORT {
+    if size > SHORT || parts.is_empty() {
         return false;
     }
+    let atoms = atoms_of(parts);
     let words = bars.rules.len() / 64;
     let rows = size.saturating_mul(words.saturating_mul(2).saturating_add(100));
-    let alone = atoms.saturating_mul(words.saturating_add(20));
+    let alone = atoms.saturating_mul((words / 2).saturating_add(10));
     let asked = size
         .saturating_mul(20)
         .saturating_add(parts.len().saturating_mul(50))

@@ -4,18 +4,17 @@ ghost use Rattle.std.specs.List.{flat_map};
 ghost use Rattle.kapi_rules.specs.Missing.{missing as missing_of};
 ghost use Rattle.kapi_model.specs.declared.policy_rule.PolicyRule.{PolicyRule as PolicyRuleValue};
 ghost use Rattle.kapi_missing.specs.Private.Bars.{AreLeft, wanted_at};
-ghost use Rattle.kapi_missing.specs.Private.Index.{AreBars};
 ghost use Rattle.kapi_missing.specs.Private.Left.{left_atoms, left_of};
 ghost use Rattle.kapi_missing.specs.Private.Once.{once};
 ghost use Rattle.kapi_missing.specs.Private.Slices.{AddsLeft};
+ghost use Rattle.kapi_missing.specs.Private.Tiers.{AreTiers};
 
 use crate::bars::{Dimension, Sort, whole_part};
-use crate::index::{Bars, add_bar, held_bars, no_bars};
 use crate::marks::{Marks, atoms_of};
 use crate::once::once_rule;
 use crate::slices::{Halves, by_sorts, cut, sliced_list};
 use crate::slim::slim;
-use crate::stopped::without_bars;
+use crate::tiers::{Tiers, add_rule, held_rules, no_rules, without_tiers};
 use kapi_model::PolicyRule;
 use kapi_rules::Atom;
 use kapi_text::Memory;
@@ -41,30 +40,30 @@ fn is_none_wanted(sort: Sort, rule: &PolicyRule) -> bool
 
 fn left_parts(
     alloc: Global,
-    held: &Bars<'_>,
-    earlier: &Bars<'_>,
+    held: &Tiers<'_>,
+    earlier: &Tiers<'_>,
     sort: Sort,
     rule: &PolicyRule,
 ) -> Result<Vec<Marks>, Memory>
-    ensures { IfOk result (λ v. (hs es : List PolicyRuleValue) → AreBars true hs held.now → AreBars false es earlier.now → AreLeft hs es sort rule.now v.items) }
+    ensures { IfOk result (λ v. (hs es : List PolicyRuleValue) → AreTiers true hs held.now → AreTiers false es earlier.now → AreLeft hs es sort rule.now v.items) }
 {
     let mut whole = Vec::new(alloc);
     if is_none_wanted(sort, rule) {
         return Ok(whole);
     }
     whole.push(whole_part(alloc, sort, rule)?)?;
-    let parts = without_bars(alloc, whole, held, sort, rule)?;
-    let left = without_bars(alloc, parts, earlier, sort, rule)?;
+    let parts = without_tiers(alloc, whole, held, sort, rule)?;
+    let left = without_tiers(alloc, parts, earlier, sort, rule)?;
     Ok(left)
 }
 
 fn planned(
     alloc: Global,
-    held: &Bars<'_>,
-    earlier: &Bars<'_>,
+    held: &Tiers<'_>,
+    earlier: &Tiers<'_>,
     rule: PolicyRule,
 ) -> Result<Plan, Memory>
-    ensures { IfOk result (λ p. (hs es : List PolicyRuleValue) → AreBars true hs held.now → AreBars false es earlier.now → left_of p ≡ left_atoms hs es rule) }
+    ensures { IfOk result (λ p. (hs es : List PolicyRuleValue) → AreTiers true hs held.now → AreTiers false es earlier.now → left_of p ≡ left_atoms hs es rule) }
 {
     let resources = left_parts(alloc, held, earlier, Sort::Resources, &rule)?;
     let urls = left_parts(alloc, held, earlier, Sort::Urls, &rule)?;
@@ -94,14 +93,14 @@ fn push_plan(list: &mut Vec<Plan>, plan: Plan) -> Result<(), Memory>
 #[tactic(auto, using(crate::proofs::Sliced::adds_slim))]
 fn push_planned(
     alloc: Global,
-    held: &Bars<'_>,
-    earlier: &Bars<'_>,
+    held: &Tiers<'_>,
+    earlier: &Tiers<'_>,
     list: &mut Vec<Plan>,
     rule: PolicyRule,
 ) -> Result<(), Memory>
     ensures { OnOk result (AddsLeft held.now earlier.now list.old.items list.new.items rule) }
 {
-    let slim = slim(alloc, held, earlier, rule)?;
+    let slim = slim(alloc, &held.all, &earlier.all, rule)?;
     let plan = planned(alloc, held, earlier, slim)?;
     push_plan(list, plan)
 }
@@ -109,8 +108,8 @@ fn push_planned(
 // Plans of the rule, or of slices of it. The depth bounds how often it is cut.
 fn push_slices(
     alloc: Global,
-    held: &Bars<'_>,
-    earlier: &Bars<'_>,
+    held: &Tiers<'_>,
+    earlier: &Tiers<'_>,
     list: &mut Vec<Plan>,
     rule: PolicyRule,
     last: Dimension,
@@ -133,14 +132,14 @@ fn push_slices(
 
 fn push_cut(
     alloc: Global,
-    held: &Bars<'_>,
-    earlier: &Bars<'_>,
+    held: &Tiers<'_>,
+    earlier: &Tiers<'_>,
     list: &mut Vec<Plan>,
     rule: PolicyRule,
 ) -> Result<(), Memory>
     ensures { OnOk result (AddsLeft held.now earlier.now list.old.items list.new.items rule) }
 {
-    match sliced_list(alloc, held, earlier, &rule)? {
+    match sliced_list(alloc, &held.all, &earlier.all, &rule)? {
         Some(last) => push_slices(alloc, held, earlier, list, rule, last, 64),
         None => push_planned(alloc, held, earlier, list, rule),
     }
@@ -149,21 +148,21 @@ fn push_cut(
 #[tactic(auto, using(crate::proofs::Sliced::adds_slim))]
 fn push_one_sort(
     alloc: Global,
-    held: &Bars<'_>,
-    earlier: &Bars<'_>,
+    held: &Tiers<'_>,
+    earlier: &Tiers<'_>,
     list: &mut Vec<Plan>,
     rule: PolicyRule,
 ) -> Result<(), Memory>
     ensures { OnOk result (AddsLeft held.now earlier.now list.old.items list.new.items rule) }
 {
-    let slim = slim(alloc, held, earlier, rule)?;
+    let slim = slim(alloc, &held.all, &earlier.all, rule)?;
     push_cut(alloc, held, earlier, list, slim)
 }
 
 fn push_by_sorts(
     alloc: Global,
-    held: &Bars<'_>,
-    earlier: &Bars<'_>,
+    held: &Tiers<'_>,
+    earlier: &Tiers<'_>,
     list: &mut Vec<Plan>,
     rule: PolicyRule,
 ) -> Result<(), Memory>
@@ -181,8 +180,8 @@ fn push_by_sorts(
 
 fn push_wanted(
     alloc: Global,
-    held: &Bars<'_>,
-    earlier: &Bars<'_>,
+    held: &Tiers<'_>,
+    earlier: &Tiers<'_>,
     list: &mut Vec<Plan>,
     wanted: &PolicyRule,
 ) -> Result<(), Memory>
@@ -223,8 +222,8 @@ pub fn plans(
     ensures plans { IfOk result (λ v. flat_map left_of v.items ≡ missing_of held.now wanted.now) }
     ensures room { OnOk result (found.new.items ≡ found.old.items) }
 {
-    let held = held_bars(alloc, held)?;
-    let mut earlier = no_bars(alloc, false);
+    let held = held_rules(alloc, held)?;
+    let mut earlier = no_rules(alloc, false);
     let mut list = Vec::new(alloc);
     let mut atoms: usize = 0;
     for rule in wanted {
@@ -232,7 +231,7 @@ pub fn plans(
         push_wanted(alloc, &held, &earlier, &mut list, rule)?;
         atoms = atoms.saturating_add(atoms_from(list.as_slice(), planned));
         found.reserve(atoms)?;
-        add_bar(alloc, &mut earlier, rule)?;
+        add_rule(alloc, &mut earlier, rule, wanted.len())?;
     }
     Ok(list)
 }

@@ -176,6 +176,15 @@ pub fn mark_at(words: &mut Vec<u64>, patterns: &Patterns, hash: u64)
     }
 }
 
+/// The same words once more.
+pub fn copied(alloc: Global, words: &[u64]) -> Result<Vec<u64>, Memory>
+    ensures { IfOk result (λ v. v.items ≡ words.now) }
+{
+    let mut list = Vec::with_capacity(alloc, words.len())?;
+    list.extend_from_slice(words)?;
+    Ok(list)
+}
+
 /// A word; where there is none, no number is excluded.
 pub fn word_at(words: &[u64], place: usize) -> u64
     ensures { result ≡ in_word words.now place }

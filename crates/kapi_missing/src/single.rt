@@ -1,17 +1,14 @@
 //! Whether some rule stops a single atom of a wanted rule.
 ghost use Rattle.std.specs.Prelude.{◌≡◌, ◌/◌, ◌%◌, ◌*◌, ◌+◌, ◌^◌, ◌<◌, ◌==◌, ℕ, length, true, false, get_or, map};
 ghost use Rattle.std.specs.Int.{bit_at};
-ghost use Rattle.std.specs.List.{list_any};
 ghost use Rattle.kapi_missing.specs.Private.Bars.{barred, meets, name_marks, rule_in};
-ghost use Rattle.kapi_missing.specs.Private.Index.{AreAllPlaced, rules_in};
 ghost use Rattle.kapi_missing.specs.Private.Marks.{at};
-ghost use Rattle.kapi_missing.specs.Private.Rows.{AreKnown, AreListed, SomeCommon, in_listed, in_row};
+ghost use Rattle.kapi_missing.specs.Private.Rows.{AreBeside, AreListed, IsReady, SomeBit, in_listed, in_row, is_named, is_stopped_in};
 ghost use Rattle.kapi_missing.specs.Private.Sets.{has_bit, in_words};
 ghost use Rattle.kapi_missing.specs.Private.Stopped.{stops_at};
 
 use crate::bars::{Bar, Dimension, Sort, is_met};
-use crate::index::Bars;
-use crate::rows::{Known, Rows};
+use crate::rows::{Asked, Known, Rows};
 use crate::sets::{may_have, word_at};
 use kapi_model::PolicyRule;
 use kapi_text::Text;
@@ -111,57 +108,37 @@ fn is_barred(bar: &Bar<'_>, is_held: bool, sort: Sort, rule: &PolicyRule, atom: 
 }
 
 // Whether the rule of that number stops the atom.
-fn is_stopping(
-    bars: &Bars<'_>,
-    number: usize,
-    sort: Sort,
-    rule: &PolicyRule,
-    atom: Positions,
-) -> bool
-    ensures { result ≡ stops_at bars.now sort rule.now atom.group atom.resource atom.verb atom.name number }
+fn is_stopping(asked: &Asked<'_, '_>, number: usize, atom: Positions) -> bool
+    ensures { result ≡ stops_at asked.now.bars.now asked.now.sort asked.now.rule.now atom.group atom.resource atom.verb atom.name number }
 {
-    match bars.rules.get(number) {
-        Some(bar) => is_barred(bar, bars.is_held, sort, rule, atom),
+    match asked.bars.rules.get(number) {
+        Some(bar) => is_barred(bar, asked.bars.is_held, asked.sort, asked.rule, atom),
         None => false,
     }
 }
 
 // Whether one of the rules of a word stops the atom.
-fn is_any_stopping(
-    bars: &Bars<'_>,
-    place: usize,
-    word: u64,
-    sort: Sort,
-    rule: &PolicyRule,
-    atom: Positions,
-) -> bool
+fn is_any_stopping(asked: &Asked<'_, '_>, place: usize, word: u64, atom: Positions) -> bool
     requires { place * 64 + 63 < 2 ^ 64 }
-    ensures some { result ≡ true → list_any (λ b. barred bars.now.is_held sort b rule.now atom.group atom.resource atom.verb atom.name) (rules_in bars.now) ≡ true }
+    ensures some { result ≡ true → is_stopped_in asked.now atom.group atom.resource atom.verb atom.name ≡ true }
     ensures none { result ≡ false → (n : ℕ) → n / 64 ≡ place → bit_at word (n % 64) ≡ 1
-        → stops_at bars.now sort rule.now atom.group atom.resource atom.verb atom.name n ≡ false }
+        → stops_at asked.now.bars.now asked.now.sort asked.now.rule.now atom.group atom.resource atom.verb atom.name n ≡ false }
 {
     for bit in 0..64 {
-        if may_have(word, bit) && is_stopping(bars, place * 64 + bit, sort, rule, atom) {
+        if may_have(word, bit) && is_stopping(asked, place * 64 + bit, atom) {
             return true;
         }
     }
     false
 }
 
-// The same, where the first of them does; the others are not asked.
-fn is_first_stopping(
-    bars: &Bars<'_>,
-    place: usize,
-    word: u64,
-    sort: Sort,
-    rule: &PolicyRule,
-    atom: Positions,
-) -> bool
-    ensures { result ≡ true → list_any (λ b. barred bars.now.is_held sort b rule.now atom.group atom.resource atom.verb atom.name) (rules_in bars.now) ≡ true }
+// Stops the atom by its first rule of that word alone, if that does; the others are not asked.
+fn is_first_stopping(asked: &Asked<'_, '_>, place: usize, word: u64, atom: Positions) -> bool
+    ensures { result ≡ true → is_stopped_in asked.now atom.group atom.resource atom.verb atom.name ≡ true }
 {
     let bit = word.trailing_zeros() as usize;
     let number = place.saturating_mul(64).saturating_add(bit);
-    is_stopping(bars, number, sort, rule, atom)
+    is_stopping(asked, number, atom)
 }
 
 // The row at that position; where there is none, no rule is excluded.
@@ -186,15 +163,6 @@ fn common_word(groups: &[u64], resources: &[u64], verbs: &[u64], names: &[u64], 
     first & last
 }
 
-fn own_word(row: &[u64], place: usize) -> u64
-    ensures { result ≡ get_or row.now place 0 }
-{
-    match row.get(place) {
-        Some(word) => *word,
-        None => 0,
-    }
-}
-
 // The row at that position; where there is none, it has no number.
 #[tactic(auto, using(crate::proofs::Singles::row_there))]
 fn listed_at(rows: &[Vec<u64>], position: usize) -> &[u64]
@@ -206,6 +174,53 @@ fn listed_at(rows: &[Vec<u64>], position: usize) -> &[u64]
     }
 }
 
+fn own_word(row: &[u64], place: usize) -> u64
+    ensures { result ≡ get_or row.now place 0 }
+{
+    match row.get(place) {
+        Some(word) => *word,
+        None => 0,
+    }
+}
+
+// Those rules of a word that surely meet the entry at that position.
+#[inline(always)]
+fn listed_word(rows: &Rows, position: usize, place: usize) -> u64
+    ensures { (n : ℕ) → n / 64 ≡ place → bit_at result (n % 64) ≡ 1 → in_listed rows.now.listed.items position n ≡ true }
+{
+    own_word(listed_at(rows.listed.as_slice(), position), place)
+}
+
+/// Those rules of a word that surely meet the entries of the atom beside its name.
+#[inline(always)]
+pub fn beside_word(known: &Known, sort: Sort, atom: Positions, place: usize) -> u64
+    ensures { AreBeside sort known.now atom.group atom.resource atom.verb result place }
+{
+    let groups = listed_word(&known.groups, atom.group, place);
+    let verbs = listed_word(&known.verbs, atom.verb, place);
+    match sort {
+        Sort::Resources => groups & (listed_word(&known.resources, atom.resource, place) & verbs),
+        Sort::Urls => {
+            if atom.resource == 0 {
+                groups & verbs
+            } else {
+                0
+            }
+        }
+    }
+}
+
+// Those that surely meet the name.
+#[inline(always)]
+fn name_word(known: &Known, sort: Sort, name: usize, place: usize) -> u64
+    ensures { (n : ℕ) → n / 64 ≡ place → bit_at result (n % 64) ≡ 1 → is_named sort known.now name n ≡ true }
+{
+    match sort {
+        Sort::Resources => listed_word(&known.names, name, place),
+        Sort::Urls => { if name == 0 { u64::MAX } else { 0 } }
+    }
+}
+
 #[tactic(auto, using(crate::proofs::Singles::bit_is))]
 fn is_set(word: u64, bit: usize) -> bool
     requires { bit < 64 }
@@ -214,96 +229,51 @@ fn is_set(word: u64, bit: usize) -> bool
     (word >> bit) & 1 == 1
 }
 
-// A number that all four have among those of that place.
 #[inline(always)]
-fn common_in(groups: &[u64], resources: &[u64], verbs: &[u64], names: &[u64], place: usize) -> bool
-    ensures { result ≡ true → SomeCommon groups.now resources.now verbs.now names.now }
+fn is_some_bit(word: u64) -> bool
+    ensures { result ≡ true → SomeBit word }
 {
-    let first = own_word(groups, place) & own_word(resources, place);
-    let word = first & (own_word(verbs, place) & own_word(names, place));
     let bit = word.trailing_zeros() as usize;
     bit < 64 && is_set(word, bit)
 }
 
-// Whether a rule of that place lists all entries of the atom.
-fn is_listed_in(
-    bars: &Bars<'_>,
-    rows: &Rows,
-    rule: &PolicyRule,
-    atom: Positions,
-    place: usize,
-) -> bool
-    ensures { AreListed bars.now rule.now rows.now → result ≡ true
-        → list_any (λ b. barred bars.now.is_held Sort.Resources b rule.now atom.group atom.resource atom.verb atom.name) (rules_in bars.now) ≡ true }
+/// Whether a rule of that word surely stops the atom, where those are known that surely meet its other entries.
+#[inline(always)]
+pub fn is_surely_stopped(asked: &Asked<'_, '_>, atom: Positions, beside: u64, place: usize) -> bool
+    ensures { AreListed asked.now.bars.now asked.now.sort asked.now.rule.now asked.now.known → AreBeside asked.now.sort asked.now.known atom.group atom.resource atom.verb beside place
+        → result ≡ true → is_stopped_in asked.now atom.group atom.resource atom.verb atom.name ≡ true }
 {
-    let groups = listed_at(rows.groups.as_slice(), atom.group);
-    let resources = listed_at(rows.resources.as_slice(), atom.resource);
-    let verbs = listed_at(rows.verbs.as_slice(), atom.verb);
-    let names = listed_at(rows.names.as_slice(), atom.name);
-    common_in(groups, resources, verbs, names, place)
-}
-
-// The same, for atoms on resources.
-fn is_surely_in(
-    bars: &Bars<'_>,
-    rows: &Rows,
-    sort: Sort,
-    rule: &PolicyRule,
-    atom: Positions,
-    place: usize,
-) -> bool
-    ensures { AreListed bars.now rule.now rows.now → result ≡ true
-        → list_any (λ b. barred bars.now.is_held sort b rule.now atom.group atom.resource atom.verb atom.name) (rules_in bars.now) ≡ true }
-{
-    match sort {
-        Sort::Resources => is_listed_in(bars, rows, rule, atom, place),
-        Sort::Urls => false,
-    }
+    is_some_bit(beside & name_word(&asked.known, asked.sort, atom.name, place))
 }
 
 // Whether one of the rules of a word stops the atom. One that lists all its entries does, and the others are asked.
 #[inline(always)]
-fn is_word_stopping(
-    bars: &Bars<'_>,
-    listed: &Rows,
-    place: usize,
-    word: u64,
-    sort: Sort,
-    rule: &PolicyRule,
-    atom: Positions,
-) -> bool
+fn is_word_stopping(asked: &Asked<'_, '_>, place: usize, word: u64, atom: Positions) -> bool
     requires { place * 64 + 63 < 2 ^ 64 }
-    ensures some { AreListed bars.now rule.now listed.now → result ≡ true
-        → list_any (λ b. barred bars.now.is_held sort b rule.now atom.group atom.resource atom.verb atom.name) (rules_in bars.now) ≡ true }
+    ensures some { AreListed asked.now.bars.now asked.now.sort asked.now.rule.now asked.now.known → result ≡ true → is_stopped_in asked.now atom.group atom.resource atom.verb atom.name ≡ true }
     ensures none { result ≡ false → (n : ℕ) → n / 64 ≡ place → bit_at word (n % 64) ≡ 1
-        → stops_at bars.now sort rule.now atom.group atom.resource atom.verb atom.name n ≡ false }
+        → stops_at asked.now.bars.now asked.now.sort asked.now.rule.now atom.group atom.resource atom.verb atom.name n ≡ false }
 {
     if word == 0 {
         return false;
     }
-    is_surely_in(bars, listed, sort, rule, atom, place)
-        || (is_first_stopping(bars, place, word, sort, rule, atom)
-            || is_any_stopping(bars, place, word, sort, rule, atom))
+    let beside = beside_word(&asked.known, asked.sort, atom, place);
+    is_surely_stopped(asked, atom, beside, place)
+        || (is_first_stopping(asked, place, word, atom)
+            || is_any_stopping(asked, place, word, atom))
 }
 
 /// Whether some rule stops the atom. Those that are in the rows of all its entries are looked at, until one does.
-pub fn is_stopped(
-    bars: &Bars<'_>,
-    known: &Known,
-    sort: Sort,
-    rule: &PolicyRule,
-    atom: Positions,
-) -> bool
-    ensures { AreAllPlaced bars.now → AreKnown bars.now sort rule.now known.now
-        → result ≡ list_any (λ b. barred bars.now.is_held sort b rule.now atom.group atom.resource atom.verb atom.name) (rules_in bars.now) }
+pub fn is_stopped(asked: &Asked<'_, '_>, atom: Positions) -> bool
+    ensures { IsReady asked.now → result ≡ is_stopped_in asked.now atom.group atom.resource atom.verb atom.name }
 {
-    let groups = row_at(known.met.groups.as_slice(), atom.group);
-    let resources = row_at(known.met.resources.as_slice(), atom.resource);
-    let verbs = row_at(known.met.verbs.as_slice(), atom.verb);
-    let names = row_at(known.met.names.as_slice(), atom.name);
-    for place in 0..bars.rules.len() / 64 + 1 {
+    let groups = row_at(asked.known.groups.met.as_slice(), atom.group);
+    let resources = row_at(asked.known.resources.met.as_slice(), atom.resource);
+    let verbs = row_at(asked.known.verbs.met.as_slice(), atom.verb);
+    let names = row_at(asked.known.names.met.as_slice(), atom.name);
+    for place in 0..asked.bars.rules.len() / 64 + 1 {
         let word = common_word(groups, resources, verbs, names, place);
-        if is_word_stopping(bars, &known.listed, place, word, sort, rule, atom) {
+        if is_word_stopping(asked, place, word, atom) {
             return true;
         }
     }

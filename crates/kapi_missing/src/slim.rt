@@ -14,7 +14,7 @@ use crate::bars::{
 use crate::entries::lists;
 use crate::index::Bars;
 use crate::near::{meeting, near};
-use crate::sets::{first_common, numbers_in, words_with};
+use crate::sets::{common, copied, first_common, numbers_in, words_with};
 use crate::slices::{number_of, with_entries};
 use crate::words::{add_word, has_word};
 use kapi_model::PolicyRule;
@@ -204,19 +204,74 @@ fn is_full_at(
     }
 }
 
-// Those of the rules that meet every entry of the other lists.
+// Those of the rules that may meet every entry of the list.
+fn meeting_every(
+    alloc: Global,
+    words: Vec<u64>,
+    bars: &Bars<'_>,
+    dimension: Dimension,
+    entries: &[Text],
+) -> Result<Vec<u64>, Memory> {
+    let mut left = words;
+    for entry in entries {
+        if left.iter().all(|word| *word == 0) {
+            return Ok(left);
+        }
+        let row = meeting(alloc, bars, dimension, std::slice::from_ref(entry))?;
+        left = common(alloc, left.as_slice(), row.as_slice())?;
+    }
+    Ok(left)
+}
+
+fn meeting_unless(
+    alloc: Global,
+    words: Vec<u64>,
+    bars: &Bars<'_>,
+    one: Dimension,
+    dimension: Dimension,
+    rule: &PolicyRule,
+) -> Result<Vec<u64>, Memory> {
+    if number_of(dimension) == number_of(one) {
+        return Ok(words);
+    }
+    meeting_every(alloc, words, bars, dimension, entries_of(rule, dimension))
+}
+
+// Those of the rules that may meet every entry of the lists beside that one.
+fn meeting_beside(
+    alloc: Global,
+    words: Vec<u64>,
+    bars: &Bars<'_>,
+    sort: Sort,
+    one: Dimension,
+    rule: &PolicyRule,
+) -> Result<Vec<u64>, Memory> {
+    let verbs = meeting_unless(alloc, words, bars, one, Dimension::Verbs, rule)?;
+    match sort {
+        Sort::Resources => {
+            let groups = meeting_unless(alloc, verbs, bars, one, Dimension::Groups, rule)?;
+            let resources = meeting_unless(alloc, groups, bars, one, Dimension::Resources, rule)?;
+            meeting_unless(alloc, resources, bars, one, Dimension::Names, rule)
+        }
+        Sort::Urls => meeting_unless(alloc, verbs, bars, one, Dimension::Urls, rule),
+    }
+}
+
+// Those of the near rules that meet every entry of the other lists.
 fn full_rules(
     alloc: Global,
     bars: &Bars<'_>,
-    numbers: &[usize],
+    near: &[u64],
     sort: Sort,
     dimension: Dimension,
     rule: &PolicyRule,
 ) -> Result<Vec<u64>, Memory> {
+    let words = copied(alloc, near)?;
+    let may = meeting_beside(alloc, words, bars, sort, dimension, rule)?;
     let mut full = Vec::new(alloc);
-    for number in numbers {
-        if is_full_at(bars, *number, sort, dimension, rule) {
-            full.push(*number)?;
+    for number in numbers_in(alloc, may.as_slice(), bars.rules.len())? {
+        if is_full_at(bars, number, sort, dimension, rule) {
+            full.push(number)?;
         }
     }
     words_with(alloc, full.as_slice(), bars.rules.len())
@@ -256,7 +311,7 @@ fn no_dead<'a, 'b>(alloc: Global) -> Dead<'a, 'b>
 fn dead_entries<'a, 'b>(
     alloc: Global,
     bars: &Bars<'a>,
-    numbers: &[usize],
+    near: &[u64],
     sort: Sort,
     dimension: Dimension,
     rule: &'b PolicyRule,
@@ -264,7 +319,7 @@ fn dead_entries<'a, 'b>(
     ensures { IfOk result (AreDead bars.now sort dimension rule.now) }
 {
     let mut dead = no_dead(alloc);
-    let full = full_rules(alloc, bars, numbers, sort, dimension, rule)?;
+    let full = full_rules(alloc, bars, near, sort, dimension, rule)?;
     for entry in entries_of(rule, dimension) {
         add_entry(
             alloc,
@@ -300,7 +355,7 @@ fn dead_words<'a, 'b>(
     let words = near(alloc, bars, sort, rule)?;
     let numbers = numbers_in(alloc, words.as_slice(), bars.rules.len())?;
     if is_by_entry(bars, dimension, rule, numbers.len()) {
-        return dead_entries(alloc, bars, numbers.as_slice(), sort, dimension, rule);
+        return dead_entries(alloc, bars, words.as_slice(), sort, dimension, rule);
     }
     let mut dead = no_dead(alloc);
     let entries = entries_of(rule, dimension);

@@ -16,8 +16,11 @@ use kapi_model::PolicyRule;
 use kapi_text::Memory;
 use std::alloc::Global;
 
-/// So many rules are asked before atoms are counted again.
-const SOME: usize = 64;
+/// So many rules are asked before atoms are counted again: each may cut each part into four.
+const SOME: usize = 4;
+
+/// So many rules are taken to be near before they are looked for.
+const NEAR: usize = 8;
 
 /// So often at the most.
 const DEPTH: usize = 1_000;
@@ -121,8 +124,11 @@ pub fn without_bars(
         ≡ (some_has parts.items i j k l && not (list_any (λ b. barred bars.now.is_held sort b rule.now i j k l) (rules_in bars.now)))) }
 {
     let is_done = is_none(parts.as_slice());
-    if is_done {
+    if is_done || bars.rules.is_empty() {
         return Ok(parts);
+    }
+    if are_few(bars, rule, parts.as_slice(), NEAR) {
+        return without_alone(alloc, parts, bars, sort, rule);
     }
     let words = near(alloc, bars, sort, rule)?;
     if are_few(bars, rule, parts.as_slice(), count(words.as_slice())) {

@@ -92,14 +92,18 @@ IsAt (y ∷ xs) (suc i) x = IsAt xs i x
 abbrev pub lists : Dimension → List ℕ → PolicyRule → Bool
 lists d e rule = list_any (λ x. bytes_eq x e) (entries_in d rule)
 
--- the number is put under the entries of the rule, and under nothing else
+-- the number is put under the entries of the rule, and apart where it lists no names, and under nothing else
 abbrev pub AddsOnly : Index → Index → PolicyRule → ℕ → Type 0
-AddsOnly old new rule number = (d : Dimension) (e : List ℕ) (n : ℕ) → stands_under (sets_in d new) e n ≡ true
-    → (stands_under (sets_in d old) e n || (lists d e rule && (number == n))) ≡ true
+AddsOnly old new rule number =
+    ((d : Dimension) (e : List ℕ) (n : ℕ) → stands_under (sets_in d new) e n ≡ true
+    → (stands_under (sets_in d old) e n || (lists d e rule && (number == n))) ≡ true)
+    × ((n : ℕ) → stands new.nameless.items n ≡ true → (stands old.nameless.items n || ((length rule.resource_names == 0) && (number == n))) ≡ true)
 
--- the numbers under an entry are those of rules that list it
+-- the numbers under an entry are those of rules that list it, and those apart of rules that list no names
 abbrev pub IsExact : Bars → Type 0
-IsExact bars = (d : Dimension) (e : List ℕ) (n : ℕ) → stands_under (sets_in d bars.index) e n ≡ true → at (map (lists d e) (rules_in bars)) n ≡ true
+IsExact bars =
+    ((d : Dimension) (e : List ℕ) (n : ℕ) → stands_under (sets_in d bars.index) e n ≡ true → at (map (lists d e) (rules_in bars)) n ≡ true)
+    × ((n : ℕ) → stands bars.index.nameless.items n ≡ true → at (map (λ b. length b.resource_names == 0) (rules_in bars)) n ≡ true)
 
 -- each rule is placed, and no other number
 abbrev pub AreAllPlaced : Bars → Type 0

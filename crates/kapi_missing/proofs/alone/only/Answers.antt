@@ -4,7 +4,7 @@ use Rattle.kapi_missing.proofs.Singles.{at_none, only_there, still_none}
 use Rattle.kapi_missing.proofs.alone.only.Goals as goal
 
 pub loop-before-init : goal.loop-before-init
-loop-before-init c = let none : length c.new-list.result.items ≡ 0 = grind (arith, common_steps) in (none, λ i. at_none c.new-list.result.items i none)
+loop-before-init c = let none : length c.in_ok-list.list.items ≡ 0 = grind (arith, common_steps) in (none, λ i. at_none c.in_ok-list.list.items i none)
 
 pub loop-before-preserved : goal.loop-before-preserved
 loop-before-preserved c = (

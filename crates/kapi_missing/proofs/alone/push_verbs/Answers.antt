@@ -7,15 +7,15 @@ use Rattle.kapi_missing.specs.Private.Stopped.{is_left}
 use Rattle.kapi_missing.proofs.alone.push_verbs.Goals as goal
 
 pub loop-verb-init : goal.loop-verb-init
-loop-verb-init c = λ placed rows i j k m. none_yet (some_has c.args.list.now.items i j k m) ((i == c.args.atom.group) && (j == c.args.atom.resource)) (at c.args.part.now.names.items m && is_left c.args.bars.now c.args.sort c.args.rule.now i j k m)
+loop-verb-init c = λ ready i j k m. none_yet (some_has c.args.list.now.items i j k m) ((i == c.args.atom.group) && (j == c.args.atom.resource)) (at c.args.part.now.names.items m && is_left c.args.asked.now i j k m)
 
 pub loop-verb-preserved : goal.loop-verb-preserved
-loop-verb-preserved c = λ placed rows i j k m.
+loop-verb-preserved c = λ ready i j k m.
     let within : c.loop-verb.verb < length c.args.part.now.verbs.items = grind (arith, common_steps) in
-    grown _ _ _ _ _ _ _ _ (c.loop-verb.invariant placed rows i j k m) (c.in_ok-push_verb.ensures placed rows i j k m)
+    grown _ _ _ _ _ _ _ _ (c.loop-verb.invariant ready i j k m) (c.in_ok-push_verb.ensures ready i j k m)
     (at_take_more c.args.part.now.verbs.items c.loop-verb.verb k within)
 
 pub returns : goal.returns
-returns c = λ placed rows i j k m.
+returns c = λ ready i j k m.
     let all : length c.args.part.now.verbs.items ≤ c.loop-verb.verb = grind (arith, common_steps) in
-    rw (take_all c.loop-verb.verb c.args.part.now.verbs.items all) at (c.loop-verb.invariant placed rows i j k m)
+    rw (take_all c.loop-verb.verb c.args.part.now.verbs.items all) at (c.loop-verb.invariant ready i j k m)

@@ -1,8 +1,5 @@
-use Rattle.std.proofs.Common.{arith}
-use Rattle.std.proofs.lemmas.Grind.{common_steps}
-use Rattle.kapi_missing.proofs.Pieces.{distributed}
+use Rattle.std.proofs.lemmas.Result.{IfOk-weaker}
 use Rattle.kapi_missing.proofs.alone.without_alone.Goals as goal
 
-pub loop-part-preserved : goal.loop-part-preserved
-loop-part-preserved c = λ placed i j k m.
-    grind (arith, common_steps, distributed, c.loop-part.invariant placed i j k m, c.in_ok-push_groups.ensures placed (c.in_ok-found.ensures placed.1) i j k m)
+pub returns : goal.returns
+returns c = IfOk-weaker c.without_each.result _ _ (λ v is. λ placed i j k m. is (placed, c.in_ok-known.ensures placed.1) i j k m) c.without_each.ensures

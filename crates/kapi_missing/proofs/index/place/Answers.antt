@@ -26,7 +26,7 @@ returns-clause-placed c =
     (λ e is. c.in_ok-put_under_all-5.ensures.added e n (put_own _ _ n (rw c.as_slice-urls.ensures is)))
     (λ h is. urls h n (or_left _ _ (c.in_ok-put_patterns.ensures h n (put_own _ _ n (rw c.as_slice-6.ensures is)))))
     (λ h is. urls h n (put_own _ _ n (rw c.as_slice-urls.ensures is)))
-    (λ is. c.in_ok-put_nameless.ensures n (put_own _ _ n (rw c.as_slice-5.ensures is))))
+    (λ is. c.in_ok-put_nameless.ensures.added n (put_own _ _ n (rw c.as_slice-5.ensures is))))
     c.put_patterns-2.ensures
 
 pub returns-clause-only : goal.returns-clause-only
@@ -46,5 +46,6 @@ returns-clause-only c =
     (λ e n is. rw c.as_slice-2.ensures at (c.in_ok-put_under_all-2.ensures.only e n is))
     (λ e n is. rw c.as_slice-3.ensures at (c.in_ok-put_under_all-3.ensures.only e n is))
     (λ e n is. rw c.as_slice-4.ensures at (c.in_ok-put_under_all-4.ensures.only e n is))
-    (λ e n is. rw c.as_slice-urls.ensures at (c.in_ok-put_under_all-5.ensures.only e n is)))
+    (λ e n is. rw c.as_slice-urls.ensures at (c.in_ok-put_under_all-5.ensures.only e n is))
+    (λ n is. rw c.as_slice-5.ensures at (c.in_ok-put_nameless.ensures.only n is)))
     c.put_patterns-2.ensures

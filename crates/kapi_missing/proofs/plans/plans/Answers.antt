@@ -4,7 +4,7 @@ use Rattle.kapi_model.specs.declared.policy_rule.PolicyRule.{PolicyRule}
 use Rattle.kapi_rules.specs.Missing.{missing}
 use Rattle.kapi_rules.specs.declared.atom.Atom.{Atom}
 use Rattle.kapi_missing.proofs.Lefts.{missing_and_left}
-use Rattle.kapi_missing.specs.Private.Index.{AreBars}
+use Rattle.kapi_missing.specs.Private.Tiers.{AreTiers}
 use Rattle.kapi_missing.specs.Private.Left.{left_atoms}
 use Rattle.kapi_missing.specs.Private.Once.{once}
 use Rattle.kapi_missing.proofs.plans.plans.Goals as goal
@@ -17,6 +17,6 @@ loop-rule-preserved c =
           ∙ ap (λ (r : List Atom). r ++ left_atoms c.args.held.now before (once c.rule-item.result)) c.loop-rule.invariant.0
           ∙ sym (missing_and_left c.args.held.now before c.rule-item.result)
           ∙ ap (missing c.args.held.now) (sym next),
-      subst (λ (rs : List PolicyRule). AreBars false rs c.add_bar.new.bars) (sym next) (c.in_ok-add_bar.ensures false (take c.loop-rule.rule-index c.args.wanted.now) c.loop-rule.invariant.1),
+      subst (λ (rs : List PolicyRule). AreTiers false rs c.add_rule.new.tiers) (sym next) (c.in_ok-add_rule.ensures false (take c.loop-rule.rule-index c.args.wanted.now) c.loop-rule.invariant.1),
       c.in_ok-reserve.ensures.items ∙ c.loop-rule.invariant.2,
     )

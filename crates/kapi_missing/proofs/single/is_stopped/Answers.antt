@@ -4,10 +4,10 @@ use Rattle.kapi_missing.proofs.Singles.{none_in_rows}
 use Rattle.kapi_missing.proofs.single.is_stopped.Goals as goal
 
 pub returns : goal.returns
-returns c = λ placed are.
-    let count : c.len.result ≡ length c.args.bars.now.rules.items = grind (arith, common_steps) in
+returns c = λ ready.
+    let count : c.len.result ≡ length c.args.asked.now.bars.now.rules.items = grind (arith, common_steps) in
     let past : c.len.result / 64 + 1 ≤ c.loop-place.place = c.loop-place-test.false in
-    sym (none_in_rows c.args.bars.now c.args.sort c.args.rule.now c.args.known.now.met c.args.atom.group c.args.atom.resource c.args.atom.verb c.args.atom.name placed are.0
+    sym (none_in_rows c.args.asked.now.bars.now c.args.asked.now.sort c.args.asked.now.rule.now c.args.asked.now.known c.args.atom.group c.args.atom.resource c.args.atom.verb c.args.atom.name ready.0 ready.1.0
     (λ n below group resource verb name.
     let less : n < c.len.result = rw count below in
     let within : n / 64 < c.loop-place.place = omega (arith, less, past) in

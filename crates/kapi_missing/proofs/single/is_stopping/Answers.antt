@@ -8,5 +8,5 @@ pub returns-in-Some : goal.returns-in-Some
 returns-in-Some c =
     let h = c.in-Some.ensures.lookup in
     c.is_barred.ensures
-    ∙ sym (mark_there (λ (b : PolicyRule). barred c.args.bars.now.is_held c.args.sort b c.args.rule.now c.args.atom.group c.args.atom.resource c.args.atom.verb c.args.atom.name)
-    rule_in c.args.bars.now.rules.items c.deref.result.now c.args.number c.in-Some.bar.now c.deref.ensures.value h.3.0 h.1)
+    ∙ sym (mark_there (λ (b : PolicyRule). barred c.args.asked.now.bars.now.is_held c.args.asked.now.sort b c.args.asked.now.rule.now c.args.atom.group c.args.atom.resource c.args.atom.verb c.args.atom.name)
+    rule_in c.args.asked.now.bars.now.rules.items c.deref.result.now c.args.number c.in-Some.bar.now c.deref.ensures.value h.3.0 h.1)

@@ -28,7 +28,7 @@ returns t c =
 
 pub returns-then-rest-gt-SOME : goal.returns-then-rest-gt-SOME
 returns-then-rest-gt-SOME t c =
-    let joined : c.split_at.result.0.now ++ c.split_at.result.1.now ≡ c.args.rest.now = rw (c.split_at.ensures.front, c.split_at.ensures.back) (take-append-drop 64 c.args.rest.now) in
+    let joined : c.split_at.result.0.now ++ c.split_at.result.1.now ≡ c.args.rest.now = rw (c.split_at.ensures.front, c.split_at.ensures.back) (take-append-drop 4 c.args.rest.now) in
     IfOk-weaker c.without_rest.result _ _ (λ v is. λ placed i j k l whole first one all.
     let p : ℕ → Bool = stops_at c.args.bars.now c.args.sort c.args.rule.now i j k l in
     let next = list_any p c.split_at.result.0.now in

@@ -12,6 +12,6 @@ returns c =
     let count : c.len.result ≡ length c.args.bars.now.rules.items = grind (arith, common_steps) in
     IfOk-weaker c.without_rest.result _ _ (λ v is. λ placed i j k l.
     is placed i j k l (some_has c.args.parts.items i j k l) false (sym (and_true (some_has c.args.parts.items i j k l)))
-    (all_near bars c.args.sort c.args.rule.now c.as_slice-4.result.now c.as_slice-5.result.now c.len.result count
-    (rw c.as_slice-4.ensures.value c.in_ok-words.ensures) (rw c.as_slice-5.ensures.value c.in_ok-numbers.ensures) placed i j k l))
+    (all_near bars c.args.sort c.args.rule.now c.as_slice-5.result.now c.as_slice-6.result.now c.len.result count
+    (rw c.as_slice-5.ensures.value c.in_ok-words.ensures) (rw c.as_slice-6.ensures.value c.in_ok-numbers.ensures) placed i j k l))
     c.without_rest.ensures
