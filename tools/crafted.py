@@ -110,6 +110,16 @@ def some_paths(count, chosen, values, seed):
     return [{"verbs": dice.sample(entries(values, "v"), chosen), "nonResourceURLs": dice.sample(paths, chosen)} for _ in range(count)]
 
 
+def others(count):
+    """Rules of a value of its own in each part."""
+    return [rule(*[[f"{letter}other{it}"] for letter in "vgrn"]) for it in range(count)]
+
+
+def with_own(rules):
+    """The same rules, each with a resource of its own."""
+    return [{**it, "resources": [*it["resources"], f"own{number}"]} for number, it in enumerate(rules)]
+
+
 def with_unheld(rules):
     """The same rules, each with a resource that nobody holds."""
     return [{**it, "resources": it["resources"] + ["unheld"]} for it in rules]
@@ -246,11 +256,14 @@ CASES = (
     ("ten rules of 5,000 names behind 7,000 of one, none held", 0.5, lambda it: check(it, [], repeats(), False)),
     (f"{RULES:,} rules against one with as many names", 0.5, lambda it: check(it, [rule(["get"], [""], ["pods"], entries(RULES))], names(), True)),
     (f"{RULES:,} rules of two of eleven of each part against as many", 0.5, lambda it: check(it, some_of(RULES, 2, 11, 1), some_of(RULES, 2, 11, 2), True)),
-    ("the same, each with a resource that nobody holds", None, lambda it: check(it, some_of(RULES, 2, 11, 1), with_unheld(some_of(RULES, 2, 11, 2)), False)),
+    ("the same, each with a resource that nobody holds", 0.5, lambda it: check(it, some_of(RULES, 2, 11, 1), with_unheld(some_of(RULES, 2, 11, 2)), False)),
     (f"{RULES:,} rules of three of ten of each part against as many", 0.5, lambda it: check(it, some_of(RULES, 3, 10, 1), some_of(RULES, 3, 10, 2), True)),
     ("8,000 rules of four of ten of each part against as many", 0.5, lambda it: check(it, some_of(8_000, 4, 10, 1), some_of(8_000, 4, 10, 2), True)),
-    ("2,400 rules of 22 of 44 of each part, without names, against as many", None, lambda it: check(it, some_of(2_400, 22, 44, 1, "vgr"), some_of(2_400, 22, 44, 2, "vgr"), True)),
-    ("1,500 rules of 50 of 100 paths and of verbs against as many", None, lambda it: check(it, some_paths(1_500, 50, 100, 1), some_paths(1_500, 50, 100, 2), True)),
+    (f"{RULES:,} rules of four of 30 of each part against as many", 0.5, lambda it: check(it, some_of(RULES, 4, 30, 1), some_of(RULES, 4, 30, 2), False)),
+    (f"{RULES:,} rules of four of 30 of each part and a resource of its own against the same", 0.5, lambda it: check(it, with_own(some_of(RULES, 4, 30, 1)), with_own(some_of(RULES, 4, 30, 1)), True)),
+    ("2,400 rules of 16 of 32 of each part against as many behind 64 others", 0.5, lambda it: check(it, others(64) + some_of(2_400, 16, 32, 1), some_of(2_400, 16, 32, 2), True)),
+    ("2,400 rules of 22 of 44 of each part, without names, against as many", 1, lambda it: check(it, some_of(2_400, 22, 44, 1, "vgr"), some_of(2_400, 22, 44, 2, "vgr"), True)),
+    ("1,500 rules of 50 of 100 paths and of verbs against as many", 0.5, lambda it: check(it, some_paths(1_500, 50, 100, 1), some_paths(1_500, 50, 100, 2), True)),
     (f"{RULES:,} resources behind a slash against a rule for all before each", 0.5, lambda it: check(it, any_with(), [slashed()], True)),
     ("the same of two verbs, one of them held", None, lambda it: check(it, any_with(), [slashed(["get", "list"])], False)),
     (f"{RULES:,} paths against a rule for the beginning of each", 0.5, lambda it: check(it, beginnings(), [long_paths()], True)),

@@ -1,10 +1,10 @@
 -- One rule more among those that are found by their entries.
-use Rattle.std.proofs.Common.{◌≡◌, ℕ, zero, suc, ◌==◌, ◌<◌, Bool, true, false, not, ◌&&◌, ◌||◌, ◌⊎◌, inl, inr, List, [], ◌∷◌, ◌++◌, length, map, get_or, refl, ap, subst, sym, ◌∙◌, arith}
+use Rattle.std.proofs.Common.{◌≡◌, ℕ, zero, suc, ◌==◌, ◌<◌, Bool, true, false, not, ◌&&◌, ◌||◌, ◌⊎◌, inl, inr, if◌then◌else◌, List, [], ◌∷◌, ◌++◌, length, map, get_or, refl, ap, subst, sym, ◌∙◌, arith}
 use Rattle.std.proofs.lemmas.Bool.{and_parts, eqb-true, or_cases, or_left, or_right}
 use Rattle.std.proofs.lemmas.Bool.Decides.{nat_tests}
 use Rattle.std.specs.List.{list_any}
 use Rattle.std.specs.Str.{bytes_eq}
-use Rattle.kapi_text.proofs.Booleans.{by_truth}
+use Rattle.kapi_text.proofs.Booleans.{and_true, by_truth}
 use Rattle.kapi_model.specs.declared.policy_rule.PolicyRule.{PolicyRule}
 use Rattle.kapi_rules.proofs.Law.{any_weaker}
 use Rattle.kapi_missing.proofs.Pieces.{not_near, regrouped}
@@ -12,14 +12,15 @@ use Rattle.kapi_missing.proofs.Placed.{at_more, at_within, marked_at, not_false,
 use Rattle.kapi_missing.proofs.Repeats.{from_some}
 use Rattle.kapi_missing.specs.Private.Index.{AddsOnly, AreAllPlaced, AreBars, IsAt, IsExact, IsPlaced, Keeps, has_pattern, lists, patterned, rules_in, sets_in}
 use Rattle.kapi_missing.specs.Private.Sets.{has_number, in_words, stands, stands_at, stands_under}
-use Rattle.kapi_missing.specs.Private.Marks.{at}
-use Rattle.kapi_missing.specs.Private.Bars.{barred, entries_in, is_near_to, rule_in}
+use Rattle.kapi_missing.specs.Private.Marks.{at, some_has}
+use Rattle.kapi_missing.specs.Private.Bars.{barred, entries_in, is_near_to, meets, name_marks, rule_in, some_name_met}
 use Rattle.kapi_missing.specs.Private.Stopped.{stops_at}
 use Rattle.kapi_missing.specs.declared.bars.Dimension.{Dimension}
 use Rattle.kapi_missing.specs.declared.bars.Sort.{Sort}
 use Rattle.kapi_missing.specs.declared.bars.Dimension.TheVariants as dimension
 use Rattle.kapi_missing.specs.declared.index.Bars.{Bars}
 use Rattle.kapi_missing.specs.declared.index.Index.{Index}
+use Rattle.kapi_missing.specs.declared.marks.Marks.{Marks}
 
 -- what is told of the element at a position
 there : {X Y : Type 0} (f : Y → Bool) (g : X → Y) (xs : List X) (n : ℕ) (x : X) → n < length xs → x ≡ get_or xs n x → at (map f (map g xs)) n ≡ f (g x)
@@ -160,20 +161,76 @@ map_long f (x ∷ xs) = ap suc (map_long f xs)
 
 -- ---- all that bar are near
 
-pub all_near : (bars : Bars) (which : Sort) (wanted : PolicyRule) (words numbers : List ℕ) (count : ℕ) → count ≡ length bars.rules.items
-    → ((n : ℕ) (b : PolicyRule) → IsPlaced bars.index n b → is_near_to bars.is_held which b wanted ≡ true → in_words words n ≡ true)
+pub all_near : (bars : Bars) (which : Sort) (wanted : PolicyRule) (words numbers : List ℕ) (count : ℕ) (i j k l : ℕ) → count ≡ length bars.rules.items
+    → ((n : ℕ) (b : PolicyRule) → IsPlaced bars.index n b → barred bars.is_held which b wanted i j k l ≡ true → in_words words n ≡ true)
     → ((n : ℕ) → n < count → in_words words n ≡ true → has_number numbers n ≡ true) → AreAllPlaced bars
-    → (i j k l : ℕ) → list_any (stops_at bars which wanted i j k l) numbers ≡ list_any (λ b. barred bars.is_held which b wanted i j k l) (rules_in bars)
-all_near bars which wanted words numbers count is in_those listed placed i j k l = through (λ b. barred bars.is_held which b wanted i j k l) (rules_in bars) numbers has
+    → list_any (stops_at bars which wanted i j k l) numbers ≡ list_any (λ b. barred bars.is_held which b wanted i j k l) (rules_in bars)
+all_near bars which wanted words numbers count i j k l is in_those listed placed = through (λ b. barred bars.is_held which b wanted i j k l) (rules_in bars) numbers has
   where
     has : (n : ℕ) → at (map (λ b. barred bars.is_held which b wanted i j k l) (rules_in bars)) n ≡ true → has_number numbers n ≡ true
     has n h =
         marked_at (λ b. barred bars.is_held which b wanted i j k l) (rules_in bars) n h (λ rule here bars_it.
         let within : n < length (rules_in bars) = at_within (rules_in bars) n rule here in
         let below : n < count = rw (is ∙ map_long rule_in bars.rules.items) within in
-        let near : is_near_to bars.is_held which rule wanted ≡ true =
-        not_false (is_near_to bars.is_held which rule wanted) (barred bars.is_held which rule wanted i j k l) (λ none. not_near bars.is_held which rule wanted none i j k l) bars_it in
-        listed n below (in_those n rule (placed.0 n rule here) near))
+        listed n below (in_those n rule (placed.0 n rule here) bars_it))
+
+-- the numbers are of rules
+only_rules : {X : Type 0} (p : X → Bool) (rules : List X) (numbers : List ℕ) → list_any (λ n. at (map p rules) n) numbers ≡ true → list_any p rules ≡ true
+only_rules p rules [] h = absurd cc
+only_rules p rules (n ∷ numbers) h = by_case (or_cases (at (map p rules) n) (list_any (λ m. at (map p rules) m) numbers) h) (only_rules p rules numbers)
+  where
+    by_case : (at (map p rules) n ≡ true) ⊎ (list_any (λ m. at (map p rules) m) numbers ≡ true) → (list_any (λ m. at (map p rules) m) numbers ≡ true → list_any p rules ≡ true) → list_any p rules ≡ true
+    by_case (inl is) others = some_at p rules n is
+    by_case (inr more) others = others more
+
+-- what those leave of the parts all leave
+pub near_left : (bars : Bars) (which : Sort) (wanted : PolicyRule) (words numbers : List ℕ) (count : ℕ) (parts left : List Marks) → count ≡ length bars.rules.items
+    → ((n : ℕ) (b : PolicyRule) → IsPlaced bars.index n b → (i j k l : ℕ) → some_has parts i j k l ≡ true → barred bars.is_held which b wanted i j k l ≡ true → in_words words n ≡ true)
+    → ((n : ℕ) → n < count → in_words words n ≡ true → has_number numbers n ≡ true) → AreAllPlaced bars → (i j k l : ℕ)
+    → ((whole first : Bool) → some_has parts i j k l ≡ (whole && not first)
+    → (first || list_any (stops_at bars which wanted i j k l) numbers) ≡ list_any (λ b. barred bars.is_held which b wanted i j k l) (rules_in bars)
+    → some_has left i j k l ≡ (whole && not (list_any (λ b. barred bars.is_held which b wanted i j k l) (rules_in bars))))
+    → some_has left i j k l ≡ (some_has parts i j k l && not (list_any (λ b. barred bars.is_held which b wanted i j k l) (rules_in bars)))
+near_left bars which wanted words numbers count parts left is in_those listed placed i j k l leads = by_case (some_has parts i j k l) refl
+  where
+    absorbed : (a s : Bool) → (s ≡ true → a ≡ true) → (a || s) ≡ a
+    absorbed true s h = refl
+    absorbed false true h = sym (h refl)
+    absorbed false false h = refl
+
+    by_case : (t : Bool) → some_has parts i j k l ≡ t → some_has left i j k l ≡ (some_has parts i j k l && not (list_any (λ b. barred bars.is_held which b wanted i j k l) (rules_in bars)))
+    by_case true has =
+        leads (some_has parts i j k l) false (sym (and_true (some_has parts i j k l)))
+        (all_near bars which wanted words numbers count i j k l is (λ n b place stops. in_those n b place i j k l has stops) listed placed)
+    by_case false none =
+        leads false (list_any (λ b. barred bars.is_held which b wanted i j k l) (rules_in bars)) none
+        (absorbed (list_any (λ b. barred bars.is_held which b wanted i j k l) (rules_in bars)) (list_any (stops_at bars which wanted i j k l) numbers)
+        (only_rules (λ b. barred bars.is_held which b wanted i j k l) (rules_in bars) numbers))
+        ∙ sym (ap (λ (x : Bool). x && not (list_any (λ b. barred bars.is_held which b wanted i j k l) (rules_in bars))) none)
+
+-- a rule that stops an atom is near
+pub stops_near : (held : Bool) (which : Sort) (b wanted : PolicyRule) (i j k l : ℕ) → barred held which b wanted i j k l ≡ true → is_near_to held which b wanted ≡ true
+stops_near held which b wanted i j k l = not_false (is_near_to held which b wanted) (barred held which b wanted i j k l) (λ none. not_near held which b wanted none i j k l)
+
+-- a rule that meets one of the names meets one of those that are kept
+pub named_met : (held : Bool) (b : PolicyRule) (marks : List Bool) (names kept : List (List ℕ)) → (length names == 0) ≡ false
+    → ((f : List ℕ → Bool) (i : ℕ) → at marks i ≡ true → at (map f names) i ≡ true → list_any f kept ≡ true)
+    → (i : ℕ) → at marks i ≡ true → at (name_marks held b names) i ≡ true → some_name_met held b kept ≡ true
+named_met held b marks [] kept named keeps i marked h = absurd cc
+named_met held b marks (x ∷ xs) kept named keeps i marked h = by_case (held && (length b.resource_names == 0)) refl h
+  where
+    by_kept : (ys : List (List ℕ)) → (held && (length b.resource_names == 0)) ≡ true → list_any (λ e. true) ys ≡ true → some_name_met held b ys ≡ true
+    by_kept [] all some = absurd cc
+    by_kept (y ∷ ys) all some = or_left (held && (length b.resource_names == 0)) (list_any (meets held dimension.Names b) (y ∷ ys)) all
+
+    by_met : (ys : List (List ℕ)) → list_any (meets held dimension.Names b) ys ≡ true → some_name_met held b ys ≡ true
+    by_met [] some = absurd cc
+    by_met (y ∷ ys) some = or_right (held && (length b.resource_names == 0)) (list_any (meets held dimension.Names b) (y ∷ ys)) some
+
+    by_case : (t : Bool) → (held && (length b.resource_names == 0)) ≡ t
+        → at (if t then map (λ e. true) (x ∷ xs) else map (meets held dimension.Names b) (x ∷ xs)) i ≡ true → some_name_met held b kept ≡ true
+    by_case true all is = by_kept kept all (keeps (λ e. true) i marked is)
+    by_case false all is = by_met kept (keeps (meets held dimension.Names b) i marked is)
 
 -- what is left after the first rules, beside all
 pub then_alone : (a f s r left v : Bool) → left ≡ (a && not f) → v ≡ (left && not r) → (f || s) ≡ r → v ≡ (a && not r)

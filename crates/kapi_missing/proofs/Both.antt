@@ -1,18 +1,20 @@
 -- What is left beside the held rules, and then beside the earlier wanted ones.
-use Rattle.std.proofs.Common.{◌≡◌, ℕ, Bool, true, false, not, ◌&&◌, ◌⊎◌, inl, inr, List, refl, ap, sym, ◌∙◌}
+use Rattle.std.proofs.Common.{◌≡◌, ℕ, Bool, true, false, not, ◌&&◌, ◌||◌, List, refl, ap, ◌∙◌}
 use Rattle.std.specs.List.{list_any}
-use Rattle.kapi_text.proofs.Booleans.{and_false, and_true}
+use Rattle.kapi_text.proofs.Booleans.{or_false}
 use Rattle.kapi_model.specs.declared.policy_rule.PolicyRule.{PolicyRule}
 use Rattle.kapi_missing.specs.Private.Bars.{AreLeft, barred, wanted_at}
 use Rattle.kapi_missing.specs.Private.Index.{AreAllPlaced, AreBars, rules_in}
-use Rattle.kapi_missing.specs.Private.Marks.{some_has}
-use Rattle.kapi_missing.specs.Private.Tiers.{AreTiers, IsWithoutSome}
+use Rattle.kapi_missing.specs.Private.Marks.{has, some_has}
+use Rattle.kapi_missing.specs.Private.Rules.{AreRules}
+use Rattle.kapi_missing.specs.Private.Tabled.{IsTabled, is_taken}
 use Rattle.kapi_missing.specs.declared.bars.Sort.{Sort}
 use Rattle.kapi_missing.specs.declared.index.Bars.{Bars}
 use Rattle.kapi_missing.specs.declared.marks.Marks.{Marks}
-use Rattle.kapi_missing.specs.declared.tiers.Tiers.{Tiers}
+use Rattle.kapi_missing.specs.declared.rules.Rules.{Rules}
+use Rattle.kapi_missing.specs.declared.tabled.Tabled.{Tabled}
 
-abbrev pub IsWithout : Bars → Sort → PolicyRule → List Marks → List Marks → Type 0
+abbrev IsWithout : Bars → Sort → PolicyRule → List Marks → List Marks → Type 0
 IsWithout bars which wanted parts left = AreAllPlaced bars → (i j k l : ℕ) → some_has left i j k l
     ≡ (some_has parts i j k l && not (list_any (λ b. barred bars.is_held which b wanted i j k l) (rules_in bars)))
 
@@ -23,41 +25,50 @@ without_these held rules bars which wanted parts left are is i j k l =
     ∙ ap (λ (h : Bool). some_has parts i j k l && not (list_any (λ b. barred h which b wanted i j k l) (rules_in bars))) are.0
     ∙ ap (λ (rs : List PolicyRule). some_has parts i j k l && not (list_any (λ b. barred held which b wanted i j k l) rs)) are.1
 
-abbrev pub IsWithoutTiers : Tiers → Sort → PolicyRule → List Marks → List Marks → Type 0
-IsWithoutTiers tiers which wanted parts left = (held : Bool) (rules : List PolicyRule) → AreTiers held rules tiers → (i j k l : ℕ) → some_has left i j k l
-    ≡ (some_has parts i j k l && not (list_any (λ b. barred held which b wanted i j k l) rules))
+pub without_rules : (rules : Rules) (which : Sort) (wanted : PolicyRule) (parts some left : List Marks) → IsWithout rules.held which wanted parts some
+    → IsWithout rules.earlier which wanted some left → (hs es : List PolicyRule) → AreRules hs es rules → (i j k l : ℕ) → some_has left i j k l
+    ≡ ((some_has parts i j k l && not (list_any (λ b. barred true which b wanted i j k l) hs)) && not (list_any (λ b. barred false which b wanted i j k l) es))
+without_rules rules which wanted parts some left one two hs es are i j k l =
+    without_these false es rules.earlier which wanted some left are.1 two i j k l
+    ∙ ap (λ (r : Bool). r && not (list_any (λ b. barred false which b wanted i j k l) es)) (without_these true hs rules.held which wanted parts some are.0 one i j k l)
 
-pub some_stopped : (bars : Bars) (which : Sort) (wanted : PolicyRule) (parts copy left : List Marks) → ((i j k l : ℕ) → some_has copy i j k l ≡ some_has parts i j k l)
-    → IsWithout bars which wanted copy left → IsWithoutSome bars which wanted parts left
-some_stopped bars which wanted parts copy left same is placed i j k l =
-    by_case (list_any (λ b. barred bars.is_held which b wanted i j k l) (rules_in bars)) (is placed i j k l ∙ ap (λ (x : Bool). x && not (list_any (λ b. barred bars.is_held which b wanted i j k l) (rules_in bars))) (same i j k l))
+neither : (w a b : Bool) → (w && not (a || b)) ≡ ((w && not a) && not b)
+neither true true b = refl
+neither true false b = refl
+neither false true b = refl
+neither false false b = refl
+
+-- the whole rule, without what both stop
+pub left_of_both : (hs es : List PolicyRule) (which : Sort) (wanted : PolicyRule) (whole left : List Marks) → ((i j k l : ℕ) → some_has whole i j k l ≡ wanted_at which wanted i j k l)
+    → ((i j k l : ℕ) → some_has left i j k l
+    ≡ ((some_has whole i j k l && not (list_any (λ b. barred true which b wanted i j k l) hs)) && not (list_any (λ b. barred false which b wanted i j k l) es)))
+    → AreLeft hs es which wanted left
+left_of_both hs es which wanted whole left all is = λ i j k l.
+    is i j k l ∙ ap (λ (x : Bool). (x && not (list_any (λ b. barred true which b wanted i j k l) hs)) && not (list_any (λ b. barred false which b wanted i j k l) es)) (all i j k l)
+
+-- the core without what stands in the table, and the atoms beside it without what both stop
+pub left_of_table : (hs es : List PolicyRule) (which : Sort) (wanted : PolicyRule) (inner others left : List Marks) (tabled : Tabled)
+    → ((i j k l : ℕ) → some_has inner i j k l ≡ (has tabled.core i j k l && not (is_taken tabled i j k l)))
+    → ((i j k l : ℕ) → some_has others i j k l
+    ≡ (((wanted_at which wanted i j k l && not (has tabled.core i j k l)) && not (list_any (λ b. barred true which b wanted i j k l) hs)) && not (list_any (λ b. barred false which b wanted i j k l) es)))
+    → ((i j k l : ℕ) → some_has left i j k l ≡ (some_has inner i j k l || some_has others i j k l)) → IsTabled hs es which wanted tabled → AreLeft hs es which wanted left
+left_of_table hs es which wanted inner others left tabled in_core beside is are = λ i j k l.
+    is i j k l
+    ∙ rw (in_core i j k l, beside i j k l) (by_core (has tabled.core i j k l) (wanted_at which wanted i j k l) (is_taken tabled i j k l)
+    (list_any (λ b. barred true which b wanted i j k l) hs) (list_any (λ b. barred false which b wanted i j k l) es) (are.1 i j k l) (are.2 i j k l))
   where
-    by_case : (t : Bool) → some_has left i j k l ≡ (some_has parts i j k l && not t)
-        → (some_has left i j k l ≡ some_has parts i j k l) ⊎ ((some_has left i j k l ≡ false) × (t ≡ true))
-    by_case true h = inr (h ∙ and_false (some_has parts i j k l), refl)
-    by_case false h = inl (h ∙ and_true (some_has parts i j k l))
+    by_core : (core wanted taken a b : Bool) → (core ≡ true → wanted ≡ true) → (core ≡ true → taken ≡ (a || b))
+        → ((core && not taken) || (((wanted && not core) && not a) && not b)) ≡ ((wanted && not a) && not b)
+    by_core true wanted taken a b within same = rw (within refl, same refl) (or_false (not (a || b)) ∙ neither true a b)
+    by_core false true taken a b within same = refl
+    by_core false false taken a b within same = refl
 
-pub without_both : (tiers : Tiers) (which : Sort) (wanted : PolicyRule) (parts some left : List Marks) → IsWithoutSome tiers.first which wanted parts some
-    → IsWithout tiers.all which wanted some left → IsWithoutTiers tiers which wanted parts left
-without_both tiers which wanted parts some left one two held rules are i j k l =
-    without_these held rules tiers.all which wanted some left are.2 two i j k l ∙ by_case (one are.1.2 i j k l)
-  where
-    p : PolicyRule → Bool
-    p b = barred held which b wanted i j k l
-
-    by_case : (some_has some i j k l ≡ some_has parts i j k l)
-        ⊎ ((some_has some i j k l ≡ false) × (list_any (λ b. barred tiers.first.is_held which b wanted i j k l) (rules_in tiers.first) ≡ true))
-        → (some_has some i j k l && not (list_any (λ b. barred held which b wanted i j k l) rules)) ≡ (some_has parts i j k l && not (list_any (λ b. barred held which b wanted i j k l) rules))
-    by_case (inl same) = ap (λ (x : Bool). x && not (list_any (λ b. barred held which b wanted i j k l) rules)) same
-    by_case (inr stopped) =
-        let first : list_any p are.0 ≡ true =
-        ap (λ (rs : List PolicyRule). list_any p rs) (sym are.1.1) ∙ ap (λ (h : Bool). list_any (λ b. barred h which b wanted i j k l) (rules_in tiers.first)) (sym are.1.0) ∙ stopped.1 in
-        rw (stopped.0, are.3 p first) (sym (and_false (some_has parts i j k l)))
-
-pub both_left : (hs es : List PolicyRule) (held earlier : Tiers) (which : Sort) (wanted : PolicyRule) (whole parts left : List Marks)
-    → ((i j k l : ℕ) → some_has whole i j k l ≡ wanted_at which wanted i j k l) → IsWithoutTiers held which wanted whole parts → IsWithoutTiers earlier which wanted parts left
-    → AreTiers true hs held → AreTiers false es earlier → AreLeft hs es which wanted left
-both_left hs es held earlier which wanted whole parts left all first next are_held are_earlier = λ i j k l.
-    next false es are_earlier i j k l
-    ∙ ap (λ (r : Bool). r && not (list_any (λ b. barred false which b wanted i j k l) es))
-    (first true hs are_held i j k l ∙ ap (λ (r : Bool). r && not (list_any (λ b. barred true which b wanted i j k l) hs)) (all i j k l))
+pub twice : (a b n m : Bool) → (((a || (b || false)) && n) && m) ≡ (((a && n) && m) || ((b && n) && m))
+twice true true true true = refl
+twice true true true false = refl
+twice true true false m = refl
+twice true false true true = refl
+twice true false true false = refl
+twice true false false m = refl
+twice false true n m = refl
+twice false false n m = refl

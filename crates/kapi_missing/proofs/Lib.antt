@@ -1,5 +1,4 @@
 pub mod Stars
-pub mod Tiered
 pub mod Seen
 pub mod Pieces
 pub mod Each
@@ -7,6 +6,9 @@ pub mod Repeats
 pub mod Placed
 pub mod Bits
 pub mod Adding
+pub mod Found
+pub mod Cells
+pub mod Taken
 pub mod Both
 pub mod Lefts
 pub mod Sliced

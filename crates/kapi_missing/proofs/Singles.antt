@@ -183,7 +183,7 @@ none_in_rows bars which wanted known i j k l placed are none = sym (through (λ 
 pub bit_is : (word bit : ℕ) → (bit_and (word / 2 ^ bit) 1 == 1) ≡ true → bit_at word bit ≡ 1
 bit_is word bit h = sym (shr_and_one word bit) ∙ is_one (bit_and (word / 2 ^ bit) 1) h
 
-in_both : (a b i : ℕ) → bit_at (bit_and a b) i ≡ 1 → (bit_at a i ≡ 1) × (bit_at b i ≡ 1)
+pub in_both : (a b i : ℕ) → bit_at (bit_and a b) i ≡ 1 → (bit_at a i ≡ 1) × (bit_at b i ≡ 1)
 in_both a b i is =
     let least : min (bit_at a i) (bit_at b i) ≡ 1 = sym (bit_at_and a b i) ∙ is in
     let first : bit_at a i < 2 = bit_at-lt a i in

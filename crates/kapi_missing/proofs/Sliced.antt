@@ -15,12 +15,12 @@ use Rattle.kapi_missing.proofs.Repeats.{filter_append}
 use Rattle.kapi_missing.specs.Private.Bars.{entries_in}
 use Rattle.kapi_missing.specs.Private.Left.{is_stopped, left, left_atoms, left_of, left_urls, near_group, near_url}
 use Rattle.kapi_missing.specs.Private.Slices.{AddsLeft, may_cut, with_entries}
-use Rattle.kapi_missing.specs.Private.Tiers.{AreTiers}
+use Rattle.kapi_missing.specs.Private.Rules.{AreRules}
 use Rattle.kapi_missing.specs.declared.bars.Dimension.{Dimension}
 use Rattle.kapi_missing.specs.declared.bars.Dimension.TheVariants as dimension
 use Rattle.kapi_missing.specs.declared.marks.Marks.{Marks}
 use Rattle.kapi_missing.specs.declared.plans.Plan.{Plan}
-use Rattle.kapi_missing.specs.declared.tiers.Tiers.{Tiers}
+use Rattle.kapi_missing.specs.declared.rules.Rules.{Rules}
 
 -- ---- lists of no and of one element
 
@@ -155,10 +155,10 @@ one_plan old plan = flat_map-append left_of old (plan ∷ []) ∙ ap (λ (r : Li
 pub no_plan : (old : List Plan) (plan : Plan) → left_of plan ≡ [] → flat_map left_of old ≡ flat_map left_of old ++ left_of plan
 no_plan old plan is = rw is (sym (append-nil (flat_map left_of old)))
 
-module _ (held earlier : Tiers) where
-  pub adds_plan : (old new : List Plan) (rule : PolicyRule) (plan : Plan) → ((hs es : List PolicyRule) → AreTiers true hs held → AreTiers false es earlier → left_of plan ≡ left_atoms hs es rule)
-      → flat_map left_of new ≡ flat_map left_of old ++ left_of plan → AddsLeft held earlier old new rule
-  adds_plan old new rule plan is grown = λ hs es are own. grown ∙ ap (λ (r : List Atom). flat_map left_of old ++ r) (is hs es are own)
+module _ (rules : Rules) where
+  pub adds_plan : (old new : List Plan) (rule : PolicyRule) (plan : Plan) → ((hs es : List PolicyRule) → AreRules hs es rules → left_of plan ≡ left_atoms hs es rule)
+      → flat_map left_of new ≡ flat_map left_of old ++ left_of plan → AddsLeft rules old new rule
+  adds_plan old new rule plan is grown = λ hs es are. grown ∙ ap (λ (r : List Atom). flat_map left_of old ++ r) (is hs es are)
 
   two_halves : (hs es : List PolicyRule) (rule first second : PolicyRule) → atoms rule ≡ atoms first ++ atoms second
       → left_atoms hs es rule ≡ left_atoms hs es first ++ left_atoms hs es second
@@ -166,14 +166,14 @@ module _ (held earlier : Tiers) where
   two_halves hs es rule first second is = ap (filter (λ a. not (is_stopped hs es a))) is ∙ filter_append (λ a. not (is_stopped hs es a)) (atoms first) (atoms second)
 
   pub adds_both : (old middle new : List Plan) (rule first second : PolicyRule) → atoms rule ≡ atoms first ++ atoms second
-      → AddsLeft held earlier old middle first → AddsLeft held earlier middle new second → AddsLeft held earlier old new rule
-  adds_both old middle new rule first second is one two = λ hs es are own.
-      two hs es are own
-      ∙ ap (λ (r : List Atom). r ++ left_atoms hs es second) (one hs es are own)
+      → AddsLeft rules old middle first → AddsLeft rules middle new second → AddsLeft rules old new rule
+  adds_both old middle new rule first second is one two = λ hs es are.
+      two hs es are
+      ∙ ap (λ (r : List Atom). r ++ left_atoms hs es second) (one hs es are)
       ∙ append_assoc (flat_map left_of old) (left_atoms hs es first) (left_atoms hs es second)
       ∙ ap (λ (r : List Atom). flat_map left_of old ++ r) (sym (two_halves hs es rule first second is))
 
   pub adds_slim : (old new : List Plan) (rule slim : PolicyRule)
-      → ((hs es : List PolicyRule) → AreTiers true hs held → AreTiers false es earlier → left_atoms hs es rule ≡ left_atoms hs es slim)
-      → AddsLeft held earlier old new slim → AddsLeft held earlier old new rule
-  adds_slim old new rule slim is grown = λ hs es are own. grown hs es are own ∙ ap (λ (r : List Atom). flat_map left_of old ++ r) (sym (is hs es are own))
+      → ((hs es : List PolicyRule) → AreRules hs es rules → left_atoms hs es rule ≡ left_atoms hs es slim)
+      → AddsLeft rules old new slim → AddsLeft rules old new rule
+  adds_slim old new rule slim is grown = λ hs es are. grown hs es are ∙ ap (λ (r : List Atom). flat_map left_of old ++ r) (sym (is hs es are))

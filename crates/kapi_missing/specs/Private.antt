@@ -10,4 +10,8 @@ pub mod Index
 pub mod Stopped
 pub mod Slim
 pub mod Rows
-pub mod Tiers
+pub mod Places
+pub mod Finding
+pub mod Table
+pub mod Tabled
+pub mod Rules

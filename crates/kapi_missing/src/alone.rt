@@ -4,22 +4,30 @@ ghost use Rattle.std.specs.List.{list_any};
 ghost use Rattle.kapi_missing.specs.Private.Bars.{barred};
 ghost use Rattle.kapi_missing.specs.Private.Index.{AreAllPlaced, rules_in};
 ghost use Rattle.kapi_missing.specs.Private.Marks.{at, has, some_has};
-ghost use Rattle.kapi_missing.specs.Private.Rows.{IsReady};
-ghost use Rattle.kapi_missing.specs.Private.Stopped.{is_left};
+ghost use Rattle.kapi_missing.specs.Private.Rows.{IsAsked, is_stopped_in};
+ghost use Rattle.kapi_missing.specs.Private.Stopped.{IsReady, is_left};
 
 use crate::bars::Sort;
 use crate::index::Bars;
 use crate::marks::{Marks, is_marked};
 use crate::rows::{Asked, known_of};
 use crate::single::{Positions, beside_word, is_stopped, is_surely_stopped};
+use crate::tabled::{Tabled, are_taken_beside, is_taken_at};
 use kapi_model::PolicyRule;
 use kapi_text::Memory;
 use std::alloc::Global;
 
+/// What tells whether an atom of a wanted rule is stopped.
+#[derive(Drop)]
+pub enum Judge<'c, 'b, 'a> {
+    Rows(&'c Asked<'b, 'a>),
+    Table(&'c Tabled<'b, 'a>),
+}
+
 // Whether surely nothing is left beside the other entries of the atom. Most atoms that many rules stop are stopped by one
 // of the first 64, so these are looked at before all.
-fn are_surely_stopped(part: &Marks, asked: &Asked<'_, '_>, atom: Positions) -> bool
-    ensures { IsReady asked.now → result ≡ true → (l : ℕ) → (at part.now.names.items l && is_left asked.now atom.group atom.resource atom.verb l) ≡ false }
+fn are_surely_barred(part: &Marks, asked: &Asked<'_, '_>, atom: Positions) -> bool
+    ensures { IsAsked asked.now → result ≡ true → (l : ℕ) → (at part.now.names.items l && not (is_stopped_in asked.now atom.group atom.resource atom.verb l)) ≡ false }
 {
     let (group, resource, verb) = (atom.group, atom.resource, atom.verb);
     let beside = beside_word(&asked.known, asked.sort, atom, 0);
@@ -37,21 +45,40 @@ fn are_surely_stopped(part: &Marks, asked: &Asked<'_, '_>, atom: Positions) -> b
     true
 }
 
-fn is_name_left(part: &Marks, asked: &Asked<'_, '_>, atom: Positions) -> bool
-    ensures { IsReady asked.now → result ≡ (at part.now.names.items atom.name && is_left asked.now atom.group atom.resource atom.verb atom.name) }
+// Whether surely nothing is left beside the other entries of the atom.
+fn are_surely_stopped(part: &Marks, judge: &Judge<'_, '_, '_>, atom: Positions) -> bool
+    ensures { IsReady judge.now → result ≡ true → (l : ℕ) → (at part.now.names.items l && is_left judge.now atom.group atom.resource atom.verb l) ≡ false }
 {
-    is_marked(part.names.as_slice(), atom.name) && !is_stopped(asked, atom)
+    match judge {
+        Judge::Rows(asked) => are_surely_barred(part, *asked, atom),
+        Judge::Table(tabled) => are_taken_beside(*tabled, atom),
+    }
+}
+
+fn is_one_stopped(judge: &Judge<'_, '_, '_>, atom: Positions) -> bool
+    ensures { IsReady judge.now → not result ≡ is_left judge.now atom.group atom.resource atom.verb atom.name }
+{
+    match judge {
+        Judge::Rows(asked) => is_stopped(*asked, atom),
+        Judge::Table(tabled) => is_taken_at(*tabled, atom),
+    }
+}
+
+fn is_name_left(part: &Marks, judge: &Judge<'_, '_, '_>, atom: Positions) -> bool
+    ensures { IsReady judge.now → result ≡ (at part.now.names.items atom.name && is_left judge.now atom.group atom.resource atom.verb atom.name) }
+{
+    is_marked(part.names.as_slice(), atom.name) && !is_one_stopped(judge, atom)
 }
 
 // The names of the part that no rule stops beside the other entries of the atom.
 fn names_left(
     alloc: Global,
     part: &Marks,
-    asked: &Asked<'_, '_>,
+    judge: &Judge<'_, '_, '_>,
     atom: Positions,
 ) -> Result<Vec<bool>, Memory>
-    ensures { IfOk result (λ v. IsReady asked.now → (l : ℕ) → at v.items l
-        ≡ (at part.now.names.items l && is_left asked.now atom.group atom.resource atom.verb l)) }
+    ensures { IfOk result (λ v. IsReady judge.now → (l : ℕ) → at v.items l
+        ≡ (at part.now.names.items l && is_left judge.now atom.group atom.resource atom.verb l)) }
 {
     let (group, resource, verb) = (atom.group, atom.resource, atom.verb);
     let mut list = Vec::with_capacity(alloc, part.names.len())?;
@@ -62,7 +89,7 @@ fn names_left(
             verb,
             name,
         };
-        list.push(is_name_left(part, asked, one))?;
+        list.push(is_name_left(part, judge, one))?;
     }
     Ok(list)
 }
@@ -119,20 +146,20 @@ fn push_verb(
     alloc: Global,
     list: &mut Vec<Marks>,
     part: &Marks,
-    asked: &Asked<'_, '_>,
+    judge: &Judge<'_, '_, '_>,
     atom: Positions,
 ) -> Result<(), Memory>
-    ensures { OnOk result (IsReady asked.now → (i j k l : ℕ) → some_has list.new.items i j k l
+    ensures { OnOk result (IsReady judge.now → (i j k l : ℕ) → some_has list.new.items i j k l
         ≡ (some_has list.old.items i j k l || (((i == atom.group) && (j == atom.resource))
-        && (((k == atom.verb) && at part.now.verbs.items atom.verb) && (at part.now.names.items l && is_left asked.now i j k l))))) }
+        && (((k == atom.verb) && at part.now.verbs.items atom.verb) && (at part.now.names.items l && is_left judge.now i j k l))))) }
 {
     if !is_marked(part.verbs.as_slice(), atom.verb) {
         return Ok(());
     }
-    if are_surely_stopped(part, asked, atom) {
+    if are_surely_stopped(part, judge, atom) {
         return Ok(());
     }
-    let names = names_left(alloc, part, asked, atom)?;
+    let names = names_left(alloc, part, judge, atom)?;
     push_names(alloc, list, names, atom)
 }
 
@@ -140,12 +167,12 @@ fn push_verbs(
     alloc: Global,
     list: &mut Vec<Marks>,
     part: &Marks,
-    asked: &Asked<'_, '_>,
+    judge: &Judge<'_, '_, '_>,
     atom: Positions,
 ) -> Result<(), Memory>
-    ensures { OnOk result (IsReady asked.now → (i j k l : ℕ) → some_has list.new.items i j k l
+    ensures { OnOk result (IsReady judge.now → (i j k l : ℕ) → some_has list.new.items i j k l
         ≡ (some_has list.old.items i j k l || (((i == atom.group) && (j == atom.resource))
-        && (at part.now.verbs.items k && (at part.now.names.items l && is_left asked.now i j k l))))) }
+        && (at part.now.verbs.items k && (at part.now.names.items l && is_left judge.now i j k l))))) }
 {
     let (group, resource, name) = (atom.group, atom.resource, 0);
     for verb in 0..part.verbs.len() {
@@ -155,7 +182,7 @@ fn push_verbs(
             verb,
             name,
         };
-        push_verb(alloc, list, part, asked, one)?;
+        push_verb(alloc, list, part, judge, one)?;
     }
     Ok(())
 }
@@ -165,29 +192,29 @@ fn push_resource(
     alloc: Global,
     list: &mut Vec<Marks>,
     part: &Marks,
-    asked: &Asked<'_, '_>,
+    judge: &Judge<'_, '_, '_>,
     atom: Positions,
 ) -> Result<(), Memory>
-    ensures { OnOk result (IsReady asked.now → (i j k l : ℕ) → some_has list.new.items i j k l
+    ensures { OnOk result (IsReady judge.now → (i j k l : ℕ) → some_has list.new.items i j k l
         ≡ (some_has list.old.items i j k l || ((i == atom.group) && (((j == atom.resource) && at part.now.resources.items atom.resource)
-        && (at part.now.verbs.items k && (at part.now.names.items l && is_left asked.now i j k l)))))) }
+        && (at part.now.verbs.items k && (at part.now.names.items l && is_left judge.now i j k l)))))) }
 {
     if !is_marked(part.resources.as_slice(), atom.resource) {
         return Ok(());
     }
-    push_verbs(alloc, list, part, asked, atom)
+    push_verbs(alloc, list, part, judge, atom)
 }
 
 fn push_resources(
     alloc: Global,
     list: &mut Vec<Marks>,
     part: &Marks,
-    asked: &Asked<'_, '_>,
+    judge: &Judge<'_, '_, '_>,
     group: usize,
 ) -> Result<(), Memory>
-    ensures { OnOk result (IsReady asked.now → (i j k l : ℕ) → some_has list.new.items i j k l
+    ensures { OnOk result (IsReady judge.now → (i j k l : ℕ) → some_has list.new.items i j k l
         ≡ (some_has list.old.items i j k l || ((i == group) && (at part.now.resources.items j
-        && (at part.now.verbs.items k && (at part.now.names.items l && is_left asked.now i j k l)))))) }
+        && (at part.now.verbs.items k && (at part.now.names.items l && is_left judge.now i j k l)))))) }
 {
     let (verb, name) = (0, 0);
     for resource in 0..part.resources.len() {
@@ -197,7 +224,7 @@ fn push_resources(
             verb,
             name,
         };
-        push_resource(alloc, list, part, asked, one)?;
+        push_resource(alloc, list, part, judge, one)?;
     }
     Ok(())
 }
@@ -207,44 +234,45 @@ fn push_group(
     alloc: Global,
     list: &mut Vec<Marks>,
     part: &Marks,
-    asked: &Asked<'_, '_>,
+    judge: &Judge<'_, '_, '_>,
     group: usize,
 ) -> Result<(), Memory>
-    ensures { OnOk result (IsReady asked.now → (i j k l : ℕ) → some_has list.new.items i j k l
+    ensures { OnOk result (IsReady judge.now → (i j k l : ℕ) → some_has list.new.items i j k l
         ≡ (some_has list.old.items i j k l || (((i == group) && at part.now.groups.items group) && (at part.now.resources.items j
-        && (at part.now.verbs.items k && (at part.now.names.items l && is_left asked.now i j k l)))))) }
+        && (at part.now.verbs.items k && (at part.now.names.items l && is_left judge.now i j k l)))))) }
 {
     if !is_marked(part.groups.as_slice(), group) {
         return Ok(());
     }
-    push_resources(alloc, list, part, asked, group)
+    push_resources(alloc, list, part, judge, group)
 }
 
 fn push_groups(
     alloc: Global,
     list: &mut Vec<Marks>,
     part: &Marks,
-    asked: &Asked<'_, '_>,
+    judge: &Judge<'_, '_, '_>,
 ) -> Result<(), Memory>
-    ensures { OnOk result (IsReady asked.now → (i j k l : ℕ) → some_has list.new.items i j k l
-        ≡ (some_has list.old.items i j k l || (has part.now i j k l && is_left asked.now i j k l))) }
+    ensures { OnOk result (IsReady judge.now → (i j k l : ℕ) → some_has list.new.items i j k l
+        ≡ (some_has list.old.items i j k l || (has part.now i j k l && is_left judge.now i j k l))) }
 {
     for group in 0..part.groups.len() {
-        push_group(alloc, list, part, asked, group)?;
+        push_group(alloc, list, part, judge, group)?;
     }
     Ok(())
 }
 
-fn without_each(
+/// What of some parts the judge says is left.
+pub fn without_each(
     alloc: Global,
     parts: Vec<Marks>,
-    asked: &Asked<'_, '_>,
+    judge: &Judge<'_, '_, '_>,
 ) -> Result<Vec<Marks>, Memory>
-    ensures { IfOk result (λ v. IsReady asked.now → (i j k l : ℕ) → some_has v.items i j k l ≡ (some_has parts.items i j k l && is_left asked.now i j k l)) }
+    ensures { IfOk result (λ v. IsReady judge.now → (i j k l : ℕ) → some_has v.items i j k l ≡ (some_has parts.items i j k l && is_left judge.now i j k l)) }
 {
     let mut list = Vec::new(alloc);
     for part in parts {
-        push_groups(alloc, &mut list, &part, asked)?;
+        push_groups(alloc, &mut list, &part, judge)?;
     }
     Ok(list)
 }
@@ -267,5 +295,5 @@ pub fn without_alone(
         rule,
         known,
     };
-    without_each(alloc, parts, &asked)
+    without_each(alloc, parts, &Judge::Rows(&asked))
 }

@@ -164,7 +164,8 @@ pub fn without(alloc: Global, parts: Vec<Marks>, bar: &Marks) -> Result<Vec<Mark
     Ok(list)
 }
 
-fn marked_in(marks: &[bool]) -> usize {
+/// How many are marked.
+pub fn marked_in(marks: &[bool]) -> usize {
     marks.iter().filter(|mark| **mark).count()
 }
 
@@ -193,7 +194,8 @@ fn copy_of(alloc: Global, marks: &[bool]) -> Result<Vec<bool>, Memory>
     Ok(list)
 }
 
-fn copy_of_part(alloc: Global, part: &Marks) -> Result<Marks, Memory>
+/// The same part once more.
+pub fn copy_of_part(alloc: Global, part: &Marks) -> Result<Marks, Memory>
     ensures { IfOk result (λ m. (i j k l : ℕ) → has m i j k l ≡ has part.now i j k l) }
 {
     Ok(Marks {
@@ -204,13 +206,12 @@ fn copy_of_part(alloc: Global, part: &Marks) -> Result<Marks, Memory>
     })
 }
 
-/// The same parts once more.
-pub fn copy_of_parts(alloc: Global, parts: &[Marks]) -> Result<Vec<Marks>, Memory>
-    ensures { IfOk result (λ v. (i j k l : ℕ) → some_has v.items i j k l ≡ some_has parts.now i j k l) }
+/// The other parts too.
+pub fn push_parts(list: &mut Vec<Marks>, parts: Vec<Marks>) -> Result<(), Memory>
+    ensures { OnOk result ((i j k l : ℕ) → some_has list.new.items i j k l ≡ (some_has list.old.items i j k l || some_has parts.items i j k l)) }
 {
-    let mut list = Vec::with_capacity(alloc, parts.len())?;
     for part in parts {
-        list.push(copy_of_part(alloc, part)?)?;
+        list.push(part)?;
     }
-    Ok(list)
+    Ok(())
 }

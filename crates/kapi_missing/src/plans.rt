@@ -1,20 +1,25 @@
 //! What is missing of each wanted rule, before any atom is made.
-ghost use Rattle.std.specs.Prelude.{◌≡◌, ℕ, [], ◌++◌, List, true, false, IfOk, OnOk};
-ghost use Rattle.std.specs.List.{flat_map};
+ghost use Rattle.std.specs.Prelude.{◌≡◌, ◌&&◌, ◌||◌, not, ℕ, [], ◌++◌, List, true, false, IfOk, OnOk};
+ghost use Rattle.std.specs.List.{flat_map, list_any};
 ghost use Rattle.kapi_rules.specs.Missing.{missing as missing_of};
 ghost use Rattle.kapi_model.specs.declared.policy_rule.PolicyRule.{PolicyRule as PolicyRuleValue};
-ghost use Rattle.kapi_missing.specs.Private.Bars.{AreLeft, wanted_at};
+ghost use Rattle.kapi_missing.specs.Private.Bars.{AreLeft, barred, wanted_at};
 ghost use Rattle.kapi_missing.specs.Private.Left.{left_atoms, left_of};
+ghost use Rattle.kapi_missing.specs.Private.Marks.{has, some_has};
 ghost use Rattle.kapi_missing.specs.Private.Once.{once};
 ghost use Rattle.kapi_missing.specs.Private.Slices.{AddsLeft};
-ghost use Rattle.kapi_missing.specs.Private.Tiers.{AreTiers};
+ghost use Rattle.kapi_missing.specs.Private.Rules.{AreRules};
+ghost use Rattle.kapi_missing.specs.Private.Tabled.{IsMasked, IsTabled, is_taken};
 
+use crate::alone::{Judge, without_each};
 use crate::bars::{Dimension, Sort, whole_part};
-use crate::marks::{Marks, atoms_of};
+use crate::marks::{Marks, atoms_of, copy_of_part, push_parts, without};
 use crate::once::once_rule;
+use crate::rules::{Rules, add_earlier, held_rules, is_tabled, tabled};
 use crate::slices::{Halves, by_sorts, cut, sliced_list};
 use crate::slim::slim;
-use crate::tiers::{Tiers, add_rule, held_rules, no_rules, without_tiers};
+use crate::stopped::without_bars;
+use crate::tabled::Tabled;
 use kapi_model::PolicyRule;
 use kapi_rules::Atom;
 use kapi_text::Memory;
@@ -38,35 +43,133 @@ fn is_none_wanted(sort: Sort, rule: &PolicyRule) -> bool
     }
 }
 
-fn left_parts(
+// What of some parts neither a held rule stops nor an earlier one.
+fn without_both(
     alloc: Global,
-    held: &Tiers<'_>,
-    earlier: &Tiers<'_>,
+    parts: Vec<Marks>,
+    rules: &Rules<'_>,
     sort: Sort,
     rule: &PolicyRule,
 ) -> Result<Vec<Marks>, Memory>
-    ensures { IfOk result (λ v. (hs es : List PolicyRuleValue) → AreTiers true hs held.now → AreTiers false es earlier.now → AreLeft hs es sort rule.now v.items) }
+    ensures { IfOk result (λ v. (hs es : List PolicyRuleValue) → AreRules hs es rules.now → (i j k l : ℕ) → some_has v.items i j k l
+        ≡ ((some_has parts.items i j k l && not (list_any (λ b. barred true sort b rule.now i j k l) hs)) && not (list_any (λ b. barred false sort b rule.now i j k l) es))) }
 {
-    let mut whole = Vec::new(alloc);
-    if is_none_wanted(sort, rule) {
-        return Ok(whole);
-    }
-    whole.push(whole_part(alloc, sort, rule)?)?;
-    let parts = without_tiers(alloc, whole, held, sort, rule)?;
-    let left = without_tiers(alloc, parts, earlier, sort, rule)?;
-    Ok(left)
+    let left = without_bars(alloc, parts, &rules.held, sort, rule)?;
+    without_bars(alloc, left, &rules.earlier, sort, rule)
 }
 
-fn planned(
+// What of one part neither a held rule stops nor an earlier one.
+fn push_left_of(
     alloc: Global,
-    held: &Tiers<'_>,
-    earlier: &Tiers<'_>,
-    rule: PolicyRule,
-) -> Result<Plan, Memory>
-    ensures { IfOk result (λ p. (hs es : List PolicyRuleValue) → AreTiers true hs held.now → AreTiers false es earlier.now → left_of p ≡ left_atoms hs es rule) }
+    list: &mut Vec<Marks>,
+    part: &Marks,
+    rules: &Rules<'_>,
+    sort: Sort,
+    rule: &PolicyRule,
+) -> Result<(), Memory>
+    ensures { OnOk result ((hs es : List PolicyRuleValue) → AreRules hs es rules.now → (i j k l : ℕ) → some_has list.new.items i j k l
+        ≡ (some_has list.old.items i j k l || ((has part.now i j k l && not (list_any (λ b. barred true sort b rule.now i j k l) hs)) && not (list_any (λ b. barred false sort b rule.now i j k l) es)))) }
 {
-    let resources = left_parts(alloc, held, earlier, Sort::Resources, &rule)?;
-    let urls = left_parts(alloc, held, earlier, Sort::Urls, &rule)?;
+    let mut one = Vec::new(alloc);
+    one.push(copy_of_part(alloc, part)?)?;
+    let left = without_both(alloc, one, rules, sort, rule)?;
+    push_parts(list, left)
+}
+
+// What of some pieces neither stops. Each is looked at for itself, since few rules may be near it.
+fn left_of_pieces(
+    alloc: Global,
+    pieces: &[Marks],
+    rules: &Rules<'_>,
+    sort: Sort,
+    rule: &PolicyRule,
+) -> Result<Vec<Marks>, Memory>
+    ensures { IfOk result (λ v. (hs es : List PolicyRuleValue) → AreRules hs es rules.now → (i j k l : ℕ) → some_has v.items i j k l
+        ≡ ((some_has pieces.now i j k l && not (list_any (λ b. barred true sort b rule.now i j k l) hs)) && not (list_any (λ b. barred false sort b rule.now i j k l) es))) }
+{
+    let mut list = Vec::new(alloc);
+    for piece in pieces {
+        push_left_of(alloc, &mut list, piece, rules, sort, rule)?;
+    }
+    Ok(list)
+}
+
+// What of the atoms beside the core neither stops.
+fn left_beside(
+    alloc: Global,
+    core: &Marks,
+    rules: &Rules<'_>,
+    sort: Sort,
+    rule: &PolicyRule,
+) -> Result<Vec<Marks>, Memory>
+    ensures { IfOk result (λ v. (hs es : List PolicyRuleValue) → AreRules hs es rules.now → (i j k l : ℕ) → some_has v.items i j k l
+        ≡ (((wanted_at sort rule.now i j k l && not (has core.now i j k l)) && not (list_any (λ b. barred true sort b rule.now i j k l) hs)) && not (list_any (λ b. barred false sort b rule.now i j k l) es))) }
+{
+    let mut whole = Vec::new(alloc);
+    whole.push(whole_part(alloc, sort, rule)?)?;
+    let pieces = without(alloc, whole, core)?;
+    left_of_pieces(alloc, pieces.as_slice(), rules, sort, rule)
+}
+
+// What the table leaves of the atoms that have a place in it.
+fn left_in_core(alloc: Global, tabled: &Tabled<'_, '_>) -> Result<Vec<Marks>, Memory>
+    ensures { IfOk result (λ v. IsMasked tabled.now → (i j k l : ℕ) → some_has v.items i j k l ≡ (has tabled.now.core i j k l && not (is_taken tabled.now i j k l))) }
+{
+    let mut core = Vec::new(alloc);
+    core.push(copy_of_part(alloc, &tabled.core)?)?;
+    without_each(alloc, core, &Judge::Table(tabled))
+}
+
+fn left_of_tabled(
+    alloc: Global,
+    tabled: &Tabled<'_, '_>,
+    rules: &Rules<'_>,
+    sort: Sort,
+    rule: &PolicyRule,
+) -> Result<Vec<Marks>, Memory>
+    ensures { IfOk result (λ v. (hs es : List PolicyRuleValue) → AreRules hs es rules.now → IsTabled hs es sort rule.now tabled.now → AreLeft hs es sort rule.now v.items) }
+{
+    let mut list = left_in_core(alloc, tabled)?;
+    let others = left_beside(alloc, &tabled.core, rules, sort, rule)?;
+    push_parts(&mut list, others)?;
+    Ok(list)
+}
+
+fn left_of_whole(
+    alloc: Global,
+    rules: &Rules<'_>,
+    sort: Sort,
+    rule: &PolicyRule,
+) -> Result<Vec<Marks>, Memory>
+    ensures { IfOk result (λ v. (hs es : List PolicyRuleValue) → AreRules hs es rules.now → AreLeft hs es sort rule.now v.items) }
+{
+    let mut whole = Vec::new(alloc);
+    whole.push(whole_part(alloc, sort, rule)?)?;
+    without_both(alloc, whole, rules, sort, rule)
+}
+
+fn left_parts(
+    alloc: Global,
+    rules: &Rules<'_>,
+    sort: Sort,
+    rule: &PolicyRule,
+) -> Result<Vec<Marks>, Memory>
+    ensures { IfOk result (λ v. (hs es : List PolicyRuleValue) → AreRules hs es rules.now → AreLeft hs es sort rule.now v.items) }
+{
+    if is_none_wanted(sort, rule) {
+        return Ok(Vec::new(alloc));
+    }
+    match tabled(alloc, rules, sort, rule)? {
+        Some(tabled) => left_of_tabled(alloc, &tabled, rules, sort, rule),
+        None => left_of_whole(alloc, rules, sort, rule),
+    }
+}
+
+fn planned(alloc: Global, rules: &Rules<'_>, rule: PolicyRule) -> Result<Plan, Memory>
+    ensures { IfOk result (λ p. (hs es : List PolicyRuleValue) → AreRules hs es rules.now → left_of p ≡ left_atoms hs es rule) }
+{
+    let resources = left_parts(alloc, rules, Sort::Resources, &rule)?;
+    let urls = left_parts(alloc, rules, Sort::Urls, &rule)?;
     Ok(Plan {
         rule,
         resources,
@@ -93,102 +196,99 @@ fn push_plan(list: &mut Vec<Plan>, plan: Plan) -> Result<(), Memory>
 #[tactic(auto, using(crate::proofs::Sliced::adds_slim))]
 fn push_planned(
     alloc: Global,
-    held: &Tiers<'_>,
-    earlier: &Tiers<'_>,
+    rules: &Rules<'_>,
     list: &mut Vec<Plan>,
     rule: PolicyRule,
 ) -> Result<(), Memory>
-    ensures { OnOk result (AddsLeft held.now earlier.now list.old.items list.new.items rule) }
+    ensures { OnOk result (AddsLeft rules.now list.old.items list.new.items rule) }
 {
-    let slim = slim(alloc, &held.all, &earlier.all, rule)?;
-    let plan = planned(alloc, held, earlier, slim)?;
+    let slim = slim(alloc, &rules.held, &rules.earlier, rule)?;
+    let plan = planned(alloc, rules, slim)?;
     push_plan(list, plan)
 }
 
 // Plans of the rule, or of slices of it. The depth bounds how often it is cut.
 fn push_slices(
     alloc: Global,
-    held: &Tiers<'_>,
-    earlier: &Tiers<'_>,
+    rules: &Rules<'_>,
     list: &mut Vec<Plan>,
     rule: PolicyRule,
     last: Dimension,
     depth: usize,
 ) -> Result<(), Memory>
-    ensures { OnOk result (AddsLeft held.now earlier.now list.old.items list.new.items rule) }
+    ensures { OnOk result (AddsLeft rules.now list.old.items list.new.items rule) }
 {
     if depth == 0 {
-        return push_planned(alloc, held, earlier, list, rule);
+        return push_planned(alloc, rules, list, rule);
     }
     match cut(alloc, &rule, last)? {
         Some(halves) => {
             let Halves { first, second } = halves;
-            push_slices(alloc, held, earlier, list, first, last, depth - 1)?;
-            push_slices(alloc, held, earlier, list, second, last, depth - 1)
+            push_slices(alloc, rules, list, first, last, depth - 1)?;
+            push_slices(alloc, rules, list, second, last, depth - 1)
         }
-        None => push_planned(alloc, held, earlier, list, rule),
+        None => push_planned(alloc, rules, list, rule),
     }
 }
 
 fn push_cut(
     alloc: Global,
-    held: &Tiers<'_>,
-    earlier: &Tiers<'_>,
+    rules: &Rules<'_>,
     list: &mut Vec<Plan>,
     rule: PolicyRule,
 ) -> Result<(), Memory>
-    ensures { OnOk result (AddsLeft held.now earlier.now list.old.items list.new.items rule) }
+    ensures { OnOk result (AddsLeft rules.now list.old.items list.new.items rule) }
 {
-    match sliced_list(alloc, &held.all, &earlier.all, &rule)? {
-        Some(last) => push_slices(alloc, held, earlier, list, rule, last, 64),
-        None => push_planned(alloc, held, earlier, list, rule),
+    match sliced_list(alloc, &rules.held, &rules.earlier, &rule)? {
+        Some(last) => push_slices(alloc, rules, list, rule, last, 64),
+        None => push_planned(alloc, rules, list, rule),
     }
 }
 
 #[tactic(auto, using(crate::proofs::Sliced::adds_slim))]
 fn push_one_sort(
     alloc: Global,
-    held: &Tiers<'_>,
-    earlier: &Tiers<'_>,
+    rules: &Rules<'_>,
     list: &mut Vec<Plan>,
     rule: PolicyRule,
 ) -> Result<(), Memory>
-    ensures { OnOk result (AddsLeft held.now earlier.now list.old.items list.new.items rule) }
+    ensures { OnOk result (AddsLeft rules.now list.old.items list.new.items rule) }
 {
-    let slim = slim(alloc, &held.all, &earlier.all, rule)?;
-    push_cut(alloc, held, earlier, list, slim)
+    if is_tabled(rules, &rule) {
+        return push_plan(list, planned(alloc, rules, rule)?);
+    }
+    let slim = slim(alloc, &rules.held, &rules.earlier, rule)?;
+    push_cut(alloc, rules, list, slim)
 }
 
 fn push_by_sorts(
     alloc: Global,
-    held: &Tiers<'_>,
-    earlier: &Tiers<'_>,
+    rules: &Rules<'_>,
     list: &mut Vec<Plan>,
     rule: PolicyRule,
 ) -> Result<(), Memory>
-    ensures { OnOk result (AddsLeft held.now earlier.now list.old.items list.new.items rule) }
+    ensures { OnOk result (AddsLeft rules.now list.old.items list.new.items rule) }
 {
     match by_sorts(alloc, &rule)? {
         Some(halves) => {
             let Halves { first, second } = halves;
-            push_one_sort(alloc, held, earlier, list, first)?;
-            push_one_sort(alloc, held, earlier, list, second)
+            push_one_sort(alloc, rules, list, first)?;
+            push_one_sort(alloc, rules, list, second)
         }
-        None => push_one_sort(alloc, held, earlier, list, rule),
+        None => push_one_sort(alloc, rules, list, rule),
     }
 }
 
 fn push_wanted(
     alloc: Global,
-    held: &Tiers<'_>,
-    earlier: &Tiers<'_>,
+    rules: &Rules<'_>,
     list: &mut Vec<Plan>,
     wanted: &PolicyRule,
 ) -> Result<(), Memory>
-    ensures { OnOk result (AddsLeft held.now earlier.now list.old.items list.new.items (once wanted.now)) }
+    ensures { OnOk result (AddsLeft rules.now list.old.items list.new.items (once wanted.now)) }
 {
     let rule = once_rule(alloc, wanted)?;
-    push_by_sorts(alloc, held, earlier, list, rule)
+    push_by_sorts(alloc, rules, list, rule)
 }
 
 fn atoms_in(plans: &[Plan]) -> usize {
@@ -222,16 +322,15 @@ pub fn plans(
     ensures plans { IfOk result (λ v. flat_map left_of v.items ≡ missing_of held.now wanted.now) }
     ensures room { OnOk result (found.new.items ≡ found.old.items) }
 {
-    let held = held_rules(alloc, held)?;
-    let mut earlier = no_rules(alloc, false);
+    let mut rules = held_rules(alloc, held, wanted)?;
     let mut list = Vec::new(alloc);
     let mut atoms: usize = 0;
     for rule in wanted {
         let planned = list.len();
-        push_wanted(alloc, &held, &earlier, &mut list, rule)?;
+        push_wanted(alloc, &rules, &mut list, rule)?;
         atoms = atoms.saturating_add(atoms_from(list.as_slice(), planned));
         found.reserve(atoms)?;
-        add_rule(alloc, &mut earlier, rule, wanted.len())?;
+        add_earlier(alloc, &mut rules, rule)?;
     }
     Ok(list)
 }

@@ -3,7 +3,7 @@ ghost use Rattle.std.specs.Prelude.{◌≡◌, ◌/◌, ◌%◌, ◌*◌, ◌+�
 ghost use Rattle.std.specs.Int.{bit_at};
 ghost use Rattle.kapi_missing.specs.Private.Bars.{barred, meets, name_marks, rule_in};
 ghost use Rattle.kapi_missing.specs.Private.Marks.{at};
-ghost use Rattle.kapi_missing.specs.Private.Rows.{AreBeside, AreListed, IsReady, SomeBit, in_listed, in_row, is_named, is_stopped_in};
+ghost use Rattle.kapi_missing.specs.Private.Rows.{AreBeside, AreListed, IsAsked, SomeBit, in_listed, in_row, is_named, is_stopped_in};
 ghost use Rattle.kapi_missing.specs.Private.Sets.{has_bit, in_words};
 ghost use Rattle.kapi_missing.specs.Private.Stopped.{stops_at};
 
@@ -265,7 +265,7 @@ fn is_word_stopping(asked: &Asked<'_, '_>, place: usize, word: u64, atom: Positi
 
 /// Whether some rule stops the atom. Those that are in the rows of all its entries are looked at, until one does.
 pub fn is_stopped(asked: &Asked<'_, '_>, atom: Positions) -> bool
-    ensures { IsReady asked.now → result ≡ is_stopped_in asked.now atom.group atom.resource atom.verb atom.name }
+    ensures { IsAsked asked.now → result ≡ is_stopped_in asked.now atom.group atom.resource atom.verb atom.name }
 {
     let groups = row_at(asked.known.groups.met.as_slice(), atom.group);
     let resources = row_at(asked.known.resources.met.as_slice(), atom.resource);

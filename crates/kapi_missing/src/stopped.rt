@@ -10,7 +10,8 @@ use crate::alone::without_alone;
 use crate::bars::{Bar, Sort, barred_part};
 use crate::index::Bars;
 use crate::marks::{Marks, without};
-use crate::near::{are_few, near};
+use crate::narrow::near_parts;
+use crate::near::are_few;
 use crate::sets::{count, numbers_in};
 use kapi_model::PolicyRule;
 use kapi_text::Memory;
@@ -130,7 +131,7 @@ pub fn without_bars(
     if are_few(bars, rule, parts.as_slice(), NEAR) {
         return without_alone(alloc, parts, bars, sort, rule);
     }
-    let words = near(alloc, bars, sort, rule)?;
+    let words = near_parts(alloc, bars, sort, rule, parts.as_slice())?;
     if are_few(bars, rule, parts.as_slice(), count(words.as_slice())) {
         return without_alone(alloc, parts, bars, sort, rule);
     }

@@ -72,8 +72,8 @@ abbrev pub AreKnown : Bars → Sort → PolicyRule → Known → Type 0
 AreKnown bars which wanted known = AreRows bars.index bars.is_held which wanted known × AreListed bars which wanted known
 
 -- all is known of the atoms and the rules
-abbrev pub IsReady : Asked → Type 0
-IsReady asked = AreAllPlaced asked.bars.now × AreKnown asked.bars.now asked.sort asked.rule.now asked.known
+abbrev pub IsAsked : Asked → Type 0
+IsAsked asked = AreAllPlaced asked.bars.now × AreKnown asked.bars.now asked.sort asked.rule.now asked.known
 
 -- one of the rules stops the atom
 abbrev pub is_stopped_in : Asked → ℕ → ℕ → ℕ → ℕ → Bool

@@ -1,16 +1,16 @@
 -- Rules in slices, whose atoms, one after another, are those of the rule.
-use Rattle.std.specs.Prelude.{◌≡◌, ℕ, ◌==◌, Bool, true, false, ◌&&◌, if◌then◌else◌, List, ◌++◌, length, Option, Some, None}
+use Rattle.std.specs.Prelude.{◌≡◌, ℕ, ◌==◌, Bool, ◌&&◌, if◌then◌else◌, List, ◌++◌, length, Option, Some, None}
 use Rattle.std.specs.List.{flat_map}
 use Rattle.kapi_model.specs.declared.policy_rule.PolicyRule.{PolicyRule}
 use Rattle.kapi_rules.specs.Atoms.{atoms}
 use Rattle.kapi_missing.specs.Private.Bars.{entries_in}
 use Rattle.kapi_missing.specs.Private.Left.{left_atoms, left_of}
-use Rattle.kapi_missing.specs.Private.Tiers.{AreTiers}
+use Rattle.kapi_missing.specs.Private.Rules.{AreRules}
 use Rattle.kapi_missing.specs.declared.bars.Dimension.{Dimension}
 use Rattle.kapi_missing.specs.declared.bars.Dimension.TheVariants as dimension
 use Rattle.kapi_missing.specs.declared.plans.Plan.{Plan}
 use Rattle.kapi_missing.specs.declared.slices.Halves.{Halves}
-use Rattle.kapi_missing.specs.declared.tiers.Tiers.{Tiers}
+use Rattle.kapi_missing.specs.declared.rules.Rules.{Rules}
 
 -- the lists in the order of the atoms
 abbrev pub number : Dimension → ℕ
@@ -49,6 +49,6 @@ AreHalves rule None = Unit {0}
 AreHalves rule (Some halves) = atoms rule ≡ atoms halves.first ++ atoms halves.second
 
 -- the plans grow by what is left of the rule
-abbrev pub AddsLeft : Tiers → Tiers → List Plan → List Plan → PolicyRule → Type 0
-AddsLeft held earlier old new rule = (hs es : List PolicyRule) → AreTiers true hs held → AreTiers false es earlier
+abbrev pub AddsLeft : Rules → List Plan → List Plan → PolicyRule → Type 0
+AddsLeft rules old new rule = (hs es : List PolicyRule) → AreRules hs es rules
     → flat_map left_of new ≡ flat_map left_of old ++ left_atoms hs es rule

@@ -15,7 +15,7 @@ loop-name-preserved c =
       λ ready m.
           rw c.in_ok-push.ensures.items
           (one_name_more c.args.part.now.names.items c.loop-name.list.items c.loop-name.name c.is_name_left.result
-          (λ (l : ℕ). is_left c.args.asked.now c.args.atom.group c.args.atom.resource c.args.atom.verb l)
+          (λ (l : ℕ). is_left c.args.judge.now c.args.atom.group c.args.atom.resource c.args.atom.verb l)
           within c.loop-name.invariant.0 (c.is_name_left.ensures ready) (c.loop-name.invariant.1 ready) m),
     )
 

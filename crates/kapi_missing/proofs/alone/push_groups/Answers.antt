@@ -7,7 +7,7 @@ use Rattle.kapi_missing.specs.Private.Stopped.{is_left}
 use Rattle.kapi_missing.proofs.alone.push_groups.Goals as goal
 
 pub loop-group-init : goal.loop-group-init
-loop-group-init c = λ ready i j k m. none_yet (some_has c.args.list.now.items i j k m) true (at c.args.part.now.resources.items j && (at c.args.part.now.verbs.items k && (at c.args.part.now.names.items m && is_left c.args.asked.now i j k m)))
+loop-group-init c = λ ready i j k m. none_yet (some_has c.args.list.now.items i j k m) true (at c.args.part.now.resources.items j && (at c.args.part.now.verbs.items k && (at c.args.part.now.names.items m && is_left c.args.judge.now i j k m)))
 
 pub loop-group-preserved : goal.loop-group-preserved
 loop-group-preserved c = λ ready i j k m.
@@ -19,4 +19,4 @@ pub returns : goal.returns
 returns c = λ ready i j k m.
     let all : length c.args.part.now.groups.items ≤ c.loop-group.group = grind (arith, common_steps) in
     rw (take_all c.loop-group.group c.args.part.now.groups.items all) at (c.loop-group.invariant ready i j k m)
-    ∙ ap (λ x. some_has c.args.list.now.items i j k m || x) (gathered (at c.args.part.now.groups.items i) (at c.args.part.now.resources.items j) (at c.args.part.now.verbs.items k) (at c.args.part.now.names.items m) (is_left c.args.asked.now i j k m))
+    ∙ ap (λ x. some_has c.args.list.now.items i j k m || x) (gathered (at c.args.part.now.groups.items i) (at c.args.part.now.resources.items j) (at c.args.part.now.verbs.items k) (at c.args.part.now.names.items m) (is_left c.args.judge.now i j k m))

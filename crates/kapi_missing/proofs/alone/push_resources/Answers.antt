@@ -7,7 +7,7 @@ use Rattle.kapi_missing.specs.Private.Stopped.{is_left}
 use Rattle.kapi_missing.proofs.alone.push_resources.Goals as goal
 
 pub loop-resource-init : goal.loop-resource-init
-loop-resource-init c = λ ready i j k m. none_yet (some_has c.args.list.now.items i j k m) (i == c.args.group) (at c.args.part.now.verbs.items k && (at c.args.part.now.names.items m && is_left c.args.asked.now i j k m))
+loop-resource-init c = λ ready i j k m. none_yet (some_has c.args.list.now.items i j k m) (i == c.args.group) (at c.args.part.now.verbs.items k && (at c.args.part.now.names.items m && is_left c.args.judge.now i j k m))
 
 pub loop-resource-preserved : goal.loop-resource-preserved
 loop-resource-preserved c = λ ready i j k m.

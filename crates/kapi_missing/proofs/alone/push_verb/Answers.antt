@@ -11,7 +11,7 @@ returns-then-not-is_marked c = λ ready i j k m.
 
 pub returns-then-are_surely_stopped : goal.returns-then-are_surely_stopped
 returns-then-are_surely_stopped c = λ ready i j k m.
-    nothing_there (λ (a : ℕ) (b : ℕ) (d : ℕ). is_left c.args.asked.now a b d m) i j k c.args.atom.group c.args.atom.resource c.args.atom.verb (some_has c.args.list.now.items i j k m)
+    nothing_there (λ (a : ℕ) (b : ℕ) (d : ℕ). is_left c.args.judge.now a b d m) i j k c.args.atom.group c.args.atom.resource c.args.atom.verb (some_has c.args.list.now.items i j k m)
     (at c.args.part.now.verbs.items c.args.atom.verb) (at c.args.part.now.names.items m) (c.are_surely_stopped.ensures ready c.if-are_surely_stopped.true m)
 
 pub returns : goal.returns
@@ -21,6 +21,6 @@ returns c =
     on_ok_weaker c.push_names.result (λ is. λ ready i j k m.
     is i j k m
     ∙ ap (λ (x : Bool). some_has c.args.list.now.items i j k m || x)
-    (same_place (λ (a : ℕ) (b : ℕ) (d : ℕ). is_left c.args.asked.now a b d m) i j k c.args.atom.group c.args.atom.resource c.args.atom.verb
+    (same_place (λ (a : ℕ) (b : ℕ) (d : ℕ). is_left c.args.judge.now a b d m) i j k c.args.atom.group c.args.atom.resource c.args.atom.verb
     (at c.args.part.now.verbs.items c.args.atom.verb) (at c.args.part.now.names.items m) (at at_names m) marked (c.in_ok-names.ensures ready m)))
     c.push_names.ensures

@@ -7,7 +7,7 @@ use Rattle.kapi_missing.specs.Private.Stopped.{is_left}
 use Rattle.kapi_missing.proofs.alone.push_verbs.Goals as goal
 
 pub loop-verb-init : goal.loop-verb-init
-loop-verb-init c = λ ready i j k m. none_yet (some_has c.args.list.now.items i j k m) ((i == c.args.atom.group) && (j == c.args.atom.resource)) (at c.args.part.now.names.items m && is_left c.args.asked.now i j k m)
+loop-verb-init c = λ ready i j k m. none_yet (some_has c.args.list.now.items i j k m) ((i == c.args.atom.group) && (j == c.args.atom.resource)) (at c.args.part.now.names.items m && is_left c.args.judge.now i j k m)
 
 pub loop-verb-preserved : goal.loop-verb-preserved
 loop-verb-preserved c = λ ready i j k m.

@@ -2,5 +2,5 @@ use Rattle.kapi_missing.proofs.Lefts.{planned_left}
 use Rattle.kapi_missing.proofs.plans.planned.Goals as goal
 
 pub returns : goal.returns
-returns c = λ hs es held earlier.
-    planned_left hs es c.args.rule c.in_ok-resources.resources.items c.in_ok-urls.urls.items (c.in_ok-resources.ensures hs es held earlier) (c.in_ok-urls.ensures hs es held earlier)
+returns c = λ hs es are.
+    planned_left hs es c.args.rule c.in_ok-resources.resources.items c.in_ok-urls.urls.items (c.in_ok-resources.ensures hs es are) (c.in_ok-urls.ensures hs es are)

@@ -1,8 +1,0 @@
-use Rattle.std.proofs.Common.{◌≡◌, ℕ, ◌&&◌, false, take}
-use Rattle.kapi_missing.specs.Private.Marks.{at}
-use Rattle.kapi_missing.specs.Private.Rows.{IsReady}
-use Rattle.kapi_missing.specs.Private.Stopped.{is_left}
-use Rattle.kapi_missing.proofs.alone.are_surely_stopped.Given as goal
-
-abbrev pub invariant-loop-name : goal.invariant-loop-name
-invariant-loop-name l = IsReady l.asked → (m : ℕ) → (at (take l.name l.part.names.items) m && is_left l.asked l.fn.atom.group l.fn.atom.resource l.fn.atom.verb m) ≡ false
