@@ -1,6 +1,7 @@
-ghost use Rattle.std.specs.Prelude.{◌≡◌, [], true, false, Some, OnOk, IfOk, ok_or, string_bytes};
-ghost use Rattle.serde_json.specs.Data.{Data, object};
+ghost use Rattle.std.specs.Prelude.{◌≡◌, ◌≤◌, [], true, false, Some, OnOk, IfOk, ok_or, string_bytes};
+ghost use Rattle.serde_json.specs.Data.{Data, depth, object};
 ghost use Rattle.serde_json.specs.Find.{get};
+ghost use Rattle.serde_json.specs.Read.{max_depth};
 ghost use Rattle.serde_json.specs.View.{view, members_view};
 ghost use Rattle.serde_json.specs.Written as written;
 ghost use Rattle.kapi_text.specs.Gives.{Gives};
@@ -162,6 +163,7 @@ fn has_other(tree: &Value, key: &str, text: &str) -> bool
 pub fn read_tree(alloc: Global, bytes: &[u8]) -> Result<Value, ObjectError>
     ensures object { Gives told view result (ok_or (json_object bytes.now) not_json) }
     ensures ordered { IfOk result (λ v. is_ordered (view v) ≡ true) }
+    ensures nests { IfOk result (λ v. depth (view v) ≤ max_depth) }
 {
     match Value::from_slice(alloc, bytes) {
         Ok(tree) => {
@@ -197,43 +199,47 @@ pub fn collect_faults(
 
 /// The tree as its resource type keeps it, or the list of its faults.
 #[tactic(auto, unfolding(crate::specs::Admission::admitted))]
-fn admit(
-    alloc: Global,
-    row: &ResourceRow,
-    version: &str,
-    tree: Value,
-) -> Result<Object, ObjectError>
+fn admit(alloc: Global, row: &ResourceRow, version: &str, tree: Value) -> Result<Value, ObjectError>
     requires version { version.now ≡ version_of row.now }
     requires whole { written.has_float (view tree) ≡ false }
     requires ordered { is_ordered (view tree) ≡ true }
-    ensures object { Gives told tree_of result (admitted row.now (view tree)) }
-    ensures given { IfOk result (λ o. given_of (tree_of o) ≡ gives.given_on row.now (view tree)) }
-    ensures clean { IfOk result (λ o. faults_on row.now.schema (tree_of o) ≡ []) }
+    ensures tree { Gives told view result (admitted row.now (view tree)) }
+    ensures given { IfOk result (λ v. given_of (view v) ≡ gives.given_on row.now (view tree)) }
+    ensures clean { IfOk result (λ v. faults_on row.now.schema (view v) ≡ []) }
+    ensures whole { IfOk result (λ v. written.has_float (view v) ≡ false) }
+    ensures ordered { IfOk result (λ v. is_ordered (view v) ≡ true) }
+    ensures nests { IfOk result (λ v. depth (view tree) ≤ max_depth → depth (view v) ≤ max_depth) }
 {
     let faults = collect_faults(alloc, row.schema, &tree)?;
     if !faults.is_empty() {
         let given = given_on(alloc, row, &tree)?;
         return Err(ObjectError::Invalid(given, Sequence::new(faults)));
     }
-    Ok(Object::new(kept_tree(alloc, row, version, tree)?))
+    let kept = kept_tree(alloc, row, version, tree)?;
+    Ok(kept)
 }
 
-/// The object of a resource type that a JSON object is, as the resource type keeps it.
+/// The tree of the object of a resource type that a JSON object is, as the resource type keeps it.
 ///
 /// The Open schema keeps the members of the body as they are, but for `apiVersion` and `kind`, which are filled in
 /// where they are missing, and `metadata`, of which name, namespace, resource version, labels and annotations are kept.
 /// A resource type of roles or bindings keeps the members of its kind alone (Kubernetes API,
 /// rbac.authorization.k8s.io/v1).
 #[tactic(auto, unfolding(crate::specs::Admission::read_as))]
-pub fn admit_tree(alloc: Global, row: &ResourceRow, tree: Value) -> Result<Object, ObjectError>
+pub fn admitted_tree(alloc: Global, row: &ResourceRow, tree: Value) -> Result<Value, ObjectError>
     requires ordered { is_ordered (view tree) ≡ true }
-    ensures object { Gives told tree_of result (read_as row.now (Some (view tree))) }
+    ensures tree { Gives told view result (read_as row.now (Some (view tree))) }
 
-    // the object specifies what the tree specifies
-    ensures given { IfOk result (λ o. given_of (tree_of o) ≡ gives.given_on row.now (view tree)) }
+    // what is kept specifies what the tree specifies
+    ensures given { IfOk result (λ v. given_of (view v) ≡ gives.given_on row.now (view tree)) }
 
     // what is kept of a tree without faults has no faults
-    ensures clean { IfOk result (λ o. faults_on row.now.schema (tree_of o) ≡ []) }
+    ensures clean { IfOk result (λ v. faults_on row.now.schema (view v) ≡ []) }
+    ensures whole { IfOk result (λ v. written.has_float (view v) ≡ false) }
+    ensures ordered { IfOk result (λ v. is_ordered (view v) ≡ true) }
+
+    // and is no deeper than what is read, where the tree is not
+    ensures nests { IfOk result (λ v. depth (view tree) ≤ max_depth → depth (view v) ≤ max_depth) }
 {
     if has_float(&tree) {
         return Err(ObjectError::Float);
@@ -246,6 +252,22 @@ pub fn admit_tree(alloc: Global, row: &ResourceRow, tree: Value) -> Result<Objec
         return Err(ObjectError::WrongVersion);
     }
     admit(alloc, row, version.as_str(), tree)
+}
+
+/// The object of a resource type that a JSON object is, as the resource type keeps it.
+pub fn admit_tree(alloc: Global, row: &ResourceRow, tree: Value) -> Result<Object, ObjectError>
+    requires ordered { is_ordered (view tree) ≡ true }
+    requires nests { depth (view tree) ≤ max_depth }
+    ensures object { Gives told tree_of result (read_as row.now (Some (view tree))) }
+
+    // the object specifies what the tree specifies
+    ensures given { IfOk result (λ o. given_of (tree_of o) ≡ gives.given_on row.now (view tree)) }
+
+    // what is kept of a tree without faults has no faults
+    ensures clean { IfOk result (λ o. faults_on row.now.schema (tree_of o) ≡ []) }
+{
+    let kept = admitted_tree(alloc, row, tree)?;
+    Ok(Object::new(kept))
 }
 
 /// The object of a resource type that a body is, as the resource type keeps it.

@@ -12,6 +12,6 @@ pub mod text_rule;
 pub mod typed_list;
 pub mod word;
 
-pub use admission::{admit_tree, collect_faults, read_object, read_tree};
+pub use admission::{admit_tree, admitted_tree, collect_faults, read_object, read_tree};
 pub use metadata::push_fault;
 pub use object_error::ObjectError;

@@ -16,7 +16,7 @@ use Rattle.kapi_model.specs.Kinds.{rbac_group}
 use Rattle.kapi_model.specs.Selector.{has_label, is_met, matches}
 use Rattle.kapi_model.specs.declared.row.ResourceRow.{ResourceRow}
 use Rattle.kapi_model.specs.declared.selector.Selector.{Selector}
-use Rattle.kapi_tree.specs.declared.object.Object.{Object}
+use Rattle.kapi_store.specs.declared.stored.StoredObject.{StoredObject}
 use Rattle.kapi_store.specs.Keys.{key_cmp}
 use Rattle.kapi_store.specs.Listing.{is_listed, is_within, listed_trees}
 use Rattle.kapi_store.specs.Plain.{plain_of, trees}
@@ -118,7 +118,7 @@ roles_ordered (e ∷ es) h = by_case (is_cluster_role e.0) refl (roles_ordered e
     by_case true is rest = (all_names e.0 is es h.0, rest)
     by_case false is rest = rest
 
-pub keys_of_trees : (os : List (Key × Object)) → keys_of (trees os) ≡ keys_of os
+pub keys_of_trees : (os : List (Key × StoredObject)) → keys_of (trees os) ≡ keys_of os
 keys_of_trees [] = refl
 keys_of_trees (o ∷ os) = ap (λ (ks : List Key). o.0 ∷ ks) (keys_of_trees os)
 

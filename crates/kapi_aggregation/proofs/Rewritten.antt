@@ -1,5 +1,5 @@
 -- A turn writes the old cluster role with other rules.
-use Rattle.std.proofs.Common.{◌≡◌, ◌∙◌, ◌+◌, ℕ, List, [], ◌∷◌, Option, None, Some, Bool, true, false, if◌then◌else◌, Result, Ok, Err, bytes_eq, codes, refl, sym, ap, subst}
+use Rattle.std.proofs.Common.{◌≡◌, ◌∙◌, ◌+◌, ℕ, suc, List, [], ◌∷◌, Option, None, Some, Bool, true, false, if◌then◌else◌, Result, Ok, Err, bytes_eq, codes, refl, sym, ap, subst}
 use Rattle.std.specs.Fmt.{decimal}
 use Rattle.std.specs.Map.{lookup}
 use Rattle.std.specs.Option.{option_and_then, option_map}
@@ -10,12 +10,13 @@ use Rattle.serde_json.specs.Find.{get}
 use Rattle.kapi_text.specs.Gives.{◌>>=◌}
 use Rattle.kapi_model.specs.declared.policy_rule.PolicyRule.{PolicyRule}
 use Rattle.kapi_tree.proofs.Closed.{Closed, items_hold, members_hold, rule_tree_holds}
+use Rattle.kapi_tree.proofs.Metadata.{in_object}
 use Rattle.kapi_tree.proofs.Puts.{list_round, put_other}
 use Rattle.kapi_tree.specs.Contents.{aggregation_of, items_if, read_items, rule_of, rule_tree, rules_of, write_items}
 use Rattle.kapi_tree.specs.Given.{given_of}
 use Rattle.kapi_tree.specs.Tree.{in_metadata, members_or_none, unless_null}
 use Rattle.kapi_rbac_types.proofs.RoundTrips.{rule_round}
-use Rattle.kapi_rbac_types.proofs.Stamped.{cluster_role_stamped, in_object, labels_stamped}
+use Rattle.kapi_rbac_types.proofs.Stamped.{cluster_role_stamped, labels_stamped}
 use Rattle.kapi_rbac_types.specs.Trees.{cluster_role_of}
 use Rattle.kapi_store.proofs.Equality.{tree_equal}
 use Rattle.kapi_store.specs.Faults.{StoreFault, Conflict}
@@ -29,11 +30,12 @@ use Rattle.kapi_aggregation.specs.declared.turn.Turn.{Turn}
 -- ---- the tree with other rules
 
 -- what holds of the old tree holds of the one that is written
-pub with_rules_holds : {P : Data → Type 0} {I : Items → Type 0} {M : Members → Type 0} → Closed P I M → (rules : List PolicyRule) (d : Data) → P d → P (with_rules rules d)
-with_rules_holds c rules d h =
-    c.members _
-    (c.with_member (codes "rules") (array (write_items rule_tree rules)) (members_or_none (Some d))
-    (c.list _ (items_hold c rule_tree (rule_tree_holds c) rules)) (members_hold c d h))
+pub with_rules_holds : {P : ℕ → Data → Type 0} {I : ℕ → Items → Type 0} {M : ℕ → Members → Type 0} → Closed P I M
+    → (n : ℕ) (rules : List PolicyRule) (d : Data) → P (suc (suc (suc (suc n)))) d → P (suc (suc (suc (suc n)))) (with_rules rules d)
+with_rules_holds c n rules d h =
+    c.members (suc (suc (suc n))) _
+    (c.with_member (suc (suc (suc n))) (codes "rules") (array (write_items rule_tree rules)) (members_or_none (Some d))
+    (c.list (suc (suc n)) _ (items_hold c (suc (suc n)) rule_tree (rule_tree_holds c n) rules)) (members_hold c (suc (suc (suc n))) d h))
 
 -- the members beside the rules are the old ones
 beside_rules : (rules : List PolicyRule) (q : List ℕ) (d : Data) → bytes_eq q (codes "rules") ≡ false → get q (with_rules rules d) ≡ get q d

@@ -2,33 +2,28 @@
 ghost use Rattle.std.specs.Prelude.{◌≡◌, [], codes, is_some, map, option_map, IfOk};
 ghost use Rattle.std.proofs.Props.{props};
 ghost use Rattle.kapi_model.specs.Kinds.{rbac_group};
-ghost use Rattle.kapi_tree.specs.Object.{tree_of};
+ghost use Rattle.kapi_store.specs.Stored.{stored_tree};
 ghost use Rattle.kapi_store.specs.Plain.{plain_of, trees};
 ghost use Rattle.kapi_store.specs.Listing.{shown};
 ghost use Rattle.kapi_rbac_types.specs.Trees.{cluster_role_of};
 ghost use Rattle.kapi_aggregation.specs.Marks.{role_at, takers_in};
 ghost use Rattle.kapi_aggregation.specs.Rewriting.{role_key as role_key_of};
-ghost use Rattle.kapi_aggregation.specs.Roles.{IsInNameOrder, is_aggregated as is_aggregated_of, is_cluster_role as is_cluster_role_key, labelled_at, labelled_tree, roles_in, selectors_of};
+ghost use Rattle.kapi_aggregation.specs.Roles.{IsInNameOrder, is_aggregated as is_aggregated_of, is_cluster_role as is_cluster_role_key, labelled_tree, roles_in, selectors_of};
 ghost use Rattle.kapi_aggregation.specs.Views.{labelled};
 
-use kapi_model::{AggregationRule, Labels, PolicyRule, RBAC_GROUP, ResourceRow, Schema, Selector};
-use kapi_store::{Key, Listed, Store};
+use kapi_model::{PolicyRule, RBAC_GROUP, ResourceRow, Schema, Selector};
+use kapi_store::{Key, Listed, Store, StoredObject};
 use kapi_text::{Memory, Sequence, Text, TryCopy};
-use kapi_tree::Object;
 use kapi_tree::rules_form::read_rules;
-use kapi_tree::selector_form::read_aggregation;
-use serde_json::Value;
 use std::alloc::Global;
 use std::collections::BTreeSet;
 
-/// A cluster role with its name and its labels. The rules are read only where they are asked for, since a write reads
-/// selectors and labels alone.
-#[derive(Drop)]
+/// A cluster role with its name. The rules are read only where they are asked for, since a write reads selectors and
+/// labels alone.
+#[derive(Clone, Copy, Drop)]
 pub(crate) struct NamedRole<'a> {
     pub name: &'a Text,
-    pub labels: Labels<'a>,
-    aggregation_rule: Option<AggregationRule>,
-    tree: &'a Value,
+    pub object: &'a StoredObject,
 }
 
 impl<'a> NamedRole<'a> {
@@ -36,7 +31,7 @@ impl<'a> NamedRole<'a> {
     pub(crate) fn selectors(&self) -> &[Selector]
         ensures { result.now ≡ selectors_of (labelled self.now) }
     {
-        match &self.aggregation_rule {
+        match self.object.aggregation_rule() {
             Some(rule) => rule.cluster_role_selectors.as_slice(),
             None => &[],
         }
@@ -46,14 +41,15 @@ impl<'a> NamedRole<'a> {
     pub(crate) fn rules(&self, alloc: Global) -> Result<Sequence<PolicyRule>, Memory>
         ensures { IfOk result (λ rs. rs ≡ (labelled self.now).role.rules) }
     {
-        read_rules(alloc, self.tree)
+        let object = self.object.object(alloc)?;
+        read_rules(alloc, object.as_tree())
     }
 
     /// Whether the cluster role takes its rules from others.
     pub(crate) fn is_aggregated(&self) -> bool
         ensures { result ≡ is_aggregated_of (labelled self.now) }
     {
-        self.aggregation_rule.is_some()
+        self.object.aggregation_rule().is_some()
     }
 }
 
@@ -113,29 +109,20 @@ pub(crate) fn role_key(alloc: Global, name: &Text) -> Result<Key, Memory>
 }
 
 /// Whether the object has an aggregation rule.
-pub(crate) fn is_aggregated(alloc: Global, object: &Object) -> Result<bool, Memory>
-    ensures { IfOk result (λ b. b ≡ is_some (cluster_role_of (tree_of object.now)).aggregation_rule) }
+pub(crate) fn is_aggregated(object: &StoredObject) -> bool
+    ensures { result ≡ is_some (cluster_role_of (stored_tree object.now)).aggregation_rule }
 {
-    Ok(read_aggregation(alloc, object.as_tree())?.is_some())
-}
-
-/// The cluster role of the name that the object is.
-fn role_of<'a>(alloc: Global, name: &'a Text, object: &'a Object) -> Result<NamedRole<'a>, Memory>
-    ensures { IfOk result (λ r. labelled r ≡ labelled_at name.now (tree_of object.now)) }
-{
-    Ok(NamedRole {
-        name,
-        labels: object.labels(),
-        aggregation_rule: read_aggregation(alloc, object.as_tree())?,
-        tree: object.as_tree(),
-    })
+    object.aggregation_rule().is_some()
 }
 
 /// The cluster role that a listed object is.
-fn named_role<'a>(alloc: Global, listed: &Listed<'a>) -> Result<NamedRole<'a>, Memory>
-    ensures { IfOk result (λ r. labelled r ≡ labelled_tree (listed.now.key.now, tree_of listed.now.object.now)) }
+fn named_role<'a>(listed: &Listed<'a>) -> NamedRole<'a>
+    ensures { labelled result ≡ labelled_tree (listed.now.key.now, stored_tree listed.now.object.now) }
 {
-    role_of(alloc, &listed.key.name, listed.object.get())
+    NamedRole {
+        name: &listed.key.name,
+        object: listed.object.get(),
+    }
 }
 
 /// The cluster role of the name in the store, if it is there.
@@ -147,7 +134,7 @@ fn role_named<'a>(
     ensures { IfOk result (λ o. option_map labelled o ≡ role_at (plain_of store.now).objects name.now) }
 {
     match store.get(&role_key(alloc, name)?) {
-        Some(object) => Ok(Some(role_of(alloc, name, object)?)),
+        Some(object) => Ok(Some(NamedRole { name, object })),
         None => Ok(None),
     }
 }
@@ -176,7 +163,7 @@ fn named_roles<'a>(alloc: Global, list: &[Listed<'a>]) -> Result<Vec<NamedRole<'
     let mut roles = Vec::with_capacity(alloc, list.len())?;
     for listed in list {
         if is_cluster_role(listed.key) {
-            roles.push(named_role(alloc, listed)?)?;
+            roles.push(named_role(listed))?;
         }
     }
     Ok(roles)

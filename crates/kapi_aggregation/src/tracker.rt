@@ -3,19 +3,16 @@ ghost use Rattle.std.specs.Prelude.{◌≡◌, map, IfOk, OnOk, option_map};
 ghost use Rattle.std.specs.Cmp.Lexicographic.{slice_cmp};
 ghost use Rattle.std.specs.List.{list_any};
 ghost use Rattle.std.specs.Ordering.{is_le, nat_cmp};
-ghost use Rattle.kapi_model.specs.Selector.{labels_of};
-ghost use Rattle.kapi_tree.specs.Object.{tree_of};
+ghost use Rattle.kapi_store.specs.Stored.{stored_tree};
 ghost use Rattle.kapi_store.specs.Plain.{plain_change, plain_of};
 ghost use Rattle.kapi_aggregation.specs.Marks.{Keeps, is_taker as is_taker_change, mark_all, mark_change, mark_changed, mark_object, mark_takers, marks_from, names_of_takers, with_mark};
-ghost use Rattle.kapi_aggregation.specs.Roles.{is_cluster_role as is_cluster_role_key, takes_from as takes_from_labels};
+ghost use Rattle.kapi_aggregation.specs.Roles.{is_cluster_role as is_cluster_role_key, labels_in, takes_from as takes_from_labels};
 ghost use Rattle.kapi_aggregation.specs.Views.{labelled};
 
 use crate::roles::{ClusterRoles, NamedRole, is_aggregated, is_cluster_role, roles_named};
 use crate::turn::{Turn, turn_at};
-use kapi_model::Labels;
-use kapi_store::{Change, Store};
+use kapi_store::{Change, Store, StoredObject};
 use kapi_text::{Memory, Text, TryCopy};
-use kapi_tree::Object;
 use std::alloc::Global;
 use std::collections::BTreeSet;
 use std::marker::Model;
@@ -49,13 +46,13 @@ fn put_name(alloc: Global, names: &mut BTreeSet<Text>, name: &Text) -> Result<()
     Ok(())
 }
 
-/// Whether the role takes rules from one with these labels.
-fn takes_from(role: &NamedRole<'_>, labels: &Labels<'_>) -> bool
-    ensures { result ≡ takes_from_labels (labelled role.now) (labels_of labels.now) }
+/// Whether the role takes rules from the object, by its labels.
+fn takes_from(role: &NamedRole<'_>, object: &StoredObject) -> bool
+    ensures { result ≡ takes_from_labels (labelled role.now) (labels_in (stored_tree object.now)) }
 {
     role.selectors()
         .iter()
-        .any(|selector| selector.matches(labels))
+        .any(|selector| object.is_selected(selector))
 }
 
 /// Whether a name is another one, or before it.
@@ -80,12 +77,12 @@ fn are_of_roles(changes: &[Change]) -> bool
 }
 
 /// Whether the change leaves an aggregated cluster role.
-fn is_taker(alloc: Global, change: &Change) -> Result<bool, Memory>
-    ensures { IfOk result (λ b. b ≡ is_taker_change (plain_change change.now)) }
+fn is_taker(change: &Change) -> bool
+    ensures { result ≡ is_taker_change (plain_change change.now) }
 {
     match &change.new {
-        Some(object) => Ok(is_cluster_role(&change.key) && is_aggregated(alloc, object.get())?),
-        None => Ok(false),
+        Some(object) => is_cluster_role(&change.key) && is_aggregated(object.get()),
+        None => false,
     }
 }
 
@@ -102,19 +99,19 @@ fn taker_names(alloc: Global, roles: &[NamedRole<'_>]) -> Result<BTreeSet<Text>,
     Ok(names)
 }
 
-/// Marks the roles that take rules from one with these labels.
+/// Marks the roles that take rules from the object, by its labels.
 #[tactic(auto, unfolding(crate::specs::Marks::mark_takers))]
 fn mark_by_labels(
     alloc: Global,
     marks: &mut BTreeSet<Text>,
     roles: &[NamedRole<'_>],
-    labels: &Labels<'_>,
+    object: &StoredObject,
 ) -> Result<(), Memory>
-    ensures marked { OnOk result (marks.new.keys ≡ mark_takers (map labelled roles.now) marks.old.keys (labels_of labels.now)) }
+    ensures marked { OnOk result (marks.new.keys ≡ mark_takers (map labelled roles.now) marks.old.keys (labels_in (stored_tree object.now))) }
     ensures kept { Keeps marks.old.keys marks.new.keys }
 {
     for role in roles {
-        if takes_from(role, labels) {
+        if takes_from(role, object) {
             put_name(alloc, marks, role.name)?;
         }
     }
@@ -126,20 +123,20 @@ fn mark_by_object(
     alloc: Global,
     marks: &mut BTreeSet<Text>,
     roles: &[NamedRole<'_>],
-    object: Option<&Object>,
+    object: Option<&StoredObject>,
 ) -> Result<(), Memory>
-    ensures marked { OnOk result (marks.new.keys ≡ mark_object (map labelled roles.now) marks.old.keys (option_map (λ o. tree_of o.now) object.entry)) }
+    ensures marked { OnOk result (marks.new.keys ≡ mark_object (map labelled roles.now) marks.old.keys (option_map (λ o. stored_tree o.now) object.entry)) }
     ensures kept { Keeps marks.old.keys marks.new.keys }
 {
     match object {
-        Some(object) => mark_by_labels(alloc, marks, roles, &object.labels()),
+        Some(object) => mark_by_labels(alloc, marks, roles, object),
         None => Ok(()),
     }
 }
 
 /// What a change leaves, if anything.
-fn left_object(change: &Change) -> Option<&Object>
-    ensures { option_map (λ o. tree_of o.now) result ≡ (plain_change change.now).new }
+fn left_object(change: &Change) -> Option<&StoredObject>
+    ensures { option_map (λ o. stored_tree o.now) result ≡ (plain_change change.now).new }
 {
     match &change.new {
         Some(object) => Some(object.get()),
@@ -273,7 +270,7 @@ impl Tracker {
         ensures learned { OnOk result (self.new ≡ learn self.old (plain_change change.now)) }
         ensures kept { KeepsBoth self.old self.new }
     {
-        if is_taker(self.alloc, change)? {
+        if is_taker(change) {
             put_name(self.alloc, &mut self.takers, &change.key.name)?;
             put_name(self.alloc, &mut self.marks, &change.key.name)?;
         }

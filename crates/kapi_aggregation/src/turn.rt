@@ -2,6 +2,7 @@
 ghost use Rattle.std.specs.Prelude.{◌≡◌, map, IfOk};
 ghost use Rattle.serde_json.specs.View.{view};
 ghost use Rattle.kapi_tree.specs.Object.{tree_of};
+ghost use Rattle.kapi_store.specs.Stored.{stored_tree};
 ghost use Rattle.kapi_store.specs.Faults.{fault_of};
 ghost use Rattle.kapi_store.specs.Plain.{plain_change, plain_of};
 ghost use Rattle.kapi_store.specs.State.{Fits};
@@ -14,7 +15,7 @@ use crate::roles::{NamedRole, role_key};
 use crate::same::same_rules;
 use crate::union::union_for;
 use kapi_model::PolicyRule;
-use kapi_store::{Ready, Store, StoreError};
+use kapi_store::{Ready, Store, StoreError, StoredObject};
 use kapi_text::{Memory, Sequence, Text, TryCopy};
 use kapi_tree::Object;
 use kapi_tree::tree::into_members;
@@ -67,9 +68,14 @@ pub fn rewrite(alloc: Global, store: &Store, turn: &Turn) -> Result<Ready, Store
 }
 
 /// A cluster role with other rules; all else of it stays.
-fn with_rules(alloc: Global, old: &Object, rules: &Sequence<PolicyRule>) -> Result<Object, Memory>
-    ensures { IfOk result (λ o. tree_of o ≡ with_rules_of rules.now (tree_of old.now)) }
+fn with_rules(
+    alloc: Global,
+    old: &StoredObject,
+    rules: &Sequence<PolicyRule>,
+) -> Result<Object, Memory>
+    ensures { IfOk result (λ o. tree_of o ≡ with_rules_of rules.now (stored_tree old.now)) }
 {
+    let old = old.object(alloc)?;
     Ok(Object::new(tree_with_rules(alloc, old.as_tree(), rules)?))
 }
 

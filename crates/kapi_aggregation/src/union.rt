@@ -74,7 +74,7 @@ fn add_meant(
 fn is_meant(role: &NamedRole<'_>, name: &str, selector: &Selector) -> bool
     ensures { result ≡ is_meant_by name.now selector.now (labelled role.now) }
 {
-    role.name.as_str() != name && selector.matches(&role.labels)
+    role.name.as_str() != name && role.object.is_selected(selector)
 }
 
 /// Adds the rules at the end, each unless it is there already.

@@ -4,6 +4,7 @@ use Rattle.std.specs.List.{IsDistinct}
 use Rattle.std.specs.Map.{lookup}
 use Rattle.serde_json.specs.Data.{Data}
 use Rattle.kapi_tree.specs.Object.{tree_of}
+use Rattle.kapi_store.specs.Stored.{stored_tree}
 use Rattle.kapi_model.specs.declared.fault.FieldFault.{FieldFault}
 use Rattle.kapi_tree.specs.declared.object.Object.{Object}
 use Rattle.kapi_policy.specs.Objects.{PolicyObjects}
@@ -97,7 +98,7 @@ task_data objects t = record {
 
 -- the object that is to be replaced stands at its place
 abbrev pub Stands : Plain → Replacement → Type 0
-Stands s r = lookup (is_key r.new.key) s.objects ≡ Some (tree_of r.old)
+Stands s r = lookup (is_key r.new.key) s.objects ≡ Some (stored_tree r.old)
 
 -- a planned watch has shown nothing yet, the place of a new object is free, an object that is to be replaced stands at
 -- its place, and nothing is to be deleted twice

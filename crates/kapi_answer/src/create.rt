@@ -1,7 +1,9 @@
 //! The creation of an object.
-ghost use Rattle.std.specs.Prelude.{◌≡◌, [], true, Ok, Some, IfOk, IfSome, OnOk, map as map_of};
+ghost use Rattle.std.specs.Prelude.{◌≡◌, ◌≤◌, [], true, Ok, Some, IfOk, IfSome, OnOk, map as map_of};
 ghost use Rattle.std.specs.Option.{option_map};
 ghost use Rattle.kapi_text.specs.Gives.{Gives, ◌>>=◌ as and_then};
+ghost use Rattle.serde_json.specs.Data.{depth};
+ghost use Rattle.serde_json.specs.Read.{max_depth};
 ghost use Rattle.serde_json.specs.View.{view};
 ghost use Rattle.kapi_admission.specs.Admission.{read_as};
 ghost use Rattle.kapi_tree.specs.Object.{tree_of};
@@ -11,6 +13,7 @@ ghost use Rattle.kapi_reply.specs.Refusals.{asked_for, refused_by};
 ghost use Rattle.kapi_store.specs.Plain.{free_place, plain_change, plain_of};
 ghost use Rattle.kapi_store.specs.Faults.{fault_of};
 ghost use Rattle.kapi_store.specs.State.{Same, Fits};
+ghost use Rattle.kapi_store.specs.Stored.{stored_tree};
 ghost use Rattle.kapi_answer.specs.Create as creation;
 ghost use Rattle.kapi_answer.specs.Create.{admitted, admitted_from, creates, given_name, with_namespace_on, in_place, name_text, refusal_of, stored, to_create, to_place, tree_text, valid};
 ghost use Rattle.kapi_answer.specs.Outcomes.{admitted_data, new_data, object_data, outcome_data};
@@ -20,7 +23,7 @@ use kapi_admission::{ObjectError, admit_tree, read_tree};
 use kapi_http::StatusCode;
 use kapi_model::{FaultKind, FieldFault, ResourceRow, check_name};
 use kapi_reply::{BadWord, CheckError, Content, Refusal, Refused, Sought};
-use kapi_store::{Change, Key, Shared, Store, StoreError};
+use kapi_store::{Change, Key, Shared, Store, StoreError, StoredObject};
 use kapi_text::{Memory, Sequence, Text, TryCopy};
 use kapi_tree::{Given, GivenText, Object};
 use serde_json::Value;
@@ -134,10 +137,10 @@ pub fn create(alloc: Global, store: &mut Store, new: NewObject) -> Result<Outcom
 /// The object that a write leaves at a place where an object may have been, as JSON text.
 pub fn text_after(
     alloc: Global,
-    old: Option<&Object>,
+    old: Option<&StoredObject>,
     changes: &[Change],
 ) -> Result<Vec<u8>, Memory>
-    ensures { IfOk result (λ b. b.items ≡ creation.text_after (option_map (λ o. tree_of o.now) old.entry) (map_of plain_change changes.now)) }
+    ensures { IfOk result (λ b. b.items ≡ creation.text_after (option_map (λ o. stored_tree o.now) old.entry) (map_of plain_change changes.now)) }
 {
     match changes {
         [change, ..] => shared_text(alloc, &change.new),
@@ -146,7 +149,7 @@ pub fn text_after(
 }
 
 fn shared_text(alloc: Global, object: &Option<Shared>) -> Result<Vec<u8>, Memory>
-    ensures { IfOk result (λ b. b.items ≡ tree_text (option_map tree_of object.now)) }
+    ensures { IfOk result (λ b. b.items ≡ tree_text (option_map stored_tree object.now)) }
 {
     match object {
         Some(object) => object.get().render(alloc),
@@ -154,8 +157,8 @@ fn shared_text(alloc: Global, object: &Option<Shared>) -> Result<Vec<u8>, Memory
     }
 }
 
-fn object_text(alloc: Global, object: Option<&Object>) -> Result<Vec<u8>, Memory>
-    ensures { IfOk result (λ b. b.items ≡ tree_text (option_map (λ o. tree_of o.now) object.entry)) }
+fn object_text(alloc: Global, object: Option<&StoredObject>) -> Result<Vec<u8>, Memory>
+    ensures { IfOk result (λ b. b.items ≡ tree_text (option_map (λ o. stored_tree o.now) object.entry)) }
 {
     match object {
         Some(object) => object.render(alloc),
@@ -179,6 +182,7 @@ pub fn read_body(alloc: Global, row: &ResourceRow, body: &[u8]) -> Result<Admitt
 #[tactic(auto, unfolding(crate::specs::Create::admitted_from))]
 pub fn admit(alloc: Global, row: &ResourceRow, tree: Value) -> Result<Admitted, CheckError>
     requires ordered { is_ordered (view tree) ≡ true }
+    requires nests { depth (view tree) ≤ max_depth }
     ensures { Gives refused_by admitted_data result (admitted_from (read_as row.now (Some (view tree)))) }
 {
     match admit_tree(alloc, row, tree) {

@@ -1,16 +1,13 @@
 //! The deletion of an object.
-ghost use Rattle.std.specs.Prelude.{◌≡◌, Some, IfOk, IfSome, option_and_then, option_map, codes};
-ghost use Rattle.serde_json.specs.Find.{as_str};
+ghost use Rattle.std.specs.Prelude.{◌≡◌, Some, IfOk, IfSome, option_map};
 ghost use Rattle.serde_json.specs.View.{view};
 ghost use Rattle.kapi_text.specs.Gives.{Gives};
-ghost use Rattle.kapi_tree.specs.Object.{tree_of};
-ghost use Rattle.kapi_tree.specs.Tree.{in_metadata};
 ghost use Rattle.kapi_reply.specs.Refusals.{refused_by};
 ghost use Rattle.std.specs.List.{IsDistinct};
 ghost use Rattle.kapi_store.specs.Keys.{is_key};
 ghost use Rattle.kapi_store.specs.Plain.{plain_of};
 ghost use Rattle.kapi_store.specs.State.{Fits};
-ghost use Rattle.kapi_store.specs.Stamps.{uid_in};
+ghost use Rattle.kapi_store.specs.Stored.{stored_tree};
 ghost use Rattle.kapi_answer.specs.Delete as deletions;
 ghost use Rattle.kapi_answer.specs.Delete.{asks_nothing, deletable, removes, to_delete};
 ghost use Rattle.kapi_answer.specs.Outcomes.{deletion_data, outcome_data};
@@ -20,11 +17,11 @@ use crate::outcome::{Deletion, Outcome};
 use kapi_admission::{ObjectError, read_tree};
 use kapi_http::StatusCode;
 use kapi_reply::{BadWord, CheckError, Content, Refusal, Refused, Sought, Subject, deletion_text};
-use kapi_store::{Key, Store};
+use kapi_store::{Key, Store, StoredObject};
 use kapi_text::{Memory, TryCopy};
+use kapi_tree::member;
 use kapi_tree::tree::has_no_members;
 use kapi_tree::tree_form::is_empty;
-use kapi_tree::{Object, member};
 use serde_json::Value;
 use std::alloc::Global;
 
@@ -49,8 +46,8 @@ pub fn check_delete(
 }
 
 /// The object that is stored at the place that is asked for.
-pub fn existing<'a>(store: &'a Store, key: &Key) -> Result<&'a Object, Refused>
-    ensures { Gives (λ r. Some r) (λ o. tree_of o.now) result (deletions.existing (plain_of store.now) key.now) }
+pub fn existing<'a>(store: &'a Store, key: &Key) -> Result<&'a StoredObject, Refused>
+    ensures { Gives (λ r. Some r) (λ o. stored_tree o.now) result (deletions.existing (plain_of store.now) key.now) }
 {
     match store.get(key) {
         Some(object) => Ok(object),
@@ -59,30 +56,16 @@ pub fn existing<'a>(store: &'a Store, key: &Key) -> Result<&'a Object, Refused>
 }
 
 /// The reply to the deletion of the object at a place.
-fn deletion_reply(alloc: Global, key: &Key, object: &Object) -> Result<Vec<u8>, Memory>
-    ensures { IfOk result (λ b. b.items ≡ deletions.deletion_text key.now (tree_of object.now)) }
+fn deletion_reply(alloc: Global, key: &Key, object: &StoredObject) -> Result<Vec<u8>, Memory>
+    ensures { IfOk result (λ b. b.items ≡ deletions.deletion_text key.now (stored_tree object.now)) }
 {
     let subject = Subject {
         group: key.group.as_str(),
         resource: key.resource.as_str(),
         name: key.name.as_str(),
     };
-    deletion_text(alloc, subject, uid(object))
-}
-
-fn uid(object: &Object) -> &str
-    ensures { result.now ≡ uid_in (tree_of object.now) }
-{
-    match uid_text(object.as_tree()) {
-        Some(text) => text,
-        None => "",
-    }
-}
-
-fn uid_text(tree: &Value) -> Option<&str>
-    ensures { option_map (λ s. s.now) result ≡ option_and_then as_str (in_metadata (codes "uid") (view tree.now)) }
-{
-    tree.get("metadata")?.get("uid")?.as_str()
+    let uid = object.uid(alloc)?;
+    deletion_text(alloc, subject, uid.as_str())
 }
 
 /// A body is empty, or options that ask for nothing but to delete.

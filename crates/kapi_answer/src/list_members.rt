@@ -1,11 +1,11 @@
 //! Members and items of JSON texts, written one after the other.
 ghost use Rattle.std.specs.Prelude.{◌≡◌, ◌++◌, ◌∷◌, OnOk};
 ghost use Rattle.json.specs.Print.{quoted};
-ghost use Rattle.kapi_tree.specs.Object.{tree_of};
+ghost use Rattle.kapi_store.specs.Stored.{stored_tree};
 ghost use Rattle.serde_json.specs.Written.{comma_if, compact_text};
 
+use kapi_store::StoredObject;
 use kapi_text::Memory;
-use kapi_tree::Object;
 use kapi_tree::tree_form::quote;
 use std::alloc::Global;
 
@@ -35,16 +35,14 @@ fn push_text(alloc: Global, text: &mut Vec<u8>, value: &str) -> Result<(), Memor
 
 /// Writes an object as an item of an array: after a comma, where an item comes before it.
 pub(crate) fn push_item(
-    alloc: Global,
     text: &mut Vec<u8>,
     later: bool,
-    object: &Object,
+    object: &StoredObject,
 ) -> Result<(), Memory>
-    ensures { OnOk result (text.new.items ≡ text.old.items ++ (comma_if later ++ compact_text (tree_of object.now))) }
+    ensures { OnOk result (text.new.items ≡ text.old.items ++ (comma_if later ++ compact_text (stored_tree object.now))) }
 {
     if later {
         text.push(b',')?;
     }
-    let rendered = object.render(alloc)?;
-    text.extend_from_slice(rendered.as_slice())
+    text.extend_from_slice(object.text().as_bytes())
 }

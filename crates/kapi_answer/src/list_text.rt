@@ -1,6 +1,6 @@
 //! Lists of objects as JSON texts.
 ghost use Rattle.std.specs.Prelude.{◌≡◌, ◌++◌, IfOk, OnOk, codes, map, string_bytes};
-ghost use Rattle.kapi_tree.specs.Object.{tree_of};
+ghost use Rattle.kapi_store.specs.Stored.{stored_tree};
 ghost use Rattle.kapi_admission.specs.Admission.{version_of};
 ghost use Rattle.kapi_answer.specs.List.{list_tree};
 ghost use Rattle.serde_json.specs.Data.{array};
@@ -21,7 +21,7 @@ pub fn list_text(
     listed: &[Listed<'_>],
     revision: u64,
 ) -> Result<Vec<u8>, Memory>
-    ensures { IfOk result (λ b. b.items ≡ compact_text (list_tree row.now (map (λ l. tree_of l.object.now) listed.now) revision)) }
+    ensures { IfOk result (λ b. b.items ≡ compact_text (list_tree row.now (map (λ l. stored_tree l.object.now) listed.now) revision)) }
 {
     let version = api_version(alloc, row)?;
     let kind = list_kind(alloc, row)?;
@@ -29,7 +29,7 @@ pub fn list_text(
     let mut text = Vec::new(alloc);
     push_member(alloc, &mut text, b"{", "apiVersion", version.as_str())?;
     text.extend_from_slice(br#","items":"#)?;
-    push_array(alloc, &mut text, listed)?;
+    push_array(&mut text, listed)?;
     push_member(alloc, &mut text, b",", "kind", kind.as_str())?;
     push_member(
         alloc,
@@ -65,13 +65,13 @@ fn list_kind(alloc: Global, row: &ResourceRow) -> Result<String, Memory>
 }
 
 /// Writes the objects as an array.
-fn push_array(alloc: Global, text: &mut Vec<u8>, listed: &[Listed<'_>]) -> Result<(), Memory>
-    ensures { OnOk result (text.new.items ≡ text.old.items ++ compact_text (array (items_of (map (λ l. tree_of l.object.now) listed.now)))) }
+fn push_array(text: &mut Vec<u8>, listed: &[Listed<'_>]) -> Result<(), Memory>
+    ensures { OnOk result (text.new.items ≡ text.old.items ++ compact_text (array (items_of (map (λ l. stored_tree l.object.now) listed.now)))) }
 {
     text.push(b'[')?;
     let mut later = false;
     for one in listed {
-        push_item(alloc, text, later, one.object.get())?;
+        push_item(text, later, one.object.get())?;
         later = true;
     }
     text.push(b']')?;

@@ -1,9 +1,11 @@
 //! Loading the objects that a server begins with.
-ghost use Rattle.std.specs.Prelude.{◌≡◌, Ok, Some, true, IfOk, codes, map as map_of, ok_or, option_map};
+ghost use Rattle.std.specs.Prelude.{◌≡◌, ◌≤◌, Ok, Some, true, IfOk, codes, map as map_of, ok_or, option_map};
 ghost use Rattle.std.specs.Option.{option_copied};
 ghost use Rattle.std.specs.List.{find};
 ghost use Rattle.std.specs.Str.{bytes_eq};
+ghost use Rattle.serde_json.specs.Data.{depth};
 ghost use Rattle.serde_json.specs.Find.{get};
+ghost use Rattle.serde_json.specs.Read.{max_depth};
 ghost use Rattle.serde_json.specs.View.{view};
 ghost use Rattle.kapi_text.specs.Gives.{Gives};
 ghost use Rattle.kapi_admission.specs.Admission.{version_of};
@@ -77,6 +79,7 @@ pub fn load(alloc: Global, store: &mut Store, text: &[u8]) -> Result<Ready, Load
 fn read(alloc: Global, text: &[u8]) -> Result<Value, LoadError>
     ensures object { Gives fault_told view result (ok_or (json_object text.now) bad_object) }
     ensures ordered { IfOk result (λ v. is_ordered (view v) ≡ true) }
+    ensures nests { IfOk result (λ v. depth (view v) ≤ max_depth) }
 {
     match read_tree(alloc, text) {
         Ok(tree) => Ok(tree),
@@ -89,6 +92,7 @@ fn read(alloc: Global, text: &[u8]) -> Result<Value, LoadError>
 #[tactic(auto, unfolding(crate::specs::Load::to_load))]
 fn check_load(alloc: Global, store: &Store, tree: Value) -> Result<NewObject, LoadError>
     requires ordered { is_ordered (view tree) ≡ true }
+    requires nests { depth (view tree) ≤ max_depth }
     ensures gives { Gives fault_told new_data result (to_load (plain_of store.now) (view tree)) }
     ensures free { IfOk result (λ new. free_place (plain_of store.now) new.key ≡ Ok tt) }
 {
@@ -111,6 +115,7 @@ fn check_on(
     tree: Value,
 ) -> Result<NewObject, LoadError>
     requires ordered { is_ordered (view tree) ≡ true }
+    requires nests { depth (view tree) ≤ max_depth }
     ensures gives { Gives fault_told new_data result (on_load (to_create_tree (plain_of store.now) row.now namespace.now (view tree))) }
     ensures free { IfOk result (λ new. free_place (plain_of store.now) new.key ≡ Ok tt) }
 {
@@ -129,6 +134,7 @@ fn check_tree(
     tree: Value,
 ) -> Result<NewObject, CheckError>
     requires ordered { is_ordered (view tree) ≡ true }
+    requires nests { depth (view tree) ≤ max_depth }
     ensures gives { Gives refused_by new_data result (to_create_tree (plain_of store.now) row.now namespace.now (view tree)) }
     ensures free { IfOk result (λ new. free_place (plain_of store.now) new.key ≡ Ok tt) }
 {

@@ -129,7 +129,7 @@ fn answer_valid<P: Policy>(
 ) -> Result<Object, CheckError>
     ensures { Gives refused_by tree_of result (valid [] (reviewed (P.content policy.now) identity.now kind (tree_of object.now))) }
 {
-    match review(alloc, policy, identity, kind, object) {
+    match review(alloc, policy, identity, kind, object.as_tree()) {
         Ok(answer) => Ok(answer),
         Err(ReviewError::Invalid(faults)) => {
             Err(refused(Text::copy_of(alloc, "")?, Refusal::Invalid(faults)))

@@ -1,6 +1,8 @@
 //! The update of an object, whole or in its status, and its patch.
-ghost use Rattle.std.specs.Prelude.{◌≡◌, Ok, Some, true, IfOk, IfSome};
+ghost use Rattle.std.specs.Prelude.{◌≡◌, ◌≤◌, Ok, Some, true, IfOk, IfSome};
 ghost use Rattle.std.specs.Map.{lookup};
+ghost use Rattle.serde_json.specs.Data.{depth};
+ghost use Rattle.serde_json.specs.Read.{max_depth};
 ghost use Rattle.serde_json.specs.View.{view};
 ghost use Rattle.kapi_text.specs.Gives.{Gives, ◌>>=◌ as and_then};
 ghost use Rattle.kapi_tree.specs.Object.{tree_of};
@@ -10,6 +12,7 @@ ghost use Rattle.kapi_reply.specs.Refusals.{refused_by};
 ghost use Rattle.kapi_store.specs.Keys.{is_key};
 ghost use Rattle.kapi_store.specs.Plain.{plain_of};
 ghost use Rattle.kapi_store.specs.State.{Fits};
+ghost use Rattle.kapi_store.specs.Stored.{stored_tree};
 ghost use Rattle.kapi_answer.specs.Create.{stored, valid};
 ghost use Rattle.kapi_answer.specs.Outcomes.{Stands, admitted_data, new_data, object_data, outcome_data};
 ghost use Rattle.kapi_answer.specs.Update as updates;
@@ -27,7 +30,7 @@ use kapi_model::{FieldFault, ResourceRow};
 use kapi_patch::merge_patch;
 use kapi_reply::{BadWord, CheckError, Content, Refusal};
 use kapi_route::Part;
-use kapi_store::{Key, Shared, Store};
+use kapi_store::{Key, Shared, Store, StoredObject};
 use kapi_text::{Memory, Sequence, Text, TryCopy};
 use kapi_tree::{GivenText, Object};
 use serde_json::Value;
@@ -72,6 +75,7 @@ pub fn check_patch(
 fn read_patch(alloc: Global, body: &[u8]) -> Result<Value, CheckError>
     ensures gives { Gives refused_by view result (patch_of body.now) }
     ensures ordered { IfOk result (λ v. is_ordered (view v) ≡ true) }
+    ensures nests { IfOk result (λ v. depth (view v) ≤ max_depth) }
 {
     match read_tree(alloc, body) {
         Ok(patch) => Ok(patch),
@@ -81,11 +85,14 @@ fn read_patch(alloc: Global, body: &[u8]) -> Result<Value, CheckError>
 }
 
 /// The object's tree with a patch applied.
-fn merge(alloc: Global, object: &Object, patch: &Value) -> Result<Value, Memory>
-    requires { is_ordered (view patch.now) ≡ true }
-    ensures tree { IfOk result (λ v. view v ≡ merged (tree_of object.now) (view patch.now)) }
+fn merge(alloc: Global, object: &StoredObject, patch: &Value) -> Result<Value, Memory>
+    requires ordered { is_ordered (view patch.now) ≡ true }
+    requires nests { depth (view patch.now) ≤ max_depth }
+    ensures tree { IfOk result (λ v. view v ≡ merged (stored_tree object.now) (view patch.now)) }
     ensures ordered { IfOk result (λ v. is_ordered (view v) ≡ true) }
+    ensures nests { IfOk result (λ v. depth (view v) ≤ max_depth) }
 {
+    let object = object.object(alloc)?;
     let merged = merge_patch(alloc, object.as_tree(), patch)?;
     Ok(merged)
 }
@@ -123,9 +130,9 @@ fn in_place_of(
     old: &Shared,
     object: Result<Object, Sequence<FieldFault>>,
 ) -> Result<Replacement, CheckError>
-    ensures gives { Gives refused_by (λ r. new_data r.new) result (and_then (valid key.name (object_data object)) (λ tree. Ok (key, updates.replacing part row.now key (tree_of old.now) tree))) }
+    ensures gives { Gives refused_by (λ r. new_data r.new) result (and_then (valid key.name (object_data object)) (λ tree. Ok (key, updates.replacing part row.now key (stored_tree old.now) tree))) }
     ensures key { IfOk result (λ r. r.new.key ≡ key) }
-    ensures old { IfOk result (λ r. tree_of r.old ≡ tree_of old.now) }
+    ensures old { IfOk result (λ r. stored_tree r.old ≡ stored_tree old.now) }
 {
     let object = check_validity(alloc, &key.name, object)?;
     let object = replacing(alloc, part, row, &key, old.get(), object)?;
@@ -154,8 +161,8 @@ fn replaceable<'a>(
     key: &Key,
     given: &GivenText,
 ) -> Result<&'a Shared, CheckError>
-    ensures gives { Gives refused_by (λ o. tree_of o.now) result (stored key.now.name (Rattle.kapi_store.specs.Plain.replaceable (plain_of store.now) key.now given.now)) }
-    ensures found { IfOk result (λ o. lookup (is_key key.now) (plain_of store.now).objects ≡ Some (tree_of o.now)) }
+    ensures gives { Gives refused_by (λ o. stored_tree o.now) result (stored key.now.name (Rattle.kapi_store.specs.Plain.replaceable (plain_of store.now) key.now given.now)) }
+    ensures found { IfOk result (λ o. lookup (is_key key.now) (plain_of store.now).objects ≡ Some (stored_tree o.now)) }
 {
     match store.replaceable(key, given) {
         Ok(object) => Ok(object),
@@ -170,10 +177,10 @@ fn replacing(
     part: Part,
     row: &ResourceRow,
     key: &Key,
-    old: &Object,
+    old: &StoredObject,
     object: Object,
 ) -> Result<Object, Memory>
-    ensures { IfOk result (λ o. tree_of o ≡ updates.replacing part row.now key.now (tree_of old.now) (tree_of object)) }
+    ensures { IfOk result (λ o. tree_of o ≡ updates.replacing part row.now key.now (stored_tree old.now) (tree_of object)) }
 {
     match part {
         Part::Object => {
@@ -181,7 +188,7 @@ fn replacing(
             let object = with_namespace(alloc, row, key.namespace.as_str(), object)?;
             keep_status(alloc, row, old, object)
         }
-        Part::Status => old.copy(alloc)?.with_status_of(alloc, &object),
+        Part::Status => old.object(alloc)?.with_status_of(alloc, &object),
     }
 }
 
@@ -190,13 +197,13 @@ fn replacing(
 fn keep_status(
     alloc: Global,
     row: &ResourceRow,
-    old: &Object,
+    old: &StoredObject,
     object: Object,
 ) -> Result<Object, Memory>
-    ensures { IfOk result (λ o. tree_of o ≡ keeping_status row.now (tree_of old.now) (tree_of object)) }
+    ensures { IfOk result (λ o. tree_of o ≡ keeping_status row.now (stored_tree old.now) (tree_of object)) }
 {
     if row.has_status {
-        object.with_status_of(alloc, old)
+        object.with_status_of(alloc, &old.object(alloc)?)
     } else {
         Ok(object)
     }

@@ -4,20 +4,19 @@ ghost use Rattle.std.specs.Prelude.{◌≡◌, [], true, codes, IfOk, Some};
 ghost use Rattle.serde_json.specs.View.{view};
 ghost use Rattle.kapi_admission.specs.Admission.{read_as};
 ghost use Rattle.kapi_core.specs.Table.{access_reviews_row, row_of};
-ghost use Rattle.kapi_tree.specs.Object.{tree_of};
 ghost use Rattle.kapi_tree.specs.Order.{is_ordered};
 ghost use Rattle.kapi_reviews.specs.Questions.{at, question};
 ghost use Rattle.kapi_reviews.specs.declared.kind.ReviewKind.TheVariants as ReviewKind;
 ghost use Rattle.kapi_audit.specs.Questions as asks;
 ghost use Rattle.kapi_audit.specs.Questions.{review_of};
 
-use kapi_admission::{ObjectError, admit_tree, read_tree};
+use kapi_admission::{ObjectError, admitted_tree, read_tree};
 use kapi_core::Resource;
 use kapi_model::{Identity, ResourceRow, Schema};
 use kapi_policy::PlainPolicy;
 use kapi_reviews::{Question, ReviewError, ReviewKind, read_question, review};
 use kapi_text::{Memory, Sequence, Text};
-use kapi_tree::{Object, member};
+use kapi_tree::member;
 use serde_json::{Map, Value, put};
 use std::alloc::{AllocError, Global};
 
@@ -58,8 +57,8 @@ fn question_in(alloc: Global, row: &ResourceRow, spec: Value) -> Result<Option<Q
 {
     let mut members = Map::new(alloc);
     put(&mut members, alloc, "spec", spec)?;
-    match admit_tree(alloc, row, Value::Object(members)) {
-        Ok(object) => question_by(alloc, &object),
+    match admitted_tree(alloc, row, Value::Object(members)) {
+        Ok(review) => question_by(alloc, &review),
         Err(ObjectError::Memory) => Err(AllocError),
         Err(_other) => Ok(None),
     }
@@ -67,12 +66,12 @@ fn question_in(alloc: Global, row: &ResourceRow, spec: Value) -> Result<Option<Q
 
 /// The question that a review asks, where it has no fault.
 #[tactic(auto, unfolding(crate::specs::Questions::asked_by))]
-fn question_by(alloc: Global, object: &Object) -> Result<Option<Question>, Memory>
-    ensures { IfOk result (λ q. q ≡ asks.asked_by (tree_of object.now)) }
+fn question_by(alloc: Global, tree: &Value) -> Result<Option<Question>, Memory>
+    ensures { IfOk result (λ q. q ≡ asks.asked_by (view tree.now)) }
 {
     let nobody = nobody(alloc)?;
-    if has_no_fault(alloc, &nobody, object)? {
-        Ok(Some(question_in_review(alloc, &nobody, object)?))
+    if has_no_fault(alloc, &nobody, tree)? {
+        Ok(Some(question_in_review(alloc, &nobody, tree)?))
     } else {
         Ok(None)
     }
@@ -80,8 +79,8 @@ fn question_by(alloc: Global, object: &Object) -> Result<Option<Question>, Memor
 
 /// Whether a review has no fault: whether a server over an empty policy answers it.
 #[tactic(auto, unfolding(kapi_reviews::specs::Reviews::reviewed))]
-fn has_no_fault(alloc: Global, nobody: &Identity, object: &Object) -> Result<bool, Memory>
-    ensures { IfOk result (λ b. b ≡ asks.has_no_fault (tree_of object.now)) }
+fn has_no_fault(alloc: Global, nobody: &Identity, tree: &Value) -> Result<bool, Memory>
+    ensures { IfOk result (λ b. b ≡ asks.has_no_fault (view tree.now)) }
 {
     let nothing = PlainPolicy::new(alloc);
     match review(
@@ -89,7 +88,7 @@ fn has_no_fault(alloc: Global, nobody: &Identity, object: &Object) -> Result<boo
         &nothing,
         nobody,
         ReviewKind::SubjectAccessReview,
-        object,
+        tree,
     ) {
         Ok(_answer) => Ok(true),
         Err(ReviewError::Invalid(_faults)) => Ok(false),
@@ -98,11 +97,11 @@ fn has_no_fault(alloc: Global, nobody: &Identity, object: &Object) -> Result<boo
 }
 
 /// What the `spec` of a review asks.
-fn question_in_review(alloc: Global, nobody: &Identity, object: &Object) -> Result<Question, Memory>
-    ensures { IfOk result (λ q. q ≡ question ReviewKind.SubjectAccessReview [] nobody.now (at (codes "spec") (tree_of object.now))) }
+fn question_in_review(alloc: Global, nobody: &Identity, tree: &Value) -> Result<Question, Memory>
+    ensures { IfOk result (λ q. q ≡ question ReviewKind.SubjectAccessReview [] nobody.now (at (codes "spec") (view tree.now))) }
 {
     let nothing = Value::Null;
-    let spec = member(object.as_tree(), "spec").unwrap_or(&nothing);
+    let spec = member(tree, "spec").unwrap_or(&nothing);
     read_question(alloc, ReviewKind::SubjectAccessReview, "", nobody, spec)
 }
 

@@ -1,7 +1,8 @@
 -- One rule more among those that are found by their entries.
-use Rattle.std.proofs.Common.{◌≡◌, ℕ, zero, suc, ◌==◌, ◌<◌, Bool, true, false, not, ◌&&◌, ◌||◌, ◌⊎◌, inl, inr, if◌then◌else◌, List, [], ◌∷◌, ◌++◌, length, map, get_or, refl, ap, subst, sym, ◌∙◌, arith}
-use Rattle.std.proofs.lemmas.Bool.{and_parts, eqb-true, or_cases, or_left, or_right}
+use Rattle.std.proofs.Common.{◌≡◌, ℕ, zero, suc, ◌==◌, ◌+◌, ◌<◌, ◌≤◌, nat_lt, Bool, true, false, not, ◌&&◌, ◌||◌, ◌⊎◌, inl, inr, if◌then◌else◌, List, [], ◌∷◌, ◌++◌, length, map, get_or, refl, ap, subst, sym, ◌∙◌, arith}
+use Rattle.std.proofs.lemmas.Bool.{and_parts, eqb-true, ltb-false, ltb-true, or_cases, or_left, or_right}
 use Rattle.std.proofs.lemmas.Bool.Decides.{nat_tests}
+use Rattle.std.specs.Global.{Vec}
 use Rattle.std.specs.List.{list_any}
 use Rattle.std.specs.Str.{bytes_eq}
 use Rattle.kapi_text.proofs.Booleans.{and_true, by_truth}
@@ -15,6 +16,7 @@ use Rattle.kapi_missing.specs.Private.Sets.{has_number, in_words, stands, stands
 use Rattle.kapi_missing.specs.Private.Marks.{at, some_has}
 use Rattle.kapi_missing.specs.Private.Bars.{barred, entries_in, is_near_to, meets, name_marks, rule_in, some_name_met}
 use Rattle.kapi_missing.specs.Private.Stopped.{stops_at}
+use Rattle.kapi_missing.specs.declared.bars.Bar.{Bar}
 use Rattle.kapi_missing.specs.declared.bars.Dimension.{Dimension}
 use Rattle.kapi_missing.specs.declared.bars.Sort.{Sort}
 use Rattle.kapi_missing.specs.declared.bars.Dimension.TheVariants as dimension
@@ -107,50 +109,6 @@ at_kept f [] y m h = absurd cc
 at_kept f (x ∷ xs) y zero h = h
 at_kept f (x ∷ xs) y (suc m) h = at_kept f xs y m h
 
-at_last : {X : Type 0} (f : X → Bool) (xs : List X) (y : X) → at (map f (xs ++ y ∷ [])) (length xs) ≡ f y
-at_last f [] y = refl
-at_last f (x ∷ xs) y = at_last f xs y
-
--- what is put under a test of a rule is of rules that pass it
-one_exact : (p : PolicyRule → Bool) (rules : List PolicyRule) (rule : PolicyRule) (n m : ℕ) (before now : Bool) → n ≡ length rules
-    → (before ≡ true → at (map p rules) m ≡ true) → (now ≡ true → (before || (p rule && (n == m))) ≡ true) → now ≡ true → at (map p (rules ++ rule ∷ [])) m ≡ true
-one_exact p rules rule n m before now last were only h = by_case (or_cases before (p rule && (n == m)) (only h))
-  where
-    by_case : (before ≡ true) ⊎ ((p rule && (n == m)) ≡ true) → at (map p (rules ++ rule ∷ [])) m ≡ true
-    by_case (inl there) = at_kept p rules rule m (were there)
-    by_case (inr own) =
-        let parts = and_parts (p rule) (n == m) own in
-        ap (λ k. at (map p (rules ++ rule ∷ [])) k) (sym (eqb-true n m parts.1) ∙ last) ∙ at_last p rules rule ∙ parts.0
-
-exact_more : (old new : Bars) (rule : PolicyRule) (n : ℕ) → n ≡ length (rules_in old) → rules_in new ≡ rules_in old ++ rule ∷ []
-    → AddsOnly old.index new.index rule n → IsExact old → IsExact new
-exact_more old new rule n last same only exact = (
-  λ d e m h.
-      ap (λ rs. at (map (lists d e) rs) m) same
-      ∙ one_exact (lists d e) (rules_in old) rule n m (stands_under (sets_in d old.index) e m) (stands_under (sets_in d new.index) e m) last (exact.0 d e m) (only.0 d e m) h,
-  λ m h.
-      ap (λ rs. at (map (λ b. length b.resource_names == 0) rs) m) same
-      ∙ one_exact (λ b. length b.resource_names == 0) (rules_in old) rule n m (stands old.index.nameless.items m) (stands new.index.nameless.items m) last (exact.1 m) (only.1 m) h,
-)
-
-pub one_more : (held : Bool) (rules : List PolicyRule) (rule : PolicyRule) (old new : Bars) (n : ℕ) → n ≡ length (rules_in old)
-    → new.is_held ≡ old.is_held → rules_in new ≡ rules_in old ++ rule ∷ [] → IsPlaced new.index n rule → Keeps old.index new.index → AddsOnly old.index new.index rule n
-    → AreBars held rules old → AreBars held (rules ++ rule ∷ []) new
-one_more held rules rule old new n last same_held same_rules own keeps only are = (
-  same_held ∙ are.0,
-  same_rules ∙ ap (λ rs. rs ++ rule ∷ []) are.1,
-  (
-    λ m r is.
-        let here : IsAt (rules_in old ++ rule ∷ []) m r = subst (λ (rs : List PolicyRule). IsAt rs m r) same_rules is in
-        by_case m r (at_more (rules_in old) rule m r here),
-    exact_more old new rule n last same_rules only are.2.1,
-  ),
-)
-  where
-    by_case : (m : ℕ) (r : PolicyRule) → IsAt (rules_in old) m r ⊎ ((m ≡ length (rules_in old)) × (rule ≡ r)) → IsPlaced new.index m r
-    by_case m r (inl before) = kept old.index new.index m r keeps (are.2.0 m r before)
-    by_case m r (inr now) = subst (λ (k : ℕ). IsPlaced new.index k r) (last ∙ sym now.0) (subst (λ (q : PolicyRule). IsPlaced new.index n q) now.1 own)
-
 pub map_push : {X Y : Type 0} (f : X → Y) (xs : List X) (x : X) → map f (xs ++ x ∷ []) ≡ map f xs ++ f x ∷ []
 map_push f [] x = refl
 map_push f (y ∷ xs) x = ap (λ r. f y ∷ r) (map_push f xs x)
@@ -158,6 +116,96 @@ map_push f (y ∷ xs) x = ap (λ r. f y ∷ r) (map_push f xs x)
 pub map_long : {X Y : Type 0} (f : X → Y) (xs : List X) → length xs ≡ length (map f xs)
 map_long f [] = refl
 map_long f (x ∷ xs) = ap suc (map_long f xs)
+
+longer : {X : Type 0} (xs : List X) (y : X) (n : ℕ) → n ≤ length xs → n ≤ length (xs ++ y ∷ [])
+longer [] y n h = omega (arith, h)
+longer (x ∷ xs) y zero h = omega arith
+longer (x ∷ xs) y (suc n) h = let less : n ≤ length xs = omega (arith, h) in let more = longer xs y n less in omega (arith, more)
+
+-- the last rule is not placed yet
+pub one_bar : (held : Bool) (rules : List PolicyRule) (rule : PolicyRule) (old : Bars) (more : Vec Bar) → map rule_in more.items ≡ rules_in old ++ rule ∷ []
+    → AreBars held rules old → AreBars held (rules ++ rule ∷ []) (record { is_held = old.is_held; rules = more; index = old.index; placed = old.placed })
+one_bar held rules rule old more same are = (
+  are.0,
+  same ∙ ap (λ rs. rs ++ rule ∷ []) are.1,
+  (
+    subst (λ (rs : List PolicyRule). old.placed ≤ length rs) (sym same) (longer (rules_in old) rule old.placed are.2.0),
+    λ m r below is.
+        let here : IsAt (rules_in old ++ rule ∷ []) m r = subst (λ (rs : List PolicyRule). IsAt rs m r) same is in by_case m r below (at_more (rules_in old) rule m r here),
+    (
+      λ d e m h. ap (λ rs. at (map (lists d e) rs) m) same ∙ at_kept (lists d e) (rules_in old) rule m (are.2.2.0 d e m h),
+      λ m h. ap (λ rs. at (map (λ b. length b.resource_names == 0) rs) m) same ∙ at_kept (λ b. length b.resource_names == 0) (rules_in old) rule m (are.2.2.1 m h),
+    ),
+  ),
+)
+  where
+    by_case : (m : ℕ) (r : PolicyRule) → m < old.placed → IsAt (rules_in old) m r ⊎ ((m ≡ length (rules_in old)) × (rule ≡ r)) → IsPlaced old.index m r
+    by_case m r below (inl before) = are.2.1 m r below before
+    by_case m r below (inr now) = let short = are.2.0 in let last = now.0 in absurd (omega (arith, below, short, last))
+
+-- ---- one more is placed
+
+at_one : {X : Type 0} (xs : List X) (n : ℕ) (x y : X) → IsAt xs n x → IsAt xs n y → x ≡ y
+at_one [] n x y one two = absurd one
+at_one (z ∷ xs) zero x y one two = sym one ∙ two
+at_one (z ∷ xs) (suc n) x y one two = at_one xs n x y one two
+
+marks_at : {X : Type 0} (p : X → Bool) (xs : List X) (n : ℕ) (x : X) → IsAt xs n x → at (map p xs) n ≡ p x
+marks_at p [] n x is = absurd is
+marks_at p (y ∷ xs) zero x is = ap p is
+marks_at p (y ∷ xs) (suc n) x is = marks_at p xs n x is
+
+pub rule_at : {X Y : Type 0} (g : X → Y) (xs : List X) (n : ℕ) (x : X) → n < length xs → x ≡ get_or xs n x → IsAt (map g xs) n (g x)
+rule_at g [] n x within is = absurd (omega arith)
+rule_at g (y ∷ xs) zero x within is = ap g (sym is)
+rule_at g (y ∷ xs) (suc n) x within is = let less : n < length xs = omega arith in rule_at g xs n x less is
+
+-- what is put under a test of a rule is of rules that pass it
+one_exact : (p : PolicyRule → Bool) (rules : List PolicyRule) (rule : PolicyRule) (n m : ℕ) (before now : Bool) → IsAt rules n rule
+    → (before ≡ true → at (map p rules) m ≡ true) → (now ≡ true → (before || (p rule && (n == m))) ≡ true) → now ≡ true → at (map p rules) m ≡ true
+one_exact p rules rule n m before now here were only h = by_case (or_cases before (p rule && (n == m)) (only h))
+  where
+    by_case : (before ≡ true) ⊎ ((p rule && (n == m)) ≡ true) → at (map p rules) m ≡ true
+    by_case (inl there) = were there
+    by_case (inr own) =
+        let parts = and_parts (p rule) (n == m) own in ap (λ k. at (map p rules) k) (sym (eqb-true n m parts.1)) ∙ marks_at p rules n rule here ∙ parts.0
+
+pub one_placed : (held : Bool) (rules : List PolicyRule) (old : Bars) (index : Index) (n : ℕ) (rule : PolicyRule) → old.placed ≡ n → IsAt (rules_in old) n rule
+    → IsPlaced index n rule → Keeps old.index index → AddsOnly old.index index rule n
+    → AreBars held rules old → AreBars held rules (record { is_held = old.is_held; rules = old.rules; index = index; placed = n + 1 })
+one_placed held rules old index n rule next here own keeps only are = (
+  are.0,
+  are.1,
+  (
+    let within = at_within (rules_in old) n rule here in omega (arith, within),
+    λ m r below is. by_case m r is (nat_lt m n) refl below,
+    (
+      λ d e m h. one_exact (lists d e) (rules_in old) rule n m (stands_under (sets_in d old.index) e m) (stands_under (sets_in d index) e m) here (are.2.2.0 d e m) (only.0 d e m) h,
+      λ m h. one_exact (λ b. length b.resource_names == 0) (rules_in old) rule n m (stands old.index.nameless.items m) (stands index.nameless.items m) here (are.2.2.1 m) (only.1 m) h,
+    ),
+  ),
+)
+  where
+    by_case : (m : ℕ) (r : PolicyRule) → IsAt (rules_in old) m r → (t : Bool) → nat_lt m n ≡ t → m < n + 1 → IsPlaced index m r
+    by_case m r is true before below =
+        let less : m < n = ltb-true m n before in
+        let within : m < old.placed = rw next less in kept old.index index m r keeps (are.2.1 m r within is)
+    by_case m r is false behind below =
+        let not_less : n ≤ m = ltb-false m n behind in
+        let same : n ≡ m = omega (arith, not_less, below) in
+        let one : rule ≡ r = at_one (rules_in old) n rule r here (subst (λ (k : ℕ). IsAt (rules_in old) k r) (sym same) is) in
+        subst (λ (k : ℕ). IsPlaced index k r) same (subst (λ (q : PolicyRule). IsPlaced index n q) one own)
+
+-- where all are placed that stand among the rules
+pub all_placed : (held : Bool) (rules : List PolicyRule) (bars : Bars) (count : ℕ) → count ≡ length bars.rules.items → count ≤ bars.placed
+    → AreBars held rules bars → AreAllPlaced bars
+all_placed held rules bars count is enough are = (
+  λ n rule here.
+      let within : n < length (rules_in bars) = at_within (rules_in bars) n rule here in
+      let below : n < count = rw (is ∙ map_long rule_in bars.rules.items) within in
+      let under : n < bars.placed = omega (arith, below, enough) in are.2.1 n rule under here,
+  are.2.2,
+)
 
 -- ---- all that bar are near
 

@@ -13,9 +13,10 @@ use Rattle.kapi_rules.specs.declared.atom.Names.TheVariants as names
 use Rattle.kapi_missing.proofs.Each.{each_none, no_group_left, no_url_left}
 use Rattle.kapi_missing.proofs.Repeats.{filter_append}
 use Rattle.kapi_missing.specs.Private.Bars.{entries_in}
+use Rattle.kapi_missing.specs.Private.Index.{AreBars}
 use Rattle.kapi_missing.specs.Private.Left.{is_stopped, left, left_atoms, left_of, left_urls, near_group, near_url}
 use Rattle.kapi_missing.specs.Private.Slices.{AddsLeft, may_cut, with_entries}
-use Rattle.kapi_missing.specs.Private.Rules.{AreRules}
+use Rattle.kapi_missing.specs.Private.Rules.{AreRules, AreRulesPlaced}
 use Rattle.kapi_missing.specs.declared.bars.Dimension.{Dimension}
 use Rattle.kapi_missing.specs.declared.bars.Dimension.TheVariants as dimension
 use Rattle.kapi_missing.specs.declared.marks.Marks.{Marks}
@@ -155,25 +156,33 @@ one_plan old plan = flat_map-append left_of old (plan ∷ []) ∙ ap (λ (r : Li
 pub no_plan : (old : List Plan) (plan : Plan) → left_of plan ≡ [] → flat_map left_of old ≡ flat_map left_of old ++ left_of plan
 no_plan old plan is = rw is (sym (append-nil (flat_map left_of old)))
 
-module _ (rules : Rules) where
-  pub adds_plan : (old new : List Plan) (rule : PolicyRule) (plan : Plan) → ((hs es : List PolicyRule) → AreRules hs es rules → left_of plan ≡ left_atoms hs es rule)
-      → flat_map left_of new ≡ flat_map left_of old ++ left_of plan → AddsLeft rules old new rule
-  adds_plan old new rule plan is grown = λ hs es are. grown ∙ ap (λ (r : List Atom). flat_map left_of old ++ r) (is hs es are)
+pub adds_plan : (before after : Rules) (old new : List Plan) (rule : PolicyRule) (plan : Plan)
+    → ((hs es : List PolicyRule) → AreRules hs es before → AreRules hs es after × (left_of plan ≡ left_atoms hs es rule))
+    → flat_map left_of new ≡ flat_map left_of old ++ left_of plan → AddsLeft before after old new rule
+adds_plan before after old new rule plan is grown = λ hs es are.
+    let kept = is hs es are in (kept.0, grown ∙ ap (λ (r : List Atom). flat_map left_of old ++ r) kept.1)
 
-  two_halves : (hs es : List PolicyRule) (rule first second : PolicyRule) → atoms rule ≡ atoms first ++ atoms second
-      → left_atoms hs es rule ≡ left_atoms hs es first ++ left_atoms hs es second
-  unfolding left_atoms
-  two_halves hs es rule first second is = ap (filter (λ a. not (is_stopped hs es a))) is ∙ filter_append (λ a. not (is_stopped hs es a)) (atoms first) (atoms second)
+two_halves : (hs es : List PolicyRule) (rule first second : PolicyRule) → atoms rule ≡ atoms first ++ atoms second
+    → left_atoms hs es rule ≡ left_atoms hs es first ++ left_atoms hs es second
+unfolding left_atoms
+two_halves hs es rule first second is = ap (filter (λ a. not (is_stopped hs es a))) is ∙ filter_append (λ a. not (is_stopped hs es a)) (atoms first) (atoms second)
 
-  pub adds_both : (old middle new : List Plan) (rule first second : PolicyRule) → atoms rule ≡ atoms first ++ atoms second
-      → AddsLeft rules old middle first → AddsLeft rules middle new second → AddsLeft rules old new rule
-  adds_both old middle new rule first second is one two = λ hs es are.
-      two hs es are
-      ∙ ap (λ (r : List Atom). r ++ left_atoms hs es second) (one hs es are)
-      ∙ append_assoc (flat_map left_of old) (left_atoms hs es first) (left_atoms hs es second)
-      ∙ ap (λ (r : List Atom). flat_map left_of old ++ r) (sym (two_halves hs es rule first second is))
+pub adds_both : (before between after : Rules) (old middle new : List Plan) (rule first second : PolicyRule) → atoms rule ≡ atoms first ++ atoms second
+    → AddsLeft before between old middle first → AddsLeft between after middle new second → AddsLeft before after old new rule
+adds_both before between after old middle new rule first second is one two = λ hs es are.
+    let half = one hs es are in
+    let whole = two hs es half.0 in (
+      whole.0,
+      whole.1
+          ∙ ap (λ (r : List Atom). r ++ left_atoms hs es second) half.1
+          ∙ append_assoc (flat_map left_of old) (left_atoms hs es first) (left_atoms hs es second)
+          ∙ ap (λ (r : List Atom). flat_map left_of old ++ r) (sym (two_halves hs es rule first second is)),
+    )
 
-  pub adds_slim : (old new : List Plan) (rule slim : PolicyRule)
-      → ((hs es : List PolicyRule) → AreRules hs es rules → left_atoms hs es rule ≡ left_atoms hs es slim)
-      → AddsLeft rules old new slim → AddsLeft rules old new rule
-  adds_slim old new rule slim is grown = λ hs es are. grown hs es are ∙ ap (λ (r : List Atom). flat_map left_of old ++ r) (sym (is hs es are))
+pub adds_slim : (before between after : Rules) (old new : List Plan) (rule slim : PolicyRule)
+    → ((hs es : List PolicyRule) → AreRules hs es before → AreRulesPlaced hs es between)
+    → ((hs es : List PolicyRule) → AreBars true hs between.held → AreBars false es between.earlier → left_atoms hs es rule ≡ left_atoms hs es slim)
+    → AddsLeft between after old new slim → AddsLeft before after old new rule
+adds_slim before between after old new rule slim placed is grown = λ hs es are.
+    let all = placed hs es are in
+    let more = grown hs es all.0 in (more.0, more.1 ∙ ap (λ (r : List Atom). flat_map left_of old ++ r) (sym (is hs es all.0.0 all.0.1)))

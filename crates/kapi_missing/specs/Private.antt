@@ -15,3 +15,4 @@ pub mod Finding
 pub mod Table
 pub mod Tabled
 pub mod Rules
+pub mod Told

@@ -12,7 +12,7 @@ use crate::index::Bars;
 use crate::marks::{Marks, is_marked};
 use crate::rows::{Asked, known_of};
 use crate::single::{Positions, beside_word, is_stopped, is_surely_stopped};
-use crate::tabled::{Tabled, are_taken_beside, is_taken_at};
+use crate::tabled::{Tabled, are_all_taken_beside, are_taken_beside, is_taken_at};
 use kapi_model::PolicyRule;
 use kapi_text::Memory;
 use std::alloc::Global;
@@ -52,6 +52,16 @@ fn are_surely_stopped(part: &Marks, judge: &Judge<'_, '_, '_>, atom: Positions) 
     match judge {
         Judge::Rows(asked) => are_surely_barred(part, *asked, atom),
         Judge::Table(tabled) => are_taken_beside(*tabled, atom),
+    }
+}
+
+// Whether surely nothing is left beside the group and the resource of the atom.
+fn are_verbs_stopped(judge: &Judge<'_, '_, '_>, atom: Positions) -> bool
+    ensures { IsReady judge.now → result ≡ true → (k l : ℕ) → is_left judge.now atom.group atom.resource k l ≡ false }
+{
+    match judge {
+        Judge::Rows(_) => false,
+        Judge::Table(tabled) => are_all_taken_beside(*tabled, atom),
     }
 }
 
@@ -200,6 +210,9 @@ fn push_resource(
         && (at part.now.verbs.items k && (at part.now.names.items l && is_left judge.now i j k l)))))) }
 {
     if !is_marked(part.resources.as_slice(), atom.resource) {
+        return Ok(());
+    }
+    if are_verbs_stopped(judge, atom) {
         return Ok(());
     }
     push_verbs(alloc, list, part, judge, atom)

@@ -16,7 +16,7 @@ pub struct Entries<'a> {
     pub all: &'a [Text],
     pub set: BTreeSet<&'a str>,
     pub starred: Vec<&'a Text>,
-    ghost in_set: { 8 < length all.now → (w : List ℕ) → is_in set w ≡ list_any (λ e. bytes_eq e w) all.now },
+    ghost in_set: { 32 < length all.now → (w : List ℕ) → is_in set w ≡ list_any (λ e. bytes_eq e w) all.now },
     ghost with_star: { texts_at starred.items ≡ filter some_star all.now },
 }
 
@@ -31,9 +31,9 @@ pub fn made_ready<'a>(alloc: Global, all: &'a [Text]) -> Result<Entries<'a>, Mem
 
 // A set takes more memory than a short list, and a short list is as soon asked.
 fn long_set<'a>(alloc: Global, all: &'a [Text]) -> Result<BTreeSet<&'a str>, Memory>
-    ensures { IfOk result (λ s. 8 < length all.now → (w : List ℕ) → is_in s w ≡ list_any (λ e. bytes_eq e w) all.now) }
+    ensures { IfOk result (λ s. 32 < length all.now → (w : List ℕ) → is_in s w ≡ list_any (λ e. bytes_eq e w) all.now) }
 {
-    if all.len() > 8 {
+    if all.len() > 32 {
         words_of(alloc, all)
     } else {
         Ok(BTreeSet::new(alloc))
@@ -56,7 +56,7 @@ fn starred_of<'a>(alloc: Global, all: &'a [Text]) -> Result<Vec<&'a Text>, Memor
 pub fn lists(entries: &Entries<'_>, word: &str) -> bool
     ensures { result ≡ list_any (λ e. bytes_eq e word.now) entries.now.all.now }
 {
-    if entries.all.len() > 8 {
+    if entries.all.len() > 32 {
         has_word(&entries.set, word)
     } else {
         is_listed(entries.all, word)

@@ -1,8 +1,9 @@
 //! Rules that may stop atoms, found by the entries of the wanted rule.
-ghost use Rattle.std.specs.Prelude.{◌≡◌, ◌==◌, ◌∷◌, [], ◌++◌, ◌&&◌, ◌||◌, ℕ, Bool, List, length, true, IfOk, OnOk};
+ghost use Rattle.std.specs.Prelude.{◌≡◌, ◌==◌, ◌<◌, ◌+◌, ◌∷◌, [], ◌++◌, ◌&&◌, ◌||◌, ℕ, Bool, List, length, true, IfOk, OnOk};
 ghost use Rattle.std.specs.List.{list_any};
 ghost use Rattle.kapi_model.specs.declared.policy_rule.PolicyRule.{PolicyRule as PolicyRuleValue};
-ghost use Rattle.kapi_missing.specs.Private.Index.{AddsOnly, AreBars, IsPlaced, Keeps, has_pattern, is_starred as starred, open_start};
+ghost use Rattle.kapi_missing.specs.Private.Bars.{rule_in};
+ghost use Rattle.kapi_missing.specs.Private.Index.{AddsOnly, AreAllPlaced, AreBars, IsPlaced, Keeps, has_pattern, is_starred as starred, open_start};
 ghost use Rattle.kapi_missing.specs.Private.Sets.{stands, stands_at};
 
 use crate::bars::{Bar, bar_of};
@@ -26,12 +27,14 @@ pub struct Index<'a> {
     pub nameless: Vec<Block>,
 }
 
-/// Rules that may stop atoms: held ones, or wanted ones.
+/// Rules that may stop atoms: held ones, or wanted ones. So many of them stand in the index: the others are placed once it is
+/// asked, since many are stopped or found without it.
 #[derive(Drop)]
 pub struct Bars<'a> {
     pub is_held: bool,
     pub rules: Vec<Bar<'a>>,
     pub index: Index<'a>,
+    pub placed: usize,
 }
 
 /// No bars yet.
@@ -50,6 +53,7 @@ pub fn no_bars<'a>(alloc: Global, is_held: bool) -> Bars<'a>
             patterns: BTreeMap::new(alloc),
             nameless: Vec::new(alloc),
         },
+        placed: 0,
     }
 }
 
@@ -110,33 +114,46 @@ fn put_nameless(nameless: &mut Vec<Block>, names: &[Text], number: usize) -> Res
     }
 }
 
-fn place<'a>(index: &mut Index<'a>, rule: &'a PolicyRule, number: usize) -> Result<(), Memory>
-    ensures placed { OnOk result (IsPlaced index.new number rule.now) }
+fn place<'a>(index: &mut Index<'a>, bar: &Bar<'a>, number: usize) -> Result<(), Memory>
+    ensures placed { OnOk result (IsPlaced index.new number (rule_in bar.now)) }
     ensures kept { OnOk result (Keeps index.old index.new) }
-    ensures only { OnOk result (AddsOnly index.old index.new rule.now number) }
+    ensures only { OnOk result (AddsOnly index.old index.new (rule_in bar.now) number) }
 {
-    let urls = rule.non_resource_urls.as_slice();
-    put_under_all(&mut index.verbs, rule.verbs.as_slice(), number)?;
-    put_under_all(&mut index.groups, rule.api_groups.as_slice(), number)?;
-    put_under_all(&mut index.resources, rule.resources.as_slice(), number)?;
-    put_under_all(&mut index.names, rule.resource_names.as_slice(), number)?;
-    put_under_all(&mut index.urls, urls, number)?;
-    put_nameless(&mut index.nameless, rule.resource_names.as_slice(), number)?;
-    put_patterns(
-        &mut index.patterns,
-        rule.resources.as_slice(),
-        false,
-        number,
-    )?;
-    put_patterns(&mut index.patterns, urls, true, number)
+    put_under_all(&mut index.verbs, bar.verbs.all, number)?;
+    put_under_all(&mut index.groups, bar.groups.all, number)?;
+    put_under_all(&mut index.resources, bar.resources.all, number)?;
+    put_under_all(&mut index.names, bar.names.all, number)?;
+    put_under_all(&mut index.urls, bar.urls.all, number)?;
+    put_nameless(&mut index.nameless, bar.names.all, number)?;
+    put_patterns(&mut index.patterns, bar.resources.all, false, number)?;
+    put_patterns(&mut index.patterns, bar.urls.all, true, number)
 }
 
-/// One rule more.
+/// One rule more, which is not placed yet.
 pub fn add_bar<'a>(alloc: Global, bars: &mut Bars<'a>, rule: &'a PolicyRule) -> Result<(), Memory>
     ensures { OnOk result ((held : Bool) (rules : List PolicyRuleValue) → AreBars held rules bars.old → AreBars held (rules ++ rule.now ∷ []) bars.new) }
 {
-    let number = bars.rules.len();
-    place(&mut bars.index, rule, number)?;
     bars.rules.push(bar_of(alloc, rule)?)?;
+    Ok(())
+}
+
+fn place_next(bars: &mut Bars<'_>, number: usize) -> Result<(), Memory>
+    requires { number < length bars.old.rules.items }
+    ensures rules { OnOk result (bars.new.rules ≡ bars.old.rules) }
+    ensures placed { OnOk result (bars.new.placed ≡ number + 1) }
+    ensures bars { OnOk result ((held : Bool) (rules : List PolicyRuleValue) → bars.old.placed ≡ number → AreBars held rules bars.old → AreBars held rules bars.new) }
+{
+    place(&mut bars.index, &bars.rules[number], number)?;
+    bars.placed = number + 1;
+    Ok(())
+}
+
+/// Places the rules that are not yet, before the index is asked.
+pub fn place_rest(bars: &mut Bars<'_>) -> Result<(), Memory>
+    ensures { OnOk result ((held : Bool) (rules : List PolicyRuleValue) → AreBars held rules bars.old → AreBars held rules bars.new × AreAllPlaced bars.new) }
+{
+    for number in bars.placed..bars.rules.len() {
+        place_next(bars, number)?;
+    }
     Ok(())
 }

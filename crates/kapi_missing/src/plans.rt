@@ -8,14 +8,15 @@ ghost use Rattle.kapi_missing.specs.Private.Left.{left_atoms, left_of};
 ghost use Rattle.kapi_missing.specs.Private.Marks.{has, some_has};
 ghost use Rattle.kapi_missing.specs.Private.Once.{once};
 ghost use Rattle.kapi_missing.specs.Private.Slices.{AddsLeft};
-ghost use Rattle.kapi_missing.specs.Private.Rules.{AreRules};
+ghost use Rattle.kapi_missing.specs.Private.Rules.{AreRules, AreRulesPlaced};
+ghost use Rattle.kapi_missing.specs.Private.Told.{AreLeftOf, IsTold};
 ghost use Rattle.kapi_missing.specs.Private.Tabled.{IsMasked, IsTabled, is_taken};
 
 use crate::alone::{Judge, without_each};
 use crate::bars::{Dimension, Sort, whole_part};
 use crate::marks::{Marks, atoms_of, copy_of_part, push_parts, without};
 use crate::once::once_rule;
-use crate::rules::{Rules, add_earlier, held_rules, is_tabled, tabled};
+use crate::rules::{Rules, add_earlier, held_rules, is_tabled, place_all, tabled};
 use crate::slices::{Halves, by_sorts, cut, sliced_list};
 use crate::slim::slim;
 use crate::stopped::without_bars;
@@ -51,8 +52,7 @@ fn without_both(
     sort: Sort,
     rule: &PolicyRule,
 ) -> Result<Vec<Marks>, Memory>
-    ensures { IfOk result (λ v. (hs es : List PolicyRuleValue) → AreRules hs es rules.now → (i j k l : ℕ) → some_has v.items i j k l
-        ≡ ((some_has parts.items i j k l && not (list_any (λ b. barred true sort b rule.now i j k l) hs)) && not (list_any (λ b. barred false sort b rule.now i j k l) es))) }
+    ensures { IfOk result (λ v. (hs es : List PolicyRuleValue) → AreRulesPlaced hs es rules.now → AreLeftOf hs es sort rule.now parts.items v.items) }
 {
     let left = without_bars(alloc, parts, &rules.held, sort, rule)?;
     without_bars(alloc, left, &rules.earlier, sort, rule)
@@ -67,7 +67,7 @@ fn push_left_of(
     sort: Sort,
     rule: &PolicyRule,
 ) -> Result<(), Memory>
-    ensures { OnOk result ((hs es : List PolicyRuleValue) → AreRules hs es rules.now → (i j k l : ℕ) → some_has list.new.items i j k l
+    ensures { OnOk result ((hs es : List PolicyRuleValue) → AreRulesPlaced hs es rules.now → (i j k l : ℕ) → some_has list.new.items i j k l
         ≡ (some_has list.old.items i j k l || ((has part.now i j k l && not (list_any (λ b. barred true sort b rule.now i j k l) hs)) && not (list_any (λ b. barred false sort b rule.now i j k l) es)))) }
 {
     let mut one = Vec::new(alloc);
@@ -84,8 +84,7 @@ fn left_of_pieces(
     sort: Sort,
     rule: &PolicyRule,
 ) -> Result<Vec<Marks>, Memory>
-    ensures { IfOk result (λ v. (hs es : List PolicyRuleValue) → AreRules hs es rules.now → (i j k l : ℕ) → some_has v.items i j k l
-        ≡ ((some_has pieces.now i j k l && not (list_any (λ b. barred true sort b rule.now i j k l) hs)) && not (list_any (λ b. barred false sort b rule.now i j k l) es))) }
+    ensures { IfOk result (λ v. (hs es : List PolicyRuleValue) → AreRulesPlaced hs es rules.now → AreLeftOf hs es sort rule.now pieces.now v.items) }
 {
     let mut list = Vec::new(alloc);
     for piece in pieces {
@@ -94,21 +93,18 @@ fn left_of_pieces(
     Ok(list)
 }
 
-// What of the atoms beside the core neither stops.
-fn left_beside(
+// The atoms of the rule beside the core.
+fn pieces_beside(
     alloc: Global,
     core: &Marks,
-    rules: &Rules<'_>,
     sort: Sort,
     rule: &PolicyRule,
 ) -> Result<Vec<Marks>, Memory>
-    ensures { IfOk result (λ v. (hs es : List PolicyRuleValue) → AreRules hs es rules.now → (i j k l : ℕ) → some_has v.items i j k l
-        ≡ (((wanted_at sort rule.now i j k l && not (has core.now i j k l)) && not (list_any (λ b. barred true sort b rule.now i j k l) hs)) && not (list_any (λ b. barred false sort b rule.now i j k l) es))) }
+    ensures { IfOk result (λ v. (i j k l : ℕ) → some_has v.items i j k l ≡ (wanted_at sort rule.now i j k l && not (has core.now i j k l))) }
 {
     let mut whole = Vec::new(alloc);
     whole.push(whole_part(alloc, sort, rule)?)?;
-    let pieces = without(alloc, whole, core)?;
-    left_of_pieces(alloc, pieces.as_slice(), rules, sort, rule)
+    without(alloc, whole, core)
 }
 
 // What the table leaves of the atoms that have a place in it.
@@ -120,53 +116,85 @@ fn left_in_core(alloc: Global, tabled: &Tabled<'_, '_>) -> Result<Vec<Marks>, Me
     without_each(alloc, core, &Judge::Table(tabled))
 }
 
-fn left_of_tabled(
-    alloc: Global,
-    tabled: &Tabled<'_, '_>,
-    rules: &Rules<'_>,
-    sort: Sort,
-    rule: &PolicyRule,
-) -> Result<Vec<Marks>, Memory>
-    ensures { IfOk result (λ v. (hs es : List PolicyRuleValue) → AreRules hs es rules.now → IsTabled hs es sort rule.now tabled.now → AreLeft hs es sort rule.now v.items) }
-{
-    let mut list = left_in_core(alloc, tabled)?;
-    let others = left_beside(alloc, &tabled.core, rules, sort, rule)?;
-    push_parts(&mut list, others)?;
-    Ok(list)
+/// What a table leaves of a wanted rule, and the atoms that it does not tell of.
+#[derive(Drop)]
+pub struct Told {
+    pub left: Vec<Marks>,
+    pub beside: Vec<Marks>,
 }
 
-fn left_of_whole(
+fn told_by(
     alloc: Global,
-    rules: &Rules<'_>,
+    tabled: &Tabled<'_, '_>,
     sort: Sort,
     rule: &PolicyRule,
-) -> Result<Vec<Marks>, Memory>
-    ensures { IfOk result (λ v. (hs es : List PolicyRuleValue) → AreRules hs es rules.now → AreLeft hs es sort rule.now v.items) }
+) -> Result<Told, Memory>
+    ensures { IfOk result (λ t. (hs es : List PolicyRuleValue) → IsTabled hs es sort rule.now tabled.now → IsTold hs es sort rule.now t) }
+{
+    let left = left_in_core(alloc, tabled)?;
+    let beside = pieces_beside(alloc, &tabled.core, sort, rule)?;
+    Ok(Told { left, beside })
+}
+
+// No table tells of any atom.
+fn untold(alloc: Global, sort: Sort, rule: &PolicyRule) -> Result<Told, Memory>
+    ensures { IfOk result (λ t. (hs es : List PolicyRuleValue) → IsTold hs es sort rule.now t) }
 {
     let mut whole = Vec::new(alloc);
     whole.push(whole_part(alloc, sort, rule)?)?;
-    without_both(alloc, whole, rules, sort, rule)
+    Ok(Told {
+        left: Vec::new(alloc),
+        beside: whole,
+    })
+}
+
+fn told_of(alloc: Global, rules: &Rules<'_>, sort: Sort, rule: &PolicyRule) -> Result<Told, Memory>
+    ensures { IfOk result (λ t. (hs es : List PolicyRuleValue) → AreRules hs es rules.now → IsTold hs es sort rule.now t) }
+{
+    match tabled(alloc, rules, sort, rule)? {
+        Some(tabled) => told_by(alloc, &tabled, sort, rule),
+        None => untold(alloc, sort, rule),
+    }
+}
+
+// What of some pieces neither a held rule stops nor an earlier one. The rules are placed where there is a piece.
+fn left_beside(
+    alloc: Global,
+    pieces: &[Marks],
+    rules: &mut Rules<'_>,
+    sort: Sort,
+    rule: &PolicyRule,
+) -> Result<Vec<Marks>, Memory>
+    ensures { IfOk result (λ v. (hs es : List PolicyRuleValue) → AreRules hs es rules.old → AreRules hs es rules.new × AreLeftOf hs es sort rule.now pieces.now v.items) }
+{
+    if pieces.is_empty() {
+        return Ok(Vec::new(alloc));
+    }
+    place_all(rules)?;
+    left_of_pieces(alloc, pieces, rules, sort, rule)
 }
 
 fn left_parts(
     alloc: Global,
-    rules: &Rules<'_>,
+    rules: &mut Rules<'_>,
     sort: Sort,
     rule: &PolicyRule,
 ) -> Result<Vec<Marks>, Memory>
-    ensures { IfOk result (λ v. (hs es : List PolicyRuleValue) → AreRules hs es rules.now → AreLeft hs es sort rule.now v.items) }
+    ensures { IfOk result (λ v. (hs es : List PolicyRuleValue) → AreRules hs es rules.old → AreRules hs es rules.new × AreLeft hs es sort rule.now v.items) }
 {
     if is_none_wanted(sort, rule) {
         return Ok(Vec::new(alloc));
     }
-    match tabled(alloc, rules, sort, rule)? {
-        Some(tabled) => left_of_tabled(alloc, &tabled, rules, sort, rule),
-        None => left_of_whole(alloc, rules, sort, rule),
-    }
+    let told = told_of(alloc, rules, sort, rule)?;
+    let Told { left, beside } = told;
+    let mut list = left;
+    let others = left_beside(alloc, beside.as_slice(), rules, sort, rule)?;
+    push_parts(&mut list, others)?;
+    Ok(list)
 }
 
-fn planned(alloc: Global, rules: &Rules<'_>, rule: PolicyRule) -> Result<Plan, Memory>
-    ensures { IfOk result (λ p. (hs es : List PolicyRuleValue) → AreRules hs es rules.now → left_of p ≡ left_atoms hs es rule) }
+fn planned(alloc: Global, rules: &mut Rules<'_>, rule: PolicyRule) -> Result<Plan, Memory>
+    ensures { IfOk result (λ p. (hs es : List PolicyRuleValue) → AreRules hs es rules.old → AreRules hs es rules.new × (left_of p ≡ left_atoms hs es rule)) }
 {
     let resources = left_parts(alloc, rules, Sort::Resources, &rule)?;
     let urls = left_parts(alloc, rules, Sort::Urls, &rule)?;
@@ -193,33 +221,45 @@ fn push_plan(list: &mut Vec<Plan>, plan: Plan) -> Result<(), Memory>
     Ok(())
 }
 
-#[tactic(auto, using(crate::proofs::Sliced::adds_slim))]
 fn push_planned(
     alloc: Global,
-    rules: &Rules<'_>,
+    rules: &mut Rules<'_>,
     list: &mut Vec<Plan>,
     rule: PolicyRule,
 ) -> Result<(), Memory>
-    ensures { OnOk result (AddsLeft rules.now list.old.items list.new.items rule) }
+    ensures { OnOk result (AddsLeft rules.old rules.new list.old.items list.new.items rule) }
 {
-    let slim = slim(alloc, &rules.held, &rules.earlier, rule)?;
-    let plan = planned(alloc, rules, slim)?;
+    let plan = planned(alloc, rules, rule)?;
     push_plan(list, plan)
+}
+
+// The plan of the rule without entries of which nothing is missing. Their rules are found in the index.
+fn push_slim(
+    alloc: Global,
+    rules: &mut Rules<'_>,
+    list: &mut Vec<Plan>,
+    rule: PolicyRule,
+) -> Result<(), Memory>
+    ensures { OnOk result (AddsLeft rules.old rules.new list.old.items list.new.items rule) }
+{
+    place_all(rules)?;
+    let slim = slim(alloc, &rules.held, &rules.earlier, rule)?;
+    push_planned(alloc, rules, list, slim)
 }
 
 // Plans of the rule, or of slices of it. The depth bounds how often it is cut.
 fn push_slices(
     alloc: Global,
-    rules: &Rules<'_>,
+    rules: &mut Rules<'_>,
     list: &mut Vec<Plan>,
     rule: PolicyRule,
     last: Dimension,
     depth: usize,
 ) -> Result<(), Memory>
-    ensures { OnOk result (AddsLeft rules.now list.old.items list.new.items rule) }
+    ensures { OnOk result (AddsLeft rules.old rules.new list.old.items list.new.items rule) }
 {
     if depth == 0 {
-        return push_planned(alloc, rules, list, rule);
+        return push_slim(alloc, rules, list, rule);
     }
     match cut(alloc, &rule, last)? {
         Some(halves) => {
@@ -227,47 +267,60 @@ fn push_slices(
             push_slices(alloc, rules, list, first, last, depth - 1)?;
             push_slices(alloc, rules, list, second, last, depth - 1)
         }
-        None => push_planned(alloc, rules, list, rule),
+        None => push_slim(alloc, rules, list, rule),
     }
 }
 
 fn push_cut(
     alloc: Global,
-    rules: &Rules<'_>,
+    rules: &mut Rules<'_>,
     list: &mut Vec<Plan>,
     rule: PolicyRule,
 ) -> Result<(), Memory>
-    ensures { OnOk result (AddsLeft rules.now list.old.items list.new.items rule) }
+    ensures { OnOk result (AddsLeft rules.old rules.new list.old.items list.new.items rule) }
 {
     match sliced_list(alloc, &rules.held, &rules.earlier, &rule)? {
         Some(last) => push_slices(alloc, rules, list, rule, last, 64),
-        None => push_planned(alloc, rules, list, rule),
+        None => push_slim(alloc, rules, list, rule),
     }
 }
 
-#[tactic(auto, using(crate::proofs::Sliced::adds_slim))]
-fn push_one_sort(
+// The rule is made slim before it is cut, and each slice again.
+fn push_long(
     alloc: Global,
-    rules: &Rules<'_>,
+    rules: &mut Rules<'_>,
     list: &mut Vec<Plan>,
     rule: PolicyRule,
 ) -> Result<(), Memory>
-    ensures { OnOk result (AddsLeft rules.now list.old.items list.new.items rule) }
+    ensures { OnOk result (AddsLeft rules.old rules.new list.old.items list.new.items rule) }
 {
-    if is_tabled(rules, &rule) {
-        return push_plan(list, planned(alloc, rules, rule)?);
-    }
+    place_all(rules)?;
     let slim = slim(alloc, &rules.held, &rules.earlier, rule)?;
     push_cut(alloc, rules, list, slim)
 }
 
-fn push_by_sorts(
+fn push_one_sort(
     alloc: Global,
-    rules: &Rules<'_>,
+    rules: &mut Rules<'_>,
     list: &mut Vec<Plan>,
     rule: PolicyRule,
 ) -> Result<(), Memory>
-    ensures { OnOk result (AddsLeft rules.now list.old.items list.new.items rule) }
+    ensures { OnOk result (AddsLeft rules.old rules.new list.old.items list.new.items rule) }
+{
+    if is_tabled(rules, &rule) {
+        push_planned(alloc, rules, list, rule)
+    } else {
+        push_long(alloc, rules, list, rule)
+    }
+}
+
+fn push_by_sorts(
+    alloc: Global,
+    rules: &mut Rules<'_>,
+    list: &mut Vec<Plan>,
+    rule: PolicyRule,
+) -> Result<(), Memory>
+    ensures { OnOk result (AddsLeft rules.old rules.new list.old.items list.new.items rule) }
 {
     match by_sorts(alloc, &rule)? {
         Some(halves) => {
@@ -281,11 +334,11 @@ fn push_by_sorts(
 
 fn push_wanted(
     alloc: Global,
-    rules: &Rules<'_>,
+    rules: &mut Rules<'_>,
     list: &mut Vec<Plan>,
     wanted: &PolicyRule,
 ) -> Result<(), Memory>
-    ensures { OnOk result (AddsLeft rules.now list.old.items list.new.items (once wanted.now)) }
+    ensures { OnOk result (AddsLeft rules.old rules.new list.old.items list.new.items (once wanted.now)) }
 {
     let rule = once_rule(alloc, wanted)?;
     push_by_sorts(alloc, rules, list, rule)
@@ -327,7 +380,7 @@ pub fn plans(
     let mut atoms: usize = 0;
     for rule in wanted {
         let planned = list.len();
-        push_wanted(alloc, &rules, &mut list, rule)?;
+        push_wanted(alloc, &mut rules, &mut list, rule)?;
         atoms = atoms.saturating_add(atoms_from(list.as_slice(), planned));
         found.reserve(atoms)?;
         add_earlier(alloc, &mut rules, rule)?;

@@ -4,13 +4,13 @@ ghost use Rattle.std.specs.Prelude.{◌≡◌, ◌∷◌, [], ◌++◌, List, tr
 ghost use Rattle.kapi_model.specs.declared.policy_rule.PolicyRule.{PolicyRule as PolicyRuleValue};
 ghost use Rattle.kapi_missing.specs.Private.Bars.{rule_in};
 ghost use Rattle.kapi_missing.specs.Private.Index.{rules_in};
-ghost use Rattle.kapi_missing.specs.Private.Rules.{AreRules, AreTables, IsTableOf};
+ghost use Rattle.kapi_missing.specs.Private.Rules.{AreRules, AreRulesPlaced, AreTables, IsTableOf};
 ghost use Rattle.kapi_missing.specs.Private.Tabled.{IsTable, IsTabled, with_if};
 ghost use Rattle.kapi_missing.specs.declared.bars.Sort.{Sort as SortValue};
 
 use crate::bars::{Bar, Sort, size_of, sort_of};
 use crate::choosing::{Chosen, Kind, choose};
-use crate::index::{Bars, add_bar, no_bars};
+use crate::index::{Bars, add_bar, no_bars, place_rest};
 use crate::tabled::{Limits, Table, Tabled, add_to_table, table_of, tabled_of};
 use kapi_model::PolicyRule;
 use kapi_text::Memory;
@@ -216,6 +216,14 @@ pub fn add_earlier<'a>(
 {
     add_bar(alloc, &mut rules.earlier, rule)?;
     add_last(alloc, &mut rules.tables, &rules.earlier, false)
+}
+
+/// Places the rules that are not yet, before the index is asked.
+pub fn place_all(rules: &mut Rules<'_>) -> Result<(), Memory>
+    ensures { OnOk result ((hs es : List PolicyRuleValue) → AreRules hs es rules.old → AreRulesPlaced hs es rules.new) }
+{
+    place_rest(&mut rules.held)?;
+    place_rest(&mut rules.earlier)
 }
 
 /// The held rules, before any wanted one.

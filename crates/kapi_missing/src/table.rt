@@ -79,6 +79,32 @@ pub fn are_set_in(words: &[u64], shape: Shape, atom: Positions, names: &[Block])
     true
 }
 
+/// Whether the bits of all atoms are set that have those first and second entries, one of those verbs and one of those last ones.
+pub fn are_rows_set(
+    words: &[u64],
+    shape: Shape,
+    atom: Positions,
+    verbs: &[usize],
+    names: &[Block],
+) -> bool
+    ensures { result ≡ true → (k l : ℕ) → has_number verbs.now k ≡ true → stands names.now l ≡ true → is_in shape words.now atom.group atom.resource k l ≡ true }
+{
+    let (group, resource, name) = (atom.group, atom.resource, 0);
+    for verb in verbs {
+        let verb = *verb;
+        let one = Positions {
+            group,
+            resource,
+            verb,
+            name,
+        };
+        if !are_set_in(words, shape, one, names) {
+            return false;
+        }
+    }
+    true
+}
+
 fn set_block(words: &mut Vec<u64>, shape: Shape, atom: Positions, block: &Block)
     ensures { Adds shape words.old.items words.new.items (λ i j k l. (atom.group == i) && ((atom.resource == j) && ((atom.verb == k) && block_has block.now l))) }
 {

@@ -5,7 +5,7 @@ ghost use Rattle.kapi_missing.specs.Private.Bars.{name_marks, rule_in};
 ghost use Rattle.kapi_missing.specs.Private.Marks.{at};
 ghost use Rattle.kapi_missing.specs.Private.Rows.{first_marks, last_marks, second_marks};
 ghost use Rattle.kapi_missing.specs.Private.Sets.{has_number};
-ghost use Rattle.kapi_missing.specs.Private.Tabled.{ArePositions, IsMasked, IsMet, IsMore, IsTable, AreNamesPlaced, IsTabled, first_wanted, is_taken, last_size, last_wanted, placed_at, second_size, second_wanted, whole_of};
+ghost use Rattle.kapi_missing.specs.Private.Tabled.{ArePositions, IsMasked, IsMet, IsMore, IsTable, AreNamesPlaced, IsTabled, first_wanted, is_left_of, last_size, last_wanted, placed_at, second_size, second_wanted, whole_of};
 ghost use Rattle.kapi_missing.specs.Private.Words.{texts_at};
 
 use crate::bars::{Bar, Dimension, Sort};
@@ -16,7 +16,7 @@ use crate::places::{Places, blocks_of, first_if, met, names_met};
 use crate::sets::Block;
 use crate::shape::{Shape, shape_of};
 use crate::single::Positions;
-use crate::table::{Met, are_set_in, is_set_in, set_met, size_of_table};
+use crate::table::{Met, are_rows_set, are_set_in, is_set_in, set_met, size_of_table};
 use kapi_model::PolicyRule;
 use kapi_text::{Memory, Text};
 use std::alloc::Global;
@@ -59,6 +59,7 @@ pub struct Tabled<'b, 'a> {
     pub resources: Vec<usize>,
     pub verbs: Vec<usize>,
     pub names: Vec<usize>,
+    pub rows: Vec<usize>,
     pub mask: Vec<Block>,
     pub core: Marks,
 }
@@ -310,6 +311,7 @@ pub fn tabled_of<'b, 'a>(
         resources: resources.places,
         verbs: verbs.places,
         names: names.places,
+        rows: verbs.numbers,
         mask,
         core: Marks {
             groups: groups.marks,
@@ -341,18 +343,33 @@ fn placed(tabled: &Tabled<'_, '_>, atom: Positions) -> Positions
     }
 }
 
-/// Whether a rule stops the atom, or its name has no place.
+/// Whether a rule stops the atom, or its verb or its name has no place.
 pub fn is_taken_at(tabled: &Tabled<'_, '_>, atom: Positions) -> bool
-    ensures { not result ≡ (at tabled.now.core.names.items atom.name && not (is_taken tabled.now atom.group atom.resource atom.verb atom.name)) }
+    ensures { not result ≡ is_left_of tabled.now atom.group atom.resource atom.verb atom.name }
 {
     let table = tabled.table;
-    !is_marked(tabled.core.names.as_slice(), atom.name)
-        || is_set_in(table.words.as_slice(), table.shape, placed(tabled, atom))
+    !is_marked(tabled.core.verbs.as_slice(), atom.verb)
+        || (!is_marked(tabled.core.names.as_slice(), atom.name)
+            || is_set_in(table.words.as_slice(), table.shape, placed(tabled, atom)))
+}
+
+/// Whether rules stop all atoms that have the first two entries of that one, and a verb and a name that have places.
+pub fn are_all_taken_beside(tabled: &Tabled<'_, '_>, atom: Positions) -> bool
+    ensures { IsMasked tabled.now → result ≡ true → (k l : ℕ) → is_left_of tabled.now atom.group atom.resource k l ≡ false }
+{
+    let table = tabled.table;
+    are_rows_set(
+        table.words.as_slice(),
+        table.shape,
+        placed(tabled, atom),
+        tabled.rows.as_slice(),
+        tabled.mask.as_slice(),
+    )
 }
 
 /// Whether rules stop all atoms that have the other entries of that one and a name that has a place.
 pub fn are_taken_beside(tabled: &Tabled<'_, '_>, atom: Positions) -> bool
-    ensures { IsMasked tabled.now → result ≡ true → (l : ℕ) → (at tabled.now.core.names.items l && not (is_taken tabled.now atom.group atom.resource atom.verb l)) ≡ false }
+    ensures { IsMasked tabled.now → result ≡ true → (l : ℕ) → is_left_of tabled.now atom.group atom.resource atom.verb l ≡ false }
 {
     let table = tabled.table;
     are_set_in(

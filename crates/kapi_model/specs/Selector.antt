@@ -1,10 +1,9 @@
 -- Which labels a selector matches (Kubernetes, 'Labels and Selectors').
-use Rattle.std.specs.Prelude.{ℕ, List, Bool, true, false, not, ◌&&◌, Option, Some, None, option_map, option_and_then, is_some}
+use Rattle.std.specs.Prelude.{ℕ, List, [], ◌∷◌, Bool, true, false, not, ◌&&◌, if◌then◌else◌, Option, Some, None, option_and_then, is_some}
 use Rattle.std.specs.List.{list_all, list_any}
 use Rattle.std.specs.Str.{bytes_eq}
 use Rattle.serde_json.specs.Data.{Data}
 use Rattle.serde_json.specs.Find.{get, as_str}
-use Rattle.serde_json.specs.View.{view}
 use Rattle.kapi_model.specs.declared.labels.Labels.{Labels}
 use Rattle.kapi_model.specs.declared.selector.Label.{Label}
 use Rattle.kapi_model.specs.declared.selector.Operator.{Operator}
@@ -12,9 +11,14 @@ use Rattle.kapi_model.specs.declared.selector.Operator.TheVariants.{In, NotIn, E
 use Rattle.kapi_model.specs.declared.selector.Requirement.{Requirement}
 use Rattle.kapi_model.specs.declared.selector.Selector.{Selector}
 
--- the labels as JSON data, if there are any
-abbrev pub labels_of : Labels → Option Data
-labels_of labels = option_map (λ v. view v.now) labels.value
+-- the value of the first label of a key
+abbrev pub value_in : List Label → List ℕ → Option (List ℕ)
+value_in [] key = None
+value_in (l ∷ ls) key = if bytes_eq l.key key then Some l.value else value_in ls key
+
+-- the same of labels that are borrowed
+abbrev pub values_of : Labels → List ℕ → Option (List ℕ)
+values_of labels = value_in labels.list.now
 
 -- the value of the label of a key; a label that is no text is none
 abbrev pub label_in : Option Data → List ℕ → Option (List ℕ)
@@ -49,3 +53,8 @@ has_label labels label = is_text (label_in labels label.key) label.value
 -- the labels have each label listed and meet each requirement
 abbrev pub matches : Selector → Option Data → Bool
 matches selector labels = list_all (has_label labels) selector.match_labels && list_all (is_met labels) selector.match_expressions
+
+-- labels that have those values at their keys have each label listed and meet each requirement
+abbrev pub matches_values : Selector → (List ℕ → Option (List ℕ)) → Bool
+matches_values selector at =
+    list_all (λ l. is_text (at l.key) l.value) selector.match_labels && list_all (λ r. holds r.operator r.values (at r.key)) selector.match_expressions

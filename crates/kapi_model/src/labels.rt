@@ -1,29 +1,33 @@
 ghost use Rattle.std.specs.Prelude.{◌≡◌};
 
-use serde_json::Value;
+use crate::selector::Label;
 
-/// The labels of an object, borrowed from its tree.
+/// The labels of an object that are texts, borrowed from a list of them.
 #[derive(Clone, Copy)]
 pub struct Labels<'a> {
-    value: Option<&'a Value>,
+    list: &'a [Label],
 }
 
 impl<'a> Labels<'a> {
     ghost use Rattle.std.specs.Prelude.{◌≡◌, option_map};
-    ghost use Rattle.serde_json.specs.View.{view};
-    ghost use Rattle.kapi_model.specs.Selector.{labels_of, label_in};
+    ghost use Rattle.kapi_model.specs.Selector.{value_in, values_of};
 
-    /// The labels that a value is; none where it is missing or no object.
-    pub fn new(value: Option<&'a Value>) -> Labels<'a>
-        ensures { labels_of result ≡ option_map (λ v. view v.now) value.entry }
+    /// The labels of a list.
+    pub fn new(list: &'a [Label]) -> Labels<'a>
+        ensures { values_of result ≡ value_in list.now }
     {
-        Labels { value }
+        Labels { list }
     }
 
-    /// The value of the label of a key, if there is one. Allocates nothing.
+    /// The value of the first label of a key, if there is one. Allocates nothing.
     pub fn get(&self, key: &str) -> Option<&'a str>
-        ensures { option_map (λ s. s.now) result ≡ label_in (labels_of self.now) key.now }
+        ensures { option_map (λ s. s.now) result ≡ values_of self.now key.now }
     {
-        self.value?.get(key)?.as_str()
+        for label in self.list {
+            if label.key.as_str() == key {
+                return Some(label.value.as_str());
+            }
+        }
+        None
     }
 }

@@ -1,7 +1,7 @@
 ghost use Rattle.std.specs.Prelude.{◌≡◌};
 ghost use Rattle.std.specs.List.{list_all};
 ghost use Rattle.kapi_model.specs.Selector as meaning;
-ghost use Rattle.kapi_model.specs.Selector.{labels_of};
+ghost use Rattle.kapi_model.specs.Selector.{values_of};
 
 use crate::labels::Labels;
 use kapi_text::{Sequence, Text, TryCopy};
@@ -111,7 +111,7 @@ fn is_listed(values: &[Text], value: &str) -> bool
 
 /// Whether the labels meet the requirement.
 fn is_met(requirement: &Requirement, labels: &Labels<'_>) -> bool
-    ensures { result ≡ meaning.is_met (labels_of labels.now) requirement.now }
+    ensures { result ≡ meaning.holds requirement.now.operator requirement.now.values (values_of labels.now requirement.now.key) }
 {
     match (requirement.operator, labels.get(requirement.key.as_str())) {
         (Operator::In, Some(value)) => is_listed(requirement.values.as_slice(), value),
@@ -125,7 +125,7 @@ fn is_met(requirement: &Requirement, labels: &Labels<'_>) -> bool
 
 /// Whether the labels have the label with its value.
 fn has_label(label: &Label, labels: &Labels<'_>) -> bool
-    ensures { result ≡ meaning.has_label (labels_of labels.now) label.now }
+    ensures { result ≡ meaning.is_text (values_of labels.now label.now.key) label.now.value }
 {
     match labels.get(label.key.as_str()) {
         Some(value) => value == label.value.as_str(),
@@ -135,14 +135,14 @@ fn has_label(label: &Label, labels: &Labels<'_>) -> bool
 
 /// Whether the labels have each wanted label.
 fn has_labels(wanted: &[Label], labels: &Labels<'_>) -> bool
-    ensures { result ≡ list_all (meaning.has_label (labels_of labels.now)) wanted.now }
+    ensures { result ≡ list_all (λ l. meaning.is_text (values_of labels.now l.key) l.value) wanted.now }
 {
     wanted.iter().all(|label| has_label(label, labels))
 }
 
 /// Whether the labels meet each requirement.
 fn meets(requirements: &[Requirement], labels: &Labels<'_>) -> bool
-    ensures { result ≡ list_all (meaning.is_met (labels_of labels.now)) requirements.now }
+    ensures { result ≡ list_all (λ r. meaning.holds r.operator r.values (values_of labels.now r.key)) requirements.now }
 {
     requirements
         .iter()
@@ -151,12 +151,12 @@ fn meets(requirements: &[Requirement], labels: &Labels<'_>) -> bool
 
 impl Selector {
     ghost use Rattle.std.specs.Prelude.{◌≡◌};
-    ghost use Rattle.kapi_model.specs.Selector.{labels_of};
+    ghost use Rattle.kapi_model.specs.Selector.{values_of};
     ghost use Rattle.kapi_model.specs.Selector as meaning;
 
     /// Whether the selector matches the labels (Kubernetes, 'Labels and Selectors'). Allocates nothing.
     pub fn matches(&self, labels: &Labels<'_>) -> bool
-        ensures { result ≡ meaning.matches self.now (labels_of labels.now) }
+        ensures { result ≡ meaning.matches_values self.now (values_of labels.now) }
     {
         has_labels(self.match_labels.as_slice(), labels)
             && meets(self.match_expressions.as_slice(), labels)

@@ -1,35 +1,13 @@
 -- What a write sets in an object's metadata changes neither what it is read as nor its labels.
-use Rattle.std.proofs.Common.{◌≡◌, ◌∙◌, ℕ, List, Option, None, Some, false, bytes_eq, codes, refl, ap}
+use Rattle.std.proofs.Common.{◌≡◌, ◌∙◌, ℕ, List, false, bytes_eq, codes, refl, ap}
 use Rattle.std.specs.Option.{option_and_then, option_map}
-use Rattle.serde_json.proofs.Views.{get_member-put}
-use Rattle.serde_json.specs.Data.{Data, string, object, put}
-use Rattle.serde_json.specs.Find.{get, get_member}
-use Rattle.kapi_tree.proofs.Puts.{put_other}
+use Rattle.serde_json.specs.Data.{Data, object}
+use Rattle.serde_json.specs.Find.{get}
+use Rattle.kapi_tree.proofs.Metadata.{beside_metadata, in_text}
 use Rattle.kapi_tree.specs.Contents.{aggregation_in, aggregation_of, items_if, read_items, role_ref_if, role_ref_of, rule_of, rules_of, subject_of, subjects_of}
 use Rattle.kapi_tree.specs.Object.{stamped_tree}
-use Rattle.kapi_tree.specs.Tree.{in_metadata, members_or_none, metadata_of, unless_null, with_text}
+use Rattle.kapi_tree.specs.Tree.{in_metadata, unless_null, with_text}
 use Rattle.kapi_rbac_types.specs.Trees.{cluster_role_binding_of, cluster_role_of, role_binding_of, role_of}
-
--- ---- a text in the metadata
-
-pub in_object : (q : List ℕ) (d : Data) → get_member q (members_or_none (Some d)) ≡ get q d
-in_object q (object ms) = refl
-in_object q _ = refl
-
-in_members : (q : List ℕ) (o : Option Data) → get_member q (members_or_none o) ≡ option_and_then (get q) o
-in_members q None = refl
-in_members q (Some d) = in_object q d
-
--- other members stay
-pub beside_metadata : (q k t : List ℕ) (d : Data) → bytes_eq q (codes "metadata") ≡ false → get q (with_text k t d) ≡ get q d
-beside_metadata q k t d h = put_other q (codes "metadata") (object (put k (string t) (metadata_of d))) (members_or_none (Some d)) h ∙ in_object q d
-
--- the metadata's other members stay
-pub in_text : (q k t : List ℕ) (d : Data) → bytes_eq q k ≡ false → in_metadata q (with_text k t d) ≡ in_metadata q d
-in_text q k t d h =
-    ap (option_and_then (get q)) (get_member-put (codes "metadata") (object (put k (string t) (metadata_of d))) (members_or_none (Some d)))
-    ∙ put_other q k (string t) (metadata_of d) h
-    ∙ in_members q (get (codes "metadata") d)
 
 -- ---- a unique id and a version
 

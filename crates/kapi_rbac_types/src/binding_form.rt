@@ -72,7 +72,7 @@ pub fn admitted_role_binding(alloc: Global, object: &Object) -> Result<RoleBindi
 }
 
 /// The role binding as an object with the version, the kind and the metadata of another.
-#[tactic(auto, unfolding(crate::specs::Trees::read_as), using(kapi_tree::proofs::Written::binding_has_no_float, kapi_tree::proofs::Written::binding_in_order, crate::proofs::Laws::role_binding_reads_back))]
+#[tactic(auto, unfolding(crate::specs::Trees::read_as), using(kapi_tree::proofs::Written::binding_has_no_float, kapi_tree::proofs::Written::binding_in_order, kapi_tree::proofs::Written::binding_is_shallow, crate::proofs::Laws::role_binding_reads_back))]
 pub fn role_binding_object(
     alloc: Global,
     value: &RoleBinding,
@@ -102,7 +102,7 @@ pub fn admitted_cluster_role_binding(
 }
 
 /// The cluster role binding as an object with the version, the kind and the metadata of another.
-#[tactic(auto, unfolding(crate::specs::Trees::read_as), using(kapi_tree::proofs::Written::binding_has_no_float, kapi_tree::proofs::Written::binding_in_order, crate::proofs::Laws::cluster_role_binding_reads_back))]
+#[tactic(auto, unfolding(crate::specs::Trees::read_as), using(kapi_tree::proofs::Written::binding_has_no_float, kapi_tree::proofs::Written::binding_in_order, kapi_tree::proofs::Written::binding_is_shallow, crate::proofs::Laws::cluster_role_binding_reads_back))]
 pub fn cluster_role_binding_object(
     alloc: Global,
     value: &ClusterRoleBinding,

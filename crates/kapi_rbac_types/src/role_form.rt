@@ -72,7 +72,7 @@ pub fn admitted_role(alloc: Global, object: &Object) -> Result<Role, Memory>
 }
 
 /// The role as an object with the version, the kind and the metadata of another.
-#[tactic(auto, unfolding(crate::specs::Trees::read_as), using(kapi_tree::proofs::Written::role_has_no_float, kapi_tree::proofs::Written::role_in_order, crate::proofs::Laws::role_reads_back))]
+#[tactic(auto, unfolding(crate::specs::Trees::read_as), using(kapi_tree::proofs::Written::role_has_no_float, kapi_tree::proofs::Written::role_in_order, kapi_tree::proofs::Written::role_is_shallow, crate::proofs::Laws::role_reads_back))]
 pub fn role_object(alloc: Global, value: &Role, of: &Object) -> Result<Object, Memory>
     ensures written { IfOk result (λ o. tree_of o ≡ with_content (form.role_content value.now.rules) (tree_of of.now)) }
 
@@ -91,7 +91,7 @@ pub fn admitted_cluster_role(alloc: Global, object: &Object) -> Result<ClusterRo
 }
 
 /// The cluster role as an object with the version, the kind and the metadata of another.
-#[tactic(auto, unfolding(crate::specs::Trees::read_as), using(kapi_tree::proofs::Written::cluster_role_has_no_float, kapi_tree::proofs::Written::cluster_role_in_order, crate::proofs::Laws::cluster_role_reads_back))]
+#[tactic(auto, unfolding(crate::specs::Trees::read_as), using(kapi_tree::proofs::Written::cluster_role_has_no_float, kapi_tree::proofs::Written::cluster_role_in_order, kapi_tree::proofs::Written::cluster_role_is_shallow, crate::proofs::Laws::cluster_role_reads_back))]
 pub fn cluster_role_object(
     alloc: Global,
     value: &ClusterRole,

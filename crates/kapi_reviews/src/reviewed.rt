@@ -113,17 +113,16 @@ fn answer<P: Policy>(
 /// The answer to a review that `caller` makes, or the whole list of its faults in order. A local review is in the
 /// namespace that its metadata names. The answer is an object of its own: `spec` has what was understood of the review,
 /// and `status` the answer; all else of the review is left out. Nothing is changed.
-#[tactic(auto, unfolding(crate::specs::Reviews::reviewed), using(crate::proofs::Written::answer_has_no_float, crate::proofs::Written::answer_in_order))]
+#[tactic(auto, unfolding(crate::specs::Reviews::reviewed), using(crate::proofs::Written::answer_has_no_float, crate::proofs::Written::answer_in_order, crate::proofs::Written::answer_is_shallow))]
 pub fn review<P: Policy>(
     alloc: Global,
     policy: &P,
     caller: &Identity,
     kind: ReviewKind,
-    object: &Object,
+    tree: &Value,
 ) -> Result<Object, ReviewError>
-    ensures { Gives told tree_of result (reviewed (P.content policy.now) caller.now kind (tree_of object.now)) }
+    ensures { Gives told tree_of result (reviewed (P.content policy.now) caller.now kind (view tree.now)) }
 {
-    let tree = object.as_tree();
     let faults = collect_review_faults(alloc, kind, tree)?;
     if !faults.is_empty() {
         return Err(ReviewError::Invalid(Sequence::new(faults)));

@@ -1,5 +1,5 @@
 -- The test of equality decides equality, where there is no float.
-use Rattle.std.proofs.Common.{◌≡◌, true, false, ◌&&◌, refl, sym, ap, ◌∙◌}
+use Rattle.std.proofs.Common.{◌≡◌, Bool, true, false, ◌&&◌, refl, sym, ap, ◌∙◌}
 use Rattle.std.specs.Bool.{Decides}
 use Rattle.std.specs.Cmp.{first_so, second_so, booleans_Decides, signed_Decides, unsigned_Decides}
 use Rattle.std.specs.Str.{bytes_eq}
@@ -107,3 +107,10 @@ mutual
 -- the test of a tree without a float against another decides whether they are equal
 pub same_decides : (a b : Data) → has_float a ≡ false → Decides (same_tree a b) (a ≡ b)
 same_decides a b h = (tree_equal a b, λ is. ap (same_tree a) (sym is) ∙ tree_same a h)
+
+-- two tests that decide the same are equal
+pub decided_alike : {P : Type 0} (a b : Bool) → Decides a P → Decides b P → a ≡ b
+decided_alike true true p q = refl
+decided_alike true false p q = sym (q.1 (p.0 refl))
+decided_alike false true p q = p.1 (q.0 refl)
+decided_alike false false p q = refl

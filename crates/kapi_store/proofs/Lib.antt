@@ -9,4 +9,6 @@ pub mod OnLiterals
 pub mod Spans
 pub mod Standing
 pub mod Equality
+pub mod Stamped
+pub mod Labelled
 pub mod Places

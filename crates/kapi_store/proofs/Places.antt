@@ -5,9 +5,9 @@ use Rattle.std.specs.List.Sorted.{IsStrictlySortedBy}
 use Rattle.serde_json.specs.Data.{Data}
 use Rattle.kapi_text.specs.Gives.{◌>>=◌}
 use Rattle.kapi_tree.specs.Given.{given_of}
-use Rattle.kapi_tree.specs.Object.{tree_of}
+use Rattle.kapi_store.specs.Stored.{stored_tree}
 use Rattle.kapi_tree.specs.declared.given.GivenText.{GivenText}
-use Rattle.kapi_tree.specs.declared.object.Object.{Object}
+use Rattle.kapi_store.specs.declared.stored.StoredObject.{StoredObject}
 use Rattle.kapi_store.specs.Faults.{StoreFault, Exists, Missing, NoNamespace, Conflict}
 use Rattle.kapi_store.specs.Keys.{is_key, key_cmp}
 use Rattle.kapi_store.specs.Plain.{Plain, PlainChange, admits, admitted, free_place, has_namespace, has_object, plain_of, replaced, replacement, replacement_in_place}
@@ -33,7 +33,7 @@ pub nothing_stands : (s : Plain) (k : Key) → free_place s k ≡ Ok tt → look
 unfolding free_place has_object
 nothing_stands s k free = none_there (lookup (is_key k) s.objects) (free_is_empty s k (has_namespace k s) (has_object k s) refl free)
 
-none_mapped : (o : Option Object) → option_map tree_of o ≡ None → o ≡ None
+none_mapped : (o : Option StoredObject) → option_map stored_tree o ≡ None → o ≡ None
 none_mapped None is = refl
 none_mapped (Some x) is = absurd (cc is)
 
@@ -43,8 +43,8 @@ no_object s k free = none_mapped (lookup (is_key k) (objects s)) (sym (lookup_tr
 
 -- ---- the place of an object
 
-slot_by : (k : Key) (slots : List (Key × Option Object)) (tree : Data) → IsStrictlySortedBy key_cmp (keys_of slots)
-    → (o : Option Object) → lookup (is_key k) (live slots) ≡ o → option_map tree_of o ≡ Some tree → IsSome (lookup (is_key k) slots)
+slot_by : (k : Key) (slots : List (Key × Option StoredObject)) (tree : Data) → IsStrictlySortedBy key_cmp (keys_of slots)
+    → (o : Option StoredObject) → lookup (is_key k) (live slots) ≡ o → option_map stored_tree o ≡ Some tree → IsSome (lookup (is_key k) slots)
 slot_by k slots tree ordered None at is = absurd (cc is)
 slot_by k slots tree ordered (Some x) at is = slot_there key_cmp key_total k x slots ordered at
 

@@ -9,10 +9,10 @@ use Rattle.std.specs.Cmp.{first_so, second_so, nat_cmp_total}
 use Rattle.std.specs.Cmp.Lexicographic.{slice_cmp}
 use Rattle.std.specs.Str.{bytes_eq}
 use Rattle.std.proofs.lemmas.Slice.Eq.{bytes_eq-Decides}
-use Rattle.kapi_tree.specs.Object.{tree_of}
+use Rattle.kapi_store.specs.Stored.{stored_tree}
 use Rattle.kapi_model.specs.Selector.{matches}
 use Rattle.kapi_tree.specs.Tree.{in_metadata}
-use Rattle.kapi_tree.specs.declared.object.Object.{Object}
+use Rattle.kapi_store.specs.declared.stored.StoredObject.{StoredObject}
 use Rattle.kapi_model.specs.declared.row.ResourceRow.{ResourceRow}
 use Rattle.kapi_model.specs.declared.selector.Selector.{Selector}
 use Rattle.kapi_store.specs.declared.key.Key.{Key}
@@ -112,14 +112,14 @@ module _ {K X : Type 0} (r : K → Bool) (p : K × X → Bool) (in_range : (e : 
       ] refl
 
 -- what is listed lies in the range, so that nothing else need be read
-pub listed_between : (row : ResourceRow) (namespace : List ℕ) (selector : Selector) (name : List ℕ) (es : List (Key × Option Object))
+pub listed_between : (row : ResourceRow) (namespace : List ℕ) (selector : Selector) (name : List ℕ) (es : List (Key × Option StoredObject))
     → listed_objects row namespace selector name (live (entries_between key_cmp (Included (first_key row namespace name)) (Excluded (end_key row namespace name)) es))
     ≡ listed_objects row namespace selector name (live es)
 unfolding is_listed
 listed_between row namespace selector name es =
     live_between (range_contains key_cmp (Included (first_key row namespace name)) (Excluded (end_key row namespace name)))
-    (λ e. is_listed row namespace selector name e.0 (tree_of e.1))
-    (λ e. λ h. within_is_between row namespace name e.0 (first_so (is_within row namespace name e.0) (matches selector (in_metadata (codes "labels") (tree_of e.1))) h))
+    (λ e. is_listed row namespace selector name e.0 (stored_tree e.1))
+    (λ e. λ h. within_is_between row namespace name e.0 (first_so (is_within row namespace name e.0) (matches selector (in_metadata (codes "labels") (stored_tree e.1))) h))
     es
 
 -- the keys of the resource type in the namespace
@@ -160,7 +160,7 @@ module _ {K X : Type 0} (r : K → Bool) (p : K × X → Bool) (in_range : (e : 
       ] refl
 
 -- the keys of the namespace lie in the range
-pub standing_between : (row : ResourceRow) (namespace : List ℕ) (es : List (Key × Option Object))
+pub standing_between : (row : ResourceRow) (namespace : List ℕ) (es : List (Key × Option StoredObject))
     → list_any (λ e. is_of row namespace e.0) (live (entries_between key_cmp (Included (namespace_start row namespace)) (Excluded (namespace_end row namespace)) es))
     ≡ list_any (λ e. is_of row namespace e.0) (live es)
 standing_between row namespace es =

@@ -2,7 +2,7 @@
 use Rattle.std.proofs.Common.{◌≡◌, ℕ, Bool, true, false, ◌&&◌, ◌||◌, List, [], ◌∷◌, refl, ap, ◌∙◌}
 use Rattle.std.specs.List.{list_any}
 use Rattle.std.specs.Str.{bytes_eq}
-use Rattle.kapi_tree.specs.declared.object.Object.{Object}
+use Rattle.kapi_store.specs.declared.stored.StoredObject.{StoredObject}
 use Rattle.kapi_model.specs.declared.row.ResourceRow.{ResourceRow}
 use Rattle.kapi_store.specs.declared.key.Key.{Key}
 use Rattle.kapi_store.specs.Plain.{plain_of, trees, is_namespaced, holds_objects}
@@ -52,7 +52,7 @@ module _ {X : Type 0} (namespace : List ℕ) where
   all_rows [] os = none os
   all_rows (row ∷ rows) os = ap (λ b. row_holds os namespace row || b) (all_rows rows os) ∙ one_row row rows os
 
-any_trees : (p : Key → Bool) (os : List (Key × Object)) → list_any (λ e. p e.0) os ≡ list_any (λ e. p e.0) (trees os)
+any_trees : (p : Key → Bool) (os : List (Key × StoredObject)) → list_any (λ e. p e.0) os ≡ list_any (λ e. p e.0) (trees os)
 any_trees p [] = refl
 any_trees p (e ∷ os) = ap (λ b. p e.0 || b) (any_trees p os)
 

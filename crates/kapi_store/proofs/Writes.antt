@@ -2,14 +2,14 @@
 use Rattle.std.proofs.Common.{◌≡◌, ℕ, ◌+◌, List, [], ◌∷◌, ◌++◌, Option, None, Some, Ok, false, IsSome, option_map, map, refl, sym, ap, ◌∙◌, subst, append_assoc}
 use Rattle.std.specs.Map.{lookup}
 use Rattle.std.proofs.lemmas.List.{map-append}
-use Rattle.kapi_tree.specs.Object.{tree_of}
+use Rattle.kapi_store.specs.Stored.{stored_tree}
 use Rattle.kapi_store.specs.Keys.{is_key}
 use Rattle.serde_json.specs.Data.{Data}
 use Rattle.kapi_store.specs.Same.{same_tree}
 use Rattle.kapi_store.specs.Stamps.{with_stamps_of, replaced_tree}
 use Rattle.kapi_store.specs.Plain.{Plain, PlainChange, plain_change, trees, removals, revisions_left, replaced}
 use Rattle.kapi_store.proofs.Trees.{lookup_trees}
-use Rattle.kapi_tree.specs.declared.object.Object.{Object}
+use Rattle.kapi_store.specs.declared.stored.StoredObject.{StoredObject}
 use Rattle.kapi_store.specs.declared.key.Key.{Key}
 use Rattle.kapi_store.specs.declared.change.Change.{Change}
 use Rattle.kapi_store.specs.Changes.{placed, placed_all, AreRemovals, IsStep, IsWrite}
@@ -31,10 +31,10 @@ removals_alone [] h = tt
 removals_alone (c ∷ []) h = tt
 removals_alone (c ∷ d ∷ cs) h = h
 
-pub removals_slot : (slots : List (Key × Option Object)) (cs : List Change) → AreRemovals cs → HasSlot slots cs
+pub removals_slot : (slots : List (Key × Option StoredObject)) (cs : List Change) → AreRemovals cs → HasSlot slots cs
 unfolding AreRemovals HasSlot
 removals_slot slots [] h = tt
-removals_slot slots (c ∷ cs) h = λ some. let P : Option Object → Type 0 = λ o. IsSome o in absurd (cc (subst P h.0 some))
+removals_slot slots (c ∷ cs) h = λ some. let P : Option StoredObject → Type 0 = λ o. IsSome o in absurd (cc (subst P h.0 some))
 
 pub removals_more : (cs : List Change) (c : Change) → AreRemovals cs → c.new ≡ None → AreRemovals (cs ++ c ∷ [])
 unfolding AreRemovals
@@ -42,20 +42,20 @@ removals_more [] c h none = (none, tt)
 removals_more (d ∷ cs) c h none = (h.0, removals_more cs c h.1 none)
 
 -- one removal more
-pub removals_step : (os : List (Key × Object)) (cs : List Change) (before : ℕ) (k : Key) (o : Option Object) (left : List Key) → o ≡ lookup (is_key k) os
+pub removals_step : (os : List (Key × StoredObject)) (cs : List Change) (before : ℕ) (k : Key) (o : Option StoredObject) (left : List Key) → o ≡ lookup (is_key k) os
     → map plain_change (cs ++ record { revision = before + 1; key = k; old = o; new = None } ∷ []) ++ removals (trees os) (before + 1) left
     ≡ map plain_change cs ++ removals (trees os) before (k ∷ left)
 unfolding removals
 removals_step os cs before k o left is =
     let rest : List PlainChange = removals (trees os) (before + 1) left in
     ap (λ ms. ms ++ rest) (map-append plain_change cs (record { revision = before + 1; key = k; old = o; new = None } ∷ []))
-    ∙ append_assoc (map plain_change cs) (record { revision = before + 1; key = k; old = option_map tree_of o; new = None } ∷ []) rest
-    ∙ ap (λ old. map plain_change cs ++ record { revision = before + 1; key = k; old = old; new = None } ∷ rest) (ap (option_map tree_of) is ∙ sym (lookup_trees k os))
+    ∙ append_assoc (map plain_change cs) (record { revision = before + 1; key = k; old = option_map stored_tree o; new = None } ∷ []) rest
+    ∙ ap (λ old. map plain_change cs ++ record { revision = before + 1; key = k; old = old; new = None } ∷ rest) (ap (option_map stored_tree) is ∙ sym (lookup_trees k os))
 
 -- what was prepared is the replacement
-pub replaced_by : (s : Plain) (k : Key) (tree old : Data) (cs : List Change) (revision : ℕ) (before after : Object) → same_tree (with_stamps_of old tree) old ≡ false → revisions_left s 1 ≡ Ok tt
-    → cs ≡ record { revision = revision; key = k; old = Some before; new = Some after } ∷ [] → revision ≡ s.revision + 1 → tree_of before ≡ old → tree_of after ≡ replaced_tree revision old tree
+pub replaced_by : (s : Plain) (k : Key) (tree old : Data) (cs : List Change) (revision : ℕ) (before after : StoredObject) → same_tree (with_stamps_of old tree) old ≡ false → revisions_left s 1 ≡ Ok tt
+    → cs ≡ record { revision = revision; key = k; old = Some before; new = Some after } ∷ [] → revision ≡ s.revision + 1 → stored_tree before ≡ old → stored_tree after ≡ replaced_tree revision old tree
     → replaced s k tree old ≡ Ok (map plain_change cs)
 replaced_by s k tree old cs revision before after other left is next was now =
-    let made : tree_of after ≡ replaced_tree (s.revision + 1) old tree = now ∙ ap (λ n. replaced_tree n old tree) next in
+    let made : stored_tree after ≡ replaced_tree (s.revision + 1) old tree = now ∙ ap (λ n. replaced_tree n old tree) next in
     rw (other, left, is) (λ i. Ok (record { revision = sym next i; key = k; old = Some (sym was i); new = Some (sym made i) } ∷ []))

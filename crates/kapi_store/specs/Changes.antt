@@ -2,7 +2,7 @@
 use Rattle.std.specs.Prelude.{◌≡◌, ℕ, ◌+◌, ◌-◌, List, [], ◌∷◌, Option, None, Some, map, length, drop}
 use Rattle.std.specs.Map.{remove_entry}
 use Rattle.std.specs.BTreeMap.{insert_entry}
-use Rattle.kapi_tree.specs.declared.object.Object.{Object}
+use Rattle.kapi_store.specs.declared.stored.StoredObject.{StoredObject}
 use Rattle.kapi_store.specs.declared.key.Key.{Key}
 use Rattle.kapi_store.specs.declared.change.Change.{Change}
 use Rattle.kapi_store.specs.Keys.{key_cmp, is_key}
@@ -32,7 +32,7 @@ abbrev pub revision_of : Change → ℕ
 revision_of c = c.revision
 
 -- what each change leaves at its key
-abbrev pub left_by : List Change → List (Key × Option Object)
+abbrev pub left_by : List Change → List (Key × Option StoredObject)
 left_by cs = map (λ c. (c.key, c.new)) cs
 
 -- no change leaves an object
@@ -47,6 +47,6 @@ IsStep (c ∷ []) = Unit {0}
 IsStep (c ∷ d ∷ cs) = AreRemovals (c ∷ d ∷ cs)
 
 -- a write is one change that leaves this object or none, and then removals; or nothing
-unfoldable pub IsWrite : Option Object → List Change → Type 0
+unfoldable pub IsWrite : Option StoredObject → List Change → Type 0
 IsWrite kept [] = Unit {0}
 IsWrite kept (c ∷ cs) = (kept ≡ c.new) × AreRemovals cs

@@ -1,6 +1,8 @@
 pub mod Limits
 pub mod Keys
 pub mod Stamps
+pub mod Told
+pub mod Stored
 pub mod Same
 pub mod Changes
 pub mod State

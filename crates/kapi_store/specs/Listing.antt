@@ -3,10 +3,10 @@ use Rattle.std.specs.Prelude.{ℕ, Bool, true, ◌&&◌, List, [], ◌∷◌, co
 use Rattle.std.specs.List.{filter}
 use Rattle.std.specs.Str.{bytes_eq}
 use Rattle.serde_json.specs.Data.{Data}
-use Rattle.kapi_tree.specs.Object.{tree_of}
+use Rattle.kapi_store.specs.Stored.{stored_tree}
 use Rattle.kapi_model.specs.Selector.{matches}
 use Rattle.kapi_tree.specs.Tree.{in_metadata}
-use Rattle.kapi_tree.specs.declared.object.Object.{Object}
+use Rattle.kapi_store.specs.declared.stored.StoredObject.{StoredObject}
 use Rattle.kapi_model.specs.declared.row.ResourceRow.{ResourceRow}
 use Rattle.kapi_model.specs.declared.selector.Selector.{Selector}
 use Rattle.kapi_store.specs.declared.key.Key.{Key}
@@ -32,9 +32,9 @@ abbrev pub listed_trees : ResourceRow → List ℕ → Selector → List ℕ →
 listed_trees row namespace selector name entries = filter (λ e. is_listed row namespace selector name e.0 e.1) entries
 
 -- the list of some objects: in the order of their keys, those that are listed
-abbrev pub listed_objects : ResourceRow → List ℕ → Selector → List ℕ → List (Key × Object) → List (Key × Object)
-listed_objects row namespace selector name entries = filter (λ e. is_listed row namespace selector name e.0 (tree_of e.1)) entries
+abbrev pub listed_objects : ResourceRow → List ℕ → Selector → List ℕ → List (Key × StoredObject) → List (Key × StoredObject)
+listed_objects row namespace selector name entries = filter (λ e. is_listed row namespace selector name e.0 (stored_tree e.1)) entries
 
 -- what is shown of a list: keys and objects
-abbrev pub shown : Listed → Key × Object
+abbrev pub shown : Listed → Key × StoredObject
 shown l = (l.key.now, l.object.now)

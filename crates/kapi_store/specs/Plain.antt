@@ -7,10 +7,10 @@ use Rattle.std.specs.Map.{lookup}
 use Rattle.serde_json.specs.Data.{Data}
 use Rattle.kapi_text.specs.Gives.{◌>>=◌}
 use Rattle.kapi_tree.specs.Given.{given_of}
-use Rattle.kapi_tree.specs.Object.{tree_of}
+use Rattle.kapi_store.specs.Stored.{stored_tree}
 use Rattle.kapi_tree.specs.declared.given.GivenText.{GivenText}
 use Rattle.kapi_tree.specs.declared.given.GivenText.TheVariants as given
-use Rattle.kapi_tree.specs.declared.object.Object.{Object}
+use Rattle.kapi_store.specs.declared.stored.StoredObject.{StoredObject}
 use Rattle.kapi_model.specs.declared.row.ResourceRow.{ResourceRow}
 use Rattle.kapi_store.specs.declared.key.Key.{Key}
 use Rattle.kapi_store.specs.declared.change.Change.{Change}
@@ -37,12 +37,12 @@ pub record Plain : Type 0 where
   pub revision : ℕ
 
 -- the trees of some objects
-abbrev pub trees : List (Key × Object) → List (Key × Data)
-trees os = map (λ e. (e.0, tree_of e.1)) os
+abbrev pub trees : List (Key × StoredObject) → List (Key × Data)
+trees os = map (λ e. (e.0, stored_tree e.1)) os
 
 -- a change as data
 abbrev pub plain_change : Change → PlainChange
-plain_change c = record { revision = c.revision; key = c.key; old = option_map tree_of c.old; new = option_map tree_of c.new }
+plain_change c = record { revision = c.revision; key = c.key; old = option_map stored_tree c.old; new = option_map stored_tree c.new }
 
 -- a store as data; the changes that it keeps are left out
 abbrev pub plain_of : State → Plain

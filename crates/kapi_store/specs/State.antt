@@ -2,7 +2,7 @@
 use Rattle.std.specs.Prelude.{◌≡◌, ℕ, ◌+◌, ◌-◌, ◌≤◌, min, List, [], ◌∷◌, Option, None, Some, IsSome, length}
 use Rattle.std.specs.List.Sorted.{IsStrictlySortedBy}
 use Rattle.std.specs.Map.{lookup, keys_of}
-use Rattle.kapi_tree.specs.declared.object.Object.{Object}
+use Rattle.kapi_store.specs.declared.stored.StoredObject.{StoredObject}
 use Rattle.kapi_model.specs.declared.row.ResourceRow.{ResourceRow}
 use Rattle.kapi_store.specs.declared.key.Key.{Key}
 use Rattle.kapi_store.specs.declared.change.Change.{Change}
@@ -14,7 +14,7 @@ use Rattle.kapi_store.specs.Changes.{revision_of, Follow}
 -- the first and the current revision, and the last changes, the oldest first
 pub record State : Type 0 where
   pub table : List ResourceRow
-  pub slots : List (Key × Option Object)
+  pub slots : List (Key × Option StoredObject)
   pub spare : Option Key
   pub first : ℕ
   pub revision : ℕ
@@ -37,7 +37,7 @@ module _ {K X : Type 0} where
   IsSpare spare (e ∷ es) = (e.1 ≡ None → spare ≡ Some e.0) × IsSpare spare es
 
 -- the objects, in the order of their keys
-abbrev pub objects : State → List (Key × Object)
+abbrev pub objects : State → List (Key × StoredObject)
 objects s = live s.slots
 
 -- nothing that a caller sees was changed; the empty slot may be another
@@ -49,7 +49,7 @@ pub record Same (s t : State) : Type 0 where
   pub first : t.first ≡ s.first
 
 -- the first change's key has a slot, where the change leaves an object
-unfoldable pub HasSlot : List (Key × Option Object) → List Change → Type 0
+unfoldable pub HasSlot : List (Key × Option StoredObject) → List Change → Type 0
 HasSlot slots [] = Unit {0}
 HasSlot slots (c ∷ cs) = IsSome c.new → IsSome (lookup (is_key c.key) slots)
 

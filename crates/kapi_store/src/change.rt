@@ -1,6 +1,6 @@
 use crate::key::Key;
+use crate::stored::StoredObject;
 use kapi_text::Memory;
-use kapi_tree::Object;
 use std::alloc::Global;
 use std::marker::Model;
 use std::rc::Rc;
@@ -8,15 +8,15 @@ use std::rc::Rc;
 /// An object with several owners: the map, the changes and their readers.
 #[derive(Debug, Drop)]
 pub struct Shared {
-    owner: Rc<Object>,
+    owner: Rc<StoredObject>,
 }
 
 impl Model for Shared {
     ghost use Rattle.std.specs.Coded.{codes};
-    ghost use Rattle.kapi_tree.specs.declared.object.Object.{Object};
-    ghost use Rattle.kapi_tree.specs.contracts.object.Object as held;
+    ghost use Rattle.kapi_store.specs.declared.stored.StoredObject.{StoredObject};
+    ghost use Rattle.kapi_store.specs.contracts.stored.StoredObject as held;
 
-    ghost Value = { Object };
+    ghost Value = { StoredObject };
 
     ghost coded = { Prim.hlevel (codes, held.the_row.coded) };
 
@@ -27,7 +27,7 @@ impl Shared {
     ghost use Rattle.std.specs.Prelude.{◌≡◌, IfOk};
 
     /// The object's first owner.
-    pub(crate) fn new(alloc: Global, object: Object) -> Result<Shared, Memory>
+    pub(crate) fn new(alloc: Global, object: StoredObject) -> Result<Shared, Memory>
         ensures { IfOk result (λ s. s ≡ object) }
     {
         Ok(Shared {
@@ -45,7 +45,7 @@ impl Shared {
     }
 
     /// The object, borrowed.
-    pub fn get(&self) -> &Object
+    pub fn get(&self) -> &StoredObject
         ensures { result.now ≡ self.now }
     {
         self.owner.as_ref()

@@ -4,14 +4,15 @@
 pub mod change;
 pub mod error;
 pub mod key;
+mod labels;
 pub mod listing;
 mod namespaces;
 pub mod ready;
 mod rows;
-mod same;
 mod slots;
 mod stamps;
 pub mod store;
+pub mod stored;
 pub mod window;
 mod worked;
 
@@ -21,5 +22,6 @@ pub use key::Key;
 pub use listing::{Listed, is_asked};
 pub use ready::Ready;
 pub use store::{LAST_REVISION, Store};
+pub use stored::StoredObject;
 pub use window::{Changes, WINDOW};
 pub use worked::worked_rows;

@@ -1,8 +1,8 @@
 //! Lists: the objects of a resource, of one namespace or name or of all.
 
 ghost use Rattle.std.specs.Prelude.{◌≡◌, IfOk, map};
-ghost use Rattle.kapi_tree.specs.Object.{tree_of};
 ghost use Rattle.kapi_store.specs.State.{live};
+ghost use Rattle.kapi_store.specs.Stored.{stored_tree};
 ghost use Rattle.kapi_store.specs.Listing.{is_asked as is_asked_of, is_within as is_within_of, is_listed as is_listed_of, listed_objects, shown};
 ghost use Rattle.kapi_store.specs.Private.Span.{after as after_text, first_key as first_key_of, end_key as end_key_of};
 
@@ -60,9 +60,9 @@ impl<'a> Selection<'a> {
     /// Whether the object is listed.
     #[tactic(auto, unfolding(crate::specs::Listing::is_listed))]
     fn is_listed(&self, key: &Key, object: &Shared) -> bool
-        ensures { result ≡ is_listed_of self.now.row.now self.now.namespace.now self.now.selector.now self.now.name.now key.now (tree_of object.now) }
+        ensures { result ≡ is_listed_of self.now.row.now self.now.namespace.now self.now.selector.now self.now.name.now key.now (stored_tree object.now) }
     {
-        self.is_within(key) && self.selector.matches(&object.get().labels())
+        self.is_within(key) && object.get().is_selected(self.selector)
     }
 
     /// The first key that may be listed.

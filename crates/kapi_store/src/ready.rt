@@ -1,8 +1,8 @@
 use crate::change::{Change, Shared};
 use crate::key::Key;
 use crate::slots::share_at;
+use crate::stored::StoredObject;
 use kapi_text::{Memory, TryCopy};
-use kapi_tree::Object;
 use std::alloc::Global;
 use std::collections::BTreeMap;
 use std::marker::Model;
@@ -82,7 +82,7 @@ impl Ready {
         alloc: Global,
         revision: u64,
         key: &Key,
-        object: Object,
+        object: StoredObject,
     ) -> Result<Ready, Memory>
         ensures { IfOk result (λ r. r ≡ record { revision = revision; key = key.now; old = None; new = Some object } ∷ []) }
     {
@@ -101,7 +101,7 @@ impl Ready {
         revision: u64,
         key: Key,
         old: &Shared,
-        object: Object,
+        object: StoredObject,
     ) -> Result<Ready, Memory>
         ensures { IfOk result (λ r. r ≡ record { revision = revision; key = key; old = Some old.now; new = Some object } ∷ []) }
     {

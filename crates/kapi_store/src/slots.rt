@@ -8,7 +8,7 @@ ghost use Rattle.kapi_store.specs.Keys.{key_cmp, is_key};
 ghost use Rattle.kapi_store.specs.Changes.{placed};
 ghost use Rattle.kapi_store.specs.State.{live, IsSpare};
 ghost use Rattle.kapi_store.specs.declared.key.Key.{Key};
-ghost use Rattle.kapi_tree.specs.declared.object.Object.{Object};
+ghost use Rattle.kapi_store.specs.declared.stored.StoredObject.{StoredObject};
 
 use crate::change::Shared;
 use crate::key::Key;
@@ -89,7 +89,7 @@ pub fn place(
 
 /// Forgets the key of the slot that may be empty, where it is this one.
 fn forget_if(spare: &mut Option<Key>, key: &Key)
-    ensures { (es ds : List (Key × Option Object)) → (IsSpare (Some key.now) es → IsSpare None ds) → (IsSpare spare.old es → IsSpare spare.old ds) → IsSpare spare.old es → IsSpare spare.new ds }
+    ensures { (es ds : List (Key × Option StoredObject)) → (IsSpare (Some key.now) es → IsSpare None ds) → (IsSpare spare.old es → IsSpare spare.old ds) → IsSpare spare.old es → IsSpare spare.new ds }
 {
     let is_it = match &*spare {
         Some(kept) => kept == key,

@@ -6,7 +6,8 @@ use crate::namespaces::{any_stands_in, is_namespace};
 use crate::ready::Ready;
 use crate::rows::is_namespaced;
 use crate::slots::{find, place, reserve_slot};
-use crate::stamps::{admitted, at_revision, created, is_unchanged, with_stamps_of};
+use crate::stamps::{admitted, created, in_place_of, is_unchanged, with_stamps_of};
+use crate::stored::StoredObject;
 use crate::window::{Changes, WINDOW, Window};
 use kapi_model::{ResourceRow, Selector};
 use kapi_text::{Memory, Sequence, Text};
@@ -47,7 +48,7 @@ impl Drop for Store {
 
 impl Model for Store {
     ghost use Rattle.std.specs.Coded.{codes};
-    ghost use Rattle.kapi_tree.specs.contracts.object.Object as held;
+    ghost use Rattle.kapi_store.specs.contracts.stored.StoredObject as held;
     ghost use Rattle.kapi_store.specs.contracts.change.Change as changed;
     ghost use Rattle.kapi_store.specs.State.{State, IsStore};
 
@@ -76,6 +77,7 @@ impl Store {
     ghost use Rattle.kapi_store.specs.Lent.{changes_of};
     ghost use Rattle.kapi_store.specs.Faults.{fault_of};
     ghost use Rattle.kapi_store.specs.Stamps.{with_stamps_of as with_stamps};
+    ghost use Rattle.kapi_store.specs.Stored.{stored_tree};
     ghost use Rattle.kapi_store.specs.Plain.{Plain, PlainChange, RefinesPlain, plain_of, plain_change, has_object as has_object_at, has_namespace as has_namespace_of, free_place, revisions_left, creation, creation_in_place, replacement, replacement_in_place, removal, opened, written, trees};
     ghost use Rattle.kapi_store.specs.Plain.{changes_after as changes_after_in, replaceable as replaceable_at, holds_objects as holds_objects_in, is_full_namespace, removable, replaced, window_start as window_start_of};
     ghost use Rattle.kapi_store.specs.Limits.{last_revision, window_limit};
@@ -111,9 +113,9 @@ impl Store {
     }
 
     /// The object at the key, if any. Allocates nothing.
-    pub fn get(&self, key: &Key) -> Option<&Object>
+    pub fn get(&self, key: &Key) -> Option<&StoredObject>
         ensures object { option_copied result ≡ lookup (is_key key.now) (objects_of self.now) }
-        ensures tree { option_map (λ o. tree_of o.now) result ≡ lookup (is_key key.now) (plain_of self.now).objects }
+        ensures tree { option_map (λ o. stored_tree o.now) result ≡ lookup (is_key key.now) (plain_of self.now).objects }
     {
         match find(&self.slots, key) {
             Some(object) => Some(object.get()),
@@ -229,8 +231,8 @@ impl Store {
     /// is none (`Missing`) and where the version is no text, or a text that is neither empty nor the current version
     /// (`Conflict`).
     pub fn replaceable(&self, key: &Key, given: &GivenText) -> Result<&Shared, StoreError>
-        ensures gives { Gives fault_of (λ o. tree_of o.now) result (replaceable_at (plain_of self.now) key.now given.now) }
-        ensures found { IfOk result (λ o. lookup (is_key key.now) (plain_of self.now).objects ≡ Some (tree_of o.now)) }
+        ensures gives { Gives fault_of (λ o. stored_tree o.now) result (replaceable_at (plain_of self.now) key.now given.now) }
+        ensures found { IfOk result (λ o. lookup (is_key key.now) (plain_of self.now).objects ≡ Some (stored_tree o.now)) }
     {
         match find(&self.slots, key) {
             Some(object) => admitted(self.alloc, object, given),
@@ -292,9 +294,9 @@ impl Store {
         object: Object,
         old: &Shared,
     ) -> Result<Ready, StoreError>
-        requires { lookup (is_key key) (plain_of self.now).objects ≡ Some (tree_of old.now) }
+        requires { lookup (is_key key) (plain_of self.now).objects ≡ Some (stored_tree old.now) }
         ensures gives { Gives fault_of (map plain_change) result (replacement_in_place (plain_of self.now) key (tree_of object)) }
-        ensures unchanged { IfOk result (λ r. (r ≡ []) ↔ (with_stamps (tree_of old.now) (tree_of object) ≡ tree_of old.now)) }
+        ensures unchanged { IfOk result (λ r. (r ≡ []) ↔ (with_stamps (stored_tree old.now) (tree_of object) ≡ stored_tree old.now)) }
         ensures fits { IfOk result (Fits self.now) }
     {
         self.replace_old(key, object, old)
@@ -302,8 +304,8 @@ impl Store {
 
     /// The object at the key, which this one may replace.
     fn replaceable_by(&self, key: &Key, object: &Object) -> Result<&Shared, StoreError>
-        ensures gives { Gives fault_of (λ o. tree_of o.now) result (replaceable_at (plain_of self.now) key.now (given_of (tree_of object.now)).resource_version) }
-        ensures found { IfOk result (λ o. lookup (is_key key.now) (plain_of self.now).objects ≡ Some (tree_of o.now)) }
+        ensures gives { Gives fault_of (λ o. stored_tree o.now) result (replaceable_at (plain_of self.now) key.now (given_of (tree_of object.now)).resource_version) }
+        ensures found { IfOk result (λ o. lookup (is_key key.now) (plain_of self.now).objects ≡ Some (stored_tree o.now)) }
     {
         let given = object.given(self.alloc)?;
         self.replaceable(key, &given.resource_version)
@@ -311,18 +313,19 @@ impl Store {
 
     /// Prepares the replacement of a stored object.
     fn replace_old(&self, key: Key, object: Object, old: &Shared) -> Result<Ready, StoreError>
-        requires { lookup (is_key key) (plain_of self.now).objects ≡ Some (tree_of old.now) }
-        ensures gives { Gives fault_of (map plain_change) result (replaced (plain_of self.now) key (tree_of object) (tree_of old.now)) }
-        ensures unchanged { IfOk result (λ r. (r ≡ []) ↔ (with_stamps (tree_of old.now) (tree_of object) ≡ tree_of old.now)) }
+        requires { lookup (is_key key) (plain_of self.now).objects ≡ Some (stored_tree old.now) }
+        ensures gives { Gives fault_of (map plain_change) result (replaced (plain_of self.now) key (tree_of object) (stored_tree old.now)) }
+        ensures unchanged { IfOk result (λ r. (r ≡ []) ↔ (with_stamps (stored_tree old.now) (tree_of object) ≡ stored_tree old.now)) }
         ensures fits { IfOk result (Fits self.now) }
     {
         let object = with_stamps_of(self.alloc, object, old)?;
-        if is_unchanged(&object, old) {
+        let is_same = is_unchanged(self.alloc, &object, old)?;
+        if is_same {
             return Ok(Ready::nothing(self.alloc));
         }
         self.check_revisions(1)?;
         let revision = self.revision + 1;
-        let new = at_revision(self.alloc, object, old, revision)?;
+        let new = in_place_of(self.alloc, object, old, revision)?;
         Ok(Ready::replacement(self.alloc, revision, key, old, new)?)
     }
 

@@ -1,7 +1,7 @@
 -- The policy changes of one step.
 use Rattle.std.proofs.Common.{◌≡◌, List, [], ◌∷◌, ◌++◌, Option, None, Some, map, option_map, refl, sym, ap, subst}
 use Rattle.serde_json.specs.Data.{Data}
-use Rattle.kapi_tree.specs.Object.{tree_of}
+use Rattle.kapi_store.specs.Stored.{stored_tree}
 use Rattle.kapi_policy.specs.declared.change.PolicyChange.{PolicyChange}
 use Rattle.kapi_store.specs.Changes.{AreRemovals, IsStep}
 use Rattle.kapi_store.specs.Plain.{plain_change}
@@ -24,7 +24,7 @@ removals_delete : (cs : List Change) → AreRemovals cs → AreDeletions (policy
 unfolding AreRemovals AreDeletions policy_changes
 removals_delete [] h = tt
 removals_delete (c ∷ cs) h =
-    deletions_after (policy_kind c.key) c.key (option_map tree_of c.new) (ap (option_map tree_of) h.0) (policy_changes (map plain_change cs)) (removals_delete cs h.1)
+    deletions_after (policy_kind c.key) c.key (option_map stored_tree c.new) (ap (option_map stored_tree) h.0) (policy_changes (map plain_change cs)) (removals_delete cs h.1)
 
 -- one change, of a policy object or of none, is a step
 one_step : (o : Option PolicyKind) (k : Key) (left : Option Data) → IsPolicyStep (changes_at o k left ++ [])
@@ -34,7 +34,7 @@ one_step (Some of) k left = tt
 policy_step : (cs : List Change) → IsStep cs → IsPolicyStep (policy_changes (map plain_change cs))
 unfolding policy_changes
 policy_step [] h = tt
-policy_step (c ∷ []) h = one_step (policy_kind c.key) c.key (option_map tree_of c.new)
+policy_step (c ∷ []) h = one_step (policy_kind c.key) c.key (option_map stored_tree c.new)
 policy_step (c ∷ d ∷ cs) h = deletions_step (policy_changes (map plain_change (c ∷ d ∷ cs))) (removals_delete (c ∷ d ∷ cs) h)
 
 -- the policy changes of a step of the store are a step

@@ -2,6 +2,7 @@ ghost use Rattle.std.specs.Prelude.{◌≡◌, ◌++◌, IfOk, OnOk, map, option
 ghost use Rattle.kapi_tree.specs.Object.{tree_of};
 ghost use Rattle.kapi_store.specs.Changes.{IsStep};
 ghost use Rattle.kapi_store.specs.Plain.{plain_change};
+ghost use Rattle.kapi_store.specs.Stored.{stored_tree};
 ghost use Rattle.kapi_stored_policy.specs.declared.kind.PolicyKind.TheVariants as of_kind;
 ghost use Rattle.kapi_stored_policy.specs.Reading as reading;
 
@@ -48,10 +49,13 @@ fn push_change(alloc: Global, found: &mut Vec<PolicyChange>, change: &Change) ->
 }
 
 fn change_at(alloc: Global, kind: PolicyKind, change: &Change) -> Result<PolicyChange, Memory>
-    ensures { IfOk result (λ c. c ≡ reading.change_at kind change.now.key (option_map tree_of change.now.new)) }
+    ensures { IfOk result (λ c. c ≡ reading.change_at kind change.now.key (option_map stored_tree change.now.new)) }
 {
     match &change.new {
-        Some(object) => Ok(PolicyChange::Put(put_at(alloc, kind, &change.key, object.get())?)),
+        Some(object) => {
+            let object = object.get().object(alloc)?;
+            Ok(PolicyChange::Put(put_at(alloc, kind, &change.key, &object)?))
+        }
         None => Ok(PolicyChange::Delete(key_at(alloc, kind, &change.key)?)),
     }
 }

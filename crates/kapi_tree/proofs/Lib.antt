@@ -1,9 +1,11 @@
+pub mod Depths
 pub mod NoFloats
 pub mod Closed
 pub mod Ordered
 pub mod Bodies
 pub mod Lists
 pub mod Puts
+pub mod Metadata
 pub mod Removal
 pub mod Written
 pub mod Fields

@@ -28,17 +28,17 @@ filter_has_no_float passes (member l d ms) h =
       | false ↦ filter_has_no_float passes ms parts.1
     ]
 
-pub no_floats : Closed (λ d. has_float d ≡ false) (λ ds. items_have_float ds ≡ false) (λ ms. members_have_float ms ≡ false)
+pub no_floats : Closed (λ n d. has_float d ≡ false) (λ n ds. items_have_float ds ≡ false) (λ n ms. members_have_float ms ≡ false)
 no_floats = record {
-  text = λ s. refl;
-  list = λ ds h. h;
-  members = λ ms h. h;
-  inside = λ ms h. h;
-  no_item = refl;
-  one_more = λ d ds hd h. rw hd h;
-  no_member = refl;
-  with_member = put_has_no_float;
-  without_one = λ k ms h. filter_has_no_float (λ other. not (bytes_eq k other)) ms h;
-  first = λ k d ms h. (or_parts (has_float d) (members_have_float ms) h).0;
-  others = λ k d ms h. (or_parts (has_float d) (members_have_float ms) h).1;
+  text = λ n s. refl;
+  list = λ n ds h. h;
+  members = λ n ms h. h;
+  inside = λ n ms h. h;
+  no_item = λ n. refl;
+  one_more = λ n d ds hd h. rw hd h;
+  no_member = λ n. refl;
+  with_member = λ n. put_has_no_float;
+  without_one = λ n k ms h. filter_has_no_float (λ other. not (bytes_eq k other)) ms h;
+  first = λ n k d ms h. (or_parts (has_float d) (members_have_float ms) h).0;
+  others = λ n k d ms h. (or_parts (has_float d) (members_have_float ms) h).1;
 }

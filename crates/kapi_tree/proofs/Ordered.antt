@@ -15,7 +15,7 @@ use Rattle.kapi_tree.specs.Order.{precedes, is_ordered, are_ordered, in_order}
 use Rattle.kapi_tree.specs.Tree.{filter_members, without}
 use Rattle.kapi_tree.proofs.Closed.{Closed}
 
-is_less : (o : Ordering) → is_lt o ≡ true → o ≡ Less
+pub is_less : (o : Ordering) → is_lt o ≡ true → o ≡ Less
 is_less Less h = refl
 is_less Equal h = absurd (cc h)
 is_less Greater h = absurd (cc h)
@@ -25,7 +25,7 @@ turned : (k l : List ℕ) → slice_cmp nat_cmp k l ≡ Greater → slice_cmp na
 turned k l h = nat_list_cmp_total.antisymm l k ∙ ap ordering_reverse h
 
 -- a key before another that comes before members comes before them
-precedes_too : (k l : List ℕ) (ms : Members) → slice_cmp nat_cmp k l ≡ Less → precedes l ms ≡ true → precedes k ms ≡ true
+pub precedes_too : (k l : List ℕ) (ms : Members) → slice_cmp nat_cmp k l ≡ Less → precedes l ms ≡ true → precedes k ms ≡ true
 precedes_too k l no_members h p = refl
 precedes_too k l (member m d ms) h p =
     let below : slice_cmp nat_cmp l m ≡ Less = is_less (slice_cmp nat_cmp l m) (first_so (is_lt (slice_cmp nat_cmp l m)) (precedes l ms) p) in
@@ -85,19 +85,19 @@ none_removed key (member l d ms) p =
     let other : bytes_eq key l ≡ false = sym (is_eq-slice_cmp key l) ∙ ap is_eq less in
     rw other (ap (member l d) (none_removed key ms (second_so (is_lt (slice_cmp nat_cmp key l)) (precedes key ms) p)))
 
-pub keys_in_order : Closed (λ d. is_ordered d ≡ true) (λ ds. are_ordered ds ≡ true) (λ ms. in_order ms ≡ true)
+pub keys_in_order : Closed (λ n d. is_ordered d ≡ true) (λ n ds. are_ordered ds ≡ true) (λ n ms. in_order ms ≡ true)
 keys_in_order = record {
-  text = λ s. refl;
-  list = λ ds h. h;
-  members = λ ms h. h;
-  inside = λ ms h. h;
-  no_item = refl;
-  one_more = λ d ds hd h. rw hd h;
-  no_member = refl;
-  with_member = put_in_order;
-  without_one = λ k ms h. filter_in_order (λ other. not (bytes_eq k other)) ms h;
-  first = value_ordered;
-  others = others_in_order;
+  text = λ n s. refl;
+  list = λ n ds h. h;
+  members = λ n ms h. h;
+  inside = λ n ms h. h;
+  no_item = λ n. refl;
+  one_more = λ n d ds hd h. rw hd h;
+  no_member = λ n. refl;
+  with_member = λ n. put_in_order;
+  without_one = λ n k ms h. filter_in_order (λ other. not (bytes_eq k other)) ms h;
+  first = λ n. value_ordered;
+  others = λ n. others_in_order;
 }
 
 -- ---- what is read of a text

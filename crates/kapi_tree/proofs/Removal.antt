@@ -1,17 +1,23 @@
 -- Members without one of them.
-use Rattle.std.proofs.Common.{◌≡◌, ℕ, List, [], ◌∷◌, Bool, true, false, not, if◌then◌else◌, cond, bytes_eq, refl, sym, ap, String, Global, string_bytes}
+use Rattle.std.proofs.Common.{◌≡◌, ◌∙◌, ℕ, List, [], ◌∷◌, Bool, true, false, not, if◌then◌else◌, Some, codes, cond, bytes_eq, refl, sym, ap, String, Global, string_bytes}
 use Rattle.std.proofs.lemmas.Map.Text.{is_eq-slice_cmp}
 use Rattle.std.proofs.lemmas.Slice.Eq.{bytes_eq-Decides}
 use Rattle.std.specs.BTreeMap.{is_at}
+use Rattle.std.specs.Cmp.{first_so}
 use Rattle.std.specs.Cmp.Lexicographic.{slice_cmp}
 use Rattle.std.specs.Map.{remove_entry}
-use Rattle.std.specs.Ordering.{nat_cmp}
-use Rattle.serde_json.specs.Data.{Members, member}
+use Rattle.std.specs.Ordering.{nat_cmp, is_eq, is_lt, match_ordering}
+use Rattle.std.specs.declared.cmp.Ordering.{Ordering}
+use Rattle.std.specs.declared.cmp.Ordering.TheVariants.{Less, Equal, Greater}
+use Rattle.serde_json.specs.Data.{Data, string, object, Members, no_members, member, put}
+use Rattle.serde_json.specs.Find.{get_member}
 use Rattle.serde_json.specs.View.{view, members_view}
 use Rattle.serde_json.specs.declared.value.Value.{Value}
-use Rattle.kapi_tree.proofs.Ordered.{none_removed, key_first, others_in_order}
-use Rattle.kapi_tree.specs.Order.{in_order}
-use Rattle.kapi_tree.specs.Tree.{without}
+use Rattle.kapi_tree.proofs.Closed.{members_hold}
+use Rattle.kapi_tree.proofs.Metadata.{in_object}
+use Rattle.kapi_tree.proofs.Ordered.{is_less, keys_in_order, none_removed, key_first, others_in_order, precedes_too}
+use Rattle.kapi_tree.specs.Order.{in_order, is_ordered, precedes}
+use Rattle.kapi_tree.specs.Tree.{members_or_none, metadata_of, with_text, without}
 
 abbrev pub Entry : Type 0
 Entry = String Global × Value
@@ -29,3 +35,37 @@ members_view_removed key (e ∷ es) h =
       | false ↦ λ i. ap (member k (view e.1)) (members_view_removed key es (others_in_order k (view e.1) ms h))
     ] in
     rw (is_eq-slice_cmp key k) (cases refl)
+
+-- ---- a value in the place of another
+
+put_front : (k : List ℕ) (d : Data) (ms : Members) → precedes k ms ≡ true → put k d ms ≡ member k d ms
+put_front k d no_members p = refl
+put_front k d (member l e ms) p =
+    let less : slice_cmp nat_cmp k l ≡ Less = is_less (slice_cmp nat_cmp k l) (first_so (is_lt (slice_cmp nat_cmp k l)) (precedes k ms) p) in
+    rw less refl
+
+put_back : (k : List ℕ) (d : Data) (ms : Members) → in_order ms ≡ true → put k d (without k ms) ≡ put k d ms
+put_back k d no_members h = refl
+put_back k d (member l e ms) h =
+    let equal : (o : Ordering) → slice_cmp nat_cmp k l ≡ o → bytes_eq k l ≡ is_eq o = λ o is. sym (is_eq-slice_cmp k l) ∙ ap is_eq is in
+    elim (slice_cmp nat_cmp k l) as (λ o. slice_cmp nat_cmp k l ≡ o
+    → put k d (without k (member l e ms)) ≡ match_ordering o (member k d (member l e ms)) (member l d ms) (member l e (put k d ms))) [
+      | Less ↦ λ is. rw (equal Less is, is) (ap (λ x. member k d (member l e x)) (none_removed k ms (precedes_too k l ms is (key_first l e ms h))))
+      | Equal ↦ λ is.
+          let same : k ≡ l = (bytes_eq-Decides k l).0 (equal Equal is) in
+          let before : precedes k ms ≡ true = rw same (key_first l e ms h) in
+          rw (equal Equal is) (ap (put k d) (none_removed k ms before) ∙ put_front k d ms before ∙ ap (λ x. member x d ms) same)
+      | Greater ↦ λ is. rw (equal Greater is, is) (ap (member l e) (put_back k d ms (others_in_order l e ms h)))
+    ] refl
+
+-- the metadata with a text, put back where they were taken out
+pub text_put_back : (key text : List ℕ) (d : Data) → is_ordered d ≡ true
+    → object (put (codes "metadata") (object (put key (string text) (members_or_none (get_member (codes "metadata") (members_or_none (Some d))))))
+    (without (codes "metadata") (members_or_none (Some d)))) ≡ with_text key text d
+text_put_back key text d h =
+    let ms : Members = members_or_none (Some d) in
+    rw (in_object (codes "metadata") d)
+    (ap object (put_back (codes "metadata") (object (put key (string text) (metadata_of d))) ms (members_hold keys_in_order 0 d h)))
+
+pub members_are_in_order : (d : Data) → is_ordered d ≡ true → in_order (members_or_none (Some d)) ≡ true
+members_are_in_order d h = members_hold keys_in_order 0 d h

@@ -1,38 +1,42 @@
-ghost use Rattle.std.specs.Prelude.{◌≡◌, true, false};
+ghost use Rattle.std.specs.Prelude.{◌≡◌, ◌≤◌, true, false};
+ghost use Rattle.serde_json.specs.Data.{depth};
+ghost use Rattle.serde_json.specs.Read.{max_depth};
 ghost use Rattle.serde_json.specs.View.{view};
 ghost use Rattle.serde_json.specs.Written.{has_float};
 ghost use Rattle.kapi_tree.specs.Order.{is_ordered};
 
 use crate::given::{Given, given_in};
-use crate::tree::{in_metadata, with_content, with_member_of, with_text, without_member};
-use kapi_model::Labels;
+use crate::tree::{with_content, with_member_of, with_text, without_member};
 use kapi_text::Memory;
 use serde_json::{Map, Value};
 use std::alloc::Global;
 
 /// A declared object: a JSON tree (RFC 8259) without any number that reads as a float, the members of each of its
-/// objects in the order of their keys.
+/// objects in the order of their keys, which nests no deeper than a text that is read as JSON.
 #[derive(Debug, Drop)]
 pub struct Object {
     tree: Value,
     ghost whole: { has_float (view tree) ≡ false },
     ghost ordered: { is_ordered (view tree) ≡ true },
+    ghost nests: { depth (view tree) ≤ max_depth },
 }
 
 impl Object {
-    ghost use Rattle.std.specs.Prelude.{◌≡◌, true, false, codes, IfOk};
+    ghost use Rattle.std.specs.Prelude.{◌≡◌, ◌≤◌, ◌<◌, true, false, codes, IfOk};
+    ghost use Rattle.serde_json.specs.Data.{depth, members_depth};
+    ghost use Rattle.serde_json.specs.Read.{max_depth};
     ghost use Rattle.serde_json.specs.View.{view, members_view};
     ghost use Rattle.serde_json.specs.Written.{compact_text, members_have_float};
     ghost use Rattle.kapi_tree.specs.Given.{given_of};
     ghost use Rattle.kapi_tree.specs.Object.{tree_of, stamped_tree};
     ghost use Rattle.kapi_tree.specs.Order.{is_ordered, in_order};
-    ghost use Rattle.kapi_model.specs.Selector.{labels_of};
     ghost use Rattle.kapi_tree.specs.Tree as trees;
 
-    /// The object that an ordered tree without floats is.
+    /// The object that an ordered tree without floats is, which is no deeper than one that is read.
     pub fn new(tree: Value) -> Object
         requires whole { has_float (view tree) ≡ false }
         requires ordered { is_ordered (view tree) ≡ true }
+        requires nests { depth (view tree) ≤ max_depth }
         ensures { tree_of result ≡ view tree }
     {
         Object { tree }
@@ -46,27 +50,11 @@ impl Object {
         self.tree.to_vec(alloc)
     }
 
-    /// A copy, equal to its source as a tree.
-    pub fn copy(&self, alloc: Global) -> Result<Object, Memory>
-        ensures { IfOk result (λ o. tree_of o ≡ tree_of self.now) }
-    {
-        Ok(Object {
-            tree: self.tree.clone()?,
-        })
-    }
-
     /// What the object's metadata specifies as its name, its namespace and its resource version.
     pub fn given(&self, alloc: Global) -> Result<Given, Memory>
         ensures { IfOk result (λ g. g ≡ given_of (tree_of self.now)) }
     {
         given_in(alloc, &self.tree)
-    }
-
-    /// The object's labels, borrowed; allocates nothing.
-    pub fn labels(&self) -> Labels<'_>
-        ensures { labels_of result ≡ trees.in_metadata (codes "labels") (tree_of self.now) }
-    {
-        Labels::new(in_metadata(&self.tree, "labels"))
     }
 
     /// The object's tree, borrowed; allocates nothing.
@@ -80,6 +68,7 @@ impl Object {
     pub fn with_content(&self, alloc: Global, content: Map<String, Value>) -> Result<Object, Memory>
         requires whole { members_have_float (members_view content.entries) ≡ false }
         requires ordered { in_order (members_view content.entries) ≡ true }
+        requires nests { members_depth (members_view content.entries) < max_depth }
         ensures { IfOk result (λ o. tree_of o ≡ trees.with_content (members_view content.entries) (tree_of self.now)) }
     {
         Ok(Object {
@@ -106,31 +95,34 @@ impl Object {
         })
     }
 
+    /// The object with one text set in its metadata.
+    fn with_text(self, alloc: Global, key: &str, text: &str) -> Result<Object, Memory>
+        ensures { IfOk result (λ o. tree_of o ≡ trees.with_text key.now text.now (tree_of self)) }
+    {
+        Ok(Object {
+            tree: with_text(alloc, self.tree, key, text)?,
+        })
+    }
+
     /// The object with a name: with that text as `metadata.name`.
     pub fn named(self, alloc: Global, name: &str) -> Result<Object, Memory>
         ensures { IfOk result (λ o. tree_of o ≡ trees.with_text (codes "name") name.now (tree_of self)) }
     {
-        Ok(Object {
-            tree: with_text(alloc, self.tree, "name", name)?,
-        })
+        self.with_text(alloc, "name", name)
     }
 
     /// The object in a namespace: with that text as `metadata.namespace`.
     pub fn in_namespace(self, alloc: Global, namespace: &str) -> Result<Object, Memory>
         ensures { IfOk result (λ o. tree_of o ≡ trees.with_text (codes "namespace") namespace.now (tree_of self)) }
     {
-        Ok(Object {
-            tree: with_text(alloc, self.tree, "namespace", namespace)?,
-        })
+        self.with_text(alloc, "namespace", namespace)
     }
 
     /// The object as a write leaves it: with its unique id and its resource version.
     pub fn stamped(self, alloc: Global, uid: &str, version: &str) -> Result<Object, Memory>
         ensures { IfOk result (λ o. tree_of o ≡ stamped_tree uid.now version.now (tree_of self)) }
     {
-        let tree = with_text(alloc, self.tree, "uid", uid)?;
-        Ok(Object {
-            tree: with_text(alloc, tree, "resourceVersion", version)?,
-        })
+        self.with_text(alloc, "uid", uid)?
+            .with_text(alloc, "resourceVersion", version)
     }
 }

@@ -1,12 +1,13 @@
 ghost use Rattle.kapi_tree.specs.Order.{is_ordered, in_order};
-ghost use Rattle.std.specs.Prelude.{◌≡◌, true, IfOk, OnOk, Some, option_map};
-ghost use Rattle.serde_json.specs.Find.{get};
+ghost use Rattle.std.specs.Prelude.{◌≡◌, true, IfOk, OnOk, Some, codes, option_map};
+ghost use Rattle.serde_json.specs.Find.{get, get_member};
 ghost use Rattle.serde_json.specs.Data.{object};
 ghost use Rattle.serde_json.specs.View.{view, members_view};
-ghost use Rattle.kapi_tree.specs.Tree.{metadata_of, metadata_member, member_of, members_or_none, put_if};
+ghost use Rattle.kapi_tree.specs.Tree.{metadata_member, member_of, members_or_none, put_if};
 ghost use Rattle.kapi_tree.specs.Tree as trees;
 ghost use Rattle.kapi_tree.specs.Tree.{without};
 
+use crate::tree_form::text_value;
 use kapi_text::Memory;
 use serde_json::{Map, Value, put};
 use std::alloc::Global;
@@ -53,24 +54,36 @@ pub fn member_of_metadata<'a>(tree: &'a Value, key: &str) -> Option<&'a Value>
     member(tree.get("metadata")?, key)
 }
 
-/// The members of an object's `metadata`, copied; none where it is missing or no object.
-fn metadata_copy(alloc: Global, tree: &Value) -> Result<Map<String, Value>, Memory>
-    ensures { IfOk result (λ m. members_view m.entries ≡ metadata_of (view tree.now)) }
+/// Takes the member of a key out.
+fn take(members: &mut Map<String, Value>, key: &str) -> Option<Value>
+    requires { in_order (members_view members.old.entries) ≡ true }
+    ensures left { members_view members.new.entries ≡ without key.now (members_view members.old.entries) }
+    ensures taken { option_map view result ≡ get_member key.now (members_view members.old.entries) }
 {
-    match tree.get("metadata") {
-        Some(metadata) => Ok(into_members(alloc, metadata.clone()?)),
-        None => Ok(Map::new(alloc)),
+    members.remove(key)
+}
+
+/// The members of an object; none of anything else, and where there is nothing.
+fn members_of(alloc: Global, value: Option<Value>) -> Map<String, Value>
+    ensures { members_view result.entries ≡ members_or_none (option_map view value) }
+{
+    match value {
+        Some(value) => into_members(alloc, value),
+        None => Map::new(alloc),
     }
 }
 
-/// The tree with one text set in its metadata.
+/// The tree with one text set in its metadata; nothing of it is copied.
+#[tactic(auto, using(crate::proofs::Removal::members_are_in_order))]
 pub fn with_text(alloc: Global, tree: Value, key: &str, text: &str) -> Result<Value, Memory>
+    requires { is_ordered (view tree) ≡ true }
     ensures { IfOk result (λ v. view v ≡ trees.with_text key.now text.now (view tree)) }
 {
-    let mut metadata = metadata_copy(alloc, &tree)?;
-    let text = Value::String(String::from_str(alloc, text)?);
-    put(&mut metadata, alloc, key, text)?;
+    let text = text_value(alloc, text)?;
     let mut members = into_members(alloc, tree);
+    let metadata = take(&mut members, "metadata");
+    let mut metadata = members_of(alloc, metadata);
+    put(&mut metadata, alloc, key, text)?;
     put(&mut members, alloc, "metadata", Value::Object(metadata))?;
     Ok(Value::Object(members))
 }
@@ -107,14 +120,6 @@ pub fn with_content(
     Ok(Value::Object(members))
 }
 
-/// Takes the member of a key out.
-fn remove(members: &mut Map<String, Value>, key: &str)
-    requires { in_order (members_view members.old.entries) ≡ true }
-    ensures { members_view members.new.entries ≡ without key.now (members_view members.old.entries) }
-{
-    drop(members.remove(key));
-}
-
 /// The tree without the member of a key.
 pub fn without_member(tree: Value, key: &str) -> Value
     requires { is_ordered (view tree) ≡ true }
@@ -122,7 +127,7 @@ pub fn without_member(tree: Value, key: &str) -> Value
 {
     match tree {
         Value::Object(mut members) => {
-            remove(&mut members, key);
+            drop(take(&mut members, key));
             Value::Object(members)
         }
         other => other,
@@ -146,7 +151,7 @@ fn members_without(alloc: Global, tree: Value, key: &str) -> Map<String, Value>
 {
     match tree {
         Value::Object(mut members) => {
-            remove(&mut members, key);
+            drop(take(&mut members, key));
             members
         }
         _other => Map::new(alloc),

@@ -1,5 +1,5 @@
 -- The namespace and the name of a tree, when other texts of its metadata are written.
-use Rattle.std.proofs.Common.{◌≡◌, ◌&&◌, ℕ, true, false, List, [], Option, None, Some, option_map, codes, decimal, if◌then◌else◌, bytes_eq, refl, sym, ap, ◌∙◌}
+use Rattle.std.proofs.Common.{◌≡◌, ◌&&◌, ℕ, true, false, List, [], None, Some, option_map, codes, decimal, if◌then◌else◌, bytes_eq, refl, sym, ap, ◌∙◌}
 use Rattle.std.specs.Option.{option_and_then, unwrap_or}
 use Rattle.std.specs.Ordering.{nat_cmp, match_ordering}
 use Rattle.std.specs.declared.cmp.Ordering.TheVariants.{Less, Equal, Greater}
@@ -7,13 +7,12 @@ use Rattle.std.specs.Cmp.{first_so, second_so}
 use Rattle.std.specs.Cmp.Lexicographic.{slice_cmp}
 use Rattle.std.proofs.lemmas.Map.Lookups.{exact_bytes}
 use Rattle.std.proofs.lemmas.Slice.Eq.{bytes_eq-Decides}
-use Rattle.serde_json.proofs.Views.{get_member-put}
 use Rattle.serde_json.specs.Data.{Data, string, object, put, Members, no_members, member}
 use Rattle.serde_json.specs.Find.{as_str, get, get_member}
 use Rattle.kapi_model.specs.Selector.{matches}
-use Rattle.kapi_tree.proofs.Puts.{put_other}
+use Rattle.kapi_tree.proofs.Metadata.{in_text}
 use Rattle.kapi_tree.specs.Object.{stamped_tree}
-use Rattle.kapi_tree.specs.Tree.{in_metadata, members_or_none, metadata_of, with_text}
+use Rattle.kapi_tree.specs.Tree.{in_metadata, with_text}
 use Rattle.kapi_store.specs.Listing.{is_asked, is_listed, is_within}
 use Rattle.kapi_store.specs.Stamps.{created_tree, metadata_text, replaced_tree, uid_in, uid_of, version_in, with_stamps_of}
 use Rattle.kapi_store.specs.declared.key.Key.{Key}
@@ -23,20 +22,6 @@ use Rattle.kapi_watch.specs.Lists.{place_in}
 use Rattle.kapi_watch.specs.Shown.{at_version, changed_at, with_changed}
 
 -- ---- a text that is put
-
-pub in_object : (q : List ℕ) (d : Data) → get_member q (members_or_none (Some d)) ≡ get q d
-in_object q (object ms) = refl
-in_object q _ = refl
-
-pub in_members : (q : List ℕ) (o : Option Data) → get_member q (members_or_none o) ≡ option_and_then (get q) o
-in_members q None = refl
-in_members q (Some d) = in_object q d
-
-pub in_text : (q k t : List ℕ) (d : Data) → bytes_eq q k ≡ false → in_metadata q (with_text k t d) ≡ in_metadata q d
-in_text q k t d h =
-    ap (option_and_then (get q)) (get_member-put (codes "metadata") (object (put k (string t) (metadata_of d))) (members_or_none (Some d)))
-    ∙ put_other q k (string t) (metadata_of d) h
-    ∙ in_members q (get (codes "metadata") d)
 
 text_stamped : (q uid version : List ℕ) (d : Data) → bytes_eq q (codes "resourceVersion") ≡ false → bytes_eq q (codes "uid") ≡ false
     → metadata_text q (stamped_tree uid version d) ≡ metadata_text q d

@@ -4,8 +4,8 @@ use Rattle.std.proofs.Math.Dec.{eqb-suc-zero}
 use Rattle.std.proofs.lemmas.Bool.{lt-ltb, le-ltb, ltb-false}
 use Rattle.std.proofs.lemmas.List.{length-map}
 use Rattle.std.proofs.lemmas.Option.{slice_get_within, slice_get-map}
-use Rattle.kapi_tree.specs.declared.object.Object.{Object}
-use Rattle.kapi_tree.specs.Object.{tree_of}
+use Rattle.kapi_store.specs.declared.stored.StoredObject.{StoredObject}
+use Rattle.kapi_store.specs.Stored.{stored_tree}
 use Rattle.kapi_store.specs.declared.key.Key.{Key}
 use Rattle.kapi_store.specs.Changes.{Follow}
 use Rattle.kapi_store.specs.Plain.{Plain, PlainChange, changes_after, trees}
@@ -57,7 +57,7 @@ shown_own scope c e is = own_pair c.revision (shown_by c.revision (selected scop
 
 module _ (r : Watch) (h : List PlainChange) (s : Plain) (w : PlainWatch) (k : RefinesWatch r h s w) where
   as_many : length w.first ≡ length r.first
-  as_many = ap length k.first ∙ length-map r.first tree_of
+  as_many = ap length k.first ∙ length-map r.first stored_tree
 
   -- while the objects that are shown first last
   first_lasts : r.told < length r.first → is_expired s w ≡ false
@@ -68,20 +68,20 @@ module _ (r : Watch) (h : List PlainChange) (s : Plain) (w : PlainWatch) (k : Re
       let len : length w.first ≡ length r.first = as_many in
       rw (lt-ltb w.shown (length w.first) (omega arith)) refl
 
-  first_left : (o : Object) → slice_get r.first r.told ≡ Some o
-      → drop w.shown (due h w) ≡ (w.start, Added (tree_of o)) ∷ (map (λ tree. (w.start, Added tree)) (drop (r.told + 1) w.first) ++ shown_all w.scope (later w.position h))
+  first_left : (o : StoredObject) → slice_get r.first r.told ≡ Some o
+      → drop w.shown (due h w) ≡ (w.start, Added (stored_tree o)) ∷ (map (λ tree. (w.start, Added tree)) (drop (r.told + 1) w.first) ++ shown_all w.scope (later w.position h))
   first_left o at =
-      let there : slice_get w.first r.told ≡ Some (tree_of o) = ap (λ l. slice_get l r.told) k.first ∙ slice_get-map tree_of r.first r.told ∙ ap (option_map tree_of) at in
-      let front : drop r.told w.first ≡ tree_of o ∷ drop (r.told + 1) w.first = drop_front w.first r.told (tree_of o) there in
+      let there : slice_get w.first r.told ≡ Some (stored_tree o) = ap (λ l. slice_get l r.told) k.first ∙ slice_get-map stored_tree r.first r.told ∙ ap (option_map stored_tree) at in
+      let front : drop r.told w.first ≡ stored_tree o ∷ drop (r.told + 1) w.first = drop_front w.first r.told (stored_tree o) there in
       k.rest ∙ ap (λ l. map (λ tree. (w.start, Added tree)) l ++ shown_all w.scope (later w.position h)) front
 
-  first_at : (o : Object) → slice_get r.first r.told ≡ Some o → slice_get (due h w) w.shown ≡ Some (w.start, Added (tree_of o))
+  first_at : (o : StoredObject) → slice_get r.first r.told ≡ Some o → slice_get (due h w) w.shown ≡ Some (w.start, Added (stored_tree o))
   first_at o at = slice_zero (due h w) w.shown ∙ ap (λ l. slice_get l 0) (first_left o at)
 
-  pub first_pumped : (o : Object) → slice_get r.first r.told ≡ Some o → Some (Added (tree_of o)) ≡ pumped h s w
+  pub first_pumped : (o : StoredObject) → slice_get r.first r.told ≡ Some o → Some (Added (stored_tree o)) ≡ pumped h s w
   first_pumped o at = rw (first_lasts (slice_get_within r.first r.told o at), first_at o at) refl
 
-  first_moved : (o : Object) → slice_get r.first r.told ≡ Some o
+  first_moved : (o : StoredObject) → slice_get r.first r.told ≡ Some o
       → RefinesWatch (record r { told = r.told + 1 }) h s (record w { shown = w.shown + 1; position = w.start })
   unfolding due
   first_moved o at =
@@ -90,7 +90,7 @@ module _ (r : Watch) (h : List PlainChange) (s : Plain) (w : PlainWatch) (k : Re
       let n : w.shown ≡ r.told = b.0 in
       let len : length w.first ≡ length r.first = as_many in
       let left = first_left o at in
-      let within : w.shown < length (due h w) = slice_get_within (due h w) w.shown (w.start, Added (tree_of o)) (first_at o at) in
+      let within : w.shown < length (due h w) = slice_get_within (due h w) w.shown (w.start, Added (stored_tree o)) (first_at o at) in
       let F : ℕ → List (ℕ × Shown) = λ p. map (λ tree. (w.start, Added tree)) (drop (r.told + 1) w.first) ++ shown_all w.scope (later p h) in
       record {
         scope = k.scope;
@@ -98,14 +98,14 @@ module _ (r : Watch) (h : List PlainChange) (s : Plain) (w : PlainWatch) (k : Re
         first = k.first;
         begun = λ _. (ap (λ m. m + 1) n, refl);
         ended = λ le. omega arith;
-        rest = drop_next (due h w) (F w.position) w.shown (w.start, Added (tree_of o)) left ∙ ap F b.1;
+        rest = drop_next (due h w) (F w.position) w.shown (w.start, Added (stored_tree o)) left ∙ ap F b.1;
         within = omega arith;
         known = k.known;
         stood = k.known;
         runs = k.runs;
       }
 
-  first_after : (o : Object) → slice_get r.first r.told ≡ Some o → RefinesWatch (record r { told = r.told + 1 }) h s (after_pump h s w)
+  first_after : (o : StoredObject) → slice_get r.first r.told ≡ Some o → RefinesWatch (record r { told = r.told + 1 }) h s (after_pump h s w)
   first_after o at = rw (first_lasts (slice_get_within r.first r.told o at), first_at o at) (first_moved o at)
 
   pub first_after_one : r.told < length r.first → RefinesWatch (record r { told = r.told + 1 }) h s (after_pump h s w)
@@ -187,7 +187,7 @@ module _ (r : Watch) (h : List PlainChange) (s : Plain) (w : PlainWatch) (k : Re
 pub starts : (r : Watch) (h : List PlainChange) (s : Plain) → IsFresh s r → RefinesWatch r h s (watch_data r)
 unfolding due
 starts r h s (none, reached, runs) =
-    let len : length (map tree_of r.first) ≡ length r.first = length-map r.first tree_of in
+    let len : length (map stored_tree r.first) ≡ length r.first = length-map r.first stored_tree in
     record {
       scope = refl;
       position = refl;
@@ -202,10 +202,10 @@ starts r h s (none, reached, runs) =
     }
 
 -- the trees of a list are those of its objects
-pub listed_second : {X : Type 0} (key : X → Key) (object : X → Object) (ls : List X)
-    → map (λ l. tree_of (object l)) ls ≡ map (λ e. e.1) (trees (map (λ l. (key l, object l)) ls))
+pub listed_second : {X : Type 0} (key : X → Key) (object : X → StoredObject) (ls : List X)
+    → map (λ l. stored_tree (object l)) ls ≡ map (λ e. e.1) (trees (map (λ l. (key l, object l)) ls))
 listed_second key object [] = refl
-listed_second key object (l ∷ ls) = ap (λ ts. tree_of (object l) ∷ ts) (listed_second key object ls)
+listed_second key object (l ∷ ls) = ap (λ ts. stored_tree (object l) ∷ ts) (listed_second key object ls)
 
 -- whether a watch can start from a revision that is not 0, where that is above the current one, or is not
 abbrev startable_if : Plain → ℕ → Bool → Result (Unit {0}) WatchFault

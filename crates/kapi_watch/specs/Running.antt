@@ -1,6 +1,6 @@
 -- When a running watch refines the model's.
 use Rattle.std.specs.Prelude.{◌≡◌, ◌≤◌, ◌<◌, false, List, ◌++◌, map, length, drop}
-use Rattle.kapi_tree.specs.Object.{tree_of}
+use Rattle.kapi_store.specs.Stored.{stored_tree}
 use Rattle.kapi_store.specs.Plain.{Plain, PlainChange}
 use Rattle.kapi_watch.specs.declared.watch.Place.{Place}
 use Rattle.kapi_watch.specs.declared.watch.Watch.{Watch}
@@ -12,7 +12,7 @@ use Rattle.kapi_watch.specs.Watches.{PlainWatch, shown_all, later, due}
 pub record RefinesWatch (r : Watch) (history : List PlainChange) (s : Plain) (w : PlainWatch) : Type 0 where
   pub scope : w.scope ≡ r.scope
   pub position : w.position ≡ r.position
-  pub first : w.first ≡ map tree_of r.first
+  pub first : w.first ≡ map stored_tree r.first
   pub begun : r.told < length r.first → (w.shown ≡ r.told) × (w.position ≡ w.start)
   pub ended : length r.first ≤ r.told → length w.first ≤ w.shown
   pub rest : drop w.shown (due history w) ≡ map (λ tree. (w.start, Added tree)) (drop r.told w.first) ++ shown_all w.scope (later w.position history)
@@ -27,7 +27,7 @@ at_place r place = record r { told = place.told; position = place.position }
 
 -- a running watch that has shown nothing yet, as the model's
 abbrev pub watch_data : Watch → PlainWatch
-watch_data r = record { scope = r.scope; first = map tree_of r.first; start = r.position; shown = r.told; position = r.position }
+watch_data r = record { scope = r.scope; first = map stored_tree r.first; start = r.position; shown = r.told; position = r.position }
 
 -- a running watch has shown nothing, is at a revision that was reached, and was not stopped
 abbrev pub IsFresh : Plain → Watch → Type 0

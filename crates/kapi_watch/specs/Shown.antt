@@ -2,7 +2,7 @@
 use Rattle.std.specs.Prelude.{ℕ, List, Option, None, Some, codes, decimal, if◌then◌else◌, option_map}
 use Rattle.std.specs.Str.{bytes_eq}
 use Rattle.serde_json.specs.Data.{Data, string, object, Members, no_members, member}
-use Rattle.kapi_tree.specs.Object.{tree_of}
+use Rattle.kapi_store.specs.Stored.{stored_tree}
 use Rattle.kapi_store.specs.declared.key.Key.{Key}
 use Rattle.kapi_store.specs.Listing.{is_listed}
 use Rattle.kapi_store.specs.Plain.{PlainChange}
@@ -54,9 +54,9 @@ shown_of s c = option_map (λ e. (c.revision, e)) (shown_by c.revision (selected
 
 -- an event as data
 abbrev pub event_of : Event → Shown
-event_of (event.Added o) = Added (tree_of o.now)
-event_of (event.Modified o) = Modified (tree_of o.now)
-event_of (event.Deleted o revision) = Deleted (at_version revision (tree_of o.now))
+event_of (event.Added o) = Added (stored_tree o.now)
+event_of (event.Modified o) = Modified (stored_tree o.now)
+event_of (event.Deleted o revision) = Deleted (at_version revision (stored_tree o.now))
 event_of event.Expired = Expired
 event_of event.Refused = Refused
 

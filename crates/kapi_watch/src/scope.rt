@@ -1,7 +1,7 @@
 //! What a watch selects, and what it shows of a change.
 ghost use Rattle.std.specs.Prelude.{◌≡◌, IfOk, map, option_map, slice_get};
 ghost use Rattle.std.specs.List.{filter_map};
-ghost use Rattle.kapi_tree.specs.Object.{tree_of};
+ghost use Rattle.kapi_store.specs.Stored.{stored_tree};
 ghost use Rattle.kapi_store.specs.Lent.{changes_of};
 ghost use Rattle.kapi_store.specs.Listing.{is_listed, is_within as is_within_of};
 ghost use Rattle.kapi_store.specs.Plain.{plain_change};
@@ -9,9 +9,8 @@ ghost use Rattle.kapi_watch.specs.Shown.{selected as selected_of, shown_of, foun
 
 use crate::event::Event;
 use kapi_model::{ResourceRow, Selector};
-use kapi_store::{Change, Changes, Key, Shared, is_asked};
+use kapi_store::{Change, Changes, Key, Shared, StoredObject, is_asked};
 use kapi_text::{Memory, Text, TryCopy};
-use kapi_tree::Object;
 use std::alloc::Global;
 
 /// Which objects a watch shows.
@@ -64,14 +63,14 @@ impl Scope {
     /// Whether the object is watched.
     #[tactic(auto, unfolding(kapi_store::specs::Listing::is_listed))]
     fn is_selected(&self, key: &Key, object: &Shared) -> bool
-        ensures { result ≡ is_listed self.now.row self.now.namespace self.now.selector self.now.name key.now (tree_of object.now) }
+        ensures { result ≡ is_listed self.now.row self.now.namespace self.now.selector self.now.name key.now (stored_tree object.now) }
     {
-        self.is_within(key) && self.selector.matches(&object.get().labels())
+        self.is_within(key) && object.get().is_selected(&self.selector)
     }
 
     /// The object, where there is one that is watched.
-    fn selected<'a>(&self, key: &Key, object: &'a Option<Shared>) -> Option<&'a Object>
-        ensures { option_map (λ o. tree_of o.now) result ≡ selected_of self.now key.now (option_map tree_of object.now) }
+    fn selected<'a>(&self, key: &Key, object: &'a Option<Shared>) -> Option<&'a StoredObject>
+        ensures { option_map (λ o. stored_tree o.now) result ≡ selected_of self.now key.now (option_map stored_tree object.now) }
     {
         match object {
             Some(object) if self.is_selected(key, object) => Some(object.get()),

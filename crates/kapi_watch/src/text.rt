@@ -2,21 +2,22 @@
 ghost use Rattle.std.specs.Prelude.{◌≡◌, IfOk, option_map};
 ghost use Rattle.serde_json.specs.Data.{Data};
 ghost use Rattle.serde_json.specs.Written.{compact_text};
-ghost use Rattle.kapi_tree.specs.Object.{tree_of};
+ghost use Rattle.kapi_store.specs.Stored.{stored_tree};
 ghost use Rattle.kapi_watch.specs.Shown.{at_version, event_of};
 ghost use Rattle.kapi_watch.specs.Text.{type_of, object_text_of, event_tree};
 
 use crate::event::Event;
 use crate::written::versioned_text;
+use kapi_store::StoredObject;
 use kapi_text::Memory;
-use kapi_tree::Object;
 use kapi_tree::tree_form::quote;
 use std::alloc::Global;
 
 /// The text of an object with the revision as its version.
-fn deleted_text(alloc: Global, object: &Object, revision: u64) -> Result<Vec<u8>, Memory>
-    ensures { IfOk result (λ b. b.items ≡ compact_text (at_version revision (tree_of object.now))) }
+fn deleted_text(alloc: Global, object: &StoredObject, revision: u64) -> Result<Vec<u8>, Memory>
+    ensures { IfOk result (λ b. b.items ≡ compact_text (at_version revision (stored_tree object.now))) }
 {
+    let object = object.object(alloc)?;
     let version = format!(in alloc; "{revision}")?;
     versioned_text(alloc, object.as_tree(), version.as_str())
 }
@@ -34,8 +35,8 @@ impl Event<'_> {
         }
     }
 
-    /// The text of the object that the event shows, written from the stored object, of which no copy is made; none of a
-    /// watch that is at its end, which is reported by a Status.
+    /// The text of the object that the event shows; of a removed one, with the revision of its removal; none of a watch
+    /// that is at its end, which is reported by a Status.
     pub fn object_text(&self, alloc: Global) -> Result<Option<Vec<u8>>, Memory>
         ensures { IfOk result (λ t. option_map (λ b. b.items) t ≡ object_text_of (event_of self.now)) }
     {

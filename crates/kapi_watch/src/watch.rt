@@ -1,6 +1,6 @@
 //! Watches of a store's changes.
 ghost use Rattle.std.specs.Prelude.{◌≡◌, true, false, List, IfOk, None, map, option_map, unwrap_or};
-ghost use Rattle.kapi_tree.specs.Object.{tree_of};
+ghost use Rattle.kapi_store.specs.Stored.{stored_tree};
 ghost use Rattle.kapi_text.specs.Gives.{Gives};
 ghost use Rattle.kapi_store.specs.Plain.{Plain, PlainChange, RefinesPlain, changes_after, plain_of};
 ghost use Rattle.kapi_watch.specs.Shown.{event_of};
@@ -44,7 +44,7 @@ pub struct Next<'a> {
 
 /// The objects of a list, each shared once more.
 fn objects_of(alloc: Global, listed: &[Listed<'_>]) -> Result<Sequence<Shared>, Memory>
-    ensures { IfOk result (λ os. map tree_of os ≡ map (λ l. tree_of l.object.now) listed.now) }
+    ensures { IfOk result (λ os. map stored_tree os ≡ map (λ l. stored_tree l.object.now) listed.now) }
 {
     let mut objects = Vec::with_capacity(alloc, listed.len())?;
     for one in listed {

@@ -1,5 +1,5 @@
 -- Rules that may stop atoms, found by the entries of a wanted rule.
-use Rattle.std.specs.Prelude.{◌≡◌, ℕ, zero, suc, ◌+◌, ◌==◌, ◌<◌, nat_eq, Bool, true, false, ◌&&◌, ◌||◌, List, [], ◌∷◌, length, map, take, Option, Some, None}
+use Rattle.std.specs.Prelude.{◌≡◌, ℕ, zero, suc, ◌+◌, ◌==◌, ◌<◌, ◌≤◌, nat_eq, Bool, true, false, ◌&&◌, ◌||◌, List, [], ◌∷◌, length, map, take, Option, Some, None}
 use Rattle.std.specs.BTreeMap.{BTreeMap}
 use Rattle.std.specs.Global.{Vec}
 use Rattle.std.specs.List.{ends_with, list_any, starts_with}
@@ -109,6 +109,12 @@ IsExact bars =
 abbrev pub AreAllPlaced : Bars → Type 0
 AreAllPlaced bars = ((n : ℕ) (rule : PolicyRule) → IsAt (rules_in bars) n rule → IsPlaced bars.index n rule) × IsExact bars
 
--- they are those rules, held or wanted, and each is placed
+-- so many of the rules are placed, from the first on, and no other number
+abbrev pub ArePlaced : Bars → Type 0
+ArePlaced bars =
+    (bars.placed ≤ length (rules_in bars))
+    × ((n : ℕ) (rule : PolicyRule) → n < bars.placed → IsAt (rules_in bars) n rule → IsPlaced bars.index n rule) × IsExact bars
+
+-- they are those rules, held or wanted, and the first of them are placed
 abbrev pub AreBars : Bool → List PolicyRule → Bars → Type 0
-AreBars held rules bars = (bars.is_held ≡ held) × (rules_in bars ≡ rules) × AreAllPlaced bars
+AreBars held rules bars = (bars.is_held ≡ held) × (rules_in bars ≡ rules) × ArePlaced bars

@@ -48,7 +48,7 @@ abbrev pub AreHalves : PolicyRule → Option Halves → Type 0
 AreHalves rule None = Unit {0}
 AreHalves rule (Some halves) = atoms rule ≡ atoms halves.first ++ atoms halves.second
 
--- the plans grow by what is left of the rule
-abbrev pub AddsLeft : Rules → List Plan → List Plan → PolicyRule → Type 0
-AddsLeft rules old new rule = (hs es : List PolicyRule) → AreRules hs es rules
-    → flat_map left_of new ≡ flat_map left_of old ++ left_atoms hs es rule
+-- the plans grow by what is left of the rule, beside rules that stay the same
+abbrev pub AddsLeft : Rules → Rules → List Plan → List Plan → PolicyRule → Type 0
+AddsLeft before after old new rule = (hs es : List PolicyRule) → AreRules hs es before
+    → AreRules hs es after × (flat_map left_of new ≡ flat_map left_of old ++ left_atoms hs es rule)

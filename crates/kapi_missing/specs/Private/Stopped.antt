@@ -5,7 +5,7 @@ use Rattle.kapi_missing.specs.Private.Bars.{barred}
 use Rattle.kapi_missing.specs.Private.Index.{rules_in}
 use Rattle.kapi_missing.specs.Private.Marks.{at}
 use Rattle.kapi_missing.specs.Private.Rows.{IsAsked, is_stopped_in}
-use Rattle.kapi_missing.specs.Private.Tabled.{IsMasked, is_taken}
+use Rattle.kapi_missing.specs.Private.Tabled.{IsMasked, is_left_of}
 use Rattle.kapi_missing.specs.declared.alone.Judge.{Judge}
 use Rattle.kapi_missing.specs.declared.alone.Judge.TheVariants as judge
 use Rattle.kapi_missing.specs.declared.bars.Sort.{Sort}
@@ -15,10 +15,10 @@ use Rattle.kapi_missing.specs.declared.index.Bars.{Bars}
 abbrev pub stops_at : Bars → Sort → PolicyRule → ℕ → ℕ → ℕ → ℕ → ℕ → Bool
 stops_at bars which wanted i j k l n = at (map (λ b. barred bars.is_held which b wanted i j k l) (rules_in bars)) n
 
--- no rule stops the atom; of those in a table, one whose name has a place
+-- no rule stops the atom; of those in a table, one whose verb and name have places
 abbrev pub is_left : Judge → ℕ → ℕ → ℕ → ℕ → Bool
 is_left (judge.Rows asked) i j k l = not (is_stopped_in asked.now i j k l)
-is_left (judge.Table tabled) i j k l = at tabled.now.core.names.items l && not (is_taken tabled.now i j k l)
+is_left (judge.Table tabled) i j k l = is_left_of tabled.now i j k l
 
 -- the judge knows enough
 abbrev pub IsReady : Judge → Type 0

@@ -1,5 +1,5 @@
 -- Tables of the atoms that rules stop.
-use Rattle.std.specs.Prelude.{◌≡◌, ℕ, ◌+◌, ◌/◌, ◌==◌, Bool, true, false, not, ◌||◌, if◌then◌else◌, List, [], ◌∷◌, ◌++◌, length, get_or, map}
+use Rattle.std.specs.Prelude.{◌≡◌, ℕ, ◌+◌, ◌/◌, ◌==◌, Bool, true, false, not, ◌&&◌, ◌||◌, if◌then◌else◌, List, [], ◌∷◌, ◌++◌, length, get_or, map}
 use Rattle.std.specs.List.{list_any}
 use Rattle.kapi_model.specs.declared.policy_rule.PolicyRule.{PolicyRule}
 use Rattle.kapi_missing.specs.Private.Bars.{barred, name_marks, wanted_at, whole_name_marks}
@@ -122,9 +122,15 @@ is_taken t i j k l =
     is_in t.table.now.shape t.table.now.words.items (get_or t.groups.items i t.table.now.shape.groups)
     (get_or t.resources.items j t.table.now.shape.resources) (get_or t.verbs.items k t.table.now.shape.verbs) (get_or t.names.items l t.table.now.shape.names)
 
--- the place of each name that has one is among the bits
+-- the verb and the name have places, and no rule stops the atom
+abbrev pub is_left_of : Tabled → ℕ → ℕ → ℕ → ℕ → Bool
+is_left_of t i j k l = at t.core.verbs.items k && (at t.core.names.items l && not (is_taken t i j k l))
+
+-- the place of each verb that has one is among the rows, and that of each name among the bits
 abbrev pub IsMasked : Tabled → Type 0
-IsMasked t = (l : ℕ) → at t.core.names.items l ≡ true → stands t.mask.items (get_or t.names.items l t.table.now.shape.names) ≡ true
+IsMasked t =
+    ((k : ℕ) → at t.core.verbs.items k ≡ true → has_number t.rows.items (get_or t.verbs.items k t.table.now.shape.verbs) ≡ true)
+    × ((l : ℕ) → at t.core.names.items l ≡ true → stands t.mask.items (get_or t.names.items l t.table.now.shape.names) ≡ true)
 
 -- the atoms whose entries have places are wanted, and the table has those of them that the others stop
 abbrev pub IsTabled : List PolicyRule → List PolicyRule → Sort → PolicyRule → Tabled → Type 0

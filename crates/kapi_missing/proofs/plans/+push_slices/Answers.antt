@@ -8,6 +8,6 @@ use Rattle.kapi_missing.proofs.plans.+push_slices.Goals as goal
 pub returns-in_ok-push_slices-in-Some : goal.returns-in_ok-push_slices-in-Some
 returns-in_ok-push_slices-in-Some t c =
     on_ok_weaker c.push_slices-in-Some.result
-    (adds_both c.args.rules.now c.args.list.now.items c.push_slices.new.list.items c.push_slices-in-Some.new.list.items c.args.rule c.in-Some.halves.first c.in-Some.halves.second
+    (adds_both c.args.rules.now c.push_slices.new.rules c.push_slices-in-Some.new.rules c.args.list.now.items c.push_slices.new.list.items c.push_slices-in-Some.new.list.items c.args.rule c.in-Some.halves.first c.in-Some.halves.second
     (subst (λ (o : Option Halves). AreHalves c.args.rule o) c.in-Some.is c.in_ok-halves.ensures) c.in_ok-push_slices-in-Some.ensures)
     c.push_slices-in-Some.ensures

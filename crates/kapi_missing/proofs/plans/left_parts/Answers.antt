@@ -1,8 +1,8 @@
-use Rattle.std.proofs.lemmas.Result.{IfOk-weaker}
+use Rattle.std.proofs.Common.{◌≡◌}
 use Rattle.kapi_missing.proofs.plans.left_parts.Goals as goal
 
-pub returns-in-Some : goal.returns-in-Some
-returns-in-Some c =
-    IfOk-weaker c.left_of_tabled.result _ _ (λ v is. λ hs es are.
-    let tabled = (rw c.in-Some.is at c.in_ok-tabled.ensures) hs es are in is hs es are tabled)
-    c.left_of_tabled.ensures
+pub returns : goal.returns
+returns c = λ hs es are.
+    let kept = c.in_ok-others.ensures hs es are in
+    let told = c.in_ok-told.ensures hs es are in
+    (kept.0, told c.in_ok-others.others.items c.push_parts.new.list.items (rw c.as_slice.ensures.value at kept.1) c.in_ok-push_parts.ensures)

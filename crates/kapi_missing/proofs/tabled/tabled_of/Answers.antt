@@ -17,7 +17,7 @@ returns c = λ hs es is.
     let verbs = c.in_ok-verbs.verbs in
     let names = c.in_ok-names.names in
     let core : Marks = record { groups = groups.marks; resources = resources.marks; verbs = verbs.marks; names = names.marks } in (
-      λ l marked. c.in_ok-mask.ensures (get_or names.places.items l t.shape.names) ∙ rw c.as_slice-2.ensures.value (c.in_ok-names.ensures.2 l t.shape.names marked),
+      (λ k marked. c.in_ok-verbs.ensures.2 k t.shape.verbs marked, λ l marked. c.in_ok-mask.ensures (get_or names.places.items l t.shape.names) ∙ rw c.as_slice-2.ensures.value (c.in_ok-names.ensures.2 l t.shape.names marked)),
       all_wanted t.sort rule core c.in_ok-groups.ensures.1 c.in_ok-resources.ensures.1 (rw c.as_slice.ensures at c.in_ok-verbs.ensures.1) c.in_ok-names.ensures.1,
       λ i j k l has. core_parts core i j k l has (λ g r v n.
           is.1 (get_or groups.places.items i t.shape.groups) (get_or resources.places.items j t.shape.resources)

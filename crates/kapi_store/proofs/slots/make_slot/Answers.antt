@@ -1,6 +1,6 @@
 use Rattle.std.proofs.Common.{◌≡◌, ◌∙◌, List, Option, None, Some, ap, sym, subst}
 use Rattle.std.specs.Map.{lookup}
-use Rattle.kapi_tree.specs.declared.object.Object.{Object}
+use Rattle.kapi_store.specs.declared.stored.StoredObject.{StoredObject}
 use Rattle.kapi_store.specs.declared.key.Key.{Key}
 use Rattle.kapi_store.specs.Keys.{key_cmp, is_key}
 use Rattle.kapi_store.specs.State.{live, IsSpare}
@@ -16,5 +16,5 @@ returns-clause-objects c =
 pub returns-clause-spare : goal.returns-clause-spare
 returns-clause-spare c =
     let absent : lookup (is_key c.args.key) c.args.slots.now.entries ≡ None = slot_free (is_key c.args.key) c.args.slots.now.entries c.requires.spare c.requires.free in
-    let P : List (Key × Option Object) → Type 0 = λ es. IsSpare (Some c.args.key) es in
+    let P : List (Key × Option StoredObject) → Type 0 = λ es. IsSpare (Some c.args.key) es in
     subst P (sym c.in_ok-insert.ensures.entries) (spare_made key_cmp key_total c.args.key c.args.slots.now.entries absent c.requires.spare)

@@ -11,4 +11,4 @@ returns c =
     ≡ compact_text (with_changed (codes "metadata") (with_changed (codes "resourceVersion") (λ d. string version)) tree)) in
     let Q : List ℕ → Type 0 = λ version. P version (view c.as_tree.result.now) in
     let R : Data → Type 0 = λ tree. P (decimal c.args.revision) tree in
-    subst R c.as_tree.ensures (subst Q (c.as_str.ensures.value ∙ c.in_ok-version.ensures.ok) c.versioned_text.ensures)
+    subst R (c.as_tree.ensures ∙ c.in_ok-object.ensures) (subst Q (c.as_str.ensures.value ∙ c.in_ok-version.ensures.ok) c.versioned_text.ensures)

@@ -2,8 +2,8 @@ use Rattle.std.proofs.Common.{List, sym, subst}
 use Rattle.std.specs.List.{IsDistinct}
 use Rattle.std.specs.Map.{keys_of}
 use Rattle.std.proofs.lemmas.Result.{IfOk-weaker}
-use Rattle.kapi_tree.specs.declared.object.Object.{Object}
-use Rattle.kapi_tree.specs.Object.{tree_of}
+use Rattle.kapi_store.specs.declared.stored.StoredObject.{StoredObject}
+use Rattle.kapi_store.specs.Stored.{stored_tree}
 use Rattle.kapi_store.specs.declared.key.Key.{Key}
 use Rattle.kapi_store.specs.Keys.{is_key}
 use Rattle.kapi_store.specs.Listing.{is_listed}
@@ -13,6 +13,6 @@ use Rattle.kapi_store.proofs.store.Store.list.Goals as goal
 
 pub returns-clause-distinct : goal.returns-clause-distinct
 returns-clause-distinct c =
-    let P : List (Key × Object) → Type 0 = λ es. IsDistinct is_key (keys_of es) in
-    let all : P _ = filter_distinct (λ e. is_listed c.args.resource.now c.args.namespace.now c.args.selector.now c.args.name.now e.0 (tree_of e.1)) (live c.self.inside.slots.entries) c.self.invariant.ordered in
+    let P : List (Key × StoredObject) → Type 0 = λ es. IsDistinct is_key (keys_of es) in
+    let all : P _ = filter_distinct (λ e. is_listed c.args.resource.now c.args.namespace.now c.args.selector.now c.args.name.now e.0 (stored_tree e.1)) (live c.self.inside.slots.entries) c.self.invariant.ordered in
     IfOk-weaker c.list_in.result _ _ (λ v is. subst P (sym is) all) c.list_in.ensures

@@ -1,5 +1,5 @@
 use Rattle.std.proofs.Common.{◌≡◌, ◌+◌, ◌≤◌, ◌∙◌, ap, sym, refl, subst, IsSome, Option, arith}
-use Rattle.kapi_tree.specs.declared.object.Object.{Object}
+use Rattle.kapi_store.specs.declared.stored.StoredObject.{StoredObject}
 use Rattle.kapi_store.specs.Limits.{last_revision}
 use Rattle.std.specs.Map.{lookup}
 use Rattle.kapi_store.specs.Keys.{is_key}
@@ -13,7 +13,7 @@ pub place-requires-clause-slot : goal.place-requires-clause-slot
 unfolding HasSlot
 place-requires-clause-slot c =
     let now : state_of c.self.inside ≡ c.args.self.now = c.self.view_is in
-    let P : Option Object → Type 0 = λ o. IsSome o in
+    let P : Option StoredObject → Type 0 = λ o. IsSome o in
     let Q : State → Type 0 = λ s. IsSome (lookup (is_key c.args.change.key) s.slots) in
     λ some. subst Q (sym now) (c.requires.fits.slot (subst P c.requires.kept some))
 

@@ -5,6 +5,7 @@ use Rattle.std.specs.Fmt.{decimal}
 use Rattle.kapi_tree.specs.Object.{tree_of, stamped_tree}
 use Rattle.kapi_store.specs.Limits.{last_revision}
 use Rattle.kapi_store.specs.Keys.{key_cmp}
+use Rattle.kapi_store.specs.Stored.{stored_tree}
 use Rattle.kapi_store.specs.Same.{same_tree}
 use Rattle.kapi_store.specs.Stamps.{with_stamps_of, uid_in}
 use Rattle.kapi_store.specs.Plain.{plain_of, revisions_left}
@@ -15,31 +16,31 @@ use Rattle.kapi_store.proofs.Places.{slot_of_tree}
 use Rattle.kapi_store.proofs.Writes.{replaced_by}
 use Rattle.kapi_store.proofs.store.Store.replace_old.Goals as goal
 
-pub returns-then-is_unchanged-clause-gives : goal.returns-then-is_unchanged-clause-gives
-returns-then-is_unchanged-clause-gives c =
-    let old = tree_of c.args.old.now in
+pub returns-then-is_same-clause-gives : goal.returns-then-is_same-clause-gives
+returns-then-is_same-clause-gives c =
+    let old = stored_tree c.args.old.now in
     let same : same_tree (with_stamps_of old (tree_of c.args.object)) old ≡ true
-    = ap (λ t. same_tree t old) (sym c.in_ok-object.ensures) ∙ sym c.is_unchanged.ensures.test ∙ c.if-is_unchanged.true in
+    = ap (λ t. same_tree t old) (sym c.in_ok-object.ensures) ∙ sym c.in_ok-is_same.ensures.test ∙ c.if-is_same.true in
     rw (same, c.nothing.ensures) refl
 
-pub returns-then-is_unchanged-clause-fits : goal.returns-then-is_unchanged-clause-fits
-returns-then-is_unchanged-clause-fits c =
+pub returns-then-is_same-clause-fits : goal.returns-then-is_same-clause-fits
+returns-then-is_same-clause-fits c =
     let now : state_of c.self.inside ≡ c.args.self.now = c.self.view_is in
     let P : State → Type 0 = λ s. Fits s c.nothing.result in
     subst P now (fits_none (state_of c.self.inside) c.nothing.result c.self.invariant c.nothing.ensures)
 
 pub returns-in_err-check_revisions-clause-gives : goal.returns-in_err-check_revisions-clause-gives
 returns-in_err-check_revisions-clause-gives c =
-    let old = tree_of c.args.old.now in
+    let old = stored_tree c.args.old.now in
     let same : same_tree (with_stamps_of old (tree_of c.args.object)) old ≡ false
-    = ap (λ t. same_tree t old) (sym c.in_ok-object.ensures) ∙ sym c.is_unchanged.ensures.test ∙ c.if-is_unchanged.false in
+    = ap (λ t. same_tree t old) (sym c.in_ok-object.ensures) ∙ sym c.in_ok-is_same.ensures.test ∙ c.if-is_same.false in
     rw same (search rules)
 
 pub returns-clause-gives : goal.returns-clause-gives
 returns-clause-gives c =
-    let old = tree_of c.args.old.now in
+    let old = stored_tree c.args.old.now in
     let same : same_tree (with_stamps_of old (tree_of c.args.object)) old ≡ false
-    = ap (λ t. same_tree t old) (sym c.in_ok-object.ensures) ∙ sym c.is_unchanged.ensures.test ∙ c.if-is_unchanged.false in
+    = ap (λ t. same_tree t old) (sym c.in_ok-object.ensures) ∙ sym c.in_ok-is_same.ensures.test ∙ c.if-is_same.false in
     let left : revisions_left (plain_of c.args.self.now) 1 ≡ Ok tt = c.in_ok-check_revisions.ensures.gives in
     replaced_by (plain_of c.args.self.now) c.args.key (tree_of c.args.object) old c.in_ok-replacement.field-0 (c.self.inside.revision + 1) c.args.old.now c.in_ok-new.new
     same left c.in_ok-replacement.ensures (ap (λ s. s.revision + 1) c.self.view_is) refl
@@ -50,16 +51,16 @@ returns-clause-fits c =
     let at : c.args.self.now.revision ≡ c.self.inside.revision = ap (λ s. s.revision) (sym c.self.view_is) in
     let left : c.args.self.now.revision + 1 ≤ last_revision = c.in_ok-check_revisions.ensures.left in
     fits_one c.args.self.now _ _ c.in_ok-replacement.ensures (omega arith) (omega arith)
-    (λ _. slot_of_tree c.args.self.now c.args.key (tree_of c.args.old.now) (subst (λ s. IsStrictlySortedBy key_cmp (keys_of s.slots)) c.self.view_is c.self.invariant.slots) c.requires)
+    (λ _. slot_of_tree c.args.self.now c.args.key (stored_tree c.args.old.now) (subst (λ s. IsStrictlySortedBy key_cmp (keys_of s.slots)) c.self.view_is c.self.invariant.slots) c.requires)
 
 -- no changes were prepared, and the trees are equal
-pub returns-then-is_unchanged-clause-unchanged : goal.returns-then-is_unchanged-clause-unchanged
-returns-then-is_unchanged-clause-unchanged c =
-    let equal = c.is_unchanged.ensures.decides.0 c.if-is_unchanged.true in
+pub returns-then-is_same-clause-unchanged : goal.returns-then-is_same-clause-unchanged
+returns-then-is_same-clause-unchanged c =
+    let equal = c.in_ok-is_same.ensures.decides.0 c.if-is_same.true in
     (λ _. sym c.in_ok-object.ensures ∙ equal, λ _. c.nothing.ensures)
 
 pub returns-clause-unchanged : goal.returns-clause-unchanged
 returns-clause-unchanged c = (
   λ none. absurd (cc (c.in_ok-replacement.ensures, none)),
-  λ is. absurd (cc (c.is_unchanged.ensures.decides.1 (c.in_ok-object.ensures ∙ is), c.if-is_unchanged.false)),
+  λ is. absurd (cc (c.in_ok-is_same.ensures.decides.1 (c.in_ok-object.ensures ∙ is), c.if-is_same.false)),
 )

@@ -3,7 +3,7 @@ use Rattle.serde_json.specs.Data.{Data}
 use Rattle.std.specs.Map.{lookup}
 use Rattle.std.proofs.lemmas.Result.{IfOk-weaker}
 use Rattle.kapi_text.specs.Gives.{Gives}
-use Rattle.kapi_tree.specs.Object.{tree_of}
+use Rattle.kapi_store.specs.Stored.{stored_tree}
 use Rattle.kapi_store.specs.Faults.{fault_of}
 use Rattle.kapi_store.specs.Keys.{is_key}
 use Rattle.kapi_store.specs.Plain.{admitted, trees}
@@ -15,24 +15,24 @@ use Rattle.kapi_store.proofs.store.Store.replaceable.Goals as goal
 pub returns-in-Some-clause-gives : goal.returns-in-Some-clause-gives
 returns-in-Some-clause-gives c =
     let now : state_of c.self.inside ≡ c.args.self.now = c.self.view_is in
-    let there : Some (tree_of c.in-Some.object.now) ≡ lookup (is_key c.args.key.now) (trees (objects c.args.self.now))
-    = ap (option_map tree_of) (sym (ap option_copied c.in-Some.is) ∙ c.find.ensures)
-    ∙ ap (λ s. option_map tree_of (lookup (is_key c.args.key.now) (objects s))) now ∙ sym (lookup_trees c.args.key.now (objects c.args.self.now)) in
-    let P : Option Data → Type 0 = λ o. Gives fault_of (λ x. tree_of x.now) c.admitted.result (admitted o c.args.given.now) in
+    let there : Some (stored_tree c.in-Some.object.now) ≡ lookup (is_key c.args.key.now) (trees (objects c.args.self.now))
+    = ap (option_map stored_tree) (sym (ap option_copied c.in-Some.is) ∙ c.find.ensures)
+    ∙ ap (λ s. option_map stored_tree (lookup (is_key c.args.key.now) (objects s))) now ∙ sym (lookup_trees c.args.key.now (objects c.args.self.now)) in
+    let P : Option Data → Type 0 = λ o. Gives fault_of (λ x. stored_tree x.now) c.admitted.result (admitted o c.args.given.now) in
     subst P there c.admitted.ensures.gives
 
 pub returns-in-None-clause-gives : goal.returns-in-None-clause-gives
 returns-in-None-clause-gives c =
     let now : state_of c.self.inside ≡ c.args.self.now = c.self.view_is in
     let absent : None ≡ lookup (is_key c.args.key.now) (trees (objects c.args.self.now))
-    = ap (option_map tree_of) (sym (ap option_copied c.in-None.is) ∙ c.find.ensures)
-    ∙ ap (λ s. option_map tree_of (lookup (is_key c.args.key.now) (objects s))) now ∙ sym (lookup_trees c.args.key.now (objects c.args.self.now)) in
+    = ap (option_map stored_tree) (sym (ap option_copied c.in-None.is) ∙ c.find.ensures)
+    ∙ ap (λ s. option_map stored_tree (lookup (is_key c.args.key.now) (objects s))) now ∙ sym (lookup_trees c.args.key.now (objects c.args.self.now)) in
     sym (ap (λ o. admitted o c.args.given.now) absent)
 
 pub returns-in-Some-clause-found : goal.returns-in-Some-clause-found
 returns-in-Some-clause-found c =
     let now : state_of c.self.inside ≡ c.args.self.now = c.self.view_is in
-    let there : Some (tree_of c.in-Some.object.now) ≡ lookup (is_key c.args.key.now) (trees (objects c.args.self.now))
-    = ap (option_map tree_of) (sym (ap option_copied c.in-Some.is) ∙ c.find.ensures)
-    ∙ ap (λ s. option_map tree_of (lookup (is_key c.args.key.now) (objects s))) now ∙ sym (lookup_trees c.args.key.now (objects c.args.self.now)) in
-    IfOk-weaker c.admitted.result _ _ (λ o is. sym there ∙ ap (λ x. Some (tree_of x)) (sym is)) c.admitted.ensures.same
+    let there : Some (stored_tree c.in-Some.object.now) ≡ lookup (is_key c.args.key.now) (trees (objects c.args.self.now))
+    = ap (option_map stored_tree) (sym (ap option_copied c.in-Some.is) ∙ c.find.ensures)
+    ∙ ap (λ s. option_map stored_tree (lookup (is_key c.args.key.now) (objects s))) now ∙ sym (lookup_trees c.args.key.now (objects c.args.self.now)) in
+    IfOk-weaker c.admitted.result _ _ (λ o is. sym there ∙ ap (λ x. Some (stored_tree x)) (sym is)) c.admitted.ensures.same

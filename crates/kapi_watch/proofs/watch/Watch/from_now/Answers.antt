@@ -1,6 +1,6 @@
 use Rattle.std.proofs.Common.{ℕ, List, map, ap, ◌∙◌}
 use Rattle.serde_json.specs.Data.{Data}
-use Rattle.kapi_tree.specs.Object.{tree_of}
+use Rattle.kapi_store.specs.Stored.{stored_tree}
 use Rattle.kapi_store.specs.declared.key.Key.{Key}
 use Rattle.kapi_store.specs.declared.listing.Listed.{Listed}
 use Rattle.kapi_store.specs.Listing.{listed_trees}
@@ -13,7 +13,7 @@ pub returns-clause-gives : goal.returns-clause-gives
 returns-clause-gives c =
     let scope = c.args.scope in
     let second : List (Key × Data) → List Data = λ es. map (λ e. e.1) es in
-    let listed : List Listed → List Data = λ ls. map (λ l. tree_of l.object.now) ls in
+    let listed : List Listed → List Data = λ ls. map (λ l. stored_tree l.object.now) ls in
     let shown : List ℕ → List ℕ → List (Key × Data) → List Data = λ namespace name os. second (listed_trees scope.row namespace scope.selector name os) in
     let objects : List (Key × Data) = (plain_of c.args.store.now).objects in
     let told : List Data → ℕ → PlainWatch = λ first revision. record { scope = scope; first = first; start = revision; shown = 0; position = revision } in

@@ -1,6 +1,6 @@
 use Rattle.std.proofs.Common.{◌≡◌, ◌≤◌, ◌<◌, ℕ, length, sym, ap, ◌∙◌, subst, arith, Some, slice_get, refl}
 use Rattle.std.proofs.lemmas.Option.{slice_get_read}
-use Rattle.kapi_tree.specs.Object.{tree_of}
+use Rattle.kapi_store.specs.Stored.{stored_tree}
 use Rattle.kapi_store.specs.Plain.{changes_after, plain_of}
 use Rattle.kapi_watch.specs.Private.Looked.{first_in, position_after, shown_in}
 use Rattle.kapi_watch.specs.Running.{RefinesWatch}
@@ -15,7 +15,7 @@ returns-in-Some-clause-event c = λ history s w stands is.
     let told = c.args.self.now.told in
     let there : slice_get c.as_slice.result.now told ≡ Some c.in-Some.object.now =
     slice_get_read c.as_slice.result.now (length c.as_slice.result.now) told c.in-Some.object.now refl l.3.0 l.1 in
-    ap (λ o. Some (Added (tree_of o))) c.get-in-Some.ensures
+    ap (λ o. Some (Added (stored_tree o))) c.get-in-Some.ensures
     ∙ first_pumped c.args.self.now history s w is c.in-Some.object.now (ap (λ os. slice_get os told) (sym c.as_slice.ensures) ∙ there)
 
 pub returns-in-Some-clause-place : goal.returns-in-Some-clause-place

@@ -1,0 +1,145 @@
+ghost use Rattle.std.specs.Prelude.{◌≡◌, ◌<◌, ◌^◌, true, false, is_some};
+ghost use Rattle.std.specs.Fmt.{decimal};
+ghost use Rattle.serde_json.specs.Read.{read};
+ghost use Rattle.serde_json.specs.Written.{compact_text, has_float};
+ghost use Rattle.kapi_tree.specs.Contents.{aggregation_in};
+ghost use Rattle.kapi_store.specs.Stamps.{uid_of, uid_in, version_in};
+ghost use Rattle.kapi_store.specs.Told.{labels_of as labels_of_tree, told_by};
+
+use crate::labels::labels_of;
+use crate::stamps::{text_of, uid, version};
+use kapi_model::{AggregationRule, Label, Labels, Selector};
+use kapi_text::{Memory, Sequence, Text};
+use kapi_tree::Object;
+use kapi_tree::selector_form::read_aggregation;
+use serde_json::Value;
+use std::alloc::{AllocError, Global};
+
+/// A declared object as it is kept: its JSON text, compact, with keys in the order of their bytes (RFC 8259). Beside the
+/// text stands what is asked for often, so that the text need not be read for it: the labels that are texts, the rule by
+/// which a cluster role takes rules from others, and the revisions that created the object and wrote it last.
+#[derive(Debug, Drop)]
+pub struct StoredObject {
+    text: Text,
+    labels: Sequence<Label>,
+    aggregation_rule: Option<AggregationRule>,
+    created: u64,
+    revision: u64,
+    ghost reads: { is_some (read text) ≡ true },
+    ghost whole: { has_float (told_by text) ≡ false },
+    ghost canonical: { text ≡ compact_text (told_by text) },
+    ghost labelled: { labels ≡ labels_of_tree (told_by text) },
+    ghost aggregated: { aggregation_rule ≡ aggregation_in (told_by text) },
+    ghost born: { uid_in (told_by text) ≡ uid_of created },
+    ghost versioned: { version_in (told_by text) ≡ decimal revision },
+    ghost numbered: { created < 2 ^ 48 },
+}
+
+impl StoredObject {
+    ghost use Rattle.std.specs.Prelude.{◌≡◌, ◌<◌, ◌^◌, codes, string_bytes, option_copied, IfOk};
+    ghost use Rattle.std.specs.Fmt.{decimal};
+    ghost use Rattle.serde_json.specs.Written.{compact_text};
+    ghost use Rattle.kapi_model.specs.Selector.{label_in, matches, values_of};
+    ghost use Rattle.kapi_tree.specs.Object.{stamped_tree, tree_of};
+    ghost use Rattle.kapi_tree.specs.Contents.{aggregation_in};
+    ghost use Rattle.kapi_tree.specs.Tree.{in_metadata};
+    ghost use Rattle.kapi_store.specs.Stamps.{uid_of, uid_in, version_in};
+    ghost use Rattle.kapi_store.specs.Stored.{stored_tree};
+
+    /// The object with the unique id of one revision and the version of another.
+    pub(crate) fn stamped(
+        alloc: Global,
+        object: Object,
+        created: u64,
+        revision: u64,
+    ) -> Result<StoredObject, Memory>
+        requires { created < 2 ^ 48 }
+        ensures { IfOk result (λ s. stored_tree s ≡ stamped_tree (uid_of created) (decimal revision) (tree_of object)) }
+    {
+        let uid = uid(alloc, created)?;
+        let version = version(alloc, revision)?;
+        let object = object.stamped(alloc, uid.as_str(), version.as_str())?;
+        Ok(StoredObject {
+            text: text_of(alloc, &object)?,
+            labels: labels_of(alloc, object.as_tree())?,
+            aggregation_rule: read_aggregation(alloc, object.as_tree())?,
+            created,
+            revision,
+        })
+    }
+
+    /// The object in the place of this one: with its unique id, at the version of a revision.
+    pub(crate) fn replaced_by(
+        &self,
+        alloc: Global,
+        object: Object,
+        revision: u64,
+    ) -> Result<StoredObject, Memory>
+        ensures { IfOk result (λ s. stored_tree s ≡ stamped_tree (uid_in (stored_tree self.now)) (decimal revision) (tree_of object)) }
+    {
+        StoredObject::stamped(alloc, object, self.created, revision)
+    }
+
+    /// The object as JSON text: compact, keys in the order of their bytes.
+    pub fn text(&self) -> &str
+        ensures { result.now ≡ compact_text (stored_tree self.now) }
+    {
+        self.text.as_str()
+    }
+
+    /// A copy of the object's text.
+    pub fn render(&self, alloc: Global) -> Result<Vec<u8>, Memory>
+        ensures { IfOk result (λ b. b.items ≡ compact_text (stored_tree self.now)) }
+    {
+        let text = self.text.as_str().as_bytes();
+        let mut copy = Vec::with_capacity(alloc, text.len())?;
+        copy.extend_from_slice(text)?;
+        Ok(copy)
+    }
+
+    /// The object, read of its text.
+    #[tactic(auto, using(kapi_tree::proofs::Ordered::was_read_ordered))]
+    pub fn object(&self, alloc: Global) -> Result<Object, Memory>
+        ensures { IfOk result (λ o. tree_of o ≡ stored_tree self.now) }
+    {
+        match Value::from_str(alloc, self.text.as_str()) {
+            Ok(tree) => Ok(Object::new(tree)),
+            Err(_memory) => Err(AllocError),
+        }
+    }
+
+    /// Whether the selector matches the object's labels; allocates nothing.
+    pub fn is_selected(&self, selector: &Selector) -> bool
+        ensures { result ≡ matches selector.now (in_metadata (codes "labels") (stored_tree self.now)) }
+    {
+        selector.matches(&self.labels())
+    }
+
+    /// The object's labels, borrowed.
+    fn labels(&self) -> Labels<'_>
+        ensures { values_of result ≡ label_in (in_metadata (codes "labels") (stored_tree self.now)) }
+    {
+        Labels::new(self.labels.as_slice())
+    }
+
+    /// The rule by which the object takes rules from others, where it is such a cluster role; allocates nothing.
+    pub fn aggregation_rule(&self) -> Option<&AggregationRule>
+        ensures { option_copied result ≡ aggregation_in (stored_tree self.now) }
+    {
+        self.aggregation_rule.as_ref()
+    }
+
+    /// The unique id.
+    pub fn uid(&self, alloc: Global) -> Result<String, Memory>
+        ensures { IfOk result (λ s. string_bytes s ≡ uid_in (stored_tree self.now)) }
+    {
+        uid(alloc, self.created)
+    }
+
+    /// The resource version.
+    pub fn version(&self, alloc: Global) -> Result<String, Memory>
+        ensures { IfOk result (λ s. string_bytes s ≡ version_in (stored_tree self.now)) }
+    {
+        version(alloc, self.revision)
+    }
+}

@@ -1,0 +1,34 @@
+-- What stands in a tree where a text was set in its metadata.
+use Rattle.std.proofs.Common.{◌≡◌, ◌∙◌, ℕ, List, Option, None, Some, false, bytes_eq, codes, refl, ap}
+use Rattle.std.specs.Option.{option_and_then}
+use Rattle.serde_json.proofs.Views.{get_member-put}
+use Rattle.serde_json.specs.Data.{Data, string, object, put}
+use Rattle.serde_json.specs.Find.{get, get_member}
+use Rattle.kapi_tree.proofs.Puts.{put_other}
+use Rattle.kapi_tree.specs.Tree.{in_metadata, members_or_none, metadata_of, with_text}
+
+-- the members of an object have its values
+pub in_object : (key : List ℕ) (d : Data) → get_member key (members_or_none (Some d)) ≡ get key d
+in_object key (object ms) = refl
+in_object key _ = refl
+
+pub in_members : (key : List ℕ) (o : Option Data) → get_member key (members_or_none o) ≡ option_and_then (get key) o
+in_members key None = refl
+in_members key (Some d) = in_object key d
+
+-- other members stay
+pub beside_metadata : (key k t : List ℕ) (d : Data) → bytes_eq key (codes "metadata") ≡ false → get key (with_text k t d) ≡ get key d
+beside_metadata key k t d h =
+    put_other key (codes "metadata") (object (put k (string t) (metadata_of d))) (members_or_none (Some d)) h ∙ in_object key d
+
+in_metadata_put : (key k t : List ℕ) (d : Data) → in_metadata key (with_text k t d) ≡ get_member key (put k (string t) (metadata_of d))
+in_metadata_put key k t d =
+    ap (option_and_then (get key)) (get_member-put (codes "metadata") (object (put k (string t) (metadata_of d))) (members_or_none (Some d)))
+
+-- the text is there
+pub text_set : (k t : List ℕ) (d : Data) → in_metadata k (with_text k t d) ≡ Some (string t)
+text_set k t d = in_metadata_put k k t d ∙ get_member-put k (string t) (metadata_of d)
+
+-- the metadata's other members stay
+pub in_text : (key k t : List ℕ) (d : Data) → bytes_eq key k ≡ false → in_metadata key (with_text k t d) ≡ in_metadata key d
+in_text key k t d h = in_metadata_put key k t d ∙ put_other key k (string t) (metadata_of d) h ∙ in_members key (get (codes "metadata") d)
