@@ -262,7 +262,7 @@ CASES = (
     (f"{RULES:,} rules of four of 30 of each part against as many", 0.5, lambda it: check(it, some_of(RULES, 4, 30, 1), some_of(RULES, 4, 30, 2), False)),
     (f"{RULES:,} rules of four of 30 of each part and a resource of its own against the same", 0.5, lambda it: check(it, with_own(some_of(RULES, 4, 30, 1)), with_own(some_of(RULES, 4, 30, 1)), True)),
     ("2,400 rules of 16 of 32 of each part against as many behind 64 others", 0.5, lambda it: check(it, others(64) + some_of(2_400, 16, 32, 1), some_of(2_400, 16, 32, 2), True)),
-    ("2,400 rules of 22 of 44 of each part, without names, against as many", 1, lambda it: check(it, some_of(2_400, 22, 44, 1, "vgr"), some_of(2_400, 22, 44, 2, "vgr"), True)),
+    ("2,400 rules of 22 of 44 of each part, without names, against as many", 0.5, lambda it: check(it, some_of(2_400, 22, 44, 1, "vgr"), some_of(2_400, 22, 44, 2, "vgr"), True)),
     ("1,500 rules of 50 of 100 paths and of verbs against as many", 0.5, lambda it: check(it, some_paths(1_500, 50, 100, 1), some_paths(1_500, 50, 100, 2), True)),
     (f"{RULES:,} resources behind a slash against a rule for all before each", 0.5, lambda it: check(it, any_with(), [slashed()], True)),
     ("the same of two verbs, one of them held", None, lambda it: check(it, any_with(), [slashed(["get", "list"])], False)),
