@@ -16,10 +16,12 @@ import sys
 import tempfile
 import time
 
-from hostile import ANN, ROOT, Server
+import bench
+from hostile import ANN, ROOT, Server, connect
 
 RBAC = "/apis/rbac.authorization.k8s.io/v1"
-RULES, WRITES, SECONDS = 15_000, 4_000, 120
+PODS = "/api/v1/namespaces/default/pods"
+RULES, WRITES, WATCHES, SECONDS = 15_000, 4_000, 20, 120
 LARGEST = 1_048_576
 
 
@@ -220,16 +222,73 @@ def refused(program):
         return Client(server, ANN).ask_without_answer(f"{RBAC}/clusterrolebindings", binding("new"))
 
 
-def turn(program):
-    """A turn that takes many rules into a cluster role, and one that finds them there."""
+AGGREGATION = {"clusterRoleSelectors": [{"matchLabels": {"fills": "all"}}]}
+
+
+def source(rules):
+    return role("source", rules, labels={"fills": "all"})
+
+
+def gathering(program):
+    """The creation of a cluster role that takes many rules from another, in a server: the request, the turn, and the look that finds them there."""
     with Measured(program) as server:
         root = Client(server, ROOT)
-        aggregation = {"clusterRoleSelectors": [{"matchLabels": {"fills": "all"}}]}
-        root.send("POST", f"{RBAC}/clusterroles", role("source", resources(), labels={"fills": "all"}))
-        first = root.send("POST", f"{RBAC}/clusterroles", {**role("all", []), "aggregationRule": aggregation})
+        root.send("POST", f"{RBAC}/clusterroles", source(resources()))
+        first = root.send("POST", f"{RBAC}/clusterroles", {**role("all", []), "aggregationRule": AGGREGATION})
         before = server.precise()
         time.sleep(1)
         return first + server.precise() - before
+
+
+def turn(program, is_again=False):
+    """A turn of a script: it takes many rules into a cluster role that has none, or that has them all but the last."""
+    lines = bench.request(0, "POST", f"{RBAC}/clusterroles", source(resources()))
+    lines += bench.request(0, "POST", f"{RBAC}/clusterroles", {**role("all", []), "aggregationRule": AGGREGATION})
+    if is_again:
+        lines += ["turn", "turn", *bench.request(0, "PUT", f"{RBAC}/clusterroles/source", source([*resources()[:-1], rule(["list"], [""], ["last"])]))]
+    lines = bench.opening(lines)
+    return bench.script_time(program, [*lines, "turn"]) - bench.script_time(program, lines)
+
+
+def watch(target, length):
+    """Starts a watch of root. What is returned reads so many bytes of it each time."""
+    stream = connect(ROOT)
+    stream.settimeout(SECONDS)
+    stream.sendall(f"GET {target} HTTP/1.1\r\nHost: a\r\n\r\n".encode())
+
+    def read():
+        left = length
+        while left > 0:
+            piece = stream.recv(1 << 20)
+            if not piece:
+                sys.exit(f"{target}: the watch ended")
+            left -= len(piece)
+
+    return read
+
+
+def gone(program, change):
+    """An object of nearly a mebibyte goes, which watches see: it is deleted, or loses the label that they ask for."""
+    body = {"apiVersion": "v1", "kind": "Pod", "metadata": {"name": "a", "labels": {"seen": "yes"}}, "spec": {"x": [{"": 0}] * 149_000}}
+    with Measured(program) as server:
+        root = Client(server, ROOT)
+        root.send("POST", PODS, body)
+        watches = [watch(f"{PODS}?watch=1&labelSelector=seen%3Dyes", len(compact(body))) for _ in range(WATCHES)]
+        for read in watches:
+            read()
+        before = server.precise()
+        change(root, f"{PODS}/a", body)
+        for read in watches:
+            read()
+        return server.precise() - before
+
+
+def delete(root, target, _body):
+    root.send("DELETE", target)
+
+
+def unlabel(root, target, body):
+    root.send("PUT", target, {**body, "metadata": {"name": "a"}})
 
 
 def writes(program, target):
@@ -268,6 +327,10 @@ CASES = (
     ("the same of two verbs, one of them held", None, lambda it: check(it, any_with(), [slashed(["get", "list"])], False)),
     (f"{RULES:,} paths against a rule for the beginning of each", 0.5, lambda it: check(it, beginnings(), [long_paths()], True)),
     (f"a turn of {RULES:,} rules", 0.2, turn),
+    ("the same, where all but one are there", 0.2, lambda it: turn(it, True)),
+    (f"a cluster role that takes {RULES:,} rules, with its request and the look that finds them there", None, gathering),
+    (f"a pod of a mebibyte of small objects is deleted, which {WATCHES} watches see", 0.3, lambda it: gone(it, delete)),
+    ("the same loses the label that they ask for", 0.7, lambda it: gone(it, unlabel)),
     (f"{WRITES:,} roles", None, lambda it: writes(it, f"{RBAC}/namespaces/default/roles")),
     (f"{WRITES:,} cluster roles", None, lambda it: writes(it, f"{RBAC}/clusterroles")),
 )

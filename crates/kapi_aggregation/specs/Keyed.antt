@@ -1,5 +1,5 @@
 -- Rules that are found, as the keys of a set.
-use Rattle.std.specs.Prelude.{◌≡◌, List}
+use Rattle.std.specs.Prelude.{◌≡◌, Bool, true, false, List, [], ◌∷◌}
 use Rattle.std.specs.BTreeMap.{is_at}
 use Rattle.std.specs.Cmp.Lexicographic.{slice_cmp}
 use Rattle.std.specs.List.{list_any}
@@ -12,21 +12,29 @@ use Rattle.kapi_aggregation.specs.declared.found.RuleKey.{RuleKey}
 -- the rule that a key is of
 abbrev pub rule_of_key : RuleKey → PolicyRule
 rule_of_key k = record {
-  verbs = k.verbs.items;
-  api_groups = k.api_groups.items;
-  resources = k.resources.items;
-  resource_names = k.resource_names.items;
-  non_resource_urls = k.non_resource_urls.items;
+  verbs = k.verbs.now;
+  api_groups = k.api_groups.now;
+  resources = k.resources.now;
+  resource_names = k.resource_names.now;
+  non_resource_urls = k.non_resource_urls.now;
 }
 
 -- keys are in order of their lists, in turn, and lists of their texts
 abbrev pub rule_cmp : RuleKey → RuleKey → Ordering
 rule_cmp a b =
-    ordering_then (slice_cmp (slice_cmp nat_cmp) a.verbs.items b.verbs.items)
-    (ordering_then (slice_cmp (slice_cmp nat_cmp) a.api_groups.items b.api_groups.items)
-    (ordering_then (slice_cmp (slice_cmp nat_cmp) a.resources.items b.resources.items)
-    (ordering_then (slice_cmp (slice_cmp nat_cmp) a.resource_names.items b.resource_names.items)
-    (slice_cmp (slice_cmp nat_cmp) a.non_resource_urls.items b.non_resource_urls.items))))
+    ordering_then (slice_cmp (slice_cmp nat_cmp) a.resources.now b.resources.now)
+    (ordering_then (slice_cmp (slice_cmp nat_cmp) a.resource_names.now b.resource_names.now)
+    (ordering_then (slice_cmp (slice_cmp nat_cmp) a.non_resource_urls.now b.non_resource_urls.now)
+    (ordering_then (slice_cmp (slice_cmp nat_cmp) a.verbs.now b.verbs.now)
+    (slice_cmp (slice_cmp nat_cmp) a.api_groups.now b.api_groups.now))))
+
+module _ {X : Type 0} where
+  -- the items beside which there is a true
+  abbrev pub picked : List Bool → List X → List X
+  picked [] xs = []
+  picked (b ∷ bs) [] = []
+  picked (true ∷ bs) (x ∷ xs) = x ∷ picked bs xs
+  picked (false ∷ bs) (x ∷ xs) = picked bs xs
 
 -- the keys are those of the rules
 abbrev pub HaveRules : List RuleKey → List PolicyRule → Type 0

@@ -1,83 +1,60 @@
-//! Rules in the order in which they are found, each once.
-ghost use Rattle.std.specs.Prelude.{◌≡◌, [], OnOk};
-ghost use Rattle.kapi_aggregation.specs.Keyed.{rule_of_key};
+//! Rules, each once.
+ghost use Rattle.std.specs.Prelude.{◌≡◌, [], IfOk};
+ghost use Rattle.std.specs.List.{fold};
+ghost use Rattle.kapi_aggregation.specs.Keyed.{picked, rule_of_key};
 ghost use Rattle.kapi_aggregation.specs.Unions.{with_rule};
 
 use kapi_model::PolicyRule;
-use kapi_text::{Memory, Text, TryCopy};
+use kapi_text::{Memory, Text};
 use std::alloc::Global;
 use std::collections::BTreeSet;
-use std::marker::Model;
 
-/// A rule as a key of a set: the lists of its entries, which are compared in turn.
+/// A rule as a key of a set: the lists of its entries, borrowed, which are compared in turn; first those in which rules
+/// differ most.
 #[derive(PartialEq, Eq, PartialOrd, Ord, Drop)]
-struct RuleKey {
-    verbs: Vec<Text>,
-    api_groups: Vec<Text>,
-    resources: Vec<Text>,
-    resource_names: Vec<Text>,
-    non_resource_urls: Vec<Text>,
+struct RuleKey<'a> {
+    resources: &'a [Text],
+    resource_names: &'a [Text],
+    non_resource_urls: &'a [Text],
+    verbs: &'a [Text],
+    api_groups: &'a [Text],
 }
 
 /// The rule as a key; allocates nothing.
-fn key_of(rule: PolicyRule) -> RuleKey
-    ensures { rule_of_key result ≡ rule }
+fn key_of(rule: &PolicyRule) -> RuleKey<'_>
+    ensures { rule_of_key result ≡ rule.now }
 {
     RuleKey {
-        verbs: rule.verbs.into_vec(),
-        api_groups: rule.api_groups.into_vec(),
-        resources: rule.resources.into_vec(),
-        resource_names: rule.resource_names.into_vec(),
-        non_resource_urls: rule.non_resource_urls.into_vec(),
+        resources: rule.resources.as_slice(),
+        resource_names: rule.resource_names.as_slice(),
+        non_resource_urls: rule.non_resource_urls.as_slice(),
+        verbs: rule.verbs.as_slice(),
+        api_groups: rule.api_groups.as_slice(),
     }
 }
 
-/// Rules in the order in which they are found. A set has them too, so that none is searched for in the list.
-#[derive(Drop)]
-pub(crate) struct FoundRules {
-    list: Vec<PolicyRule>,
-    keys: BTreeSet<RuleKey>,
+/// Of each rule, whether it stands at its first place. A set has those before it, so that none is searched for.
+fn first_places(alloc: Global, rules: &[PolicyRule]) -> Result<Vec<bool>, Memory>
+    ensures { IfOk result (λ v. picked v.items rules.now ≡ fold with_rule [] rules.now) }
+{
+    let mut seen = BTreeSet::new(alloc);
+    let mut first = Vec::with_capacity(alloc, rules.len())?;
+    for rule in rules {
+        first.push(seen.insert(key_of(rule))?)?;
+    }
+    Ok(first)
 }
 
-impl Model for FoundRules {
-    ghost use Rattle.std.specs.Prelude.{List};
-    ghost use Rattle.kapi_model.specs.declared.policy_rule.PolicyRule.{PolicyRule as RuleData};
-    ghost use Rattle.kapi_aggregation.specs.Keyed.{HaveRules};
-
-    ghost Value = { List RuleData };
-
-    ghost view = { λ f. f.list.items };
-
-    ghost invariant = { λ f. HaveRules f.keys.keys f.list.items };
-}
-
-impl FoundRules {
-    /// A list without rules.
-    pub(crate) fn new(alloc: Global) -> FoundRules
-        ensures { result ≡ [] }
-    {
-        FoundRules {
-            list: Vec::new(alloc),
-            keys: BTreeSet::new(alloc),
+/// The rules in their order, each once, at its first place.
+pub(crate) fn each_once(alloc: Global, rules: Vec<PolicyRule>) -> Result<Vec<PolicyRule>, Memory>
+    ensures { IfOk result (λ v. v.items ≡ fold with_rule [] rules.items) }
+{
+    let mut first = first_places(alloc, rules.as_slice())?.into_iter();
+    let mut kept = Vec::with_capacity(alloc, rules.len())?;
+    for rule in rules {
+        if first.next() == Some(true) {
+            kept.push(rule)?;
         }
     }
-
-    /// Puts the rule at the end, unless it was found before.
-    pub(crate) fn add(&mut self, alloc: Global, rule: PolicyRule) -> Result<(), Memory>
-        ensures { OnOk result (self.new ≡ with_rule self.old rule) }
-    {
-        let key = key_of(rule.copy(alloc)?);
-        self.list.reserve(1)?;
-        if self.keys.insert(key)? {
-            self.list.push_reserved(rule);
-        }
-        Ok(())
-    }
-
-    /// The rules, in their order; allocates nothing.
-    pub(crate) fn into_vec(self) -> Vec<PolicyRule>
-        ensures { result.items ≡ self }
-    {
-        self.list
-    }
+    Ok(kept)
 }

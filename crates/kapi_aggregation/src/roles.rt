@@ -41,8 +41,8 @@ impl<'a> NamedRole<'a> {
     pub(crate) fn rules(&self, alloc: Global) -> Result<Sequence<PolicyRule>, Memory>
         ensures { IfOk result (λ rs. rs ≡ (labelled self.now).role.rules) }
     {
-        let object = self.object.object(alloc)?;
-        read_rules(alloc, object.as_tree())
+        let tree = self.object.tree(alloc)?;
+        read_rules(alloc, &tree)
     }
 
     /// Whether the cluster role takes its rules from others.

@@ -75,20 +75,16 @@ fn with_rules(
 ) -> Result<Object, Memory>
     ensures { IfOk result (λ o. tree_of o ≡ with_rules_of rules.now (stored_tree old.now)) }
 {
-    let old = old.object(alloc)?;
-    Ok(Object::new(tree_with_rules(alloc, old.as_tree(), rules)?))
+    let old = old.tree(alloc)?;
+    Ok(Object::new(tree_with_rules(alloc, old, rules)?))
 }
 
 /// The tree of a cluster role with other rules; all else of it stays.
-fn tree_with_rules(
-    alloc: Global,
-    old: &Value,
-    rules: &Sequence<PolicyRule>,
-) -> Result<Value, Memory>
-    ensures { IfOk result (λ v. view v ≡ with_rules_of rules.now (view old.now)) }
+fn tree_with_rules(alloc: Global, old: Value, rules: &Sequence<PolicyRule>) -> Result<Value, Memory>
+    ensures { IfOk result (λ v. view v ≡ with_rules_of rules.now (view old)) }
 {
     let rules = Value::Array(write_items(alloc, rules.as_slice())?);
-    let mut members = into_members(alloc, old.clone()?);
+    let mut members = into_members(alloc, old);
     put(&mut members, alloc, "rules", rules)?;
     Ok(Value::Object(members))
 }

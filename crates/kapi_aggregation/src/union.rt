@@ -1,12 +1,13 @@
 //! What an aggregated cluster role takes from the others.
-ghost use Rattle.std.specs.Prelude.{◌≡◌, map, IfOk, OnOk, option_copied};
-ghost use Rattle.std.specs.List.{find, fold};
+ghost use Rattle.std.specs.Prelude.{◌≡◌, ◌++◌, map, IfOk, OnOk, option_copied};
+ghost use Rattle.std.specs.List.{find, flat_map};
 ghost use Rattle.std.specs.Str.{bytes_eq};
-ghost use Rattle.kapi_aggregation.specs.Unions.{is_meant as is_meant_by, rules_meant, union, union_for as union_for_role, with_rule};
+ghost use Rattle.kapi_aggregation.specs.Roles.{selectors_of};
+ghost use Rattle.kapi_aggregation.specs.Unions.{is_meant as is_meant_by, rules_meant, union, union_for as union_for_role};
 ghost use Rattle.kapi_aggregation.specs.Lent.{roles_of};
 ghost use Rattle.kapi_aggregation.specs.Views.{labelled};
 
-use crate::found::FoundRules;
+use crate::found::each_once;
 use crate::roles::{ClusterRoles, NamedRole};
 use kapi_model::{PolicyRule, Selector};
 use kapi_text::Memory;
@@ -45,26 +46,37 @@ pub(crate) fn union_for(
 ) -> Result<Vec<PolicyRule>, Memory>
     ensures { IfOk result (λ v. v.items ≡ union_for_role (map labelled roles.now) (labelled role.now)) }
 {
-    let mut rules = FoundRules::new(alloc);
+    each_once(alloc, meant(alloc, roles, role)?)
+}
+
+/// The rules of the roles that the role's selectors match, by the selectors in their order.
+fn meant(
+    alloc: Global,
+    roles: &[NamedRole<'_>],
+    role: &NamedRole<'_>,
+) -> Result<Vec<PolicyRule>, Memory>
+    ensures { IfOk result (λ v. v.items ≡ flat_map (rules_meant (map labelled roles.now) (labelled role.now).name) (selectors_of (labelled role.now))) }
+{
+    let mut rules = Vec::new(alloc);
     for selector in role.selectors() {
         add_meant(alloc, &mut rules, roles, role.name.as_str(), selector)?;
     }
-    Ok(rules.into_vec())
+    Ok(rules)
 }
 
 /// Adds the rules of the roles that the selector matches, but for the role of that name.
 fn add_meant(
     alloc: Global,
-    rules: &mut FoundRules,
+    rules: &mut Vec<PolicyRule>,
     roles: &[NamedRole<'_>],
     name: &str,
     selector: &Selector,
 ) -> Result<(), Memory>
-    ensures { OnOk result (rules.new ≡ fold with_rule rules.old (rules_meant (map labelled roles.now) name.now selector.now)) }
+    ensures { OnOk result (rules.new.items ≡ rules.old.items ++ rules_meant (map labelled roles.now) name.now selector.now) }
 {
     for role in roles {
         if is_meant(role, name, selector) {
-            add_rules(alloc, rules, role.rules(alloc)?.into_vec())?;
+            add_rules(rules, role.rules(alloc)?.into_vec())?;
         }
     }
     Ok(())
@@ -77,12 +89,12 @@ fn is_meant(role: &NamedRole<'_>, name: &str, selector: &Selector) -> bool
     role.name.as_str() != name && role.object.is_selected(selector)
 }
 
-/// Adds the rules at the end, each unless it is there already.
-fn add_rules(alloc: Global, rules: &mut FoundRules, others: Vec<PolicyRule>) -> Result<(), Memory>
-    ensures { OnOk result (rules.new ≡ fold with_rule rules.old others.items) }
+/// Adds the rules at the end.
+fn add_rules(rules: &mut Vec<PolicyRule>, others: Vec<PolicyRule>) -> Result<(), Memory>
+    ensures { OnOk result (rules.new.items ≡ rules.old.items ++ others.items) }
 {
     for other in others {
-        rules.add(alloc, other)?;
+        rules.push(other)?;
     }
     Ok(())
 }

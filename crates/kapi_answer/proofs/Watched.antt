@@ -38,7 +38,7 @@ pub end_expired : (s : Plain) (w : PlainWatching) (e : Event) → (e ≡ event.R
 unfolding event_reply_of
 end_expired s w (event.Added o) never is = absurd (cc is)
 end_expired s w (event.Modified o) never is = absurd (cc is)
-end_expired s w (event.Deleted o revision) never is = absurd (cc is)
+end_expired s w (event.Deleted r) never is = absurd (cc is)
 end_expired s w event.Expired never is = refl
 end_expired s w event.Refused never is = absurd (never refl)
 

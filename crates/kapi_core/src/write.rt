@@ -35,7 +35,7 @@ pub fn make_write<P: Policy>(
     let Some(ready) = write else {
         return Ok(PolicyStep::nothing(alloc));
     };
-    let changes = policy_changes(alloc, ready.changes())?;
+    let changes = policy_changes(alloc, &ready)?;
     tracker.note_write(store, ready.changes())?;
     changes.apply_to(policy)?;
     store.commit(ready);

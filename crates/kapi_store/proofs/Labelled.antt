@@ -20,14 +20,14 @@ use Rattle.serde_json.specs.Read.{read}
 use Rattle.kapi_store.specs.Told.{labels_among, labels_of, told_by}
 
 -- a key that comes before all of the members is none of theirs
-none_there : (k : List ℕ) (ms : Members) → precedes k ms ≡ true → get_member k ms ≡ None
+pub none_there : (k : List ℕ) (ms : Members) → precedes k ms ≡ true → get_member k ms ≡ None
 none_there k no_members p = refl
 none_there k (member l d ms) p =
     let less : slice_cmp nat_cmp k l ≡ Less = is_less (slice_cmp nat_cmp k l) (first_so (is_lt (slice_cmp nat_cmp k l)) (precedes k ms) p) in
     rw less (none_there k ms (second_so (is_lt (slice_cmp nat_cmp k l)) (precedes k ms) p))
 
 -- keys are compared either way
-turned : (k l : List ℕ) (o : Ordering) → slice_cmp nat_cmp k l ≡ o → bytes_eq l k ≡ is_eq (ordering_reverse o)
+pub turned : (k l : List ℕ) (o : Ordering) → slice_cmp nat_cmp k l ≡ o → bytes_eq l k ≡ is_eq (ordering_reverse o)
 turned k l o is = sym (is_eq-slice_cmp l k) ∙ ap is_eq (nat_list_cmp_total.antisymm l k ∙ ap ordering_reverse is)
 
 -- a member that is no text is passed over, and no other has its key

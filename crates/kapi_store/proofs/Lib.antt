@@ -10,5 +10,7 @@ pub mod Spans
 pub mod Standing
 pub mod Equality
 pub mod Stamped
+pub mod Versions
+pub mod Alike
 pub mod Labelled
 pub mod Places

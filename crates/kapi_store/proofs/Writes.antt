@@ -12,7 +12,7 @@ use Rattle.kapi_store.proofs.Trees.{lookup_trees}
 use Rattle.kapi_store.specs.declared.stored.StoredObject.{StoredObject}
 use Rattle.kapi_store.specs.declared.key.Key.{Key}
 use Rattle.kapi_store.specs.declared.change.Change.{Change}
-use Rattle.kapi_store.specs.Changes.{placed, placed_all, AreRemovals, IsStep, IsWrite}
+use Rattle.kapi_store.specs.Changes.{IsOne, placed, placed_all, AreRemovals, IsStep, IsWrite}
 use Rattle.kapi_store.specs.State.{HasSlot}
 
 pub placed_all_append : {X : Type 0} (vs ws : List (Key × Option X)) (os : List (Key × X)) → placed_all (vs ++ ws) os ≡ placed_all ws (placed_all vs os)
@@ -42,20 +42,28 @@ removals_more [] c h none = (none, tt)
 removals_more (d ∷ cs) c h none = (h.0, removals_more cs c h.1 none)
 
 -- one removal more
-pub removals_step : (os : List (Key × StoredObject)) (cs : List Change) (before : ℕ) (k : Key) (o : Option StoredObject) (left : List Key) → o ≡ lookup (is_key k) os
-    → map plain_change (cs ++ record { revision = before + 1; key = k; old = o; new = None } ∷ []) ++ removals (trees os) (before + 1) left
+pub removals_step : (os : List (Key × StoredObject)) (cs : List Change) (before : ℕ) (k : Key) (c : Change) (left : List Key) → c.revision ≡ before + 1 → c.key ≡ k → c.old ≡ lookup (is_key k) os → c.new ≡ None
+    → map plain_change (cs ++ c ∷ []) ++ removals (trees os) (before + 1) left
     ≡ map plain_change cs ++ removals (trees os) before (k ∷ left)
 unfolding removals
-removals_step os cs before k o left is =
+removals_step os cs before k c left next at is none =
     let rest : List PlainChange = removals (trees os) (before + 1) left in
-    ap (λ ms. ms ++ rest) (map-append plain_change cs (record { revision = before + 1; key = k; old = o; new = None } ∷ []))
-    ∙ append_assoc (map plain_change cs) (record { revision = before + 1; key = k; old = option_map stored_tree o; new = None } ∷ []) rest
-    ∙ ap (λ old. map plain_change cs ++ record { revision = before + 1; key = k; old = old; new = None } ∷ rest) (ap (option_map stored_tree) is ∙ sym (lookup_trees k os))
+    let old : option_map stored_tree c.old ≡ lookup (is_key k) (trees os) = ap (option_map stored_tree) is ∙ sym (lookup_trees k os) in
+    let made : plain_change c ≡ record { revision = before + 1; key = k; old = lookup (is_key k) (trees os); new = None }
+    = λ i. record { revision = next i; key = at i; old = old i; new = option_map stored_tree (none i) } in
+    ap (λ ms. ms ++ rest) (map-append plain_change cs (c ∷ []))
+    ∙ append_assoc (map plain_change cs) (plain_change c ∷ []) rest
+    ∙ ap (λ d. map plain_change cs ++ d ∷ rest) made
 
 -- what was prepared is the replacement
 pub replaced_by : (s : Plain) (k : Key) (tree old : Data) (cs : List Change) (revision : ℕ) (before after : StoredObject) → same_tree (with_stamps_of old tree) old ≡ false → revisions_left s 1 ≡ Ok tt
-    → cs ≡ record { revision = revision; key = k; old = Some before; new = Some after } ∷ [] → revision ≡ s.revision + 1 → stored_tree before ≡ old → stored_tree after ≡ replaced_tree revision old tree
+    → IsOne revision k (Some before) (Some after) cs → revision ≡ s.revision + 1 → stored_tree before ≡ old → stored_tree after ≡ replaced_tree revision old tree
     → replaced s k tree old ≡ Ok (map plain_change cs)
-replaced_by s k tree old cs revision before after other left is next was now =
+replaced_by s k tree old cs revision before after other left one next was now =
     let made : stored_tree after ≡ replaced_tree (s.revision + 1) old tree = now ∙ ap (λ n. replaced_tree n old tree) next in
-    rw (other, left, is) (λ i. Ok (record { revision = sym next i; key = k; old = Some (sym was i); new = Some (sym made i) } ∷ []))
+    let numbered : one.change.revision ≡ s.revision + 1 = one.numbered ∙ next in
+    let old_is : option_map stored_tree one.change.old ≡ Some old = ap (option_map stored_tree) one.before ∙ ap Some was in
+    let new_is : option_map stored_tree one.change.new ≡ Some (replaced_tree (s.revision + 1) old tree) = ap (option_map stored_tree) one.after ∙ ap Some made in
+    let change : plain_change one.change ≡ record { revision = s.revision + 1; key = k; old = Some old; new = Some (replaced_tree (s.revision + 1) old tree) }
+    = λ i. record { revision = numbered i; key = one.place i; old = old_is i; new = new_is i } in
+    rw (other, left) (sym (ap (λ ds. Ok (map plain_change ds)) one.one ∙ ap (λ d. Ok (d ∷ [])) change))

@@ -1,5 +1,9 @@
 -- What changes make of a map of objects, and how a list of changes is numbered.
-use Rattle.std.specs.Prelude.{◌≡◌, ℕ, ◌+◌, ◌-◌, List, [], ◌∷◌, Option, None, Some, map, length, drop}
+use Rattle.std.specs.Prelude.{◌≡◌, ℕ, ◌+◌, ◌-◌, List, [], ◌∷◌, Option, None, Some, map, length, drop, option_map}
+use Rattle.serde_json.specs.Data.{Data}
+use Rattle.kapi_tree.specs.Object.{tree_of}
+use Rattle.kapi_tree.specs.declared.object.Object.{Object}
+use Rattle.kapi_store.specs.Stored.{stored_tree}
 use Rattle.std.specs.Map.{remove_entry}
 use Rattle.std.specs.BTreeMap.{insert_entry}
 use Rattle.kapi_store.specs.declared.stored.StoredObject.{StoredObject}
@@ -50,3 +54,22 @@ IsStep (c ∷ d ∷ cs) = AreRemovals (c ∷ d ∷ cs)
 unfoldable pub IsWrite : Option StoredObject → List Change → Type 0
 IsWrite kept [] = Unit {0}
 IsWrite kept (c ∷ cs) = (kept ≡ c.new) × AreRemovals cs
+
+-- the tree that the first change leaves
+abbrev pub first_left : List Change → Option Data
+first_left [] = None
+first_left (c ∷ cs) = option_map stored_tree c.new
+
+-- the object, if there is one, is the one that the first change leaves
+abbrev pub IsLeft : Option Object → List Change → Type 0
+IsLeft None cs = Unit {0}
+IsLeft (Some o) cs = first_left cs ≡ Some (tree_of o)
+
+-- one change, with this revision, this key and these objects before and after it
+pub record IsOne (revision : ℕ) (key : Key) (old new : Option StoredObject) (cs : List Change) : Type 0 where
+  pub change : Change
+  pub one : cs ≡ change ∷ []
+  pub numbered : change.revision ≡ revision
+  pub place : change.key ≡ key
+  pub before : change.old ≡ old
+  pub after : change.new ≡ new

@@ -3,6 +3,7 @@ pub mod Keys
 pub mod Stamps
 pub mod Told
 pub mod Stored
+pub mod Gone
 pub mod Same
 pub mod Changes
 pub mod State

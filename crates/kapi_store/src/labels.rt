@@ -2,6 +2,7 @@
 
 ghost use Rattle.std.specs.Prelude.{◌≡◌, ◌++◌, IfOk, OnOk};
 ghost use Rattle.serde_json.specs.View.{view, members_view};
+ghost use Rattle.kapi_store.specs.Private.Alike.{same_label, same_labels};
 ghost use Rattle.kapi_store.specs.Told.{label_of, labels_among, labels_of as labels_of_tree};
 
 use kapi_model::Label;
@@ -45,4 +46,30 @@ pub(crate) fn labels_of(alloc: Global, tree: &Value) -> Result<Sequence<Label>, 
         Some(Value::Object(members)) => Ok(Sequence::new(labels_among_members(alloc, members)?)),
         _other => Ok(Sequence::new(Vec::new(alloc))),
     }
+}
+
+/// Whether the labels have the same key and the same value.
+fn is_same(a: &Label, b: &Label) -> bool
+    ensures { result ≡ same_label a.now b.now }
+{
+    a.key == b.key && a.value == b.value
+}
+
+/// Whether the lists have the same labels, in the same order. Allocates nothing.
+pub(crate) fn are_same(a: &[Label], b: &[Label]) -> bool
+    ensures { result ≡ same_labels a.now b.now }
+{
+    let mut left = a;
+    let mut right = b;
+    while let [x, xs @ ..] = left {
+        let [y, ys @ ..] = right else {
+            return false;
+        };
+        if !is_same(x, y) {
+            return false;
+        }
+        left = xs;
+        right = ys;
+    }
+    right.is_empty()
 }

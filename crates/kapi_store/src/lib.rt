@@ -15,6 +15,7 @@ pub mod store;
 pub mod stored;
 pub mod window;
 mod worked;
+mod written;
 
 pub use change::{Change, Shared};
 pub use error::{StoreError, TooOld};

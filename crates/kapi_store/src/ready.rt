@@ -1,8 +1,9 @@
 use crate::change::{Change, Shared};
 use crate::key::Key;
 use crate::slots::share_at;
-use crate::stored::StoredObject;
+use crate::written::Written;
 use kapi_text::{Memory, TryCopy};
+use kapi_tree::Object;
 use std::alloc::Global;
 use std::collections::BTreeMap;
 use std::marker::Model;
@@ -15,6 +16,8 @@ pub struct Ready {
     list: Vec<Change>,
     /// The map's share of the first change's new object; no other change has a new object.
     kept: Option<Shared>,
+    /// The first change's new object as a tree, where there is one: so the policy need not read its text.
+    tree: Option<Object>,
 }
 
 impl Model for Ready {
@@ -22,7 +25,7 @@ impl Model for Ready {
     ghost use Rattle.kapi_store.specs.declared.change.Change.{Change};
     ghost use Rattle.std.specs.Coded.{codes};
     ghost use Rattle.kapi_store.specs.contracts.change.Change as changed;
-    ghost use Rattle.kapi_store.specs.Changes.{IsStep, IsWrite};
+    ghost use Rattle.kapi_store.specs.Changes.{IsLeft, IsStep, IsWrite};
 
     ghost Value = { List Change };
 
@@ -30,16 +33,18 @@ impl Model for Ready {
 
     ghost view = { λ r. r.list.items };
 
-    ghost invariant = { λ r. IsWrite r.kept r.list.items × IsStep r.list.items };
+    ghost invariant = { λ r. IsWrite r.kept r.list.items × IsStep r.list.items × IsLeft r.tree r.list.items };
 }
 
 impl Ready {
-    ghost use Rattle.std.specs.Prelude.{◌≡◌, ◌+◌, ◌≤◌, IfOk, List, [], ◌∷◌, None, Some, map, length};
+    ghost use Rattle.std.specs.Prelude.{◌≡◌, ◌+◌, ◌≤◌, IfOk, List, [], ◌∷◌, None, Some, map, length, option_copied, option_map};
     ghost use Rattle.std.specs.List.Sorted.{IsStrictlySortedBy};
     ghost use Rattle.std.specs.Map.{keys_of};
     ghost use Rattle.kapi_store.specs.declared.store.TheConstants.{LAST_REVISION};
     ghost use Rattle.kapi_store.specs.Keys.{key_cmp};
-    ghost use Rattle.kapi_store.specs.Changes.{IsStep, IsWrite, AreRemovals, Follow, revision_of};
+    ghost use Rattle.kapi_tree.specs.Object.{tree_of};
+    ghost use Rattle.kapi_store.specs.Stored.{stored_tree};
+    ghost use Rattle.kapi_store.specs.Changes.{IsLeft, IsOne, IsStep, IsWrite, AreRemovals, Follow, revision_of};
     ghost use Rattle.kapi_store.specs.State.{live};
     ghost use Rattle.kapi_store.specs.Plain.{plain_change, trees, removals as removals_of};
 
@@ -60,12 +65,21 @@ impl Ready {
         Ready {
             list: Vec::new(alloc),
             kept: None,
+            tree: None,
         }
     }
 
-    /// The write of one change, with one more owner of its new object.
+    /// The object that the first change leaves, as a tree; none where it leaves none.
+    pub fn left(&self) -> Option<&Object>
+        ensures { IsLeft (option_copied result) self.now }
+    {
+        self.tree.as_ref()
+    }
+
+    /// The write of one change, which leaves this object, with one more owner of it.
     #[tactic(auto, unfolding(crate::specs::Changes::IsWrite, crate::specs::Changes::AreRemovals))]
-    pub(crate) fn of_one(alloc: Global, change: Change) -> Result<Ready, Memory>
+    fn of_one(alloc: Global, change: Change, tree: Object) -> Result<Ready, Memory>
+        requires { option_map stored_tree change.new ≡ Some (tree_of tree) }
         ensures { IfOk result (λ r. r ≡ change ∷ []) }
     {
         let kept = match &change.new {
@@ -74,7 +88,11 @@ impl Ready {
         };
         let mut list = Vec::with_capacity(alloc, 1)?;
         list.push(change)?;
-        Ok(Ready { list, kept })
+        Ok(Ready {
+            list,
+            kept,
+            tree: Some(tree),
+        })
     }
 
     /// The write that creates an object at the key.
@@ -82,17 +100,15 @@ impl Ready {
         alloc: Global,
         revision: u64,
         key: &Key,
-        object: StoredObject,
+        written: Written,
     ) -> Result<Ready, Memory>
-        ensures { IfOk result (λ r. r ≡ record { revision = revision; key = key.now; old = None; new = Some object } ∷ []) }
+        requires { stored_tree written.stored ≡ tree_of written.object }
+        ensures { IfOk result (IsOne revision key.now None (Some written.stored)) }
     {
-        let change = Change {
-            revision,
-            key: key.copy(alloc)?,
-            old: None,
-            new: Some(Shared::new(alloc, object)?),
-        };
-        Ready::of_one(alloc, change)
+        let Written { object, stored } = written;
+        let new = Shared::new(alloc, stored)?;
+        let change = Change::creation(revision, key.copy(alloc)?, new);
+        Ok(Ready::of_one(alloc, change, object)?)
     }
 
     /// The write that replaces the object at the key.
@@ -101,17 +117,15 @@ impl Ready {
         revision: u64,
         key: Key,
         old: &Shared,
-        object: StoredObject,
+        written: Written,
     ) -> Result<Ready, Memory>
-        ensures { IfOk result (λ r. r ≡ record { revision = revision; key = key; old = Some old.now; new = Some object } ∷ []) }
+        requires { stored_tree written.stored ≡ tree_of written.object }
+        ensures { IfOk result (IsOne revision key (Some old.now) (Some written.stored)) }
     {
-        let change = Change {
-            revision,
-            key,
-            old: Some(old.share()?),
-            new: Some(Shared::new(alloc, object)?),
-        };
-        Ready::of_one(alloc, change)
+        let Written { object, stored } = written;
+        let new = Shared::new(alloc, stored)?;
+        let change = Change::replacement(alloc, revision, key, old.share()?, new)?;
+        Ok(Ready::of_one(alloc, change, object)?)
     }
 
     /// The write that removes the objects at the keys, by the revisions after this one.
@@ -133,14 +147,13 @@ impl Ready {
         for key in keys {
             revision += 1;
             let old = share_at(slots, &key)?;
-            list.push(Change {
-                revision,
-                key,
-                old,
-                new: None,
-            })?;
+            list.push(Change::removal(alloc, revision, key, old)?)?;
         }
-        Ok(Ready { list, kept: None })
+        Ok(Ready {
+            list,
+            kept: None,
+            tree: None,
+        })
     }
 
     /// The changes, and the map's share of the first one's new object.

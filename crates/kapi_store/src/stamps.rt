@@ -16,7 +16,7 @@ ghost use Rattle.kapi_store.specs.Stored.{stored_tree};
 
 use crate::change::Shared;
 use crate::error::StoreError;
-use crate::stored::StoredObject;
+use crate::written::Written;
 use kapi_text::{Memory, Text};
 use kapi_tree::{GivenText, Object};
 use std::alloc::Global;
@@ -37,11 +37,12 @@ pub fn version(alloc: Global, revision: u64) -> Result<String, Memory>
 }
 
 /// The object as the revision creates it.
-pub fn created(alloc: Global, object: Object, revision: u64) -> Result<StoredObject, Memory>
+pub(crate) fn created(alloc: Global, object: Object, revision: u64) -> Result<Written, Memory>
     requires { revision < 2 ^ 48 }
-    ensures { IfOk result (λ s. stored_tree s ≡ created_tree revision (tree_of object)) }
+    ensures tree { IfOk result (λ w. stored_tree w.stored ≡ created_tree revision (tree_of object)) }
+    ensures same { IfOk result (λ w. stored_tree w.stored ≡ tree_of w.object) }
 {
-    StoredObject::stamped(alloc, object, revision, revision)
+    Written::stamped(alloc, object, revision, revision)
 }
 
 /// The object where nothing else is changed: with the old one's unique id and version.
@@ -67,20 +68,21 @@ pub fn is_unchanged(alloc: Global, object: &Object, old: &Shared) -> Result<bool
     ensures test { IfOk result (λ b. b ≡ same_tree (tree_of object.now) (stored_tree old.now)) }
     ensures decides { IfOk result (λ b. Decides b (tree_of object.now ≡ stored_tree old.now)) }
 {
-    let text = text_of(alloc, object)?;
+    let text = object.as_tree().to_string(alloc)?;
     Ok(text.as_str() == old.get().text())
 }
 
 /// The object in the place of the old one, at the version of a revision.
-pub fn in_place_of(
+pub(crate) fn in_place_of(
     alloc: Global,
     object: Object,
     old: &Shared,
     revision: u64,
-) -> Result<StoredObject, Memory>
-    ensures { IfOk result (λ s. stored_tree s ≡ stamped_tree (uid_in (stored_tree old.now)) (decimal revision) (tree_of object)) }
+) -> Result<Written, Memory>
+    ensures tree { IfOk result (λ w. stored_tree w.stored ≡ stamped_tree (uid_in (stored_tree old.now)) (decimal revision) (tree_of object)) }
+    ensures same { IfOk result (λ w. stored_tree w.stored ≡ tree_of w.object) }
 {
-    old.get().replaced_by(alloc, object, revision)
+    Written::stamped(alloc, object, old.get().created(), revision)
 }
 
 /// Whether a write with this given version may change the object of the current one.

@@ -264,8 +264,8 @@ impl Store {
     {
         self.check_revisions(1)?;
         let revision = self.revision + 1;
-        let new = created(self.alloc, object, revision)?;
-        let ready = Ready::creation(self.alloc, revision, &key, new)?;
+        let written = created(self.alloc, object, revision)?;
+        let ready = Ready::creation(self.alloc, revision, &key, written)?;
         reserve_slot(self.alloc, &mut self.slots, &mut self.spare, key)?;
         Ok(ready)
     }
@@ -325,8 +325,8 @@ impl Store {
         }
         self.check_revisions(1)?;
         let revision = self.revision + 1;
-        let new = in_place_of(self.alloc, object, old, revision)?;
-        Ok(Ready::replacement(self.alloc, revision, key, old, new)?)
+        let written = in_place_of(self.alloc, object, old, revision)?;
+        Ok(Ready::replacement(self.alloc, revision, key, old, written)?)
     }
 
     /// Whether the namespace holds an object of a namespaced resource type. The call reads the first object of each

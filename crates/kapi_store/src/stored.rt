@@ -1,12 +1,14 @@
-ghost use Rattle.std.specs.Prelude.{◌≡◌, ◌<◌, ◌^◌, true, false, is_some};
+ghost use Rattle.std.specs.Prelude.{◌≡◌, ◌<◌, ◌^◌, true, false, Some, codes, is_some, option_and_then};
 ghost use Rattle.std.specs.Fmt.{decimal};
+ghost use Rattle.serde_json.specs.Find.{as_str};
 ghost use Rattle.serde_json.specs.Read.{read};
 ghost use Rattle.serde_json.specs.Written.{compact_text, has_float};
 ghost use Rattle.kapi_tree.specs.Contents.{aggregation_in};
-ghost use Rattle.kapi_store.specs.Stamps.{uid_of, uid_in, version_in};
+ghost use Rattle.kapi_tree.specs.Tree.{in_metadata};
+ghost use Rattle.kapi_store.specs.Stamps.{uid_of};
 ghost use Rattle.kapi_store.specs.Told.{labels_of as labels_of_tree, told_by};
 
-use crate::labels::labels_of;
+use crate::labels::{are_same, labels_of};
 use crate::stamps::{text_of, uid, version};
 use kapi_model::{AggregationRule, Label, Labels, Selector};
 use kapi_text::{Memory, Sequence, Text};
@@ -30,37 +32,44 @@ pub struct StoredObject {
     ghost canonical: { text ≡ compact_text (told_by text) },
     ghost labelled: { labels ≡ labels_of_tree (told_by text) },
     ghost aggregated: { aggregation_rule ≡ aggregation_in (told_by text) },
-    ghost born: { uid_in (told_by text) ≡ uid_of created },
-    ghost versioned: { version_in (told_by text) ≡ decimal revision },
+    ghost born: { option_and_then as_str (in_metadata (codes "uid") (told_by text)) ≡ Some (uid_of created) },
+    ghost versioned: { option_and_then as_str (in_metadata (codes "resourceVersion") (told_by text)) ≡ Some (decimal revision) },
     ghost numbered: { created < 2 ^ 48 },
 }
 
 impl StoredObject {
-    ghost use Rattle.std.specs.Prelude.{◌≡◌, ◌<◌, ◌^◌, codes, string_bytes, option_copied, IfOk};
+    ghost use Rattle.std.specs.Prelude.{◌≡◌, ◌<◌, ◌≤◌, ◌^◌, true, false, Some, codes, string_bytes, option_and_then, option_copied, IfOk};
+    ghost use Rattle.std.specs.Bool.{Decides};
     ghost use Rattle.std.specs.Fmt.{decimal};
-    ghost use Rattle.serde_json.specs.Written.{compact_text};
+    ghost use Rattle.serde_json.specs.Find.{as_str};
+    ghost use Rattle.serde_json.specs.View.{view};
+    ghost use Rattle.serde_json.specs.Data.{depth};
+    ghost use Rattle.serde_json.specs.Read.{max_depth};
+    ghost use Rattle.serde_json.specs.Written.{compact_text, has_float};
     ghost use Rattle.kapi_model.specs.Selector.{label_in, matches, values_of};
-    ghost use Rattle.kapi_tree.specs.Object.{stamped_tree, tree_of};
+    ghost use Rattle.kapi_tree.specs.Object.{tree_of};
     ghost use Rattle.kapi_tree.specs.Contents.{aggregation_in};
+    ghost use Rattle.kapi_tree.specs.Order.{is_ordered};
     ghost use Rattle.kapi_tree.specs.Tree.{in_metadata};
+    ghost use Rattle.kapi_store.specs.Gone.{at_version};
     ghost use Rattle.kapi_store.specs.Stamps.{uid_of, uid_in, version_in};
     ghost use Rattle.kapi_store.specs.Stored.{stored_tree};
+    ghost use Rattle.kapi_store.specs.Told.{labels_of as labels_of_tree};
 
-    /// The object with the unique id of one revision and the version of another.
-    pub(crate) fn stamped(
+    /// The object as it is kept: it has the unique id of one revision and the version of another.
+    pub(crate) fn kept(
         alloc: Global,
-        object: Object,
+        object: &Object,
         created: u64,
         revision: u64,
     ) -> Result<StoredObject, Memory>
-        requires { created < 2 ^ 48 }
-        ensures { IfOk result (λ s. stored_tree s ≡ stamped_tree (uid_of created) (decimal revision) (tree_of object)) }
+        requires numbered { created < 2 ^ 48 }
+        requires born { option_and_then as_str (in_metadata (codes "uid") (tree_of object.now)) ≡ Some (uid_of created) }
+        requires versioned { option_and_then as_str (in_metadata (codes "resourceVersion") (tree_of object.now)) ≡ Some (decimal revision) }
+        ensures { IfOk result (λ s. stored_tree s ≡ tree_of object.now) }
     {
-        let uid = uid(alloc, created)?;
-        let version = version(alloc, revision)?;
-        let object = object.stamped(alloc, uid.as_str(), version.as_str())?;
         Ok(StoredObject {
-            text: text_of(alloc, &object)?,
+            text: text_of(alloc, object)?,
             labels: labels_of(alloc, object.as_tree())?,
             aggregation_rule: read_aggregation(alloc, object.as_tree())?,
             created,
@@ -68,16 +77,33 @@ impl StoredObject {
         })
     }
 
-    /// The object in the place of this one: with its unique id, at the version of a revision.
-    pub(crate) fn replaced_by(
-        &self,
-        alloc: Global,
-        object: Object,
-        revision: u64,
-    ) -> Result<StoredObject, Memory>
-        ensures { IfOk result (λ s. stored_tree s ≡ stamped_tree (uid_in (stored_tree self.now)) (decimal revision) (tree_of object)) }
+    /// The text of the object with a revision as its version; all else of it stays.
+    #[tactic(auto, using(crate::proofs::Versions::restamped))]
+    pub(crate) fn text_at(&self, alloc: Global, revision: u64) -> Result<Text, Memory>
+        ensures { IfOk result (λ t. t ≡ compact_text (at_version revision (stored_tree self.now))) }
     {
-        StoredObject::stamped(alloc, object, self.created, revision)
+        let uid = uid(alloc, self.created)?;
+        let version = version(alloc, revision)?;
+        let object = self.object(alloc)?;
+        text_of(
+            alloc,
+            &object.stamped(alloc, uid.as_str(), version.as_str())?,
+        )
+    }
+
+    /// The revision that created the object.
+    pub(crate) fn created(&self) -> u64
+        ensures limit { result < 2 ^ 48 }
+        ensures uid { uid_of result ≡ uid_in (stored_tree self.now) }
+    {
+        self.created
+    }
+
+    /// Whether the object has the labels of another.
+    pub(crate) fn is_labelled_as(&self, other: &StoredObject) -> bool
+        ensures { Decides result (labels_of_tree (stored_tree self.now) ≡ labels_of_tree (stored_tree other.now)) }
+    {
+        are_same(self.labels.as_slice(), other.labels.as_slice())
     }
 
     /// The object as JSON text: compact, keys in the order of their bytes.
@@ -97,15 +123,25 @@ impl StoredObject {
         Ok(copy)
     }
 
+    /// The object's tree, read of its text.
+    #[tactic(auto, using(crate::proofs::Labelled::told_ordered))]
+    pub fn tree(&self, alloc: Global) -> Result<Value, Memory>
+        ensures tree { IfOk result (λ v. view v ≡ stored_tree self.now) }
+        ensures whole { has_float (stored_tree self.now) ≡ false }
+        ensures ordered { is_ordered (stored_tree self.now) ≡ true }
+        ensures nests { IfOk result (λ v. depth (view v) ≤ max_depth) }
+    {
+        match Value::from_str(alloc, self.text.as_str()) {
+            Ok(tree) => Ok(tree),
+            Err(_memory) => Err(AllocError),
+        }
+    }
+
     /// The object, read of its text.
-    #[tactic(auto, using(kapi_tree::proofs::Ordered::was_read_ordered))]
     pub fn object(&self, alloc: Global) -> Result<Object, Memory>
         ensures { IfOk result (λ o. tree_of o ≡ stored_tree self.now) }
     {
-        match Value::from_str(alloc, self.text.as_str()) {
-            Ok(tree) => Ok(Object::new(tree)),
-            Err(_memory) => Err(AllocError),
-        }
+        Ok(Object::new(self.tree(alloc)?))
     }
 
     /// Whether the selector matches the object's labels; allocates nothing.

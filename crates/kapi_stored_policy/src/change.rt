@@ -1,6 +1,6 @@
-ghost use Rattle.std.specs.Prelude.{◌≡◌, ◌++◌, IfOk, OnOk, map, option_map};
+ghost use Rattle.std.specs.Prelude.{◌≡◌, ◌++◌, [], ◌∷◌, IfOk, OnOk, map, option_copied, option_map};
 ghost use Rattle.kapi_tree.specs.Object.{tree_of};
-ghost use Rattle.kapi_store.specs.Changes.{IsStep};
+ghost use Rattle.kapi_store.specs.Changes.{IsLeft};
 ghost use Rattle.kapi_store.specs.Plain.{plain_change};
 ghost use Rattle.kapi_store.specs.Stored.{stored_tree};
 ghost use Rattle.kapi_stored_policy.specs.declared.kind.PolicyKind.TheVariants as of_kind;
@@ -12,20 +12,55 @@ use kapi_policy::{PolicyChange, PolicyKey, PolicyPut, PolicyStep};
 use kapi_rbac_types::{
     admitted_cluster_role, admitted_cluster_role_binding, admitted_role, admitted_role_binding,
 };
-use kapi_store::{Change, Key};
+use kapi_store::{Change, Key, Ready};
 use kapi_text::{Memory, TryCopy};
 use kapi_tree::Object;
 use std::alloc::Global;
 
-/// The changes of the policy by the changes of a write, in their order: a put for each role and binding that is
-/// written, a deletion for each that is removed. The objects are admitted ones.
+/// The changes of the policy by a write, in their order: a put for each role and binding that is written, a deletion for
+/// each that is removed. The objects are admitted ones.
 #[tactic(auto, using(crate::proofs::Steps::changes_step))]
-pub fn policy_changes(alloc: Global, changes: &[Change]) -> Result<PolicyStep, Memory>
-    requires { IsStep changes.now }
-    ensures { IfOk result (λ s. s ≡ reading.policy_changes (map plain_change changes.now)) }
+pub fn policy_changes(alloc: Global, write: &Ready) -> Result<PolicyStep, Memory>
+    ensures { IfOk result (λ s. s ≡ reading.policy_changes (map plain_change write.now)) }
 {
-    let found = collect(alloc, changes)?;
+    let found = found_changes(alloc, write.changes(), write.left())?;
     Ok(PolicyStep::of(found))
+}
+
+/// The changes of the policy by some changes; the object that the first one leaves may be at hand as a tree.
+fn found_changes(
+    alloc: Global,
+    changes: &[Change],
+    left: Option<&Object>,
+) -> Result<Vec<PolicyChange>, Memory>
+    requires { IsLeft (option_copied left) changes.now }
+    ensures { IfOk result (λ v. v.items ≡ reading.policy_changes (map plain_change changes.now)) }
+{
+    match changes {
+        [change] => one_change(alloc, change, left),
+        _others => collect(alloc, changes),
+    }
+}
+
+/// The change of the policy by the only change of a write, if it is of a policy object; the object that it leaves may be
+/// at hand as a tree.
+#[tactic(auto, unfolding(crate::specs::Reading::policy_changes))]
+fn one_change(
+    alloc: Global,
+    change: &Change,
+    left: Option<&Object>,
+) -> Result<Vec<PolicyChange>, Memory>
+    requires { IsLeft (option_copied left) (change.now ∷ []) }
+    ensures { IfOk result (λ v. v.items ≡ reading.policy_changes (plain_change change.now ∷ [])) }
+{
+    let mut found = Vec::new(alloc);
+    match (policy_kind(&change.key), left) {
+        (Some(kind), Some(object)) => {
+            found.push(PolicyChange::Put(put_at(alloc, kind, &change.key, object)?))?;
+        }
+        _other => push_change(alloc, &mut found, change)?,
+    }
+    Ok(found)
 }
 
 #[tactic(auto, unfolding(crate::specs::Reading::policy_changes))]

@@ -6,3 +6,4 @@ mod Maps
 pub mod Named
 pub mod Lists
 pub mod Histories
+mod Gone

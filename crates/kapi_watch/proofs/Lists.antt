@@ -19,7 +19,8 @@ use Rattle.kapi_watch.specs.declared.scope.Scope.{Scope}
 use Rattle.kapi_watch.specs.Histories.{IsNamedBy, AreMadeOf, IsHistory}
 use Rattle.kapi_watch.specs.Lists.{objects_after, up_to, listed, list_at, list_now, place_in, on_top, all_on_top, DueIsTheList, FirstIsTheList, ShownIsTheList, FirstShownIsTheList, StoreShowsTheList, StoreShowedTheList}
 use Rattle.kapi_watch.specs.Runs.{Step, Made, Pump, HoldsOn, history_after, watch_after, shown_over, still_due}
-use Rattle.kapi_watch.specs.Shown.{Shown, Added, at_version, selected, shown_by, shown_of}
+use Rattle.kapi_store.specs.Gone.{at_version}
+use Rattle.kapi_watch.specs.Shown.{Shown, Added, selected, shown_by, shown_of}
 use Rattle.kapi_watch.specs.Watches.{PlainWatch, due, later, shown_all, started_at, started_now}
 use Rattle.kapi_watch.proofs.Maps.{insert_sorted, remove_sorted, insert_all, remove_all, lookup_all, filter_sorted, last_in, above_front, filter_insert, filter_insert_other, filter_remove, filter_absent}
 use Rattle.kapi_watch.proofs.Named.{named_at_version, place_is}

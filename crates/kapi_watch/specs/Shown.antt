@@ -1,12 +1,13 @@
 -- What one change shows to a watch of some objects (Kubernetes, 'Efficient detection of changes').
-use Rattle.std.specs.Prelude.{ℕ, List, Option, None, Some, codes, decimal, if◌then◌else◌, option_map}
-use Rattle.std.specs.Str.{bytes_eq}
-use Rattle.serde_json.specs.Data.{Data, string, object, Members, no_members, member}
+use Rattle.std.specs.Prelude.{ℕ, Option, None, Some, if◌then◌else◌, option_map}
+use Rattle.serde_json.specs.Data.{Data}
+use Rattle.kapi_store.specs.Gone.{at_version}
 use Rattle.kapi_store.specs.Stored.{stored_tree}
 use Rattle.kapi_store.specs.declared.key.Key.{Key}
 use Rattle.kapi_store.specs.Listing.{is_listed}
 use Rattle.kapi_store.specs.Plain.{PlainChange}
 use Rattle.kapi_watch.specs.declared.event.Event.{Event}
+use Rattle.kapi_watch.specs.declared.event.Removed.{Removed}
 use Rattle.kapi_watch.specs.declared.event.Event.TheVariants as event
 use Rattle.kapi_watch.specs.declared.scope.Found.{Found}
 use Rattle.kapi_watch.specs.declared.scope.Scope.{Scope}
@@ -19,21 +20,6 @@ pub data Shown : Type 0 where
   Deleted : Data → Shown
   Expired : Shown
   Refused : Shown
-
--- members whose value at this key is another
-abbrev pub changed_at : List ℕ → (Data → Data) → Members → Members
-changed_at key change no_members = no_members
-changed_at key change (member k d ms) = member k (if bytes_eq k key then change d else d) (changed_at key change ms)
-
--- an object with its value at this key changed; anything else is unchanged
-abbrev pub with_changed : List ℕ → (Data → Data) → Data → Data
-with_changed key change (object ms) = object (changed_at key change ms)
-with_changed key change d = d
-
--- the tree with the revision as the version in its metadata
-abbrev pub at_version : ℕ → Data → Data
-at_version revision tree =
-    with_changed (codes "metadata") (with_changed (codes "resourceVersion") (λ d. string (decimal revision))) tree
 
 -- the tree, where there is one that the watch selects
 abbrev pub selected : Scope → Key → Option Data → Option Data
@@ -52,11 +38,15 @@ shown_by revision (Some old) None = Some (Deleted (at_version revision old))
 unfoldable pub shown_of : Scope → PlainChange → Option (ℕ × Shown)
 shown_of s c = option_map (λ e. (c.revision, e)) (shown_by c.revision (selected s c.key c.old) (selected s c.key c.new))
 
+-- an object that goes, at the version of its removal
+abbrev pub removed_tree : Removed → Data
+removed_tree r = at_version r.revision (stored_tree r.object.now)
+
 -- an event as data
 abbrev pub event_of : Event → Shown
 event_of (event.Added o) = Added (stored_tree o.now)
 event_of (event.Modified o) = Modified (stored_tree o.now)
-event_of (event.Deleted o revision) = Deleted (at_version revision (stored_tree o.now))
+event_of (event.Deleted r) = Deleted (removed_tree r)
 event_of event.Expired = Expired
 event_of event.Refused = Refused
 

@@ -7,10 +7,9 @@ mod laws;
 pub mod scope;
 mod text;
 pub mod watch;
-mod written;
 
 pub use error::WatchError;
-pub use event::Event;
+pub use event::{Event, Removed};
 pub use laws::{
     a_store_writes_a_history, a_watch_begins, nothing_is_shown_twice_or_left_out,
     the_lists_are_those_of_the_store, what_a_watch_shows_makes_the_list,

@@ -1,13 +1,14 @@
 //! What a watch selects, and what it shows of a change.
-ghost use Rattle.std.specs.Prelude.{◌≡◌, IfOk, map, option_map, slice_get};
+ghost use Rattle.std.specs.Prelude.{◌≡◌, IfOk, None, Some, map, option_map, slice_get};
 ghost use Rattle.std.specs.List.{filter_map};
 ghost use Rattle.kapi_store.specs.Stored.{stored_tree};
 ghost use Rattle.kapi_store.specs.Lent.{changes_of};
 ghost use Rattle.kapi_store.specs.Listing.{is_listed, is_within as is_within_of};
 ghost use Rattle.kapi_store.specs.Plain.{plain_change};
-ghost use Rattle.kapi_watch.specs.Shown.{selected as selected_of, shown_of, found_of};
+ghost use Rattle.kapi_store.specs.Gone.{at_version};
+ghost use Rattle.kapi_watch.specs.Shown.{removed_tree, selected as selected_of, shown_of, found_of};
 
-use crate::event::Event;
+use crate::event::{Event, Removed};
 use kapi_model::{ResourceRow, Selector};
 use kapi_store::{Change, Changes, Key, Shared, StoredObject, is_asked};
 use kapi_text::{Memory, Text, TryCopy};
@@ -78,6 +79,20 @@ impl Scope {
         }
     }
 
+    /// The object that goes by a change: one that was watched, where none is that is there after the change.
+    fn removed<'a>(&self, change: &'a Change, old: &'a StoredObject) -> Option<Removed<'a>>
+        requires was { option_map stored_tree change.now.old ≡ Some (stored_tree old.now) }
+        requires watched { selected_of self.now change.now.key (Some (stored_tree old.now)) ≡ Some (stored_tree old.now) }
+        requires gone { selected_of self.now change.now.key (option_map stored_tree change.now.new) ≡ None }
+        ensures { option_map removed_tree result ≡ Some (at_version change.now.revision (stored_tree old.now)) }
+    {
+        Some(Removed {
+            object: old,
+            revision: change.revision,
+            text: change.gone.as_ref()?,
+        })
+    }
+
     /// What a change shows, if anything.
     #[tactic(auto, unfolding(crate::specs::Shown::shown_of))]
     fn find<'a>(&self, change: &'a Change) -> Option<Found<'a>>
@@ -88,7 +103,7 @@ impl Scope {
             (None, None) => return None,
             (None, Some(new)) => Event::Added(new),
             (Some(_old), Some(new)) => Event::Modified(new),
-            (Some(old), None) => Event::Deleted(old, change.revision),
+            (Some(old), None) => Event::Deleted(self.removed(change, old)?),
         };
         Some(Found {
             revision: change.revision,

@@ -3,23 +3,23 @@ ghost use Rattle.std.specs.Prelude.{◌≡◌, IfOk, option_map};
 ghost use Rattle.serde_json.specs.Data.{Data};
 ghost use Rattle.serde_json.specs.Written.{compact_text};
 ghost use Rattle.kapi_store.specs.Stored.{stored_tree};
-ghost use Rattle.kapi_watch.specs.Shown.{at_version, event_of};
+ghost use Rattle.kapi_store.specs.Gone.{at_version};
+ghost use Rattle.kapi_watch.specs.Shown.{event_of};
 ghost use Rattle.kapi_watch.specs.Text.{type_of, object_text_of, event_tree};
 
-use crate::event::Event;
-use crate::written::versioned_text;
-use kapi_store::StoredObject;
+use crate::event::{Event, Removed};
 use kapi_text::Memory;
 use kapi_tree::tree_form::quote;
 use std::alloc::Global;
 
-/// The text of an object with the revision as its version.
-fn deleted_text(alloc: Global, object: &StoredObject, revision: u64) -> Result<Vec<u8>, Memory>
-    ensures { IfOk result (λ b. b.items ≡ compact_text (at_version revision (stored_tree object.now))) }
+/// A copy of the text of an object that goes.
+fn removed_text(alloc: Global, removed: &Removed<'_>) -> Result<Vec<u8>, Memory>
+    ensures { IfOk result (λ b. b.items ≡ compact_text (at_version removed.now.revision (stored_tree removed.now.object.now))) }
 {
-    let object = object.object(alloc)?;
-    let version = format!(in alloc; "{revision}")?;
-    versioned_text(alloc, object.as_tree(), version.as_str())
+    let text = removed.text.as_str().as_bytes();
+    let mut copy = Vec::with_capacity(alloc, text.len())?;
+    copy.extend_from_slice(text)?;
+    Ok(copy)
 }
 
 impl Event<'_> {
@@ -30,7 +30,7 @@ impl Event<'_> {
         match self {
             Event::Added(_object) => "ADDED",
             Event::Modified(_object) => "MODIFIED",
-            Event::Deleted(_object, _revision) => "DELETED",
+            Event::Deleted(_removed) => "DELETED",
             Event::Expired | Event::Refused => "ERROR",
         }
     }
@@ -42,9 +42,7 @@ impl Event<'_> {
     {
         match self {
             Event::Added(object) | Event::Modified(object) => Ok(Some(object.render(alloc)?)),
-            Event::Deleted(object, revision) => {
-                Ok(Some(deleted_text(alloc, object, *revision)?))
-            }
+            Event::Deleted(removed) => Ok(Some(removed_text(alloc, removed)?)),
             Event::Expired | Event::Refused => Ok(None),
         }
     }

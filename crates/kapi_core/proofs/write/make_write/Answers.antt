@@ -1,6 +1,5 @@
 use Rattle.std.proofs.Common.{◌≡◌, Option, map, sym, ap, ◌∙◌, subst}
 use Rattle.kapi_answer.specs.Outcomes.{changes_data}
-use Rattle.kapi_store.specs.Changes.{IsStep}
 use Rattle.kapi_store.specs.Plain.{plain_change}
 use Rattle.kapi_store.specs.declared.ready.Ready.{Ready}
 use Rattle.kapi_policy.specs.Steps.{after_changes}
@@ -23,13 +22,9 @@ pub returns-clause-writes : goal.returns-clause-writes
 returns-clause-writes g c =
     let content = g.P.Policy.content in
     let P : Option Ready → Type 0 = λ w. Writes c.args.store.now (content c.args.policy.now) c.args.tracker.now c.commit.new.self (content c.apply_to.new.policy) c.note_write.new.self (changes_data w) in
-    let noted = subst (λ cs. CoversWritten c.args.store.now c.args.tracker.now c.note_write.new.self (map plain_change cs)) c.changes-2.ensures.list c.in_ok-note_write.ensures.covers_after in
+    let noted = subst (λ cs. CoversWritten c.args.store.now c.args.tracker.now c.note_write.new.self (map plain_change cs)) c.changes.ensures.list c.in_ok-note_write.ensures.covers_after in
     let made : content c.apply_to.new.policy ≡ after_changes (policy_changes (map plain_change c.in-Some.ready)) (content c.args.policy.now) =
     c.in_ok-apply_to.ensures.done
-    ∙ ap (λ cs. after_changes cs (content c.args.policy.now))
-    (c.in_ok-changes.ensures ∙ ap (λ cs. policy_changes (map plain_change cs)) c.changes.ensures.list) in
+    ∙ ap (λ cs. after_changes cs (content c.args.policy.now)) c.in_ok-changes.ensures in
     subst P (sym c.in-Some.is)
     (writes c.args.store.now c.commit.new.self (content c.args.policy.now) (content c.apply_to.new.policy) c.args.tracker.now c.note_write.new.self (map plain_change c.in-Some.ready) c.commit.ensures.stands made noted)
-
-pub policy_changes-requires : goal.policy_changes-requires
-policy_changes-requires g c = subst IsStep (sym c.changes.ensures.list) c.changes.ensures.step

@@ -1,10 +1,11 @@
-use Rattle.std.proofs.Common.{◌≡◌, ◌+◌, ◌≤◌, Ok, true, false, ap, sym, subst, refl, ◌∙◌, arith, rules}
+use Rattle.std.proofs.Common.{◌≡◌, ◌+◌, ◌≤◌, Ok, true, false, IsSome, ap, sym, subst, refl, ◌∙◌, arith, rules}
 use Rattle.std.specs.List.Sorted.{IsStrictlySortedBy}
-use Rattle.std.specs.Map.{keys_of}
+use Rattle.std.specs.Map.{keys_of, lookup}
 use Rattle.std.specs.Fmt.{decimal}
 use Rattle.kapi_tree.specs.Object.{tree_of, stamped_tree}
 use Rattle.kapi_store.specs.Limits.{last_revision}
-use Rattle.kapi_store.specs.Keys.{key_cmp}
+use Rattle.kapi_store.specs.Keys.{is_key, key_cmp}
+use Rattle.kapi_store.specs.declared.key.Key.{Key}
 use Rattle.kapi_store.specs.Stored.{stored_tree}
 use Rattle.kapi_store.specs.Same.{same_tree}
 use Rattle.kapi_store.specs.Stamps.{with_stamps_of, uid_in}
@@ -42,16 +43,21 @@ returns-clause-gives c =
     let same : same_tree (with_stamps_of old (tree_of c.args.object)) old ≡ false
     = ap (λ t. same_tree t old) (sym c.in_ok-object.ensures) ∙ sym c.in_ok-is_same.ensures.test ∙ c.if-is_same.false in
     let left : revisions_left (plain_of c.args.self.now) 1 ≡ Ok tt = c.in_ok-check_revisions.ensures.gives in
-    replaced_by (plain_of c.args.self.now) c.args.key (tree_of c.args.object) old c.in_ok-replacement.field-0 (c.self.inside.revision + 1) c.args.old.now c.in_ok-new.new
+    replaced_by (plain_of c.args.self.now) c.args.key (tree_of c.args.object) old c.in_ok-replacement.field-0 (c.self.inside.revision + 1) c.args.old.now c.in_ok-written.written.stored
     same left c.in_ok-replacement.ensures (ap (λ s. s.revision + 1) c.self.view_is) refl
-    (c.in_ok-new.ensures ∙ ap (stamped_tree (uid_in old) (decimal (c.self.inside.revision + 1))) c.in_ok-object.ensures)
+    (c.in_ok-written.ensures.tree ∙ ap (stamped_tree (uid_in old) (decimal (c.self.inside.revision + 1))) c.in_ok-object.ensures)
 
 pub returns-clause-fits : goal.returns-clause-fits
 returns-clause-fits c =
     let at : c.args.self.now.revision ≡ c.self.inside.revision = ap (λ s. s.revision) (sym c.self.view_is) in
     let left : c.args.self.now.revision + 1 ≤ last_revision = c.in_ok-check_revisions.ensures.left in
-    fits_one c.args.self.now _ _ c.in_ok-replacement.ensures (omega arith) (omega arith)
-    (λ _. slot_of_tree c.args.self.now c.args.key (stored_tree c.args.old.now) (subst (λ s. IsStrictlySortedBy key_cmp (keys_of s.slots)) c.self.view_is c.self.invariant.slots) c.requires)
+    let one = c.in_ok-replacement.ensures in
+    let numbered : one.change.revision ≡ c.self.inside.revision + 1 = one.numbered in
+    fits_one c.args.self.now _ one.change one.one (omega arith) (omega arith)
+    (λ _. slot_at c.args.self.now one.change.key c.args.key one.place (slot_of_tree c.args.self.now c.args.key (stored_tree c.args.old.now) (subst (λ s. IsStrictlySortedBy key_cmp (keys_of s.slots)) c.self.view_is c.self.invariant.slots) c.requires))
+  where
+    slot_at : (s : State) (k l : Key) → k ≡ l → IsSome (lookup (is_key l) s.slots) → IsSome (lookup (is_key k) s.slots)
+    slot_at s k l is h = subst (λ q. IsSome (lookup (is_key q) s.slots)) (sym is) h
 
 -- no changes were prepared, and the trees are equal
 pub returns-then-is_same-clause-unchanged : goal.returns-then-is_same-clause-unchanged
@@ -61,6 +67,6 @@ returns-then-is_same-clause-unchanged c =
 
 pub returns-clause-unchanged : goal.returns-clause-unchanged
 returns-clause-unchanged c = (
-  λ none. absurd (cc (c.in_ok-replacement.ensures, none)),
+  λ none. absurd (cc (c.in_ok-replacement.ensures.one, none)),
   λ is. absurd (cc (c.in_ok-is_same.ensures.decides.1 (c.in_ok-object.ensures ∙ is), c.if-is_same.false)),
 )

@@ -1,8 +1,0 @@
-use Rattle.std.proofs.Common.{◌≡◌, [], map, take}
-use Rattle.std.specs.List.{flat_map, fold}
-use Rattle.kapi_aggregation.specs.Unions.{rules_meant, with_rule}
-use Rattle.kapi_aggregation.specs.Views.{labelled}
-use Rattle.kapi_aggregation.proofs.union.union_for.Given as goal
-
-abbrev pub invariant-loop-selector : goal.invariant-loop-selector
-invariant-loop-selector l = l.rules ≡ fold with_rule [] (flat_map (rules_meant (map labelled l.roles) l.role.name.now) (take l.selector-index l.selector-items))
