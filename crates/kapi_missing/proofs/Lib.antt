@@ -8,6 +8,7 @@ pub mod Bits
 pub mod Adding
 pub mod Found
 pub mod Cells
+pub mod Flat
 pub mod Taken
 pub mod Both
 pub mod Lefts

@@ -1,5 +1,5 @@
 -- Tables of the atoms that rules stop.
-use Rattle.std.proofs.Common.{◌≡◌, ℕ, zero, suc, ◌+◌, ◌/◌, ◌%◌, ◌==◌, ◌<◌, nat_lt, Bool, true, false, not, ◌&&◌, ◌||◌, if◌then◌else◌, List, [], ◌∷◌, length, map, get_or, Option, Some, None, refl, ap, sym, ◌∙◌, arith}
+use Rattle.std.proofs.Common.{◌≡◌, ℕ, zero, suc, ◌+◌, ◌*◌, ◌/◌, ◌%◌, ◌==◌, ◌<◌, nat_lt, Bool, true, false, not, ◌&&◌, ◌||◌, if◌then◌else◌, List, [], ◌∷◌, length, map, get_or, Option, Some, None, refl, ap, sym, subst, ◌∙◌, arith}
 use Rattle.std.proofs.Math.Dec.{eqb-suc-zero}
 use Rattle.std.proofs.lemmas.Bool.{and_from, and_parts, lt-ltb}
 use Rattle.std.proofs.lemmas.List.Folds.{list_any-append}
@@ -11,13 +11,14 @@ use Rattle.kapi_model.specs.declared.policy_rule.PolicyRule.{PolicyRule}
 use denote.Ref.{Bor}
 use Rattle.kapi_missing.proofs.Adding.{map_long}
 use Rattle.kapi_missing.proofs.Bits.{zeros}
-use Rattle.kapi_missing.specs.Private.Bars.{barred, meets, name_marks, wanted_at}
+use Rattle.kapi_missing.proofs.Flat.{below_bits}
+use Rattle.kapi_missing.specs.Private.Bars.{barred, meets, name_marks, wanted_at, whole_name_marks}
 use Rattle.kapi_missing.specs.Private.Finding.{ArePlacesOf}
 use Rattle.kapi_missing.specs.Private.Marks.{at, has}
 use Rattle.kapi_missing.specs.Private.Rows.{first_marks, last_marks, second_marks, third_marks}
 use Rattle.kapi_missing.specs.Private.Sets.{has_number, stands}
-use Rattle.kapi_missing.specs.Private.Table.{Adds, index_in, is_in, is_inside, word_there}
-use Rattle.kapi_missing.specs.Private.Tabled.{AreNamesPlaced, IsMet, IsShaped, IsTable, are_stopping, first_wanted, last_size, last_wanted, name_count, second_size, second_wanted, whole_of, with_if}
+use Rattle.kapi_missing.specs.Private.Table.{Adds, bit_of, has_bit_in, index_in, is_in, is_inside, word_there}
+use Rattle.kapi_missing.specs.Private.Tabled.{AreNamesPlaced, ArePositions, IsMasked, IsMet, IsShaped, IsTable, are_stopping, first_wanted, is_left_of, is_taken, last_size, last_wanted, name_count, name_place, second_size, second_wanted, verb_place, whole_of, with_if}
 use Rattle.kapi_missing.specs.Private.Words.{texts_at}
 use Rattle.kapi_missing.specs.declared.bars.Dimension.TheVariants as dimension
 use Rattle.kapi_missing.specs.declared.bars.Sort.{Sort}
@@ -27,6 +28,7 @@ use Rattle.kapi_missing.specs.declared.marks.Marks.{Marks}
 use Rattle.kapi_missing.specs.declared.shape.Shape.{Shape}
 use Rattle.kapi_missing.specs.declared.table.Met.{Met}
 use Rattle.kapi_missing.specs.declared.tabled.Table.{Table}
+use Rattle.kapi_missing.specs.declared.tabled.Tabled.{Tabled}
 
 -- ---- an empty table
 
@@ -36,11 +38,16 @@ no_bit_there (suc count) zero = refl
 no_bit_there (suc count) (suc n) = no_bit_there count n
 
 pub nothing_in : (s : Shape) (words : List ℕ) (count : ℕ) → words ≡ zeros count → (i j k l : ℕ) → is_in s words i j k l ≡ false
-nothing_in s words count is i j k l = by_place (index_in s i j k (l / 64))
+nothing_in s words count is i j k l = rw (by_place (index_in s i j (bit_of s k l / 64))) (never (nat_lt k s.verbs) (nat_lt l s.names))
   where
-    by_place : (o : Option ℕ) → (bit_at (word_there words o) (l % 64) == 1) ≡ false
-    by_place None = rw (bit_at-zero (l % 64)) refl
-    by_place (Some n) = rw (is, no_bit_there count n, bit_at-zero (l % 64)) refl
+    by_place : (o : Option ℕ) → (bit_at (word_there words o) (bit_of s k l % 64) == 1) ≡ false
+    by_place None = rw (bit_at-zero (bit_of s k l % 64)) refl
+    by_place (Some n) = rw (is, no_bit_there count n, bit_at-zero (bit_of s k l % 64)) refl
+
+    never : (a b : Bool) → (a && (b && false)) ≡ false
+    never false b = refl
+    never true false = refl
+    never true true = refl
 
 -- ---- all names
 
@@ -103,11 +110,13 @@ within_names held b (x ∷ xs) i is = rw (eqb-suc-zero (length xs)) (by_case (he
     by_case true h = within (λ e. true) (x ∷ xs) i h
     by_case false h = within (meets held dimension.Names b) (x ∷ xs) i h
 
-all_inside : (s : Shape) (i j k l : ℕ) → i < s.groups → j < s.resources → k < s.verbs → l < s.names → s.width ≡ s.names / 64 + 1 → is_inside s i j k (l / 64) ≡ true
+all_inside : (s : Shape) (i j k l : ℕ) → i < s.groups → j < s.resources → k < s.verbs → l < s.names → s.width ≡ (s.verbs * s.names + 63) / 64
+    → is_inside s i j (bit_of s k l / 64) ≡ true
 all_inside s i j k l g r v n wide =
-    let last : l / 64 < s.width = omega (arith, n, wide) in
+    let bits : k * s.names + l < s.verbs * s.names = below_bits s.verbs s.names k l v n in
+    let last : (k * s.names + l) / 64 < s.width = omega (arith, bits, wide) in
     and_from (nat_lt i s.groups) _ (lt-ltb i s.groups g)
-    (and_from (nat_lt j s.resources) _ (lt-ltb j s.resources r) (and_from (nat_lt k s.verbs) _ (lt-ltb k s.verbs v) (lt-ltb (l / 64) s.width last)))
+    (and_from (nat_lt j s.resources) _ (lt-ltb j s.resources r) (lt-ltb (bit_of s k l / 64) s.width last))
 
 abbrev four : Sort → Bool → PolicyRule → PolicyRule → ℕ → ℕ → ℕ → ℕ → Bool
 four which held wanted b i j k l =
@@ -126,15 +135,18 @@ module _ (t : Table) where
   last_within sort.Resources held b i is = within_names held b (texts_at t.names.texts.items) i is
   last_within sort.Urls held b i is = only_first true i is
 
-  are_inside : IsShaped t → (held : Bool) (b : PolicyRule) (i j k l : ℕ) → four t.sort held (whole_of t) b i j k l ≡ true → is_inside t.shape i j k (l / 64) ≡ true
+  are_inside : IsShaped t → (held : Bool) (b : PolicyRule) (i j k l : ℕ) → four t.sort held (whole_of t) b i j k l ≡ true
+      → (nat_lt k t.shape.verbs ≡ true) × (nat_lt l t.shape.names ≡ true) × (is_inside t.shape i j (bit_of t.shape k l / 64) ≡ true)
   are_inside shaped held b i j k l is =
       let one = and_parts (at (first_marks held t.sort (whole_of t) b) i) _ is in
       let two = and_parts (at (second_marks held t.sort (whole_of t) b) j) _ one.1 in
       let three = and_parts (at (third_marks held (whole_of t) b) k) (at (last_marks held t.sort (whole_of t) b) l) two.1 in
-      all_inside t.shape i j k l
-      (rw shaped.0 (first_within t.sort held b i one.0)) (rw shaped.1 (second_within t.sort held b j two.0))
-      (rw (shaped.2, map_long (λ (x : Bor (List ℕ)). x.now) t.verbs.texts.items) (within (meets held dimension.Verbs b) (texts_at t.verbs.texts.items) k three.0))
-      (rw shaped.3 (last_within t.sort held b l three.1)) shaped.4
+      let first : i < t.shape.groups = rw shaped.0 (first_within t.sort held b i one.0) in
+      let second : j < t.shape.resources = rw shaped.1 (second_within t.sort held b j two.0) in
+      let third : k < t.shape.verbs =
+      rw (shaped.2, map_long (λ (x : Bor (List ℕ)). x.now) t.verbs.texts.items) (within (meets held dimension.Verbs b) (texts_at t.verbs.texts.items) k three.0) in
+      let last : l < t.shape.names = rw shaped.3 (last_within t.sort held b l three.1) in
+      (lt-ltb k t.shape.verbs third, lt-ltb l t.shape.names last, all_inside t.shape i j k l first second third last shaped.4)
 
 -- ---- the four lists of an atom
 
@@ -190,16 +202,16 @@ with_one hs es false b which whole i j k l =
 
 pub one_more : (t new : Table) (held : Bool) (b : PolicyRule) (met : Met) → IsMet held b t met → whole_of new ≡ whole_of t → new.sort ≡ t.sort → new.shape ≡ t.shape
     → ((hs es : List PolicyRule) → IsShaped t → IsShaped new)
-    → Adds t.shape t.words.items new.words.items (λ i j k l. has_number met.groups.items i && (has_number met.resources.items j && (has_number met.verbs.items k && stands met.names.items l)))
+    → Adds t.shape t.words.items new.words.items (λ i j b. has_number met.groups.items i && (has_number met.resources.items j && stands met.bits.items b))
     → (hs es : List PolicyRule) → IsTable hs es t → IsTable (with_if held hs b) (with_if (not held) es b) new
 one_more t new held b met is_met same_whole same_sort same_shape shaped adds hs es is = (
   shaped hs es is.0,
   λ i j k l. rw (same_whole, same_sort, same_shape)
-      (adds.1 is.0.5 i j k l
-      ∙ rw (is_met.0 i, is_met.1 j, is_met.2 k, is_met.3 l) refl
-      ∙ ap (λ (x : Bool). x || (is_inside t.shape i j k (l / 64) && four t.sort held (whole_of t) b i j k l)) (is.1 i j k l)
-      ∙ ap (λ (x : Bool). are_stopping hs es t.sort (whole_of t) i j k l || x)
-      (no_more (is_inside t.shape i j k (l / 64)) (four t.sort held (whole_of t) b i j k l) (are_inside t is.0 held b i j k l) ∙ sym (barred_four t.sort held (whole_of t) b i j k l))
+      (joined (nat_lt k t.shape.verbs) (nat_lt l t.shape.names) (is_inside t.shape i j (bit_of t.shape k l / 64)) (has_bit_in t.shape t.words.items i j (bit_of t.shape k l))
+      (has_bit_in t.shape new.words.items i j (bit_of t.shape k l)) (four t.sort held (whole_of t) b i j k l) (are_stopping hs es t.sort (whole_of t) i j k l) (is.1 i j k l)
+      (λ one two. adds.1 is.0.5 i j (bit_of t.shape k l) ∙ rw (is_met.0 i, is_met.1 j, is_met.2 k l one two) refl)
+      (are_inside t is.0 held b i j k l)
+      ∙ ap (λ (x : Bool). are_stopping hs es t.sort (whole_of t) i j k l || x) (sym (barred_four t.sort held (whole_of t) b i j k l))
       ∙ with_one hs es held b t.sort (whole_of t) i j k l),
 )
   where
@@ -207,6 +219,14 @@ one_more t new held b met is_met same_whole same_sort same_shape shaped adds hs 
     no_more true is h = refl
     no_more false true h = absurd (let e = h refl in cc)
     no_more false false h = refl
+
+    joined : (verb name inside old new more stopping : Bool) → (verb && (name && old)) ≡ stopping → (verb ≡ true → name ≡ true → new ≡ (old || (inside && more)))
+        → (more ≡ true → (verb ≡ true) × (name ≡ true) × (inside ≡ true)) → (verb && (name && new)) ≡ (stopping || more)
+    joined true true inside old new more stopping was now all = now refl refl ∙ rw (was, no_more inside more (λ h. (all h).2)) refl
+    joined true false inside old new true stopping was now all = absurd (let e = (all refl).1 in cc)
+    joined true false inside old new false stopping was now all = rw (sym was) refl
+    joined false name inside old new true stopping was now all = absurd (let e = (all refl).0 in cc)
+    joined false name inside old new false stopping was now all = rw (sym was) refl
 
 -- ---- the atoms of a wanted rule
 
@@ -231,3 +251,46 @@ core_parts core i j k l is leads =
     let two = and_parts (at core.resources.items j) _ one.1 in
     let three = and_parts (at core.verbs.items k) (at core.names.items l) two.1 in
     leads one.0 two.0 three.0 three.1
+
+-- the place of an entry that has one is below their number
+pub place_below : (texts entries : List (List ℕ)) (found : Found) → ArePlacesOf texts entries found → (k : ℕ) → at found.marks.items k ≡ true
+    → nat_lt (get_or found.places.items k (length texts)) (length texts) ≡ true
+place_below texts entries found are k marked =
+    lt-ltb _ (length texts) (within (λ (e : List ℕ). true) texts (get_or found.places.items k (length texts)) (are.0 (λ e. true) k marked ∙ are.1 k marked))
+
+-- a held rule without names meets them all
+abbrev all_met : PolicyRule
+all_met = record { verbs = []; api_groups = []; resources = []; resource_names = []; non_resource_urls = [] }
+
+meets_all : (which : Sort) (wanted : PolicyRule) → last_marks true which wanted all_met ≡ last_wanted which wanted
+meets_all sort.Resources wanted = by_names wanted.resource_names
+  where
+    by_names : (names : List (List ℕ)) → name_marks true all_met names ≡ whole_name_marks names
+    by_names [] = refl
+    by_names (x ∷ names) = refl
+meets_all sort.Urls wanted = refl
+
+pub name_below : (t : Table) (wanted : PolicyRule) (found : Found) → IsShaped t
+    → ArePositions t (λ h w b. last_marks h t.sort w b) (last_wanted t.sort wanted) wanted t.shape.names found → (l : ℕ) → at found.marks.items l ≡ true
+    → nat_lt (get_or found.places.items l t.shape.names) t.shape.names ≡ true
+name_below t wanted found shaped are l marked =
+    let met : at (last_marks true t.sort (whole_of t) all_met) (get_or found.places.items l t.shape.names) ≡ true =
+    are.0 shaped true all_met l marked ∙ ap (λ (ms : List Bool). at ms l) (meets_all t.sort wanted) ∙ are.1 l marked in
+    let below : get_or found.places.items l t.shape.names < last_size t.sort (texts_at t.names.texts.items) =
+    last_within t t.sort true all_met (get_or found.places.items l t.shape.names) met in
+    let size : t.shape.names ≡ last_size t.sort (texts_at t.names.texts.items) = shaped.3 in
+    lt-ltb (get_or found.places.items l t.shape.names) t.shape.names (subst (λ (n : ℕ). get_or found.places.items l t.shape.names < n) (sym size) below)
+
+-- an atom is not left where the bit of its verb and name is set
+pub not_left : (t : Tabled) (i j k l : ℕ) → IsMasked t
+    → (at t.core.verbs.items k ≡ true → at t.core.names.items l ≡ true
+    → has_bit_in t.table.now.shape t.table.now.words.items (get_or t.groups.items i t.table.now.shape.groups) (get_or t.resources.items j t.table.now.shape.resources)
+    (bit_of t.table.now.shape (verb_place t k) (name_place t l)) ≡ true)
+    → is_left_of t i j k l ≡ false
+not_left t i j k l masked set = by_marks (at t.core.verbs.items k) (at t.core.names.items l) (is_taken t i j k l) (λ one two.
+    let is = masked k l one two in rw (is.0, is.1, set one two) refl)
+  where
+    by_marks : (verb name taken : Bool) → (verb ≡ true → name ≡ true → taken ≡ true) → (verb && (name && not taken)) ≡ false
+    by_marks false name taken leads = refl
+    by_marks true false taken leads = refl
+    by_marks true true taken leads = rw (leads refl refl) refl

@@ -129,10 +129,11 @@ fn is_half(counts: &Counts<'_>, least: usize) -> bool {
 
 // The words of a table for these.
 fn words_for(lists: &Lists<'_>, least: usize) -> usize {
-    let rows = frequent(&lists.groups, least)
-        .saturating_mul(frequent(&lists.resources, least).max(1))
-        .saturating_mul(frequent(&lists.verbs, least));
-    rows.saturating_mul(frequent(&lists.names, least) / 64 + 1)
+    let rows = frequent(&lists.groups, least).saturating_mul(frequent(&lists.resources, least).max(
+        1,
+    ));
+    let bits = frequent(&lists.verbs, least).saturating_mul(frequent(&lists.names, least).max(1));
+    rows.saturating_mul(bits.div_ceil(64))
 }
 
 // How many rules must list an entry at the least, so that the table is small enough.

@@ -4,6 +4,7 @@
 mod alone;
 mod bars;
 mod choosing;
+mod columns;
 mod entries;
 mod finding;
 mod index;

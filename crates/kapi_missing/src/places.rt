@@ -5,11 +5,10 @@ ghost use Rattle.std.specs.Str.{bytes_eq};
 ghost use Rattle.kapi_missing.specs.Private.Bars.{meets, name_marks, rule_in};
 ghost use Rattle.kapi_missing.specs.Private.Marks.{at};
 ghost use Rattle.kapi_missing.specs.Private.Places.{AreFound, is_place, lists_at, number_at};
-ghost use Rattle.kapi_missing.specs.Private.Sets.{has_number, stands};
+ghost use Rattle.kapi_missing.specs.Private.Sets.{has_number};
 ghost use Rattle.kapi_missing.specs.Private.Words.{texts_at};
 
 use crate::bars::{Bar, Dimension, is_met, list_of};
-use crate::sets::{Block, add_number};
 use kapi_text::{Memory, Text};
 use std::alloc::Global;
 use std::collections::BTreeMap;
@@ -101,6 +100,15 @@ fn push_place(list: &mut Vec<usize>, place: Option<usize>) -> Result<(), Memory>
     Ok(())
 }
 
+/// The numbers in their order, by which words are written one behind the other.
+pub fn sorted(numbers: Vec<usize>) -> Vec<usize>
+    ensures { (n : ℕ) → has_number result.items n ≡ has_number numbers.items n }
+{
+    let mut list = numbers;
+    list.sort_unstable();
+    list
+}
+
 // The places of the entries.
 fn listed(alloc: Global, places: &Places<'_>, entries: &[Text]) -> Result<Vec<usize>, Memory>
     ensures { IfOk result (λ v. (n : ℕ) → has_number v.items n ≡ at (map (lists_at entries.now) (texts_at places.now.texts.items)) n) }
@@ -109,7 +117,7 @@ fn listed(alloc: Global, places: &Places<'_>, entries: &[Text]) -> Result<Vec<us
     for entry in entries {
         push_place(&mut list, place_of(places, entry.as_str()))?;
     }
-    Ok(list)
+    Ok(sorted(list))
 }
 
 fn push_if(list: &mut Vec<usize>, number: usize, is: bool) -> Result<(), Memory>
@@ -199,15 +207,4 @@ pub fn names_met(
         return all(alloc, places);
     }
     met(alloc, places, bar, is_held, Dimension::Names)
-}
-
-/// The numbers in blocks.
-pub fn blocks_of(alloc: Global, numbers: &[usize]) -> Result<Vec<Block>, Memory>
-    ensures { IfOk result (λ v. (n : ℕ) → stands v.items n ≡ has_number numbers.now n) }
-{
-    let mut list = Vec::new(alloc);
-    for number in numbers {
-        add_number(&mut list, *number)?;
-    }
-    Ok(list)
 }

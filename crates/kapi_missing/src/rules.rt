@@ -23,16 +23,16 @@ const FEW: usize = 64;
 const SHORT: usize = 512;
 
 /// A table takes so many words for each wanted rule at the most.
-const SHARE: usize = 1_024;
+const SHARE: usize = 16_384;
 
 /// And so many together.
-const LARGE: usize = 2_097_152;
+const LARGE: usize = 8_388_608;
 
 /// So many words are written for each wanted rule at the most.
-const WRITTEN: usize = 32_768;
+const WRITTEN: usize = 2_097_152;
 
 /// And so many together.
-const ENOUGH: usize = 134_217_728;
+const ENOUGH: usize = 1_073_741_824;
 
 /// Tables of the atoms that rules stop, where they are worth it.
 #[derive(Drop)]

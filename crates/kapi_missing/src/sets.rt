@@ -30,9 +30,9 @@ fn with_bit(bits: u64, bit: usize) -> u64
     bits | (1 << bit)
 }
 
-// The block with one number more of its word.
+/// The block with one number more of its word.
 #[tactic(auto, using(crate::proofs::Bits::number_added, crate::proofs::Bits::number_only))]
-fn with_number(block: Block, number: usize) -> Block
+pub fn with_number(block: Block, number: usize) -> Block
     requires { block.place ≡ number / 64 }
     ensures set { (n : ℕ) → (block_has block n || (number == n)) ≡ true → block_has result n ≡ true }
     ensures only { (n : ℕ) → block_has result n ≡ true → (block_has block n || (number == n)) ≡ true }

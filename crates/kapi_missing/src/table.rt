@@ -1,9 +1,10 @@
-//! A bit for each atom of some lists, by the places of its entries.
-ghost use Rattle.std.specs.Prelude.{◌≡◌, ◌==◌, ◌&&◌, ◌<◌, ℕ, true};
+//! A bit for each atom of some lists, by the places of its entries: a row has the bits of all verbs and names.
+ghost use Rattle.std.specs.Prelude.{◌≡◌, ◌==◌, ◌&&◌, ◌<◌, ◌/◌, ℕ, true};
 ghost use Rattle.std.specs.Int.{bit_at};
 ghost use Rattle.kapi_missing.specs.Private.Sets.{block_has, has_number, stands};
-ghost use Rattle.kapi_missing.specs.Private.Table.{Adds, cells, index_in, is_in, is_inside, word_there};
+ghost use Rattle.kapi_missing.specs.Private.Table.{Adds, cells, has_bit_in, index_in, is_in, is_inside, word_there};
 
+use crate::columns::bit_at_places;
 use crate::sets::Block;
 use crate::shape::Shape;
 use crate::single::Positions;
@@ -12,33 +13,31 @@ use crate::single::Positions;
 pub fn size_of_table(shape: Shape) -> usize
     ensures { result ≡ cells shape }
 {
-    shape.groups * shape.resources * shape.verbs * shape.width
+    shape.groups * shape.resources * shape.width
 }
 
-fn has_places(shape: Shape, atom: Positions, place: usize) -> bool
-    ensures { result ≡ is_inside shape atom.group atom.resource atom.verb place }
+fn has_places(shape: Shape, group: usize, resource: usize, place: usize) -> bool
+    ensures { result ≡ is_inside shape group resource place }
 {
-    atom.group < shape.groups
-        && (atom.resource < shape.resources && (atom.verb < shape.verbs && place < shape.width))
+    group < shape.groups && (resource < shape.resources && place < shape.width)
 }
 
-// Where the word stands that has the bit of an atom, the place of its last entry being one of that word.
-fn index_of(shape: Shape, atom: Positions, place: usize) -> Option<usize>
-    ensures { result ≡ index_in shape atom.group atom.resource atom.verb place }
+// Where that word of a row stands.
+fn index_of(shape: Shape, group: usize, resource: usize, place: usize) -> Option<usize>
+    ensures { result ≡ index_in shape group resource place }
 {
-    if has_places(shape, atom, place) {
-        let pair = atom.group * shape.resources + atom.resource;
-        let row = pair * shape.verbs + atom.verb;
+    if has_places(shape, group, resource, place) {
+        let row = group * shape.resources + resource;
         Some(row * shape.width + place)
     } else {
         None
     }
 }
 
-fn word_in(words: &[u64], shape: Shape, atom: Positions, place: usize) -> u64
-    ensures { result ≡ word_there words.now (index_in shape atom.group atom.resource atom.verb place) }
+fn word_in(words: &[u64], shape: Shape, group: usize, resource: usize, place: usize) -> u64
+    ensures { result ≡ word_there words.now (index_in shape group resource place) }
 {
-    match index_of(shape, atom, place) {
+    match index_of(shape, group, resource, place) {
         Some(index) => match words.get(index) {
             Some(word) => *word,
             None => 0,
@@ -54,111 +53,84 @@ fn is_bit(word: u64, bit: usize) -> bool
     (word >> bit) & 1 == 1
 }
 
+// Whether that bit of a row is set.
+fn is_bit_set(words: &[u64], shape: Shape, group: usize, resource: usize, bit: usize) -> bool
+    ensures { result ≡ has_bit_in shape words.now group resource bit }
+{
+    is_bit(word_in(words, shape, group, resource, bit / 64), bit % 64)
+}
+
 /// Whether the bit of the atom is set.
 pub fn is_set_in(words: &[u64], shape: Shape, atom: Positions) -> bool
     ensures { result ≡ is_in shape words.now atom.group atom.resource atom.verb atom.name }
 {
-    is_bit(word_in(words, shape, atom, atom.name / 64), atom.name % 64)
-}
-
-fn is_block_set(words: &[u64], shape: Shape, atom: Positions, block: &Block) -> bool
-    ensures { result ≡ true → (l : ℕ) → block_has block.now l ≡ true → is_in shape words.now atom.group atom.resource atom.verb l ≡ true }
-{
-    word_in(words, shape, atom, block.place) & block.bits == block.bits
-}
-
-/// Whether the bits of all atoms are set that have those last entries.
-pub fn are_set_in(words: &[u64], shape: Shape, atom: Positions, names: &[Block]) -> bool
-    ensures { result ≡ true → (l : ℕ) → stands names.now l ≡ true → is_in shape words.now atom.group atom.resource atom.verb l ≡ true }
-{
-    for block in names {
-        if !is_block_set(words, shape, atom, block) {
-            return false;
-        }
+    match bit_at_places(shape, atom.verb, atom.name) {
+        Some(bit) => is_bit_set(words, shape, atom.group, atom.resource, bit),
+        None => false,
     }
-    true
 }
 
-/// Whether the bits of all atoms are set that have those first and second entries, one of those verbs and one of those last ones.
-pub fn are_rows_set(
+fn is_block_set(words: &[u64], shape: Shape, group: usize, resource: usize, block: &Block) -> bool
+    ensures { result ≡ true → (b : ℕ) → block_has block.now b ≡ true → has_bit_in shape words.now group resource b ≡ true }
+{
+    word_in(words, shape, group, resource, block.place) & block.bits == block.bits
+}
+
+/// Whether all those bits of a row are set.
+pub fn are_set_in(
     words: &[u64],
     shape: Shape,
-    atom: Positions,
-    verbs: &[usize],
-    names: &[Block],
+    group: usize,
+    resource: usize,
+    bits: &[Block],
 ) -> bool
-    ensures { result ≡ true → (k l : ℕ) → has_number verbs.now k ≡ true → stands names.now l ≡ true → is_in shape words.now atom.group atom.resource k l ≡ true }
+    ensures { result ≡ true → (b : ℕ) → stands bits.now b ≡ true → has_bit_in shape words.now group resource b ≡ true }
 {
-    let (group, resource, name) = (atom.group, atom.resource, 0);
-    for verb in verbs {
-        let verb = *verb;
-        let one = Positions {
-            group,
-            resource,
-            verb,
-            name,
-        };
-        if !are_set_in(words, shape, one, names) {
+    for block in bits {
+        if !is_block_set(words, shape, group, resource, block) {
             return false;
         }
     }
     true
 }
 
-fn set_block(words: &mut Vec<u64>, shape: Shape, atom: Positions, block: &Block)
-    ensures { Adds shape words.old.items words.new.items (λ i j k l. (atom.group == i) && ((atom.resource == j) && ((atom.verb == k) && block_has block.now l))) }
+fn set_block(words: &mut Vec<u64>, shape: Shape, group: usize, resource: usize, block: &Block)
+    ensures { Adds shape words.old.items words.new.items (λ i j b. (group == i) && ((resource == j) && block_has block.now b)) }
 {
-    if let Some(index) = index_of(shape, atom, block.place) {
+    if let Some(index) = index_of(shape, group, resource, block.place) {
         if index < words.len() {
             words[index] = words[index] | block.bits;
         }
     }
 }
 
-fn set_names(words: &mut Vec<u64>, shape: Shape, atom: Positions, names: &[Block])
-    ensures { Adds shape words.old.items words.new.items (λ i j k l. (atom.group == i) && ((atom.resource == j) && ((atom.verb == k) && stands names.now l))) }
-{
-    for block in names {
-        set_block(words, shape, atom, block);
-    }
-}
-
-/// The places of the entries that a rule meets.
+/// The places of the first and second entries that a rule meets, and the bits of the others.
 #[derive(Drop)]
 pub struct Met {
     pub groups: Vec<usize>,
     pub resources: Vec<usize>,
-    pub verbs: Vec<usize>,
-    pub names: Vec<Block>,
+    pub bits: Vec<Block>,
 }
 
-fn set_verbs(words: &mut Vec<u64>, shape: Shape, group: usize, resource: usize, met: &Met)
-    ensures { Adds shape words.old.items words.new.items (λ i j k l. (group == i) && ((resource == j) && (has_number met.now.verbs.items k && stands met.now.names.items l))) }
+fn set_row(words: &mut Vec<u64>, shape: Shape, group: usize, resource: usize, bits: &[Block])
+    ensures { Adds shape words.old.items words.new.items (λ i j b. (group == i) && ((resource == j) && stands bits.now b)) }
 {
-    let name = 0;
-    for verb in met.verbs.as_slice() {
-        let verb = *verb;
-        let atom = Positions {
-            group,
-            resource,
-            verb,
-            name,
-        };
-        set_names(words, shape, atom, met.names.as_slice());
+    for block in bits {
+        set_block(words, shape, group, resource, block);
     }
 }
 
 fn set_resources(words: &mut Vec<u64>, shape: Shape, group: usize, met: &Met)
-    ensures { Adds shape words.old.items words.new.items (λ i j k l. (group == i) && (has_number met.now.resources.items j && (has_number met.now.verbs.items k && stands met.now.names.items l))) }
+    ensures { Adds shape words.old.items words.new.items (λ i j b. (group == i) && (has_number met.now.resources.items j && stands met.now.bits.items b)) }
 {
     for resource in met.resources.as_slice() {
-        set_verbs(words, shape, group, *resource, met);
+        set_row(words, shape, group, *resource, met.bits.as_slice());
     }
 }
 
 /// Sets the bits of the atoms whose entries the rule meets.
 pub fn set_met(words: &mut Vec<u64>, shape: Shape, met: &Met)
-    ensures { Adds shape words.old.items words.new.items (λ i j k l. has_number met.now.groups.items i && (has_number met.now.resources.items j && (has_number met.now.verbs.items k && stands met.now.names.items l))) }
+    ensures { Adds shape words.old.items words.new.items (λ i j b. has_number met.now.groups.items i && (has_number met.now.resources.items j && stands met.now.bits.items b)) }
 {
     for group in met.groups.as_slice() {
         set_resources(words, shape, *group, met);

@@ -1,22 +1,24 @@
 //! A table of the atoms that rules stop, by the entries of all wanted rules, and where the atoms of one wanted rule stand in it.
-ghost use Rattle.std.specs.Prelude.{◌≡◌, ◌∷◌, [], ◌&&◌, not, ℕ, Bool, List, get_or, true, false, IfOk, IfSome};
+ghost use Rattle.std.specs.Prelude.{◌≡◌, ◌∷◌, [], ◌&&◌, nat_lt, not, ℕ, Bool, List, get_or, true, false, IfOk, IfSome};
 ghost use Rattle.kapi_model.specs.declared.policy_rule.PolicyRule.{PolicyRule as PolicyRuleValue};
 ghost use Rattle.kapi_missing.specs.Private.Bars.{name_marks, rule_in};
 ghost use Rattle.kapi_missing.specs.Private.Marks.{at};
 ghost use Rattle.kapi_missing.specs.Private.Rows.{first_marks, last_marks, second_marks};
-ghost use Rattle.kapi_missing.specs.Private.Sets.{has_number};
+ghost use Rattle.kapi_missing.specs.Private.Sets.{has_number, stands};
+ghost use Rattle.kapi_missing.specs.Private.Table.{bit_of, has_bit_in};
 ghost use Rattle.kapi_missing.specs.Private.Tabled.{ArePositions, IsMasked, IsMet, IsMore, IsTable, AreNamesPlaced, IsTabled, first_wanted, is_left_of, last_size, last_wanted, placed_at, second_size, second_wanted, whole_of};
 ghost use Rattle.kapi_missing.specs.Private.Words.{texts_at};
 
 use crate::bars::{Bar, Dimension, Sort};
+use crate::columns::{bits_of, bits_of_each};
 use crate::entries::Entries;
 use crate::finding::{Found, first_place, no_place, positions};
 use crate::marks::{Marks, is_marked};
-use crate::places::{Places, blocks_of, first_if, met, names_met};
+use crate::places::{Places, first_if, met, names_met, sorted};
 use crate::sets::Block;
 use crate::shape::{Shape, shape_of};
 use crate::single::Positions;
-use crate::table::{Met, are_rows_set, are_set_in, is_set_in, set_met, size_of_table};
+use crate::table::{Met, are_set_in, is_set_in, set_met, size_of_table};
 use kapi_model::PolicyRule;
 use kapi_text::{Memory, Text};
 use std::alloc::Global;
@@ -51,7 +53,8 @@ pub struct Table<'a> {
     pub put: usize,
 }
 
-/// The places of those entries of a wanted rule that have one in a table, and of its names also as bits.
+/// The places of those entries of a wanted rule that have one in a table, and the bits of its verbs and names: of all, and of each
+/// verb with all names.
 #[derive(Drop)]
 pub struct Tabled<'b, 'a> {
     pub table: &'b Table<'a>,
@@ -59,8 +62,8 @@ pub struct Tabled<'b, 'a> {
     pub resources: Vec<usize>,
     pub verbs: Vec<usize>,
     pub names: Vec<usize>,
-    pub rows: Vec<usize>,
     pub mask: Vec<Block>,
+    pub masks: Vec<Vec<Block>>,
     pub core: Marks,
 }
 
@@ -159,20 +162,27 @@ fn last_met(
     }
 }
 
-// The places of the entries that the rule meets.
-fn met_in(alloc: Global, table: &Table<'_>, bar: &Bar<'_>, is_held: bool) -> Result<Met, Memory>
-    ensures { IfOk result (λ m. IsMet is_held (rule_in bar.now) table.now m) }
+// The places of the first and second entries that the rule meets, and the bits of those verbs and names.
+fn met_in(
+    alloc: Global,
+    table: &Table<'_>,
+    bar: &Bar<'_>,
+    is_held: bool,
+    verbs: &[usize],
+    names: &[usize],
+) -> Result<Met, Memory>
+    ensures { IfOk result (λ m. ((n : ℕ) → has_number m.groups.items n ≡ at (first_marks is_held table.now.sort (whole_of table.now) (rule_in bar.now)) n)
+        × ((n : ℕ) → has_number m.resources.items n ≡ at (second_marks is_held table.now.sort (whole_of table.now) (rule_in bar.now)) n)
+        × ((k l : ℕ) → nat_lt k table.now.shape.verbs ≡ true → nat_lt l table.now.shape.names ≡ true
+        → stands m.bits.items (bit_of table.now.shape k l) ≡ (has_number verbs.now k && has_number names.now l))) }
 {
     let groups = first_met(alloc, table, bar, is_held)?;
     let resources = second_met(alloc, table, bar, is_held)?;
-    let verbs = met(alloc, &table.verbs, bar, is_held, Dimension::Verbs)?;
-    let names = last_met(alloc, table, bar, is_held)?;
-    let names = blocks_of(alloc, names.as_slice())?;
+    let bits = bits_of(alloc, table.shape, verbs, names)?;
     Ok(Met {
         groups,
         resources,
-        verbs,
-        names,
+        bits,
     })
 }
 
@@ -181,8 +191,7 @@ fn size_of_met(met: &Met) -> usize {
     met.groups
         .len()
         .saturating_mul(met.resources.len())
-        .saturating_mul(met.verbs.len())
-        .saturating_mul(met.names.len())
+        .saturating_mul(met.bits.len())
 }
 
 // How many words might be written while entries are looked at that a held rule covers by a star.
@@ -220,6 +229,15 @@ fn are_enough(table: &Table<'_>, written: usize) -> bool {
     all > table.limits.written
 }
 
+// How many words were written, and might be while entries are looked at for the rule.
+fn size_with_looks(table: &Table<'_>, bar: &Bar<'_>, is_held: bool) -> usize {
+    if is_held {
+        table.written.saturating_add(size_of_looks(table, bar))
+    } else {
+        table.written
+    }
+}
+
 /// Sets the atoms that the rule stops too, unless enough has been written.
 pub fn add_to_table(
     alloc: Global,
@@ -229,17 +247,25 @@ pub fn add_to_table(
 ) -> Result<bool, Memory>
     ensures { IfOk result (λ is. is ≡ true → IsMore table.old table.new is_held (rule_in bar.now)) }
 {
-    let looks = if is_held {
-        size_of_looks(table, bar)
-    } else {
-        0
-    };
-    let looked = table.written.saturating_add(looks);
+    let looked = size_with_looks(table, bar, is_held);
     if are_enough(table, looked) {
         return Ok(false);
     }
-    let met = met_in(alloc, table, bar, is_held)?;
-    let written = looked.saturating_add(size_of_met(&met));
+    let verbs = met(alloc, &table.verbs, bar, is_held, Dimension::Verbs)?;
+    let names = last_met(alloc, table, bar, is_held)?;
+    let bits = verbs.len().saturating_mul(names.len());
+    if are_enough(table, looked.saturating_add(bits)) {
+        return Ok(false);
+    }
+    let met = met_in(
+        alloc,
+        table,
+        bar,
+        is_held,
+        verbs.as_slice(),
+        names.as_slice(),
+    )?;
+    let written = looked.saturating_add(size_of_met(&met).max(bits));
     if are_enough(table, written) {
         return Ok(false);
     }
@@ -304,15 +330,18 @@ pub fn tabled_of<'b, 'a>(
     let resources = second_found(alloc, table, rule)?;
     let verbs = positions(alloc, &table.verbs, rule.verbs.as_slice())?;
     let names = last_found(alloc, table, rule)?;
-    let mask = blocks_of(alloc, names.numbers.as_slice())?;
+    let (all_verbs, all_names) = (sorted(verbs.numbers), sorted(names.numbers));
+    let shape = table.shape;
+    let mask = bits_of(alloc, shape, all_verbs.as_slice(), all_names.as_slice())?;
+    let masks = bits_of_each(alloc, shape, verbs.places.as_slice(), all_names.as_slice())?;
     Ok(Tabled {
         table,
         groups: groups.places,
         resources: resources.places,
         verbs: verbs.places,
         names: names.places,
-        rows: verbs.numbers,
         mask,
+        masks,
         core: Marks {
             groups: groups.marks,
             resources: resources.marks,
@@ -343,6 +372,21 @@ fn placed(tabled: &Tabled<'_, '_>, atom: Positions) -> Positions
     }
 }
 
+// Whether all those bits are set of the row of an atom that stands there.
+fn are_set_beside(tabled: &Tabled<'_, '_>, atom: Positions, bits: &[Block]) -> bool
+    ensures { result ≡ true → (b : ℕ) → stands bits.now b ≡ true
+        → has_bit_in tabled.now.table.now.shape tabled.now.table.now.words.items atom.group atom.resource b ≡ true }
+{
+    let table = tabled.table;
+    are_set_in(
+        table.words.as_slice(),
+        table.shape,
+        atom.group,
+        atom.resource,
+        bits,
+    )
+}
+
 /// Whether a rule stops the atom, or its verb or its name has no place.
 pub fn is_taken_at(tabled: &Tabled<'_, '_>, atom: Positions) -> bool
     ensures { not result ≡ is_left_of tabled.now atom.group atom.resource atom.verb atom.name }
@@ -357,25 +401,15 @@ pub fn is_taken_at(tabled: &Tabled<'_, '_>, atom: Positions) -> bool
 pub fn are_all_taken_beside(tabled: &Tabled<'_, '_>, atom: Positions) -> bool
     ensures { IsMasked tabled.now → result ≡ true → (k l : ℕ) → is_left_of tabled.now atom.group atom.resource k l ≡ false }
 {
-    let table = tabled.table;
-    are_rows_set(
-        table.words.as_slice(),
-        table.shape,
-        placed(tabled, atom),
-        tabled.rows.as_slice(),
-        tabled.mask.as_slice(),
-    )
+    are_set_beside(tabled, placed(tabled, atom), tabled.mask.as_slice())
 }
 
 /// Whether rules stop all atoms that have the other entries of that one and a name that has a place.
 pub fn are_taken_beside(tabled: &Tabled<'_, '_>, atom: Positions) -> bool
     ensures { IsMasked tabled.now → result ≡ true → (l : ℕ) → is_left_of tabled.now atom.group atom.resource atom.verb l ≡ false }
 {
-    let table = tabled.table;
-    are_set_in(
-        table.words.as_slice(),
-        table.shape,
-        placed(tabled, atom),
-        tabled.mask.as_slice(),
-    )
+    match tabled.masks.get(atom.verb) {
+        Some(mask) => are_set_beside(tabled, placed(tabled, atom), mask.as_slice()),
+        None => true,
+    }
 }

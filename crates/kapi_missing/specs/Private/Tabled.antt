@@ -1,12 +1,12 @@
 -- Tables of the atoms that rules stop.
-use Rattle.std.specs.Prelude.{◌≡◌, ℕ, ◌+◌, ◌/◌, ◌==◌, Bool, true, false, not, ◌&&◌, ◌||◌, if◌then◌else◌, List, [], ◌∷◌, ◌++◌, length, get_or, map}
+use Rattle.std.specs.Prelude.{◌≡◌, ℕ, ◌+◌, ◌*◌, ◌/◌, ◌==◌, nat_lt, Bool, true, false, not, ◌&&◌, ◌||◌, if◌then◌else◌, List, [], ◌∷◌, ◌++◌, length, get_or, map}
 use Rattle.std.specs.List.{list_any}
 use Rattle.kapi_model.specs.declared.policy_rule.PolicyRule.{PolicyRule}
 use Rattle.kapi_missing.specs.Private.Bars.{barred, name_marks, wanted_at, whole_name_marks}
 use Rattle.kapi_missing.specs.Private.Marks.{at, has}
 use Rattle.kapi_missing.specs.Private.Rows.{first_marks, last_marks, second_marks, third_marks}
 use Rattle.kapi_missing.specs.Private.Sets.{has_number, stands}
-use Rattle.kapi_missing.specs.Private.Table.{cells, is_in}
+use Rattle.kapi_missing.specs.Private.Table.{bit_of, bits_at, cells, is_in}
 use Rattle.kapi_missing.specs.Private.Words.{texts_at}
 use Rattle.kapi_missing.specs.declared.finding.Found.{Found}
 use Rattle.kapi_missing.specs.declared.bars.Sort.{Sort}
@@ -47,7 +47,7 @@ IsShaped t =
     × (t.shape.resources ≡ second_size t.sort (texts_at t.resources.texts.items))
     × (t.shape.verbs ≡ length t.verbs.texts.items)
     × (t.shape.names ≡ last_size t.sort (texts_at t.names.texts.items))
-    × (t.shape.width ≡ t.shape.names / 64 + 1)
+    × (t.shape.width ≡ (t.shape.verbs * t.shape.names + 63) / 64)
     × (length t.words.items ≡ cells t.shape)
 
 -- the held rules and the earlier wanted ones stop the atom
@@ -59,13 +59,13 @@ are_stopping held earlier which wanted i j k l =
 abbrev pub IsTable : List PolicyRule → List PolicyRule → Table → Type 0
 IsTable held earlier t = IsShaped t × ((i j k l : ℕ) → is_in t.shape t.words.items i j k l ≡ are_stopping held earlier t.sort (whole_of t) i j k l)
 
--- the places of the entries that the rule meets
+-- the places of the first and second entries that the rule meets, and the bits of the others
 abbrev pub IsMet : Bool → PolicyRule → Table → Met → Type 0
 IsMet held rule t met =
     ((n : ℕ) → has_number met.groups.items n ≡ at (first_marks held t.sort (whole_of t) rule) n)
     × ((n : ℕ) → has_number met.resources.items n ≡ at (second_marks held t.sort (whole_of t) rule) n)
-    × ((n : ℕ) → has_number met.verbs.items n ≡ at (third_marks held (whole_of t) rule) n)
-    × ((n : ℕ) → stands met.names.items n ≡ at (last_marks held t.sort (whole_of t) rule) n)
+    × ((k l : ℕ) → nat_lt k t.shape.verbs ≡ true → nat_lt l t.shape.names ≡ true
+    → stands met.bits.items (bit_of t.shape k l) ≡ (at (third_marks held (whole_of t) rule) k && at (last_marks held t.sort (whole_of t) rule) l))
 
 -- the rules, and that one where it is one of them
 abbrev pub with_if : Bool → List PolicyRule → PolicyRule → List PolicyRule
@@ -126,11 +126,20 @@ is_taken t i j k l =
 abbrev pub is_left_of : Tabled → ℕ → ℕ → ℕ → ℕ → Bool
 is_left_of t i j k l = at t.core.verbs.items k && (at t.core.names.items l && not (is_taken t i j k l))
 
--- the place of each verb that has one is among the rows, and that of each name among the bits
+-- the place of that verb
+abbrev pub verb_place : Tabled → ℕ → ℕ
+verb_place t k = get_or t.verbs.items k t.table.now.shape.verbs
+
+-- the place of that name
+abbrev pub name_place : Tabled → ℕ → ℕ
+name_place t l = get_or t.names.items l t.table.now.shape.names
+
+-- verbs and names that have places have a bit in a row, which is among the bits of all and among those of the verb
 abbrev pub IsMasked : Tabled → Type 0
-IsMasked t =
-    ((k : ℕ) → at t.core.verbs.items k ≡ true → has_number t.rows.items (get_or t.verbs.items k t.table.now.shape.verbs) ≡ true)
-    × ((l : ℕ) → at t.core.names.items l ≡ true → stands t.mask.items (get_or t.names.items l t.table.now.shape.names) ≡ true)
+IsMasked t = (k l : ℕ) → at t.core.verbs.items k ≡ true → at t.core.names.items l ≡ true
+    → (nat_lt (verb_place t k) t.table.now.shape.verbs ≡ true) × (nat_lt (name_place t l) t.table.now.shape.names ≡ true)
+    × (stands t.mask.items (bit_of t.table.now.shape (verb_place t k) (name_place t l)) ≡ true)
+    × (stands (bits_at t.masks.items k) (bit_of t.table.now.shape (verb_place t k) (name_place t l)) ≡ true)
 
 -- the atoms whose entries have places are wanted, and the table has those of them that the others stop
 abbrev pub IsTabled : List PolicyRule → List PolicyRule → Sort → PolicyRule → Tabled → Type 0

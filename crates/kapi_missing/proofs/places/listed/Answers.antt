@@ -21,3 +21,8 @@ loop-entry-preserved c = λ n.
     ∙ ap (λ (b : Bool). b || is_place c.place_of.result n) (c.loop-entry.invariant n)
     ∙ ap (λ (b : Bool). at (map (lists_at before) texts) n || b) place
     ∙ sym (ap (λ (es : List (List ℕ)). at (map (lists_at es) texts) n) next ∙ listed_more before texts entry n)
+
+pub returns : goal.returns
+returns c = λ n.
+    let all : take c.loop-entry.entry-index c.args.entries.now ≡ c.args.entries.now = grind (arith, common_steps) in
+    c.sorted.ensures n ∙ c.loop-entry.invariant n ∙ ap (λ (es : List (List ℕ)). at (map (lists_at es) (texts_at c.args.places.now.texts.items)) n) all

@@ -4,4 +4,4 @@ use Rattle.kapi_missing.specs.Private.Table.{Adds}
 use Rattle.kapi_missing.proofs.table.set_met.Given as goal
 
 abbrev pub invariant-loop-group : goal.invariant-loop-group
-invariant-loop-group l = Adds l.shape l.initial.words.items l.words.items (λ i j k m. has_number (take l.group-index l.met.groups.items) i && (has_number l.met.resources.items j && (has_number l.met.verbs.items k && stands l.met.names.items m)))
+invariant-loop-group l = Adds l.shape l.initial.words.items l.words.items (λ i j b. has_number (take l.group-index l.met.groups.items) i && (has_number l.met.resources.items j && stands l.met.bits.items b))

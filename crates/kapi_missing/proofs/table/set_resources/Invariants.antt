@@ -4,4 +4,4 @@ use Rattle.kapi_missing.specs.Private.Table.{Adds}
 use Rattle.kapi_missing.proofs.table.set_resources.Given as goal
 
 abbrev pub invariant-loop-resource : goal.invariant-loop-resource
-invariant-loop-resource l = Adds l.shape l.initial.words.items l.words.items (λ i j k m. (l.group == i) && (has_number (take l.resource-index l.met.resources.items) j && (has_number l.met.verbs.items k && stands l.met.names.items m)))
+invariant-loop-resource l = Adds l.shape l.initial.words.items l.words.items (λ i j b. (l.group == i) && (has_number (take l.resource-index l.met.resources.items) j && stands l.met.bits.items b))

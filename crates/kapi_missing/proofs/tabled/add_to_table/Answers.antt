@@ -19,7 +19,11 @@ returns c = λ yes.
       limits = t.limits;
       put = c.saturating_add-table.result;
     } in (
-      one_more t new c.args.is_held (rule_in c.args.bar.now) c.in_ok-met.met c.in_ok-met.ensures refl refl refl
+      one_more t new c.args.is_held (rule_in c.args.bar.now) c.in_ok-met.met (
+        c.in_ok-met.ensures.0,
+        c.in_ok-met.ensures.1,
+        λ k l one two. c.in_ok-met.ensures.2 k l one two ∙ rw (c.as_slice.ensures.value, c.as_slice-2.ensures.value, c.in_ok-verbs.ensures k, c.in_ok-names.ensures l) refl,
+      ) refl refl refl
           (λ hs es s. (s.0, s.1, s.2, s.3, s.4, c.set_met.ensures.0 ∙ s.5)) c.set_met.ensures,
       refl,
     )
