@@ -51,6 +51,28 @@ def random_pair(dice):
     return held, wanted
 
 
+def random_words(dice):
+    """Words of which many rules list some, and a few stars."""
+    return {letter: [f"{letter}{it}" for it in range(dice.randint(1, most))] for letter, most in (("v", 70), ("g", 4), ("r", 6), ("n", 80))}
+
+
+def rule_of(dice, words, starred):
+    """A rule of some of the words, with a star now and then."""
+    star = ["*"] if dice.random() < starred else []
+    if dice.random() < 0.15:
+        return {"verbs": some(dice, words["v"], 1, 3), "nonResourceURLs": [f"/{it}" for it in some(dice, words["n"], 1, 3)] + star}
+    rule = {"verbs": some(dice, words["v"], 1, 3), "apiGroups": some(dice, words["g"], 1, 2), "resources": some(dice, words["r"], 1, 3) + star}
+    rule["resourceNames"] = some(dice, words["n"], 1, 4) if dice.random() < 0.6 else []
+    return rule
+
+
+def large_pair(dice):
+    """Rules of which so many are wanted that the atoms which others stop are kept in tables."""
+    words = random_words(dice)
+    held = [rule_of(dice, words, 0.1) for _ in range(dice.randint(0, 110))]
+    return held, [rule_of(dice, words, 0.02) for _ in range(dice.randint(65, 110))]
+
+
 def atoms(rule):
     verbs, groups, resources, names, urls = (rule.get(each, []) for each in LISTS)
     for group in groups:
@@ -86,12 +108,12 @@ def covers(held, atom):
 
 def missing(held, wanted):
     held_atoms = [atom for rule in held for atom in atoms(rule)]
-    found = []
+    found = {}
     for rule in wanted:
         for atom in atoms(rule):
             if atom not in found and not any(covers(each, atom) for each in held_atoms):
-                found.append(atom)
-    return found
+                found[atom] = True
+    return list(found)
 
 
 def request(conn, method, target, body):
@@ -150,7 +172,7 @@ def main():
     dice = random.Random(seed)
     compared, whole, listed = 0, 0, 0
     while compared < count:
-        pairs = [random_pair(dice) for _ in range(min(BATCH, count - compared))]
+        pairs = [large_pair(dice)] + [random_pair(dice) for _ in range(min(BATCH, count - compared) - 1)]
         for (held, wanted), got in zip(pairs, play(program, pairs)):
             due = missing(held + [WRITER], wanted)
             if got != due:

@@ -23,3 +23,4 @@ mod Listed
 pub mod Numbered
 mod Pumps
 mod Rechecking
+mod Concerned

@@ -12,3 +12,4 @@ pub mod OpeningPolicy
 pub mod Histories
 pub mod Pumps
 pub mod Rechecks
+pub mod Concerns

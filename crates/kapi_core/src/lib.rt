@@ -1,6 +1,7 @@
 //! The machine: events in, answers out.
 #![tactic(auto)]
 
+mod concern;
 mod connection;
 mod event;
 pub mod laws;

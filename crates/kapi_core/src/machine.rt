@@ -1,10 +1,10 @@
-ghost use Rattle.std.specs.Prelude.{true, ◌≡◌, ◌≤◌, ◌&&◌, nat_lt, nat_le, length, IfOk, IsTrue, if◌then◌else◌};
+ghost use Rattle.std.specs.Prelude.{true, ℕ, ◌≡◌, ◌≤◌, ◌&&◌, nat_lt, nat_le, length, IfOk, IfSome, IsTrue, if◌then◌else◌};
 ghost use Rattle.std.specs.BTreeMap.{is_at};
 ghost use Rattle.std.specs.Map.{remove_entry};
 ghost use Rattle.std.specs.Ordering.{nat_cmp};
-ghost use Rattle.kapi_core.specs.Machine.{Machine, is_last, with_rechecks};
+ghost use Rattle.kapi_core.specs.Concerns.{concern_on, is_among, is_concerned};
+ghost use Rattle.kapi_core.specs.Machine.{Machine, is_last, link_at, with_rechecks};
 ghost use Rattle.kapi_core.specs.Limits.{last_first};
-ghost use Rattle.kapi_core.specs.Running.{watches};
 ghost use Rattle.kapi_core.specs.Opening.{opening};
 ghost use Rattle.kapi_core.specs.Table.{fits};
 ghost use Rattle.kapi_core.specs.Refines.{HasOpened};
@@ -13,6 +13,7 @@ ghost use Rattle.kapi_core.specs.declared.event.Event.TheVariants as Event;
 ghost use Rattle.kapi_core.specs.declared.event.Answer.TheVariants as Answer;
 ghost use Rattle.kapi_policy.specs.Objects.{no_objects};
 
+use crate::concern::{concern_of_scope, concerns_of};
 use crate::connection::Connection;
 use crate::event::{ConnId, OpenError, Output, Turned};
 use crate::links::{advance_watch, feed_at, finish_request};
@@ -268,13 +269,28 @@ impl<P: Policy + Drop> Core<P> {
         }))
     }
 
-    /// Whether a watch of a connection runs, so that a pump may show something. Allocates nothing.
-    pub fn is_watching(&self, conn: ConnId) -> bool
-        ensures { result ≡ watches self.now conn.0 }
+    /// The fingerprint of the watch that runs on a connection, if one does. Allocates nothing.
+    pub fn concern(&self, conn: ConnId) -> Option<u64>
+        ensures { (m : Machine) → Refines self.now m → result ≡ concern_on (link_at conn.0 m) }
     {
-        match self.connections.get(&conn.0) {
-            Some(connection) => connection.watching.is_some(),
-            None => false,
+        let Some(connection) = self.connections.get(&conn.0) else {
+            return None;
+        };
+        match &connection.watching {
+            Some(watching) => Some(concern_of_scope(watching.watch.scope())),
+            None => None,
+        }
+    }
+
+    /// The fingerprints of the watches that the changes after a revision may concern. None where any may be concerned: where
+    /// a role or a binding has changed, by which rights may have gone, where more than 64 objects have, and where some
+    /// changes may be kept no longer, or there is no memory for the list.
+    pub fn concerned_after(&self, revision: u64) -> Option<Vec<u64>>
+        ensures { IfSome result (λ v. (m : Machine) → Refines self.now m → (id : ℕ) → is_concerned m id revision ≡ true → is_among v.items (concern_on (link_at id m)) ≡ true) }
+    {
+        match self.store.changes_after(revision) {
+            Ok(changes) => concerns_of(self.alloc, &changes),
+            Err(_too_old) => None,
         }
     }
 

@@ -1,5 +1,5 @@
 -- What an event leaves of the connections of the machine.
-use Rattle.std.proofs.Common.{◌≡◌, ℕ, ◌+◌, suc, Bool, true, false, if◌then◌else◌, List, [], ◌++◌, length, Option, Some, None, option_map, Result, refl, sym, ap, ◌∙◌, subst, arith}
+use Rattle.std.proofs.Common.{◌≡◌, ℕ, ◌+◌, suc, Bool, true, false, if◌then◌else◌, List, [], ◌++◌, length, Option, Some, None, option_map, slice_get, Result, refl, sym, ap, ◌∙◌, subst, arith}
 use Rattle.std.specs.Prelude.{nat_le}
 use Rattle.kapi_answer.specs.Answer.{Answered, answer as answered}
 use Rattle.kapi_answer.specs.Watch.{PlainWatching, event_reply_of}
@@ -8,6 +8,10 @@ use Rattle.kapi_answer.specs.declared.watch.After.TheVariants as becomes
 use Rattle.kapi_answer.specs.declared.watch.EventReply.{EventReply}
 use Rattle.kapi_core.proofs.Effects.{number_of}
 use Rattle.kapi_core.proofs.Numbered.{event_touches, found_gone, found_new, found_own, set_touches, there, turn_links}
+use Rattle.kapi_watch.specs.Shown.{Shown}
+use Rattle.kapi_watch.specs.Watches.{after_pump, due, is_expired, moved}
+use Rattle.kapi_watch.specs.declared.scope.Scope.{Scope}
+use Rattle.kapi_core.specs.Concerns.{concern_of, concern_of_watch, concern_on}
 use Rattle.kapi_core.specs.Limits.{kept_limit}
 use Rattle.kapi_core.specs.Machine.{Link, Machine, after_event, after_serve, changed, ended_if, feed_step, is_last, link_at, new_link, open_step, output_of, policy_of, pump_shown, pump_step, pump_watch, rest_after, serve_beside, serve_item, serve_step, shown_next, step, unserved, watched_on, with_link, with_new_link}
 use Rattle.kapi_core.specs.declared.event.Answer.{Answer}
@@ -113,6 +117,55 @@ pumped_request m conn h none = by_link (link_at conn.0 m) refl h none
     by_link None is h none = none
     by_link (Some l) is h none = by_watch l l.watching is h none
 
+-- ---- watches
+
+-- a pump that shows nothing leaves the watch what it is
+pub pumped_concern : (m : Machine) (conn : ConnId) → answer.Nothing ≡ (step m (event.Pump conn)).0 → concern_on (link_at conn.0 m) ≡ concern_on (link_at conn.0 (step m (event.Pump conn)).1)
+unfolding step pump_step pump_watch pump_shown
+pumped_concern m conn h = by_link (link_at conn.0 m) refl h
+  where
+    id : ℕ
+    id = conn.0
+
+    same_scope : (w : PlainWatching) → (after_pump m.changes m.store w.watch).scope ≡ w.watch.scope
+    same_scope w = by_end (is_expired m.store w.watch) (slice_get (due m.changes w.watch) w.watch.shown)
+      where
+        by_end : (b : Bool) (o : Option (ℕ × Shown)) → (if b then w.watch else moved m.store w.watch o).scope ≡ w.watch.scope
+        by_end true o = refl
+        by_end false None = refl
+        by_end false (Some e) = refl
+
+    by_shown : (l : Link) (w : PlainWatching) (o : Option EventReply) → link_at id m ≡ Some l → l.watching ≡ Some w → answer.Nothing ≡ (pump_shown id l w o m).0
+        → concern_on (Some l) ≡ concern_on (link_at id (pump_shown id l w o m).1)
+    by_shown l w None is runs h =
+        ap (option_map concern_of_watch) runs
+        ∙ ap (λ (s : Scope). Some (concern_of s.row.group s.row.plural s.namespace)) (sym (same_scope w))
+        ∙ sym (ap concern_on (found_own id (watched_on l w m) m (there id m l is)))
+    by_shown l w (Some r) is runs h = absurd (cc)
+
+    by_watch : (l : Link) (w : Option PlainWatching) → link_at id m ≡ Some l → l.watching ≡ w → answer.Nothing ≡ (pump_watch id l w m).0 → concern_on (Some l) ≡ concern_on (link_at id (pump_watch id l w m).1)
+    by_watch l None is runs h = sym (ap concern_on is)
+    by_watch l (Some w) is runs h = by_shown l w (option_map (event_reply_of m.store w) (shown_next m w)) is runs h
+
+    by_link : (o : Option Link) → link_at id m ≡ o → answer.Nothing ≡ (pump_step id o m).0 → concern_on o ≡ concern_on (link_at id (pump_step id o m).1)
+    by_link None is h = sym (ap concern_on is)
+    by_link (Some l) is h = by_watch l l.watching is refl h
+
+-- a piece that is fed leaves the watch what it is
+pub fed_concern : (m : Machine) (conn : ConnId) (piece : List ℕ) → concern_on (link_at conn.0 m) ≡ concern_on (link_at conn.0 (step m (event.Feed conn piece)).1)
+unfolding step feed_step
+fed_concern m conn piece = by_link (link_at conn.0 m) refl
+  where
+    by_fit : (l : Link) (b : Bool) (p q : Answer × Machine) → concern_on (Some l) ≡ concern_on (link_at conn.0 p.1) → concern_on (Some l) ≡ concern_on (link_at conn.0 q.1)
+        → concern_on (Some l) ≡ concern_on (link_at conn.0 (if b then p else q).1)
+    by_fit l true p q one other = one
+    by_fit l false p q one other = other
+
+    by_link : (o : Option Link) → link_at conn.0 m ≡ o → concern_on o ≡ concern_on (link_at conn.0 (feed_step conn.0 piece o m).1)
+    by_link None is = sym (ap concern_on is)
+    by_link (Some l) is = by_fit l (nat_le (length (unserved l) + length piece) kept_limit) (answer.Done, with_link conn.0 (record l { sent = l.sent ++ piece }) m) (answer.Full, m)
+        (sym (ap concern_on (found_own conn.0 (record l { sent = l.sent ++ piece }) m (there conn.0 m l is)))) (sym (ap concern_on is))
+
 -- ---- a connection ends
 
 pub closed_gone : (m : Machine) (conn : ConnId) → IsNumbered m → link_at conn.0 (step m (event.Close conn)).1 ≡ None
@@ -198,6 +251,13 @@ unfolding step open_step
 opened_request m who conn is =
     opens_if _ (answer.Opened (record { 0 = m.next_id }), with_new_link m.next_id (new_link who) m) (answer.TooMany, m) conn (λ n. HasNoRequest m.next_id (link_at m.next_id n))
     (subst (λ o. HasNoRequest m.next_id o) (sym (found_new m.next_id (new_link who) m)) (fresh_request m.next_id who)) refl is
+
+-- and no watch
+pub opened_concern : (m : Machine) (who : Identity) (conn : ConnId) → answer.Opened conn ≡ (step m (event.Open who)).0 → None ≡ concern_on (link_at m.next_id (step m (event.Open who)).1)
+unfolding step open_step
+opened_concern m who conn is =
+    opens_if _ (answer.Opened (record { 0 = m.next_id }), with_new_link m.next_id (new_link who) m) (answer.TooMany, m) conn (λ n. None ≡ concern_on (link_at m.next_id n))
+    (sym (ap concern_on (found_new m.next_id (new_link who) m))) refl is
 
 -- ---- what is answered
 

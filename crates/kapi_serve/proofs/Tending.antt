@@ -1,6 +1,7 @@
 -- What is kept of clients suits their connections over all that a server does.
 use Rattle.std.proofs.Common.{◌≡◌, ℕ, ◌+◌, ◌<◌, ◌≤◌, suc, Bool, true, false, if◌then◌else◌, List, [], ◌∷◌, ◌++◌, length, drop, get_or, set, Option, Some, None, Result, Ok, Err, inl, inr, refl, sym, ap, ◌∙◌, subst, arith}
-use Rattle.std.specs.Prelude.{◌⊎◌, OnOk, is_err}
+use Rattle.std.specs.Global.{Vec}
+use Rattle.std.specs.Prelude.{◌⊎◌, IfSome, OnOk, is_err, is_some, option_map}
 use Rattle.std.specs.List.{AllByRecursion, HoldsAt, remove}
 use Rattle.std.specs.Map.{lookup}
 use Rattle.std.specs.BTreeMap.{is_at}
@@ -9,6 +10,9 @@ use Rattle.std.proofs.lemmas.Bool.{cases_eq, cases_lt, true≢false}
 use Rattle.std.proofs.lemmas.List.{drop_all, get_or_default, get_or-set_other, get_or-set_same}
 use Rattle.kapi_aggregation.specs.Members.{Has}
 use Rattle.kapi_core.proofs.Effects.{number_of}
+use Rattle.kapi_answer.specs.Watch.{PlainWatching}
+use Rattle.kapi_watch.specs.Watches.{later}
+use Rattle.kapi_core.specs.Concerns.{concern_of_watch, concern_on, concern_some, is_among, is_concerned, watch_on}
 use Rattle.kapi_core.specs.Machine.{Link, Machine, link_at, step}
 use Rattle.kapi_core.specs.Refines.{Keeps as Same, Makes, Opens, Refines, RunsOut, TakesIn, sent_if, turned_if}
 use Rattle.kapi_core.specs.Running.{Running}
@@ -34,9 +38,9 @@ use Rattle.kapi_serve.specs.Ports.{Report}
 use Rattle.kapi_serve.specs.Private.Moments.{Ends}
 use Rattle.kapi_serve.specs.Private.Pieces.{IsCounted, IsSent, joined, owed}
 use Rattle.kapi_serve.specs.Private.Progresses.{both}
-use Rattle.kapi_serve.specs.Private.Stands.{AllSuit, AreDue, AreRoused, Finishes, GoesOn, HasNoRequest, IsAwakeOrQuiet, IsNew, IsNumbered, IsQuiet, IsRoused, IsServed, Keeps, PassesBy, Rise, Stays, Suits, Tends, Waits}
+use Rattle.kapi_serve.specs.Private.Stands.{AllSuit, AreCalled, AreDue, AreRoused, Finishes, GoesOn, HasNoRequest, IsAwakeOrQuiet, IsNew, IsNumbered, IsQuiet, IsServed, Keeps, PassesBy, Rise, Stays, Suits, Tends, Waits, is_called}
 use Rattle.kapi_serve.specs.Rests.{AreAtRest, Rests}
-use Rattle.kapi_serve.proofs.Connections.{answered_nothing, answered_same, closed_gone, goes_both, goes_event, goes_none, gone_request, opened_request, pumped_request, request_answered, served_gone, shown_gone, stays_both, stays_none, turn_stays, unfed_stays, unserved_stays}
+use Rattle.kapi_serve.proofs.Connections.{answered_nothing, answered_same, closed_gone, fed_concern, goes_both, goes_event, goes_none, gone_request, opened_concern, opened_request, pumped_concern, pumped_request, request_answered, served_gone, shown_gone, stays_both, stays_none, turn_stays, unfed_stays, unserved_stays}
 use Rattle.kapi_serve.proofs.Numbers.{opened_next}
 use Rattle.kapi_serve.proofs.Standing.{each_at, each_both, each_left, each_more, each_only, each_put, each_kept, each_set, each_to, has_at, has_inside, has_next, has_removed, remove_past, rise_left, rise_more, rise_set}
 
@@ -114,6 +118,7 @@ suits_same m n c same next s = record {
   ending = s.ending;
   counted = s.counted;
   below = let less : c.id.0 < m.next_id = s.below in omega (arith, less, next);
+  watching = s.watching ∙ sym (ap concern_on same);
 }
 
 pub suits_kept : (m : Machine) (c d : Client) → Keeps c d → Suits m c → Suits m d
@@ -123,16 +128,19 @@ suits_kept m c d k s = record {
   ending = λ e. k.fed ∙ s.ending (sym k.phase ∙ e);
   counted = k.counted s.counted;
   below = subst (λ i. i.0 < m.next_id) (sym k.id) s.below;
+  watching = subst (λ i. d.watching ≡ concern_on (link_at i.0 m)) (sym k.id) (k.watching ∙ s.watching);
 }
 
 -- the connection of a client went on, and bytes came since a request was looked for
-suits_fed : (m n : Machine) (c d : Client) → GoesOn c.id.0 m n → Suits m c → d.id ≡ c.id → d.fed ≡ true → (d.phase ≡ phase.Closed → link_at c.id.0 n ≡ None) → IsCounted d.pending → Suits n d
-suits_fed m n c d g s same fed closed counted = record {
+suits_fed : (m n : Machine) (c d : Client) → GoesOn c.id.0 m n → Suits m c → d.id ≡ c.id → d.fed ≡ true → (d.phase ≡ phase.Closed → link_at c.id.0 n ≡ None) → IsCounted d.pending
+    → d.watching ≡ concern_on (link_at c.id.0 n) → Suits n d
+suits_fed m n c d g s same fed closed counted told = record {
   unfed = λ e. absurd (true≢false (sym fed ∙ e));
   closed = λ e. subst (λ i. link_at i.0 n ≡ None) (sym same) (closed e);
   ending = λ e. fed;
   counted = counted;
   below = subst (λ i. i.0 < n.next_id) (sym same) (let less : c.id.0 < m.next_id = s.below in omega (arith, less, g.next));
+  watching = subst (λ i. d.watching ≡ concern_on (link_at i.0 n)) (sym same) told;
 }
 
 -- nothing was done
@@ -151,10 +159,11 @@ closes_if false p q is going closed = absurd (going (sym is ∙ closed))
 -- something is sent
 tends_sent : (a b : Running) (c d : Client) (e : Event) (out : Output) → Makes a b e (answer.Sent out) → ((m : Machine) → number_of m e ≡ c.id.0)
     → ((m : Machine) → answer.Sent out ≡ (step m e).0 → out.close ≡ true → IsNumbered m → link_at c.id.0 (step m e).1 ≡ None)
-    → d.id ≡ c.id → d.fed ≡ true → d.phase ≡ (if out.close then phase.Closed else c.phase) → (c.phase ≡ phase.Closed → ⊥) → (IsCounted c.pending → IsCounted d.pending) → Tends a b c d
-tends_sent a b c d e out makes number gone same fed becomes going counted = λ m r n s.
+    → d.id ≡ c.id → d.fed ≡ true → d.phase ≡ (if out.close then phase.Closed else c.phase) → (c.phase ≡ phase.Closed → ⊥) → (IsCounted c.pending → IsCounted d.pending)
+    → ((n : Machine) → Refines b n → d.watching ≡ concern_on (link_at c.id.0 n)) → Tends a b c d
+tends_sent a b c d e out makes number gone same fed becomes going counted told = λ m r n s.
     let g = goes_event m e c.id.0 (number m) n in
-    ((step m e).1, (makes m r).1, g, same, suits_fed m (step m e).1 c d g s same fed (λ closed. gone m (makes m r).0 (closes_if out.close d.phase c.phase becomes going closed) n) (counted s.counted))
+    ((step m e).1, (makes m r).1, g, same, suits_fed m (step m e).1 c d g s same fed (λ closed. gone m (makes m r).0 (closes_if out.close d.phase c.phase becomes going closed) n) (counted s.counted) (told (step m e).1 (makes m r).1))
 
 made_sent : (a b : Running) (e : Event) (o : Option Output) (out : Output) → Makes a b e (sent_if o) → o ≡ Some out → Makes a b e (answer.Sent out)
 made_sent a b e o out makes some = subst (λ x. Makes a b e (sent_if x)) some makes
@@ -164,16 +173,18 @@ made_nothing a b e o makes none = subst (λ x. Makes a b e (sent_if x)) none mak
 
 -- a client is answered
 pub tends_served : (a b : Running) (c f d : Client) (o : Option Output) (out : Output) → Keeps c f → Makes a b (event.Serve f.id) (sent_if o) → o ≡ Some out → c.fed ≡ true → (f.phase ≡ phase.Closed → ⊥)
-    → d.id ≡ f.id → d.fed ≡ f.fed → d.phase ≡ (if out.close then phase.Closed else f.phase) → (IsCounted f.pending → IsCounted d.pending) → Tends a b c d
-tends_served a b c f d o out k makes some fed going same still becomes counted = λ m r n s.
-    let t = tends_sent a b f d (event.Serve f.id) out (made_sent a b (event.Serve f.id) o out makes some) (λ m. refl) (λ m h close n. served_gone m f.id out h close n) same (still ∙ k.fed ∙ fed) becomes going counted m r n (suits_kept m c f k s) in
+    → d.id ≡ f.id → d.fed ≡ f.fed → d.phase ≡ (if out.close then phase.Closed else f.phase) → (IsCounted f.pending → IsCounted d.pending)
+    → ((n : Machine) → Refines b n → d.watching ≡ concern_on (link_at f.id.0 n)) → Tends a b c d
+tends_served a b c f d o out k makes some fed going same still becomes counted told = λ m r n s.
+    let t = tends_sent a b f d (event.Serve f.id) out (made_sent a b (event.Serve f.id) o out makes some) (λ m. refl) (λ m h close n. served_gone m f.id out h close n) same (still ∙ k.fed ∙ fed) becomes going counted told m r n (suits_kept m c f k s) in
     (t.0, t.1, subst (λ i. GoesOn i.0 m t.0) k.id t.2, t.3 ∙ k.id, t.4)
 
 -- a client is shown an event
 pub tends_shown : (a b : Running) (c f d : Client) (o : Option Output) (out : Output) → Keeps c f → Makes a b (event.Pump f.id) (sent_if o) → o ≡ Some out → (f.phase ≡ phase.Closed → ⊥)
-    → d.id ≡ f.id → d.fed ≡ true → d.phase ≡ (if out.close then phase.Closed else f.phase) → (IsCounted f.pending → IsCounted d.pending) → Tends a b c d
-tends_shown a b c f d o out k makes some going same fed becomes counted = λ m r n s.
-    let t = tends_sent a b f d (event.Pump f.id) out (made_sent a b (event.Pump f.id) o out makes some) (λ m. refl) (λ m h close n. shown_gone m f.id out h close n) same fed becomes going counted m r n (suits_kept m c f k s) in
+    → d.id ≡ f.id → d.fed ≡ true → d.phase ≡ (if out.close then phase.Closed else f.phase) → (IsCounted f.pending → IsCounted d.pending)
+    → ((n : Machine) → Refines b n → d.watching ≡ concern_on (link_at f.id.0 n)) → Tends a b c d
+tends_shown a b c f d o out k makes some going same fed becomes counted told = λ m r n s.
+    let t = tends_sent a b f d (event.Pump f.id) out (made_sent a b (event.Pump f.id) o out makes some) (λ m. refl) (λ m h close n. shown_gone m f.id out h close n) same fed becomes going counted told m r n (suits_kept m c f k s) in
     (t.0, t.1, subst (λ i. GoesOn i.0 m t.0) k.id t.2, t.3 ∙ k.id, t.4)
 
 -- there is no event for a client
@@ -193,6 +204,7 @@ tends_unshown a b c f o k makes none going = λ m r n s.
         ending = own.ending;
         counted = own.counted;
         below = let less : f.id.0 < m.next_id = own.below in omega (arith, less, g.next);
+        watching = own.watching ∙ pumped_concern m f.id (made m r).0;
       },
     )
 
@@ -221,6 +233,7 @@ tends_unserved a b x c f d o p k makes none going (inl q) = λ m r n s.
         ending = λ e. absurd (closed_not_ending e);
         counted = own.counted;
         below = under;
+        watching = sym (ap concern_on gone);
       }),
     )
 tends_unserved a b x c f d o p k makes none going (inr q) = λ m r n s.
@@ -239,6 +252,7 @@ tends_unserved a b x c f d o p k makes none going (inr q) = λ m r n s.
         ending = λ e. absurd (q.0 e);
         counted = own.counted;
         below = own.below;
+        watching = own.watching;
       }),
     )
 
@@ -434,19 +448,48 @@ stands_roused m cs aw bw i c below is awake more s =
     }
 
 -- one client more may have something to show
-roused_next : (cs : List Client) (n : ℕ) → HoldsAt IsRoused cs n → AreRoused n cs → AreRoused (suc n) cs
-roused_next cs n here before i below = by_place (cases_lt i n)
+called_next : (o : Option (List ℕ)) (cs : List Client) (n : ℕ) → HoldsAt (λ c. is_called o c.watching ≡ true → c.shown ≡ false) cs n → AreCalled o n cs → AreCalled o (suc n) cs
+called_next o cs n here before i below = by_place (cases_lt i n)
   where
-    by_place : (i < n) ⊎ (n ≤ i) → HoldsAt IsRoused cs i
+    by_place : (i < n) ⊎ (n ≤ i) → HoldsAt (λ c. is_called o c.watching ≡ true → c.shown ≡ false) cs i
     by_place (inl under) = before i under
-    by_place (inr past) = let same : n ≡ i = omega (arith, below, past) in subst (λ k. HoldsAt IsRoused cs k) same here
+    by_place (inr past) = let same : n ≡ i = omega (arith, below, past) in subst (λ k. HoldsAt (λ c. is_called o c.watching ≡ true → c.shown ≡ false) cs k) same here
 
-pub roused_kept : (cs : List Client) (n : ℕ) (c : Client) → n < length cs → c ≡ get_or cs n c → c.watching ≡ false → AreRoused n cs → AreRoused (suc n) cs
-roused_kept cs n c below is unwatched = roused_next cs n (λ d. subst (λ x. IsRoused x) (is ∙ get_or_default cs n c d below) (λ watching. absurd (true≢false (sym watching ∙ unwatched))))
+pub called_kept : (o : Option (List ℕ)) (cs : List Client) (n : ℕ) (c : Client) → n < length cs → c ≡ get_or cs n c → is_called o c.watching ≡ false → AreCalled o n cs → AreCalled o (suc n) cs
+called_kept o cs n c below is uncalled = called_next o cs n (λ d. subst (λ x. is_called o x.watching ≡ true → x.shown ≡ false) (is ∙ get_or_default cs n c d below) (λ called. absurd (true≢false (sym called ∙ uncalled))))
 
-pub roused_set : (cs : List Client) (n : ℕ) (e : Client) → n < length cs → e.shown ≡ false → AreRoused n cs → AreRoused (suc n) (set cs n e)
-roused_set cs n e below unshown before = roused_next (set cs n e) n (λ d. subst (λ x. IsRoused x) (sym (get_or-set_same cs n e d below)) (λ watching. unshown))
-    (λ i under d. subst (λ x. IsRoused x) (sym (get_or-set_other cs n i e d (λ same. absurd (omega (arith, under, same))))) (before i under d))
+pub called_set : (o : Option (List ℕ)) (cs : List Client) (n : ℕ) (e : Client) → n < length cs → e.shown ≡ false → AreCalled o n cs → AreCalled o (suc n) (set cs n e)
+called_set o cs n e below unshown before = called_next o (set cs n e) n (λ d. subst (λ x. is_called o x.watching ≡ true → x.shown ≡ false) (sym (get_or-set_same cs n e d below)) (λ called. unshown))
+    (λ i under d. subst (λ x. is_called o x.watching ≡ true → x.shown ≡ false) (sym (get_or-set_other cs n i e d (λ same. absurd (omega (arith, under, same))))) (before i under d))
+
+-- the clients whose watches a change may concern are called
+pub roused_by : (m : Machine) (revision : ℕ) (o : Option (List ℕ)) (cs : List Client) (aw : List ℕ) → AllSuit m cs aw → AreCalled o (length cs) cs
+    → ((ns : List ℕ) → o ≡ Some ns → (id : ℕ) → is_concerned m id revision ≡ true → is_among ns (concern_on (link_at id m)) ≡ true) → AreRoused m revision cs
+roused_by m revision o cs aw s called listed i below d concerned =
+    let c : Client = get_or cs i d in
+    let suits : Suits m c = each_at (λ x. Suits m x) cs i d s.suit below in
+    called i below d (subst (λ w. is_called o w ≡ true) (sym suits.watching) (by_list c.id.0 o listed concerned))
+  where
+    some_watch : (l : Option Link) → concern_some (later revision m.changes) (watch_on l) ≡ true → is_some (concern_on l) ≡ true
+    some_watch None h = absurd (cc h)
+    some_watch (Some l) h = by_watch l.watching h
+      where
+        by_watch : (w : Option PlainWatching) → concern_some (later revision m.changes) w ≡ true → is_some (option_map concern_of_watch w) ≡ true
+        by_watch None h = absurd (cc h)
+        by_watch (Some w) h = refl
+
+    by_list : (id : ℕ) (o : Option (List ℕ)) → ((ns : List ℕ) → o ≡ Some ns → (id : ℕ) → is_concerned m id revision ≡ true → is_among ns (concern_on (link_at id m)) ≡ true)
+        → is_concerned m id revision ≡ true → is_called o (concern_on (link_at id m)) ≡ true
+    by_list id None listed h = some_watch (link_at id m) h
+    by_list id (Some ns) listed h = listed ns refl id h
+
+-- what holds of the items of a list, if there is one
+pub some_items : (o : Option (Vec ℕ)) (P : List ℕ → Type 0) → IfSome o (λ v. P v.items) → (ns : List ℕ) → option_map (λ v. v.items) o ≡ Some ns → P ns
+some_items None P h ns is = absurd (cc is)
+some_items (Some v) P h ns is = subst P (same_items v.items ns is) h
+  where
+    same_items : (xs ys : List ℕ) → Some xs ≡ Some ys → xs ≡ ys
+    same_items xs ys e = cc e
 
 -- one client is changed, which is awake
 pub stands_set : (m n : Machine) (cs : List Client) (aw bw : List ℕ) (i : ℕ) (d e : Client) → AllSuit m cs aw → i < length cs → GoesOn (get_or cs i d).id.0 m n → e.id ≡ (get_or cs i d).id → Suits n e
@@ -504,6 +547,7 @@ on_opened a b cs ds aw who id makes fresh = λ m r s.
       ending = λ ending. absurd (open_not_ending (sym new.quiet.phase ∙ ending));
       counted = new.counted;
       below = let up : n.next_id ≡ m.next_id + 1 = next.1 in omega (arith, at, up);
+      watching = new.unwatched ∙ subst (λ k. None ≡ concern_on (link_at k n)) (sym at) (opened_concern m who id told);
     } in
     (n, (makes m r).1, subst (λ xs. AllSuit n xs aw) (sym fresh.1) (stands_more m n cs aw e s g at suits new.quiet))
 
@@ -547,7 +591,7 @@ pub stands_ended : (m : Machine) (cs : List Client) (aw : List ℕ) (i : ℕ) (c
 stands_ended m cs aw i c below is has s =
     let own : Suits m c = subst (λ x. Suits m x) (sym is) (each_at (λ x. Suits m x) cs i c s.suit below) in
     stands_set m m cs aw aw i c (record c { phase = phase.Ending; fed = true }) s below (goes_none (get_or cs i c).id.0 m s.numbered) (ap (λ x. x.id) is)
-    (record { unfed = λ e. absurd (true≢false e); closed = λ e. absurd (closed_not_ending (sym e)); ending = λ e. refl; counted = own.counted; below = own.below }) (subst (λ x. Has aw x.id.0) (sym is) has) (λ k h. h)
+    (record { unfed = λ e. absurd (true≢false e); closed = λ e. absurd (closed_not_ending (sym e)); ending = λ e. refl; counted = own.counted; below = own.below; watching = own.watching }) (subst (λ x. Has aw x.id.0) (sym is) has) (λ k h. h)
 
 -- a piece of a client is fed
 pub on_fed : (a b : Running) (cs : List Client) (aw : List ℕ) (i : ℕ) (c : Client) (id : ConnId) (piece : List ℕ) → i < length cs → c ≡ get_or cs i c → id ≡ c.id → Has aw (get_or cs i c).id.0
@@ -560,7 +604,7 @@ on_fed a b cs aw i c id piece below is same has reading makes = λ m r s.
       n,
       (makes m r).1,
       stands_set m n cs aw aw i c (record c { fed = true }) s below (subst (λ x. GoesOn x.id.0 m n) is g) (ap (λ x. x.id) is)
-          (suits_fed m n c (record c { fed = true }) g own refl refl (λ closed. absurd (open_not_closed (sym going ∙ closed))) own.counted) (subst (λ x. Has aw x.id.0) (sym is) has) (λ k h. h),
+          (suits_fed m n c (record c { fed = true }) g own refl refl (λ closed. absurd (open_not_closed (sym going ∙ closed))) own.counted (own.watching ∙ subst (λ k. concern_on (link_at k.0 m) ≡ concern_on (link_at k.0 n)) same (fed_concern m id piece))) (subst (λ x. Has aw x.id.0) (sym is) has) (λ k h. h),
     )
 
 -- a piece of a client is not taken in

@@ -1,8 +1,10 @@
-ghost use Rattle.std.specs.Prelude.{◌≡◌, ◌⊎◌, ◌<◌, ◌≤◌, [], ◌++◌, None, true, false, if◌then◌else◌};
+ghost use Rattle.std.specs.Prelude.{◌≡◌, ◌⊎◌, ◌<◌, ◌≤◌, [], ◌++◌, None, true, false, if◌then◌else◌, is_some, option_map};
 ghost use Rattle.std.specs.VecDeque.{deque_len, deque_capacity};
 ghost use Rattle.kapi_serve.specs.Private.Clients.{seat_of};
 ghost use Rattle.kapi_serve.specs.Private.Moments.{GoesFor, Writes, stage};
 ghost use Rattle.kapi_serve.specs.Private.Pieces.{IsCounted, IsSent, owed};
+ghost use Rattle.kapi_core.specs.Concerns.{is_among};
+ghost use Rattle.kapi_serve.specs.Private.Stands.{is_called as is_called_of};
 ghost use Rattle.kapi_serve.specs.Private.Stands.{Finishes, IsQuiet, IsServed, Keeps, Tends, Waits};
 ghost use Rattle.kapi_desk.specs.Steps.{step_of};
 ghost use Rattle.kapi_serve.specs.Shows.{Shows};
@@ -49,13 +51,19 @@ pub struct Client {
     pub(crate) phase: Phase,
     /// Bytes came since the machine last found no request.
     pub(crate) fed: bool,
-    /// A watch of the connection runs.
-    pub(crate) watching: bool,
+    /// The fingerprint of the watch that runs on the connection, if one does.
+    pub(crate) watching: Option<u64>,
     /// The watch has shown all that is due to it, unless the objects of the machine have changed since.
     pub(crate) shown: bool,
     /// The slot takes no bytes until it reports that it does.
     pub(crate) blocked: bool,
     pub(crate) pending: Pending,
+}
+
+fn has(numbers: &[u64], number: u64) -> bool
+    ensures { result ≡ is_among numbers.now (Some number) }
+{
+    numbers.iter().any(|other| *other == number)
 }
 
 impl Client {
@@ -68,9 +76,20 @@ impl Client {
 
     /// Whether nothing is due to a watch of the connection, if it has one.
     fn has_shown(&self) -> bool
-        ensures { result ≡ true → self.now.watching ≡ true → self.now.shown ≡ true }
+        ensures { result ≡ true → is_some self.now.watching ≡ true → self.now.shown ≡ true }
     {
-        if self.watching { self.shown } else { true }
+        self.watching.is_none() || self.shown
+    }
+
+    /// Whether the connection has a watch that is one of those; where there is no list of them, whether it has one.
+    pub(crate) fn is_called(&self, concerned: &Option<Vec<u64>>) -> bool
+        ensures { result ≡ is_called_of (option_map (λ v. v.items) concerned.now) self.now.watching }
+    {
+        match (self.watching, concerned) {
+            (Some(watch), Some(numbers)) => has(numbers.as_slice(), watch),
+            (watch, None) => watch.is_some(),
+            (None, Some(_)) => false,
+        }
     }
 
     /// Writes pending bytes until the slot takes no more.
@@ -167,7 +186,7 @@ impl Client {
         }
         match core.serve(self.id) {
             Ok(Some(output)) => {
-                self.watching = core.is_watching(self.id);
+                self.watching = core.concern(self.id);
                 self.shown = false;
                 self.send(rt, desk, publishing, output);
                 Progress::Made
@@ -192,7 +211,7 @@ impl Client {
         ensures tends { Tends core.old core.new self.old self.new }
         ensures still { result ≡ progress.Still → Waits self.old self.new × Keeps self.old self.new }
     {
-        if !self.watching {
+        if self.watching.is_none() {
             return Progress::Still;
         }
         if !self.is_open() {
@@ -204,7 +223,7 @@ impl Client {
         match core.pump(self.id) {
             Ok(Some(output)) => {
                 self.fed = true;
-                self.watching = core.is_watching(self.id);
+                self.watching = core.concern(self.id);
                 self.shown = false;
                 self.send(rt, desk, publishing, output);
                 Progress::Made
@@ -234,6 +253,7 @@ impl Client {
         ensures owed { owed self.new.pending ≡ owed self.old.pending ++ output.bytes }
         ensures phase { self.new.phase ≡ (if output.close then phase.Closed else self.old.phase) }
         ensures fed { self.new.fed ≡ self.old.fed }
+        ensures watching { self.new.watching ≡ self.old.watching }
         ensures counted { IsCounted self.old.pending → IsCounted self.new.pending }
     {
         let Output {
@@ -256,6 +276,7 @@ impl Client {
             Phase::Ending => {
                 core.close(self.id);
                 self.phase = Phase::Closed;
+                self.watching = None;
                 Progress::Made
             }
             Phase::Open => Progress::Still,

@@ -1,10 +1,12 @@
-ghost use Rattle.std.specs.Prelude.{◌≡◌, ◌<◌, ◌+◌, [], ◌∷◌, ◌++◌, drop, true, None, IfSome, OnOk, ◌==◌, length, map, suc, vec_len, vec_capacity};
+ghost use Rattle.std.specs.Prelude.{◌≡◌, ◌<◌, ◌+◌, ℕ, [], ◌∷◌, ◌++◌, drop, true, None, IfSome, OnOk, ◌==◌, length, map, option_map, suc, vec_len, vec_capacity};
 ghost use Rattle.std.specs.List.{HoldsAt, position};
-ghost use Rattle.kapi_core.specs.Machine.{Machine};
+ghost use Rattle.kapi_core.specs.Concerns.{concern_on, is_among, is_concerned};
+ghost use Rattle.kapi_core.specs.Machine.{Machine, link_at};
+ghost use Rattle.kapi_core.specs.Refines.{Refines};
 ghost use Rattle.kapi_serve.specs.Acts.{IsFree};
 ghost use Rattle.kapi_serve.specs.Private.Clients.{freed, freed_on, others, seats_of};
 ghost use Rattle.kapi_serve.specs.Private.Moments.{Ends, FeedsOrEnds, Moves, MovesAfter, unasked};
-ghost use Rattle.kapi_serve.specs.Private.Stands.{AreRoused, IsAwakeAt, IsNew, IsNumbered, IsOf, IsOfNone, Rise, Stands, StandsOn};
+ghost use Rattle.kapi_serve.specs.Private.Stands.{AreCalled, AreRoused, IsAwakeAt, IsNew, IsNumbered, IsOf, IsOfNone, Rise, Stands, StandsOn};
 ghost use Rattle.kapi_serve.specs.declared.client.Client.{Client as AClient};
 ghost use Rattle.kapi_serve.specs.declared.client.Phase.TheVariants as phase;
 ghost use Rattle.kapi_serve.specs.declared.port.Entry.TheVariants as entry;
@@ -21,6 +23,9 @@ use kapi_policy::Policy;
 use kapi_text::Memory;
 use std::alloc::Global;
 
+/// After so many changes all watches are woken, far fewer than are kept.
+const WAKE_ALL_AFTER: u64 = 128;
+
 /// The connections that are served, in the order of their numbers.
 #[derive(Drop)]
 pub(crate) struct Clients {
@@ -28,8 +33,10 @@ pub(crate) struct Clients {
     pub(crate) list: Vec<Client>,
     /// The connections at which something may be done before their slots report anything, or the objects change.
     pub(crate) awake: Awake,
-    /// The revision of the objects when the connections with a watch were last woken.
+    /// The revision of the objects when the connections were last woken whose watches may have something to show.
     pub(crate) woken: u64,
+    /// The revision when all connections with a watch last were.
+    roused: u64,
 }
 
 /// The result of a read.
@@ -51,6 +58,7 @@ impl Clients {
             list: Vec::new(alloc),
             awake: Awake::new(alloc),
             woken: 0,
+            roused: 0,
         }
     }
 
@@ -125,7 +133,7 @@ impl Clients {
             id,
             phase: Phase::Open,
             fed: false,
-            watching: false,
+            watching: None,
             shown: false,
             blocked: false,
             pending: Pending::new(self.alloc),
@@ -199,41 +207,71 @@ impl Clients {
         }
     }
 
-    /// Wakes each connection with a watch, where the objects have changed since that was last done. What memory does not
+    /// Wakes each connection with a watch that the changes since that was last done may concern. What memory does not
     /// suffice for is done the next time.
-    pub(crate) fn wake(&mut self, revision: u64) -> Progress
+    pub(crate) fn wake<P: Policy + Drop>(&mut self, core: &Core<P>) -> Progress
         ensures seats { seats_of self.new.list.items ≡ seats_of self.old.list.items }
         ensures stands { (m : Machine) → Stands m self.old → Stands m self.new }
-        ensures still { result ≡ progress.Still → (self.new ≡ self.old) × (self.new.woken ≡ revision) }
-        ensures made { result ≡ progress.Made → (self.new.woken ≡ revision) × AreRoused (length self.new.list.items) self.new.list.items }
+        ensures still { result ≡ progress.Still → (self.new ≡ self.old) × (self.new.woken ≡ core.now.store.revision) }
+        ensures woken { result ≡ progress.Made → self.new.woken ≡ core.now.store.revision }
+        ensures made { result ≡ progress.Made → (m : Machine) → Refines core.now m → Stands m self.old → AreRoused m self.old.woken self.new.list.items }
         ensures starved { result ≡ progress.Starved → self.new.woken ≡ self.old.woken }
     {
+        let revision = core.revision();
         if revision == self.woken {
             return Progress::Still;
         }
-        let (mut all, count) = (true, self.list.len());
-        for index in 0..count {
-            if !self.rouse(index) {
-                all = false;
-            }
-        }
-        if !all {
+        let concerned = self.concerned(core);
+        if !self.rouse_all(&concerned) {
             return Progress::Starved;
         }
         self.woken = revision;
+        self.roused = match concerned {
+            Some(_) => self.roused,
+            None => revision,
+        };
         Progress::Made
     }
 
-    /// Wakes a connection, if it has a watch. False where memory does not suffice.
-    fn rouse(&mut self, index: usize) -> bool
+    /// Wakes each connection whose watch is one of those, or each with a watch, where there is no list of them. False where
+    /// memory does not suffice for all.
+    fn rouse_all(&mut self, concerned: &Option<Vec<u64>>) -> bool
+        ensures seats { seats_of self.new.list.items ≡ seats_of self.old.list.items }
+        ensures stands { (m : Machine) → Stands m self.old → Stands m self.new }
+        ensures woken { self.new.woken ≡ self.old.woken }
+        ensures roused { result ≡ true → AreCalled (option_map (λ v. v.items) concerned.now) (length self.new.list.items) self.new.list.items }
+    {
+        let (mut all, count) = (true, self.list.len());
+        for index in 0..count {
+            if !self.rouse(index, concerned) {
+                all = false;
+            }
+        }
+        all
+    }
+
+    /// The fingerprints of the watches that the changes since the last waking may concern, or none where all are to be woken:
+    /// once in a while they are, so that none falls behind the changes that are kept.
+    fn concerned<P: Policy + Drop>(&self, core: &Core<P>) -> Option<Vec<u64>>
+        ensures { IfSome result (λ v. (m : Machine) → Refines core.now m → (id : ℕ) → is_concerned m id self.now.woken ≡ true → is_among v.items (concern_on (link_at id m)) ≡ true) }
+    {
+        if core.revision().saturating_sub(self.roused) >= WAKE_ALL_AFTER {
+            return None;
+        }
+        core.concerned_after(self.woken)
+    }
+
+    /// Wakes a connection, if its watch is one of those, or there is no list of them. False where memory does not suffice.
+    fn rouse(&mut self, index: usize, concerned: &Option<Vec<u64>>) -> bool
         requires { index < length self.old.list.items }
         ensures seats { seats_of self.new.list.items ≡ seats_of self.old.list.items }
         ensures count { length self.new.list.items ≡ length self.old.list.items }
         ensures stands { (m : Machine) → Stands m self.old → Stands m self.new }
         ensures woken { self.new.woken ≡ self.old.woken }
-        ensures roused { result ≡ true → AreRoused index self.old.list.items → AreRoused (suc index) self.new.list.items }
+        ensures roused { result ≡ true → AreCalled (option_map (λ v. v.items) concerned.now) index self.old.list.items
+            → AreCalled (option_map (λ v. v.items) concerned.now) (suc index) self.new.list.items }
     {
-        if !self.list[index].watching {
+        if !self.list[index].is_called(concerned) {
             return true;
         }
         if self.awake.add(self.list[index].id).is_err() {

@@ -139,8 +139,8 @@ impl Server {
         unreachable!()
     }
 
-    /// Goes once over the connections at which something may be done, and then wakes those with a watch, where the objects
-    /// have changed.
+    /// Goes once over the connections at which something may be done, and then wakes those with a watch that a change may
+    /// concern.
     fn round<R: Wait, P: Policy + Drop, Q: Ports>(
         &mut self,
         rt: &R,
@@ -159,7 +159,7 @@ impl Server {
             progress = progress.and(visited);
             position = self.clients.pass(position);
         }
-        progress.and(self.clients.wake(core.revision()))
+        progress.and(self.clients.wake(core))
     }
 
     /// Writes, serves and pumps an awake connection, and makes the turns that follow.

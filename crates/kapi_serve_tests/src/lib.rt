@@ -23,6 +23,8 @@ mod resting;
 #[cfg(test)]
 mod scene;
 #[cfg(test)]
+mod sleeping;
+#[cfg(test)]
 mod slow;
 #[cfg(test)]
 mod talks;

@@ -1,10 +1,11 @@
 -- What the loop keeps of its clients, and how that suits the connections of the machine.
-use Rattle.std.specs.Prelude.{◌≡◌, ◌⊎◌, ◌<◌, ◌≤◌, ℕ, suc, true, false, List, [], ◌∷◌, drop, length, Option, None}
+use Rattle.std.specs.Prelude.{◌≡◌, ◌⊎◌, ◌<◌, ◌≤◌, ℕ, suc, Bool, true, false, List, [], ◌∷◌, drop, length, Option, Some, None, is_some}
 use Rattle.std.specs.List.{AllByRecursion, HoldsAt}
 use Rattle.std.specs.List.Sorted.{IsStrictlySortedBy}
 use Rattle.std.specs.Map.{keys_of}
 use Rattle.std.specs.Ordering.{nat_cmp}
 use Rattle.kapi_aggregation.specs.Members.{Has}
+use Rattle.kapi_core.specs.Concerns.{concern_on, is_among, is_concerned}
 use Rattle.kapi_core.specs.Machine.{Link, Machine, link_at, serve_step}
 use Rattle.kapi_core.specs.Refines.{Makes, Refines}
 use Rattle.kapi_core.specs.Running.{Running}
@@ -32,6 +33,7 @@ pub record Suits (m : Machine) (c : Client) : Type 0 where
   pub ending : c.phase ≡ phase.Ending → c.fed ≡ true
   pub counted : IsCounted c.pending
   pub below : c.id.0 < m.next_id
+  pub watching : c.watching ≡ concern_on (link_at c.id.0 m)
 
 -- the numbers of the open connections rise
 abbrev pub IsNumbered : Machine → Type 0
@@ -73,7 +75,7 @@ pub record Waits (c d : Client) : Type 0 where
 
 -- a client whose bytes have ended is closed, and another stays
 abbrev pub Finishes : Running → Running → Client → Client → Progress → Type 0
-Finishes old new c d result = ((c.phase ≡ phase.Ending) × (result ≡ progress.Made) × Makes old new (event.Close c.id) answer.Done × (d ≡ record c { phase = phase.Closed }))
+Finishes old new c d result = ((c.phase ≡ phase.Ending) × (result ≡ progress.Made) × Makes old new (event.Close c.id) answer.Done × (d ≡ record c { phase = phase.Closed; watching = None }))
     ⊎ ((c.phase ≡ phase.Ending → ⊥) × (result ≡ progress.Still) × (new ≡ old) × (d ≡ c))
 
 -- a client's bytes were looked at, or it is closed, or too much is owed to it
@@ -86,21 +88,30 @@ IsServed c = c.pending.count < 1048576 → (c.fed ≡ false) ⊎ (c.phase ≡ ph
 pub record IsQuiet (c : Client) : Type 0 where
   pub phase : c.phase ≡ phase.Open
   pub fed : c.fed ≡ false
-  pub shown : c.watching ≡ true → c.shown ≡ true
+  pub shown : is_some c.watching ≡ true → c.shown ≡ true
   pub owed : owed c.pending ≡ []
 
--- a watch of the client, if it has one, may have something to show
-abbrev pub IsRoused : Client → Type 0
-IsRoused c = c.watching ≡ true → c.shown ≡ false
+-- where a change after the revision may concern the watch of the client, that may have something to show
+abbrev pub IsRoused : Machine → ℕ → Client → Type 0
+IsRoused m revision c = is_concerned m c.id.0 revision ≡ true → c.shown ≡ false
 
--- this holds of the clients before a place
-abbrev pub AreRoused : ℕ → List Client → Type 0
-AreRoused place cs = (i : ℕ) → i < place → HoldsAt IsRoused cs i
+abbrev pub AreRoused : Machine → ℕ → List Client → Type 0
+AreRoused m revision cs = (i : ℕ) → i < length cs → HoldsAt (λ c. IsRoused m revision c) cs i
+
+-- there is a watch, whose fingerprint is one of those where there is a list of them
+abbrev pub is_called : Option (List ℕ) → Option ℕ → Bool
+is_called None watching = is_some watching
+is_called (Some numbers) watching = is_among numbers watching
+
+-- the same by fingerprints, of the clients before a place
+abbrev pub AreCalled : Option (List ℕ) → ℕ → List Client → Type 0
+AreCalled concerned place cs = (i : ℕ) → i < place → HoldsAt (λ c. is_called concerned c.watching ≡ true → c.shown ≡ false) cs i
 
 -- a client that has just connected
 pub record IsNew (c : Client) : Type 0 where
   pub quiet : IsQuiet c
   pub counted : IsCounted c.pending
+  pub unwatched : c.watching ≡ None
 
 -- the numbers of the connections rise
 unfoldable pub Rise : List Client → Type 0

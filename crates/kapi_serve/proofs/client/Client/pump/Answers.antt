@@ -5,8 +5,8 @@ use Rattle.kapi_serve.proofs.Tending.{keeps_nothing, keeps_on, keeps_shown, tend
 use Rattle.kapi_serve.proofs.Going.{adds_nothing, goes_nothing, goes_out, goes_shown, goes_still, goes_unshown}
 use Rattle.kapi_serve.proofs.client.Client.pump.Goals as goal
 
-pub returns-then-not-self-clause-goes : goal.returns-then-not-self-clause-goes
-returns-then-not-self-clause-goes g c = λ front back. goes_nothing _
+pub returns-then-is_none-clause-goes : goal.returns-then-is_none-clause-goes
+returns-then-is_none-clause-goes g c = λ front back. goes_nothing _
 
 pub returns-then-not-is_ready-clause-goes : goal.returns-then-not-is_ready-clause-goes
 returns-then-not-is_ready-clause-goes g c = λ front back. goes_still _ _ _ (ap (λ z. front ++ z ∷ back) c.is_ready.ensures.waits.seat) (adds_nothing _)
@@ -21,11 +21,11 @@ returns-in-Ok-None-clause-goes g c = λ front back. goes_unshown _ _ _ front bac
 pub returns-in-Err-clause-goes : goal.returns-in-Err-clause-goes
 returns-in-Err-clause-goes g c = λ front back. goes_out _ _ _ (event.Pump c.is_ready.new.self.id) c.in-Err.ensures (ap (λ z. front ++ z ∷ back) c.is_ready.ensures.waits.seat)
 
-pub returns-then-not-self-clause-tends : goal.returns-then-not-self-clause-tends
-returns-then-not-self-clause-tends g c = tends_nothing _ _ _ (keeps_nothing _)
+pub returns-then-is_none-clause-tends : goal.returns-then-is_none-clause-tends
+returns-then-is_none-clause-tends g c = tends_nothing _ _ _ (keeps_nothing _)
 
-pub returns-then-not-self-clause-still : goal.returns-then-not-self-clause-still
-returns-then-not-self-clause-still g c = λ h. (waits_nothing _, keeps_nothing _)
+pub returns-then-is_none-clause-still : goal.returns-then-is_none-clause-still
+returns-then-is_none-clause-still g c = λ h. (waits_nothing _, keeps_nothing _)
 
 pub returns-then-not-is_open-clause-goes : goal.returns-then-not-is_open-clause-goes
 returns-then-not-is_open-clause-goes g c = λ front back. goes_nothing _
@@ -44,7 +44,7 @@ returns-in-Err-clause-tends g c = tends_out _ _ _ _ (event.Pump c.is_ready.new.s
 
 pub returns-in-Ok-Some-clause-tends : goal.returns-in-Ok-Some-clause-tends
 returns-in-Ok-Some-clause-tends g c =
-    tends_shown _ _ _ _ _ c.in-Ok-Some.field-0 c.in-Ok-Some.output c.is_ready.ensures.keeps c.in-Ok-Some.ensures (cc) (λ closed. c.is_open.ensures.going c.if-not-is_open.false (sym c.is_ready.ensures.waits.phase ∙ closed)) c.send.ensures.id c.send.ensures.fed c.send.ensures.phase c.send.ensures.counted
+    tends_shown _ _ _ _ _ c.in-Ok-Some.field-0 c.in-Ok-Some.output c.is_ready.ensures.keeps c.in-Ok-Some.ensures (cc) (λ closed. c.is_open.ensures.going c.if-not-is_open.false (sym c.is_ready.ensures.waits.phase ∙ closed)) c.send.ensures.id c.send.ensures.fed c.send.ensures.phase c.send.ensures.counted (λ n h. c.send.ensures.watching ∙ c.concern-self.ensures n h)
 
 pub returns-in-Ok-None-clause-tends : goal.returns-in-Ok-None-clause-tends
 returns-in-Ok-None-clause-tends g c =

@@ -25,4 +25,4 @@ returns-clause-settles g c =
     c.wake.ensures.stands (λ h. ap (λ d. d.list.items) (c.wake.ensures.still h).0))
 
 pub returns-clause-woken : goal.returns-clause-woken
-returns-clause-woken g c = λ h. (c.wake.ensures.still (both_still _ _ (sym c.and.ensures ∙ h)).1).1 ∙ c.revision.ensures
+returns-clause-woken g c = λ h. (c.wake.ensures.still (both_still _ _ (sym c.and.ensures ∙ h)).1).1
