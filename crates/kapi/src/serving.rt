@@ -56,7 +56,11 @@ pub fn run_serve<
         None => rt.since_1970()?.as_secs(),
     };
     match begin(rt.alloc(), rt, objects.as_slice(), first, seconds, seats) {
-        Ok(started) => serve_ports(rt, started, options),
+        Ok(started) => {
+            // The text of the file is not kept beside what was made of it.
+            drop(objects);
+            serve_ports(rt, started, options)
+        }
         Err(fault) => refuse_begin(rt, fault, first_of(first, seconds), objects.as_slice()),
     }
 }

@@ -7,3 +7,4 @@ mod NamedTrees
 pub mod Histories
 pub mod Escalated
 pub mod Joined
+mod Sought

@@ -1,10 +1,9 @@
 //! Loading the objects that a server begins with.
-ghost use Rattle.std.specs.Prelude.{◌≡◌, ◌≤◌, Ok, Some, true, IfOk, codes, map as map_of, ok_or, option_map};
+ghost use Rattle.std.specs.Prelude.{◌≡◌, ◌≤◌, ◌&&◌, Ok, Some, true, not, is_some, IfOk, map as map_of, ok_or, option_map};
 ghost use Rattle.std.specs.Option.{option_copied};
 ghost use Rattle.std.specs.List.{find};
 ghost use Rattle.std.specs.Str.{bytes_eq};
 ghost use Rattle.serde_json.specs.Data.{depth};
-ghost use Rattle.serde_json.specs.Find.{get};
 ghost use Rattle.serde_json.specs.Read.{max_depth};
 ghost use Rattle.serde_json.specs.View.{view};
 ghost use Rattle.kapi_text.specs.Gives.{Gives};
@@ -14,7 +13,8 @@ ghost use Rattle.kapi_tree.specs.Tree.{json_object};
 ghost use Rattle.kapi_store.specs.Plain.{free_place, plain_change, plain_of};
 ghost use Rattle.kapi_store.specs.State.{Same, Fits};
 ghost use Rattle.kapi_answer.specs.Load as loading;
-ghost use Rattle.kapi_answer.specs.Load.{bad_object, fault_for, fault_told, loads, on_load, to_create_tree, to_load};
+ghost use Rattle.kapi_answer.specs.Review as reviews;
+ghost use Rattle.kapi_answer.specs.Load.{bad_object, fault_for, fault_told, is_text, loads, on_load, to_create_tree, to_load};
 ghost use Rattle.kapi_answer.specs.Outcomes.{new_data};
 ghost use Rattle.kapi_reply.specs.Refusals.{refused_by};
 
@@ -27,7 +27,7 @@ use kapi_reply::{CheckError, Refusal};
 use kapi_store::{Ready, Store, StoreError};
 use kapi_text::{Memory, is_joined};
 use kapi_tree::GivenText;
-use kapi_tree::given::given_in;
+use kapi_tree::given::given_at;
 use serde_json::Value;
 use std::alloc::Global;
 use thiserror::Error;
@@ -99,8 +99,8 @@ fn check_load(alloc: Global, store: &Store, tree: Value) -> Result<NewObject, Lo
     let Some(row) = find_row(store.table(), &tree) else {
         return Err(LoadError::UnknownKind);
     };
-    let given = given_in(alloc, &tree)?;
-    match namespace_in(row, &given.namespace) {
+    let given = given_at(alloc, &tree, "namespace")?;
+    match namespace_in(row, &given) {
         Some(namespace) => check_on(alloc, store, row, namespace, tree),
         None => Err(LoadError::Object),
     }
@@ -154,32 +154,48 @@ fn error_for(why: &Refusal) -> LoadError
 }
 
 /// The resource type of the kind and version that a tree has, but for reviews.
+#[tactic(auto, using(crate::proofs::Sought::found_alike))]
 fn find_row<'a>(table: &'a [ResourceRow], tree: &Value) -> Option<&'a ResourceRow>
     ensures { option_copied result ≡ find (loading.is_kept_kind (view tree.now)) table.now }
 {
-    table.iter().find(|row| is_kept_kind(tree, row))
+    find_kept(table, tree.get("kind"), tree.get("apiVersion"))
 }
 
-/// Whether the tree is of the resource type's kind and version, and its objects are kept (reviews are not).
-fn is_kept_kind(tree: &Value, row: &ResourceRow) -> bool
-    ensures { result ≡ loading.is_kept_kind (view tree.now) row.now }
+/// The resource type of the kind and version, but for reviews.
+fn find_kept<'a>(
+    table: &'a [ResourceRow],
+    kind: Option<&Value>,
+    version: Option<&Value>,
+) -> Option<&'a ResourceRow>
+    ensures { option_copied result ≡ find (λ row. not (is_some (reviews.review_kind row)) && (is_text row.kind (option_map (λ v. view v.now) kind.entry) && is_text (version_of row) (option_map (λ v. view v.now) version.entry))) table.now }
 {
-    !review_kind(row).is_some() && is_kind_of(tree, row)
+    table.iter().find(|row| is_kept_kind(row, kind, version))
 }
 
-fn is_kind_of(tree: &Value, row: &ResourceRow) -> bool
-    ensures { result ≡ loading.is_kind_of (view tree.now) row.now }
+/// Whether the kind and the version are the resource type's, and its objects are kept (reviews are not). The kind is
+/// compared first, since most resource types have another.
+#[tactic(auto, using(crate::proofs::Sought::and_swaps))]
+fn is_kept_kind(row: &ResourceRow, kind: Option<&Value>, version: Option<&Value>) -> bool
+    ensures { result ≡ not (is_some (reviews.review_kind row.now)) && (is_text row.now.kind (option_map (λ v. view v.now) kind.entry) && is_text (version_of row.now) (option_map (λ v. view v.now) version.entry)) }
 {
-    match tree.get("kind") {
-        Some(Value::String(kind)) => kind.as_str() == row.kind.as_str() && is_version_of(tree, row),
+    is_kind_of(row, kind, version) && !review_kind(row).is_some()
+}
+
+fn is_kind_of(row: &ResourceRow, kind: Option<&Value>, version: Option<&Value>) -> bool
+    ensures { result ≡ is_text row.now.kind (option_map (λ v. view v.now) kind.entry) && is_text (version_of row.now) (option_map (λ v. view v.now) version.entry) }
+{
+    match kind {
+        Some(Value::String(kind)) => {
+            kind.as_str() == row.kind.as_str() && is_version_of(row, version)
+        }
         _ => false,
     }
 }
 
-fn is_version_of(tree: &Value, row: &ResourceRow) -> bool
-    ensures { result ≡ loading.is_text (version_of row.now) (get (codes "apiVersion") (view tree.now)) }
+fn is_version_of(row: &ResourceRow, version: Option<&Value>) -> bool
+    ensures { result ≡ is_text (version_of row.now) (option_map (λ v. view v.now) version.entry) }
 {
-    match tree.get("apiVersion") {
+    match version {
         Some(Value::String(text)) => is_version(row, text.as_str()),
         _ => false,
     }

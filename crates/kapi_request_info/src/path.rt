@@ -1,22 +1,72 @@
 //! The segments of a path (RFC 3986 sections 2.1 and 3.3).
-ghost use Rattle.std.specs.Prelude.{◌≡◌, ◌==◌, map, drop, IfOk};
+ghost use Rattle.std.specs.Prelude.{◌≡◌, ◌==◌, map, drop, ok_or, IfOk};
 ghost use Rattle.std.specs.List.{slice_split, list_all};
 ghost use Rattle.std.specs.Option.{option_copied};
 ghost use Rattle.percent_encoding.specs.Percent.{percent_decode as decoded_of};
 ghost use Rattle.kapi_text.specs.Gives.{Gives};
-ghost use Rattle.kapi_request_info.specs.Faults.{fault_of};
+ghost use Rattle.kapi_request_info.specs.Faults.{bad_escape, fault_of};
 ghost use Rattle.kapi_request_info.specs.Path.{has_slash as has_slash_of, names_something as names_something_of, without_last_empty as without_last_empty_of};
 ghost use Rattle.kapi_request_info.specs.Path.{begins_with_digits as begins_with_digits_of, has_whole_escapes as has_whole_escapes_of, pieces as pieces_of, text_in as text_in_of, texts as texts_of, segments as segments_of};
 
 use crate::attributes::InfoError;
-use kapi_text::{Memory, Sequence, Text};
+use kapi_text::Memory;
 use percent_encoding::percent_decode;
 use std::alloc::Global;
+use std::borrow::{CowSlice, CowStr};
+use std::marker::Model;
 use std::str;
+
+/// A decoded segment of a path, which is copied only where something was to be decoded.
+#[derive(Drop)]
+pub struct Segment<'a> {
+    text: CowStr<'a, Global>,
+}
+
+impl<'a> Model for Segment<'a> {
+    ghost use Rattle.std.specs.Prelude.{ℕ, List};
+    ghost use Rattle.std.specs.Cow.{cow_str_bytes};
+
+    ghost Value = { List ℕ };
+
+    ghost view = { λ s. cow_str_bytes s.text };
+}
+
+impl<'a> Segment<'a> {
+    /// The text, borrowed.
+    pub fn as_str(&self) -> &str
+        ensures { result.now ≡ self.now }
+    {
+        self.text.as_str()
+    }
+}
+
+/// The decoded bytes between two slashes of a path, which are copied only where something was to be decoded.
+#[derive(Drop)]
+struct Piece<'a> {
+    bytes: CowSlice<'a, u8, Global>,
+}
+
+impl<'a> Model for Piece<'a> {
+    ghost use Rattle.std.specs.Prelude.{ℕ, List};
+    ghost use Rattle.std.specs.Cow.{cow_slice_items};
+
+    ghost Value = { List ℕ };
+
+    ghost view = { λ p. cow_slice_items p.bytes };
+}
+
+impl<'a> Piece<'a> {
+    /// The bytes, borrowed.
+    fn as_slice(&self) -> &[u8]
+        ensures { result.now ≡ self.now }
+    {
+        self.bytes.as_ref()
+    }
+}
 
 /// The decoded segments of a path, a last empty one left out.
 #[tactic(auto, unfolding(crate::specs::Path::segments))]
-pub fn segments(alloc: Global, path: &[u8]) -> Result<Vec<Text>, InfoError>
+pub fn segments(alloc: Global, path: &[u8]) -> Result<Vec<Segment<'_>>, InfoError>
     ensures { Gives fault_of (λ v. v.items) result (segments_of path.now) }
 {
     let pieces = pieces(alloc, path)?;
@@ -31,7 +81,7 @@ pub fn segments(alloc: Global, path: &[u8]) -> Result<Vec<Text>, InfoError>
 }
 
 /// The decoded texts between the slashes of a path, behind the first. A `%` that begins no escape stays as it is.
-fn pieces(alloc: Global, path: &[u8]) -> Result<Vec<Sequence<u8>>, Memory>
+fn pieces(alloc: Global, path: &[u8]) -> Result<Vec<Piece<'_>>, Memory>
     ensures { IfOk result (λ v. v.items ≡ pieces_of path.now) }
 {
     let pieces = split_at_slashes(alloc, behind_first(path))?;
@@ -53,42 +103,39 @@ fn split_at_slashes(alloc: Global, path: &[u8]) -> Result<Vec<&[u8]>, Memory>
     path.split(|byte| *byte == b'/').collect(alloc)
 }
 
-fn decoded_pieces(alloc: Global, pieces: &[&[u8]]) -> Result<Vec<Sequence<u8>>, Memory>
+fn decoded_pieces<'a>(alloc: Global, pieces: &[&'a [u8]]) -> Result<Vec<Piece<'a>>, Memory>
     ensures { IfOk result (λ v. v.items ≡ map decoded_of (map (λ s. s.now) pieces.now)) }
 {
-    let mut list = Vec::new(alloc);
+    let mut list = Vec::with_capacity(alloc, pieces.len())?;
     for piece in pieces {
         list.push(decoded(alloc, piece)?)?;
     }
     Ok(list)
 }
 
-fn decoded(alloc: Global, piece: &[u8]) -> Result<Sequence<u8>, Memory>
-    ensures { IfOk result (λ s. s ≡ decoded_of piece.now) }
+fn decoded(alloc: Global, piece: &[u8]) -> Result<Piece<'_>, Memory>
+    ensures { IfOk result (λ p. p ≡ decoded_of piece.now) }
 {
-    let mut bytes = Vec::new(alloc);
-    percent_decode(piece).append_to(&mut bytes)?;
-    Ok(Sequence::new(bytes))
+    Ok(Piece {
+        bytes: percent_decode(piece).into_cow(alloc)?,
+    })
 }
 
 /// A last slash opens no segment.
 #[tactic(auto, using(crate::proofs::Paths::without_last_empty_append), unfolding(crate::specs::Path::without_last_empty))]
-fn without_last_empty(segments: &[Sequence<u8>]) -> &[Sequence<u8>]
+fn without_last_empty<'a, 'p>(segments: &'a [Piece<'p>]) -> &'a [Piece<'p>]
     ensures { result.now ≡ without_last_empty_of segments.now }
 {
-    match segments.split_last() {
-        None => segments,
-        Some((last, front)) => {
-            if last.as_slice().is_empty() {
-                front
-            } else {
-                segments
-            }
-        }
+    let Some((last, front)) = segments.split_last() else {
+        return segments;
+    };
+    if last.as_slice().is_empty() {
+        return front;
     }
+    segments
 }
 
-fn all_name_something(segments: &[Sequence<u8>]) -> bool
+fn all_name_something(segments: &[Piece<'_>]) -> bool
     ensures { result ≡ list_all names_something_of segments.now }
 {
     segments
@@ -137,17 +184,37 @@ fn begins_with_digits(bytes: &[u8]) -> bool
 
 /// The segments as texts.
 #[tactic(auto, unfolding(crate::specs::Path::texts))]
-fn texts(alloc: Global, segments: &[Sequence<u8>]) -> Result<Vec<Text>, InfoError>
+fn texts<'a>(alloc: Global, segments: &[Piece<'a>]) -> Result<Vec<Segment<'a>>, InfoError>
     ensures { Gives fault_of (λ v. v.items) result (texts_of segments.now) }
 {
-    let mut texts = Vec::new(alloc);
+    let mut texts = Vec::with_capacity(alloc, segments.len())?;
     for segment in segments {
-        match text_in(segment.as_slice()) {
-            Some(text) => texts.push(Text::copy_of(alloc, text)?)?,
-            None => return Err(InfoError::BadEscape),
-        }
+        texts.push(text_of(alloc, segment)?)?;
     }
     Ok(texts)
+}
+
+/// The segment as a text.
+fn text_of<'a>(alloc: Global, piece: &Piece<'a>) -> Result<Segment<'a>, InfoError>
+    ensures { Gives fault_of (λ s. s) result (ok_or (text_in_of piece.now) bad_escape) }
+{
+    let text = match &piece.bytes {
+        CowSlice::Borrowed(bytes) => CowStr::Borrowed(text_or_fault(bytes)?),
+        CowSlice::Owned(bytes) => {
+            CowStr::Owned(String::from_str(alloc, text_or_fault(bytes.as_slice())?)?)
+        }
+    };
+    Ok(Segment { text })
+}
+
+/// The bytes as a text, which must be UTF-8.
+fn text_or_fault(bytes: &[u8]) -> Result<&str, InfoError>
+    ensures { Gives fault_of (λ s. s.now) result (ok_or (text_in_of bytes.now) bad_escape) }
+{
+    match text_in(bytes) {
+        Some(text) => Ok(text),
+        None => Err(InfoError::BadEscape),
+    }
 }
 
 /// The bytes as a text, where they are UTF-8.

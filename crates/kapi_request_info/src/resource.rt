@@ -8,6 +8,7 @@ ghost use Rattle.kapi_request_info.specs.Resource.{watched as watched_of, watche
 ghost use Rattle.kapi_request_info.specs.Resource.{resource_attributes as resource_attributes_of, url_attributes as url_attributes_of, attributes_by as attributes_by_of};
 
 use crate::attributes::{Attributes, InfoError};
+use crate::path::Segment;
 use crate::query::{QueryPair, query_value};
 use crate::selector::selected_name;
 use kapi_http::Method;
@@ -22,7 +23,7 @@ pub fn attributes_by(
     alloc: Global,
     method: Method,
     path: &[u8],
-    segments: &[Text],
+    segments: &[Segment<'_>],
     query: Sequence<QueryPair>,
 ) -> Result<Attributes, InfoError>
     ensures { GivesInfo result (attributes_by_of method path.now segments.now query) }
@@ -44,7 +45,7 @@ fn resource_attributes(
     method: Method,
     group: &str,
     version: &str,
-    rest: &[Text],
+    rest: &[Segment<'_>],
     query: Sequence<QueryPair>,
 ) -> Result<Attributes, InfoError>
     ensures { GivesInfo result (resource_attributes_of method group.now version.now rest.now query) }
@@ -66,7 +67,7 @@ fn resource_point(
     alloc: Global,
     verb: &str,
     group: &str,
-    parts: &[Text],
+    parts: &[Segment<'_>],
     name: &str,
 ) -> Result<ResourcePoint, Memory>
     ensures { IfOk result (λ p. p ≡ record { verb = verb.now; group = group.now; resource = part_of parts.now 0; subresource = part_of parts.now 2; name = name.now }) }
@@ -83,7 +84,7 @@ fn resource_point(
 /// The namespace and the parts from the resource on: below `namespaces/NAME` are the resources of that namespace, but
 /// for the namespace's own subresources.
 #[tactic(auto, unfolding(crate::specs::Resource::namespace_and_parts))]
-fn namespace_and_parts(rest: &[Text]) -> (&str, &[Text])
+fn namespace_and_parts<'a, 'p>(rest: &'a [Segment<'p>]) -> (&'a str, &'a [Segment<'p>])
     ensures { (result.0.now, result.1.now) ≡ namespace_and_parts_of rest.now }
 {
     match rest {
@@ -102,7 +103,7 @@ fn is_namespace_subresource(segment: &str) -> bool
 }
 
 /// The part at an index, empty where there is none.
-fn part(parts: &[Text], index: usize) -> &str
+fn part<'a>(parts: &'a [Segment<'_>], index: usize) -> &'a str
     ensures { result.now ≡ part_of parts.now index }
 {
     match parts.get(index) {
@@ -191,7 +192,7 @@ fn url_attributes(
     alloc: Global,
     method: Method,
     path: &[u8],
-    segments: &[Text],
+    segments: &[Segment<'_>],
     query: Sequence<QueryPair>,
 ) -> Result<Attributes, Memory>
     ensures { IfOk result (λ a. a ≡ url_attributes_of method path.now segments.now query) }
@@ -223,7 +224,7 @@ fn url_verb(method: Method) -> &'static str
 }
 
 /// A path with its segments decoded; it keeps its last slash.
-fn url_path(alloc: Global, path: &[u8], segments: &[Text]) -> Result<Text, Memory>
+fn url_path(alloc: Global, path: &[u8], segments: &[Segment<'_>]) -> Result<Text, Memory>
     ensures { IfOk result (λ t. t ≡ url_path_of path.now segments.now) }
 {
     let mut text = slashed(alloc, segments)?;
@@ -239,7 +240,7 @@ fn ends_in_slash(path: &[u8]) -> bool
     path.ends_with(b"/")
 }
 
-fn slashed(alloc: Global, segments: &[Text]) -> Result<String, Memory>
+fn slashed(alloc: Global, segments: &[Segment<'_>]) -> Result<String, Memory>
     ensures { IfOk result (λ t. string_bytes t ≡ flat_map (λ s. 47 ∷ s) segments.now) }
 {
     let mut text = String::new(alloc);

@@ -24,7 +24,7 @@ use kapi_text::Memory;
 use std::alloc::Global;
 
 /// After so many changes all watches are woken, far fewer than are kept.
-const WAKE_ALL_AFTER: u64 = 128;
+const WAKE_ALL_AFTER: u64 = 256;
 
 /// The connections that are served, in the order of their numbers.
 #[derive(Drop)]

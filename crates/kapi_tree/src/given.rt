@@ -48,7 +48,7 @@ impl TryCopy for Given {
 }
 
 /// The value of a key in the tree's metadata.
-fn given_at(alloc: Global, tree: &Value, key: &str) -> Result<GivenText, Memory>
+pub fn given_at(alloc: Global, tree: &Value, key: &str) -> Result<GivenText, Memory>
     ensures { IfOk result (λ g. g ≡ text_given (metadata_member key.now (view tree.now))) }
 {
     match member_of_metadata(tree, key) {

@@ -7,3 +7,4 @@ pub mod Named
 pub mod Lists
 pub mod Histories
 mod Gone
+mod Scopes

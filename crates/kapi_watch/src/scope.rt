@@ -1,9 +1,9 @@
 //! What a watch selects, and what it shows of a change.
-ghost use Rattle.std.specs.Prelude.{◌≡◌, IfOk, None, Some, map, option_map, slice_get};
+ghost use Rattle.std.specs.Prelude.{◌≡◌, true, IfOk, None, Some, map, option_map, slice_get};
 ghost use Rattle.std.specs.List.{filter_map};
 ghost use Rattle.kapi_store.specs.Stored.{stored_tree};
 ghost use Rattle.kapi_store.specs.Lent.{changes_of};
-ghost use Rattle.kapi_store.specs.Listing.{is_listed, is_within as is_within_of};
+ghost use Rattle.kapi_store.specs.Listing.{is_within as is_within_of};
 ghost use Rattle.kapi_store.specs.Plain.{plain_change};
 ghost use Rattle.kapi_store.specs.Gone.{at_version};
 ghost use Rattle.kapi_watch.specs.Shown.{removed_tree, selected as selected_of, shown_of, found_of};
@@ -51,30 +51,24 @@ impl Scope {
         })
     }
 
-    /// Whether the key is within the scope.
+    /// Whether the key is within the scope. The namespace is compared first, since most changes are of another.
+    #[tactic(auto, using(crate::proofs::Scopes::is_within_swaps))]
     fn is_within(&self, key: &Key) -> bool
         ensures { result ≡ is_within_of self.now.row self.now.namespace self.now.name key.now }
     {
-        self.row.group == key.group
+        is_asked(self.namespace.as_str(), &key.namespace)
             && (self.row.plural == key.resource
-                && (is_asked(self.namespace.as_str(), &key.namespace)
-                    && is_asked(self.name.as_str(), &key.name)))
+                && (self.row.group == key.group && is_asked(self.name.as_str(), &key.name)))
     }
 
-    /// Whether the object is watched.
+    /// The object at a key within the scope, where there is one that is watched.
     #[tactic(auto, unfolding(kapi_store::specs::Listing::is_listed))]
-    fn is_selected(&self, key: &Key, object: &Shared) -> bool
-        ensures { result ≡ is_listed self.now.row self.now.namespace self.now.selector self.now.name key.now (stored_tree object.now) }
-    {
-        self.is_within(key) && object.get().is_selected(&self.selector)
-    }
-
-    /// The object, where there is one that is watched.
     fn selected<'a>(&self, key: &Key, object: &'a Option<Shared>) -> Option<&'a StoredObject>
+        requires { is_within_of self.now.row self.now.namespace self.now.name key.now ≡ true }
         ensures { option_map (λ o. stored_tree o.now) result ≡ selected_of self.now key.now (option_map stored_tree object.now) }
     {
         match object {
-            Some(object) if self.is_selected(key, object) => Some(object.get()),
+            Some(object) if object.get().is_selected(&self.selector) => Some(object.get()),
             _none => None,
         }
     }
@@ -94,8 +88,20 @@ impl Scope {
     }
 
     /// What a change shows, if anything.
-    #[tactic(auto, unfolding(crate::specs::Shown::shown_of))]
+    #[tactic(auto, unfolding(crate::specs::Shown::shown_of, kapi_store::specs::Listing::is_listed))]
     fn find<'a>(&self, change: &'a Change) -> Option<Found<'a>>
+        ensures { option_map found_of result ≡ shown_of self.now (plain_change change.now) }
+    {
+        if !self.is_within(&change.key) {
+            return None;
+        }
+        self.find_within(change)
+    }
+
+    /// What a change at a key within the scope shows, if anything.
+    #[tactic(auto, unfolding(crate::specs::Shown::shown_of))]
+    fn find_within<'a>(&self, change: &'a Change) -> Option<Found<'a>>
+        requires { is_within_of self.now.row self.now.namespace self.now.name change.now.key ≡ true }
         ensures { option_map found_of result ≡ shown_of self.now (plain_change change.now) }
     {
         let old = self.selected(&change.key, &change.old);
