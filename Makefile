@@ -19,6 +19,7 @@
 # make compare-demo  compares two stored policies, and asks of one who may read secrets and who could become anybody; it proves nothing
 # make compare-random  compares random pairs of policies with a plain search (wants python3)
 # make load      proves and builds the program, and prints what a server does under load (wants cc, python3 and wrk)
+# make instructions  proves and builds the program, and counts the instructions and allocations of a request (wants python3 and valgrind)
 # make bench     proves and builds the program, and prints what its events and questions cost (wants python3)
 
 SCRIPTS ?= scripts
@@ -28,7 +29,7 @@ KUBECTL ?= kubectl
 PROGRAM = crates/kapi/out/kapi
 PROVED = crates/kapi/out/proved
 
-.PHONY: pages audit-demo compare-demo compare-random demo replay test kapi install serve serve-demo edits growths live missing rechecks hostile restart kubectl-demo statuses bench load
+.PHONY: pages audit-demo compare-demo compare-random demo replay test kapi install serve serve-demo edits growths live missing rechecks hostile restart kubectl-demo statuses bench load instructions
 
 demo:
 	@echo 'Compiles the program without proofs, in one to three minutes, and plays scripts/demo.txt: each event (>) with its answer below.'
@@ -99,6 +100,9 @@ compare-random: kapi
 
 bench: kapi
 	@python3 tools/bench.py $(PROGRAM) && python3 tools/policies.py $(PROGRAM)
+
+instructions: kapi
+	@python3 tools/instructions.py $(PROGRAM)
 
 load: kapi
 	@cc -O2 -o crates/kapi/out/echo tools/echo.c

@@ -37,10 +37,16 @@ def objects(bindings, maps):
     return [role, binding("ann-reads", "ann"), *others, *[config_map(f"map-{number}") for number in range(maps)]]
 
 
+def labelled(number):
+    """A configmap with three labels."""
+    labels = {"app": f"app-{number % 7}", "tier": "backend", "release": f"r{number % 100}"}
+    return config_map(f"map-{number}") | {"metadata": {"name": f"map-{number}", "namespace": "default", "labels": labels}}
+
+
 class Server:
-    def __init__(self, program, bindings=10, maps=1):
+    def __init__(self, program, bindings=10, maps=1, more=()):
         self.file = tempfile.NamedTemporaryFile("w")
-        self.file.write("".join(json.dumps(item) + "\n" for item in objects(bindings, maps)))
+        self.file.write("".join(json.dumps(item) + "\n" for item in [*objects(bindings, maps), *more]))
         self.file.flush()
         words = [program, "serve", "--load", self.file.name, f"{ROOT}=root,system:masters", f"{ANN}=ann"]
         self.process = subprocess.Popen(words, stdout=subprocess.PIPE)
@@ -181,6 +187,20 @@ def beside_watches(program, count, namespace, times=10_000):
         return told
 
 
+# What is loaded by the thousands.
+KEPT = {
+    "configmaps of 100 bytes": lambda number: config_map(f"more-{number}"),
+    "configmaps of 100 bytes and three labels": labelled,
+    "role bindings": lambda number: binding(f"more-{number:06}", f"other-{number}"),
+}
+
+
+def kept(program, make, count):
+    """The kB resident of a server that has loaded so many more objects, and the microseconds that it took."""
+    with Server(program, maps=0, more=[make(number) for number in range(count)]) as server:
+        return server.resident(), round(seconds_of(server.process) * 1_000_000)
+
+
 def main():
     program, echo = sys.argv[1:]
     with tempfile.NamedTemporaryFile() as reply:
@@ -213,8 +233,10 @@ def main():
         watcher.close()
     for count, namespace in ((0, "other"), (240, "other"), (240, "default")):
         print(f"a get and a put of a configmap, us of processor time, beside {count} watches of the namespace {namespace}:", *beside_watches(program, count, namespace))
-    with Server(program, maps=10_000) as server:
-        print("10,000 configmaps of 100 bytes, kB resident:", server.resident())
+    for name, make in KEPT.items():
+        (few, _brief), (many, long) = kept(program, make, 10_000), kept(program, make, 100_000)
+        each = (many - few) * 1024 // 90_000
+        print(f"10,000 and 100,000 {name}: {few:,} and {many:,} kB resident, {each:,} bytes each; {long / 100_000:.1f} us each to load")
 
 
 if __name__ == "__main__":

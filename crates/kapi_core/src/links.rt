@@ -1,6 +1,6 @@
 ghost use Rattle.std.specs.Prelude.{◌≡◌, None, Some};
 ghost use Rattle.std.specs.Ordering.{nat_cmp};
-ghost use Rattle.std.specs.Map.{lookup, set_value};
+ghost use Rattle.std.specs.Map.{lookup, remove_entry, set_value};
 ghost use Rattle.std.specs.BTreeMap.{is_at};
 ghost use Rattle.kapi_answer.specs.declared.watch.Watching.{Watching as Watched};
 ghost use Rattle.kapi_core.specs.Private.Feeds.{Feeds, passed};
@@ -52,7 +52,7 @@ pub fn advance_watch(links: &mut BTreeMap<u64, Connection>, id: u64, after: Afte
     match after {
         After::Watches => move_at(links, id, place),
         After::Serves => unwatch_at(links, id),
-        After::Closes => drop(links.remove(&id)),
+        After::Closes => close_at(links, id),
     }
 }
 
@@ -76,4 +76,12 @@ fn unwatch_at(links: &mut BTreeMap<u64, Connection>, id: u64)
     if let Some(connection) = links.get_mut(&id) {
         connection.watching = None;
     }
+}
+
+/// Takes out the connection of a number, if there is one. It is a function of its own since only who closes needs room
+/// for what is taken out.
+pub fn close_at(links: &mut BTreeMap<u64, Connection>, id: u64)
+    ensures { links.new.entries ≡ remove_entry (is_at (nat_cmp id)) links.old.entries }
+{
+    drop(links.remove(&id));
 }

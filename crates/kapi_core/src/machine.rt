@@ -16,7 +16,7 @@ ghost use Rattle.kapi_policy.specs.Objects.{no_objects};
 use crate::concern::{concern_of_scope, concerns_of};
 use crate::connection::Connection;
 use crate::event::{ConnId, OpenError, Output, Turned};
-use crate::links::{advance_watch, feed_at, finish_request};
+use crate::links::{advance_watch, close_at, feed_at, finish_request};
 use crate::opening::open_objects;
 use crate::write::{load_object, make_turn, make_write};
 use kapi_aggregation::Tracker;
@@ -334,6 +334,6 @@ fn close_if(links: &mut BTreeMap<u64, Connection>, id: u64, close: bool)
     ensures { links.new.entries ≡ (if close then remove_entry (is_at (nat_cmp id)) links.old.entries else links.old.entries) }
 {
     if close {
-        drop(links.remove(&id));
+        close_at(links, id);
     }
 }
