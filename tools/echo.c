@@ -1,5 +1,6 @@
 /* Answers each read of each client of a port of 127.0.0.1 with the same bytes: what a server's requests are measured beside.
-   usage: echo PORT FILE     FILE holds the bytes; it prints a line once it listens */
+   usage: echo PORT FILE [STEPS]     FILE holds the bytes; it prints a line once it listens. STEPS are the multiplications
+   that it makes before each answer, each of the result of the last: so it shows what a server pays that computes as long */
 #include <arpa/inet.h>
 #include <netinet/tcp.h>
 #include <stdio.h>
@@ -9,12 +10,21 @@
 #include <unistd.h>
 
 static char answer[65536], piece[65536];
+static volatile unsigned product;
+
+static int compute(long steps) {
+    unsigned value = 1;
+    for (long step = 0; step < steps; step++) value = value * 1664525u + 1013904223u;
+    product = value;
+    return 1;
+}
 
 int main(int count, char **words) {
     struct sockaddr_in at = {.sin_family = AF_INET};
     struct epoll_event event = {.events = EPOLLIN}, ready[64];
     int one = 1, listener, poll;
-    FILE *file = count == 3 ? fopen(words[2], "rb") : NULL;
+    FILE *file = count == 3 || count == 4 ? fopen(words[2], "rb") : NULL;
+    long steps = count == 4 ? atol(words[3]) : 0;
     size_t length;
     if (!file) return 2;
     length = fread(answer, 1, sizeof answer, file);
@@ -36,7 +46,7 @@ int main(int count, char **words) {
                 setsockopt(client, IPPROTO_TCP, TCP_NODELAY, &one, sizeof one);
                 event.data.fd = client;
                 epoll_ctl(poll, EPOLL_CTL_ADD, client, &event);
-            } else if (read(client, piece, sizeof piece) <= 0 || write(client, answer, length) < 0) {
+            } else if (read(client, piece, sizeof piece) <= 0 || !compute(steps) || write(client, answer, length) < 0) {
                 close(client);
             }
         }

@@ -8,3 +8,4 @@ pub mod CleanTables
 pub mod CleanKinds
 pub mod Clean
 pub mod OnLiterals
+pub mod Moved

@@ -1,4 +1,4 @@
-ghost use Rattle.std.specs.Prelude.{◌≡◌, ◌≤◌, [], true, false, Some, OnOk, IfOk, ok_or, string_bytes};
+ghost use Rattle.std.specs.Prelude.{◌≡◌, ◌≤◌, [], true, false, codes, if◌then◌else◌, Some, OnOk, IfOk, ok_or, string_bytes};
 ghost use Rattle.serde_json.specs.Data.{Data, depth, object};
 ghost use Rattle.serde_json.specs.Find.{get};
 ghost use Rattle.serde_json.specs.Read.{max_depth};
@@ -8,11 +8,11 @@ ghost use Rattle.kapi_text.specs.Gives.{Gives};
 ghost use Rattle.kapi_admission.specs.Admission.{is_other, not_json, object_of, read_as, told};
 ghost use Rattle.kapi_admission.specs.Admission as admission;
 ghost use Rattle.kapi_admission.specs.Admission.{put_entries, version_of, admitted, faults_on};
-ghost use Rattle.kapi_tree.specs.Tree.{metadata_member, put_if};
+ghost use Rattle.kapi_tree.specs.Tree.{member_of, metadata_of, put_if, without};
 ghost use Rattle.kapi_tree.specs.Given.{given_of};
 ghost use Rattle.kapi_tree.specs.Given as gives;
 ghost use Rattle.kapi_tree.specs.Object.{tree_of};
-ghost use Rattle.kapi_tree.specs.Order.{is_ordered};
+ghost use Rattle.kapi_tree.specs.Order.{in_order, is_ordered};
 ghost use Rattle.kapi_tree.specs.Tree.{json_object};
 ghost use Rattle.kapi_tree.specs.Tree as trees;
 
@@ -25,7 +25,7 @@ use kapi_text::{Memory, Sequence};
 use kapi_tree::Object;
 use kapi_tree::contents::content;
 use kapi_tree::given::{Given, GivenText, given_in};
-use kapi_tree::tree::{has_no_members, member_of_metadata};
+use kapi_tree::tree::{has_no_members, into_members, put_entry, take_entry, take_metadata};
 use kapi_tree::tree_form::put_string;
 use serde_json::{Map, Value, put};
 use std::alloc::Global;
@@ -39,53 +39,83 @@ fn is_empty_object(value: &Value) -> bool
     }
 }
 
-/// Keeps a member of the metadata, if there is one.
-fn keep(alloc: Global, kept: &mut Map<String, Value>, tree: &Value, key: &str) -> Result<(), Memory>
-    ensures { OnOk result (members_view kept.new.entries
-        ≡ put_if key.now (metadata_member key.now (view tree.now)) (members_view kept.old.entries)) }
-{
-    match member_of_metadata(tree, key) {
-        Some(value) => put(kept, alloc, key, value.clone()?),
-        None => Ok(()),
-    }
-}
-
-/// Keeps labels or annotations, if there are any.
-fn keep_entries(
-    alloc: Global,
+/// Moves a member of the metadata to what is kept, if there is one; null is as if it were absent.
+fn keep(
     kept: &mut Map<String, Value>,
-    tree: &Value,
+    metadata: &mut Map<String, Value>,
     key: &str,
 ) -> Result<(), Memory>
-    ensures { OnOk result (members_view kept.new.entries
-        ≡ put_entries key.now (metadata_member key.now (view tree.now)) (members_view kept.old.entries)) }
+    requires { in_order (members_view metadata.old.entries) ≡ true }
+    ensures kept { OnOk result (members_view kept.new.entries
+        ≡ put_if key.now (member_of key.now (object (members_view metadata.old.entries))) (members_view kept.old.entries)) }
+    ensures left { members_view metadata.new.entries ≡ without key.now (members_view metadata.old.entries) }
 {
-    let Some(value) = member_of_metadata(tree, key) else {
+    let Some((name, value)) = take_entry(metadata, key) else {
         return Ok(());
     };
-    if is_empty_object(value) {
+    if value.is_null() {
         return Ok(());
     }
-    put(kept, alloc, key, value.clone()?)
+    put_entry(kept, name, value)
 }
 
-/// The metadata that is kept of the tree's.
-#[tactic(auto, unfolding(crate::specs::Admission::kept_metadata))]
+/// Moves labels or annotations to what is kept, if there are any.
+fn keep_entries(
+    kept: &mut Map<String, Value>,
+    metadata: &mut Map<String, Value>,
+    key: &str,
+) -> Result<(), Memory>
+    requires { in_order (members_view metadata.old.entries) ≡ true }
+    ensures kept { OnOk result (members_view kept.new.entries
+        ≡ put_entries key.now (member_of key.now (object (members_view metadata.old.entries))) (members_view kept.old.entries)) }
+    ensures left { members_view metadata.new.entries ≡ without key.now (members_view metadata.old.entries) }
+{
+    let Some((name, value)) = take_entry(metadata, key) else {
+        return Ok(());
+    };
+    if value.is_null() || is_empty_object(&value) {
+        return Ok(());
+    }
+    put_entry(kept, name, value)
+}
+
+/// Moves the namespace to what is kept, where objects of the resource type live in namespaces.
+fn keep_place(
+    row: &ResourceRow,
+    kept: &mut Map<String, Value>,
+    metadata: &mut Map<String, Value>,
+) -> Result<(), Memory>
+    requires { in_order (members_view metadata.old.entries) ≡ true }
+    ensures kept { OnOk result (members_view kept.new.entries
+        ≡ (if row.now.namespaced then put_if (codes "namespace") (member_of (codes "namespace") (object (members_view metadata.old.entries))) (members_view kept.old.entries)
+        else members_view kept.old.entries)) }
+    ensures ordered { in_order (members_view metadata.new.entries) ≡ true }
+    ensures version { member_of (codes "resourceVersion") (object (members_view metadata.new.entries))
+        ≡ member_of (codes "resourceVersion") (object (members_view metadata.old.entries)) }
+{
+    if row.namespaced {
+        keep(kept, metadata, "namespace")
+    } else {
+        Ok(())
+    }
+}
+
+/// What is kept of the metadata; nothing of it is copied.
 fn kept_metadata(
     alloc: Global,
     row: &ResourceRow,
-    tree: &Value,
+    metadata: Map<String, Value>,
 ) -> Result<Map<String, Value>, Memory>
-    ensures { IfOk result (λ m. members_view m.entries ≡ admission.kept_metadata row.now (view tree.now)) }
+    requires { in_order (members_view metadata.entries) ≡ true }
+    ensures { (tree : Data) → members_view metadata.entries ≡ metadata_of tree
+        → IfOk result (λ m. members_view m.entries ≡ admission.kept_metadata row.now tree) }
 {
-    let mut kept = Map::new(alloc);
-    keep_entries(alloc, &mut kept, tree, "labels")?;
-    keep_entries(alloc, &mut kept, tree, "annotations")?;
-    keep(alloc, &mut kept, tree, "name")?;
-    if row.namespaced {
-        keep(alloc, &mut kept, tree, "namespace")?;
-    }
-    keep(alloc, &mut kept, tree, "resourceVersion")?;
+    let (mut kept, mut left) = (Map::new(alloc), metadata);
+    keep_entries(&mut kept, &mut left, "labels")?;
+    keep_entries(&mut kept, &mut left, "annotations")?;
+    keep(&mut kept, &mut left, "name")?;
+    keep_place(row, &mut kept, &mut left)?;
+    keep(&mut kept, &mut left, "resourceVersion")?;
     Ok(kept)
 }
 
@@ -93,27 +123,34 @@ fn kept_metadata(
 fn filled(
     alloc: Global,
     row: &ResourceRow,
-    version: &str,
+    version: String,
     tree: Value,
 ) -> Result<Map<String, Value>, Memory>
-    requires { version.now ≡ version_of row.now }
+    requires { string_bytes version ≡ version_of row.now }
     ensures { IfOk result (λ m. object (members_view m.entries) ≡ admission.filled row.now (view tree)) }
 {
     let mut members = content(alloc, row.schema, tree)?;
-    put_string(alloc, &mut members, "apiVersion", version)?;
+    put(&mut members, alloc, "apiVersion", Value::String(version))?;
     put_string(alloc, &mut members, "kind", row.kind.as_str())?;
     Ok(members)
 }
 
 /// The tree as the resource type keeps it; `version` is the resource type's.
-#[tactic(auto, unfolding(crate::specs::Admission::kept_tree))]
-fn kept_tree(alloc: Global, row: &ResourceRow, version: &str, tree: Value) -> Result<Value, Memory>
-    requires { version.now ≡ version_of row.now }
+fn kept_tree(
+    alloc: Global,
+    row: &ResourceRow,
+    version: String,
+    tree: Value,
+) -> Result<Value, Memory>
+    requires version { string_bytes version ≡ version_of row.now }
+    requires ordered { is_ordered (view tree) ≡ true }
     ensures { IfOk result (λ v. view v ≡ admission.kept_tree row.now (view tree)) }
 {
-    let metadata = Value::Object(kept_metadata(alloc, row, &tree)?);
-    let mut members = filled(alloc, row, version, tree)?;
-    put(&mut members, alloc, "metadata", metadata)?;
+    let mut rest = into_members(alloc, tree);
+    let (name, metadata) = take_metadata(alloc, &mut rest)?;
+    let kept = kept_metadata(alloc, row, metadata)?;
+    let mut members = filled(alloc, row, version, Value::Object(rest))?;
+    put_entry(&mut members, name, Value::Object(kept))?;
     Ok(Value::Object(members))
 }
 
@@ -199,8 +236,13 @@ pub fn collect_faults(
 
 /// The tree as its resource type keeps it, or the list of its faults.
 #[tactic(auto, unfolding(crate::specs::Admission::admitted))]
-fn admit(alloc: Global, row: &ResourceRow, version: &str, tree: Value) -> Result<Value, ObjectError>
-    requires version { version.now ≡ version_of row.now }
+fn admit(
+    alloc: Global,
+    row: &ResourceRow,
+    version: String,
+    tree: Value,
+) -> Result<Value, ObjectError>
+    requires version { string_bytes version ≡ version_of row.now }
     requires whole { written.has_float (view tree) ≡ false }
     requires ordered { is_ordered (view tree) ≡ true }
     ensures tree { Gives told view result (admitted row.now (view tree)) }
@@ -251,7 +293,7 @@ pub fn admitted_tree(alloc: Global, row: &ResourceRow, tree: Value) -> Result<Va
     if has_other(&tree, "apiVersion", version.as_str()) {
         return Err(ObjectError::WrongVersion);
     }
-    admit(alloc, row, version.as_str(), tree)
+    admit(alloc, row, version, tree)
 }
 
 /// The object of a resource type that a JSON object is, as the resource type keeps it.

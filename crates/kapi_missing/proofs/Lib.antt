@@ -15,3 +15,4 @@ pub mod Lefts
 pub mod Sliced
 pub mod Dead
 pub mod Singles
+pub mod MarkedEntries

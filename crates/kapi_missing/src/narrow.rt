@@ -1,5 +1,5 @@
 //! The rules that may stop an atom of some parts, found by the list that few entries of a single part are left of.
-ghost use Rattle.std.specs.Prelude.{◌≡◌, ◌==◌, ℕ, Bool, List, length, map, true, false, IfOk, IfSome};
+ghost use Rattle.std.specs.Prelude.{◌≡◌, ◌==◌, ◌++◌, ◌∷◌, [], ℕ, Bool, List, length, map, true, false, if◌then◌else◌, IfOk, IfSome, OnOk};
 ghost use Rattle.std.specs.List.{list_any};
 ghost use Rattle.kapi_model.specs.declared.policy_rule.PolicyRule.{PolicyRule as PolicyRuleValue};
 ghost use Rattle.kapi_missing.specs.Private.Bars.{barred, meets, name_marks};
@@ -21,15 +21,29 @@ use std::alloc::Global;
 /// So many rules are asked at once, and not sought by the other lists.
 const FEW: usize = 16;
 
+// Puts the entry behind the others, where it is marked.
+fn push_marked(
+    alloc: Global,
+    list: &mut Vec<Text>,
+    entry: &Text,
+    marked: bool,
+) -> Result<(), Memory>
+    ensures { OnOk result (list.new.items ≡ list.old.items ++ (if marked then entry.now ∷ [] else [])) }
+{
+    if marked {
+        list.push(entry.copy(alloc)?)?;
+    }
+    Ok(())
+}
+
 // The entries that are marked.
+#[tactic(auto, using(crate::proofs::MarkedEntries::marked_more))]
 fn marked_entries(alloc: Global, entries: &[Text], marks: &[bool]) -> Result<Vec<Text>, Memory>
     ensures { IfOk result (λ v. (f : List ℕ → Bool) (i : ℕ) → at marks.now i ≡ true → at (map f entries.now) i ≡ true → list_any f v.items ≡ true) }
 {
     let mut list = Vec::new(alloc);
     for (position, entry) in entries.iter().enumerate() {
-        if is_marked(marks, position) {
-            list.push(entry.copy(alloc)?)?;
-        }
+        push_marked(alloc, &mut list, entry, is_marked(marks, position))?;
     }
     Ok(list)
 }

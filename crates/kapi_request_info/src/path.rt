@@ -1,6 +1,6 @@
 //! The segments of a path (RFC 3986 sections 2.1 and 3.3).
-ghost use Rattle.std.specs.Prelude.{◌≡◌, ◌==◌, map, drop, ok_or, IfOk};
-ghost use Rattle.std.specs.List.{slice_split, list_all};
+ghost use Rattle.std.specs.Prelude.{◌≡◌, ◌==◌, ◌<◌, [], ◌∷◌, drop, length, ok_or, IfOk, IfSome, IsNone};
+ghost use Rattle.std.specs.List.{slice_split, list_all, position_from};
 ghost use Rattle.std.specs.Option.{option_copied};
 ghost use Rattle.percent_encoding.specs.Percent.{percent_decode as decoded_of};
 ghost use Rattle.kapi_text.specs.Gives.{Gives};
@@ -15,6 +15,9 @@ use std::alloc::Global;
 use std::borrow::{CowSlice, CowStr};
 use std::marker::Model;
 use std::str;
+
+/// There is room at once for so many pieces of a path.
+const USUAL_PIECES: usize = 8;
 
 /// A decoded segment of a path, which is copied only where something was to be decoded.
 #[derive(Drop)]
@@ -84,8 +87,14 @@ pub fn segments(alloc: Global, path: &[u8]) -> Result<Vec<Segment<'_>>, InfoErro
 fn pieces(alloc: Global, path: &[u8]) -> Result<Vec<Piece<'_>>, Memory>
     ensures { IfOk result (λ v. v.items ≡ pieces_of path.now) }
 {
-    let pieces = split_at_slashes(alloc, behind_first(path))?;
-    decoded_pieces(alloc, pieces.as_slice())
+    let mut pieces = Vec::with_capacity(alloc, USUAL_PIECES)?;
+    let mut rest = behind_first(path);
+    while let Some((piece, after)) = split_at_slash(rest) {
+        pieces.push(decoded(alloc, piece)?)?;
+        rest = after;
+    }
+    pieces.push(decoded(alloc, rest)?)?;
+    Ok(pieces)
 }
 
 fn behind_first(path: &[u8]) -> &[u8]
@@ -97,20 +106,28 @@ fn behind_first(path: &[u8]) -> &[u8]
     }
 }
 
-fn split_at_slashes(alloc: Global, path: &[u8]) -> Result<Vec<&[u8]>, Memory>
-    ensures { IfOk result (λ v. map (λ s. s.now) v.items ≡ slice_split (λ b. b == 47) path.now) }
+/// The bytes before the first slash, and those behind it.
+#[tactic(auto, using(kapi_http::proofs::Lists::split_found, kapi_http::proofs::Lists::split_not_found))]
+fn split_at_slash(path: &[u8]) -> Option<(&[u8], &[u8])>
+    ensures none { IsNone result → slice_split (λ b. b == 47) path.now ≡ path.now ∷ [] }
+    ensures split { IfSome result (λ x. slice_split (λ b. b == 47) path.now ≡ x.0.now ∷ slice_split (λ b. b == 47) x.1.now) }
+    ensures shorter { IfSome result (λ x. length x.1.now < length path.now) }
 {
-    path.split(|byte| *byte == b'/').collect(alloc)
+    match slash_at(path) {
+        Some(at) => {
+            let (piece, _) = path.split_at(at);
+            let (_, after) = path.split_at(at + 1);
+            Some((piece, after))
+        }
+        None => None,
+    }
 }
 
-fn decoded_pieces<'a>(alloc: Global, pieces: &[&'a [u8]]) -> Result<Vec<Piece<'a>>, Memory>
-    ensures { IfOk result (λ v. v.items ≡ map decoded_of (map (λ s. s.now) pieces.now)) }
+fn slash_at(path: &[u8]) -> Option<usize>
+    ensures found { result ≡ position_from (λ b. b == 47) 0 path.now }
+    ensures within { IfSome result (λ at. at < length path.now) }
 {
-    let mut list = Vec::with_capacity(alloc, pieces.len())?;
-    for piece in pieces {
-        list.push(decoded(alloc, piece)?)?;
-    }
-    Ok(list)
+    path.iter().position(|byte| *byte == b'/')
 }
 
 fn decoded(alloc: Global, piece: &[u8]) -> Result<Piece<'_>, Memory>

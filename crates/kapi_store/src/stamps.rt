@@ -26,7 +26,9 @@ pub fn uid(alloc: Global, revision: u64) -> Result<String, Memory>
     requires { revision < 2 ^ 48 }
     ensures { IfOk result (λ s. string_bytes s ≡ uid_of revision) }
 {
-    format!(in alloc; "00000000-0000-4000-8000-{revision:012x}")
+    let mut text = String::with_capacity(alloc, 36)?;
+    write!(text, "00000000-0000-4000-8000-{revision:012x}")?;
+    Ok(text)
 }
 
 /// The version that a revision gives.
@@ -51,7 +53,7 @@ pub fn with_stamps_of(alloc: Global, object: Object, old: &Shared) -> Result<Obj
 {
     let old = old.get();
     let (uid, version) = (old.uid(alloc)?, old.version(alloc)?);
-    object.stamped(alloc, uid.as_str(), version.as_str())
+    object.stamped(alloc, uid, version)
 }
 
 /// The object's text: compact, keys in the order of their bytes.

@@ -85,10 +85,7 @@ impl StoredObject {
         let uid = uid(alloc, self.created)?;
         let version = version(alloc, revision)?;
         let object = self.object(alloc)?;
-        text_of(
-            alloc,
-            &object.stamped(alloc, uid.as_str(), version.as_str())?,
-        )
+        text_of(alloc, &object.stamped(alloc, uid, version)?)
     }
 
     /// The revision that created the object.

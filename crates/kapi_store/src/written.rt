@@ -33,7 +33,7 @@ impl Written {
     {
         let uid = uid(alloc, created)?;
         let version = version(alloc, revision)?;
-        let object = object.stamped(alloc, uid.as_str(), version.as_str())?;
+        let object = object.stamped(alloc, uid, version)?;
         let stored = StoredObject::kept(alloc, &object, created, revision)?;
         Ok(Written { object, stored })
     }

@@ -1,22 +1,39 @@
 ghost use Rattle.std.specs.Prelude.{◌≡◌, IfOk, string_bytes};
 
 use crate::sequence::TryCopy;
+use arrayvec::ArrayString;
 use std::alloc::{AllocError, Global};
 use std::cmp::Ordering;
 use std::marker::Model;
 
-/// A text that contracts see as its bytes: two texts are equal where their bytes are.
-#[derive(Debug, Drop)]
+/// A text that contracts see as its bytes: two texts are equal where their bytes are. A copy of at most 16 bytes lies in
+/// the value itself, so it takes no allocation.
+#[derive(Debug)]
 pub struct Text {
-    string: String,
+    kept: Kept,
+}
+
+// `Drop` is written out, so that a caller does not prove again how a text is dropped, wherever it lies.
+impl Drop for Text {
+    fn drop(self) {
+        let Text { kept: _ } = self;
+    }
+}
+
+/// Where the bytes of a text lie.
+#[derive(Debug, Drop)]
+enum Kept {
+    Inside(ArrayString<16>),
+    Outside(String),
 }
 
 impl Model for Text {
-    ghost use Rattle.std.specs.Prelude.{List, ℕ, string_bytes};
+    ghost use Rattle.std.specs.Prelude.{List, ℕ};
+    ghost use Rattle.kapi_text.specs.Kept.{kept_bytes};
 
     ghost Value = { List ℕ };
 
-    ghost view = { λ t. string_bytes t.string };
+    ghost view = { λ t. kept_bytes t.kept };
 }
 
 impl Text {
@@ -24,30 +41,30 @@ impl Text {
     pub fn new(string: String) -> Text
         ensures { result ≡ string_bytes string }
     {
-        Text { string }
+        Text {
+            kept: Kept::Outside(string),
+        }
     }
 
-    /// An owned text with the same bytes.
+    /// An owned text with the same bytes; allocates nothing where there are at most 16.
     pub fn copy_of(alloc: Global, text: &str) -> Result<Text, AllocError>
         ensures { IfOk result (λ t. t ≡ text.now) }
     {
-        Ok(Text {
-            string: String::from_str(alloc, text)?,
-        })
+        let kept = match ArrayString::from(text) {
+            Ok(inside) => Kept::Inside(inside),
+            Err(_longer) => Kept::Outside(String::from_str(alloc, text)?),
+        };
+        Ok(Text { kept })
     }
 
     /// The text, borrowed.
     pub fn as_str(&self) -> &str
         ensures { result.now ≡ self.now }
     {
-        self.string.as_str()
-    }
-
-    /// Returns the string; allocates nothing.
-    pub fn into_string(self) -> String
-        ensures { string_bytes result ≡ self }
-    {
-        self.string
+        match &self.kept {
+            Kept::Inside(text) => text.as_str(),
+            Kept::Outside(text) => text.as_str(),
+        }
     }
 }
 

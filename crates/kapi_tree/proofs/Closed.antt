@@ -78,12 +78,15 @@ module _ {P : ℕ → Data → Type 0} {I : ℕ → Items → Type 0} {M : ℕ �
   found_hold n None h = c.no_member n
   found_hold n (Some d) h = members_hold n d h
 
+  pub metadata_hold : (n : ℕ) (d : Data) → P (suc (suc n)) d → M n (metadata_of d)
+  metadata_hold n d h = found_hold n (get (codes "metadata") d) (get_holds (suc n) (codes "metadata") d h)
+
   pub with_text_holds : (n : ℕ) (k t : List ℕ) (d : Data) → P (suc (suc n)) d → P (suc (suc n)) (with_text k t d)
   with_text_holds n k t d h =
       c.members (suc n) (put (codes "metadata") (object (put k (string t) (metadata_of d))) (members_or_none (Some d)))
       (c.with_member (suc n) (codes "metadata") (object (put k (string t) (metadata_of d))) (members_or_none (Some d))
       (c.members n (put k (string t) (metadata_of d))
-      (c.with_member n k (string t) (metadata_of d) (c.text n t) (found_hold n (get (codes "metadata") d) (get_holds (suc n) (codes "metadata") d h))))
+      (c.with_member n k (string t) (metadata_of d) (c.text n t) (metadata_hold n d h)))
       (members_hold (suc n) d h))
 
   pub without_member_holds : (n : ℕ) (k : List ℕ) (d : Data) → P (suc n) d → P (suc n) (without_member k d)

@@ -59,7 +59,8 @@ put_in_order k d (member l e ms) hd hm =
       | Greater ↦ λ is. rw (precedes_put l k d ms (turned k l is) (key_first l e ms hm), value_ordered l e ms hm) (put_in_order k d ms hd (others_in_order l e ms hm))
     ] refl
 
-precedes_filter : (j : List ℕ) (passes : List ℕ → Bool) (ms : Members) → precedes j ms ≡ true → precedes j (filter_members passes ms) ≡ true
+-- a key that comes before members comes before some of them
+pub precedes_filter : (j : List ℕ) (passes : List ℕ → Bool) (ms : Members) → precedes j ms ≡ true → precedes j (filter_members passes ms) ≡ true
 precedes_filter j passes no_members p = refl
 precedes_filter j passes (member l d ms) p =
     let first : is_lt (slice_cmp nat_cmp j l) ≡ true = first_so (is_lt (slice_cmp nat_cmp j l)) (precedes j ms) p in

@@ -1,5 +1,5 @@
 -- Members without one of them.
-use Rattle.std.proofs.Common.{◌≡◌, ◌∙◌, ℕ, List, [], ◌∷◌, Bool, true, false, not, if◌then◌else◌, Some, codes, cond, bytes_eq, refl, sym, ap, String, Global, string_bytes}
+use Rattle.std.proofs.Common.{◌≡◌, ◌∙◌, ℕ, List, [], ◌∷◌, Bool, true, false, not, if◌then◌else◌, Some, codes, cond, bytes_eq, true≢false, refl, sym, ap, subst, String, Global, string_bytes}
 use Rattle.std.proofs.lemmas.Map.Text.{is_eq-slice_cmp}
 use Rattle.std.proofs.lemmas.Slice.Eq.{bytes_eq-Decides}
 use Rattle.std.specs.BTreeMap.{is_at}
@@ -15,7 +15,7 @@ use Rattle.serde_json.specs.View.{view, members_view}
 use Rattle.serde_json.specs.declared.value.Value.{Value}
 use Rattle.kapi_tree.proofs.Closed.{members_hold}
 use Rattle.kapi_tree.proofs.Metadata.{in_object}
-use Rattle.kapi_tree.proofs.Ordered.{is_less, keys_in_order, none_removed, key_first, others_in_order, precedes_too}
+use Rattle.kapi_tree.proofs.Ordered.{is_less, keys_in_order, none_removed, key_first, others_in_order, precedes_too, precedes_filter}
 use Rattle.kapi_tree.specs.Order.{in_order, is_ordered, precedes}
 use Rattle.kapi_tree.specs.Tree.{members_or_none, metadata_of, with_text, without}
 
@@ -44,7 +44,50 @@ put_front k d (member l e ms) p =
     let less : slice_cmp nat_cmp k l ≡ Less = is_less (slice_cmp nat_cmp k l) (first_so (is_lt (slice_cmp nat_cmp k l)) (precedes k ms) p) in
     rw less refl
 
-put_back : (k : List ℕ) (d : Data) (ms : Members) → in_order ms ≡ true → put k d (without k ms) ≡ put k d ms
+-- a value that is put beside a member that was taken out
+pub put_without : (m k : List ℕ) (d : Data) (ms : Members) → in_order ms ≡ true → bytes_eq m k ≡ false → put k d (without m ms) ≡ without m (put k d ms)
+put_without m k d no_members h apart = rw apart refl
+put_without m k d (member l e ms) h apart =
+    elim (slice_cmp nat_cmp k l) as (λ o. slice_cmp nat_cmp k l ≡ o
+    → put k d (without m (member l e ms)) ≡ without m (match_ordering o (member k d (member l e ms)) (member l d ms) (member l e (put k d ms)))) [
+      | Less ↦ λ is.
+          let before : precedes k (member l e ms) ≡ true = rw is (precedes_too k l ms is (key_first l e ms h)) in
+          rw apart (put_front k d (without m (member l e ms)) (precedes_filter k (λ other. not (bytes_eq m other)) (member l e ms) before))
+      | Equal ↦ λ is.
+          let same : k ≡ l = (bytes_eq-Decides k l).0 (sym (is_eq-slice_cmp k l) ∙ ap is_eq is) in
+          let F : List ℕ → Type 0 = λ x. bytes_eq m x ≡ false in
+          rw (subst F same apart, is) refl
+      | Greater ↦ λ is.
+          elim (bytes_eq m l) as (λ b. put k d (if not b then member l e (without m ms) else without m ms)
+          ≡ (if not b then member l e (without m (put k d ms)) else without m (put k d ms))) [
+            | true ↦ put_without m k d ms (others_in_order l e ms h) apart
+            | false ↦ rw is (ap (member l e) (put_without m k d ms (others_in_order l e ms h) apart))
+          ]
+    ] refl
+
+-- the other members stay where one is taken out
+pub get_without : (q m : List ℕ) (ms : Members) → bytes_eq q m ≡ false → get_member q (without m ms) ≡ get_member q ms
+get_without q m no_members h = refl
+get_without q m (member l d ms) h =
+    elim (bytes_eq m l) as (λ b. bytes_eq m l ≡ b → get_member q (if not b then member l d (without m ms) else without m ms) ≡ get_member q (member l d ms)) [
+      | true ↦ λ is.
+          let F : List ℕ → Type 0 = λ x. bytes_eq q x ≡ false in
+          let apart : bytes_eq q l ≡ false = subst F ((bytes_eq-Decides m l).0 is) h in
+          elim (slice_cmp nat_cmp q l) as (λ o. slice_cmp nat_cmp q l ≡ o → get_member q (without m ms) ≡ match_ordering o (get_member q ms) (Some d) (get_member q ms)) [
+            | Less ↦ λ _. get_without q m ms h
+            | Equal ↦ λ so. absurd (true≢false (sym (sym (is_eq-slice_cmp q l) ∙ ap is_eq so) ∙ apart))
+            | Greater ↦ λ _. get_without q m ms h
+          ] refl
+      | false ↦ λ is.
+          elim (slice_cmp nat_cmp q l) as (λ o. match_ordering o (get_member q (without m ms)) (Some d) (get_member q (without m ms)) ≡ match_ordering o (get_member q ms) (Some d) (get_member q ms)) [
+            | Less ↦ get_without q m ms h
+            | Equal ↦ refl
+            | Greater ↦ get_without q m ms h
+          ]
+    ] refl
+
+-- what is put back where it was taken out
+pub put_back : (k : List ℕ) (d : Data) (ms : Members) → in_order ms ≡ true → put k d (without k ms) ≡ put k d ms
 put_back k d no_members h = refl
 put_back k d (member l e ms) h =
     let equal : (o : Ordering) → slice_cmp nat_cmp k l ≡ o → bytes_eq k l ≡ is_eq o = λ o is. sym (is_eq-slice_cmp k l) ∙ ap is_eq is in

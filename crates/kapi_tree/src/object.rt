@@ -22,7 +22,7 @@ pub struct Object {
 }
 
 impl Object {
-    ghost use Rattle.std.specs.Prelude.{◌≡◌, ◌≤◌, ◌<◌, true, false, codes, IfOk};
+    ghost use Rattle.std.specs.Prelude.{◌≡◌, ◌≤◌, ◌<◌, true, false, codes, IfOk, string_bytes};
     ghost use Rattle.serde_json.specs.Data.{depth, members_depth};
     ghost use Rattle.serde_json.specs.Read.{max_depth};
     ghost use Rattle.serde_json.specs.View.{view, members_view};
@@ -96,8 +96,8 @@ impl Object {
     }
 
     /// The object with one text set in its metadata.
-    fn with_text(self, alloc: Global, key: &str, text: &str) -> Result<Object, Memory>
-        ensures { IfOk result (λ o. tree_of o ≡ trees.with_text key.now text.now (tree_of self)) }
+    fn with_text(self, alloc: Global, key: &str, text: String) -> Result<Object, Memory>
+        ensures { IfOk result (λ o. tree_of o ≡ trees.with_text key.now (string_bytes text) (tree_of self)) }
     {
         Ok(Object {
             tree: with_text(alloc, self.tree, key, text)?,
@@ -108,19 +108,19 @@ impl Object {
     pub fn named(self, alloc: Global, name: &str) -> Result<Object, Memory>
         ensures { IfOk result (λ o. tree_of o ≡ trees.with_text (codes "name") name.now (tree_of self)) }
     {
-        self.with_text(alloc, "name", name)
+        self.with_text(alloc, "name", String::from_str(alloc, name)?)
     }
 
     /// The object in a namespace: with that text as `metadata.namespace`.
     pub fn in_namespace(self, alloc: Global, namespace: &str) -> Result<Object, Memory>
         ensures { IfOk result (λ o. tree_of o ≡ trees.with_text (codes "namespace") namespace.now (tree_of self)) }
     {
-        self.with_text(alloc, "namespace", namespace)
+        self.with_text(alloc, "namespace", String::from_str(alloc, namespace)?)
     }
 
     /// The object as a write leaves it: with its unique id and its resource version.
-    pub fn stamped(self, alloc: Global, uid: &str, version: &str) -> Result<Object, Memory>
-        ensures { IfOk result (λ o. tree_of o ≡ stamped_tree uid.now version.now (tree_of self)) }
+    pub fn stamped(self, alloc: Global, uid: String, version: String) -> Result<Object, Memory>
+        ensures { IfOk result (λ o. tree_of o ≡ stamped_tree (string_bytes uid) (string_bytes version) (tree_of self)) }
     {
         self.with_text(alloc, "uid", uid)?
             .with_text(alloc, "resourceVersion", version)

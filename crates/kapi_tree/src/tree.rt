@@ -1,13 +1,12 @@
 ghost use Rattle.kapi_tree.specs.Order.{is_ordered, in_order};
-ghost use Rattle.std.specs.Prelude.{◌≡◌, true, IfOk, OnOk, Some, codes, option_map};
+ghost use Rattle.std.specs.Prelude.{◌≡◌, true, IfOk, IfSome, OnOk, Some, codes, option_map, string_bytes};
 ghost use Rattle.serde_json.specs.Find.{get, get_member};
-ghost use Rattle.serde_json.specs.Data.{object};
+ghost use Rattle.serde_json.specs.Data.{object, put as put_member};
 ghost use Rattle.serde_json.specs.View.{view, members_view};
 ghost use Rattle.kapi_tree.specs.Tree.{metadata_member, member_of, members_or_none, put_if};
 ghost use Rattle.kapi_tree.specs.Tree as trees;
 ghost use Rattle.kapi_tree.specs.Tree.{without};
 
-use crate::tree_form::text_value;
 use kapi_text::Memory;
 use serde_json::{Map, Value, put};
 use std::alloc::Global;
@@ -63,28 +62,50 @@ fn take(members: &mut Map<String, Value>, key: &str) -> Option<Value>
     members.remove(key)
 }
 
-/// The members of an object; none of anything else, and where there is nothing.
-fn members_of(alloc: Global, value: Option<Value>) -> Map<String, Value>
-    ensures { members_view result.entries ≡ members_or_none (option_map view value) }
+/// Takes the member of a key out, with its key.
+pub fn take_entry(members: &mut Map<String, Value>, key: &str) -> Option<(String, Value)>
+    requires { in_order (members_view members.old.entries) ≡ true }
+    ensures left { members_view members.new.entries ≡ without key.now (members_view members.old.entries) }
+    ensures key { IfSome result (λ p. string_bytes p.0 ≡ key.now) }
+    ensures taken { option_map (λ p. view p.1) result ≡ get_member key.now (members_view members.old.entries) }
 {
-    match value {
-        Some(value) => into_members(alloc, value),
-        None => Map::new(alloc),
+    members.remove_entry(key)
+}
+
+/// Takes the metadata out of the members of an object, with their key; without members where there are none.
+pub fn take_metadata(
+    alloc: Global,
+    members: &mut Map<String, Value>,
+) -> Result<(String, Map<String, Value>), Memory>
+    requires { in_order (members_view members.old.entries) ≡ true }
+    ensures left { OnOk result (members_view members.new.entries ≡ without (codes "metadata") (members_view members.old.entries)) }
+    ensures key { IfOk result (λ p. string_bytes p.0 ≡ codes "metadata") }
+    ensures taken { IfOk result (λ p. members_view p.1.entries ≡ members_or_none (get_member (codes "metadata") (members_view members.old.entries))) }
+{
+    match take_entry(members, "metadata") {
+        Some((name, metadata)) => Ok((name, into_members(alloc, metadata))),
+        None => Ok((String::from_str(alloc, "metadata")?, Map::new(alloc))),
     }
+}
+
+/// Puts a member in, whose key is not copied.
+pub fn put_entry(members: &mut Map<String, Value>, key: String, value: Value) -> Result<(), Memory>
+    ensures { OnOk result (members_view members.new.entries ≡ put_member (string_bytes key) (view value) (members_view members.old.entries)) }
+{
+    drop(members.insert(key, value)?);
+    Ok(())
 }
 
 /// The tree with one text set in its metadata; nothing of it is copied.
 #[tactic(auto, using(crate::proofs::Removal::members_are_in_order))]
-pub fn with_text(alloc: Global, tree: Value, key: &str, text: &str) -> Result<Value, Memory>
+pub fn with_text(alloc: Global, tree: Value, key: &str, text: String) -> Result<Value, Memory>
     requires { is_ordered (view tree) ≡ true }
-    ensures { IfOk result (λ v. view v ≡ trees.with_text key.now text.now (view tree)) }
+    ensures { IfOk result (λ v. view v ≡ trees.with_text key.now (string_bytes text) (view tree)) }
 {
-    let text = text_value(alloc, text)?;
     let mut members = into_members(alloc, tree);
-    let metadata = take(&mut members, "metadata");
-    let mut metadata = members_of(alloc, metadata);
-    put(&mut metadata, alloc, key, text)?;
-    put(&mut members, alloc, "metadata", Value::Object(metadata))?;
+    let (name, mut metadata) = take_metadata(alloc, &mut members)?;
+    put(&mut metadata, alloc, key, Value::String(text))?;
+    put_entry(&mut members, name, Value::Object(metadata))?;
     Ok(Value::Object(members))
 }
 

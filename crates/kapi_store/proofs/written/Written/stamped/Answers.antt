@@ -1,4 +1,4 @@
-use Rattle.std.proofs.Common.{◌∙◌, Some, codes, ap}
+use Rattle.std.proofs.Common.{◌∙◌, Some, codes, string_bytes, ap}
 use Rattle.std.specs.Option.{option_and_then}
 use Rattle.serde_json.specs.Data.{Data}
 use Rattle.serde_json.specs.Find.{as_str}
@@ -10,9 +10,9 @@ use Rattle.kapi_store.proofs.written.Written.stamped.Goals as goal
 pub kept-requires-clause-born : goal.kept-requires-clause-born
 kept-requires-clause-born c =
     ap (λ (d : Data). option_and_then as_str (in_metadata (codes "uid") d)) c.in_ok-object.ensures
-    ∙ uid_there c.as_str.result.now c.as_str-2.result.now (tree_of c.args.object) ∙ ap Some (c.as_str.ensures.value ∙ c.in_ok-uid.ensures)
+    ∙ uid_there (string_bytes c.in_ok-uid.uid) (string_bytes c.in_ok-version.version) (tree_of c.args.object) ∙ ap Some c.in_ok-uid.ensures
 
 pub kept-requires-clause-versioned : goal.kept-requires-clause-versioned
 kept-requires-clause-versioned c =
     ap (λ (d : Data). option_and_then as_str (in_metadata (codes "resourceVersion") d)) c.in_ok-object.ensures
-    ∙ version_there c.as_str.result.now c.as_str-2.result.now (tree_of c.args.object) ∙ ap Some (c.as_str-2.ensures.value ∙ c.in_ok-version.ensures)
+    ∙ version_there (string_bytes c.in_ok-uid.uid) (string_bytes c.in_ok-version.version) (tree_of c.args.object) ∙ ap Some c.in_ok-version.ensures

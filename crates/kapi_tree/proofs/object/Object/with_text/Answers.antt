@@ -1,4 +1,5 @@
 -- A text set in the metadata brings in no float, and leaves the keys in order.
+use Rattle.std.specs.Prelude.{string_bytes}
 use Rattle.serde_json.specs.View.{view}
 use Rattle.kapi_tree.proofs.Closed.{with_text_holds}
 use Rattle.kapi_tree.proofs.Depths.{no_deeper}
@@ -8,7 +9,7 @@ use Rattle.kapi_tree.proofs.object.Object.with_text.Goals as goal
 
 pub invariant_of-result : goal.invariant_of-result
 invariant_of-result c = record {
-  whole = rw c.in_ok-with_text.ensures (with_text_holds no_floats 125 c.args.key.now c.args.text.now (view c.args.self.tree) c.args.self.whole);
-  ordered = rw c.in_ok-with_text.ensures (with_text_holds keys_in_order 125 c.args.key.now c.args.text.now (view c.args.self.tree) c.args.self.ordered);
-  nests = rw c.in_ok-with_text.ensures (with_text_holds no_deeper 125 c.args.key.now c.args.text.now (view c.args.self.tree) c.args.self.nests);
+  whole = rw c.in_ok-with_text.ensures (with_text_holds no_floats 125 c.args.key.now (string_bytes c.args.text) (view c.args.self.tree) c.args.self.whole);
+  ordered = rw c.in_ok-with_text.ensures (with_text_holds keys_in_order 125 c.args.key.now (string_bytes c.args.text) (view c.args.self.tree) c.args.self.ordered);
+  nests = rw c.in_ok-with_text.ensures (with_text_holds no_deeper 125 c.args.key.now (string_bytes c.args.text) (view c.args.self.tree) c.args.self.nests);
 }
