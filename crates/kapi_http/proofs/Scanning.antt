@@ -1,6 +1,7 @@
 -- Scans of texts in pieces.
-use Rattle.std.proofs.Common.{◌≡◌, ℕ, ◌+◌, ◌≤◌, suc, Bool, true, false, List, [], ◌∷◌, ◌++◌, length, take, refl, sym, ◌∙◌, arith}
-use Rattle.std.specs.Prelude.{◌==◌}
+use Rattle.std.proofs.Common.{◌≡◌, ℕ, ◌+◌, ◌≤◌, suc, Bool, true, false, List, [], ◌∷◌, ◌++◌, length, take, refl, sym, ap, ◌∙◌, arith}
+use Rattle.std.specs.Prelude.{◌==◌, drop}
+use Rattle.std.specs.List.{position_or_len}
 use Rattle.kapi_http.specs.Scan.{is_ended, lines_ended, scanned, step}
 use Rattle.kapi_http.specs.declared.scan.Place.{Place}
 use Rattle.kapi_http.specs.declared.scan.Place.TheVariants.{Leading, LeadingCr, Inside, LineStart, LineCr, Ended}
@@ -73,3 +74,42 @@ lines_bounded s (b ∷ bytes) h = by_place (is_ended s.place) refl (lines_bounde
         → (scanned s (b ∷ bytes)).lines ≤ (scanned s (b ∷ bytes)).at
     by_place true t more = rw t h
     by_place false t more = rw t more
+
+-- the scan inside of a line
+abbrev inside : ℕ → ℕ → Scan
+inside at lines = record { place = Inside; at = at; lines = lines }
+
+-- how many bytes come before the next LF
+abbrev rest_of_line : List ℕ → ℕ
+rest_of_line bytes = position_or_len (λ b. b == 10) bytes
+
+-- inside of a line only its LF changes the place
+scanned_inside : (bytes : List ℕ) (at lines : ℕ)
+    → scanned (inside (at + rest_of_line bytes) lines) (drop (rest_of_line bytes) bytes) ≡ scanned (inside at lines) bytes
+unfolding scanned
+scanned_inside [] at lines = ap (λ n. inside n lines) (omega arith)
+scanned_inside (b ∷ bytes) at lines = by_byte (b == 10) refl (scanned_inside bytes (at + 1) lines)
+  where
+    Skips : Type 0
+    Skips = scanned (inside (at + rest_of_line (b ∷ bytes)) lines) (drop (rest_of_line (b ∷ bytes)) (b ∷ bytes)) ≡ scanned (inside at lines) (b ∷ bytes)
+
+    by_byte : (t : Bool) → (b == 10) ≡ t
+        → scanned (inside (at + 1 + rest_of_line bytes) lines) (drop (rest_of_line bytes) bytes) ≡ scanned (inside (at + 1) lines) bytes
+        → Skips
+    by_byte true t more =
+        let none : rest_of_line (b ∷ bytes) ≡ 0 = rw t refl in
+        let same : at + 0 ≡ at = omega arith in
+        rw none (ap (λ n. scanned (inside n lines) (b ∷ bytes)) same)
+    by_byte false t more =
+        let k : ℕ = rest_of_line bytes in
+        let some : rest_of_line (b ∷ bytes) ≡ suc k = rw t (omega arith) in
+        let count : at + suc k ≡ at + 1 + k = omega arith in
+        let next : scanned (inside (at + 1) lines) bytes ≡ scanned (inside at lines) (b ∷ bytes) =
+        rw t (ap (λ n. scanned (inside (at + 1) n) bytes) (omega arith)) in
+        rw some (ap (λ n. scanned (inside n lines) (drop k bytes)) count ∙ more ∙ next)
+
+-- the scan of a place inside of a line is that behind the rest of the line
+pub scanned_line : (s : Scan) (bytes : List ℕ) → s.place ≡ Inside
+    → scanned (record { place = Inside; at = s.at + position_or_len (λ b. b == 10) bytes; lines = s.lines }) (drop (position_or_len (λ b. b == 10) bytes) bytes)
+    ≡ scanned s bytes
+scanned_line s bytes h = scanned_inside bytes s.at s.lines ∙ ap (λ p. scanned (record { place = p; at = s.at; lines = s.lines }) bytes) (sym h)

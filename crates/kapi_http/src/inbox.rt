@@ -126,7 +126,10 @@ impl Inbox {
             Ok(request) => {
                 let start = self.start + request.length;
                 // The rest is moved only where it is shorter than what was served before it.
-                if start > self.bytes.len() / 2 {
+                if start >= self.bytes.len() {
+                    self.bytes.clear();
+                    self.start = 0;
+                } else if start > self.bytes.len() / 2 {
                     self.bytes.drain(..start);
                     self.start = 0;
                 } else {

@@ -1,5 +1,6 @@
 //! Where a head ends: its first empty line after the request line.
-ghost use Rattle.std.specs.Prelude.{◌≡◌, ◌+◌, ◌≤◌, length};
+ghost use Rattle.std.specs.Prelude.{◌≡◌, ◌==◌, ◌+◌, ◌≤◌, ◌∷◌, false, length};
+ghost use Rattle.std.specs.List.{position_or_len};
 ghost use Rattle.kapi_http.specs.Scan.{is_ended, lines_ended, next_place, scanned};
 
 /// The place of the next byte in a head.
@@ -70,6 +71,60 @@ fn lines_at(place: Place, byte: u8) -> usize
     }
 }
 
+// How many bytes come before the next LF, or all where there is none.
+fn line_rest(bytes: &[u8]) -> usize
+    ensures exact { result ≡ position_or_len (λ b. b == 10) bytes.now }
+    ensures within { result ≤ length bytes.now }
+{
+    match bytes.iter().position(|byte| *byte == b'\n') {
+        Some(at) => at,
+        None => bytes.len(),
+    }
+}
+
+// The scan behind the rest of the line in which it stands, and the bytes that follow. No byte of a line but its LF
+// changes the place.
+#[tactic(auto, using(crate::proofs::Scanning::scanned_line))]
+fn skip_line(scan: Scan, bytes: &[u8]) -> (Scan, &[u8])
+    requires inside { scan.place ≡ Place.Inside }
+    requires fits { scan.at + length bytes.now ≤ 16384 }
+    ensures exact { scanned result.0 result.1.now ≡ scanned scan bytes.now }
+    ensures lines { result.0.lines ≡ scan.lines }
+    ensures later { scan.at ≤ result.0.at }
+    ensures count { result.0.at + length result.1.now ≡ scan.at + length bytes.now }
+{
+    let skipped = line_rest(bytes);
+    let (_, rest) = bytes.split_at(skipped);
+    let scan = Scan {
+        place: Place::Inside,
+        at: scan.at + skipped,
+        lines: scan.lines,
+    };
+    (scan, rest)
+}
+
+// The scan behind one byte and the rest of the line in which it stands then, if any, and the bytes that follow.
+#[tactic(auto, unfolding(crate::specs::Scan::scanned))]
+fn scan_piece(scan: Scan, byte: u8, rest: &[u8]) -> (Scan, &[u8])
+    requires going { is_ended scan.place ≡ false }
+    requires bounded { scan.lines ≤ scan.at }
+    requires fits { scan.at + 1 + length rest.now ≤ 16384 }
+    ensures exact { scanned result.0 result.1.now ≡ scanned scan (byte ∷ rest.now) }
+    ensures lines { result.0.lines ≤ result.0.at }
+    ensures count { result.0.at + length result.1.now ≡ scan.at + 1 + length rest.now }
+    ensures shorter { length result.1.now ≤ length rest.now }
+{
+    let next = Scan {
+        place: place_after(scan.place, byte),
+        at: scan.at + 1,
+        lines: scan.lines + lines_at(scan.place, byte),
+    };
+    match next.place {
+        Place::Inside => skip_line(next, rest),
+        _ => (next, rest),
+    }
+}
+
 /// Reads on from `scan` over the bytes that follow, up to the end of the head.
 #[tactic(auto, using(crate::proofs::Scanning::scanned_ended), unfolding(crate::specs::Scan::scanned))]
 pub fn scan_on(scan: Scan, bytes: &[u8]) -> Scan
@@ -80,15 +135,14 @@ pub fn scan_on(scan: Scan, bytes: &[u8]) -> Scan
     ensures lines { result.lines ≤ result.at }
 {
     let mut state = scan;
-    for byte in bytes {
+    let mut unread = bytes;
+    while let [byte, rest @ ..] = unread {
         if has_ended(state.place) {
             return state;
         }
-        state = Scan {
-            place: place_after(state.place, *byte),
-            at: state.at + 1,
-            lines: state.lines + lines_at(state.place, *byte),
-        };
+        let (next, after) = scan_piece(state, *byte, rest);
+        state = next;
+        unread = after;
     }
     state
 }

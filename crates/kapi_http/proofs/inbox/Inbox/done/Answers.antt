@@ -20,4 +20,4 @@ pub advance-self-inside-requires-clause-read : goal.advance-self-inside-requires
 advance-self-inside-requires-clause-read c = scanned_none
 
 pub invariant_of-self-in-Err : goal.invariant_of-self-in-Err
-invariant_of-self-in-Err c = empty_tied _ _ c.clear.ensures.items
+invariant_of-self-in-Err c = empty_tied _ _ c.clear-in-Err.ensures.items
