@@ -18,7 +18,7 @@
 # make audit-demo  answers a stored file of questions by a stored policy; it proves nothing
 # make compare-demo  compares two stored policies, and asks of one who may read secrets and who could become anybody; it proves nothing
 # make compare-random  compares random pairs of policies with a plain search (wants python3)
-# make load      proves and builds the program, and prints what a server does under load (wants cc, python3 and wrk)
+# make load      proves and builds the program, and prints what a server does under load (wants cc and python3)
 # make instructions  proves and builds the program, and counts the instructions and allocations of a request (wants python3 and valgrind)
 # make bench     proves and builds the program, and prints what its events and questions cost (wants python3)
 
@@ -106,4 +106,5 @@ instructions: kapi
 
 load: kapi
 	@cc -O2 -o crates/kapi/out/echo tools/echo.c
-	@python3 tools/load.py $(PROGRAM) crates/kapi/out/echo
+	@cc -O2 -o crates/kapi/out/sender tools/sender.c
+	@python3 tools/load.py $(PROGRAM) crates/kapi/out/echo crates/kapi/out/sender

@@ -17,6 +17,8 @@ import sys
 import threading
 import time
 
+from started import started
+
 ROOT, ANN, ANSWER = 18011, 18012, 18013
 GET = b"GET /api/v1/namespaces/default/configmaps HTTP/1.1\r\nHost: a\r\n\r\n"
 GREEDY_CLIENTS, GREEDY_SECONDS = 8, 20
@@ -32,9 +34,7 @@ class Server:
     def __init__(self, program, descriptors=None, load=None):
         limit = (lambda: resource.setrlimit(resource.RLIMIT_NOFILE, (descriptors, descriptors))) if descriptors else None
         words = [program, "serve", "--answer", str(ANSWER), "--readers", "2", *(["--load", load] if load else []), f"{ROOT}=root,system:masters", f"{ANN}=ann"]
-        self.process = subprocess.Popen(words, stdout=subprocess.PIPE, preexec_fn=limit)
-        for _port in (ROOT, ANN, ANSWER):
-            self.process.stdout.readline()
+        self.process = started(words, 3, preexec_fn=limit)
 
     def __enter__(self):
         return self

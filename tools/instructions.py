@@ -14,7 +14,8 @@ import subprocess
 import sys
 import tempfile
 
-from load import ANN, MAPS, ROOT, objects
+from load import ANN, MAPS, ROOT, ask, objects
+from started import started
 
 FEW, MORE, WATCHES = 200, 1_000, 10
 TOOLS = {
@@ -36,12 +37,6 @@ def body(name, number):
     if name is None:
         return ""
     return json.dumps({"metadata": {"name": name.format(number), "namespace": "default"}, "data": {"key": f"{number:>0100}"}})
-
-
-def ask(client, method, path, text):
-    """Sends a request and waits for its answer, which comes in one piece."""
-    client.sendall(f"{method} {path} HTTP/1.1\r\nHost: a\r\nContent-Length: {len(text)}\r\n\r\n{text}".encode())
-    return client.recv(65536)
 
 
 def send(kind, times):
@@ -66,9 +61,7 @@ def counted(program, tool, kind, times):
         file.write("".join(json.dumps(item) + "\n" for item in objects(10, 1)))
         file.flush()
         words = ["valgrind", *options, program, "serve", "--load", file.name, f"{ROOT}=root,system:masters", f"{ANN}=ann"]
-        server = subprocess.Popen(words, stdout=subprocess.PIPE, stderr=subprocess.PIPE, text=True)
-        for _port in (ROOT, ANN):
-            server.stdout.readline()
+        server = started(words, 2, stderr=subprocess.PIPE, text=True)
         send(kind, times)
         server.send_signal(signal.SIGTERM)
         told = server.communicate()[1]

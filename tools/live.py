@@ -8,9 +8,10 @@ allowed, else denied; the number never falls on a connection, and is 101 in the 
 """
 import json
 import socket
-import subprocess
 import sys
 import threading
+
+from started import started
 
 SERVED, ANSWERED = 18001, 18002
 POLICY = "/apis/rbac.authorization.k8s.io/v1/namespaces/default"
@@ -62,9 +63,7 @@ def is_right(told):
 
 def main():
     words = [sys.argv[1], "serve", "--answer", str(ANSWERED), "--readers", "2", f"{SERVED}=root,system:masters"]
-    server = subprocess.Popen(words, stdout=subprocess.PIPE)
-    for _port in (SERVED, ANSWERED):
-        server.stdout.readline()
+    server = started(words, 2)
     told, is_over = ([], []), threading.Event()
     clients = [threading.Thread(target=ask, args=(each, is_over)) for each in told]
     for client in clients:

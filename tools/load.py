@@ -1,18 +1,21 @@
 #!/usr/bin/env python3
-"""Measures a server under load, and prints requests a second and resident memory. Wants wrk.
+"""Measures a server under load, and prints requests a second, processor times and resident memory.
 
-usage: load.py KAPI ECHO     KAPI is the built program, ECHO the built tools/echo.c, which is measured beside it
+usage: load.py KAPI ECHO SENDER     KAPI is the built program; ECHO and SENDER are tools/echo.c, which is measured beside it, and tools/sender.c
 """
 import json
 import os
 import pathlib
 import re
 import socket
+import statistics
 import subprocess
 import sys
 import tempfile
 import threading
 import time
+
+from started import started
 
 MAPS = "/api/v1/namespaces/default/configmaps"
 ROOT, ANN, ECHO = 18001, 18002, 18003
@@ -49,9 +52,7 @@ class Server:
         self.file.write("".join(json.dumps(item) + "\n" for item in [*objects(bindings, maps), *more]))
         self.file.flush()
         words = [program, "serve", "--load", self.file.name, f"{ROOT}=root,system:masters", f"{ANN}=ann"]
-        self.process = subprocess.Popen(words, stdout=subprocess.PIPE)
-        for _port in (ROOT, ANN):
-            self.process.stdout.readline()
+        self.process = started(words, 2)
 
     def __enter__(self):
         return self
@@ -65,51 +66,63 @@ class Server:
         return int(re.search(r"VmRSS:\s+(\d+)", status)[1])
 
 
-def rates(port, path, connections, times=3):
-    """Requests a second, of several runs."""
-    command = ["wrk", f"-t{min(connections, 2)}", f"-c{connections}", "-d4s", f"http://127.0.0.1:{port}{path}"]
-    told = [subprocess.run(command, capture_output=True, text=True).stdout for _time in range(times)]
-    return ", ".join(re.search(r"Requests/sec:\s+(\d+)", text)[1] for text in told)
+def request(method, path, body=""):
+    """The bytes of a request; in nine # the sender writes its number."""
+    length = f"Content-Length: {len(body)}\r\n" if body else ""
+    return f"{method} {path} HTTP/1.1\r\nHost: a\r\n{length}\r\n{body}"
 
 
-# What wrk sends for each kind of request: wrk's own get of the path, or what a script makes, a number of its own in each.
-WRITE = """
-local number = 0
-request = function()
-  number = number + 1
-  return wrk.format("%s", "%s", {["Content-Type"] = "application/json"}, string.format('{"metadata":{"name":"%s","namespace":"default"},"data":{"key":"%s"}}', number))
-end
-"""
+def written(name, value):
+    """A configmap that a request writes."""
+    return json.dumps({"metadata": {"name": name, "namespace": "default"}, "data": {"key": value}})
+
+
+NUMBER = "#" * 9
 KINDS = {
-    "a get": (ANN, f"{MAPS}/map-0", None),
-    "a denied get": (ANN, "/api/v1/namespaces/default/secrets/a", None),
-    "a post": (ROOT, MAPS, WRITE % ("POST", MAPS, "made-%d", "x")),
-    "a put": (ROOT, f"{MAPS}/map-0", WRITE % ("PUT", f"{MAPS}/map-0", "map-0", "%d")),
+    "a get": (ANN, request("GET", f"{MAPS}/map-0")),
+    "a denied get": (ANN, request("GET", "/api/v1/namespaces/default/secrets/a")),
+    "a post": (ROOT, request("POST", MAPS, written(f"made-{NUMBER}", "x"))),
+    "a put": (ROOT, request("PUT", f"{MAPS}/map-0", written("map-0", NUMBER))),
 }
 
 
-def seconds_of(process):
-    """Seconds of processor time of a process."""
-    fields = pathlib.Path(f"/proc/{process.pid}/stat").read_text().rsplit(")", 1)[1].split()
-    return (int(fields[11]) + int(fields[12])) / os.sysconf("SC_CLK_TCK")
-
-
-def time_of_each(process, port, path, script=None):
-    """Microseconds of a process for each request that wrk makes in four seconds over 8 connections."""
-    with tempfile.NamedTemporaryFile("w", suffix=".lua") as file:
-        file.write(script or "")
+def answered(sender, port, text, connections, seconds=4, spins=False):
+    """How many requests the sender got answers to; where it spins it never sleeps."""
+    with tempfile.NamedTemporaryFile("w") as file:
+        file.write(text)
         file.flush()
-        before = seconds_of(process)
-        words = ["wrk", "-t1", "-c8", "-d4s", *(["-s", file.name] if script else []), f"http://127.0.0.1:{port}{path}"]
-        told = subprocess.run(words, capture_output=True, text=True).stdout
-    return (seconds_of(process) - before) * 1_000_000 / int(re.search(r"(\d+) requests in", told)[1])
+        words = [sender, str(port), str(connections), str(seconds), file.name, *(["spin"] if spins else [])]
+        return int(subprocess.run(words, capture_output=True, text=True, check=True).stdout)
 
 
-def beside_the_echo(server, echo, name):
-    """The processor time of a request beside that of the echo, of three pairs of runs in turns."""
-    port, path, script = KINDS[name]
-    pairs = [(time_of_each(server.process, port, path, script), time_of_each(echo, ECHO, "/")) for _pair in range(3)]
-    print(f"{name}, 8 connections, processor time beside the echo's:", ", ".join(f"{ours / theirs:.2f} ({ours:.1f} us)" for ours, theirs in pairs))
+def rates(sender, kind, connections, times=3, port=None):
+    """Requests a second, of several runs."""
+    own, text = KINDS[kind]
+    return ", ".join(str(answered(sender, port or own, text, connections) // 4) for _time in range(times))
+
+
+def seconds_of(process):
+    """Seconds of processor time of a process: its own, and the system's for it."""
+    fields = pathlib.Path(f"/proc/{process.pid}/stat").read_text().rsplit(")", 1)[1].split()
+    return [int(field) / os.sysconf("SC_CLK_TCK") for field in fields[11:13]]
+
+
+def time_of_each(sender, process, port, text, spins):
+    """Microseconds of a process for each request that is answered in four seconds over 8 connections: its own, and the system's."""
+    before = seconds_of(process)
+    count = answered(sender, port, text, 8, 4, spins)
+    return [(after - then) * 1_000_000 / count for after, then in zip(seconds_of(process), before)]
+
+
+def beside_the_echo(sender, program, echo, name, spins):
+    """The processor time of a request beside that of the echo, of five pairs of runs in turns: medians, and each ratio."""
+    port, text = KINDS[name]
+    with Server(program) as server:
+        pairs = [(time_of_each(sender, server.process, port, text, spins), time_of_each(sender, echo, ECHO, text, spins)) for _pair in range(5)]
+    ours, theirs = ([round(statistics.median(times), 1) for times in zip(*side)] for side in zip(*pairs))
+    ratios = sorted(sum(one) / sum(other) for one, other in pairs)
+    print(f"{name}, a sender that {'spins' if spins else 'sleeps'}: {ours} us of its own and of the system, the echo {theirs};",
+          "ratios", *(f"{ratio:.2f}" for ratio in ratios), flush=True)
 
 
 def drip(sockets, is_over):
@@ -123,12 +136,12 @@ def drip(sockets, is_over):
             time.sleep(1 / len(sockets))
 
 
-def beside_slow():
+def beside_slow(sender):
     """Requests a second over one connection while 255 others send one byte a second each."""
     sockets, is_over = [socket.create_connection(("127.0.0.1", ROOT)) for _client in range(255)], threading.Event()
     slow = threading.Thread(target=drip, args=(sockets, is_over))
     slow.start()
-    rate = rates(ANN, f"{MAPS}/map-0", 1, 1)
+    rate = rates(sender, "a get", 1, 1)
     is_over.set()
     slow.join()
     for each in sockets:
@@ -136,10 +149,10 @@ def beside_slow():
     return rate
 
 
-def answer_to(request):
+def answer_to(text):
     """The bytes that ann is answered."""
     client = socket.create_connection(("127.0.0.1", ANN))
-    client.sendall(request.encode())
+    client.sendall(text.encode())
     answer = client.recv(65536)
     client.close()
     return answer
@@ -158,17 +171,25 @@ def change(times):
 
 def ask(client, method, path, body=""):
     """Sends a request and waits for its answer, which comes in one piece."""
-    client.sendall(f"{method} {path} HTTP/1.1\r\nHost: a\r\nContent-Length: {len(body)}\r\n\r\n{body}".encode())
-    return client.recv(65536)
+    client.sendall(request(method, path, body).encode())
+    return whole_answer(client)
+
+
+def whole_answer(client):
+    """An answer with its body; of a watch its head, since that tells no length."""
+    answer = client.recv(65536)
+    while (told := re.search(rb"Content-Length: (\d+)\r\n", answer)) and len(answer.partition(b"\r\n\r\n")[2]) < int(told[1]):
+        answer += client.recv(65536)
+    return answer
 
 
 def cost(server, requests):
     """Microseconds of the server's processor time for each of some requests of root."""
-    client, before = socket.create_connection(("127.0.0.1", ROOT)), seconds_of(server.process)
-    for request in requests:
-        ask(client, *request)
+    client, before = socket.create_connection(("127.0.0.1", ROOT)), sum(seconds_of(server.process))
+    for one in requests:
+        ask(client, *one)
     client.close()
-    return round((seconds_of(server.process) - before) * 1_000_000 / len(requests), 1)
+    return round((sum(seconds_of(server.process)) - before) * 1_000_000 / len(requests), 1)
 
 
 def beside_watches(program, count, namespace, times=10_000):
@@ -198,31 +219,30 @@ KEPT = {
 def kept(program, make, count):
     """The kB resident of a server that has loaded so many more objects, and the microseconds that it took."""
     with Server(program, maps=0, more=[make(number) for number in range(count)]) as server:
-        return server.resident(), round(seconds_of(server.process) * 1_000_000)
+        return server.resident(), round(sum(seconds_of(server.process)) * 1_000_000)
 
 
 def main():
-    program, echo = sys.argv[1:]
+    program, echo, sender = sys.argv[1:]
     with tempfile.NamedTemporaryFile() as reply:
         with Server(program):
-            reply.write(answer_to(f"GET {MAPS}/map-0 HTTP/1.1\r\nHost: a\r\n\r\n"))
+            reply.write(answer_to(KINDS["a get"][1]))
             reply.flush()
-        echo = subprocess.Popen([echo, str(ECHO), reply.name], stdout=subprocess.PIPE)
-        echo.stdout.readline()
-    with Server(program) as server:
+        echo = started([echo, str(ECHO), reply.name], 1)
+    with Server(program):
         for _pair in range(5):
-            print("a get, and the same bytes from an echo, 8 connections:", rates(ANN, f"{MAPS}/map-0", 8, 1), rates(ECHO, "/", 8, 1))
-        print("a denied get, 10 bindings:", rates(ANN, "/api/v1/namespaces/default/secrets/a", 8))
-    for name in KINDS:
-        with Server(program) as server:
-            beside_the_echo(server, echo, name)
+            print("a get, and the same bytes from an echo, 8 connections:", rates(sender, "a get", 8, 1), rates(sender, "a get", 8, 1, ECHO))
+        print("a denied get, 10 bindings:", rates(sender, "a denied get", 8))
+    for spins in (False, True):
+        for name in KINDS:
+            beside_the_echo(sender, program, echo, name, spins)
     echo.kill()
-    with Server(program, bindings=10_000) as server:
-        print("a denied get, 10,000 bindings:", rates(ANN, "/api/v1/namespaces/default/secrets/a", 8))
-    with Server(program) as server:
+    with Server(program, bindings=10_000):
+        print("a denied get, 10,000 bindings:", rates(sender, "a denied get", 8))
+    with Server(program):
         for _pair in range(5):
-            alone = rates(ANN, f"{MAPS}/map-0", 1, 1)
-            print("a get over 1 connection, alone and beside 255 that send one byte a second:", alone, beside_slow())
+            alone = rates(sender, "a get", 1, 1)
+            print("a get over 1 connection, alone and beside 255 that send one byte a second:", alone, beside_slow(sender))
     with Server(program) as server:
         watcher = socket.create_connection(("127.0.0.1", ANN))
         watcher.sendall(f"GET {MAPS}?watch=1 HTTP/1.1\r\nHost: a\r\n\r\n".encode())

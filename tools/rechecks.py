@@ -9,8 +9,9 @@ the second one goes on. The exit status is 1 where it is otherwise.
 """
 import json
 import socket
-import subprocess
 import sys
+
+from started import started
 
 ROOT, ANN = 18011, 18012
 ROLES = "/apis/rbac.authorization.k8s.io/v1/namespaces/default"
@@ -90,10 +91,8 @@ def slow(root, rechecks):
 
 def scene(kapi, rechecks):
     words = [kapi, "serve", *["--recheck-watches"] * rechecks, f"{ROOT}=root,system:masters", f"{ANN}=ann"]
-    server = subprocess.Popen(words, stdout=subprocess.PIPE)
+    server = started(words, 2)
     try:
-        for _port in (ROOT, ANN):
-            server.stdout.readline()
         root = socket.create_connection(("127.0.0.1", ROOT))
         for path, item in ((MAPS, {"metadata": {"name": "a"}}), (ROLES + "/roles", ROLE), (ROLES + "/rolebindings", BINDING)):
             request(root, "POST", path, item)

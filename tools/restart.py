@@ -8,7 +8,6 @@ where it is told 410, as client-go's does. The exit status is 1 where its cache 
 """
 import json
 import pathlib
-import subprocess
 import sys
 import tempfile
 import threading
@@ -16,6 +15,8 @@ import time
 
 import urllib3
 from kubernetes import client, watch
+
+from started import started
 
 SERVED, DOOR = 18021, 18022
 SECONDS = 10
@@ -30,8 +31,7 @@ def start(program, number):
     with tempfile.NamedTemporaryFile("w", suffix=".jsonl", delete=False) as file:
         file.writelines(json.dumps(it) + "\n" for it in objects(number))
     words = [program, "serve", "--load", file.name, "--first-revision", "clock", f"{SERVED}=root,system:masters"]
-    process = subprocess.Popen(words, stdout=subprocess.PIPE)
-    process.stdout.readline()
+    process = started(words, 1)
     pathlib.Path(file.name).unlink()
     return process
 
@@ -85,8 +85,7 @@ def is_right_after(informer, number):
 
 
 def main(program):
-    door = subprocess.Popen([sys.executable, pathlib.Path(__file__).with_name("door.py"), str(DOOR), str(SERVED)], stdout=subprocess.PIPE)
-    door.stdout.readline()
+    door = started([sys.executable, pathlib.Path(__file__).with_name("door.py"), str(DOOR), str(SERVED)], 1)
     informer, server, wrong = Informer(), None, 0
     for number in (40, 20, 80, 0):
         if server:
