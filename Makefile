@@ -20,6 +20,7 @@
 # make compare-random  compares random pairs of policies with a plain search (wants python3)
 # make load      proves and builds the program, and prints what a server does under load (wants cc and python3)
 # make instructions  proves and builds the program, and counts the instructions and allocations of a request (wants python3 and valgrind)
+# make samples    proves and builds the program, and tells in which parts of it the time of a request goes (wants cc, python3 and perf)
 # make bench     proves and builds the program, and prints what its events and questions cost (wants python3)
 
 SCRIPTS ?= scripts
@@ -29,7 +30,7 @@ KUBECTL ?= kubectl
 PROGRAM = crates/kapi/out/kapi
 PROVED = crates/kapi/out/proved
 
-.PHONY: pages audit-demo compare-demo compare-random demo replay test kapi install serve serve-demo edits growths live missing rechecks hostile restart kubectl-demo statuses bench load instructions
+.PHONY: pages audit-demo compare-demo compare-random demo replay test kapi install serve serve-demo edits growths live missing rechecks hostile restart kubectl-demo statuses bench load instructions samples
 
 demo:
 	@echo 'Compiles the program without proofs, in one to three minutes, and plays scripts/demo.txt: each event (>) with its answer below.'
@@ -103,6 +104,10 @@ bench: kapi
 
 instructions: kapi
 	@python3 tools/instructions.py $(PROGRAM)
+
+samples: kapi
+	@cc -O2 -o crates/kapi/out/sender tools/sender.c
+	@python3 tools/samples.py $(PROGRAM) crates/kapi/out/sender
 
 load: kapi
 	@cc -O2 -o crates/kapi/out/echo tools/echo.c
