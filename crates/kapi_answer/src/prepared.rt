@@ -1,6 +1,6 @@
 ghost use Rattle.std.specs.Prelude.{◌≡◌, None};
 
-use crate::watch::Watching;
+use crate::kept_watch::KeptWatch;
 use kapi_reply::WrittenReply;
 use kapi_store::Ready;
 
@@ -10,7 +10,7 @@ pub struct Prepared {
     pub reply: WrittenReply,
     pub write: Option<Ready>,
     /// The watch whose head the reply is.
-    pub watch: Option<Watching>,
+    pub watch: Option<KeptWatch>,
 }
 
 impl Prepared {

@@ -1,7 +1,7 @@
 ghost use Rattle.std.specs.Prelude.{◌≡◌, Some};
 ghost use Rattle.kapi_http.specs.Inbox.{after_next, next_of};
 
-use kapi_answer::Watching;
+use kapi_answer::KeptWatch;
 use kapi_http::{HttpFault, HttpRequest, Inbox};
 use kapi_model::Identity;
 
@@ -11,12 +11,12 @@ use kapi_model::Identity;
 pub struct Connection {
     pub identity: Identity,
     pub inbox: Inbox,
-    pub watching: Option<Watching>,
+    pub watching: Option<KeptWatch>,
 }
 
 impl Connection {
     /// Takes the first item out, and shows this watch from now on, if there is one.
-    pub fn finish(&mut self, item: &Result<HttpRequest, HttpFault>, watching: Option<Watching>)
+    pub fn finish(&mut self, item: &Result<HttpRequest, HttpFault>, watching: Option<KeptWatch>)
         requires { next_of self.old.inbox ≡ Some item.now }
         ensures { self.new ≡ record self.old { inbox = after_next self.old.inbox item.now; watching = watching } }
     {

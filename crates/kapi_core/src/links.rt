@@ -9,7 +9,7 @@ ghost use Rattle.kapi_http.specs.Inbox.{after_next, next_of};
 ghost use Rattle.kapi_core.specs.declared.connection.Connection.{Connection as Linked};
 
 use crate::connection::Connection;
-use kapi_answer::{After, Watching};
+use kapi_answer::{After, KeptWatch};
 use kapi_http::{FeedError, HttpFault, HttpRequest};
 use kapi_watch::Place;
 use std::collections::BTreeMap;
@@ -33,7 +33,7 @@ pub fn finish_request(
     links: &mut BTreeMap<u64, Connection>,
     id: u64,
     item: &Result<HttpRequest, HttpFault>,
-    watching: Option<Watching>,
+    watching: Option<KeptWatch>,
 )
     requires { (c : Linked) → lookup (is_at (nat_cmp id)) links.old.entries ≡ Some c → next_of c.inbox ≡ Some item.now }
     ensures { (c : Linked) → lookup (is_at (nat_cmp id)) links.old.entries ≡ Some c
@@ -63,7 +63,7 @@ fn move_at(links: &mut BTreeMap<u64, Connection>, id: u64, place: Place)
 {
     if let Some(connection) = links.get_mut(&id) {
         if let Some(watching) = &mut connection.watching {
-            watching.watch.shown(place);
+            watching.shown(place);
         }
     }
 }

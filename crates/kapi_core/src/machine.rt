@@ -254,6 +254,7 @@ impl<P: Policy + Drop> Core<P> {
         let Some(watching) = &connection.watching else {
             return Ok(None);
         };
+        let watching = watching.get();
         let Next { event, place } = watching.watch.next(&self.store);
         let event = recheck(&self.policy, self.rechecks, watching, event);
         let Some(event) = event else {
@@ -277,7 +278,7 @@ impl<P: Policy + Drop> Core<P> {
             return None;
         };
         match &connection.watching {
-            Some(watching) => Some(concern_of_scope(watching.watch.scope())),
+            Some(watching) => Some(concern_of_scope(watching.get().watch.scope())),
             None => None,
         }
     }

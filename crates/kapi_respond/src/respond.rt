@@ -15,7 +15,7 @@ use kapi_answer::create::create;
 use kapi_answer::delete::delete;
 use kapi_answer::health::health;
 use kapi_answer::{
-    Outcome, Passed, Plan, Prepared, Watching, authorize, impersonate, plan_for, replace,
+    KeptWatch, Outcome, Passed, Plan, Prepared, Watching, authorize, impersonate, plan_for, replace,
 };
 use kapi_http::{HttpFault, HttpRequest};
 use kapi_model::Identity;
@@ -200,17 +200,18 @@ fn watching(
     attributes: &Attributes,
     close: bool,
     watch: Watch,
-) -> Result<Watching, Memory>
+) -> Result<KeptWatch, Memory>
     ensures { IfOk result (λ w. w ≡ record { watch = watch; close = close; identity = identity.now; attributes = attributes.now }) }
 {
     let identity = identity.copy(alloc)?;
     let attributes = attributes.copy(alloc)?;
-    Ok(Watching {
+    let watching = Watching {
         watch,
         close,
         identity,
         attributes,
-    })
+    };
+    KeptWatch::new(alloc, watching)
 }
 
 /// The checks of a request whose attributes are known, in their order; the first that fails decides. The write is

@@ -2,6 +2,7 @@ use Rattle.std.proofs.Common.{◌≡◌, None, Some, ap, sym, subst, ◌∙◌}
 use Rattle.std.specs.BTreeMap.{is_at}
 use Rattle.std.specs.Map.{lookup}
 use Rattle.std.specs.Ordering.{nat_cmp}
+use Rattle.kapi_answer.specs.declared.watch.Watching.{Watching}
 use Rattle.kapi_watch.specs.declared.scope.Scope.{Scope}
 use Rattle.kapi_core.proofs.Concerned.{concern_idle, concern_nowhere, concern_there}
 use Rattle.kapi_core.specs.Concerns.{concern_of}
@@ -17,6 +18,7 @@ pub returns-in-Some-watching : goal.returns-in-Some-watching
 returns-in-Some-watching g c = λ m h.
     let P : Running → Type 0 = λ r. lookup (is_at (nat_cmp c.args.conn.0)) r.connections ≡ Some c.in-Some.connection.now in
     ap Some (c.concern_of_scope.ensures ∙ ap (λ (s : Scope). concern_of s.row.group s.row.plural s.namespace) c.scope.ensures)
+    ∙ ap (λ (w : Watching). Some (concern_of w.watch.scope.row.group w.watch.scope.row.plural w.watch.scope.namespace)) c.get-in-Some-watching.ensures
     ∙ concern_there c.args.self.now m c.args.conn.0 c.in-Some.connection.now c.in-Some-watching.watching (subst P c.self.view_is (sym c.in-Some.ensures.value)) c.in-Some-watching.is h
 
 pub returns-in-None : goal.returns-in-None

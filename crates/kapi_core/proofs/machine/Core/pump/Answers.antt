@@ -33,15 +33,16 @@ pub returns-in_default-event : goal.returns-in_default-event
 returns-in_default-event g c =
     let old : Running = record { store = c.self.inside.store; policy = g.P.Policy.content c.self.inside.policy; marks = c.self.inside.tracker; connections = c.self.inside.connections.entries; next_id = c.self.inside.next_id; rechecks = c.self.inside.rechecks } in
     let linked = c.in-Some.connection.now in
-    let watching = c.in-Some-watching.watching in
+    let watching = c.get-watching.result.now in
+    let shows = c.in-Some-watching.is ∙ ap Some (sym c.get-watching.ensures) in
     let there = sym c.in-Some.ensures.value in
     let P : Running → Type 0 = λ r. Makes r (record old { connections = c.advance_watch.new.links.entries }) (event.Pump c.args.conn) told.Nothing in
     subst P c.self.view_is
     (λ m h. made_for old.store old.policy old.marks old.connections old.next_id old.rechecks m old.store old.policy old.marks c.advance_watch.new.links.entries old.next_id old.rechecks (event.Pump c.args.conn) told.Nothing h
-    (pumped_nothing old.store old.policy old.marks old.connections c.advance_watch.new.links.entries old.next_id old.rechecks c.args.conn linked watching c.next.result.place there c.in-Some-watching.is
+    (pumped_nothing old.store old.policy old.marks old.connections c.advance_watch.new.links.entries old.next_id old.rechecks c.args.conn linked watching c.next.result.place there shows
     (λ cs p w stands is. ap (option_map (event_reply_of p w)) (ap (option_map event_of) (sym c.in_default-event.is) ∙ c.recheck-event.ensures cs p w is
     ∙ ap (rechecked old.rechecks old.policy w) (c.next.ensures.event cs p w.watch stands is.0)))
-    (λ cs p w stands is. (c.next.ensures.place cs p w.watch stands is.0, is.1, is.2, is.3)) (c.advance_watch.ensures linked watching there c.in-Some-watching.is)))
+    (λ cs p w stands is. (c.next.ensures.place cs p w.watch stands is.0, is.1, is.2, is.3)) (c.advance_watch.ensures linked watching there shows)))
 
 pub returns-in_err-reply : goal.returns-in_err-reply
 returns-in_err-reply g c =
@@ -53,7 +54,8 @@ returns g c =
     let old : Running = record { store = c.self.inside.store; policy = g.P.Policy.content c.self.inside.policy; marks = c.self.inside.tracker; connections = c.self.inside.connections.entries; next_id = c.self.inside.next_id; rechecks = c.self.inside.rechecks } in
     let links = c.advance_watch-2.new.links.entries in
     let linked = c.in-Some.connection.now in
-    let watching = c.in-Some-watching.watching in
+    let watching = c.get-watching.result.now in
+    let shows = c.in-Some-watching.is ∙ ap Some (sym c.get-watching.ensures) in
     let reply = c.in_ok-reply.reply in
     let there = sym c.in-Some.ensures.value in
     let Told : Running → Bool → List PolicyChange → Type 0 = λ r close changes. Makes r (record old { connections = links }) (event.Pump c.args.conn) (told.Sent (record { bytes = reply.bytes; close = close; policy_changes = changes })) in
@@ -64,8 +66,8 @@ returns g c =
     (subst Q (sym c.nothing.ensures)
     (subst R (sym c.closes.ensures)
     (λ m h. made_for old.store old.policy old.marks old.connections old.next_id old.rechecks m old.store old.policy old.marks links old.next_id old.rechecks (event.Pump c.args.conn) _ h
-    (pumped_event old.store old.policy old.marks old.connections links old.next_id old.rechecks c.args.conn linked watching reply c.next.result.place there c.in-Some-watching.is
+    (pumped_event old.store old.policy old.marks old.connections links old.next_id old.rechecks c.args.conn linked watching reply c.next.result.place there shows
     (λ cs p w stands is. ap Some (c.in_ok-reply.ensures cs p w stands is)
     ∙ ap (option_map (event_reply_of p w)) (ap (option_map event_of) (sym c.in-Some-event.is) ∙ c.recheck-event.ensures cs p w is
     ∙ ap (rechecked old.rechecks old.policy w) (c.next.ensures.event cs p w.watch stands is.0)))
-    (λ cs p w stands is. (c.next.ensures.place cs p w.watch stands is.0, is.1, is.2, is.3)) (c.advance_watch-2.ensures linked watching there c.in-Some-watching.is)))))
+    (λ cs p w stands is. (c.next.ensures.place cs p w.watch stands is.0, is.1, is.2, is.3)) (c.advance_watch-2.ensures linked watching there shows)))))

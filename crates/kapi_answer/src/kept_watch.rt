@@ -1,0 +1,48 @@
+ghost use Rattle.std.specs.Prelude.{◌≡◌, IfOk};
+ghost use Rattle.kapi_watch.specs.Running.{at_place};
+
+use crate::watch::Watching;
+use kapi_text::Memory;
+use kapi_watch::Place;
+use std::alloc::Global;
+use std::marker::Model;
+
+/// The watch that a connection shows, in a block of its own: an answer that starts none, and a connection that shows
+/// none, are moved without the room for it.
+#[derive(Drop)]
+pub struct KeptWatch {
+    block: Box<Watching>,
+}
+
+impl Model for KeptWatch {
+    ghost use Rattle.kapi_answer.specs.declared.watch.Watching.{Watching as Watched};
+
+    ghost Value = { Watched };
+
+    ghost view = { λ k. k.block.value };
+}
+
+impl KeptWatch {
+    /// Takes a watch over.
+    pub fn new(alloc: Global, watching: Watching) -> Result<KeptWatch, Memory>
+        ensures { IfOk result (λ k. k ≡ watching) }
+    {
+        Ok(KeptWatch {
+            block: Box::new(alloc, watching)?,
+        })
+    }
+
+    /// The watch, borrowed.
+    pub fn get(&self) -> &Watching
+        ensures { result.now ≡ self.now }
+    {
+        &self.block
+    }
+
+    /// Moves the watch to a place.
+    pub fn shown(&mut self, place: Place)
+        ensures { self.new ≡ record self.old { watch = at_place self.old.watch place } }
+    {
+        self.block.watch.shown(place);
+    }
+}
