@@ -1,6 +1,6 @@
 # make demo      plays scripts/demo.txt and shows it as a transcript, each event with its answer; it proves nothing (wants python3)
 # make replay    plays the stored transcript of a policy; it proves nothing
-# make test      the gate: every proof, but what an earlier run on this machine passed over the same files, the must-fail edits, the tests and the program's stored run
+# make test      the gate: every proof, but where the kit keeps what an earlier run on this machine passed over the same files, the must-fail edits, the tests and the program's stored run
 # make kapi      says where the program lies that `make test` proved and built of these sources; where there is none, runs it
 # make install   proves and builds the program and copies it to PREFIX/bin, which is /usr/local/bin if PREFIX is not named
 # make serve     proves and builds the program, and starts it as a server on 127.0.0.1: port 8001 for root, port 8002 for ann
