@@ -59,6 +59,7 @@ impl Model for Inbox {
 }
 
 impl Inbox {
+    ghost use Rattle.std.specs.Prelude.{drop};
     ghost use Rattle.kapi_http.specs.Inbox.{after_next, next_of};
     ghost use Rattle.kapi_http.specs.Limits.{kept_limit};
 
@@ -123,20 +124,7 @@ impl Inbox {
         ensures { self.new ≡ after_next self.old item.now }
     {
         match item {
-            Ok(request) => {
-                let start = self.start + request.length;
-                // The rest is moved only where it is shorter than what was served before it.
-                if start >= self.bytes.len() {
-                    self.bytes.clear();
-                    self.start = 0;
-                } else if start > self.bytes.len() / 2 {
-                    self.bytes.drain(..start);
-                    self.start = 0;
-                } else {
-                    self.start = start;
-                }
-                self.progress = advance(BEGIN, &self.bytes[self.start..], &mut self.parts);
-            }
+            Ok(request) => self.pass(request.length),
             Err(_) => {
                 self.bytes.clear();
                 self.start = 0;
@@ -144,5 +132,34 @@ impl Inbox {
                 self.ended = true;
             }
         }
+    }
+
+    /// Goes on behind so many bytes, which were served.
+    fn pass(&mut self, served: usize)
+        requires { served ≤ length self.old.kept }
+        ensures { self.new ≡ record { kept = drop served self.old.kept; ended = self.old.ended } }
+    {
+        if served < self.bytes.len() - self.start {
+            return self.keep_behind(served);
+        }
+        self.bytes.clear();
+        self.start = 0;
+        self.progress = NOTHING_READ;
+    }
+
+    /// Keeps the bytes behind the first ones, and reads them again.
+    fn keep_behind(&mut self, served: usize)
+        requires { served ≤ length self.old.kept }
+        ensures { self.new ≡ record { kept = drop served self.old.kept; ended = self.old.ended } }
+    {
+        let start = self.start + served;
+        // The rest is moved only where it is shorter than what was served before it.
+        if start > self.bytes.len() / 2 {
+            self.bytes.drain(..start);
+            self.start = 0;
+        } else {
+            self.start = start;
+        }
+        self.progress = advance(BEGIN, &self.bytes[self.start..], &mut self.parts);
     }
 }

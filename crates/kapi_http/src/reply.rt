@@ -42,7 +42,11 @@ fn body_length(body: &Option<Sequence<u8>>) -> usize
 fn write_status(out: &mut String, code: StatusCode) -> Result<(), Memory>
     ensures { OnOk result (string_bytes out.new ≡ string_bytes out.old ++ status_line code) }
 {
-    write!(out, "HTTP/1.1 {} {}\r\n", code.number(), code.phrase())
+    out.push_str("HTTP/1.1 ")?;
+    write!(out, "{}", code.number())?;
+    out.push_str(" ")?;
+    out.push_str(code.phrase())?;
+    out.push_str("\r\n")
 }
 
 fn write_type(out: &mut String, plain: bool) -> Result<(), Memory>
@@ -71,7 +75,9 @@ fn write_framing(out: &mut String, chunked: bool, body: &Option<Sequence<u8>>) -
 fn write_length(out: &mut String, body: &[u8]) -> Result<(), Memory>
     ensures { OnOk result (string_bytes out.new ≡ string_bytes out.old ++ framing_line false (Some body.now)) }
 {
-    write!(out, "Content-Length: {}\r\n", body.len())
+    out.push_str("Content-Length: ")?;
+    write!(out, "{}", body.len())?;
+    out.push_str("\r\n")
 }
 
 #[tactic(auto, using(std::proofs::Common::append_assoc))]
