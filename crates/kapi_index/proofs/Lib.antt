@@ -1,3 +1,4 @@
+pub mod Looks
 pub mod Finds
 pub mod Changed
 pub mod Reindexed

@@ -29,7 +29,7 @@ pub type Bindings = BTreeMap<Text, Bound>;
 
 /// The number of looks, at a binding or at one of its subjects, up to which a walk over all bindings is faster than
 /// looking up a user and the user's groups.
-const FEW_LOOKS: usize = 64;
+const FEW_LOOKS: usize = 8;
 
 /// The bindings of one namespace by name, or, where the namespace is empty, the cluster-wide ones.
 #[derive(Drop)]
@@ -238,10 +238,15 @@ fn first_name<'a>(
     found
 }
 
-/// Whether a walk over the bindings takes few looks. It looks itself at no more bindings than that.
+/// Whether a walk over the bindings takes few looks. It looks itself at no more bindings than that, and at none where they
+/// are more.
+#[tactic(auto, using(crate::proofs::Looks::a_look_for_each))]
 fn takes_few_looks(bindings: &Bindings) -> bool
-    ensures { result ≡ nat_le (looks (bare bindings.now.entries)) 64 }
+    ensures { result ≡ nat_le (looks (bare bindings.now.entries)) 8 }
 {
+    if bindings.len() > FEW_LOOKS {
+        return false;
+    }
     let mut left = FEW_LOOKS;
     for (_name, bound) in bindings {
         let subjects = bound.binding.subjects.as_slice().len();
@@ -299,7 +304,7 @@ impl Scope {
 
     /// Whether checking each binding is faster than looking up those that match an identity.
     pub fn has_few(&self) -> bool
-        ensures { result ≡ nat_le (looks self.now.bindings) 64 }
+        ensures { result ≡ nat_le (looks self.now.bindings) 8 }
     {
         takes_few_looks(&self.bindings)
     }
