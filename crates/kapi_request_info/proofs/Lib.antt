@@ -1,4 +1,6 @@
 pub mod OnLiterals
 pub mod Paths
+pub mod Plain
+pub mod Queries
 pub mod Slashes
 pub mod Written

@@ -1,16 +1,17 @@
 //! The segments of a path (RFC 3986 sections 2.1 and 3.3).
-ghost use Rattle.std.specs.Prelude.{◌≡◌, ◌==◌, ◌<◌, [], ◌∷◌, drop, length, ok_or, IfOk, IfSome, IsNone};
+ghost use Rattle.std.specs.Prelude.{◌≡◌, ◌==◌, ◌<◌, nat_le, true, false, not, ◌&&◌, ◌||◌, if◌then◌else◌, [], ◌∷◌, ◌++◌, codes, drop, length, ok_or, Ok, Err, IfOk, IfSome, IsNone, IsTrue};
 ghost use Rattle.std.specs.List.{slice_split, list_all, position_from};
 ghost use Rattle.std.specs.Option.{option_copied};
+ghost use Rattle.std.specs.Str.{bytes_eq};
 ghost use Rattle.percent_encoding.specs.Percent.{percent_decode as decoded_of};
 ghost use Rattle.kapi_text.specs.Gives.{Gives};
-ghost use Rattle.kapi_request_info.specs.Faults.{bad_escape, fault_of};
+ghost use Rattle.kapi_request_info.specs.Faults.{bad_path, bad_escape, fault_of};
 ghost use Rattle.kapi_request_info.specs.Path.{has_slash as has_slash_of, names_something as names_something_of, without_last_empty as without_last_empty_of};
 ghost use Rattle.kapi_request_info.specs.Path.{begins_with_digits as begins_with_digits_of, has_whole_escapes as has_whole_escapes_of, pieces as pieces_of, text_in as text_in_of, texts as texts_of, segments as segments_of};
 
 use crate::attributes::InfoError;
 use kapi_text::Memory;
-use percent_encoding::percent_decode;
+use percent_encoding::{ascii_str, percent_decode};
 use std::alloc::Global;
 use std::borrow::{CowSlice, CowStr};
 use std::marker::Model;
@@ -68,8 +69,59 @@ impl<'a> Piece<'a> {
 }
 
 /// The decoded segments of a path, a last empty one left out.
-#[tactic(auto, unfolding(crate::specs::Path::segments))]
 pub fn segments(alloc: Global, path: &[u8]) -> Result<Vec<Segment<'_>>, InfoError>
+    ensures { Gives fault_of (λ v. v.items) result (segments_of path.now) }
+{
+    if is_plain(path) {
+        plain_segments(alloc, path)
+    } else {
+        decoded_segments(alloc, path)
+    }
+}
+
+/// Whether a path is ASCII without a `%`, so that each byte stands for itself (RFC 3986 section 2.1).
+#[tactic(auto, using(crate::proofs::Plain::plain_from_looks))]
+fn is_plain(path: &[u8]) -> bool
+    ensures { IsTrue result → list_all (λ b. nat_le b 127 && not (b == 37)) path.now ≡ true }
+{
+    path.is_ascii() && !path.contains(&b'%')
+}
+
+/// The segments of a path whose bytes stand for themselves: its parts between slashes, borrowed.
+#[tactic(auto, using(crate::proofs::Plain::plain_start, crate::proofs::Plain::plain_fault, crate::proofs::Plain::plain_end, crate::proofs::Plain::plain_last, crate::proofs::Plain::plain_sides))]
+fn plain_segments(alloc: Global, path: &[u8]) -> Result<Vec<Segment<'_>>, InfoError>
+    requires { list_all (λ b. nat_le b 127 && not (b == 37)) path.now ≡ true }
+    ensures { Gives fault_of (λ v. v.items) result (segments_of path.now) }
+{
+    let mut segments = Vec::with_capacity(alloc, USUAL_PIECES)?;
+    let mut rest = behind_first(path);
+    while let Some((part, after)) = split_at_slash(rest) {
+        segments.push(plain_segment(part)?)?;
+        rest = after;
+    }
+    if !rest.is_empty() {
+        segments.push(plain_segment(rest)?)?;
+    }
+    Ok(segments)
+}
+
+/// A part of such a path as a segment, which must name something.
+#[tactic(auto, using(crate::proofs::Plain::plain_is_ascii))]
+fn plain_segment(part: &[u8]) -> Result<Segment<'_>, InfoError>
+    requires plain { list_all (λ b. nat_le b 127 && not (b == 37)) part.now ≡ true }
+    requires slashless { has_slash_of part.now ≡ false }
+    ensures { Gives fault_of (λ s. s) result (if names_something_of part.now then Ok part.now else Err bad_path) }
+{
+    if is_empty_or_dots(part) {
+        return Err(InfoError::BadPath);
+    }
+    let text = CowStr::Borrowed(ascii_str(part));
+    Ok(Segment { text })
+}
+
+/// The segments of a path, each decoded.
+#[tactic(auto, unfolding(crate::specs::Path::segments))]
+fn decoded_segments(alloc: Global, path: &[u8]) -> Result<Vec<Segment<'_>>, InfoError>
     ensures { Gives fault_of (λ v. v.items) result (segments_of path.now) }
 {
     let pieces = pieces(alloc, path)?;
@@ -107,11 +159,14 @@ fn behind_first(path: &[u8]) -> &[u8]
 }
 
 /// The bytes before the first slash, and those behind it.
-#[tactic(auto, using(kapi_http::proofs::Lists::split_found, kapi_http::proofs::Lists::split_not_found))]
+#[tactic(auto, using(kapi_http::proofs::Lists::split_found, kapi_http::proofs::Lists::split_not_found, crate::proofs::Plain::slash_joins, crate::proofs::Plain::none_before, crate::proofs::Plain::no_slash_at_all))]
 fn split_at_slash(path: &[u8]) -> Option<(&[u8], &[u8])>
     ensures none { IsNone result → slice_split (λ b. b == 47) path.now ≡ path.now ∷ [] }
     ensures split { IfSome result (λ x. slice_split (λ b. b == 47) path.now ≡ x.0.now ∷ slice_split (λ b. b == 47) x.1.now) }
     ensures shorter { IfSome result (λ x. length x.1.now < length path.now) }
+    ensures joined { IfSome result (λ x. x.0.now ++ 47 ∷ x.1.now ≡ path.now) }
+    ensures slashless { IfSome result (λ x. has_slash_of x.0.now ≡ false) }
+    ensures last { IsNone result → has_slash_of path.now ≡ false }
 {
     match slash_at(path) {
         Some(at) => {
@@ -164,9 +219,13 @@ fn all_name_something(segments: &[Piece<'_>]) -> bool
 fn names_something(segment: &[u8]) -> bool
     ensures { result ≡ names_something_of segment.now }
 {
-    !segment.is_empty()
-        && (!(segment == b".".as_slice())
-            && (!(segment == b"..".as_slice()) && !has_slash(segment)))
+    !is_empty_or_dots(segment) && !has_slash(segment)
+}
+
+fn is_empty_or_dots(segment: &[u8]) -> bool
+    ensures { result ≡ (length segment.now == 0 || (bytes_eq segment.now (codes ".") || bytes_eq segment.now (codes ".."))) }
+{
+    segment.is_empty() || (segment == b".".as_slice() || segment == b"..".as_slice())
 }
 
 fn has_slash(segment: &[u8]) -> bool

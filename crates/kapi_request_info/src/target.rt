@@ -64,10 +64,15 @@ fn behind_authority(rest: &[u8]) -> &[u8]
 }
 
 /// The text before the first `?`, and the query behind it, which is empty where there is none (RFC 3986 section 3.4).
+#[tactic(auto, using(crate::proofs::Queries::before_no_query, crate::proofs::Queries::after_no_query))]
 fn split_query(text: &[u8]) -> (&[u8], &[u8])
     ensures before { result.0.now ≡ before_first (λ b. b == 63) text.now }
     ensures after { result.1.now ≡ after_first (λ b. b == 63) text.now }
 {
+    // Most targets have none, and this look takes many bytes at once.
+    if !text.contains(&b'?') {
+        return (text, &[]);
+    }
     match text.iter().position(|byte| *byte == b'?') {
         Some(at) => (&text[..at], &text[at + 1..]),
         None => (text, &[]),
