@@ -3,7 +3,7 @@ ghost use Rattle.kapi_request_info.specs.Attributes.{info as info_of};
 ghost use Rattle.kapi_request_info.specs.Given.{GivesInfo};
 ghost use Rattle.kapi_request_info.specs.Slashes.{HasNoSlash};
 
-use crate::path::segments;
+use crate::path::ascii_segments;
 use crate::query::{QueryPair, query_pairs};
 use crate::resource::attributes_by;
 use crate::target::split_target;
@@ -79,13 +79,13 @@ impl<T: Drop> From<AllocFailed<T>> for InfoError {
 }
 
 /// The attributes of a request, or the first fault of its target. A resource and a subresource have no slash.
-#[tactic(auto, unfolding(crate::specs::Attributes::info))]
+#[tactic(auto, using(crate::proofs::Queries::path_is_ascii), unfolding(crate::specs::Attributes::info))]
 pub fn info(alloc: Global, method: Method, target: &str) -> Result<Attributes, InfoError>
     ensures exact { GivesInfo result (info_of method target.now) }
     ensures slashless { IfOk result (λ a. HasNoSlash a.point) }
 {
     let (path, query) = split_target(target.as_bytes())?;
-    let segments = segments(alloc, path)?;
+    let segments = ascii_segments(alloc, path)?;
     let query = query_pairs(alloc, query)?;
     attributes_by(alloc, method, path, segments.as_slice(), query)
 }

@@ -1,8 +1,8 @@
 //! The segments of a path (RFC 3986 sections 2.1 and 3.3).
-ghost use Rattle.std.specs.Prelude.{◌≡◌, ◌==◌, ◌<◌, nat_le, true, false, not, ◌&&◌, ◌||◌, if◌then◌else◌, [], ◌∷◌, ◌++◌, codes, drop, length, ok_or, Ok, Err, IfOk, IfSome, IsNone, IsTrue};
+ghost use Rattle.std.specs.Prelude.{◌≡◌, ◌==◌, ◌<◌, nat_le, true, false, not, ◌&&◌, ◌||◌, if◌then◌else◌, [], ◌∷◌, ◌++◌, codes, drop, length, ok_or, Ok, Err, IfOk, IfSome, IsNone};
 ghost use Rattle.std.specs.List.{slice_split, list_all, position_from};
 ghost use Rattle.std.specs.Option.{option_copied};
-ghost use Rattle.std.specs.Str.{bytes_eq};
+ghost use Rattle.std.specs.Str.{IsAscii, bytes_eq};
 ghost use Rattle.percent_encoding.specs.Percent.{percent_decode as decoded_of};
 ghost use Rattle.kapi_text.specs.Gives.{Gives};
 ghost use Rattle.kapi_request_info.specs.Faults.{bad_path, bad_escape, fault_of};
@@ -68,26 +68,21 @@ impl<'a> Piece<'a> {
     }
 }
 
-/// The decoded segments of a path, a last empty one left out.
-pub fn segments(alloc: Global, path: &[u8]) -> Result<Vec<Segment<'_>>, InfoError>
+/// The decoded segments of a path of ASCII, as each target's is; a path without a `%` needs no decoding.
+#[tactic(auto, using(crate::proofs::Plain::plain_from_looks))]
+pub(crate) fn ascii_segments(alloc: Global, path: &[u8]) -> Result<Vec<Segment<'_>>, InfoError>
+    requires { IsAscii path.now }
     ensures { Gives fault_of (λ v. v.items) result (segments_of path.now) }
 {
-    if is_plain(path) {
-        plain_segments(alloc, path)
+    if path.contains(&b'%') {
+        segments(alloc, path)
     } else {
-        decoded_segments(alloc, path)
+        plain_segments(alloc, path)
     }
 }
 
-/// Whether a path is ASCII without a `%`, so that each byte stands for itself (RFC 3986 section 2.1).
-#[tactic(auto, using(crate::proofs::Plain::plain_from_looks))]
-fn is_plain(path: &[u8]) -> bool
-    ensures { IsTrue result → list_all (λ b. nat_le b 127 && not (b == 37)) path.now ≡ true }
-{
-    path.is_ascii() && !path.contains(&b'%')
-}
-
-/// The segments of a path whose bytes stand for themselves: its parts between slashes, borrowed.
+/// The segments of a path of ASCII without a `%`, so that each byte stands for itself (RFC 3986 section 2.1): its parts
+/// between slashes, borrowed.
 #[tactic(auto, using(crate::proofs::Plain::plain_start, crate::proofs::Plain::plain_fault, crate::proofs::Plain::plain_end, crate::proofs::Plain::plain_last, crate::proofs::Plain::plain_sides))]
 fn plain_segments(alloc: Global, path: &[u8]) -> Result<Vec<Segment<'_>>, InfoError>
     requires { list_all (λ b. nat_le b 127 && not (b == 37)) path.now ≡ true }
@@ -119,9 +114,9 @@ fn plain_segment(part: &[u8]) -> Result<Segment<'_>, InfoError>
     Ok(Segment { text })
 }
 
-/// The segments of a path, each decoded.
+/// The decoded segments of a path, a last empty one left out.
 #[tactic(auto, unfolding(crate::specs::Path::segments))]
-fn decoded_segments(alloc: Global, path: &[u8]) -> Result<Vec<Segment<'_>>, InfoError>
+pub fn segments(alloc: Global, path: &[u8]) -> Result<Vec<Segment<'_>>, InfoError>
     ensures { Gives fault_of (λ v. v.items) result (segments_of path.now) }
 {
     let pieces = pieces(alloc, path)?;
