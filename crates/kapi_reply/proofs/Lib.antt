@@ -1,2 +1,2 @@
-pub mod Floats
-pub mod Members
+pub mod Appended
+pub mod StatusTexts

@@ -1,22 +1,20 @@
 //! The table of refusals: the whole failure of each.
 ghost use Rattle.std.specs.Prelude.{◌≡◌, [], ◌++◌, codes, map as map_of, string_bytes, IfOk};
 ghost use Rattle.std.specs.Option.{option_map};
-ghost use Rattle.serde_json.specs.View.{view};
 ghost use Rattle.kapi_reply.specs.Refusals as table;
 ghost use Rattle.kapi_reply.specs.Refusals.{denied_text, escalation_text, fault_failure};
-ghost use Rattle.kapi_reply.specs.Views.{asked_data, failure_data, subject_data};
+ghost use Rattle.kapi_reply.specs.Views.{asked_data, cause_data, failure_data, subject_data};
 
 use crate::refusal::{NamedRole, OldRevision, Refusal, Revisions, Sought};
 use crate::reply::Asked;
 use crate::status::{
-    Failure, Subject, changed_role_ref, invalid_fields, missing_atoms, missing_permission,
+    Cause, Failure, Subject, changed_role_ref, invalid_fields, missing_atoms, missing_permission,
     missing_permissions,
 };
 use kapi_http::{Method, StatusCode};
 use kapi_model::FieldFault;
 use kapi_rules::{Atom, Point};
 use kapi_text::Memory;
-use serde_json::Value;
 use std::alloc::Global;
 
 /// The methods that the server knows.
@@ -327,9 +325,9 @@ fn invalid(
     alloc: Global,
     asked: Asked<'_>,
     name: &str,
-    causes: Vec<Value>,
+    causes: Vec<Cause>,
 ) -> Result<Failure, Memory>
-    ensures { IfOk result (λ f. failure_data f ≡ table.invalid (asked_data asked.entry) name.now (map_of view causes.items)) }
+    ensures { IfOk result (λ f. failure_data f ≡ table.invalid (asked_data asked.entry) name.now (map_of cause_data causes.items)) }
 {
     Ok(Failure {
         code: StatusCode::UnprocessableContent,

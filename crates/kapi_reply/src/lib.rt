@@ -5,6 +5,8 @@ mod failure;
 pub mod refusal;
 pub mod reply;
 mod status;
+mod tokens;
+mod written;
 
 pub use refusal::{
     BadWord, CheckError, NamedRole, OldRevision, Place, Refusal, Refused, Revisions, Sought,

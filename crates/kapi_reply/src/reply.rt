@@ -1,8 +1,7 @@
 //! Replies with JSON bodies, and the replies to refused requests.
-ghost use Rattle.std.specs.Prelude.{◌≡◌, false, Some, map as map_of, IfOk};
+ghost use Rattle.std.specs.Prelude.{◌≡◌, Some, IfOk};
 ghost use Rattle.std.specs.Option.{option_map};
-ghost use Rattle.serde_json.specs.View.{items_of, view};
-ghost use Rattle.serde_json.specs.Written.{compact_text, items_have_float};
+ghost use Rattle.serde_json.specs.Written.{compact_text};
 ghost use Rattle.kapi_reply.specs.Refusals as table;
 ghost use Rattle.kapi_reply.specs.Replies as replies;
 ghost use Rattle.kapi_reply.specs.Replies.{json_reply, sent};
@@ -11,11 +10,16 @@ ghost use Rattle.kapi_reply.specs.Views.{asked_data, failure_data, subject_data}
 
 use crate::failure::{bad_request, expired, failure_of, failure_of_fault, name_of, subject_of};
 use crate::refusal::{BadWord, OldRevision, Refused};
-use crate::status::{Failure, Subject, deletion_status, failure_status};
+use crate::status::{Failure, Subject};
+use crate::written::{write_deletion, write_status};
+use json::Writer;
 use kapi_http::{HttpFault, Method, Reply, StatusCode, write_reply};
 use kapi_request_info::Attributes;
 use kapi_text::{Memory, Sequence};
 use std::alloc::Global;
+
+/// The room that the text of most Status objects does not outgrow.
+const STATUS_ROOM: usize = 512;
 
 /// The bytes of a reply on a connection.
 #[derive(Debug, Drop)]
@@ -145,7 +149,7 @@ pub fn refusal_text(alloc: Global, asked: Asked<'_>, refused: &Refused) -> Resul
 {
     let name = name_in(asked, refused);
     let failure = failure_of(alloc, asked, name, &refused.why)?;
-    status_text(alloc, subject_of(&asked.attributes.point, name), failure)
+    status_text(alloc, subject_of(&asked.attributes.point, name), &failure)
 }
 
 /// The name of the object that a refusal is about.
@@ -173,24 +177,30 @@ fn failure_reply(
     close: bool,
     failure: Failure,
 ) -> Result<WrittenReply, Memory>
-    requires { items_have_float (items_of (map_of view failure.causes.items)) ≡ false }
     ensures { IfOk result (λ o. o ≡ replies.failure_reply (option_map subject_data subject.entry) close (failure_data failure)) }
 {
-    let (code, allow) = (failure.code, failure.allow);
-    let body = status_text(alloc, subject, failure)?;
-    send(alloc, code, allow, close, Some(Sequence::new(body)))
+    let body = status_text(alloc, subject, &failure)?;
+    send(
+        alloc,
+        failure.code,
+        failure.allow,
+        close,
+        Some(Sequence::new(body)),
+    )
 }
 
 /// The Status object of a failure as JSON text.
+#[tactic(auto, using(crate::proofs::StatusTexts::print_outline))]
 fn status_text(
     alloc: Global,
     subject: Option<Subject<'_>>,
-    failure: Failure,
+    failure: &Failure,
 ) -> Result<Vec<u8>, Memory>
-    requires { items_have_float (items_of (map_of view failure.causes.items)) ≡ false }
-    ensures { IfOk result (λ b. b.items ≡ compact_text (status_of (option_map subject_data subject.entry) (failure_data failure))) }
+    ensures { IfOk result (λ b. b.items ≡ compact_text (status_of (option_map subject_data subject.entry) (failure_data failure.now))) }
 {
-    failure_status(alloc, subject, failure)?.to_vec(alloc)
+    let mut out = Writer::new(Vec::with_capacity(alloc, STATUS_ROOM)?);
+    write_status(&mut out, subject, failure)?;
+    Ok(out.into_inner())
 }
 
 /// The Status object for a watch that cannot go on, as JSON text: changes after its revision may be kept no longer.
@@ -202,15 +212,18 @@ pub fn expired_text(
     ensures { IfOk result (λ b. b.items ≡ compact_text (status_of (Some (subject_data subject.entry)) (table.expired old))) }
 {
     let failure = expired(alloc, old)?;
-    status_text(alloc, Some(subject), failure)
+    status_text(alloc, Some(subject), &failure)
 }
 
 /// The Status object for a deletion, as JSON text: its subject, and the uid of what was deleted (Kubernetes API
 /// conventions, 'Response Status Kind').
+#[tactic(auto, using(crate::proofs::StatusTexts::print_outline))]
 pub fn deletion_text(alloc: Global, subject: Subject<'_>, uid: &str) -> Result<Vec<u8>, Memory>
     ensures { IfOk result (λ b. b.items ≡ compact_text (deleted_status (subject_data subject.entry) uid.now)) }
 {
-    deletion_status(alloc, subject, uid)?.to_vec(alloc)
+    let mut out = Writer::new(Vec::with_capacity(alloc, STATUS_ROOM)?);
+    write_deletion(&mut out, subject, uid)?;
+    Ok(out.into_inner())
 }
 
 /// The reply to bytes that are no request; it ends the connection.
@@ -236,5 +249,5 @@ fn fault_body(
     if fault.no_body {
         return Ok(None);
     }
-    Ok(Some(Sequence::new(status_text(alloc, None, failure)?)))
+    Ok(Some(Sequence::new(status_text(alloc, None, &failure)?)))
 }
