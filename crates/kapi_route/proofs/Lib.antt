@@ -1,1 +1,2 @@
 mod Semicolons
+mod Rows

@@ -106,10 +106,12 @@ fn find_row<'a>(
     table.iter().find(|row| is_row_of(row, attributes, point))
 }
 
+#[tactic(auto, using(crate::proofs::Rows::last_first))]
 fn is_row_of(row: &ResourceRow, attributes: &Attributes, point: &ResourcePoint) -> bool
     ensures { result ≡ routes.is_row_of attributes.now.version point.now row.now }
 {
-    row.group == point.group && (row.version == attributes.version && row.plural == point.resource)
+    // Rows differ most in the resource.
+    row.plural == point.resource && (row.group == point.group && row.version == attributes.version)
 }
 
 #[tactic(auto, unfolding(crate::specs::Route::on_row))]
