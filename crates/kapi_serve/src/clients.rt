@@ -1,4 +1,4 @@
-ghost use Rattle.std.specs.Prelude.{◌≡◌, ◌<◌, ◌+◌, ℕ, [], ◌∷◌, ◌++◌, drop, true, None, IfSome, OnOk, ◌==◌, length, map, option_map, suc, vec_len, vec_capacity};
+ghost use Rattle.std.specs.Prelude.{◌≡◌, ◌<◌, ◌≤◌, ◌+◌, ℕ, List, Option, [], ◌∷◌, ◌++◌, drop, true, None, IfSome, OnOk, ◌==◌, length, map, option_map, suc, vec_len, vec_capacity};
 ghost use Rattle.std.specs.List.{HoldsAt, position};
 ghost use Rattle.kapi_core.specs.Concerns.{concern_on, is_among, is_concerned};
 ghost use Rattle.kapi_core.specs.Machine.{Machine, link_at};
@@ -241,13 +241,33 @@ impl Clients {
         ensures woken { self.new.woken ≡ self.old.woken }
         ensures roused { result ≡ true → AreCalled (option_map (λ v. v.items) concerned.now) (length self.new.list.items) self.new.list.items }
     {
-        let (mut all, count) = (true, self.list.len());
-        for index in 0..count {
-            if !self.rouse(index, concerned) {
+        let (mut all, mut from) = (true, 0);
+        while let Some(index) = self.first_called(from, concerned) {
+            if !self.rouse(index) {
                 all = false;
             }
+            from = index + 1;
         }
         all
+    }
+
+    /// The place of the next connection, from a place on, whose watch is one of those, or which has one where there is no
+    /// list of them. Most watches see nothing of a change, so what is done for each of them is this look alone.
+    #[tactic(auto, using(crate::proofs::Tending::called_kept))]
+    fn first_called(&self, from: usize, concerned: &Option<Vec<u64>>) -> Option<usize>
+        ensures bound { IfSome result (λ i. i < length self.now.list.items) }
+        ensures later { IfSome result (λ i. from ≤ i) }
+        ensures passed { IfSome result (λ i. AreCalled (option_map (λ v. v.items) concerned.now) from self.now.list.items
+            → AreCalled (option_map (λ v. v.items) concerned.now) i self.now.list.items) }
+        ensures none { result ≡ None → AreCalled (option_map (λ v. v.items) concerned.now) from self.now.list.items
+            → AreCalled (option_map (λ v. v.items) concerned.now) (length self.now.list.items) self.now.list.items }
+    {
+        for index in from..self.list.len() {
+            if self.list[index].is_called(concerned) {
+                return Some(index);
+            }
+        }
+        None
     }
 
     /// The fingerprints of the watches that the changes since the last waking may concern, or none where all are to be woken:
@@ -261,19 +281,18 @@ impl Clients {
         core.concerned_after(self.woken)
     }
 
-    /// Wakes a connection, if its watch is one of those, or there is no list of them. False where memory does not suffice.
-    fn rouse(&mut self, index: usize, concerned: &Option<Vec<u64>>) -> bool
+    /// Wakes a connection whose watch is one of those, or which has one where there is no list of them. False where memory
+    /// does not suffice.
+    #[tactic(auto, using(crate::proofs::Tending::called_set))]
+    fn rouse(&mut self, index: usize) -> bool
         requires { index < length self.old.list.items }
         ensures seats { seats_of self.new.list.items ≡ seats_of self.old.list.items }
         ensures count { length self.new.list.items ≡ length self.old.list.items }
         ensures stands { (m : Machine) → Stands m self.old → Stands m self.new }
         ensures woken { self.new.woken ≡ self.old.woken }
-        ensures roused { result ≡ true → AreCalled (option_map (λ v. v.items) concerned.now) index self.old.list.items
-            → AreCalled (option_map (λ v. v.items) concerned.now) (suc index) self.new.list.items }
+        ensures roused { result ≡ true → (concerned : Option (List ℕ)) → AreCalled concerned index self.old.list.items
+            → AreCalled concerned (suc index) self.new.list.items }
     {
-        if !self.list[index].is_called(concerned) {
-            return true;
-        }
         if self.awake.add(self.list[index].id).is_err() {
             return false;
         }

@@ -13,5 +13,5 @@ returns-clause-seats c = seats_same c.args.self.now.list.items c.args.index _ c.
 pub returns-clause-stands : goal.returns-clause-stands
 returns-clause-stands c = λ m s.
     stands_roused m c.args.self.now.list.items c.args.self.now.awake.numbers.items c.add.new.self.numbers.items c.args.index c.index_mut.result.now c.requires c.index_mut.ensures.value
-    (subst (λ z. Has c.add.new.self.numbers.items z.id.0) (c.index-2.ensures ∙ get_or_default c.args.self.now.list.items c.args.index _ c.index_mut.result.now c.requires)
+    (subst (λ z. Has c.add.new.self.numbers.items z.id.0) (c.index.ensures ∙ get_or_default c.args.self.now.list.items c.args.index _ c.index_mut.result.now c.requires)
     (has_contained _ _ (on_ok _ _ c.add.ensures.there (sym c.is_err.ensures.value ∙ c.if-is_err.false)))) c.add.ensures.others s
