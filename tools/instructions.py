@@ -1,11 +1,12 @@
 #!/usr/bin/env python3
-"""Counts what a request costs a server: instructions of the processor and allocations, by kind. Wants valgrind.
+"""Counts what a request costs a server: instructions of the processor, also by part, and allocations, by kind. Wants valgrind.
 
 usage: instructions.py KAPI..     each KAPI is a built program
 
 Each figure is the difference of a run of 1,000 requests more: of one connection, with eleven bindings. An event is what a
-put costs more for each of ten watches that see it.
+put costs more for each of ten watches that see it. A part is that of samples.py, without the system's.
 """
+import collections
 import json
 import re
 import signal
@@ -15,15 +16,14 @@ import sys
 import tempfile
 
 from load import ANN, MAPS, ROOT, ask, objects
+from samples import part_of
 from started import started
 
 FEW, MORE, WATCHES = 200, 1_000, 10
-TOOLS = {
-    "instructions": (["--tool=callgrind", "--callgrind-out-file=/dev/null"], r"Collected : (\d+)"),
-    "allocations": (["--tool=memcheck", "--undef-value-errors=no"], r"total heap usage: ([\d,]+) allocs"),
-}
+NAMED = re.compile(r"(fn|ob|cfn|cob)=(\(\d+\))(?: (.*))?")
 DENIED = "/api/v1/namespaces/default/secrets/a"
 KINDS = {
+    "a health request": (ROOT, "GET", "/healthz", None, 0),
     "a get": (ANN, "GET", f"{MAPS}/map-0", None, 0),
     "a denied get": (ANN, "GET", DENIED, None, 0),
     "a put": (ROOT, "PUT", f"{MAPS}/map-0", "map-0", 0),
@@ -54,9 +54,8 @@ def send(kind, times):
         each.close()
 
 
-def counted(program, tool, kind, times):
-    """What the tool counts of a server that answers so many requests."""
-    options, pattern = TOOLS[tool]
+def told_by(program, options, kind, times):
+    """What valgrind tells on standard error of a server that answers so many requests."""
     with tempfile.NamedTemporaryFile("w") as file:
         file.write("".join(json.dumps(item) + "\n" for item in objects(10, 1)))
         file.flush()
@@ -64,16 +63,51 @@ def counted(program, tool, kind, times):
         server = started(words, 2, stderr=subprocess.PIPE, text=True)
         send(kind, times)
         server.send_signal(signal.SIGTERM)
-        told = server.communicate()[1]
-    return int(re.search(pattern, told)[1].replace(",", ""))
+        return server.communicate()[1]
+
+
+def own_costs(lines):
+    """The instructions of each part, read off a file of callgrind's: those of each function, without those of what it calls."""
+    names, costs, function, place, is_of_callee = {}, collections.Counter(), "", "", False
+    for line in lines:
+        if named := NAMED.match(line):
+            kind, number, name = named.groups()
+            name = names.setdefault((kind[-2:], number), name)
+            function, place = (name if kind == "fn" else function), (name if kind == "ob" else place)
+        elif line.startswith("calls="):
+            is_of_callee = True
+        elif line[0] in "0123456789+-*":
+            if not is_of_callee:
+                costs[part_of(place.rpartition("/")[2], function)] += int(line.split()[1])
+            is_of_callee = False
+    return costs
+
+
+def instructions(program, kind, times):
+    with tempfile.NamedTemporaryFile("r") as told:
+        told_by(program, ["--tool=callgrind", f"--callgrind-out-file={told.name}"], kind, times)
+        return own_costs(line for line in told if line.strip())
+
+
+def allocations(program, kind, times):
+    told = told_by(program, ["--tool=memcheck", "--undef-value-errors=no"], kind, times)
+    return collections.Counter(allocations=int(re.search(r"total heap usage: ([\d,]+) allocs", told)[1].replace(",", "")))
+
+
+def for_each(count, program, kind):
+    """What each request more costs, by part."""
+    more = count(program, kind, FEW + MORE)
+    more.subtract(count(program, kind, FEW))
+    return {part: cost / MORE for part, cost in more.most_common()}
 
 
 def main():
     for program in sys.argv[1:]:
         print(program)
         for name, kind in KINDS.items():
-            each = {tool: (counted(program, tool, kind, FEW + MORE) - counted(program, tool, kind, FEW)) / MORE for tool in TOOLS}
-            print(f"  {name}:", ", ".join(f"{figure:,.1f} {tool}" for tool, figure in each.items()), flush=True)
+            parts = for_each(instructions, program, kind)
+            print(f"  {name}: {sum(parts.values()):,.0f} instructions, {for_each(allocations, program, kind)['allocations']:,.1f} allocations")
+            print("   ", ", ".join(f"{part} {cost:,.0f}" for part, cost in parts.items() if cost >= 50), flush=True)
 
 
 if __name__ == "__main__":

@@ -79,6 +79,7 @@ def written(name, value):
 
 NUMBER = "#" * 9
 KINDS = {
+    "a health request": (ROOT, request("GET", "/healthz")),
     "a get": (ANN, request("GET", f"{MAPS}/map-0")),
     "a denied get": (ANN, request("GET", "/api/v1/namespaces/default/secrets/a")),
     "a post": (ROOT, request("POST", MAPS, written(f"made-{NUMBER}", "x"))),
@@ -170,14 +171,16 @@ def change(times):
 
 
 def ask(client, method, path, body=""):
-    """Sends a request and waits for its answer, which comes in one piece."""
+    """Sends a request and waits for its answer."""
     client.sendall(request(method, path, body).encode())
     return whole_answer(client)
 
 
 def whole_answer(client):
-    """An answer with its body; of a watch its head, since that tells no length."""
+    """An answer with its body, in whatever pieces it comes; of a watch its head, since that tells no length."""
     answer = client.recv(65536)
+    while b"\r\n\r\n" not in answer:
+        answer += client.recv(65536)
     while (told := re.search(rb"Content-Length: (\d+)\r\n", answer)) and len(answer.partition(b"\r\n\r\n")[2]) < int(told[1]):
         answer += client.recv(65536)
     return answer
