@@ -122,7 +122,13 @@ impl Object {
     pub fn stamped(self, alloc: Global, uid: String, version: String) -> Result<Object, Memory>
         ensures { IfOk result (λ o. tree_of o ≡ stamped_tree (string_bytes uid) (string_bytes version) (tree_of self)) }
     {
-        self.with_text(alloc, "uid", uid)?
-            .with_text(alloc, "resourceVersion", version)
+        self.with_text(alloc, "uid", uid)?.versioned(alloc, version)
+    }
+
+    /// The object at a version: with that text as `metadata.resourceVersion`.
+    pub fn versioned(self, alloc: Global, version: String) -> Result<Object, Memory>
+        ensures { IfOk result (λ o. tree_of o ≡ trees.with_text (codes "resourceVersion") (string_bytes version) (tree_of self)) }
+    {
+        self.with_text(alloc, "resourceVersion", version)
     }
 }
