@@ -10,6 +10,7 @@ use Rattle.std.specs.Cmp.Lexicographic.{slice_cmp, nat_list_cmp_total}
 use Rattle.json.specs.Json as json
 use Rattle.json.specs.Lex.{tokens}
 use Rattle.serde_json.specs.Data.{Data, number, array, object, Items, item, Members, no_members, member, put}
+use Rattle.serde_json.specs.Find.{get_member}
 use Rattle.serde_json.specs.Read.{read, of_json, of_items, of_members, number_of, max_depth}
 use Rattle.kapi_tree.specs.Order.{precedes, is_ordered, are_ordered, in_order}
 use Rattle.kapi_tree.specs.Tree.{filter_members, without}
@@ -79,6 +80,12 @@ filter_in_order passes (member l d ms) h =
     ]
 
 -- a key that comes before all of the members is none of theirs
+pub none_found : (key : List ℕ) (ms : Members) → precedes key ms ≡ true → get_member key ms ≡ None
+none_found key no_members p = refl
+none_found key (member l d ms) p =
+    let less : slice_cmp nat_cmp key l ≡ Less = is_less (slice_cmp nat_cmp key l) (first_so (is_lt (slice_cmp nat_cmp key l)) (precedes key ms) p) in
+    rw less (none_found key ms (second_so (is_lt (slice_cmp nat_cmp key l)) (precedes key ms) p))
+
 pub none_removed : (key : List ℕ) (ms : Members) → precedes key ms ≡ true → without key ms ≡ ms
 none_removed key no_members p = refl
 none_removed key (member l d ms) p =

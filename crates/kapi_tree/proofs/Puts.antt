@@ -1,11 +1,20 @@
 -- Members after others were put, and lists that are read as they were written.
-use Rattle.std.proofs.Common.{◌≡◌, ◌∙◌, ℕ, List, [], ◌∷◌, Option, Some, None, false, refl, sym, ap, bytes_eq, true≢false, length}
+use Rattle.std.proofs.Common.{◌≡◌, ◌∙◌, ℕ, List, [], ◌∷◌, Option, Some, None, option_map, MutBor, true, false, cond, string_bytes, refl, sym, ap, bytes_eq, true≢false, length}
 use Rattle.std.proofs.Math.Dec.{eqb-suc-zero}
 use Rattle.std.proofs.lemmas.Slice.Eq.{bytes_eq-Decides}
+use Rattle.std.specs.BTreeMap.{is_at}
+use Rattle.std.specs.Cmp.Lexicographic.{slice_cmp}
+use Rattle.std.specs.Map.{lookup, set_value}
 use Rattle.std.specs.Option.{option_and_then}
-use Rattle.serde_json.proofs.Views.{get_member-put, get_member-put_other}
+use Rattle.std.specs.Ordering.{nat_cmp, is_eq, match_ordering}
+use Rattle.std.specs.declared.cmp.Ordering.TheVariants.{Less, Equal, Greater}
+use Rattle.serde_json.proofs.Views.{Entry, get_member-put, get_member-put_other, view_of_mut, view-lookup}
 use Rattle.serde_json.specs.Data.{Data, null, string, object, Items, no_items, item, Members, no_members, member, put}
 use Rattle.serde_json.specs.Find.{get_member}
+use Rattle.serde_json.specs.View.{view, members_view}
+use Rattle.serde_json.specs.declared.value.Value.{Value}
+use Rattle.kapi_tree.proofs.Ordered.{key_first, none_found, others_in_order, precedes_too}
+use Rattle.kapi_tree.specs.Order.{in_order}
 use Rattle.kapi_tree.specs.Contents.{items_if, items_at, read_items, write_items, put_items, text_if, text_of, text_value, list_value, members_value}
 use Rattle.kapi_tree.specs.Tree.{put_if, unless_null}
 
@@ -24,6 +33,26 @@ put_if_other q k (Some d) ms h = put_other q k d ms h
 pub put_if_here : (k : List ℕ) (o : Option Data) (ms : Members) → get_member k ms ≡ None → get_member k (put_if k o ms) ≡ o
 put_if_here k None ms h = h
 put_if_here k (Some d) ms h = get_member-put k d ms
+
+-- what a look-up among a map's entries finds and lends
+pub place_found : (key : List ℕ) (es : List Entry) (r : Option (MutBor Value)) → option_map (λ x. x.now) r ≡ lookup (is_at (λ k. slice_cmp nat_cmp key (string_bytes k))) es
+    → option_map (λ x. view x.now) r ≡ get_member key (members_view es)
+place_found key es r h = view_of_mut r ∙ ap (option_map view) h ∙ view-lookup key es
+
+-- a value that takes the place of the one that was found
+pub members_view_set : (key : List ℕ) (v : Value) (old : Data) (es : List Entry) → in_order (members_view es) ≡ true → Some old ≡ get_member key (members_view es)
+    → members_view (set_value (is_at (λ k. slice_cmp nat_cmp key (string_bytes k))) es v) ≡ put key (view v) (members_view es)
+members_view_set key v old [] h there = absurd (cc there)
+members_view_set key v old (e ∷ es) h there =
+    let k : List ℕ = string_bytes e.0 in
+    let ms : Members = members_view es in
+    let rest : List Entry = set_value (is_at (λ j. slice_cmp nat_cmp key (string_bytes j))) es v in
+    elim (slice_cmp nat_cmp key k) as (λ o. slice_cmp nat_cmp key k ≡ o → Some old ≡ match_ordering o (get_member key ms) (Some (view e.1)) (get_member key ms)
+    → members_view (cond (is_eq o) ((e.0, v) ∷ es) (e ∷ rest)) ≡ match_ordering o (member key (view v) (member k (view e.1) ms)) (member k (view v) ms) (member k (view e.1) (put key (view v) ms))) [
+      | Less ↦ λ is found. absurd (cc (none_found key ms (precedes_too key k ms is (key_first k (view e.1) ms h)), found))
+      | Equal ↦ λ is found. refl
+      | Greater ↦ λ is found. ap (member k (view e.1)) (members_view_set key v old es (others_in_order k (view e.1) ms h) found)
+    ] refl there
 
 -- ---- what is never null
 

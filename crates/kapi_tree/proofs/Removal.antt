@@ -1,5 +1,5 @@
 -- Members without one of them.
-use Rattle.std.proofs.Common.{◌≡◌, ◌∙◌, ℕ, List, [], ◌∷◌, Bool, true, false, not, if◌then◌else◌, Some, codes, cond, bytes_eq, true≢false, refl, sym, ap, subst, String, Global, string_bytes}
+use Rattle.std.proofs.Common.{◌≡◌, ◌∙◌, ℕ, List, [], ◌∷◌, Bool, true, false, not, if◌then◌else◌, Some, cond, bytes_eq, true≢false, refl, sym, ap, subst, String, Global, string_bytes}
 use Rattle.std.proofs.lemmas.Map.Text.{is_eq-slice_cmp}
 use Rattle.std.proofs.lemmas.Slice.Eq.{bytes_eq-Decides}
 use Rattle.std.specs.BTreeMap.{is_at}
@@ -9,15 +9,14 @@ use Rattle.std.specs.Map.{remove_entry}
 use Rattle.std.specs.Ordering.{nat_cmp, is_eq, is_lt, match_ordering}
 use Rattle.std.specs.declared.cmp.Ordering.{Ordering}
 use Rattle.std.specs.declared.cmp.Ordering.TheVariants.{Less, Equal, Greater}
-use Rattle.serde_json.specs.Data.{Data, string, object, Members, no_members, member, put}
+use Rattle.serde_json.specs.Data.{Data, Members, no_members, member, put}
 use Rattle.serde_json.specs.Find.{get_member}
 use Rattle.serde_json.specs.View.{view, members_view}
 use Rattle.serde_json.specs.declared.value.Value.{Value}
 use Rattle.kapi_tree.proofs.Closed.{members_hold}
-use Rattle.kapi_tree.proofs.Metadata.{in_object}
 use Rattle.kapi_tree.proofs.Ordered.{is_less, keys_in_order, none_removed, key_first, others_in_order, precedes_too, precedes_filter}
 use Rattle.kapi_tree.specs.Order.{in_order, is_ordered, precedes}
-use Rattle.kapi_tree.specs.Tree.{members_or_none, metadata_of, with_text, without}
+use Rattle.kapi_tree.specs.Tree.{members_or_none, without}
 
 abbrev pub Entry : Type 0
 Entry = String Global × Value
@@ -101,14 +100,6 @@ put_back k d (member l e ms) h =
       | Greater ↦ λ is. rw (equal Greater is, is) (ap (member l e) (put_back k d ms (others_in_order l e ms h)))
     ] refl
 
--- the metadata with a text, put back where they were taken out
-pub text_put_back : (key text : List ℕ) (d : Data) → is_ordered d ≡ true
-    → object (put (codes "metadata") (object (put key (string text) (members_or_none (get_member (codes "metadata") (members_or_none (Some d))))))
-    (without (codes "metadata") (members_or_none (Some d)))) ≡ with_text key text d
-text_put_back key text d h =
-    let ms : Members = members_or_none (Some d) in
-    rw (in_object (codes "metadata") d)
-    (ap object (put_back (codes "metadata") (object (put key (string text) (metadata_of d))) ms (members_hold keys_in_order 0 d h)))
-
+-- the members of an ordered tree
 pub members_are_in_order : (d : Data) → is_ordered d ≡ true → in_order (members_or_none (Some d)) ≡ true
 members_are_in_order d h = members_hold keys_in_order 0 d h

@@ -1,7 +1,7 @@
 ghost use Rattle.kapi_tree.specs.Order.{is_ordered, in_order};
 ghost use Rattle.std.specs.Prelude.{◌≡◌, true, IfOk, IfSome, OnOk, Some, codes, option_map, string_bytes};
 ghost use Rattle.serde_json.specs.Find.{get, get_member};
-ghost use Rattle.serde_json.specs.Data.{object, put as put_member};
+ghost use Rattle.serde_json.specs.Data.{object, string, put as put_member};
 ghost use Rattle.serde_json.specs.View.{view, members_view};
 ghost use Rattle.kapi_tree.specs.Tree.{metadata_member, member_of, members_or_none, put_if};
 ghost use Rattle.kapi_tree.specs.Tree as trees;
@@ -96,16 +96,54 @@ pub fn put_entry(members: &mut Map<String, Value>, key: String, value: Value) ->
     Ok(())
 }
 
+/// Sets the member of a key in its place; the key is copied only where it is new.
+fn set_member(
+    alloc: Global,
+    members: &mut Map<String, Value>,
+    key: &str,
+    value: Value,
+) -> Result<(), Memory>
+    requires { in_order (members_view members.old.entries) ≡ true }
+    ensures { OnOk result (members_view members.new.entries ≡ put_member key.now (view value) (members_view members.old.entries)) }
+{
+    match members.get_mut(key) {
+        Some(place) => {
+            *place = value;
+            Ok(())
+        }
+        None => put(members, alloc, key, value),
+    }
+}
+
+/// Sets a text among the members of an object; anything else becomes an object that has no other.
+fn set_text(alloc: Global, tree: &mut Value, key: &str, text: String) -> Result<(), Memory>
+    requires { in_order (members_or_none (Some (view tree.old))) ≡ true }
+    ensures { OnOk result (view tree.new
+        ≡ object (put_member key.now (string (string_bytes text)) (members_or_none (Some (view tree.old))))) }
+{
+    if let Value::Object(members) = tree {
+        return set_member(alloc, members, key, Value::String(text));
+    }
+    let mut members = Map::new(alloc);
+    put(&mut members, alloc, key, Value::String(text))?;
+    *tree = Value::Object(members);
+    Ok(())
+}
+
 /// The tree with one text set in its metadata; nothing of it is copied.
-#[tactic(auto, using(crate::proofs::Removal::members_are_in_order))]
 pub fn with_text(alloc: Global, tree: Value, key: &str, text: String) -> Result<Value, Memory>
     requires { is_ordered (view tree) ≡ true }
     ensures { IfOk result (λ v. view v ≡ trees.with_text key.now (string_bytes text) (view tree)) }
 {
     let mut members = into_members(alloc, tree);
-    let (name, mut metadata) = take_metadata(alloc, &mut members)?;
-    put(&mut metadata, alloc, key, Value::String(text))?;
-    put_entry(&mut members, name, Value::Object(metadata))?;
+    match members.get_mut("metadata") {
+        Some(metadata) => set_text(alloc, metadata, key, text)?,
+        None => {
+            let mut metadata = Value::Null;
+            set_text(alloc, &mut metadata, key, text)?;
+            put(&mut members, alloc, "metadata", metadata)?;
+        }
+    }
     Ok(Value::Object(members))
 }
 
