@@ -54,6 +54,17 @@ members_view_set key v old (e ∷ es) h there =
       | Greater ↦ λ is found. ap (member k (view e.1)) (members_view_set key v old es (others_in_order k (view e.1) ms h) found)
     ] refl there
 
+-- a value that is there already changes nothing
+pub put_there : (k : List ℕ) (d : Data) (ms : Members) → in_order ms ≡ true → get_member k ms ≡ Some d → put k d ms ≡ ms
+put_there k d no_members h there = absurd (cc there)
+put_there k d (member l e ms) h there =
+    elim (slice_cmp nat_cmp k l) as (λ o. slice_cmp nat_cmp k l ≡ o → match_ordering o (get_member k ms) (Some e) (get_member k ms) ≡ Some d
+    → match_ordering o (member k d (member l e ms)) (member l d ms) (member l e (put k d ms)) ≡ member l e ms) [
+      | Less ↦ λ is found. absurd (cc (none_found k ms (precedes_too k l ms is (key_first l e ms h)), found))
+      | Equal ↦ λ is found. cc
+      | Greater ↦ λ is found. ap (member l e) (put_there k d ms (others_in_order l e ms h) found)
+    ] refl there
+
 -- ---- what is never null
 
 pub there_once : (o : Option Data) → option_and_then unless_null (option_and_then unless_null o) ≡ option_and_then unless_null o

@@ -6,7 +6,7 @@ ghost use Rattle.serde_json.specs.Written.{has_float};
 ghost use Rattle.kapi_tree.specs.Order.{is_ordered};
 
 use crate::given::{Given, given_in};
-use crate::tree::{with_content, with_member_of, with_text, without_member};
+use crate::tree::{has_text, with_content, with_member_of, with_text, without_member};
 use kapi_text::Memory;
 use serde_json::{Map, Value};
 use std::alloc::Global;
@@ -104,18 +104,28 @@ impl Object {
         })
     }
 
+    /// The object with a copy of one text set in its metadata; nothing is copied where the text is there already.
+    fn with_copied_text(self, alloc: Global, key: &str, text: &str) -> Result<Object, Memory>
+        ensures { IfOk result (λ o. tree_of o ≡ trees.with_text key.now text.now (tree_of self)) }
+    {
+        if has_text(&self.tree, key, text) {
+            return Ok(self);
+        }
+        self.with_text(alloc, key, String::from_str(alloc, text)?)
+    }
+
     /// The object with a name: with that text as `metadata.name`.
     pub fn named(self, alloc: Global, name: &str) -> Result<Object, Memory>
         ensures { IfOk result (λ o. tree_of o ≡ trees.with_text (codes "name") name.now (tree_of self)) }
     {
-        self.with_text(alloc, "name", String::from_str(alloc, name)?)
+        self.with_copied_text(alloc, "name", name)
     }
 
     /// The object in a namespace: with that text as `metadata.namespace`.
     pub fn in_namespace(self, alloc: Global, namespace: &str) -> Result<Object, Memory>
         ensures { IfOk result (λ o. tree_of o ≡ trees.with_text (codes "namespace") namespace.now (tree_of self)) }
     {
-        self.with_text(alloc, "namespace", String::from_str(alloc, namespace)?)
+        self.with_copied_text(alloc, "namespace", namespace)
     }
 
     /// The object as a write leaves it: with its unique id and its resource version.

@@ -1,5 +1,5 @@
 ghost use Rattle.kapi_tree.specs.Order.{is_ordered, in_order};
-ghost use Rattle.std.specs.Prelude.{◌≡◌, true, IfOk, IfSome, OnOk, Some, codes, option_map, string_bytes};
+ghost use Rattle.std.specs.Prelude.{◌≡◌, ◌↔◌, true, IfOk, IfSome, IsTrue, OnOk, Some, codes, option_map, string_bytes};
 ghost use Rattle.serde_json.specs.Find.{get, get_member};
 ghost use Rattle.serde_json.specs.Data.{object, string, put as put_member};
 ghost use Rattle.serde_json.specs.View.{view, members_view};
@@ -51,6 +51,16 @@ pub fn member_of_metadata<'a>(tree: &'a Value, key: &str) -> Option<&'a Value>
     ensures { option_map (λ v. view v.now) result ≡ metadata_member key.now (view tree.now) }
 {
     member(tree.get("metadata")?, key)
+}
+
+/// Whether this text stands at a key of the tree's metadata.
+pub(crate) fn has_text(tree: &Value, key: &str, text: &str) -> bool
+    ensures { IsTrue result ↔ (trees.in_metadata key.now (view tree.now) ≡ Some (string text.now)) }
+{
+    match in_metadata(tree, key) {
+        Some(Value::String(found)) => found.as_str() == text,
+        _other => false,
+    }
 }
 
 /// Takes the member of a key out.
