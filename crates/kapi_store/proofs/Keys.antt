@@ -1,5 +1,5 @@
 -- The order of keys.
-use Rattle.std.proofs.Common.{◌≡◌, ℕ, Bool, true, false, cond, List, [], ◌∷◌, refl, sym, ap, ◌∙◌, subst}
+use Rattle.std.proofs.Common.{◌≡◌, ℕ, Bool, true, false, cond, List, [], ◌∷◌, bytes_eq, refl, sym, ap, ◌∙◌, subst}
 use Rattle.std.specs.List.{filter, AllByRecursion, IsDistinct}
 use Rattle.std.specs.List.Sorted.{IsStrictlySortedBy}
 use Rattle.std.specs.Map.{keys_of}
@@ -22,6 +22,21 @@ key_total = laws.total-law
 -- texts that compare as equal are equal
 bytes_same : (xs ys : List ℕ) → slice_cmp nat_cmp xs ys ≡ Equal → xs ≡ ys
 bytes_same xs ys h = (bytes_eq-Decides xs ys).0 (sym (is_eq-slice_cmp xs ys) ∙ ap is_eq h)
+
+-- texts that differ decide, and those that are the same leave it to what follows
+text_first : (xs ys : List ℕ) (o : Ordering) → ordering_then (slice_cmp nat_cmp xs ys) o ≡ cond (bytes_eq xs ys) o (slice_cmp nat_cmp xs ys)
+text_first xs ys o = by_case (slice_cmp nat_cmp xs ys) ∙ ap (λ b. cond b o (slice_cmp nat_cmp xs ys)) (is_eq-slice_cmp xs ys)
+  where
+    by_case : (r : Ordering) → ordering_then r o ≡ cond (is_eq r) o r
+    by_case Less = refl
+    by_case Equal = refl
+    by_case Greater = refl
+
+-- the first texts that differ decide
+pub key_by_texts : (a b : Key) → key_cmp a b
+    ≡ cond (bytes_eq a.group b.group) (cond (bytes_eq a.resource b.resource) (cond (bytes_eq a.namespace b.namespace) (slice_cmp nat_cmp a.name b.name) (slice_cmp nat_cmp a.namespace b.namespace)) (slice_cmp nat_cmp a.resource b.resource)) (slice_cmp nat_cmp a.group b.group)
+key_by_texts a b =
+    rw (text_first a.group b.group _, text_first a.resource b.resource _, text_first a.namespace b.namespace _) refl
 
 -- of two comparisons that are equal together, each is equal
 both_equal : (a b : Ordering) → ordering_then a b ≡ Equal → (a ≡ Equal) × (b ≡ Equal)

@@ -3,9 +3,10 @@ ghost use Rattle.std.specs.List.{IsDistinct};
 
 use kapi_text::{Memory, Text, TryCopy};
 use std::alloc::{AllocError, Global};
+use std::cmp::Ordering;
 
 /// The place of an object. Keys are in order of group, resource, namespace and name, each by its bytes.
-#[derive(Debug, PartialEq, Eq, PartialOrd, Ord, Drop)]
+#[derive(Debug, PartialEq, Eq, Drop)]
 pub struct Key {
     /// The API group, empty for the core group.
     pub group: Text,
@@ -14,6 +15,52 @@ pub struct Key {
     /// The namespace, empty for a cluster-scoped object.
     pub namespace: Text,
     pub name: Text,
+}
+
+impl PartialOrd for Key {
+    ghost use Rattle.std.proofs.Common.{rules};
+    ghost use Rattle.std.specs.Cmp.{partial_order_from_own_ties};
+    ghost use Rattle.std.specs.Cmp.Rules.{comparing};
+    ghost use Rattle.std.specs.Ordering.{as_partial_cmp};
+    ghost use Rattle.kapi_store.specs.Keys.{key_cmp};
+
+    ghost partial_cmp = { as_partial_cmp key_cmp };
+
+    ghost laws = { partial_order_from_own_ties (Prim.search (comparing, rules)) (Prim.search (comparing, rules)) };
+
+    fn partial_cmp(&self, other: &Key) -> Option<Ordering> {
+        Some(self.cmp(other))
+    }
+}
+
+impl Ord for Key {
+    ghost use Rattle.std.specs.Prelude.{refl};
+    ghost use Rattle.std.specs.Cmp.{then_total, both_tied};
+    ghost use Rattle.std.specs.Cmp.Lexicographic.{on_texts, texts_ties};
+    ghost use Rattle.kapi_store.specs.Keys.{key_cmp};
+
+    ghost cmp = { key_cmp };
+
+    ghost total = { then_total (on_texts (λ k. k.group)) (then_total (on_texts (λ k. k.resource)) (then_total (on_texts (λ k. k.namespace)) (on_texts (λ k. k.name)))) };
+
+    ghost matches_partial_cmp = { λ a b. refl };
+
+    ghost matches_eq = { λ a b. both_tied _ _ _ _ (texts_ties a.group b.group) (both_tied _ _ _ _ (texts_ties a.resource b.resource) (both_tied _ _ _ _ (texts_ties a.namespace b.namespace) (texts_ties a.name b.name))) };
+
+    // Keys that are compared are mostly of one list: that texts are equal is told sooner than their order.
+    #[tactic(auto, using(crate::proofs::Keys::key_by_texts))]
+    fn cmp(&self, other: &Key) -> Ordering {
+        if self.group != other.group {
+            return self.group.cmp(&other.group);
+        }
+        if self.resource != other.resource {
+            return self.resource.cmp(&other.resource);
+        }
+        if self.namespace != other.namespace {
+            return self.namespace.cmp(&other.namespace);
+        }
+        self.name.cmp(&other.name)
+    }
 }
 
 impl TryCopy for Key {
