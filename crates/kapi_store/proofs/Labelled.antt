@@ -2,10 +2,9 @@
 use Rattle.std.proofs.Common.{◌≡◌, ◌∙◌, ℕ, List, true, if◌then◌else◌, Option, Some, None, is_some, refl, sym, ap, bytes_eq, codes}
 use Rattle.std.proofs.lemmas.Map.Text.{is_eq-slice_cmp}
 use Rattle.std.proofs.lemmas.Slice.Eq.{bytes_eq-Decides}
-use Rattle.std.specs.Cmp.{first_so, second_so}
 use Rattle.std.specs.Cmp.Lexicographic.{slice_cmp, nat_list_cmp_total}
 use Rattle.std.specs.Option.{option_and_then, unwrap_or}
-use Rattle.std.specs.Ordering.{nat_cmp, match_ordering, ordering_reverse, is_eq, is_lt}
+use Rattle.std.specs.Ordering.{nat_cmp, match_ordering, ordering_reverse, is_eq}
 use Rattle.std.specs.declared.cmp.Ordering.{Ordering}
 use Rattle.std.specs.declared.cmp.Ordering.TheVariants.{Less, Equal, Greater}
 use Rattle.serde_json.specs.Data.{Data, null, boolean, number, string, array, object, Members, no_members, member}
@@ -13,18 +12,11 @@ use Rattle.serde_json.specs.Find.{as_str, get_member}
 use Rattle.kapi_model.specs.Selector.{label_in, value_in}
 use Rattle.kapi_tree.proofs.Closed.{found_hold, in_metadata_holds}
 use Rattle.kapi_tree.proofs.Metadata.{in_members}
-use Rattle.kapi_tree.proofs.Ordered.{is_less, key_first, keys_in_order, others_in_order, was_read_ordered}
+use Rattle.kapi_tree.proofs.Ordered.{key_first, keys_in_order, none_found, others_in_order, was_read_ordered}
 use Rattle.kapi_tree.specs.Order.{in_order, is_ordered, precedes}
 use Rattle.kapi_tree.specs.Tree.{in_metadata, members_or_none}
 use Rattle.serde_json.specs.Read.{read}
 use Rattle.kapi_store.specs.Told.{labels_among, labels_of, told_by}
-
--- a key that comes before all of the members is none of theirs
-pub none_there : (k : List ℕ) (ms : Members) → precedes k ms ≡ true → get_member k ms ≡ None
-none_there k no_members p = refl
-none_there k (member l d ms) p =
-    let less : slice_cmp nat_cmp k l ≡ Less = is_less (slice_cmp nat_cmp k l) (first_so (is_lt (slice_cmp nat_cmp k l)) (precedes k ms) p) in
-    rw less (none_there k ms (second_so (is_lt (slice_cmp nat_cmp k l)) (precedes k ms) p))
 
 -- keys are compared either way
 pub turned : (k l : List ℕ) (o : Ordering) → slice_cmp nat_cmp k l ≡ o → bytes_eq l k ≡ is_eq (ordering_reverse o)
@@ -39,7 +31,7 @@ passed k l d ms none h rest =
       | Equal ↦ λ is.
           let same : k ≡ l = (bytes_eq-Decides k l).0 (sym (is_eq-slice_cmp k l) ∙ ap is_eq is) in
           let before : precedes k ms ≡ true = rw same (key_first l d ms h) in
-          rest ∙ ap (option_and_then as_str) (none_there k ms before) ∙ sym none
+          rest ∙ ap (option_and_then as_str) (none_found k ms before) ∙ sym none
       | Greater ↦ λ is. rest
     ] refl
 

@@ -1,5 +1,5 @@
--- A stored object at another version is that object with the stamps of its unique id and that version.
-use Rattle.std.proofs.Common.{◌≡◌, ◌∙◌, ℕ, List, [], Bool, true, false, ◌&&◌, if◌then◌else◌, Option, Some, None, bytes_eq, codes, refl, sym, ap, subst}
+-- An object that has its unique id and a version needs no other stamp than a new version.
+use Rattle.std.proofs.Common.{◌≡◌, ◌∙◌, ℕ, List, [], true, ◌&&◌, if◌then◌else◌, Option, Some, None, bytes_eq, codes, refl, sym, ap, subst}
 use Rattle.std.proofs.lemmas.Map.Text.{is_eq-slice_cmp}
 use Rattle.std.proofs.lemmas.Slice.Eq.{bytes_eq-Decides}
 use Rattle.std.specs.Cmp.{first_so, second_so}
@@ -10,12 +10,15 @@ use Rattle.std.specs.Ordering.{nat_cmp, match_ordering, is_eq, is_lt}
 use Rattle.std.specs.declared.cmp.Ordering.TheVariants.{Less, Equal, Greater}
 use Rattle.serde_json.specs.Data.{Data, null, boolean, number, string, array, object, Members, no_members, member, put}
 use Rattle.serde_json.specs.Find.{as_str, get, get_member}
-use Rattle.kapi_tree.proofs.Ordered.{is_less, key_first, others_in_order, precedes_too}
+use Rattle.kapi_tree.proofs.Metadata.{text_set_again}
+use Rattle.kapi_tree.proofs.Ordered.{is_less, key_first, none_found, others_in_order, precedes_too}
 use Rattle.kapi_tree.specs.Object.{stamped_tree}
 use Rattle.kapi_tree.specs.Order.{in_order, is_ordered, precedes}
 use Rattle.kapi_tree.specs.Tree.{in_metadata, members_or_none, with_text}
-use Rattle.kapi_store.proofs.Labelled.{none_there, turned}
+use Rattle.kapi_store.proofs.Labelled.{turned}
+use Rattle.kapi_store.proofs.Stamped.{old_uid}
 use Rattle.kapi_store.specs.Gone.{at_version, changed_at, with_changed}
+use Rattle.kapi_store.specs.Stamps.{uid_in, with_stamps_of, replaced_tree}
 
 given : (a b : Data) → Some a ≡ Some b → a ≡ b
 given a b is = cc is
@@ -33,7 +36,7 @@ put_changed k f old no_members h there = absurd (cc there)
 put_changed k f old (member l e ms) h there =
     elim (slice_cmp nat_cmp k l) as (λ o. slice_cmp nat_cmp k l ≡ o → match_ordering o (get_member k ms) (Some e) (get_member k ms) ≡ Some old
     → match_ordering o (member k (f old) (member l e ms)) (member l (f old) ms) (member l e (put k (f old) ms)) ≡ member l (if bytes_eq l k then f e else e) (changed_at k f ms)) [
-      | Less ↦ λ is at. absurd (let none : get_member k ms ≡ None = none_there k ms (before k l e ms is h) in cc (at, none))
+      | Less ↦ λ is at. absurd (let none : get_member k ms ≡ None = none_found k ms (before k l e ms is h) in cc (at, none))
       | Equal ↦ λ is at.
           let same : k ≡ l = (bytes_eq-Decides k l).0 (sym (is_eq-slice_cmp k l) ∙ ap is_eq is) in
           let first : precedes k ms ≡ true = rw same (key_first l e ms h) in
@@ -44,19 +47,6 @@ put_changed k f old (member l e ms) h there =
   where
     before : (k l : List ℕ) (e : Data) (ms : Members) → slice_cmp nat_cmp k l ≡ Less → in_order (member l e ms) ≡ true → precedes k ms ≡ true
     before k l e ms is h = precedes_too k l ms is (key_first l e ms h)
-
--- a value that is put where it stands changes nothing
-same_changed : (k : List ℕ) (ms : Members) → changed_at k (λ d. d) ms ≡ ms
-same_changed k no_members = refl
-same_changed k (member l d ms) =
-    ap (λ (e : Data). member l e (changed_at k (λ x. x) ms)) (either (bytes_eq l k)) ∙ ap (member l d) (same_changed k ms)
-  where
-    either : (b : Bool) → (if b then d else d) ≡ d
-    either true = refl
-    either false = refl
-
-put_same : (k : List ℕ) (d : Data) (ms : Members) → in_order ms ≡ true → get_member k ms ≡ Some d → put k d ms ≡ ms
-put_same k d ms h there = put_changed k (λ e. e) d ms h there ∙ same_changed k ms
 
 -- ---- stamps
 
@@ -100,20 +90,6 @@ has_metadata k d ms h = by_value (get_member (codes "metadata") ms) refl h
     by_value (Some (string s)) at is = absurd (cc is)
     by_value (Some (array ds)) at is = absurd (cc is)
 
--- the text that stands there is set
-set_same : (k t : List ℕ) (d : Data) → is_ordered d ≡ true → in_metadata k d ≡ Some (string t) → with_text k t d ≡ d
-set_same k t (object ms) h there =
-    let m = has_metadata k (string t) ms there in
-    let ns : Members = m.metadata in
-    ap (λ (o : Option Data). object (put (codes "metadata") (object (put k (string t) (members_or_none o))) ms)) m.there
-    ∙ ap (λ (xs : Members). object (put (codes "metadata") (object xs) ms)) (put_same k (string t) ns (inner_order (codes "metadata") ms ns h m.there) m.inside)
-    ∙ ap object (put_same (codes "metadata") (object ns) ms h m.there)
-set_same k t null h there = absurd (cc there)
-set_same k t (boolean b) h there = absurd (cc there)
-set_same k t (number n) h there = absurd (cc there)
-set_same k t (string s) h there = absurd (cc there)
-set_same k t (array ds) h there = absurd (cc there)
-
 -- another text is set where one stands
 set_anew : (k t : List ℕ) (old d : Data) → is_ordered d ≡ true → in_metadata k d ≡ Some old → with_text k t d ≡ with_changed (codes "metadata") (with_changed k (λ e. string t)) d
 set_anew k t old (object ms) h there =
@@ -129,9 +105,14 @@ set_anew k t old (number n) h there = absurd (cc there)
 set_anew k t old (string s) h there = absurd (cc there)
 set_anew k t old (array ds) h there = absurd (cc there)
 
--- an object that has the unique id and a version, stamped with that id and another version, is at that version
-pub restamped : (uid v : List ℕ) (n : ℕ) (d : Data) → is_ordered d ≡ true → option_and_then as_str (in_metadata (codes "uid") d) ≡ Some uid
-    → option_and_then as_str (in_metadata (codes "resourceVersion") d) ≡ Some v → stamped_tree uid (decimal n) d ≡ at_version n d
-restamped uid v n d h born versioned =
-    ap (with_text (codes "resourceVersion") (decimal n)) (set_same (codes "uid") uid d h (text_there (in_metadata (codes "uid") d) uid born))
-    ∙ set_anew (codes "resourceVersion") (decimal n) (string v) d h (text_there (in_metadata (codes "resourceVersion") d) v versioned)
+-- what has the stamps of an old object needs another version alone to replace it
+pub version_alone : (old tree d : Data) (n : ℕ) → is_ordered d ≡ true → d ≡ with_stamps_of old tree → with_text (codes "resourceVersion") (decimal n) d ≡ replaced_tree n old tree
+version_alone old tree d n h is =
+    ap (with_text (codes "resourceVersion") (decimal n)) (sym (text_set_again (codes "uid") (uid_in old) d h (text_there (in_metadata (codes "uid") d) (uid_in old) (old_uid old tree d is))))
+    ∙ ap (stamped_tree (uid_in old) (decimal n)) is
+
+-- an object that has a version, with another one set, is at that version
+pub versioned_again : (v : List ℕ) (n : ℕ) (d : Data) → is_ordered d ≡ true → option_and_then as_str (in_metadata (codes "resourceVersion") d) ≡ Some v
+    → with_text (codes "resourceVersion") (decimal n) d ≡ at_version n d
+versioned_again v n d h versioned =
+    set_anew (codes "resourceVersion") (decimal n) (string v) d h (text_there (in_metadata (codes "resourceVersion") d) v versioned)

@@ -1,11 +1,13 @@
 //! What a write sets in the metadata of an object.
 
-ghost use Rattle.std.specs.Prelude.{◌≡◌, ◌<◌, ◌^◌, Some, IfOk, string_bytes};
+ghost use Rattle.std.specs.Prelude.{◌≡◌, ◌<◌, ◌^◌, Some, IfOk, codes, string_bytes, option_and_then};
+ghost use Rattle.serde_json.specs.Find.{as_str};
 ghost use Rattle.serde_json.specs.Read.{read};
 ghost use Rattle.serde_json.specs.Written.{compact_text};
 ghost use Rattle.std.specs.Bool.{Decides};
 ghost use Rattle.std.specs.Fmt.{decimal};
-ghost use Rattle.kapi_tree.specs.Object.{stamped_tree, tree_of};
+ghost use Rattle.kapi_tree.specs.Object.{tree_of};
+ghost use Rattle.kapi_tree.specs.Tree.{in_metadata, with_text};
 ghost use Rattle.kapi_store.specs.Stamps.{uid_in, uid_of, created_tree};
 ghost use Rattle.kapi_store.specs.Plain.{admits as admits_of, admitted as admitted_of};
 ghost use Rattle.kapi_text.specs.Gives.{Gives};
@@ -44,7 +46,7 @@ pub(crate) fn created(alloc: Global, object: Object, revision: u64) -> Result<Wr
     ensures tree { IfOk result (λ w. stored_tree w.stored ≡ created_tree revision (tree_of object)) }
     ensures same { IfOk result (λ w. stored_tree w.stored ≡ tree_of w.object) }
 {
-    Written::stamped(alloc, object, revision, revision)
+    Written::stamped(alloc, object, revision)
 }
 
 /// The object where nothing else is changed: with the old one's unique id and version.
@@ -74,17 +76,18 @@ pub fn is_unchanged(alloc: Global, object: &Object, old: &Shared) -> Result<bool
     Ok(text.as_str() == old.get().text())
 }
 
-/// The object in the place of the old one, at the version of a revision.
+/// The object in the place of the old one, whose unique id it has, at the version of a revision.
 pub(crate) fn in_place_of(
     alloc: Global,
     object: Object,
     old: &Shared,
     revision: u64,
 ) -> Result<Written, Memory>
-    ensures tree { IfOk result (λ w. stored_tree w.stored ≡ stamped_tree (uid_in (stored_tree old.now)) (decimal revision) (tree_of object)) }
+    requires { option_and_then as_str (in_metadata (codes "uid") (tree_of object)) ≡ Some (uid_in (stored_tree old.now)) }
+    ensures tree { IfOk result (λ w. stored_tree w.stored ≡ with_text (codes "resourceVersion") (decimal revision) (tree_of object)) }
     ensures same { IfOk result (λ w. stored_tree w.stored ≡ tree_of w.object) }
 {
-    Written::stamped(alloc, object, old.get().created(), revision)
+    Written::versioned(alloc, object, old.get().created(), revision)
 }
 
 /// Whether a write with this given version may change the object of the current one.

@@ -312,6 +312,7 @@ impl Store {
     }
 
     /// Prepares the replacement of a stored object.
+    #[tactic(auto, using(crate::proofs::Stamped::old_uid))]
     fn replace_old(&self, key: Key, object: Object, old: &Shared) -> Result<Ready, StoreError>
         requires { lookup (is_key key) (plain_of self.now).objects ≡ Some (stored_tree old.now) }
         ensures gives { Gives fault_of (map plain_change) result (replaced (plain_of self.now) key (tree_of object) (stored_tree old.now)) }

@@ -78,14 +78,13 @@ impl StoredObject {
     }
 
     /// The text of the object with a revision as its version; all else of it stays.
-    #[tactic(auto, using(crate::proofs::Versions::restamped))]
+    #[tactic(auto, using(crate::proofs::Versions::versioned_again))]
     pub(crate) fn text_at(&self, alloc: Global, revision: u64) -> Result<Text, Memory>
         ensures { IfOk result (λ t. t ≡ compact_text (at_version revision (stored_tree self.now))) }
     {
-        let uid = uid(alloc, self.created)?;
         let version = version(alloc, revision)?;
         let object = self.object(alloc)?;
-        text_of(alloc, &object.stamped(alloc, uid, version)?)
+        text_of(alloc, &object.versioned(alloc, version)?)
     }
 
     /// The revision that created the object.

@@ -1,19 +1,19 @@
 use Rattle.std.proofs.Common.{◌≡◌, ◌+◌, ◌≤◌, Ok, true, false, IsSome, ap, sym, subst, refl, ◌∙◌, arith, rules}
 use Rattle.std.specs.List.Sorted.{IsStrictlySortedBy}
 use Rattle.std.specs.Map.{keys_of, lookup}
-use Rattle.std.specs.Fmt.{decimal}
-use Rattle.kapi_tree.specs.Object.{tree_of, stamped_tree}
+use Rattle.kapi_tree.specs.Object.{tree_of}
 use Rattle.kapi_store.specs.Limits.{last_revision}
 use Rattle.kapi_store.specs.Keys.{is_key, key_cmp}
 use Rattle.kapi_store.specs.declared.key.Key.{Key}
 use Rattle.kapi_store.specs.Stored.{stored_tree}
 use Rattle.kapi_store.specs.Same.{same_tree}
-use Rattle.kapi_store.specs.Stamps.{with_stamps_of, uid_in}
+use Rattle.kapi_store.specs.Stamps.{with_stamps_of}
 use Rattle.kapi_store.specs.Plain.{plain_of, revisions_left}
 use Rattle.kapi_store.specs.View.{state_of}
 use Rattle.kapi_store.specs.State.{State, Fits}
 use Rattle.kapi_store.proofs.Stores.{fits_none, fits_one}
 use Rattle.kapi_store.proofs.Places.{slot_of_tree}
+use Rattle.kapi_store.proofs.Versions.{version_alone}
 use Rattle.kapi_store.proofs.Writes.{replaced_by}
 use Rattle.kapi_store.proofs.store.Store.replace_old.Goals as goal
 
@@ -45,7 +45,7 @@ returns-clause-gives c =
     let left : revisions_left (plain_of c.args.self.now) 1 ≡ Ok tt = c.in_ok-check_revisions.ensures.gives in
     replaced_by (plain_of c.args.self.now) c.args.key (tree_of c.args.object) old c.in_ok-replacement.field-0 (c.self.inside.revision + 1) c.args.old.now c.in_ok-written.written.stored
     same left c.in_ok-replacement.ensures (ap (λ s. s.revision + 1) c.self.view_is) refl
-    (c.in_ok-written.ensures.tree ∙ ap (stamped_tree (uid_in old) (decimal (c.self.inside.revision + 1))) c.in_ok-object.ensures)
+    (c.in_ok-written.ensures.tree ∙ version_alone old (tree_of c.args.object) (tree_of c.in_ok-object.object) (c.self.inside.revision + 1) c.in_ok-object.object.ordered c.in_ok-object.ensures)
 
 pub returns-clause-fits : goal.returns-clause-fits
 returns-clause-fits c =
