@@ -1,9 +1,9 @@
 //! What a watch selects, and what it shows of a change.
-ghost use Rattle.std.specs.Prelude.{◌≡◌, true, IfOk, None, Some, map, option_map, slice_get};
-ghost use Rattle.std.specs.List.{filter_map};
+ghost use Rattle.std.specs.Prelude.{◌≡◌, ◌≤◌, ◌+◌, true, IfOk, None, Some, map, length, drop, option_map, slice_get};
+ghost use Rattle.std.specs.List.{filter_map, position_or_len};
 ghost use Rattle.kapi_store.specs.Stored.{stored_tree};
 ghost use Rattle.kapi_store.specs.Lent.{changes_of};
-ghost use Rattle.kapi_store.specs.Listing.{is_within as is_within_of};
+ghost use Rattle.kapi_store.specs.Listing.{is_asked as is_asked_of, is_within as is_within_of};
 ghost use Rattle.kapi_store.specs.Plain.{plain_change};
 ghost use Rattle.kapi_store.specs.Gone.{at_version};
 ghost use Rattle.kapi_watch.specs.Shown.{removed_tree, selected as selected_of, shown_of, found_of};
@@ -32,6 +32,15 @@ pub struct Found<'a> {
     pub event: Event<'a>,
 }
 
+/// Whether the key is in the namespace that is asked for; where an empty one is asked for, any is. Most others are of
+/// another length, which is seen without a call.
+fn is_in_namespace(namespace: &str, key: &Key) -> bool
+    ensures { result ≡ is_asked_of namespace.now key.now.namespace }
+{
+    let other = key.namespace.as_str();
+    namespace.is_empty() || (namespace.len() == other.len() && namespace == other)
+}
+
 impl Scope {
     /// The scope of the objects of a resource type, in the namespace or in all, by labels, and of the name or any.
     pub fn new(
@@ -51,12 +60,14 @@ impl Scope {
         })
     }
 
-    /// Whether the key is within the scope. The namespace is compared first, since most changes are of another.
+    /// Whether the key is within the scope, whose namespace is given. It is compared first, since most changes are of
+    /// another.
     #[tactic(auto, using(crate::proofs::Scopes::is_within_swaps))]
-    fn is_within(&self, key: &Key) -> bool
+    fn is_within(&self, namespace: &str, key: &Key) -> bool
+        requires { namespace.now ≡ self.now.namespace }
         ensures { result ≡ is_within_of self.now.row self.now.namespace self.now.name key.now }
     {
-        is_asked(self.namespace.as_str(), &key.namespace)
+        is_in_namespace(namespace, key)
             && (self.row.plural == key.resource
                 && (self.row.group == key.group && is_asked(self.name.as_str(), &key.name)))
     }
@@ -87,17 +98,6 @@ impl Scope {
         })
     }
 
-    /// What a change shows, if anything.
-    #[tactic(auto, unfolding(crate::specs::Shown::shown_of, kapi_store::specs::Listing::is_listed))]
-    fn find<'a>(&self, change: &'a Change) -> Option<Found<'a>>
-        ensures { option_map found_of result ≡ shown_of self.now (plain_change change.now) }
-    {
-        if !self.is_within(&change.key) {
-            return None;
-        }
-        self.find_within(change)
-    }
-
     /// What a change at a key within the scope shows, if anything.
     #[tactic(auto, unfolding(crate::specs::Shown::shown_of))]
     fn find_within<'a>(&self, change: &'a Change) -> Option<Found<'a>>
@@ -117,15 +117,34 @@ impl Scope {
         })
     }
 
+    /// The index of the first change from an index on that is within the scope, or how many changes there are.
+    fn next_within(&self, changes: &Changes<'_>, from: usize) -> usize
+        requires { from ≤ length (changes_of changes.now) }
+        ensures { result ≡ from + position_or_len (λ c. is_within_of self.now.row self.now.namespace self.now.name c.key) (drop from (changes_of changes.now)) }
+    {
+        let namespace = self.namespace.as_str();
+        let count = changes.len();
+        for index in from..count {
+            if self.is_within(namespace, &changes.get(index).unwrap().key) {
+                return index;
+            }
+        }
+        count
+    }
+
     /// The first event that changes show, if any; each change is examined once.
     pub fn first_of<'a>(&self, changes: &Changes<'a>) -> Option<Found<'a>>
         ensures { option_map found_of result ≡ slice_get (filter_map (shown_of self.now) (map plain_change (changes_of changes.now))) 0 }
     {
-        for index in 0..changes.len() {
-            let found = self.find(changes.get(index)?);
+        let count = changes.len();
+        let mut from = 0;
+        while from < count {
+            let index = self.next_within(changes, from);
+            let found = self.find_within(changes.get(index)?);
             if found.is_some() {
                 return found;
             }
+            from = index + 1;
         }
         None
     }
