@@ -13,3 +13,4 @@ pub mod Listening
 pub mod Connections
 pub mod Standing
 pub mod Tending
+pub mod Idle

@@ -1,17 +1,18 @@
-ghost use Rattle.std.specs.Prelude.{◌≡◌, ◌⊎◌, ◌<◌, ◌≤◌, [], ◌++◌, None, true, false, if◌then◌else◌, is_some, option_map};
+ghost use Rattle.std.specs.Prelude.{◌≡◌, ◌⊎◌, ◌<◌, ◌≤◌, ℕ, List, Option, [], ◌++◌, None, true, false, if◌then◌else◌, is_some, option_map};
 ghost use Rattle.std.specs.VecDeque.{deque_len, deque_capacity};
 ghost use Rattle.kapi_serve.specs.Private.Clients.{seat_of};
 ghost use Rattle.kapi_serve.specs.Private.Moments.{GoesFor, Writes, stage};
 ghost use Rattle.kapi_serve.specs.Private.Pieces.{IsCounted, IsSent, owed};
 ghost use Rattle.kapi_core.specs.Concerns.{is_among};
 ghost use Rattle.kapi_serve.specs.Private.Stands.{is_called as is_called_of};
-ghost use Rattle.kapi_serve.specs.Private.Stands.{Finishes, IsQuiet, IsServed, Keeps, Tends, Waits};
+ghost use Rattle.kapi_serve.specs.Private.Stands.{AreMarked, Finishes, IsQuiet, IsServed, Keeps, Tends, Waits};
 ghost use Rattle.kapi_desk.specs.Steps.{step_of};
 ghost use Rattle.kapi_serve.specs.Shows.{Shows};
 ghost use Rattle.kapi_serve.specs.declared.client.Flushed.TheVariants as flush;
 ghost use Rattle.kapi_serve.specs.declared.client.Phase.TheVariants as phase;
 ghost use Rattle.kapi_serve.specs.declared.progress.Progress.TheVariants as progress;
 
+use crate::marks::MARKS;
 use crate::pending::Pending;
 use crate::port::{PortFault, Ports};
 use crate::progress::Progress;
@@ -82,7 +83,7 @@ impl Client {
     }
 
     /// Whether the connection has a watch that is one of those; where there is no list of them, whether it has one.
-    pub(crate) fn is_called(&self, concerned: &Option<Vec<u64>>) -> bool
+    fn is_called(&self, concerned: &Option<Vec<u64>>) -> bool
         ensures { result ≡ is_called_of (option_map (λ v. v.items) concerned.now) self.now.watching }
     {
         match (self.watching, concerned) {
@@ -90,6 +91,24 @@ impl Client {
             (watch, None) => watch.is_some(),
             (None, Some(_)) => false,
         }
+    }
+
+    /// Whether the connection has a watch whose fingerprint is marked.
+    fn is_marked(&self, marks: &[bool; MARKS]) -> bool
+        ensures { result ≡ false → (concerned : Option (List ℕ)) → AreMarked concerned marks.now → is_called_of concerned self.now.watching ≡ false }
+    {
+        match self.watching {
+            Some(watch) => marks[(watch % 64) as usize],
+            None => false,
+        }
+    }
+
+    /// The same as `is_called`, where the marks tell most of those that are not.
+    pub(crate) fn is_called_by(&self, marks: &[bool; MARKS], concerned: &Option<Vec<u64>>) -> bool
+        requires { AreMarked (option_map (λ v. v.items) concerned.now) marks.now }
+        ensures { result ≡ is_called_of (option_map (λ v. v.items) concerned.now) self.now.watching }
+    {
+        self.is_marked(marks) && self.is_called(concerned)
     }
 
     /// Writes pending bytes until the slot takes no more.

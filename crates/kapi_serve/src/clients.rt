@@ -6,7 +6,7 @@ ghost use Rattle.kapi_core.specs.Refines.{Refines};
 ghost use Rattle.kapi_serve.specs.Acts.{IsFree};
 ghost use Rattle.kapi_serve.specs.Private.Clients.{freed, freed_on, others, seats_of};
 ghost use Rattle.kapi_serve.specs.Private.Moments.{Ends, FeedsOrEnds, Moves, MovesAfter, unasked};
-ghost use Rattle.kapi_serve.specs.Private.Stands.{AreCalled, AreRoused, IsAwakeAt, IsNew, IsNumbered, IsOf, IsOfNone, Rise, Stands, StandsOn};
+ghost use Rattle.kapi_serve.specs.Private.Stands.{AreCalled, AreMarked, AreRoused, IsAwakeAt, IsNew, IsNumbered, IsOf, IsOfNone, Rise, Stands, StandsOn};
 ghost use Rattle.kapi_serve.specs.declared.client.Client.{Client as AClient};
 ghost use Rattle.kapi_serve.specs.declared.client.Phase.TheVariants as phase;
 ghost use Rattle.kapi_serve.specs.declared.port.Entry.TheVariants as entry;
@@ -14,6 +14,7 @@ ghost use Rattle.kapi_serve.specs.declared.progress.Progress.TheVariants as prog
 
 use crate::awake::Awake;
 use crate::client::{Client, Phase};
+use crate::marks::{MARKS, marks_of};
 use crate::pending::Pending;
 use crate::port::{PortFault, Ports};
 use crate::progress::Progress;
@@ -26,6 +27,9 @@ use std::alloc::Global;
 /// After so many changes all watches are woken, far fewer than are kept.
 const WAKE_ALL_AFTER: u64 = 256;
 
+/// The number of places that are kept, more than connections are open at a time.
+const PLACES: usize = 512;
+
 /// The connections that are served, in the order of their numbers.
 #[derive(Drop)]
 pub(crate) struct Clients {
@@ -37,6 +41,8 @@ pub(crate) struct Clients {
     pub(crate) woken: u64,
     /// The revision when all connections with a watch last were.
     roused: u64,
+    /// The places at which connections were last found, by their slots modulo the number of these.
+    places: [usize; PLACES],
 }
 
 /// The result of a read.
@@ -59,6 +65,7 @@ impl Clients {
             awake: Awake::new(alloc),
             woken: 0,
             roused: 0,
+            places: [0; PLACES],
         }
     }
 
@@ -157,6 +164,30 @@ impl Clients {
         self.first_on(slot)
     }
 
+    /// Whether the connection at a place, if there is one, is on a slot.
+    fn is_on(&self, place: usize, slot: usize) -> bool
+        ensures bound { result ≡ true → place < length self.now.list.items }
+        ensures on { result ≡ true → HoldsAt (λ client. client.slot ≡ slot) self.now.list.items place }
+    {
+        match self.list.get(place) {
+            Some(client) => client.slot == slot,
+            None => false,
+        }
+    }
+
+    /// The place of a connection on a slot, if there is one. It is looked for first where one was last found.
+    fn find(&self, slot: usize) -> Option<usize>
+        ensures bound { IfSome result (λ i. i < length self.now.list.items) }
+        ensures found { IfSome result (λ i. HoldsAt (λ client. client.slot ≡ slot) self.now.list.items i) }
+    {
+        let place = self.places[slot % PLACES];
+        if self.is_on(place, slot) {
+            Some(place)
+        } else {
+            self.place(slot)
+        }
+    }
+
     /// Closes the connection on a slot that is given to another client.
     fn forget<P: Policy + Drop>(&mut self, core: &mut Core<P>, slot: usize)
         ensures moves { Moves core.old core.new self.old self.new unasked unasked }
@@ -241,8 +272,9 @@ impl Clients {
         ensures woken { self.new.woken ≡ self.old.woken }
         ensures roused { result ≡ true → AreCalled (option_map (λ v. v.items) concerned.now) (length self.new.list.items) self.new.list.items }
     {
+        let marks = marks_of(concerned);
         let (mut all, mut from) = (true, 0);
-        while let Some(index) = self.first_called(from, concerned) {
+        while let Some(index) = self.first_called(from, &marks, concerned) {
             if !self.rouse(index) {
                 all = false;
             }
@@ -254,7 +286,13 @@ impl Clients {
     /// The place of the next connection, from a place on, whose watch is one of those, or which has one where there is no
     /// list of them. Most watches see nothing of a change, so what is done for each of them is this look alone.
     #[tactic(auto, using(crate::proofs::Tending::called_kept))]
-    fn first_called(&self, from: usize, concerned: &Option<Vec<u64>>) -> Option<usize>
+    fn first_called(
+        &self,
+        from: usize,
+        marks: &[bool; MARKS],
+        concerned: &Option<Vec<u64>>,
+    ) -> Option<usize>
+        requires { AreMarked (option_map (λ v. v.items) concerned.now) marks.now }
         ensures bound { IfSome result (λ i. i < length self.now.list.items) }
         ensures later { IfSome result (λ i. from ≤ i) }
         ensures passed { IfSome result (λ i. AreCalled (option_map (λ v. v.items) concerned.now) from self.now.list.items
@@ -263,7 +301,7 @@ impl Clients {
             → AreCalled (option_map (λ v. v.items) concerned.now) (length self.now.list.items) self.now.list.items }
     {
         for index in from..self.list.len() {
-            if self.list[index].is_called(concerned) {
+            if self.list[index].is_called_by(marks, concerned) {
                 return Some(index);
             }
         }
@@ -312,9 +350,28 @@ impl Clients {
         ensures others { others slot (seats_of self.new.list.items) ≡ others slot (seats_of self.old.list.items) }
         ensures stands { StandsOn core.old core.new self.old self.new }
     {
-        let Some(index) = self.place(slot) else {
+        let Some(index) = self.find(slot) else {
             return Pulled::Stopped;
         };
+        self.places[slot % PLACES] = index;
+        self.pull_at(core, ports, slot, index, buffer)
+    }
+
+    /// Reads a piece from the slot of the connection at a place and feeds it.
+    fn pull_at<P: Policy + Drop, Q: Ports>(
+        &mut self,
+        core: &mut Core<P>,
+        ports: &mut Q,
+        slot: usize,
+        index: usize,
+        buffer: &mut [u8],
+    ) -> Pulled
+        requires bound { index < length self.old.list.items }
+        requires found { HoldsAt (λ client. client.slot ≡ slot) self.old.list.items index }
+        ensures moves { Moves core.old core.new self.old self.new (Q.report ports.old) (Q.report ports.new) }
+        ensures others { others slot (seats_of self.new.list.items) ≡ others slot (seats_of self.old.list.items) }
+        ensures stands { StandsOn core.old core.new self.old self.new }
+    {
         if self.list[index].phase != Phase::Open {
             return Pulled::Stopped;
         }

@@ -9,11 +9,13 @@ mod awake;
 mod client;
 mod clients;
 mod listener;
+mod marks;
 mod pending;
 mod port;
 mod progress;
 mod publishing;
 mod server;
+mod slots;
 mod sockets;
 mod stream;
 

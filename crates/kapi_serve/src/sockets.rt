@@ -1,4 +1,4 @@
-ghost use Rattle.std.specs.Prelude.{◌≡◌, ◌<◌, ◌≤◌, ◌||◌, ◌++◌, ◌∷◌, [], All, HoldsAt, IfOk, IfSome, None, OnOk, Some, true, vec_len};
+ghost use Rattle.std.specs.Prelude.{◌≡◌, ◌<◌, ◌≤◌, ◌||◌, ◌++◌, ◌∷◌, [], All, HoldsAt, IfOk, IfSome, None, OnOk, Some, false, true, vec_len};
 ghost use Rattle.mio.specs.Event.{event_token};
 ghost use Rattle.std.specs.IoError.{error_kind};
 ghost use Rattle.std.specs.List.{list_any};
@@ -11,7 +11,7 @@ ghost use Rattle.kapi_serve.specs.declared.port.PortFault.TheVariants as fault;
 
 use crate::listener::Listener;
 use crate::port::{PortEvent, PortFault, Ports};
-use crate::stream::Stream;
+use crate::slots::Slots;
 use kapi_model::Identity;
 use kapi_text::TryCopy;
 use mio::event::Event;
@@ -28,9 +28,6 @@ const EVENTS: usize = 256;
 /// The longest wait, in milliseconds.
 const WAIT: u64 = 100;
 
-/// The largest number of open sockets of clients.
-const MOST_OPEN: usize = 320;
-
 /// The number of clients that are accepted before the open ones have their turn again.
 const MOST_ACCEPTED: usize = 16;
 
@@ -42,10 +39,7 @@ pub struct Sockets<C: Clock + Drop> {
     poll: Poll,
     events: Events,
     listeners: Vec<Listener>,
-    /// The streams by slot.
-    streams: Vec<Option<Stream>>,
-    /// The slots from this one on have not had their turn in this round.
-    turn: usize,
+    slots: Slots,
     /// The time at which the round began.
     now: Duration,
     failures: u64,
@@ -62,8 +56,7 @@ impl<C: Clock + Drop> Sockets<C> {
             poll: Poll::new(net)?,
             events: Events::with_capacity(alloc, EVENTS)?,
             listeners: Vec::new(alloc),
-            streams: Vec::new(alloc),
-            turn: 0,
+            slots: Slots::new(alloc),
             now: Duration::ZERO,
             failures: 0,
         })
@@ -91,26 +84,6 @@ impl<C: Clock + Drop> Sockets<C> {
         Ok(listened)
     }
 
-    /// A slot that no stream has, if there is one.
-    fn free_slot(&mut self) -> Option<usize>
-        ensures slot { IfSome result (λ slot. slot < vec_len self.new.streams) }
-        ensures free { IfSome result (λ slot. HoldsAt (λ place. place ≡ None) self.new.streams.items slot) }
-        ensures few { vec_len self.old.streams ≤ 320 → vec_len self.new.streams ≤ 320 }
-        ensures full { result ≡ None → All (λ place. place ≡ None → ⊥) self.new.streams.items }
-        ensures same { self.new.listeners ≡ self.old.listeners }
-    {
-        match self.streams.iter().position(|stream| stream.is_none()) {
-            Some(slot) => Some(slot),
-            None => {
-                if self.streams.len() >= MOST_OPEN {
-                    return None;
-                }
-                self.streams.push(None).ok()?;
-                Some(self.streams.len() - 1)
-            }
-        }
-    }
-
     /// Accepts one client, if one waits and a slot is free. Where none is, a client that takes nothing loses its slot.
     fn accept(&mut self) -> Option<PortEvent>
         ensures doors { doors self.new.listeners.items ≡ doors self.old.listeners.items }
@@ -118,8 +91,8 @@ impl<C: Clock + Drop> Sockets<C> {
     {
         for index in 0..self.listeners.len() {
             if self.listeners[index].has_turn() {
-                let Some(slot) = self.free_slot() else {
-                    self.break_stuck();
+                let Some(slot) = self.slots.free() else {
+                    self.slots.break_stuck(self.now);
                     return None;
                 };
                 if let Some(event) = self.accept_or_pause(index, slot) {
@@ -133,7 +106,7 @@ impl<C: Clock + Drop> Sockets<C> {
     /// Accepts a client of this listener; where none comes, the listener has no more turns in this round.
     fn accept_or_pause(&mut self, index: usize, slot: usize) -> Option<PortEvent>
         requires listener { index < vec_len self.old.listeners }
-        requires slot { slot < vec_len self.old.streams }
+        requires slot { slot < vec_len self.old.slots.streams }
         ensures same { vec_len self.new.listeners ≡ vec_len self.old.listeners }
         ensures doors { doors self.new.listeners.items ≡ doors self.old.listeners.items }
         ensures identity { CameByDoor self.old.listeners.items result }
@@ -149,7 +122,7 @@ impl<C: Clock + Drop> Sockets<C> {
 
     fn accept_at(&mut self, index: usize, slot: usize) -> io::Result<PortEvent>
         requires listener { index < vec_len self.old.listeners }
-        requires slot { slot < vec_len self.old.streams }
+        requires slot { slot < vec_len self.old.slots.streams }
         ensures identity { HoldsAt (λ listener. IfOk result (λ opened. opened ≡ event.Opened slot listener.identity)) self.old.listeners.items index }
         ensures same { vec_len self.new.listeners ≡ vec_len self.old.listeners }
         ensures doors { doors self.new.listeners.items ≡ doors self.old.listeners.items }
@@ -164,37 +137,8 @@ impl<C: Clock + Drop> Sockets<C> {
             Token(self.listeners.len().saturating_add(slot)),
             Interest::READABLE | Interest::WRITABLE,
         )?;
-        self.streams[slot] = Some(Stream::new(socket));
+        self.slots.put(slot, socket);
         Ok(PortEvent::Opened(slot, identity))
-    }
-
-    /// Breaks the first of the streams that have taken nothing for too long.
-    fn break_stuck(&mut self)
-        ensures { self.new.listeners ≡ self.old.listeners }
-    {
-        let now = self.now;
-        for stream in self.streams.iter_mut().flatten() {
-            if stream.is_stuck(now) {
-                return stream.break_off();
-            }
-        }
-    }
-
-    /// The next turn of this round.
-    fn take_turn(&mut self) -> Option<PortEvent>
-        ensures turn { IfSome result (λ event. self.old.turn < self.new.turn) }
-        ensures same { self.new.listeners ≡ self.old.listeners }
-        ensures identity { CameByDoor self.old.listeners.items result }
-    {
-        for slot in self.turn..self.streams.len() {
-            self.turn = slot + 1;
-            if let Some(Some(stream)) = self.streams.get_mut(slot) {
-                if let Some(event) = stream.take_turn(slot) {
-                    return Some(event);
-                }
-            }
-        }
-        None
     }
 
     /// The next event that is left in this round.
@@ -202,7 +146,7 @@ impl<C: Clock + Drop> Sockets<C> {
         ensures doors { doors self.new.listeners.items ≡ doors self.old.listeners.items }
         ensures identity { CameByDoor self.old.listeners.items result }
     {
-        match self.take_turn() {
+        match self.slots.take_turn() {
             Some(event) => Some(event),
             None => self.accept(),
         }
@@ -210,23 +154,23 @@ impl<C: Clock + Drop> Sockets<C> {
 
     /// Whether a stream has an event for its next turn, or a client may wait to be accepted.
     fn is_some_ready(&self) -> bool
-        ensures { result ≡ (list_any (λ listener. listener.waiting) self.entry.now.listeners.items || list_any has_turn_next self.entry.now.streams.items) }
+        ensures { result ≡ (list_any (λ listener. listener.waiting) self.entry.now.listeners.items || list_any has_turn_next self.entry.now.slots.streams.items) }
     {
-        is_some_waiting(self.listeners.as_slice()) || is_some_turn_next(self.streams.as_slice())
+        is_some_waiting(self.listeners.as_slice()) || self.slots.is_some_ready()
     }
 
     /// Begins a round, after so many milliseconds at most. None where the wait fails.
     fn begin_round(&mut self, most: u64) -> Option<()>
         ensures doors { doors self.new.listeners.items ≡ doors self.old.listeners.items }
-        ensures turns { IfSome result (λ _. self.new.turn ≡ 0) }
+        ensures turns { IfSome result (λ _. self.new.slots.left ≡ false) }
     {
         self.poll
             .poll(&mut self.events, Some(Duration::from_millis(most)))
             .ok()?;
-        note_all(&mut self.listeners, &mut self.streams, &self.events);
         self.allow();
+        self.slots.begin();
+        note_all(&mut self.listeners, &mut self.slots, &self.events);
         self.now = self.clock.monotonic().unwrap_or(self.now);
-        self.turn = 0;
         Some(())
     }
 
@@ -265,35 +209,20 @@ fn is_some_waiting(listeners: &[Listener]) -> bool
     listeners.iter().any(|listener| listener.waiting)
 }
 
-/// Whether a stream has an event for its next turn.
-fn is_some_turn_next(streams: &[Option<Stream>]) -> bool
-    ensures { result ≡ list_any has_turn_next streams.now }
-{
-    streams.iter().any(|place| is_ready_at(place))
-}
-
-/// Whether there is a stream, which has an event for its next turn.
-fn is_ready_at(place: &Option<Stream>) -> bool
-    ensures { result ≡ has_turn_next place.now }
-{
-    match place {
-        Some(stream) => stream.is_ready(),
-        None => false,
-    }
-}
-
 /// Notes the readiness that events report.
-fn note_all(listeners: &mut Vec<Listener>, streams: &mut Vec<Option<Stream>>, events: &Events)
-    ensures { doors listeners.new.items ≡ doors listeners.old.items }
+fn note_all(listeners: &mut Vec<Listener>, slots: &mut Slots, events: &Events)
+    ensures doors { doors listeners.new.items ≡ doors listeners.old.items }
+    ensures left { slots.new.left ≡ slots.old.left }
 {
     for event in events {
-        note(listeners, streams, event);
+        note(listeners, slots, event);
     }
 }
 
 /// Notes the readiness that an event reports.
-fn note(listeners: &mut Vec<Listener>, streams: &mut Vec<Option<Stream>>, event: &Event)
+fn note(listeners: &mut Vec<Listener>, slots: &mut Slots, event: &Event)
     ensures doors { doors listeners.new.items ≡ doors listeners.old.items }
+    ensures left { slots.new.left ≡ slots.old.left }
     ensures waits { (event_token event.now).0 < vec_len listeners.old → HoldsAt (λ l. l.waiting ≡ true) listeners.new.items (event_token event.now).0 }
 {
     let token = event.token().0;
@@ -301,9 +230,7 @@ fn note(listeners: &mut Vec<Listener>, streams: &mut Vec<Option<Stream>>, event:
         listeners[token].waiting = true;
         return;
     }
-    if let Some(Some(stream)) = streams.get_mut(token - listeners.len()) {
-        stream.note(event);
-    }
+    slots.note(token - listeners.len(), event);
 }
 
 impl<C: Clock + Drop> Ports for Sockets<C> {
@@ -327,32 +254,26 @@ impl<C: Clock + Drop> Ports for Sockets<C> {
     }
 
     fn read(&mut self, slot: usize, buffer: &mut [u8]) -> Result<usize, PortFault> {
-        let error = match self.streams.get_mut(slot) {
-            Some(Some(stream)) => match stream.read(buffer) {
-                Ok(count) => return Ok(count),
-                Err(error) => Some(error),
-            },
-            _ => None,
+        let error = match self.slots.read(slot, buffer) {
+            Some(Ok(count)) => return Ok(count),
+            Some(Err(error)) => Some(error),
+            None => None,
         };
         Err(self.fault(error))
     }
 
     fn write(&mut self, slot: usize, bytes: &[u8]) -> Result<usize, PortFault> {
-        let error = match self.streams.get_mut(slot) {
-            Some(Some(stream)) => match stream.write(bytes, self.now) {
-                Ok(count) => return Ok(count),
-                Err(error) => Some(error),
-            },
-            _ => None,
+        let error = match self.slots.write(slot, bytes, self.now) {
+            Some(Ok(count)) => return Ok(count),
+            Some(Err(error)) => Some(error),
+            None => None,
         };
         Err(self.fault(error))
     }
 
     fn end(&mut self, slot: usize)
-        ensures freed { slot < vec_len self.old.streams → HoldsAt (λ place. place ≡ None) self.new.streams.items slot }
+        ensures freed { slot < vec_len self.old.slots.streams → HoldsAt (λ place. place ≡ None) self.new.slots.streams.items slot }
     {
-        if let Some(place) = self.streams.get_mut(slot) {
-            drop(place.take());
-        }
+        self.slots.take(slot);
     }
 }

@@ -40,7 +40,9 @@ pub(crate) struct Stream {
 }
 
 impl Stream {
-    pub(crate) fn new(socket: TcpStream) -> Stream {
+    pub(crate) fn new(socket: TcpStream) -> Stream
+        ensures idle { (result.writable || result.readable) ≡ false }
+    {
         Stream {
             socket,
             readable: false,
@@ -75,6 +77,7 @@ impl Stream {
     pub(crate) fn take_turn(&mut self, slot: usize) -> Option<PortEvent>
         ensures event { result ≡ turn_of slot self.old.writable self.old.readable }
         ensures asks { result ≡ Some (event.Readable slot) → self.new.drained ≡ false }
+        ensures idle { result ≡ None → (self.new.writable || self.new.readable) ≡ false }
     {
         if self.writable {
             self.writable = false;

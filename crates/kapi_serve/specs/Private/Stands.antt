@@ -1,5 +1,5 @@
 -- What the loop keeps of its clients, and how that suits the connections of the machine.
-use Rattle.std.specs.Prelude.{◌≡◌, ◌⊎◌, ◌<◌, ◌≤◌, ℕ, suc, Bool, true, false, List, [], ◌∷◌, drop, length, Option, Some, None, is_some}
+use Rattle.std.specs.Prelude.{◌≡◌, ◌⊎◌, ◌<◌, ◌≤◌, ◌%◌, ℕ, suc, Bool, true, false, List, [], ◌∷◌, drop, length, Option, Some, None, is_some}
 use Rattle.std.specs.List.{AllByRecursion, HoldsAt}
 use Rattle.std.specs.List.Sorted.{IsStrictlySortedBy}
 use Rattle.std.specs.Map.{keys_of}
@@ -106,6 +106,10 @@ is_called (Some numbers) watching = is_among numbers watching
 -- the same by fingerprints, of the clients before a place
 abbrev pub AreCalled : Option (List ℕ) → ℕ → List Client → Type 0
 AreCalled concerned place cs = (i : ℕ) → i < place → HoldsAt (λ c. is_called concerned c.watching ≡ true → c.shown ≡ false) cs i
+
+-- each number that is called is marked by its remainder
+abbrev pub AreMarked : Option (List ℕ) → List Bool → Type 0
+AreMarked concerned marks = (n : ℕ) → is_called concerned (Some n) ≡ true → HoldsAt (λ mark. mark ≡ true) marks (n % 64)
 
 -- a client that has just connected
 pub record IsNew (c : Client) : Type 0 where

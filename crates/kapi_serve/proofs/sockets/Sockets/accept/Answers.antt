@@ -1,9 +1,7 @@
 -- A free slot leaves the ports, so a client that is accepted came by one of them.
-use Rattle.std.proofs.Common.{◌∙◌}
-use Rattle.kapi_serve.specs.Listening.{doors}
 use Rattle.kapi_serve.proofs.Listening.{came_same}
 use Rattle.kapi_serve.proofs.sockets.Sockets.accept.Goals as goal
 
 pub returns-in-Some-accept_or_pause-clause-identity : goal.returns-in-Some-accept_or_pause-clause-identity
 returns-in-Some-accept_or_pause-clause-identity g c =
-    came_same c.free_slot.new.self.listeners.items c.args.self.now.listeners.items _ ((λ j. doors (c.free_slot.ensures.same j).items) ∙ c.loop-index.invariant.1) c.in-Some-accept_or_pause.ensures.identity
+    came_same _ _ _ c.loop-index.invariant.1 c.in-Some-accept_or_pause.ensures.identity

@@ -1,0 +1,28 @@
+//! The fingerprints that are called, marked by their last bits: most watches are told apart by that look alone.
+ghost use Rattle.std.specs.Prelude.{◌≡◌, ◌%◌, ◌==◌, ℕ, Some, true, option_map};
+ghost use Rattle.std.specs.List.{HoldsAt, list_any};
+ghost use Rattle.kapi_serve.specs.Private.Stands.{AreMarked};
+
+/// The number of marks.
+pub(crate) const MARKS: usize = 64;
+
+/// The marks of the fingerprints that are called: those of a list, or all where there is no list of them.
+pub(crate) fn marks_of(concerned: &Option<Vec<u64>>) -> [bool; MARKS]
+    ensures { AreMarked (option_map (λ v. v.items) concerned.now) result }
+{
+    match concerned {
+        Some(numbers) => marks_among(numbers.as_slice()),
+        None => [true; MARKS],
+    }
+}
+
+/// The marks of numbers.
+fn marks_among(numbers: &[u64]) -> [bool; MARKS]
+    ensures { AreMarked (Some numbers.now) result }
+{
+    let mut marks = [false; MARKS];
+    for index in 0..numbers.len() {
+        marks[(numbers[index] % 64) as usize] = true;
+    }
+    marks
+}

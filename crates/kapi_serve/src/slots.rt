@@ -1,0 +1,257 @@
+ghost use Rattle.std.specs.Prelude.{◌≡◌, ◌<◌, ◌≤◌, ◌+◌, ◌-◌, ℕ, All, IfOk, IfSome, None, Some, true, false, is_some, length, min, vec_len};
+ghost use Rattle.std.specs.List.{HoldsAt, list_any};
+ghost use Rattle.kapi_serve.specs.Private.Ready.{has_turn_next};
+ghost use Rattle.kapi_serve.specs.Private.Turns.{may_be_read};
+ghost use Rattle.kapi_serve.specs.declared.port.PortEvent.{PortEvent as AnEvent};
+ghost use Rattle.kapi_serve.specs.declared.port.PortEvent.TheVariants as event;
+ghost use Rattle.kapi_model.specs.declared.identity.Identity.{Identity as AnIdentity};
+
+use crate::port::PortEvent;
+use crate::stream::Stream;
+use mio::event::Event;
+use mio::net::TcpStream;
+use std::alloc::Global;
+use std::io;
+use std::time::Duration;
+
+/// The largest number of open sockets of clients.
+const MOST_OPEN: usize = 320;
+
+/// The streams of clients by slot, and which of them are to have a turn. A round goes over the slots between the first
+/// and the last that an event was noted of, however many are open.
+#[derive(Drop)]
+pub(crate) struct Slots {
+    streams: Vec<Option<Stream>>,
+    /// The slots from this one on have not had their turn in this round.
+    turn: usize,
+    /// The slots from this one on have no event.
+    end: usize,
+    /// A slot that has had its turn may have an event again.
+    left: bool,
+    ghost passed: { left ≡ false → (i : ℕ) → i < turn → i < length streams.items → HoldsAt (λ place. has_turn_next place ≡ false) streams.items i },
+    ghost beyond: { (i : ℕ) → end ≤ i → i < length streams.items → HoldsAt (λ place. has_turn_next place ≡ false) streams.items i },
+}
+
+impl Slots {
+    pub(crate) fn new(alloc: Global) -> Slots {
+        Slots {
+            streams: Vec::new(alloc),
+            turn: 0,
+            end: 0,
+            left: false,
+        }
+    }
+
+    /// A slot that no stream has, if there is one.
+    pub(crate) fn free(&mut self) -> Option<usize>
+        ensures slot { IfSome result (λ slot. slot < vec_len self.new.streams) }
+        ensures free { IfSome result (λ slot. HoldsAt (λ place. place ≡ None) self.new.streams.items slot) }
+        ensures few { vec_len self.old.streams ≤ 320 → vec_len self.new.streams ≤ 320 }
+        ensures full { result ≡ None → All (λ place. place ≡ None → ⊥) self.new.streams.items }
+    {
+        match self.streams.iter().position(|stream| stream.is_none()) {
+            Some(slot) => Some(slot),
+            None => {
+                if self.streams.len() >= MOST_OPEN {
+                    return None;
+                }
+                self.streams.push(None).ok()?;
+                Some(self.streams.len() - 1)
+            }
+        }
+    }
+
+    /// Puts the stream of a client that has connected into a slot.
+    pub(crate) fn put(&mut self, slot: usize, socket: TcpStream)
+        requires { slot < vec_len self.old.streams }
+        ensures len { vec_len self.new.streams ≡ vec_len self.old.streams }
+        ensures there { HoldsAt (λ place. is_some place ≡ true) self.new.streams.items slot }
+    {
+        self.streams[slot] = Some(Stream::new(socket));
+    }
+
+    /// Takes the stream out of a slot.
+    pub(crate) fn take(&mut self, slot: usize)
+        ensures freed { slot < vec_len self.old.streams → HoldsAt (λ place. place ≡ None) self.new.streams.items slot }
+    {
+        if slot < self.streams.len() {
+            drop(self.streams[slot].take());
+        }
+    }
+
+    /// Begins a round: each slot that has an event is yet to have its turn.
+    pub(crate) fn begin(&mut self)
+        ensures { self.new.left ≡ false }
+    {
+        if self.left || self.turn < self.end {
+            self.turn = 0;
+            self.left = false;
+        } else {
+            self.turn = self.streams.len();
+            self.end = 0;
+        }
+    }
+
+    /// Notes the readiness that an event of a slot reports.
+    pub(crate) fn note(&mut self, slot: usize, event: &Event)
+        ensures left { self.new.left ≡ self.old.left }
+        ensures noted { slot < vec_len self.old.streams → may_be_read event.now ≡ true
+            → HoldsAt (λ place. is_some place ≡ true → HoldsAt (λ place. has_turn_next place ≡ true) self.new.streams.items slot) self.old.streams.items slot }
+    {
+        if slot >= self.streams.len() {
+            return;
+        }
+        if let Some(stream) = &mut self.streams[slot] {
+            stream.note(event);
+            self.turn = self.turn.min(slot);
+            self.end = self.end.max(slot + 1);
+        }
+    }
+
+    /// The next turn of this round.
+    pub(crate) fn take_turn(&mut self) -> Option<PortEvent>
+        ensures turn { IfSome result (λ event. self.old.turn < self.new.turn) }
+        ensures done { result ≡ None → min self.new.end (vec_len self.new.streams) ≤ self.new.turn }
+        ensures open { (slot : ℕ) (identity : AnIdentity) → result ≡ Some (event.Opened slot identity) → ⊥ }
+    {
+        while self.turn < self.end.min(self.streams.len()) {
+            let taken = self.pass_turn();
+            if taken.is_some() {
+                return taken;
+            }
+        }
+        None
+    }
+
+    /// The event of the slot whose turn it is, if it has one. The turn passes to the next slot.
+    fn pass_turn(&mut self) -> Option<PortEvent>
+        requires due { self.old.turn < self.old.end }
+        requires slot { self.old.turn < vec_len self.old.streams }
+        ensures turn { self.new.turn ≡ self.old.turn + 1 }
+        ensures same { (self.new.end ≡ self.old.end) × (vec_len self.new.streams ≡ vec_len self.old.streams) }
+        ensures open { (slot : ℕ) (identity : AnIdentity) → result ≡ Some (event.Opened slot identity) → ⊥ }
+    {
+        let slot = self.turn;
+        let taken = turn_at(&mut self.streams[slot], slot);
+        if is_ready_at(&self.streams[slot]) {
+            self.left = true;
+        }
+        self.turn = slot + 1;
+        taken
+    }
+
+    /// Whether a stream has an event for its next turn.
+    pub(crate) fn is_some_ready(&self) -> bool
+        ensures { result ≡ list_any has_turn_next self.now.streams.items }
+    {
+        if self.left {
+            return is_some_turn_next(self.streams.as_slice());
+        }
+        for slot in self.turn..self.end.min(self.streams.len()) {
+            if is_ready_at(&self.streams[slot]) {
+                return true;
+            }
+        }
+        false
+    }
+
+    /// Breaks the first of the streams that have taken nothing for too long.
+    pub(crate) fn break_stuck(&mut self, now: Duration) {
+        self.left = true;
+        self.end = self.streams.len();
+        break_first(self.streams.as_mut_slice(), now);
+    }
+
+    /// Reads from the stream of a slot, if there is one, within its share.
+    pub(crate) fn read(&mut self, slot: usize, buffer: &mut [u8]) -> Option<io::Result<usize>>
+        ensures len { length buffer.new ≡ length buffer.old }
+        ensures bound { IfSome result (λ r. IfOk r (λ n. n ≤ length buffer.new)) }
+    {
+        if slot >= self.streams.len() {
+            return None;
+        }
+        let read = read_at(&mut self.streams[slot], buffer);
+        if is_ready_at(&self.streams[slot]) {
+            self.left = true;
+            self.end = self.end.max(slot + 1);
+        }
+        read
+    }
+
+    /// Writes to the stream of a slot, if there is one, within its share.
+    pub(crate) fn write(
+        &mut self,
+        slot: usize,
+        bytes: &[u8],
+        now: Duration,
+    ) -> Option<io::Result<usize>>
+        ensures bound { IfSome result (λ r. IfOk r (λ n. n ≤ length bytes.now)) }
+    {
+        if slot >= self.streams.len() {
+            return None;
+        }
+        let written = write_at(&mut self.streams[slot], bytes, now);
+        if is_ready_at(&self.streams[slot]) {
+            self.left = true;
+            self.end = self.end.max(slot + 1);
+        }
+        written
+    }
+}
+
+fn break_first(streams: &mut [Option<Stream>], now: Duration)
+    ensures { length streams.new ≡ length streams.old }
+{
+    for stream in streams.iter_mut().flatten() {
+        if stream.is_stuck(now) {
+            return stream.break_off();
+        }
+    }
+}
+
+fn read_at(place: &mut Option<Stream>, buffer: &mut [u8]) -> Option<io::Result<usize>>
+    ensures len { length buffer.new ≡ length buffer.old }
+    ensures bound { IfSome result (λ r. IfOk r (λ n. n ≤ length buffer.new)) }
+{
+    match place {
+        Some(stream) => Some(stream.read(buffer)),
+        None => None,
+    }
+}
+
+fn write_at(place: &mut Option<Stream>, bytes: &[u8], now: Duration) -> Option<io::Result<usize>>
+    ensures { IfSome result (λ r. IfOk r (λ n. n ≤ length bytes.now)) }
+{
+    match place {
+        Some(stream) => Some(stream.write(bytes, now)),
+        None => None,
+    }
+}
+
+/// The event of the stream on this slot, if there is one and it is ready.
+fn turn_at(place: &mut Option<Stream>, slot: usize) -> Option<PortEvent>
+    ensures none { result ≡ None → has_turn_next place.new ≡ false }
+    ensures open { (slot : ℕ) (identity : AnIdentity) → result ≡ Some (event.Opened slot identity) → ⊥ }
+{
+    match place {
+        Some(stream) => stream.take_turn(slot),
+        None => None,
+    }
+}
+
+/// Whether there is a stream, which has an event for its next turn.
+fn is_ready_at(place: &Option<Stream>) -> bool
+    ensures { result ≡ has_turn_next place.now }
+{
+    match place {
+        Some(stream) => stream.is_ready(),
+        None => false,
+    }
+}
+
+/// Whether a stream has an event for its next turn.
+fn is_some_turn_next(streams: &[Option<Stream>]) -> bool
+    ensures { result ≡ list_any has_turn_next streams.now }
+{
+    streams.iter().any(|place| is_ready_at(place))
+}
