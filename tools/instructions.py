@@ -3,8 +3,9 @@
 
 usage: instructions.py KAPI..     each KAPI is a built program
 
-Each figure is the difference of a run of 1,000 requests more: of one connection, with eleven bindings. An event is what a
-put costs more for each of ten watches that see it. A part is that of samples.py, without the system's.
+Each figure is the difference of a run of 1,024 requests more, in which watches are woken four times: of one connection, with
+eleven bindings. An event is what a put costs more for each of ten watches that see it. A part is that of samples.py, without
+the system's.
 """
 import collections
 import json
@@ -19,16 +20,19 @@ from load import ANN, MAPS, ROOT, ask, objects
 from samples import part_of
 from started import started
 
-FEW, MORE, WATCHES = 200, 1_000, 10
+FEW, MORE, SEEING, IDLE = 200, 1_024, 10, 240
 NAMED = re.compile(r"(fn|ob|cfn|cob)=(\(\d+\))(?: (.*))?")
 DENIED = "/api/v1/namespaces/default/secrets/a"
+OTHERS = "/api/v1/namespaces/other/configmaps"
 KINDS = {
-    "a health request": (ROOT, "GET", "/healthz", None, 0),
-    "a get": (ANN, "GET", f"{MAPS}/map-0", None, 0),
-    "a denied get": (ANN, "GET", DENIED, None, 0),
-    "a put": (ROOT, "PUT", f"{MAPS}/map-0", "map-0", 0),
-    "a post": (ROOT, "POST", MAPS, "made-{}", 0),
-    "a put that ten watches see": (ROOT, "PUT", f"{MAPS}/map-0", "map-0", WATCHES),
+    "a health request": (ROOT, "GET", "/healthz", None, []),
+    "a get": (ANN, "GET", f"{MAPS}/map-0", None, []),
+    "a denied get": (ANN, "GET", DENIED, None, []),
+    "a put": (ROOT, "PUT", f"{MAPS}/map-0", "map-0", []),
+    "a post": (ROOT, "POST", MAPS, "made-{}", []),
+    "a put that ten watches see": (ROOT, "PUT", f"{MAPS}/map-0", "map-0", [MAPS] * SEEING),
+    "a get beside 240 watches of another namespace": (ANN, "GET", f"{MAPS}/map-0", None, [OTHERS] * IDLE),
+    "a put beside 240 watches of another namespace": (ROOT, "PUT", f"{MAPS}/map-0", "map-0", [OTHERS] * IDLE),
 }
 
 
@@ -39,16 +43,22 @@ def body(name, number):
     return json.dumps({"metadata": {"name": name.format(number), "namespace": "default"}, "data": {"key": f"{number:>0100}"}})
 
 
+def watch_of(path):
+    """A connection that watches what is there."""
+    watch = socket.create_connection(("127.0.0.1", ROOT))
+    ask(watch, "GET", f"{path}?watch=1", "")
+    return watch
+
+
 def send(kind, times):
-    """Sends so many requests, and takes in what the watches show."""
-    port, method, path, name, count = kind
-    watches = [socket.create_connection(("127.0.0.1", ROOT)) for _watch in range(count)]
-    for watch in watches:
-        ask(watch, "GET", f"{MAPS}?watch=1", "")
+    """Sends so many requests, and takes in what the watches show that see them."""
+    port, method, path, name, watched = kind
+    watches = [watch_of(each) for each in watched]
+    seeing = watches if MAPS in watched else []
     client = socket.create_connection(("127.0.0.1", port))
     for number in range(times):
         ask(client, method, path, body(name, number))
-        for watch in watches:
+        for watch in seeing:
             watch.recv(65536)
     for each in [client, *watches]:
         each.close()
