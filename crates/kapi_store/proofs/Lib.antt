@@ -14,3 +14,4 @@ pub mod Versions
 pub mod Alike
 pub mod Labelled
 pub mod Places
+pub mod Existing

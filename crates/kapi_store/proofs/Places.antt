@@ -28,6 +28,15 @@ free_is_empty s k true true is e = absurd (cc e)
 free_is_empty s k true false is e = is
 free_is_empty s k false object is e = absurd (cc e)
 
+free_has_namespace : (namespace object : Bool) → free_if namespace object ≡ Ok tt → namespace ≡ true
+free_has_namespace true object is = refl
+free_has_namespace false object is = absurd (cc is)
+
+-- the namespace of a free place exists
+pub namespace_there : (s : Plain) (k : Key) → free_place s k ≡ Ok tt → has_namespace k s ≡ true
+unfolding free_place
+namespace_there s k free = free_has_namespace (has_namespace k s) (has_object k s) free
+
 -- nothing stands at a free place
 pub nothing_stands : (s : Plain) (k : Key) → free_place s k ≡ Ok tt → lookup (is_key k) s.objects ≡ None
 unfolding free_place has_object

@@ -1,3 +1,4 @@
 -- What contracts inside this crate alone cite: a caller need not read it.
 pub mod Span
 pub mod Alike
+pub mod Existing

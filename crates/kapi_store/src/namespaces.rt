@@ -1,14 +1,17 @@
 //! The objects of a namespace.
 
-ghost use Rattle.std.specs.Prelude.{◌≡◌, IfOk};
+ghost use Rattle.std.specs.Prelude.{◌≡◌, true, None, Some, IfOk};
 ghost use Rattle.std.specs.List.{list_any};
 ghost use Rattle.kapi_store.specs.State.{live};
-ghost use Rattle.kapi_store.specs.Plain.{is_namespace as is_namespace_of};
+ghost use Rattle.kapi_store.specs.Plain.{Plain, has_namespace, is_namespace as is_namespace_of};
+ghost use Rattle.kapi_store.specs.Private.Existing.{Exists};
+ghost use Rattle.kapi_store.specs.declared.stored.StoredObject.{StoredObject};
 ghost use Rattle.kapi_store.specs.Private.Span.{is_of as is_of_row, row_holds, namespace_start as namespace_start_of, namespace_end as namespace_end_of};
 
-use crate::change::Shared;
+use crate::change::{Change, Shared};
 use crate::key::Key;
 use crate::listing::after;
+use crate::rows::is_namespaced;
 use kapi_model::ResourceRow;
 use kapi_text::{Memory, Text, TryCopy};
 use std::alloc::Global;
@@ -104,4 +107,39 @@ pub fn any_stands_in(
         }
     }
     Ok(false)
+}
+
+/// Whether the namespace is the one that is known to exist.
+pub fn is_known(known: &Option<Text>, namespace: &Text) -> bool
+    ensures { (s : Plain) → Exists known.now s → result ≡ true → Exists (Some namespace.now) s }
+{
+    match known {
+        Some(known) => known == namespace,
+        None => false,
+    }
+}
+
+/// Keeps the name of the key's namespace, which exists, where the key is in one.
+pub fn keep_namespace(
+    alloc: Global,
+    table: &[ResourceRow],
+    known: &mut Option<Text>,
+    key: &Key,
+) -> Result<(), Memory>
+    ensures { (s : Plain) → s.table ≡ table.now → has_namespace key.now s ≡ true → Exists known.old s → Exists known.new s }
+{
+    if !is_known(known, &key.namespace) && is_namespaced(table, key) {
+        *known = Some(key.namespace.copy(alloc)?);
+    }
+    Ok(())
+}
+
+/// Forgets the namespace that is known to exist where a change removes an object, which it may be.
+pub fn forget_if_removed(known: &mut Option<Text>, change: &Change)
+    ensures removed { change.now.new ≡ None → known.new ≡ None }
+    ensures stays { (o : StoredObject) → change.now.new ≡ Some o → known.new ≡ known.old }
+{
+    if change.new.is_none() {
+        *known = None;
+    }
 }

@@ -2,7 +2,9 @@ use crate::change::{Change, Shared};
 use crate::error::{StoreError, TooOld};
 use crate::key::Key;
 use crate::listing::{Listed, Selection};
-use crate::namespaces::{any_stands_in, is_namespace};
+use crate::namespaces::{
+    any_stands_in, forget_if_removed, is_known, is_namespace, keep_namespace,
+};
 use crate::ready::Ready;
 use crate::rows::is_namespaced;
 use crate::slots::{find, place, reserve_slot};
@@ -27,6 +29,8 @@ pub struct Store {
     slots: BTreeMap<Key, Option<Shared>>,
     /// The key of the only slot that may be empty.
     spare: Option<Key>,
+    /// The last namespace in which an object was created, while it surely exists: it need not be looked up again.
+    known: Option<Text>,
     first: u64,
     revision: u64,
     window: Window,
@@ -39,6 +43,7 @@ impl Drop for Store {
             table: _,
             slots: _,
             spare: _,
+            known: _,
             first: _,
             revision: _,
             window: _,
@@ -57,10 +62,12 @@ impl Model for Store {
     ghost coded = { Prim.hlevel (codes, held.the_row.coded, changed.the_row.coded) };
 
     ghost use Rattle.kapi_store.specs.View.{state_of};
+    ghost use Rattle.kapi_store.specs.Plain.{plain_of};
+    ghost use Rattle.kapi_store.specs.Private.Existing.{Exists};
 
     ghost view = { state_of };
 
-    ghost invariant = { λ s. IsStore (state_of s) };
+    ghost invariant = { λ s. IsStore (state_of s) × Exists s.known (plain_of (state_of s)) };
 }
 
 impl Store {
@@ -99,6 +106,7 @@ impl Store {
             table,
             slots: BTreeMap::new(alloc),
             spare: None,
+            known: None,
             first,
             revision: first,
             window: Window::new(alloc)?,
@@ -194,7 +202,7 @@ impl Store {
     pub fn has_namespace(&self, key: &Key) -> Result<bool, Memory>
         ensures { IfOk result (λ b. b ≡ has_namespace_of key.now (plain_of self.now)) }
     {
-        if !is_namespaced(self.table(), key) {
+        if is_known(&self.known, &key.namespace) || !is_namespaced(self.table(), key) {
             return Ok(true);
         }
         Ok(self.has_object(&Key::of_namespace(self.alloc, &key.namespace)?))
@@ -266,6 +274,7 @@ impl Store {
         let revision = self.revision + 1;
         let written = created(self.alloc, object, revision)?;
         let ready = Ready::creation(self.alloc, revision, &key, written)?;
+        keep_namespace(self.alloc, self.table.as_slice(), &mut self.known, &key)?;
         reserve_slot(self.alloc, &mut self.slots, &mut self.spare, key)?;
         Ok(ready)
     }
@@ -427,6 +436,7 @@ impl Store {
         ensures first { self.new.first ≡ self.old.first }
     {
         place(&mut self.slots, &mut self.spare, &change.key, kept);
+        forget_if_removed(&mut self.known, &change);
         self.revision = change.revision;
         self.window.note(change);
     }

@@ -27,7 +27,7 @@ returns-clause-changes c =
     let W : State → Type 0 = λ s. changes_of c.last.result ≡ last_of count s.window in
     let is : c.saturating_sub-count.result ≡ count = omega arith in
     let lent : changes_of c.last.result ≡ last_of count c.self.inside.window = c.last.ensures ∙ ap (λ n. last_of n c.self.inside.window) is in
-    subst W now lent ∙ subst P now (window_after (state_of c.self.inside) c.args.revision count c.self.invariant (omega arith) refl (omega arith))
+    subst W now lent ∙ subst P now (window_after (state_of c.self.inside) c.args.revision count c.self.invariant.0 (omega arith) refl (omega arith))
 
 pub returns-clause-all : goal.returns-clause-all
 returns-clause-all c = λ history p stands.

@@ -3,10 +3,13 @@ use Rattle.kapi_store.specs.declared.stored.StoredObject.{StoredObject}
 use Rattle.kapi_store.specs.Limits.{last_revision}
 use Rattle.std.specs.Map.{lookup}
 use Rattle.kapi_store.specs.Keys.{is_key}
-use Rattle.kapi_store.specs.Changes.{Follow}
-use Rattle.kapi_store.specs.State.{State, HasSlot}
+use Rattle.kapi_store.specs.Changes.{Follow, placed}
+use Rattle.kapi_store.specs.State.{State, HasSlot, live, objects}
+use Rattle.kapi_store.specs.Plain.{plain_of, trees}
 use Rattle.kapi_store.specs.View.{state_of}
+use Rattle.kapi_store.proofs.Existing.{exists_after}
 use Rattle.kapi_store.proofs.Stores.{next_store}
+use Rattle.kapi_store.proofs.Trees.{placed_trees}
 use Rattle.kapi_store.proofs.store.Store.make.Goals as goal
 
 pub place-requires-clause-slot : goal.place-requires-clause-slot
@@ -23,12 +26,16 @@ invariant_of-self c =
     let now : state_of c.self.inside ≡ c.args.self.now = c.self.view_is in
     let next : c.args.change.revision ≡ c.args.self.now.revision + 1 = c.requires.fits.next.0 in
     let last : c.args.self.now.revision + 1 ≤ last_revision = c.requires.fits.last in
-    next_store (state_of c.self.inside) _ c.args.change c.self.invariant c.place.ensures.ordered
-    c.place.ensures.spare
-    c.note.ensures
-    refl refl
-    (next ∙ ap (λ s. s.revision + 1) (sym now))
-    (omega arith)
+    let before : State = state_of c.self.inside in
+    let made : live c.place.new.slots.entries ≡ placed c.args.change.key c.args.change.new (objects before) = c.place.ensures.objects ∙ ap (λ o. placed c.args.change.key o (objects before)) c.requires.kept in (
+      next_store before _ c.args.change c.self.invariant.0 c.place.ensures.ordered
+      c.place.ensures.spare
+      c.note.ensures
+      refl refl
+      (next ∙ ap (λ s. s.revision + 1) (sym now))
+      (omega arith),
+      exists_after (plain_of before) _ c.self.inside.known c.forget_if_removed.new.known c.args.change.key c.args.change.new (ap trees made ∙ placed_trees c.args.change.key c.args.change.new (objects before)) c.forget_if_removed.ensures.removed c.forget_if_removed.ensures.stays c.self.invariant.1,
+    )
 
 pub returns-clause-revision : goal.returns-clause-revision
 unfolding Follow

@@ -4,7 +4,7 @@ use Rattle.kapi_store.proofs.Stores.{new_store, opened_stands}
 use Rattle.kapi_store.proofs.store.Store.new.Goals as goal
 
 pub invariant_of-result : goal.invariant_of-result
-invariant_of-result c = new_store _ c.new.ensures.empty c.in_ok-new.ensures refl c.requires
+invariant_of-result c = (new_store _ c.new.ensures.empty c.in_ok-new.ensures refl c.requires, tt)
 
 pub returns-clause-objects : goal.returns-clause-objects
 unfolding live

@@ -28,7 +28,7 @@ pub returns-then-is_same-clause-fits : goal.returns-then-is_same-clause-fits
 returns-then-is_same-clause-fits c =
     let now : state_of c.self.inside ≡ c.args.self.now = c.self.view_is in
     let P : State → Type 0 = λ s. Fits s c.nothing.result in
-    subst P now (fits_none (state_of c.self.inside) c.nothing.result c.self.invariant c.nothing.ensures)
+    subst P now (fits_none (state_of c.self.inside) c.nothing.result c.self.invariant.0 c.nothing.ensures)
 
 pub returns-in_err-check_revisions-clause-gives : goal.returns-in_err-check_revisions-clause-gives
 returns-in_err-check_revisions-clause-gives c =
@@ -54,7 +54,7 @@ returns-clause-fits c =
     let one = c.in_ok-replacement.ensures in
     let numbered : one.change.revision ≡ c.self.inside.revision + 1 = one.numbered in
     fits_one c.args.self.now _ one.change one.one (omega arith) (omega arith)
-    (λ _. slot_at c.args.self.now one.change.key c.args.key one.place (slot_of_tree c.args.self.now c.args.key (stored_tree c.args.old.now) (subst (λ s. IsStrictlySortedBy key_cmp (keys_of s.slots)) c.self.view_is c.self.invariant.slots) c.requires))
+    (λ _. slot_at c.args.self.now one.change.key c.args.key one.place (slot_of_tree c.args.self.now c.args.key (stored_tree c.args.old.now) (subst (λ s. IsStrictlySortedBy key_cmp (keys_of s.slots)) c.self.view_is c.self.invariant.0.slots) c.requires))
   where
     slot_at : (s : State) (k l : Key) → k ≡ l → IsSome (lookup (is_key l) s.slots) → IsSome (lookup (is_key k) s.slots)
     slot_at s k l is h = subst (λ q. IsSome (lookup (is_key q) s.slots)) (sym is) h
