@@ -1,7 +1,6 @@
 -- Free places, and places of objects that were found.
 use Rattle.std.proofs.Common.{◌≡◌, Bool, true, false, List, Option, None, Some, Result, Ok, Err, IsSome, option_map, if◌then◌else◌, ok_or, sym, refl, ◌∙◌}
-use Rattle.std.specs.Map.{keys_of, lookup}
-use Rattle.std.specs.List.Sorted.{IsStrictlySortedBy}
+use Rattle.std.specs.Map.{lookup}
 use Rattle.serde_json.specs.Data.{Data}
 use Rattle.kapi_text.specs.Gives.{◌>>=◌}
 use Rattle.kapi_tree.specs.Given.{given_of}
@@ -9,12 +8,11 @@ use Rattle.kapi_store.specs.Stored.{stored_tree}
 use Rattle.kapi_tree.specs.declared.given.GivenText.{GivenText}
 use Rattle.kapi_store.specs.declared.stored.StoredObject.{StoredObject}
 use Rattle.kapi_store.specs.Faults.{StoreFault, Exists, Missing, NoNamespace, Conflict}
-use Rattle.kapi_store.specs.Keys.{is_key, key_cmp}
+use Rattle.kapi_store.specs.Keys.{is_key}
 use Rattle.kapi_store.specs.Plain.{Plain, PlainChange, admits, admitted, free_place, has_namespace, has_object, plain_of, replaced, replacement, replacement_in_place}
-use Rattle.kapi_store.specs.State.{State, live, objects}
+use Rattle.kapi_store.specs.State.{State, hides, visible, objects}
 use Rattle.kapi_store.specs.Stamps.{version_in}
 use Rattle.kapi_store.specs.declared.key.Key.{Key}
-use Rattle.kapi_store.proofs.Keys.{key_total}
 use Rattle.kapi_store.proofs.SlotSteps.{none_there, slot_there}
 use Rattle.kapi_store.proofs.Trees.{lookup_trees}
 
@@ -52,15 +50,15 @@ no_object s k free = none_mapped (lookup (is_key k) (objects s)) (sym (lookup_tr
 
 -- ---- the place of an object
 
-slot_by : (k : Key) (slots : List (Key × Option StoredObject)) (tree : Data) → IsStrictlySortedBy key_cmp (keys_of slots)
-    → (o : Option StoredObject) → lookup (is_key k) (live slots) ≡ o → option_map stored_tree o ≡ Some tree → IsSome (lookup (is_key k) slots)
-slot_by k slots tree ordered None at is = absurd (cc is)
-slot_by k slots tree ordered (Some x) at is = slot_there key_cmp key_total k x slots ordered at
+slot_by : (hidden : Option Key) (k : Key) (slots : List (Key × StoredObject)) (tree : Data)
+    → (o : Option StoredObject) → lookup (is_key k) (visible hidden slots) ≡ o → option_map stored_tree o ≡ Some tree → IsSome (lookup (is_key k) slots) × (hides hidden k ≡ false)
+slot_by hidden k slots tree None at is = absurd (cc is)
+slot_by hidden k slots tree (Some x) at is = slot_there hidden k x slots at
 
--- where a tree stands, there is a slot
-pub slot_of_tree : (s : State) (k : Key) (tree : Data) → IsStrictlySortedBy key_cmp (keys_of s.slots) → lookup (is_key k) (plain_of s).objects ≡ Some tree → IsSome (lookup (is_key k) s.slots)
-slot_of_tree s k tree ordered is =
-    slot_by k s.slots tree ordered (lookup (is_key k) (objects s)) refl (sym (lookup_trees k (objects s)) ∙ is)
+-- where a tree stands, there is a slot, which is not hidden
+pub slot_of_tree : (s : State) (k : Key) (tree : Data) → lookup (is_key k) (plain_of s).objects ≡ Some tree → IsSome (lookup (is_key k) s.slots) × (hides s.hidden k ≡ false)
+slot_of_tree s k tree is =
+    slot_by s.hidden k s.slots tree (lookup (is_key k) (objects s)) refl (sym (lookup_trees k (objects s)) ∙ is)
 
 -- ---- a replacement
 

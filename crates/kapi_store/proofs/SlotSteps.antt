@@ -1,18 +1,22 @@
--- What the steps on slots make of the entries that are not empty.
-use Rattle.std.proofs.Common.{◌≡◌, suc, ◌+◌, ◌≤◌, Bool, true, false, cond, List, [], ◌∷◌, Option, None, Some, IsSome, length, refl, sym, ap, ◌∙◌, subst, arith}
-use Rattle.std.specs.Option.{option_flatten, is_some}
+-- What the steps on slots make of the entries that are visible.
+use Rattle.std.proofs.Common.{◌≡◌, suc, ◌+◌, ◌≤◌, Bool, true, false, not, cond, List, [], ◌∷◌, Option, None, Some, IsSome, length, refl, sym, ap, ◌∙◌, subst, arith}
+use Rattle.std.specs.Option.{is_some}
+use Rattle.std.specs.List.{filter, AllByRecursion}
+use Rattle.std.specs.List.Sorted.{IsStrictlySortedBy}
 use Rattle.std.specs.Ordering.{match_ordering, is_eq, ordering_reverse}
 use Rattle.std.specs.declared.cmp.Ordering.{Ordering}
 use Rattle.std.specs.declared.cmp.Ordering.TheVariants.{Less, Equal, Greater}
-use Rattle.std.specs.Cmp.{IsTotalOrder, eq_by_cmp_equiv}
-use Rattle.std.specs.List.{AllByRecursion}
-use Rattle.std.specs.List.Sorted.{IsStrictlySortedBy}
+use Rattle.std.specs.Cmp.{eq_by_cmp_equiv}
 use Rattle.std.specs.Map.{lookup, keys_of, remove_entry, set_value}
-use Rattle.std.specs.BTreeMap.{insert_entry, is_at}
+use Rattle.std.specs.BTreeMap.{insert_entry}
+use Rattle.std.proofs.lemmas.List.Kept.{IsStrictlySortedBy-filter}
 use Rattle.std.proofs.lemmas.Map.{lookup-none}
 use Rattle.std.proofs.lemmas.Map.Keys.{sorted_head, sorted_tail, IsDistinct-from_sorted}
-use Rattle.std.proofs.lemmas.Map.Entries.{none_past_head, none_below_head}
-use Rattle.kapi_store.specs.State.{held, live, IsSpare}
+use Rattle.std.proofs.lemmas.Map.Entries.{lookup-filter-keys, none_past_head, none_below_head}
+use Rattle.kapi_store.specs.declared.key.Key.{Key}
+use Rattle.kapi_store.specs.Keys.{key_cmp, is_key}
+use Rattle.kapi_store.specs.State.{hides, visible}
+use Rattle.kapi_store.proofs.Keys.{key_total, key_same}
 
 -- what is its own reverse is Equal
 pub own_reverse : (o : Ordering) → o ≡ ordering_reverse o → o ≡ Equal
@@ -20,20 +24,33 @@ own_reverse Less h = absurd (cc h)
 own_reverse Equal h = refl
 own_reverse Greater h = absurd (cc h)
 
-own : {K : Type 0} (cmp : K → K → Ordering) → IsTotalOrder cmp → (k : K) → cmp k k ≡ Equal
-own cmp total k = own_reverse (cmp k k) (total.antisymm k k)
+-- a key is itself
+own : (k : Key) → is_key k k ≡ true
+own k = ap is_eq (own_reverse (key_cmp k k) (key_total.antisymm k k))
+
+equal_if : (o : Ordering) → is_eq o ≡ true → o ≡ Equal
+equal_if Less h = absurd (cc h)
+equal_if Equal h = refl
+equal_if Greater h = absurd (cc h)
+
+-- a key that is this one is the same
+same_key : (k l : Key) → is_key k l ≡ true → k ≡ l
+same_key k l h = key_same k l (equal_if (key_cmp k l) h)
+
+-- what hides a key has it
+pub hidden_is : (hidden : Option Key) (k : Key) → hides hidden k ≡ true → hidden ≡ Some k
+hidden_is None k h = absurd (cc h)
+hidden_is (Some l) k h = ap Some (same_key l k h)
+
+-- what is not there is none
+pub none_there : {X : Type 0} (o : Option X) → is_some o ≡ false → o ≡ None
+none_there None h = refl
+none_there (Some x) h = absurd (cc h)
+
+some_injective : {X : Type 0} (x y : X) → Some x ≡ Some y → x ≡ y
+some_injective x y h = cc h
 
 module _ {K X : Type 0} where
-  -- an entry of a key that is not there
-  pub live_absent : (test : K → Bool) (es : List (K × Option X)) → lookup test es ≡ None → lookup test (live es) ≡ None
-  unfolding live
-  live_absent test [] h = refl
-  live_absent test (e ∷ es) h =
-      elim (test e.0) as (λ b. cond b (Some e.1) (lookup test es) ≡ None → test e.0 ≡ b → lookup test (held e.0 e.1 (live es)) ≡ None) [
-        | true ↦ λ k. λ is. absurd (cc k)
-        | false ↦ λ k. λ is. elim e.1 as (λ o. lookup test (held e.0 o (live es)) ≡ None) [ None ↦ live_absent test es k | Some x ↦ rw is (live_absent test es k) ]
-      ] h refl
-
   pub remove_absent : (test : K → Bool) (os : List (K × X)) → lookup test os ≡ None → remove_entry test os ≡ os
   remove_absent test [] h = refl
   remove_absent test (e ∷ es) h =
@@ -42,213 +59,151 @@ module _ {K X : Type 0} where
         | false ↦ λ k. ap (λ os. e ∷ os) (remove_absent test es k)
       ] h
 
-  -- what holds of the keys of all slots holds of those that are not empty
-  pub live_keys : (P : K → Type 0) (es : List (K × Option X)) → AllByRecursion P (keys_of es) → AllByRecursion P (keys_of (live es))
-  unfolding live
-  live_keys P [] h = tt
-  live_keys P (e ∷ es) h =
-      elim e.1 as (λ o. AllByRecursion P (keys_of (held e.0 o (live es)))) [ None ↦ live_keys P es h.1 | Some x ↦ (h.0, live_keys P es h.1) ]
-
-  -- no slot is empty
-  pub IsSpare_weaker : (spare : Option K) (es : List (K × Option X)) → IsSpare None es → IsSpare spare es
-  unfolding IsSpare
-  IsSpare_weaker spare [] h = tt
-  IsSpare_weaker spare (e ∷ es) h = (λ none. absurd (cc (h.0 none)), IsSpare_weaker spare es h.1)
-
-  pub IsSpare_set : (spare : Option K) (test : K → Bool) (x : X) (es : List (K × Option X)) → IsSpare spare es → IsSpare spare (set_value test es (Some x))
-  unfolding IsSpare
-  IsSpare_set spare test x [] h = tt
-  IsSpare_set spare test x (e ∷ es) h =
-      elim (test e.0) as (λ b. IsSpare spare (cond b ((e.0, Some x) ∷ es) (e ∷ set_value test es (Some x)))) [
-        | true ↦ (λ none. absurd (cc none), h.1)
-        | false ↦ (h.0, IsSpare_set spare test x es h.1)
+  -- the keys of the entries that pass a test of the keys
+  keys_filter : (p : K → Bool) (es : List (K × X)) → keys_of (filter (λ e. p e.0) es) ≡ filter p (keys_of es)
+  keys_filter p [] = refl
+  keys_filter p (e ∷ es) =
+      elim (p e.0) as (λ b. keys_of (cond b (e ∷ filter (λ e. p e.0) es) (filter (λ e. p e.0) es)) ≡ cond b (e.0 ∷ filter p (keys_of es)) (filter p (keys_of es))) [
+        | true ↦ ap (λ ks. e.0 ∷ ks) (keys_filter p es)
+        | false ↦ keys_filter p es
       ]
 
-  pub IsSpare_remove : (spare : Option K) (test : K → Bool) (es : List (K × Option X)) → IsSpare spare es → IsSpare spare (remove_entry test es)
-  unfolding IsSpare
-  IsSpare_remove spare test [] h = tt
-  IsSpare_remove spare test (e ∷ es) h =
-      elim (test e.0) as (λ b. IsSpare spare (cond b es (e ∷ remove_entry test es))) [
-        | true ↦ h.1
-        | false ↦ (h.0, IsSpare_remove spare test es h.1)
-      ]
+module _ {X : Type 0} where
+  -- what is visible is in order
+  pub visible_sorted : (hidden : Option Key) (es : List (Key × X)) → IsStrictlySortedBy key_cmp (keys_of es) → IsStrictlySortedBy key_cmp (keys_of (visible hidden es))
+  unfolding visible
+  visible_sorted hidden es h =
+      let P : List Key → Type 0 = λ ks. IsStrictlySortedBy key_cmp ks in
+      subst P (sym (keys_filter (λ k. not (hides hidden k)) es)) (IsStrictlySortedBy-filter key_cmp (λ k. not (hides hidden k)) (keys_of es) h)
 
-  -- where no slot is empty, a key without an object has none
-  pub slot_free : (test : K → Bool) (es : List (K × Option X)) → IsSpare None es → lookup test (live es) ≡ None → lookup test es ≡ None
-  unfolding IsSpare live
-  slot_free test [] h is = refl
-  slot_free test (e ∷ es) h is =
-      elim e.1 as (λ o. e.1 ≡ o → lookup test (held e.0 o (live es)) ≡ None → cond (test e.0) (Some e.1) (lookup test es) ≡ None) [
-        | None ↦ λ none. absurd (cc (h.0 none))
-        | Some x ↦ λ _ found. elim (test e.0) as (λ b. cond b (Some x) (lookup test (live es)) ≡ None → cond b (Some e.1) (lookup test es) ≡ None) [
-          | true ↦ λ k. absurd (cc k)
-          | false ↦ λ k. slot_free test es h.1 k
-        ] found
-      ] refl is
+  -- an entry is found, but for that of the hidden key
+  pub lookup_visible : (hidden : Option Key) (k : Key) (es : List (Key × X)) → lookup (is_key k) (visible hidden es) ≡ cond (not (hides hidden k)) (lookup (is_key k) es) None
+  unfolding visible
+  lookup_visible hidden k es =
+      lookup-filter-keys (is_key k) (λ l. not (hides hidden l)) (not (hides hidden k)) (λ l is. ap (λ q. not (hides hidden q)) (sym (same_key k l is))) es
 
-  -- where no slot is empty, each has an object
-  no_spare_length : (es : List (K × Option X)) → IsSpare None es → length (live es) ≡ length es
-  unfolding IsSpare live
-  no_spare_length [] h = refl
-  no_spare_length (e ∷ es) h =
-      elim e.1 as (λ o. e.1 ≡ o → length (held e.0 o (live es)) ≡ suc (length es)) [
-        | None ↦ λ none. absurd (cc (h.0 none))
-        | Some x ↦ λ _. ap suc (no_spare_length es h.1)
+  -- where a visible entry is, there is its slot, which is not hidden
+  pub slot_there : (hidden : Option Key) (k : Key) (x : X) (es : List (Key × X)) → lookup (is_key k) (visible hidden es) ≡ Some x → IsSome (lookup (is_key k) es) × (hides hidden k ≡ false)
+  slot_there hidden k x es is =
+      elim (hides hidden k) as (λ b. cond (not b) (lookup (is_key k) es) None ≡ Some x → IsSome (lookup (is_key k) es) × (b ≡ false)) [
+        | true ↦ λ e. absurd (cc e)
+        | false ↦ λ e. (let P : Option X → Type 0 = λ o. IsSome o in subst P (sym e) refl, refl)
+      ] (sym (lookup_visible hidden k es) ∙ is)
+
+  -- where no slot is hidden, all are visible
+  pub all_visible : (es : List (Key × X)) → visible None es ≡ es
+  unfolding visible
+  all_visible [] = refl
+  all_visible (e ∷ es) = ap (λ os. e ∷ os) (all_visible es)
+
+  -- where the hidden key has no slot, all are visible
+  visible_absent : (k : Key) (es : List (Key × X)) → lookup (is_key k) es ≡ None → visible (Some k) es ≡ es
+  unfolding visible
+  visible_absent k [] h = refl
+  visible_absent k (e ∷ es) h =
+      elim (is_key k e.0) as (λ b. cond b (Some e.1) (lookup (is_key k) es) ≡ None → cond (not b) (e ∷ visible (Some k) es) (visible (Some k) es) ≡ e ∷ es) [
+        | true ↦ λ n. absurd (cc n)
+        | false ↦ λ n. ap (λ os. e ∷ os) (visible_absent k es n)
+      ] h
+
+  -- past the slot of a key there is no other
+  past : (k : Key) (e : Key × X) (es : List (Key × X)) → IsStrictlySortedBy key_cmp (keys_of (e ∷ es)) → is_key k e.0 ≡ true → lookup (is_key k) es ≡ None
+  past k e es h is = lookup-none (is_key k) es (none_past_head (eq_by_cmp_equiv key_total) k e es (IsDistinct-from_sorted key_cmp (keys_of (e ∷ es)) h) is)
+
+  -- below the first slot there is none
+  below : (k : Key) (e : Key × X) (es : List (Key × X)) → IsStrictlySortedBy key_cmp (keys_of (e ∷ es)) → key_cmp k e.0 ≡ Less → lookup (is_key k) es ≡ None
+  below k e es h is = lookup-none (is_key k) es (none_below_head key_total k e es h is).1
+
+  -- a key below all others goes to the front
+  front : (k : Key) (x : X) (os : List (Key × X)) → AllByRecursion (λ y. key_cmp k y ≡ Less) (keys_of os) → insert_entry key_cmp os k x ≡ (k, x) ∷ os
+  front k x [] h = refl
+  front k x (e ∷ os) h = rw h.0 refl
+
+  -- a new slot that is hidden is not seen
+  pub visible_made : (k : Key) (x : X) (es : List (Key × X)) → lookup (is_key k) es ≡ None → visible (Some k) (insert_entry key_cmp es k x) ≡ es
+  unfolding visible
+  visible_made k x [] h = rw (own k) refl
+  visible_made k x (e ∷ es) h =
+      elim (key_cmp k e.0) as (λ o. key_cmp k e.0 ≡ o → cond (is_eq o) (Some e.1) (lookup (is_key k) es) ≡ None
+      → visible (Some k) (match_ordering o ((k, x) ∷ e ∷ es) ((e.0, x) ∷ es) (e ∷ insert_entry key_cmp es k x)) ≡ e ∷ es) [
+        | Less ↦ λ is n. rw (own k) (visible_absent k (e ∷ es) h)
+        | Equal ↦ λ is n. absurd (cc n)
+        | Greater ↦ λ is n. rw is (ap (λ os. e ∷ os) (visible_made k x es n))
+      ] refl h
+
+  -- what is left without the hidden slot is what is visible
+  pub visible_swept : (k : Key) (es : List (Key × X)) → IsStrictlySortedBy key_cmp (keys_of es) → remove_entry (is_key k) es ≡ visible (Some k) es
+  unfolding visible
+  visible_swept k [] h = refl
+  visible_swept k (e ∷ es) h =
+      elim (is_key k e.0) as (λ b. is_key k e.0 ≡ b → cond b es (e ∷ remove_entry (is_key k) es) ≡ cond (not b) (e ∷ visible (Some k) es) (visible (Some k) es)) [
+        | true ↦ λ is. sym (visible_absent k es (past k e es h is))
+        | false ↦ λ is. ap (λ os. e ∷ os) (visible_swept k es (sorted_tail key_cmp e.0 (keys_of es) h))
       ] refl
 
-  module _ (cmp : K → K → Ordering) (total : IsTotalOrder cmp) where
-    pub live_sorted : (es : List (K × Option X)) → IsStrictlySortedBy cmp (keys_of es) → IsStrictlySortedBy cmp (keys_of (live es))
-    unfolding live IsStrictlySortedBy
-    live_sorted [] h = tt
-    live_sorted (e ∷ es) h =
-        elim e.1 as (λ o. IsStrictlySortedBy cmp (keys_of (held e.0 o (live es)))) [
-          | None ↦ live_sorted es h.1
-          | Some x ↦ (live_keys (λ y. cmp e.0 y ≡ Less) es h.0, live_sorted es h.1)
+  -- the hidden slot, shown, is the entry that is put beside what was visible
+  pub visible_shown : (k : Key) (x : X) (es : List (Key × X)) → IsStrictlySortedBy key_cmp (keys_of es) → lookup (is_key k) es ≡ Some x → es ≡ insert_entry key_cmp (visible (Some k) es) k x
+  unfolding visible
+  visible_shown k x [] h is = absurd (cc is)
+  visible_shown k x (e ∷ es) h is =
+      elim (key_cmp k e.0) as (λ o. key_cmp k e.0 ≡ o → cond (is_eq o) (Some e.1) (lookup (is_key k) es) ≡ Some x
+      → e ∷ es ≡ insert_entry key_cmp (cond (not (is_eq o)) (e ∷ visible (Some k) es) (visible (Some k) es)) k x) [
+        | Less ↦ λ less found. absurd (cc (below k e es h less, found))
+        | Equal ↦ λ equal found. let key : k ≡ e.0 = key_same k e.0 equal in
+            let P : Key → Type 0 = λ l. AllByRecursion (λ y. key_cmp l y ≡ Less) (keys_of es) in
+            ap (λ y. (e.0, y) ∷ es) (some_injective e.1 x found) ∙ ap (λ l. (l, x) ∷ es) (sym key)
+            ∙ sym (front k x es (subst P (sym key) (sorted_head key_cmp e.0 (keys_of es) h)))
+            ∙ ap (λ os. insert_entry key_cmp os k x) (sym (visible_absent k es (past k e es h (ap is_eq equal))))
+        | Greater ↦ λ more found. rw more (ap (λ os. e ∷ os) (visible_shown k x es (sorted_tail key_cmp e.0 (keys_of es) h) found))
+      ] refl is
+
+  -- a value that is set at a visible key is set in what is visible
+  pub visible_filled : (hidden : Option Key) (k : Key) (x : X) (es : List (Key × X)) → IsStrictlySortedBy key_cmp (keys_of es) → IsSome (lookup (is_key k) es) → hides hidden k ≡ false
+      → visible hidden (set_value (is_key k) es x) ≡ insert_entry key_cmp (visible hidden es) k x
+  unfolding visible
+  visible_filled hidden k x [] h some shown = absurd (cc some)
+  visible_filled hidden k x (e ∷ es) h some shown =
+      elim (key_cmp k e.0) as (λ o. key_cmp k e.0 ≡ o → IsSome (cond (is_eq o) (Some e.1) (lookup (is_key k) es))
+      → visible hidden (cond (is_eq o) ((e.0, x) ∷ es) (e ∷ set_value (is_key k) es x)) ≡ insert_entry key_cmp (cond (not (hides hidden e.0)) (e ∷ visible hidden es) (visible hidden es)) k x) [
+        | Less ↦ λ is s. let P : Option X → Type 0 = λ o. IsSome o in absurd (cc (subst P (below k e es h is) s))
+        | Equal ↦ λ is s. let seen : hides hidden e.0 ≡ false = ap (hides hidden) (sym (key_same k e.0 is)) ∙ shown in rw (seen, is) refl
+        | Greater ↦ λ is s. elim (hides hidden e.0) as (λ b. cond (not b) (e ∷ visible hidden (set_value (is_key k) es x)) (visible hidden (set_value (is_key k) es x))
+            ≡ insert_entry key_cmp (cond (not b) (e ∷ visible hidden es) (visible hidden es)) k x) [
+              | true ↦ visible_filled hidden k x es (sorted_tail key_cmp e.0 (keys_of es) h) s shown
+              | false ↦ rw is (ap (λ os. e ∷ os) (visible_filled hidden k x es (sorted_tail key_cmp e.0 (keys_of es) h) s shown))
+            ]
+      ] refl some
+
+  -- a slot that is taken out is taken out of what is visible
+  pub visible_removed : (hidden : Option Key) (k : Key) (es : List (Key × X)) → IsStrictlySortedBy key_cmp (keys_of es) → visible hidden (remove_entry (is_key k) es) ≡ remove_entry (is_key k) (visible hidden es)
+  unfolding visible
+  visible_removed hidden k [] h = refl
+  visible_removed hidden k (e ∷ es) h =
+      elim (is_key k e.0) as (λ b. is_key k e.0 ≡ b → visible hidden (cond b es (e ∷ remove_entry (is_key k) es)) ≡ remove_entry (is_key k) (cond (not (hides hidden e.0)) (e ∷ visible hidden es) (visible hidden es))) [
+        | true ↦ λ is. elim (hides hidden e.0) as (λ b. visible hidden es ≡ remove_entry (is_key k) (cond (not b) (e ∷ visible hidden es) (visible hidden es))) [
+          | true ↦ sym (remove_absent (is_key k) (visible hidden es) (lookup_visible hidden k es ∙ ap (λ o. cond (not (hides hidden k)) o None) (past k e es h is) ∙ both_none (not (hides hidden k))))
+          | false ↦ rw is refl
         ]
+        | false ↦ λ is. elim (hides hidden e.0) as (λ b. cond (not b) (e ∷ visible hidden (remove_entry (is_key k) es)) (visible hidden (remove_entry (is_key k) es)) ≡ remove_entry (is_key k) (cond (not b) (e ∷ visible hidden es) (visible hidden es))) [
+          | true ↦ visible_removed hidden k es (sorted_tail key_cmp e.0 (keys_of es) h)
+          | false ↦ rw is (ap (λ os. e ∷ os) (visible_removed hidden k es (sorted_tail key_cmp e.0 (keys_of es) h)))
+        ]
+      ] refl
+    where
+      none : Option X
+      none = None
 
-    -- past the slot of a key there is no other
-    past : (k : K) (e : K × Option X) (es : List (K × Option X)) → IsStrictlySortedBy cmp (keys_of (e ∷ es)) → is_eq (cmp k e.0) ≡ true → lookup (is_at (cmp k)) es ≡ None
-    past k e es h is = lookup-none (is_at (cmp k)) es (none_past_head (eq_by_cmp_equiv total) k e es (IsDistinct-from_sorted cmp (keys_of (e ∷ es)) h) is)
+      both_none : (b : Bool) → cond b none none ≡ none
+      both_none true = refl
+      both_none false = refl
 
-    pub lookup_live : (k : K) (es : List (K × Option X)) → IsStrictlySortedBy cmp (keys_of es) → lookup (is_at (cmp k)) (live es) ≡ option_flatten (lookup (is_at (cmp k)) es)
-    unfolding live
-    lookup_live k [] h = refl
-    lookup_live k (e ∷ es) h =
-        elim (is_eq (cmp k e.0)) as (λ b. is_eq (cmp k e.0) ≡ b → lookup (is_at (cmp k)) (held e.0 e.1 (live es)) ≡ option_flatten (cond b (Some e.1) (lookup (is_at (cmp k)) es))) [
-          | true ↦ λ is. elim e.1 as (λ o. lookup (is_at (cmp k)) (held e.0 o (live es)) ≡ o) [ None ↦ live_absent (is_at (cmp k)) es (past k e es h is) | Some x ↦ rw is refl ]
-          | false ↦ λ is. elim e.1 as (λ o. lookup (is_at (cmp k)) (held e.0 o (live es)) ≡ option_flatten (lookup (is_at (cmp k)) es)) [
-            | None ↦ lookup_live k es (sorted_tail cmp e.0 (keys_of es) h)
-            | Some x ↦ rw is (lookup_live k es (sorted_tail cmp e.0 (keys_of es) h))
-          ]
-        ] refl
-
-    -- where an entry is, there is its slot
-    pub slot_there : (k : K) (x : X) (es : List (K × Option X)) → IsStrictlySortedBy cmp (keys_of es) → lookup (is_at (cmp k)) (live es) ≡ Some x → IsSome (lookup (is_at (cmp k)) es)
-    slot_there k x es h is =
-        elim (lookup (is_at (cmp k)) es) as (λ o. option_flatten o ≡ Some x → IsSome o) [ None ↦ λ e. absurd (cc e) | Some y ↦ λ e. refl ] (sym (lookup_live k es h) ∙ is)
-
-    pub live_make : (k : K) (es : List (K × Option X)) → lookup (is_at (cmp k)) es ≡ None → live (insert_entry cmp es k None) ≡ live es
-    unfolding live
-    live_make k [] h = refl
-    live_make k (e ∷ es) h =
-        elim (cmp k e.0) as (λ o. cond (is_eq o) (Some e.1) (lookup (is_at (cmp k)) es) ≡ None
-        → live (match_ordering o ((k, None) ∷ e ∷ es) ((e.0, None) ∷ es) (e ∷ insert_entry cmp es k None)) ≡ held e.0 e.1 (live es)) [
-          | Less ↦ λ n. refl
-          | Equal ↦ λ n. absurd (cc n)
-          | Greater ↦ λ n. ap (held e.0 e.1) (live_make k es n)
-        ] h
-
-    pub live_remove : (k : K) (es : List (K × Option X)) → IsStrictlySortedBy cmp (keys_of es) → live (remove_entry (is_at (cmp k)) es) ≡ remove_entry (is_at (cmp k)) (live es)
-    unfolding live
-    live_remove k [] h = refl
-    live_remove k (e ∷ es) h =
-        elim (is_eq (cmp k e.0)) as (λ b. is_eq (cmp k e.0) ≡ b → live (cond b es (e ∷ remove_entry (is_at (cmp k)) es)) ≡ remove_entry (is_at (cmp k)) (held e.0 e.1 (live es))) [
-          | true ↦ λ is. elim e.1 as (λ o. live es ≡ remove_entry (is_at (cmp k)) (held e.0 o (live es))) [
-            | None ↦ sym (remove_absent (is_at (cmp k)) (live es) (live_absent (is_at (cmp k)) es (past k e es h is)))
-            | Some x ↦ rw is refl
-          ]
-          | false ↦ λ is. elim e.1 as (λ o. held e.0 o (live (remove_entry (is_at (cmp k)) es)) ≡ remove_entry (is_at (cmp k)) (held e.0 o (live es))) [
-            | None ↦ live_remove k es (sorted_tail cmp e.0 (keys_of es) h)
-            | Some x ↦ rw is (ap (λ os. (e.0, x) ∷ os) (live_remove k es (sorted_tail cmp e.0 (keys_of es) h)))
-          ]
-        ] refl
-
-    -- where the spare key is below all others, no slot is empty
-    spare_below : (k : K) (es : List (K × Option X)) → AllByRecursion (λ y. cmp k y ≡ Less) (keys_of es) → IsSpare (Some k) es → IsSpare None es
-    unfolding IsSpare
-    spare_below k [] h spare = tt
-    spare_below k (e ∷ es) h spare =
-        let P : K → Type 0 = λ y. cmp k y ≡ Less in
-        (λ none. let is : k ≡ e.0 = cc (spare.0 none) in let less : cmp k k ≡ Less = subst P (sym is) h.0 in absurd (cc (own cmp total k, less)), spare_below k es h.1 spare.1)
-
-    -- without the slot of the spare key no slot is empty
-    pub spare_taken : ((a b : K) → cmp a b ≡ Equal → a ≡ b) → (k : K) (es : List (K × Option X)) → IsStrictlySortedBy cmp (keys_of es) → IsSpare (Some k) es → IsSpare None (remove_entry (is_at (cmp k)) es)
-    unfolding IsSpare
-    spare_taken same k [] h spare = tt
-    spare_taken same k (e ∷ es) h spare =
-        elim (cmp k e.0) as (λ o. cmp k e.0 ≡ o → IsSpare None (cond (is_eq o) es (e ∷ remove_entry (is_at (cmp k)) es))) [
-          | Less ↦ λ is. (λ none. let at : k ≡ e.0 = cc (spare.0 none) in let less : cmp k k ≡ Less = ap (cmp k) at ∙ is in absurd (cc (own cmp total k, less)), spare_taken same k es (sorted_tail cmp e.0 (keys_of es) h) spare.1)
-          | Equal ↦ λ is. let P : K → Type 0 = λ y. IsSpare (Some y) es in spare_below e.0 es (sorted_head cmp e.0 (keys_of es) h) (subst P (same k e.0 is) spare.1)
-          | Greater ↦ λ is. (λ none. let at : k ≡ e.0 = cc (spare.0 none) in let more : cmp k k ≡ Greater = ap (cmp k) at ∙ is in absurd (cc (own cmp total k, more)), spare_taken same k es (sorted_tail cmp e.0 (keys_of es) h) spare.1)
-        ] refl
-
-    -- with an object in the slot of the spare key no slot is empty
-    pub spare_set : ((a b : K) → cmp a b ≡ Equal → a ≡ b) → (k : K) (x : X) (es : List (K × Option X)) → IsStrictlySortedBy cmp (keys_of es) → IsSpare (Some k) es → IsSpare None (set_value (is_at (cmp k)) es (Some x))
-    unfolding IsSpare
-    spare_set same k x [] h spare = tt
-    spare_set same k x (e ∷ es) h spare =
-        elim (cmp k e.0) as (λ o. cmp k e.0 ≡ o → IsSpare None (cond (is_eq o) ((e.0, Some x) ∷ es) (e ∷ set_value (is_at (cmp k)) es (Some x)))) [
-          | Less ↦ λ is. (λ none. let at : k ≡ e.0 = cc (spare.0 none) in let less : cmp k k ≡ Less = ap (cmp k) at ∙ is in absurd (cc (own cmp total k, less)), spare_set same k x es (sorted_tail cmp e.0 (keys_of es) h) spare.1)
-          | Equal ↦ λ is. let P : K → Type 0 = λ y. IsSpare (Some y) es in (λ none. absurd (cc none), spare_below e.0 es (sorted_head cmp e.0 (keys_of es) h) (subst P (same k e.0 is) spare.1))
-          | Greater ↦ λ is. (λ none. let at : k ≡ e.0 = cc (spare.0 none) in let more : cmp k k ≡ Greater = ap (cmp k) at ∙ is in absurd (cc (own cmp total k, more)), spare_set same k x es (sorted_tail cmp e.0 (keys_of es) h) spare.1)
-        ] refl
-
-    -- where the slot of the spare key is not empty, none is
-    pub spare_filled : ((a b : K) → cmp a b ≡ Equal → a ≡ b) → (k : K) (es : List (K × Option X)) → IsStrictlySortedBy cmp (keys_of es) → is_some (lookup (is_at (cmp k)) (live es)) ≡ true → IsSpare (Some k) es → IsSpare None es
-    unfolding IsSpare live
-    spare_filled same k [] h some spare = tt
-    spare_filled same k (e ∷ es) h some spare =
-        let there : is_some (option_flatten (lookup (is_at (cmp k)) (e ∷ es))) ≡ true = sym (ap is_some (lookup_live k (e ∷ es) h)) ∙ some in
-        elim (cmp k e.0) as (λ o. cmp k e.0 ≡ o → is_some (option_flatten (cond (is_eq o) (Some e.1) (lookup (is_at (cmp k)) es))) ≡ true → IsSpare None (e ∷ es)) [
-          | Less ↦ λ is s. let none : lookup (is_at (cmp k)) es ≡ None = lookup-none (is_at (cmp k)) es (none_below_head total k e es h is).1 in
-              absurd (cc (ap (λ o. is_some (option_flatten o)) none, s))
-          | Equal ↦ λ is s. let P : K → Type 0 = λ y. IsSpare (Some y) es in
-              (λ none. absurd (cc (ap is_some none, s)), spare_below e.0 es (sorted_head cmp e.0 (keys_of es) h) (subst P (same k e.0 is) spare.1))
-          | Greater ↦ λ is s. (
-            λ none. let at : k ≡ e.0 = cc (spare.0 none) in let more : cmp k k ≡ Greater = ap (cmp k) at ∙ is in absurd (cc (own cmp total k, more)),
-            spare_filled same k es (sorted_tail cmp e.0 (keys_of es) h) (ap is_some (lookup_live k es (sorted_tail cmp e.0 (keys_of es) h)) ∙ s) spare.1,
-          )
-        ] refl there
-
-    -- a new empty slot is the only one
-    pub spare_made : (k : K) (es : List (K × Option X)) → lookup (is_at (cmp k)) es ≡ None → IsSpare None es → IsSpare (Some k) (insert_entry cmp es k None)
-    unfolding IsSpare
-    spare_made k [] h spare = (λ _. refl, tt)
-    spare_made k (e ∷ es) h spare =
-        elim (cmp k e.0) as (λ o. cond (is_eq o) (Some e.1) (lookup (is_at (cmp k)) es) ≡ None
-        → IsSpare (Some k) (match_ordering o ((k, None) ∷ e ∷ es) ((e.0, None) ∷ es) (e ∷ insert_entry cmp es k None))) [
-          | Less ↦ λ n. (λ _. refl, IsSpare_weaker (Some k) (e ∷ es) spare)
-          | Equal ↦ λ n. absurd (cc n)
-          | Greater ↦ λ n. (λ none. absurd (cc (spare.0 none)), spare_made k es n spare.1)
-        ] h
-
-    -- at most one slot is empty
-    pub spare_bound : (spare : Option K) (es : List (K × Option X)) → IsStrictlySortedBy cmp (keys_of es) → IsSpare spare es → length es ≤ length (live es) + 1
-    unfolding IsSpare live
-    spare_bound spare [] h is = omega arith
-    spare_bound spare (e ∷ es) h is =
-        elim e.1 as (λ o. e.1 ≡ o → length (e ∷ es) ≤ length (held e.0 o (live es)) + 1) [
-          | None ↦ λ none. let at : spare ≡ Some e.0 = is.0 none in
-              let P : Option K → Type 0 = λ o. IsSpare o es in
-              let all : length (live es) ≡ length es = no_spare_length es (spare_below e.0 es (sorted_head cmp e.0 (keys_of es) h) (subst P at is.1)) in omega arith
-          | Some x ↦ λ _. let k : length es ≤ length (live es) + 1 = spare_bound spare es (sorted_tail cmp e.0 (keys_of es) h) is.1 in omega arith
-        ] refl
-
-    -- a key below all others goes to the front
-    front : (k : K) (x : X) (os : List (K × X)) → AllByRecursion (λ y. cmp k y ≡ Less) (keys_of os) → insert_entry cmp os k x ≡ (k, x) ∷ os
-    front k x [] h = refl
-    front k x (e ∷ os) h = rw h.0 refl
-
-    pub live_fill : ((a b : K) → cmp a b ≡ Equal → a ≡ b) → (k : K) (x : X) (es : List (K × Option X)) → IsStrictlySortedBy cmp (keys_of es) → IsSome (lookup (is_at (cmp k)) es)
-        → live (set_value (is_at (cmp k)) es (Some x)) ≡ insert_entry cmp (live es) k x
-    unfolding live
-    live_fill same k x [] h some = absurd (cc some)
-    live_fill same k x (e ∷ es) h some =
-        elim (cmp k e.0) as (λ o. cmp k e.0 ≡ o → IsSome (cond (is_eq o) (Some e.1) (lookup (is_at (cmp k)) es))
-        → live (cond (is_eq o) ((e.0, Some x) ∷ es) (e ∷ set_value (is_at (cmp k)) es (Some x))) ≡ insert_entry cmp (held e.0 e.1 (live es)) k x) [
-          | Less ↦ λ is. λ s. let none : lookup (is_at (cmp k)) es ≡ None = lookup-none (is_at (cmp k)) es (none_below_head total k e es h is).1 in
-              let P : Option (Option X) → Type 0 = λ o. IsSome o in absurd (cc (subst P none s))
-          | Equal ↦ λ is. λ s. elim e.1 as (λ o. (e.0, x) ∷ live es ≡ insert_entry cmp (held e.0 o (live es)) k x) [
-            | None ↦ let key : k ≡ e.0 = same k e.0 is in rw key (sym (front e.0 x (live es) (live_keys (λ y. cmp e.0 y ≡ Less) es (sorted_head cmp e.0 (keys_of es) h))))
-            | Some y ↦ rw is refl
-          ]
-          | Greater ↦ λ is. λ s. elim e.1 as (λ o. held e.0 o (live (set_value (is_at (cmp k)) es (Some x))) ≡ insert_entry cmp (held e.0 o (live es)) k x) [
-            | None ↦ live_fill same k x es (sorted_tail cmp e.0 (keys_of es) h) s
-            | Some y ↦ rw is (ap (λ os. (e.0, y) ∷ os) (live_fill same k x es (sorted_tail cmp e.0 (keys_of es) h) s))
-          ]
-        ] refl some
-
--- what is not there is none
-pub none_there : {X : Type 0} (o : Option X) → is_some o ≡ false → o ≡ None
-none_there None h = refl
-none_there (Some x) h = absurd (cc h)
+  -- at most one slot is hidden
+  pub hidden_bound : (hidden : Option Key) (es : List (Key × X)) → IsStrictlySortedBy key_cmp (keys_of es) → length es ≤ length (visible hidden es) + 1
+  unfolding visible
+  hidden_bound None es h = let all : length (visible None es) ≡ length es = ap length (all_visible es) in omega arith
+  hidden_bound (Some k) [] h = omega arith
+  hidden_bound (Some k) (e ∷ es) h =
+      elim (is_key k e.0) as (λ b. is_key k e.0 ≡ b → suc (length es) ≤ length (cond (not b) (e ∷ visible (Some k) es) (visible (Some k) es)) + 1) [
+        | true ↦ λ is. let all : length (visible (Some k) es) ≡ length es = ap length (visible_absent k es (past k e es h is)) in omega arith
+        | false ↦ λ is. let more : length es ≤ length (visible (Some k) es) + 1 = hidden_bound (Some k) es (sorted_tail key_cmp e.0 (keys_of es) h) in omega arith
+      ] refl

@@ -1,5 +1,5 @@
 -- The keys that may be listed lie between the first key and the end.
-use Rattle.std.proofs.Common.{◌≡◌, ℕ, Bool, true, false, ◌&&◌, ◌||◌, cond, List, [], ◌∷◌, Option, None, Some, refl, sym, ap, codes}
+use Rattle.std.proofs.Common.{◌≡◌, ℕ, Bool, true, false, not, ◌&&◌, ◌||◌, cond, List, [], ◌∷◌, Option, refl, sym, ap, codes}
 use Rattle.std.specs.List.{filter, list_any}
 use Rattle.std.specs.Ordering.{nat_cmp, is_gt, is_le, ordering_then}
 use Rattle.std.specs.declared.cmp.Ordering.TheVariants.{Less, Equal, Greater}
@@ -17,7 +17,7 @@ use Rattle.kapi_model.specs.declared.row.ResourceRow.{ResourceRow}
 use Rattle.kapi_model.specs.declared.selector.Selector.{Selector}
 use Rattle.kapi_store.specs.declared.key.Key.{Key}
 use Rattle.kapi_store.specs.Keys.{key_cmp}
-use Rattle.kapi_store.specs.State.{held, live}
+use Rattle.kapi_store.specs.State.{hides, visible}
 use Rattle.kapi_store.proofs.SlotSteps.{own_reverse}
 use Rattle.kapi_store.specs.Listing.{is_asked, is_within, is_listed, listed_objects}
 use Rattle.kapi_store.specs.Private.Span.{after, first_key, end_key, is_of, namespace_start, namespace_end}
@@ -94,30 +94,50 @@ fails_too : (a b : Bool) → (a ≡ true → b ≡ true) → b ≡ false → a �
 fails_too true b h k = absurd (cc (h refl, k))
 fails_too false b h k = refl
 
-module _ {K X : Type 0} (r : K → Bool) (p : K × X → Bool) (in_range : (e : K × X) → p e ≡ true → r e.0 ≡ true) where
+module _ {K X : Type 0} (q r : K → Bool) (p : K × X → Bool) (in_range : (e : K × X) → p e ≡ true → r e.0 ≡ true) where
+  abbrev seen : List (K × X) → List (K × X)
+  seen es = filter (λ e. q e.0) es
+
+  abbrev ranged : List (K × X) → List (K × X)
+  ranged es = filter (λ e. r e.0) es
+
   -- to take out slots that are out of range leaves what passes a test of those in range
-  pub live_between : (es : List (K × Option X)) → filter p (live (filter (λ e. r e.0) es)) ≡ filter p (live es)
-  unfolding live
-  live_between [] = refl
-  live_between (e ∷ es) =
-      elim (r e.0) as (λ b. r e.0 ≡ b → filter p (live (cond b (e ∷ filter (λ e. r e.0) es) (filter (λ e. r e.0) es))) ≡ filter p (held e.0 e.1 (live es))) [
-        | true ↦ λ is. elim e.1 as (λ o. filter p (held e.0 o (live (filter (λ e. r e.0) es))) ≡ filter p (held e.0 o (live es))) [
-          | None ↦ live_between es
-          | Some x ↦ ap (λ os. cond (p (e.0, x)) ((e.0, x) ∷ os) os) (live_between es)
+  pub visible_between : (es : List (K × X)) → filter p (filter (λ e. q e.0) (filter (λ e. r e.0) es)) ≡ filter p (filter (λ e. q e.0) es)
+  visible_between [] = refl
+  visible_between (e ∷ es) =
+      elim (r e.0) as (λ b. r e.0 ≡ b → filter p (seen (cond b (e ∷ ranged es) (ranged es))) ≡ filter p (cond (q e.0) (e ∷ seen es) (seen es))) [
+        | true ↦ λ is. elim (q e.0) as (λ b. filter p (cond b (e ∷ seen (ranged es)) (seen (ranged es))) ≡ filter p (cond b (e ∷ seen es) (seen es))) [
+          | true ↦ ap (λ os. cond (p e) (e ∷ os) os) (visible_between es)
+          | false ↦ visible_between es
         ]
-        | false ↦ λ is. elim e.1 as (λ o. filter p (live (filter (λ e. r e.0) es)) ≡ filter p (held e.0 o (live es))) [
-          | None ↦ live_between es
-          | Some x ↦ rw (fails_too (p (e.0, x)) (r e.0) (in_range (e.0, x)) is) (live_between es)
+        | false ↦ λ is. elim (q e.0) as (λ b. filter p (seen (ranged es)) ≡ filter p (cond b (e ∷ seen es) (seen es))) [
+          | true ↦ rw (fails_too (p e) (r e.0) (in_range e) is) (visible_between es)
+          | false ↦ visible_between es
+        ]
+      ] refl
+
+  -- to take out slots that are out of range leaves one that passes a test of those in range
+  pub any_between : (es : List (K × X)) → list_any p (filter (λ e. q e.0) (filter (λ e. r e.0) es)) ≡ list_any p (filter (λ e. q e.0) es)
+  any_between [] = refl
+  any_between (e ∷ es) =
+      elim (r e.0) as (λ b. r e.0 ≡ b → list_any p (seen (cond b (e ∷ ranged es) (ranged es))) ≡ list_any p (cond (q e.0) (e ∷ seen es) (seen es))) [
+        | true ↦ λ is. elim (q e.0) as (λ b. list_any p (cond b (e ∷ seen (ranged es)) (seen (ranged es))) ≡ list_any p (cond b (e ∷ seen es) (seen es))) [
+          | true ↦ ap (λ b. p e || b) (any_between es)
+          | false ↦ any_between es
+        ]
+        | false ↦ λ is. elim (q e.0) as (λ b. list_any p (seen (ranged es)) ≡ list_any p (cond b (e ∷ seen es) (seen es))) [
+          | true ↦ rw (fails_too (p e) (r e.0) (in_range e) is) (any_between es)
+          | false ↦ any_between es
         ]
       ] refl
 
 -- what is listed lies in the range, so that nothing else need be read
-pub listed_between : (row : ResourceRow) (namespace : List ℕ) (selector : Selector) (name : List ℕ) (es : List (Key × Option StoredObject))
-    → listed_objects row namespace selector name (live (entries_between key_cmp (Included (first_key row namespace name)) (Excluded (end_key row namespace name)) es))
-    ≡ listed_objects row namespace selector name (live es)
-unfolding is_listed
-listed_between row namespace selector name es =
-    live_between (range_contains key_cmp (Included (first_key row namespace name)) (Excluded (end_key row namespace name)))
+pub listed_between : (row : ResourceRow) (namespace : List ℕ) (selector : Selector) (name : List ℕ) (hidden : Option Key) (es : List (Key × StoredObject))
+    → listed_objects row namespace selector name (visible hidden (entries_between key_cmp (Included (first_key row namespace name)) (Excluded (end_key row namespace name)) es))
+    ≡ listed_objects row namespace selector name (visible hidden es)
+unfolding is_listed visible
+listed_between row namespace selector name hidden es =
+    visible_between (λ k. not (hides hidden k)) (range_contains key_cmp (Included (first_key row namespace name)) (Excluded (end_key row namespace name)))
     (λ e. is_listed row namespace selector name e.0 (stored_tree e.1))
     (λ e. λ h. within_is_between row namespace name e.0 (first_so (is_within row namespace name e.0) (matches selector (in_metadata (codes "labels") (stored_tree e.1))) h))
     es
@@ -142,27 +162,11 @@ of_is_between row namespace k h =
 pub start_below_end : (row : ResourceRow) (namespace : List ℕ) → is_gt (key_cmp (namespace_start row namespace) (namespace_end row namespace)) ≡ false
 start_below_end row namespace = rw (same row.group, same row.plural, after_is_past namespace) refl
 
-module _ {K X : Type 0} (r : K → Bool) (p : K × X → Bool) (in_range : (e : K × X) → p e ≡ true → r e.0 ≡ true) where
-  -- to take out slots that are out of range leaves one that passes a test of those in range
-  any_between : (es : List (K × Option X)) → list_any p (live (filter (λ e. r e.0) es)) ≡ list_any p (live es)
-  unfolding live
-  any_between [] = refl
-  any_between (e ∷ es) =
-      elim (r e.0) as (λ b. r e.0 ≡ b → list_any p (live (cond b (e ∷ filter (λ e. r e.0) es) (filter (λ e. r e.0) es))) ≡ list_any p (held e.0 e.1 (live es))) [
-        | true ↦ λ is. elim e.1 as (λ o. list_any p (held e.0 o (live (filter (λ e. r e.0) es))) ≡ list_any p (held e.0 o (live es))) [
-          | None ↦ any_between es
-          | Some x ↦ ap (λ b. p (e.0, x) || b) (any_between es)
-        ]
-        | false ↦ λ is. elim e.1 as (λ o. list_any p (live (filter (λ e. r e.0) es)) ≡ list_any p (held e.0 o (live es))) [
-          | None ↦ any_between es
-          | Some x ↦ rw (fails_too (p (e.0, x)) (r e.0) (in_range (e.0, x)) is) (any_between es)
-        ]
-      ] refl
-
 -- the keys of the namespace lie in the range
-pub standing_between : (row : ResourceRow) (namespace : List ℕ) (es : List (Key × Option StoredObject))
-    → list_any (λ e. is_of row namespace e.0) (live (entries_between key_cmp (Included (namespace_start row namespace)) (Excluded (namespace_end row namespace)) es))
-    ≡ list_any (λ e. is_of row namespace e.0) (live es)
-standing_between row namespace es =
-    any_between (range_contains key_cmp (Included (namespace_start row namespace)) (Excluded (namespace_end row namespace)))
+pub standing_between : (row : ResourceRow) (namespace : List ℕ) (hidden : Option Key) (es : List (Key × StoredObject))
+    → list_any (λ e. is_of row namespace e.0) (visible hidden (entries_between key_cmp (Included (namespace_start row namespace)) (Excluded (namespace_end row namespace)) es))
+    ≡ list_any (λ e. is_of row namespace e.0) (visible hidden es)
+unfolding visible
+standing_between row namespace hidden es =
+    any_between (λ k. not (hides hidden k)) (range_contains key_cmp (Included (namespace_start row namespace)) (Excluded (namespace_end row namespace)))
     (λ e. is_of row namespace e.0) (λ e. λ h. of_is_between row namespace e.0 h) es

@@ -1,5 +1,5 @@
 -- What holds of every store, from one change to the next, and the model that it refines.
-use Rattle.std.proofs.Common.{◌≡◌, ℕ, suc, ◌+◌, ◌-◌, ◌≤◌, ◌<◌, min, max, Ok, Err, List, [], ◌∷◌, ◌++◌, IsSome, length, map, drop, refl, sym, ap, ◌∙◌, subst, arith}
+use Rattle.std.proofs.Common.{◌≡◌, ℕ, suc, ◌+◌, ◌-◌, ◌≤◌, ◌<◌, min, max, true, Ok, Err, List, [], ◌∷◌, ◌++◌, Some, IsSome, length, map, drop, refl, sym, ap, ◌∙◌, subst, arith}
 use Rattle.std.specs.Prelude.{nat_lt}
 use Rattle.std.specs.List.{filter}
 use Rattle.std.specs.List.Sorted.{IsStrictlySortedBy}
@@ -8,24 +8,23 @@ use Rattle.std.specs.Map.{keys_of, lookup}
 use Rattle.std.proofs.lemmas.List.{map-append, length-append, length-map, length-drop}
 use Rattle.kapi_model.specs.declared.row.ResourceRow.{ResourceRow}
 use Rattle.kapi_store.specs.declared.change.Change.{Change}
+use Rattle.kapi_store.specs.declared.stored.StoredObject.{StoredObject}
 use Rattle.kapi_store.specs.Limits.{last_revision, window_limit}
 use Rattle.kapi_store.specs.Keys.{key_cmp, is_key}
 use Rattle.kapi_store.specs.Changes.{placed_all, left_by, last_of, Follow, revision_of, AreRemovals}
-use Rattle.kapi_store.specs.State.{State, objects, live, IsSpare, HasSlot, Same, Fits, IsStore}
+use Rattle.kapi_store.specs.State.{State, objects, hides, visible, HasSlot, Same, Fits, IsStore}
 use Rattle.kapi_store.specs.Plain.{Plain, PlainChange, RefinesPlain, plain_of, plain_change, changes_after, opened, written, trees, trees_left_by}
-use Rattle.kapi_store.proofs.Keys.{key_total}
-use Rattle.kapi_store.proofs.SlotSteps.{live_sorted, spare_bound}
+use Rattle.kapi_store.proofs.SlotSteps.{visible_sorted, hidden_bound}
 use Rattle.kapi_store.proofs.Writes.{placed_all_append, removals_slot}
 use Rattle.kapi_store.proofs.Trees.{placed_all_trees}
 use Rattle.kapi_store.proofs.Windows.{last_last, last_none, last_shorter, last_map, numbered_after, Follow_append, Follow_drop, Follow_map}
 
 -- the store without objects and changes
 pub new_store : (s : State) → s.slots ≡ [] → s.window ≡ [] → s.revision ≡ s.first → s.first ≤ last_revision → IsStore s
-unfolding live Follow IsStrictlySortedBy IsSpare
+unfolding visible Follow IsStrictlySortedBy
 new_store s slots window revision last = record {
   slots = rw slots tt;
   ordered = rw slots tt;
-  spare = rw slots tt;
   bounded = rw slots (omega arith);
   numbered = rw window tt;
   counted = rw window (omega arith);
@@ -34,10 +33,10 @@ new_store s slots window revision last = record {
 }
 
 -- one change more
-pub next_store : (s t : State) (c : Change) → IsStore s → IsStrictlySortedBy key_cmp (keys_of t.slots) → IsSpare t.spare t.slots
+pub next_store : (s t : State) (c : Change) → IsStore s → IsStrictlySortedBy key_cmp (keys_of t.slots)
     → t.window ≡ last_of window_limit (s.window ++ c ∷ []) → t.first ≡ s.first → t.revision ≡ c.revision → c.revision ≡ s.revision + 1 → c.revision ≤ last_revision → IsStore t
 unfolding Follow
-next_store s t c h sorted spare window first revision next last =
+next_store s t c h sorted window first revision next last =
     let counted : length s.window ≡ min window_limit (s.revision - s.first) = h.counted in
     let begun : s.first ≤ s.revision = h.begun in
     let all : length (s.window ++ c ∷ []) ≡ length s.window + 1 = length-append s.window (c ∷ []) in
@@ -53,9 +52,8 @@ next_store s t c h sorted spare window first revision next last =
     let Q : List Change → Type 0 = λ cs. Follow revision_of (t.revision - length t.window) cs in
     record {
       slots = sorted;
-      ordered = live_sorted key_cmp key_total t.slots sorted;
-      spare = spare;
-      bounded = spare_bound key_cmp key_total t.spare t.slots sorted spare;
+      ordered = visible_sorted t.hidden t.slots sorted;
+      bounded = hidden_bound t.hidden t.slots sorted;
       numbered = subst Q (sym window) (subst P from rest);
       counted = omega arith;
       begun = omega arith;
@@ -63,9 +61,9 @@ next_store s t c h sorted spare window first revision next last =
     }
 
 -- other slots for the same objects
-pub moved_store : (s t : State) → IsStore s → IsStrictlySortedBy key_cmp (keys_of t.slots) → IsSpare t.spare t.slots
+pub moved_store : (s t : State) → IsStore s → IsStrictlySortedBy key_cmp (keys_of t.slots)
     → t.window ≡ s.window → t.first ≡ s.first → t.revision ≡ s.revision → IsStore t
-moved_store s t h sorted spare window first revision =
+moved_store s t h sorted window first revision =
     let P : List Change → Type 0 = λ cs. Follow revision_of (s.revision - length cs) cs in
     let counted : length s.window ≡ min window_limit (s.revision - s.first) = h.counted in
     let begun : s.first ≤ s.revision = h.begun in
@@ -73,9 +71,8 @@ moved_store s t h sorted spare window first revision =
     let len : length t.window ≡ length s.window = ap length window in
     record {
       slots = sorted;
-      ordered = live_sorted key_cmp key_total t.slots sorted;
-      spare = spare;
-      bounded = spare_bound key_cmp key_total t.spare t.slots sorted spare;
+      ordered = visible_sorted t.hidden t.slots sorted;
+      bounded = hidden_bound t.hidden t.slots sorted;
       numbered = rw revision (subst P (sym window) h.numbered);
       counted = omega arith;
       begun = omega arith;
@@ -84,7 +81,7 @@ moved_store s t h sorted spare window first revision =
 
 -- a prepared change
 pub fits_one : (s : State) (cs : List Change) (c : Change) → cs ≡ c ∷ [] → c.revision ≡ s.revision + 1 → c.revision ≤ last_revision
-    → (IsSome c.new → IsSome (lookup (is_key c.key) s.slots)) → Fits s cs
+    → ((o : StoredObject) → c.new ≡ Some o → IsSome (lookup (is_key c.key) s.slots) × (hides s.hidden c.key ≡ true → lookup (is_key c.key) s.slots ≡ Some o)) → Fits s cs
 unfolding Follow HasSlot
 fits_one s cs c is next last slot = let P : List Change → Type 0 = λ cs. Fits s cs in subst P (sym is) record {
   next = (next, tt);
@@ -103,7 +100,7 @@ fits_none s cs h is = let P : List Change → Type 0 = λ cs. Fits s cs in subst
 
 -- a prepared removal
 pub fits_removals : (s : State) (cs : List Change) → Follow revision_of s.revision cs → AreRemovals cs → s.revision + length cs ≤ last_revision → Fits s cs
-fits_removals s cs next removals last = record { next = next; last = last; slot = removals_slot s.slots cs removals }
+fits_removals s cs next removals last = record { next = next; last = last; slot = removals_slot s.hidden s.slots cs removals }
 
 -- the first of several changes is the next one
 pub fits_first : (s : State) (c : Change) (cs : List Change) → Fits s (c ∷ cs) → Fits s (c ∷ [])
@@ -120,7 +117,7 @@ unfolding Follow
 fits_rest s t c cs h removals revision = record {
   next = rw revision h.next.1;
   last = let k : s.revision + suc (length cs) ≤ last_revision = h.last in omega arith;
-  slot = removals_slot t.slots cs removals;
+  slot = removals_slot t.hidden t.slots cs removals;
 }
 
 -- a store as data, where nothing was changed
@@ -144,9 +141,9 @@ same_stands s t h history p stands = record {
 
 -- a store at its start
 pub opened_stands : (s : State) (table : List ResourceRow) (first : ℕ) → s.table ≡ table → s.slots ≡ [] → s.first ≡ first → s.revision ≡ first → s.window ≡ [] → RefinesPlain s [] (opened table first)
-unfolding live placed_all Follow
+unfolding visible placed_all Follow
 opened_stands s table first is none begun at nothing = record {
-  plain = λ i. record { table = is i; objects = ap (λ es. trees (live es)) none i; first = begun i; revision = at i };
+  plain = λ i. record { table = is i; objects = ap (λ es. trees (visible s.hidden es)) none i; first = begun i; revision = at i };
   window = ap (map plain_change) nothing;
   made = refl;
   numbered = tt;

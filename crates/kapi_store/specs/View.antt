@@ -7,7 +7,7 @@ abbrev pub state_of : Inside → State
 state_of s = record {
   table = s.table;
   slots = s.slots.entries;
-  spare = s.spare;
+  hidden = s.hidden;
   first = s.first;
   revision = s.revision;
   window = s.window;

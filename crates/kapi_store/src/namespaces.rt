@@ -2,7 +2,7 @@
 
 ghost use Rattle.std.specs.Prelude.{◌≡◌, true, None, Some, IfOk};
 ghost use Rattle.std.specs.List.{list_any};
-ghost use Rattle.kapi_store.specs.State.{live};
+ghost use Rattle.kapi_store.specs.State.{visible};
 ghost use Rattle.kapi_store.specs.Plain.{Plain, has_namespace, is_namespace as is_namespace_of};
 ghost use Rattle.kapi_store.specs.Private.Existing.{Exists};
 ghost use Rattle.kapi_store.specs.declared.stored.StoredObject.{StoredObject};
@@ -12,6 +12,7 @@ use crate::change::{Change, Shared};
 use crate::key::Key;
 use crate::listing::after;
 use crate::rows::is_namespaced;
+use crate::slots::is_hidden;
 use kapi_model::ResourceRow;
 use kapi_text::{Memory, Text, TryCopy};
 use std::alloc::Global;
@@ -57,19 +58,20 @@ fn namespace_end(alloc: Global, row: &ResourceRow, namespace: &Text) -> Result<K
 }
 
 /// Whether the namespace holds an object of the resource type. No other object is read.
-#[tactic(auto, unfolding(crate::specs::State::live))]
+#[tactic(auto, unfolding(crate::specs::State::visible))]
 fn stands_in(
     alloc: Global,
-    slots: &BTreeMap<Key, Option<Shared>>,
+    slots: &BTreeMap<Key, Shared>,
+    hidden: &Option<Key>,
     row: &ResourceRow,
     namespace: &Text,
 ) -> Result<bool, Memory>
-    ensures { IfOk result (λ b. b ≡ list_any (λ e. is_of_row row.now namespace.now e.0) (live slots.now.entries)) }
+    ensures { IfOk result (λ b. b ≡ list_any (λ e. is_of_row row.now namespace.now e.0) (visible hidden.now slots.now.entries)) }
 {
     let start = namespace_start(alloc, row, namespace)?;
     let end = namespace_end(alloc, row, namespace)?;
-    for (key, slot) in slots.range(&start..&end) {
-        if slot.is_some() && is_of(row, namespace, key) {
+    for (key, _object) in slots.range(&start..&end) {
+        if !is_hidden(hidden, key) && is_of(row, namespace, key) {
             return Ok(true);
         }
     }
@@ -79,14 +81,15 @@ fn stands_in(
 /// Whether the resource type is namespaced, and the namespace holds an object of it.
 fn row_stands_in(
     alloc: Global,
-    slots: &BTreeMap<Key, Option<Shared>>,
+    slots: &BTreeMap<Key, Shared>,
+    hidden: &Option<Key>,
     row: &ResourceRow,
     namespace: &Text,
 ) -> Result<bool, Memory>
-    ensures { IfOk result (λ b. b ≡ row_holds (live slots.now.entries) namespace.now row.now) }
+    ensures { IfOk result (λ b. b ≡ row_holds (visible hidden.now slots.now.entries) namespace.now row.now) }
 {
     if row.namespaced {
-        stands_in(alloc, slots, row, namespace)
+        stands_in(alloc, slots, hidden, row, namespace)
     } else {
         Ok(false)
     }
@@ -95,14 +98,15 @@ fn row_stands_in(
 /// Whether the namespace holds an object of one of the table's namespaced resource types.
 pub fn any_stands_in(
     alloc: Global,
-    slots: &BTreeMap<Key, Option<Shared>>,
+    slots: &BTreeMap<Key, Shared>,
+    hidden: &Option<Key>,
     table: &[ResourceRow],
     namespace: &Text,
 ) -> Result<bool, Memory>
-    ensures { IfOk result (λ b. b ≡ list_any (row_holds (live slots.now.entries) namespace.now) table.now) }
+    ensures { IfOk result (λ b. b ≡ list_any (row_holds (visible hidden.now slots.now.entries) namespace.now) table.now) }
 {
     for row in table {
-        if row_stands_in(alloc, slots, row, namespace)? {
+        if row_stands_in(alloc, slots, hidden, row, namespace)? {
             return Ok(true);
         }
     }

@@ -10,7 +10,7 @@ use std::marker::Model;
 
 /// A write that is prepared: the changes that `Store::commit` will make, with all their memory.
 ///
-/// A prepared write that is dropped changes nothing that is seen; the next creation takes out the slot that it made.
+/// A prepared write that is dropped changes nothing that is seen; the next creation takes out the hidden slot that it made.
 #[derive(Debug, Drop)]
 pub struct Ready {
     list: Vec<Change>,
@@ -45,7 +45,7 @@ impl Ready {
     ghost use Rattle.kapi_tree.specs.Object.{tree_of};
     ghost use Rattle.kapi_store.specs.Stored.{stored_tree};
     ghost use Rattle.kapi_store.specs.Changes.{IsLeft, IsOne, IsStep, IsWrite, AreRemovals, Follow, revision_of};
-    ghost use Rattle.kapi_store.specs.State.{live};
+    ghost use Rattle.kapi_store.specs.State.{visible};
     ghost use Rattle.kapi_store.specs.Plain.{plain_change, trees, removals as removals_of};
 
     /// The changes that `Store::commit` will make, in order: none, one, or removals alone.
@@ -95,20 +95,22 @@ impl Ready {
         })
     }
 
-    /// The write that creates an object at the key.
+    /// The write that creates an object at the key, and one more owner of the object.
     pub(crate) fn creation(
         alloc: Global,
         revision: u64,
         key: &Key,
         written: Written,
-    ) -> Result<Ready, Memory>
+    ) -> Result<(Ready, Shared), Memory>
         requires { stored_tree written.stored ≡ tree_of written.object }
-        ensures { IfOk result (IsOne revision key.now None (Some written.stored)) }
+        ensures write { IfOk result (λ r. IsOne revision key.now None (Some written.stored) r.0) }
+        ensures object { IfOk result (λ r. r.1 ≡ written.stored) }
     {
         let Written { object, stored } = written;
         let new = Shared::new(alloc, stored)?;
+        let shared = new.share()?;
         let change = Change::creation(revision, key.copy(alloc)?, new);
-        Ok(Ready::of_one(alloc, change, object)?)
+        Ok((Ready::of_one(alloc, change, object)?, shared))
     }
 
     /// The write that replaces the object at the key.
@@ -131,13 +133,13 @@ impl Ready {
     /// The write that removes the objects at the keys, by the revisions after this one.
     pub(crate) fn removals(
         alloc: Global,
-        slots: &BTreeMap<Key, Option<Shared>>,
+        slots: &BTreeMap<Key, Shared>,
+        hidden: &Option<Key>,
         before: u64,
         keys: Vec<Key>,
     ) -> Result<Ready, Memory>
-        requires ordered { IsStrictlySortedBy key_cmp (keys_of slots.now.entries) }
         requires left { before + length keys.items ≤ LAST_REVISION }
-        ensures changes { IfOk result (λ r. map plain_change r ≡ removals_of (trees (live slots.now.entries)) before keys.items) }
+        ensures changes { IfOk result (λ r. map plain_change r ≡ removals_of (trees (visible hidden.now slots.now.entries)) before keys.items) }
         ensures count { IfOk result (λ r. length r ≡ length keys.items) }
         ensures removals { IfOk result AreRemovals }
         ensures numbered { IfOk result (Follow revision_of before) }
@@ -146,7 +148,7 @@ impl Ready {
         let mut revision = before;
         for key in keys {
             revision += 1;
-            let old = share_at(slots, &key)?;
+            let old = share_at(slots, hidden, &key)?;
             list.push(Change::removal(alloc, revision, key, old)?)?;
         }
         Ok(Ready {

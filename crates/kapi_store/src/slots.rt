@@ -1,13 +1,13 @@
-//! The map's slots: a key with an object, or a key that is reserved for a new object.
+//! The map's slots, each a key with its object. The slot of a new object is hidden from when its creation is prepared
+//! until it is made: so that needs no memory, and need not look for the slot.
 
-ghost use Rattle.std.specs.Prelude.{◌≡◌, None, IsSome, OnOk, IfOk, option_copied, OnErr, List, Option, Some};
+ghost use Rattle.std.specs.Prelude.{◌≡◌, true, false, None, Some, IsSome, OnOk, IfOk, option_copied};
 ghost use Rattle.std.specs.List.Sorted.{IsStrictlySortedBy};
 ghost use Rattle.std.specs.Map.{lookup, keys_of, remove_entry};
 ghost use Rattle.std.specs.BTreeMap.{insert_entry};
 ghost use Rattle.kapi_store.specs.Keys.{key_cmp, is_key};
 ghost use Rattle.kapi_store.specs.Changes.{placed};
-ghost use Rattle.kapi_store.specs.State.{live, IsSpare};
-ghost use Rattle.kapi_store.specs.declared.key.Key.{Key};
+ghost use Rattle.kapi_store.specs.State.{hides, visible};
 ghost use Rattle.kapi_store.specs.declared.stored.StoredObject.{StoredObject};
 
 use crate::change::Shared;
@@ -16,149 +16,118 @@ use kapi_text::{Memory, TryCopy};
 use std::alloc::Global;
 use std::collections::BTreeMap;
 
-/// The object at the key, if any.
-pub fn find<'a>(slots: &'a BTreeMap<Key, Option<Shared>>, key: &Key) -> Option<&'a Shared>
-    requires { IsStrictlySortedBy key_cmp (keys_of slots.now.entries) }
-    ensures { option_copied result ≡ lookup (is_key key.now) (live slots.now.entries) }
+/// Whether the key is that of the hidden slot.
+pub fn is_hidden(hidden: &Option<Key>, key: &Key) -> bool
+    ensures { result ≡ hides hidden.now key.now }
 {
-    match slots.get(key) {
-        Some(Some(object)) => Some(object),
-        Some(None) => None,
-        None => None,
+    match hidden {
+        Some(hidden) => hidden.cmp(key).is_eq(),
+        None => false,
     }
 }
 
-/// One more owner of the object at the key, if any.
-pub fn share_at(slots: &BTreeMap<Key, Option<Shared>>, key: &Key) -> Result<Option<Shared>, Memory>
-    requires { IsStrictlySortedBy key_cmp (keys_of slots.now.entries) }
-    ensures { IfOk result (λ o. o ≡ lookup (is_key key.now) (live slots.now.entries)) }
+/// The object at the key, if any.
+#[tactic(auto, using(crate::proofs::SlotSteps::lookup_visible))]
+pub fn find<'a>(
+    slots: &'a BTreeMap<Key, Shared>,
+    hidden: &Option<Key>,
+    key: &Key,
+) -> Option<&'a Shared>
+    ensures { option_copied result ≡ lookup (is_key key.now) (visible hidden.now slots.now.entries) }
 {
-    match find(slots, key) {
+    if is_hidden(hidden, key) {
+        return None;
+    }
+    slots.get(key)
+}
+
+/// One more owner of the object at the key, if any.
+pub fn share_at(
+    slots: &BTreeMap<Key, Shared>,
+    hidden: &Option<Key>,
+    key: &Key,
+) -> Result<Option<Shared>, Memory>
+    ensures { IfOk result (λ o. o ≡ lookup (is_key key.now) (visible hidden.now slots.now.entries)) }
+{
+    match find(slots, hidden, key) {
         Some(object) => Ok(Some(object.share()?)),
         None => Ok(None),
     }
 }
 
-/// Puts the object into its slot.
-fn fill_slot(slots: &mut BTreeMap<Key, Option<Shared>>, key: &Key, object: Shared)
+/// Puts the object into its slot, which is not hidden.
+fn fill_slot(slots: &mut BTreeMap<Key, Shared>, hidden: &Option<Key>, key: &Key, object: Shared)
     requires ordered { IsStrictlySortedBy key_cmp (keys_of slots.old.entries) }
     requires slot { IsSome (lookup (is_key key.now) slots.old.entries) }
-    ensures objects { live slots.new.entries ≡ insert_entry key_cmp (live slots.old.entries) key.now object }
+    requires shown { hides hidden.now key.now ≡ false }
+    ensures objects { visible hidden.now slots.new.entries ≡ insert_entry key_cmp (visible hidden.now slots.old.entries) key.now object }
     ensures ordered { IsStrictlySortedBy key_cmp (keys_of slots.new.entries) }
-    ensures spare { (spare : Option Key) → IsSpare spare slots.old.entries → IsSpare spare slots.new.entries }
-    ensures filled { IsSpare (Some key.now) slots.old.entries → IsSpare None slots.new.entries }
 {
     let slot = slots.get_mut(key).unwrap();
-    *slot = Some(object);
+    *slot = object;
 }
 
 /// Takes the slot and its object out.
-fn drop_slot(slots: &mut BTreeMap<Key, Option<Shared>>, key: &Key)
+fn drop_slot(slots: &mut BTreeMap<Key, Shared>, hidden: &Option<Key>, key: &Key)
     requires { IsStrictlySortedBy key_cmp (keys_of slots.old.entries) }
-    ensures objects { live slots.new.entries ≡ remove_entry (is_key key.now) (live slots.old.entries) }
+    ensures objects { visible hidden.now slots.new.entries ≡ remove_entry (is_key key.now) (visible hidden.now slots.old.entries) }
     ensures ordered { IsStrictlySortedBy key_cmp (keys_of slots.new.entries) }
-    ensures spare { (spare : Option Key) → IsSpare spare slots.old.entries → IsSpare spare slots.new.entries }
-    ensures taken { IsSpare (Some key.now) slots.old.entries → IsSpare None slots.new.entries }
 {
     drop(slots.remove(key));
 }
 
-/// Puts the object into its slot, or takes the slot out where there is no object.
+/// Puts the object into its slot, or takes the slot out where there is no object. What is hidden there is this object,
+/// and is shown.
 #[tactic(auto, unfolding(crate::specs::Changes::placed))]
 pub fn place(
-    slots: &mut BTreeMap<Key, Option<Shared>>,
-    spare: &mut Option<Key>,
+    slots: &mut BTreeMap<Key, Shared>,
+    hidden: &mut Option<Key>,
     key: &Key,
     object: Option<Shared>,
 )
     requires ordered { IsStrictlySortedBy key_cmp (keys_of slots.old.entries) }
-    requires slot { IsSome object → IsSome (lookup (is_key key.now) slots.old.entries) }
-    requires spare { IsSpare spare.old slots.old.entries }
-    ensures objects { live slots.new.entries ≡ placed key.now object (live slots.old.entries) }
+    requires slot { (o : StoredObject) → object ≡ Some o → IsSome (lookup (is_key key.now) slots.old.entries) }
+    requires same { (o : StoredObject) → object ≡ Some o → hides hidden.old key.now ≡ true → lookup (is_key key.now) slots.old.entries ≡ Some o }
+    ensures objects { visible hidden.new slots.new.entries ≡ placed key.now object (visible hidden.old slots.old.entries) }
     ensures ordered { IsStrictlySortedBy key_cmp (keys_of slots.new.entries) }
-    ensures spare { IsSpare spare.new slots.new.entries }
 {
     match object {
-        Some(object) => {
-            fill_slot(slots, key, object);
-            forget_if(spare, key);
-        }
-        None => drop_slot(slots, key),
+        Some(_) if is_hidden(hidden, key) => *hidden = None,
+        Some(object) => fill_slot(slots, hidden, key, object),
+        None => drop_slot(slots, hidden, key),
     }
 }
 
-/// Forgets the key of the slot that may be empty, where it is this one.
-fn forget_if(spare: &mut Option<Key>, key: &Key)
-    ensures { (es ds : List (Key × Option StoredObject)) → (IsSpare (Some key.now) es → IsSpare None ds) → (IsSpare spare.old es → IsSpare spare.old ds) → IsSpare spare.old es → IsSpare spare.new ds }
-{
-    let is_it = match &*spare {
-        Some(kept) => kept == key,
-        None => false,
-    };
-    if is_it {
-        *spare = None;
-    }
-}
-
-/// Takes the slot of the key out if it is empty.
-fn sweep_slot(slots: &mut BTreeMap<Key, Option<Shared>>, key: &Key)
-    requires ordered { IsStrictlySortedBy key_cmp (keys_of slots.old.entries) }
-    requires spare { IsSpare (Some key.now) slots.old.entries }
-    ensures objects { live slots.new.entries ≡ live slots.old.entries }
+/// Takes the hidden slot out, if there is one.
+fn sweep(slots: &mut BTreeMap<Key, Shared>, hidden: Option<Key>)
+    requires { IsStrictlySortedBy key_cmp (keys_of slots.old.entries) }
+    ensures objects { slots.new.entries ≡ visible hidden slots.old.entries }
     ensures ordered { IsStrictlySortedBy key_cmp (keys_of slots.new.entries) }
-    ensures spare { IsSpare None slots.new.entries }
 {
-    if find(slots, key).is_none() {
-        drop_slot(slots, key);
+    match hidden {
+        Some(key) => drop(slots.remove(&key)),
+        None => {}
     }
 }
 
-/// Takes the empty slot out, if there is one.
-fn sweep(slots: &mut BTreeMap<Key, Option<Shared>>, spare: Option<Key>)
-    requires ordered { IsStrictlySortedBy key_cmp (keys_of slots.old.entries) }
-    requires spare { IsSpare spare slots.old.entries }
-    ensures objects { live slots.new.entries ≡ live slots.old.entries }
-    ensures ordered { IsStrictlySortedBy key_cmp (keys_of slots.new.entries) }
-    ensures spare { IsSpare None slots.new.entries }
-{
-    if let Some(key) = spare {
-        sweep_slot(slots, &key);
-    }
-}
-
-/// Makes an empty slot at the key of no object, where no other slot is empty.
-fn make_slot(slots: &mut BTreeMap<Key, Option<Shared>>, key: Key) -> Result<(), Memory>
-    requires ordered { IsStrictlySortedBy key_cmp (keys_of slots.old.entries) }
-    requires spare { IsSpare None slots.old.entries }
-    requires free { lookup (is_key key) (live slots.old.entries) ≡ None }
-    ensures objects { live slots.new.entries ≡ live slots.old.entries }
-    ensures ordered { IsStrictlySortedBy key_cmp (keys_of slots.new.entries) }
-    ensures slot { OnOk result (IsSome (lookup (is_key key) slots.new.entries)) }
-    ensures spare { OnOk result (IsSpare (Some key) slots.new.entries) }
-    ensures refused { OnErr result (IsSpare None slots.new.entries) }
-{
-    drop(slots.insert(key, None)?);
-    Ok(())
-}
-
-/// Makes a slot for an object at the key, where none is, in place of the slot that an earlier write left empty. The objects stay.
+/// Makes a hidden slot for a new object at the key, where no object is, in place of the slot that an earlier write left
+/// hidden. The objects stay.
 pub fn reserve_slot(
     alloc: Global,
-    slots: &mut BTreeMap<Key, Option<Shared>>,
-    spare: &mut Option<Key>,
+    slots: &mut BTreeMap<Key, Shared>,
+    hidden: &mut Option<Key>,
     key: Key,
+    object: Shared,
 ) -> Result<(), Memory>
     requires ordered { IsStrictlySortedBy key_cmp (keys_of slots.old.entries) }
-    requires spare { IsSpare spare.old slots.old.entries }
-    requires free { lookup (is_key key) (live slots.old.entries) ≡ None }
-    ensures objects { live slots.new.entries ≡ live slots.old.entries }
+    requires free { lookup (is_key key) (visible hidden.old slots.old.entries) ≡ None }
+    ensures objects { visible hidden.new slots.new.entries ≡ visible hidden.old slots.old.entries }
     ensures ordered { IsStrictlySortedBy key_cmp (keys_of slots.new.entries) }
-    ensures slot { OnOk result (IsSome (lookup (is_key key) slots.new.entries)) }
-    ensures spare { IsSpare spare.new slots.new.entries }
+    ensures slot { OnOk result (lookup (is_key key) slots.new.entries ≡ Some object) }
 {
     let kept = key.copy(alloc)?;
-    sweep(slots, spare.take());
-    make_slot(slots, key)?;
-    *spare = Some(kept);
+    sweep(slots, hidden.take());
+    drop(slots.insert(key, object)?);
+    *hidden = Some(kept);
     Ok(())
 }

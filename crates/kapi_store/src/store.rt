@@ -2,9 +2,7 @@ use crate::change::{Change, Shared};
 use crate::error::{StoreError, TooOld};
 use crate::key::Key;
 use crate::listing::{Listed, Selection};
-use crate::namespaces::{
-    any_stands_in, forget_if_removed, is_known, is_namespace, keep_namespace,
-};
+use crate::namespaces::{any_stands_in, forget_if_removed, is_known, is_namespace, keep_namespace};
 use crate::ready::Ready;
 use crate::rows::is_namespaced;
 use crate::slots::{find, place, reserve_slot};
@@ -26,9 +24,9 @@ pub const LAST_REVISION: u64 = 281_474_976_710_655;
 pub struct Store {
     alloc: Global,
     table: Sequence<ResourceRow>,
-    slots: BTreeMap<Key, Option<Shared>>,
-    /// The key of the only slot that may be empty.
-    spare: Option<Key>,
+    slots: BTreeMap<Key, Shared>,
+    /// The key of the slot whose object is still to be created.
+    hidden: Option<Key>,
     /// The last namespace in which an object was created, while it surely exists: it need not be looked up again.
     known: Option<Text>,
     first: u64,
@@ -42,7 +40,7 @@ impl Drop for Store {
             alloc: _,
             table: _,
             slots: _,
-            spare: _,
+            hidden: _,
             known: _,
             first: _,
             revision: _,
@@ -105,7 +103,7 @@ impl Store {
             alloc,
             table,
             slots: BTreeMap::new(alloc),
-            spare: None,
+            hidden: None,
             known: None,
             first,
             revision: first,
@@ -125,7 +123,7 @@ impl Store {
         ensures object { option_copied result ≡ lookup (is_key key.now) (objects_of self.now) }
         ensures tree { option_map (λ o. stored_tree o.now) result ≡ lookup (is_key key.now) (plain_of self.now).objects }
     {
-        match find(&self.slots, key) {
+        match find(&self.slots, &self.hidden, key) {
             Some(object) => Some(object.get()),
             None => None,
         }
@@ -154,7 +152,7 @@ impl Store {
             selector,
             name,
         };
-        selection.list_in(self.alloc, &self.slots)
+        selection.list_in(self.alloc, &self.slots, &self.hidden)
     }
 
     /// The revision of the last change, or the first one where there is none. Allocates nothing.
@@ -242,7 +240,7 @@ impl Store {
         ensures gives { Gives fault_of (λ o. stored_tree o.now) result (replaceable_at (plain_of self.now) key.now given.now) }
         ensures found { IfOk result (λ o. lookup (is_key key.now) (plain_of self.now).objects ≡ Some (stored_tree o.now)) }
     {
-        match find(&self.slots, key) {
+        match find(&self.slots, &self.hidden, key) {
             Some(object) => admitted(self.alloc, object, given),
             None => Err(StoreError::Missing),
         }
@@ -273,9 +271,9 @@ impl Store {
         self.check_revisions(1)?;
         let revision = self.revision + 1;
         let written = created(self.alloc, object, revision)?;
-        let ready = Ready::creation(self.alloc, revision, &key, written)?;
+        let (ready, shared) = Ready::creation(self.alloc, revision, &key, written)?;
         keep_namespace(self.alloc, self.table.as_slice(), &mut self.known, &key)?;
-        reserve_slot(self.alloc, &mut self.slots, &mut self.spare, key)?;
+        reserve_slot(self.alloc, &mut self.slots, &mut self.hidden, key, shared)?;
         Ok(ready)
     }
 
@@ -341,11 +339,16 @@ impl Store {
 
     /// Whether the namespace holds an object of a namespaced resource type. The call reads the first object of each
     /// such resource type there, and no others.
-    #[tactic(auto, using(crate::proofs::Standing::holds_by_rows))]
     fn holds_objects(&self, namespace: &Text) -> Result<bool, Memory>
         ensures { IfOk result (λ b. b ≡ holds_objects_in (plain_of self.now) namespace.now) }
     {
-        any_stands_in(self.alloc, &self.slots, self.table.as_slice(), namespace)
+        any_stands_in(
+            self.alloc,
+            &self.slots,
+            &self.hidden,
+            self.table.as_slice(),
+            namespace,
+        )
     }
 
     /// Whether the key is of a Namespace object, and that namespace holds an object.
@@ -406,7 +409,7 @@ impl Store {
     {
         self.check_removal(keys.as_slice())?;
         self.check_revisions(keys.len() as u64)?;
-        Ok(Ready::removals(self.alloc, &self.slots, self.revision, keys)?)
+        Ok(Ready::removals(self.alloc, &self.slots, &self.hidden, self.revision, keys)?)
     }
 
     /// Makes the changes of a prepared write. Allocates nothing and cannot fail.
@@ -435,7 +438,7 @@ impl Store {
         ensures table { self.new.table ≡ self.old.table }
         ensures first { self.new.first ≡ self.old.first }
     {
-        place(&mut self.slots, &mut self.spare, &change.key, kept);
+        place(&mut self.slots, &mut self.hidden, &change.key, kept);
         forget_if_removed(&mut self.known, &change);
         self.revision = change.revision;
         self.window.note(change);

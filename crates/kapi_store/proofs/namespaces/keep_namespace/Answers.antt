@@ -1,4 +1,4 @@
-use Rattle.std.proofs.Common.{◌≡◌, ◌∙◌, Bool, true, if◌then◌else◌, ap, sym}
+use Rattle.std.proofs.Common.{◌≡◌, ◌∙◌, true, if◌then◌else◌, ap, sym}
 use Rattle.kapi_store.specs.Keys.{namespace_key}
 use Rattle.kapi_store.specs.Plain.{has_namespace, has_object, is_namespaced}
 use Rattle.kapi_store.proofs.namespaces.keep_namespace.Goals as goal

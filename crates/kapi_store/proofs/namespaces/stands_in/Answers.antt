@@ -4,7 +4,7 @@ use Rattle.std.specs.BTreeMap.Range.{entries_between}
 use Rattle.std.specs.declared.ops.Bound.TheVariants.{Included, Excluded}
 use Rattle.kapi_store.specs.Keys.{key_cmp}
 use Rattle.kapi_store.specs.Private.Span.{is_of, namespace_start}
-use Rattle.kapi_store.specs.State.{live}
+use Rattle.kapi_store.specs.State.{visible}
 use Rattle.kapi_store.proofs.Spans.{start_below_end, standing_between}
 use Rattle.kapi_store.proofs.namespaces.stands_in.Goals as goal
 
@@ -21,4 +21,4 @@ loop-key-init c =
     = c.into_iter-key-iterator.ensures.into_iter_gives ∙ c.range-key-items.ensures.between tt in
     let bounds = ap (λ start. entries_between key_cmp (Included start) (Excluded c.in_ok-end.end) c.args.slots.now.entries) c.in_ok-start.ensures
     ∙ ap (λ end. entries_between key_cmp (Included (namespace_start row namespace)) (Excluded end) c.args.slots.now.entries) c.in_ok-end.ensures in
-    ap (λ es. list_any (λ e. is_of row namespace e.0) (live es)) (range ∙ bounds) ∙ standing_between row namespace c.args.slots.now.entries
+    ap (λ es. list_any (λ e. is_of row namespace e.0) (visible c.args.hidden.now es)) (range ∙ bounds) ∙ standing_between row namespace c.args.hidden.now c.args.slots.now.entries

@@ -1,9 +1,9 @@
 use Rattle.std.proofs.Common.{◌≡◌}
 use Rattle.std.specs.List.{list_any}
-use Rattle.kapi_store.specs.State.{live}
+use Rattle.kapi_store.specs.State.{visible}
 use Rattle.kapi_store.specs.Private.Span.{is_of}
 use Rattle.kapi_store.proofs.namespaces.stands_in.Given as goal
 
 abbrev pub invariant-loop-key : goal.invariant-loop-key
 invariant-loop-key l =
-    list_any (λ e. is_of l.row l.namespace e.0) (live l.key-iterator) ≡ list_any (λ e. is_of l.row l.namespace e.0) (live l.slots.entries)
+    list_any (λ e. is_of l.row l.namespace e.0) (visible l.hidden l.key-iterator) ≡ list_any (λ e. is_of l.row l.namespace e.0) (visible l.hidden l.slots.entries)

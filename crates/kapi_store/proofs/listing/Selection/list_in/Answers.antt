@@ -3,7 +3,7 @@ use Rattle.std.specs.BTreeMap.Range.{entries_between}
 use Rattle.std.specs.declared.ops.Bound.TheVariants.{Included, Excluded}
 use Rattle.kapi_store.specs.Keys.{key_cmp}
 use Rattle.kapi_store.specs.Private.Span.{first_key}
-use Rattle.kapi_store.specs.State.{live}
+use Rattle.kapi_store.specs.State.{visible}
 use Rattle.kapi_store.specs.Listing.{listed_objects}
 use Rattle.kapi_store.proofs.Spans.{first_below_end, listed_between}
 use Rattle.kapi_store.proofs.listing.Selection.list_in.Goals as goal
@@ -21,5 +21,5 @@ loop-key-init c =
     let bounds = ap (λ first. entries_between key_cmp (Included first) (Excluded c.in_ok-end.end) c.args.slots.now.entries) c.in_ok-first.ensures
     ∙ ap (λ end. entries_between key_cmp (Included (first_key selection.row.now selection.namespace.now selection.name.now)) (Excluded end) c.args.slots.now.entries) c.in_ok-end.ensures in
     rw c.new-listed.ensures.items
-    (ap (λ es. listed_objects selection.row.now selection.namespace.now selection.selector.now selection.name.now (live es)) (range ∙ bounds)
-    ∙ listed_between selection.row.now selection.namespace.now selection.selector.now selection.name.now c.args.slots.now.entries)
+    (ap (λ es. listed_objects selection.row.now selection.namespace.now selection.selector.now selection.name.now (visible c.args.hidden.now es)) (range ∙ bounds)
+    ∙ listed_between selection.row.now selection.namespace.now selection.selector.now selection.name.now c.args.hidden.now c.args.slots.now.entries)

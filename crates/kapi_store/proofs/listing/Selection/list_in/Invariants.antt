@@ -1,9 +1,9 @@
 use Rattle.std.proofs.Common.{◌≡◌, ◌++◌, map}
-use Rattle.kapi_store.specs.State.{live}
+use Rattle.kapi_store.specs.State.{visible}
 use Rattle.kapi_store.specs.Listing.{listed_objects, shown}
 use Rattle.kapi_store.proofs.listing.Selection.list_in.Given as goal
 
 abbrev pub invariant-loop-key : goal.invariant-loop-key
 invariant-loop-key l =
-    map shown l.listed.items ++ listed_objects l.self.row.now l.self.namespace.now l.self.selector.now l.self.name.now (live l.key-iterator)
-    ≡ listed_objects l.self.row.now l.self.namespace.now l.self.selector.now l.self.name.now (live l.slots.entries)
+    map shown l.listed.items ++ listed_objects l.self.row.now l.self.namespace.now l.self.selector.now l.self.name.now (visible l.hidden l.key-iterator)
+    ≡ listed_objects l.self.row.now l.self.namespace.now l.self.selector.now l.self.name.now (visible l.hidden l.slots.entries)

@@ -1,8 +1,8 @@
 use Rattle.std.proofs.Common.{◌∙◌, Some, ap}
 use Rattle.kapi_store.proofs.ready.Ready.creation.Goals as goal
 
-pub returns : goal.returns
-returns c = record {
+pub returns-clause-write : goal.returns-clause-write
+returns-clause-write c = record {
   change = c.creation-change.result;
   one = c.in_ok-of_one.ensures;
   numbered = c.creation-change.ensures.revision;

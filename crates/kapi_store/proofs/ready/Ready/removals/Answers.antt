@@ -5,7 +5,7 @@ use Rattle.std.proofs.lemmas.List.{length-append}
 use Rattle.kapi_store.specs.declared.change.Change.{Change}
 use Rattle.kapi_store.specs.declared.key.Key.{Key}
 use Rattle.kapi_store.specs.Changes.{AreRemovals, Follow, revision_of}
-use Rattle.kapi_store.specs.State.{live}
+use Rattle.kapi_store.specs.State.{visible}
 use Rattle.kapi_store.specs.Plain.{plain_change, trees, removals}
 use Rattle.kapi_store.proofs.Windows.{Follow_append}
 use Rattle.kapi_store.proofs.Writes.{removals_alone, removals_more, removals_step, removals_write}
@@ -17,7 +17,7 @@ loop-key-init c =
     let none : c.in_ok-list.list.items ≡ [] = c.in_ok-list.ensures.items in
     let all : into_iter_items c.into_iter-key-iterator.result ≡ c.args.keys.items = c.into_iter-key-iterator.ensures.into_iter_gives.0 in
     record {
-      changes = rw none (ap (removals (trees (live c.args.slots.now.entries)) c.args.before) all);
+      changes = rw none (ap (removals (trees (visible c.args.hidden.now c.args.slots.now.entries)) c.args.before) all);
       removals = rw none tt;
       numbered = rw none tt;
       revision = rw none (omega arith);
@@ -38,9 +38,9 @@ loop-key-preserved c =
     let Removed : List Change → Type 0 = λ cs. AreRemovals cs in
     let Numbered : List Change → Type 0 = λ cs. Follow revision_of c.args.before cs in
     record {
-      changes = ap (λ cs. map plain_change cs ++ removals (trees (live c.args.slots.now.entries)) (c.loop-key.revision + 1) left) items
-          ∙ removals_step (live c.args.slots.now.entries) c.loop-key.list.items c.loop-key.revision c.in-Some.key change left c.in_ok-removal.ensures.revision c.in_ok-removal.ensures.key (c.in_ok-removal.ensures.old ∙ c.in_ok-old.ensures) c.in_ok-removal.ensures.new
-          ∙ ap (λ ks. map plain_change c.loop-key.list.items ++ removals (trees (live c.args.slots.now.entries)) c.loop-key.revision ks) (sym all) ∙ k.changes;
+      changes = ap (λ cs. map plain_change cs ++ removals (trees (visible c.args.hidden.now c.args.slots.now.entries)) (c.loop-key.revision + 1) left) items
+          ∙ removals_step (visible c.args.hidden.now c.args.slots.now.entries) c.loop-key.list.items c.loop-key.revision c.in-Some.key change left c.in_ok-removal.ensures.revision c.in_ok-removal.ensures.key (c.in_ok-removal.ensures.old ∙ c.in_ok-old.ensures) c.in_ok-removal.ensures.new
+          ∙ ap (λ ks. map plain_change c.loop-key.list.items ++ removals (trees (visible c.args.hidden.now c.args.slots.now.entries)) c.loop-key.revision ks) (sym all) ∙ k.changes;
       removals = subst Removed (sym items) (removals_more c.loop-key.list.items change k.removals c.in_ok-removal.ensures.new);
       numbered = subst Numbered (sym items) (Follow_append revision_of c.args.before c.loop-key.list.items (change ∷ []) k.numbered one);
       revision = omega arith;
@@ -58,7 +58,7 @@ returns-clause-changes c =
     let k = c.loop-key.invariant in
     let none : into_iter_items c.loop-key.key-iterator ≡ [] = grind (arith, common_steps) in
     sym (append-nil (map plain_change c.loop-key.list.items))
-    ∙ ap (λ ks. map plain_change c.loop-key.list.items ++ removals (trees (live c.args.slots.now.entries)) c.loop-key.revision ks) (sym none) ∙ k.changes
+    ∙ ap (λ ks. map plain_change c.loop-key.list.items ++ removals (trees (visible c.args.hidden.now c.args.slots.now.entries)) c.loop-key.revision ks) (sym none) ∙ k.changes
 
 pub returns-clause-count : goal.returns-clause-count
 returns-clause-count c =

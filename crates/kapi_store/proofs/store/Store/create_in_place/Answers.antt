@@ -1,7 +1,8 @@
-use Rattle.std.proofs.Common.{◌≡◌, ℕ, ◌+◌, ◌≤◌, true, List, Option, Ok, IsSome, refl, sym, ap, subst, arith}
+use Rattle.std.proofs.Common.{◌≡◌, ℕ, ◌+◌, ◌≤◌, true, List, Option, Some, Ok, IsSome, ◌∙◌, refl, sym, ap, subst, arith}
 use Rattle.std.specs.Map.{lookup}
 use Rattle.kapi_model.specs.declared.row.ResourceRow.{ResourceRow}
 use Rattle.kapi_store.specs.declared.key.Key.{Key}
+use Rattle.kapi_store.specs.declared.stored.StoredObject.{StoredObject}
 use Rattle.kapi_store.specs.Keys.{is_key}
 use Rattle.kapi_store.specs.Limits.{last_revision}
 use Rattle.kapi_store.specs.Plain.{Plain, free_place, has_namespace, plain_of, trees}
@@ -17,11 +18,14 @@ pub returns-clause-fits : goal.returns-clause-fits
 returns-clause-fits c =
     let now : state_of c.self.inside ≡ c.args.self.now = c.self.view_is in
     let left : c.args.self.now.revision + 1 ≤ last_revision = c.in_ok-check_revisions.ensures.left in
-    let one = c.in_ok-ready.ensures in
+    let one = c.in_ok-ready.ensures.write in
     let numbered : one.change.revision ≡ c.self.inside.revision + 1 = one.numbered in
     let e : c.args.self.now.revision ≡ c.self.inside.revision = ap (λ s. s.revision) (sym now) in
     fits_one _ _ one.change one.one numbered (omega arith)
-    (λ _. subst (λ k. IsSome (lookup (is_key k) c.reserve_slot.new.slots.entries)) (sym one.place) c.in_ok-reserve_slot.ensures.slot)
+    (λ o new. let found : lookup (is_key one.change.key) c.reserve_slot.new.slots.entries ≡ Some o
+    = ap (λ k. lookup (is_key k) c.reserve_slot.new.slots.entries) one.place ∙ c.in_ok-reserve_slot.ensures.slot ∙ ap Some c.in_ok-ready.ensures.object ∙ sym one.after ∙ new in
+    let P : Option StoredObject → Type 0 = λ x. IsSome x in
+    (subst P (sym found) refl, λ _. found))
 
 -- the namespace that is kept exists in the store as it was
 kept_there : (s : State) (k : Key) (table : List ResourceRow) (before after : Option (List ℕ)) → s.table ≡ table → free_place (plain_of s) k ≡ Ok tt
@@ -39,9 +43,9 @@ invariant_of-self-in_err-reserve_slot c =
     let now : state_of c.self.inside ≡ c.args.self.now = c.self.view_is in
     let P : State → Type 0 = λ s. free_place (plain_of s) c.args.key ≡ Ok tt in
     let before : State = state_of c.self.inside in (
-      moved_store before _ c.self.invariant.0 c.reserve_slot.ensures.ordered c.reserve_slot.ensures.spare refl refl refl,
+      moved_store before _ c.self.invariant.0 c.reserve_slot.ensures.ordered refl refl refl,
       exists_alike (plain_of before) _ c.keep_namespace.new.known (ap trees c.reserve_slot.ensures.objects)
-      (kept_there before c.args.key _ _ _ (sym c.as_slice.ensures) (subst P (sym now) c.requires) c.keep_namespace.ensures c.self.invariant.1),
+          (kept_there before c.args.key _ _ _ (sym c.as_slice.ensures) (subst P (sym now) c.requires) c.keep_namespace.ensures c.self.invariant.1),
     )
 
 pub invariant_of-self-2 : goal.invariant_of-self-2
@@ -49,9 +53,9 @@ invariant_of-self-2 c =
     let now : state_of c.self.inside ≡ c.args.self.now = c.self.view_is in
     let P : State → Type 0 = λ s. free_place (plain_of s) c.args.key ≡ Ok tt in
     let before : State = state_of c.self.inside in (
-      moved_store before _ c.self.invariant.0 c.reserve_slot.ensures.ordered c.reserve_slot.ensures.spare refl refl refl,
+      moved_store before _ c.self.invariant.0 c.reserve_slot.ensures.ordered refl refl refl,
       exists_alike (plain_of before) _ c.keep_namespace.new.known (ap trees c.reserve_slot.ensures.objects)
-      (kept_there before c.args.key _ _ _ (sym c.as_slice.ensures) (subst P (sym now) c.requires) c.keep_namespace.ensures c.self.invariant.1),
+          (kept_there before c.args.key _ _ _ (sym c.as_slice.ensures) (subst P (sym now) c.requires) c.keep_namespace.ensures c.self.invariant.1),
     )
 
 pub reserve_slot-requires-clause-free : goal.reserve_slot-requires-clause-free

@@ -1,16 +1,16 @@
-use Rattle.std.proofs.Common.{◌≡◌, ◌+◌, ◌≤◌, Ok, true, false, IsSome, ap, sym, subst, refl, ◌∙◌, arith, rules}
-use Rattle.std.specs.List.Sorted.{IsStrictlySortedBy}
-use Rattle.std.specs.Map.{keys_of, lookup}
+use Rattle.std.proofs.Common.{◌≡◌, ◌+◌, ◌≤◌, Ok, true, false, Some, IsSome, ap, sym, subst, refl, ◌∙◌, arith, rules}
+use Rattle.std.specs.Map.{lookup}
 use Rattle.kapi_tree.specs.Object.{tree_of}
 use Rattle.kapi_store.specs.Limits.{last_revision}
-use Rattle.kapi_store.specs.Keys.{is_key, key_cmp}
+use Rattle.kapi_store.specs.Keys.{is_key}
 use Rattle.kapi_store.specs.declared.key.Key.{Key}
+use Rattle.kapi_store.specs.declared.stored.StoredObject.{StoredObject}
 use Rattle.kapi_store.specs.Stored.{stored_tree}
 use Rattle.kapi_store.specs.Same.{same_tree}
 use Rattle.kapi_store.specs.Stamps.{with_stamps_of}
 use Rattle.kapi_store.specs.Plain.{plain_of, revisions_left}
 use Rattle.kapi_store.specs.View.{state_of}
-use Rattle.kapi_store.specs.State.{State, Fits}
+use Rattle.kapi_store.specs.State.{State, Fits, hides}
 use Rattle.kapi_store.proofs.Stores.{fits_none, fits_one}
 use Rattle.kapi_store.proofs.Places.{slot_of_tree}
 use Rattle.kapi_store.proofs.Versions.{version_alone}
@@ -54,10 +54,13 @@ returns-clause-fits c =
     let one = c.in_ok-replacement.ensures in
     let numbered : one.change.revision ≡ c.self.inside.revision + 1 = one.numbered in
     fits_one c.args.self.now _ one.change one.one (omega arith) (omega arith)
-    (λ _. slot_at c.args.self.now one.change.key c.args.key one.place (slot_of_tree c.args.self.now c.args.key (stored_tree c.args.old.now) (subst (λ s. IsStrictlySortedBy key_cmp (keys_of s.slots)) c.self.view_is c.self.invariant.0.slots) c.requires))
+    (λ o _. slot_at c.args.self.now one.change.key c.args.key o one.place (slot_of_tree c.args.self.now c.args.key (stored_tree c.args.old.now) c.requires))
   where
-    slot_at : (s : State) (k l : Key) → k ≡ l → IsSome (lookup (is_key l) s.slots) → IsSome (lookup (is_key k) s.slots)
-    slot_at s k l is h = subst (λ q. IsSome (lookup (is_key q) s.slots)) (sym is) h
+    slot_at : (s : State) (k l : Key) (o : StoredObject) → k ≡ l → IsSome (lookup (is_key l) s.slots) × (hides s.hidden l ≡ false)
+        → IsSome (lookup (is_key k) s.slots) × (hides s.hidden k ≡ true → lookup (is_key k) s.slots ≡ Some o)
+    slot_at s k l o is h =
+        let shown : hides s.hidden k ≡ false = ap (hides s.hidden) is ∙ h.1 in
+        (subst (λ q. IsSome (lookup (is_key q) s.slots)) (sym is) h.0, λ there. absurd (cc (shown, there)))
 
 -- no changes were prepared, and the trees are equal
 pub returns-then-is_same-clause-unchanged : goal.returns-then-is_same-clause-unchanged
