@@ -28,7 +28,7 @@ static double now(void) {
 
 static void ask(struct client *client) {
     char digits[32];
-    snprintf(digits, sizeof digits, "%09lu", sent++);
+    snprintf(digits, sizeof digits, "%09lu", sent++ % 1000000000);
     if (number) memcpy(number, digits, 9);
     client->length = 0;
     if (write(client->socket, request, length) != (ssize_t)length) exit(4);
@@ -72,6 +72,8 @@ int main(int count, char **words) {
     if (!file || many < 1 || many > CONNECTIONS) return 2;
     length = fread(request, 1, sizeof request - 1, file);
     number = strstr(request, "#########");
+    // Each run goes on behind the numbers of those before it, of which none sends as many a second: so a post names a new object.
+    sent = (unsigned long)(now() * 200000);
     for (int next = 0; next < many; next++) join(&clients[next], atoi(words[1]), poll);
     for (double end = now() + atof(words[3]); now() < end;) {
         int found = spins ? many : epoll_wait(poll, ready, CONNECTIONS, 100);
