@@ -108,6 +108,16 @@ mutual
 pub same_decides : (a b : Data) → has_float a ≡ false → Decides (same_tree a b) (a ≡ b)
 same_decides a b h = (tree_equal a b, λ is. ap (same_tree a) (sym is) ∙ tree_same a h)
 
+-- trees that are equal are found to be, and others are not
+pub found_same : (a b : Data) → has_float b ≡ false → a ≡ b → same_tree a b ≡ true
+found_same a b h is = ap (λ d. same_tree d b) is ∙ tree_same b h
+
+pub found_other : (a b : Data) → (a ≡ b → ⊥) → same_tree a b ≡ false
+found_other a b other = elim (same_tree a b) as (λ t. same_tree a b ≡ t → t ≡ false) [
+  | true ↦ λ is. absurd (other (tree_equal a b is))
+  | false ↦ λ is. refl
+] refl
+
 -- two tests that decide the same are equal
 pub decided_alike : {P : Type 0} (a b : Bool) → Decides a P → Decides b P → a ≡ b
 decided_alike true true p q = refl

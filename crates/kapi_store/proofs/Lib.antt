@@ -15,3 +15,6 @@ pub mod Alike
 pub mod Labelled
 pub mod Places
 pub mod Existing
+pub mod Cuts
+pub mod VersionTexts
+pub mod Restamped

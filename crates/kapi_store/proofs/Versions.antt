@@ -20,11 +20,11 @@ use Rattle.kapi_store.proofs.Stamped.{old_uid}
 use Rattle.kapi_store.specs.Gone.{at_version, changed_at, with_changed}
 use Rattle.kapi_store.specs.Stamps.{uid_in, with_stamps_of, replaced_tree}
 
-given : (a b : Data) → Some a ≡ Some b → a ≡ b
+pub given : (a b : Data) → Some a ≡ Some b → a ≡ b
 given a b is = cc is
 
 -- a key that comes before all of the members has no value among them to change
-untouched : (k : List ℕ) (f : Data → Data) (ms : Members) → precedes k ms ≡ true → changed_at k f ms ≡ ms
+pub untouched : (k : List ℕ) (f : Data → Data) (ms : Members) → precedes k ms ≡ true → changed_at k f ms ≡ ms
 untouched k f no_members p = refl
 untouched k f (member l d ms) p =
     let less : slice_cmp nat_cmp k l ≡ Less = is_less (slice_cmp nat_cmp k l) (first_so (is_lt (slice_cmp nat_cmp k l)) (precedes k ms) p) in
@@ -50,7 +50,7 @@ put_changed k f old (member l e ms) h there =
 
 -- ---- stamps
 
-text_there : (o : Option Data) (s : List ℕ) → option_and_then as_str o ≡ Some s → o ≡ Some (string s)
+pub text_there : (o : Option Data) (s : List ℕ) → option_and_then as_str o ≡ Some s → o ≡ Some (string s)
 text_there None s h = absurd (cc h)
 text_there (Some (string t)) s h = ap (λ (u : Option (List ℕ)). Some (string (unwrap_or u []))) h
 text_there (Some null) s h = absurd (cc h)
@@ -60,7 +60,7 @@ text_there (Some (array ds)) s h = absurd (cc h)
 text_there (Some (object ms)) s h = absurd (cc h)
 
 -- the members of an object among members in order are in order
-inner_order : (k : List ℕ) (ms ns : Members) → in_order ms ≡ true → get_member k ms ≡ Some (object ns) → in_order ns ≡ true
+pub inner_order : (k : List ℕ) (ms ns : Members) → in_order ms ≡ true → get_member k ms ≡ Some (object ns) → in_order ns ≡ true
 inner_order k no_members ns h at = absurd (cc at)
 inner_order k (member l e ms) ns h at =
     elim (slice_cmp nat_cmp k l) as (λ o. match_ordering o (get_member k ms) (Some e) (get_member k ms) ≡ Some (object ns) → in_order ns ≡ true) [
@@ -78,7 +78,7 @@ pub record HasMetadata (key : List ℕ) (value : Data) (ms : Members) : Type 0 w
   pub there : get_member (codes "metadata") ms ≡ Some (object metadata)
   pub inside : get_member key metadata ≡ Some value
 
-has_metadata : (k : List ℕ) (d : Data) (ms : Members) → in_metadata k (object ms) ≡ Some d → HasMetadata k d ms
+pub has_metadata : (k : List ℕ) (d : Data) (ms : Members) → in_metadata k (object ms) ≡ Some d → HasMetadata k d ms
 has_metadata k d ms h = by_value (get_member (codes "metadata") ms) refl h
   where
     by_value : (o : Option Data) → get_member (codes "metadata") ms ≡ o → option_and_then (get k) o ≡ Some d → HasMetadata k d ms

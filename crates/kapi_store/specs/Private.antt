@@ -2,3 +2,4 @@
 pub mod Span
 pub mod Alike
 pub mod Existing
+pub mod Cut

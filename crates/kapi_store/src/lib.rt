@@ -2,6 +2,7 @@
 #![tactic(auto)]
 
 pub mod change;
+mod cut;
 pub mod error;
 pub mod key;
 mod labels;

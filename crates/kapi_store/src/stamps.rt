@@ -1,14 +1,12 @@
 //! What a write sets in the metadata of an object.
 
-ghost use Rattle.std.specs.Prelude.{◌≡◌, ◌<◌, ◌^◌, Some, IfOk, codes, string_bytes, option_and_then};
-ghost use Rattle.serde_json.specs.Find.{as_str};
+ghost use Rattle.std.specs.Prelude.{◌≡◌, ◌<◌, ◌^◌, None, IfOk, IfSome, string_bytes};
 ghost use Rattle.serde_json.specs.Read.{read};
 ghost use Rattle.serde_json.specs.Written.{compact_text};
 ghost use Rattle.std.specs.Bool.{Decides};
 ghost use Rattle.std.specs.Fmt.{decimal};
 ghost use Rattle.kapi_tree.specs.Object.{tree_of};
-ghost use Rattle.kapi_tree.specs.Tree.{in_metadata, with_text};
-ghost use Rattle.kapi_store.specs.Stamps.{uid_in, uid_of, created_tree};
+ghost use Rattle.kapi_store.specs.Stamps.{uid_of, created_tree, replaced_tree};
 ghost use Rattle.kapi_store.specs.Plain.{admits as admits_of, admitted as admitted_of};
 ghost use Rattle.kapi_text.specs.Gives.{Gives};
 ghost use Rattle.kapi_store.specs.Faults.{fault_of};
@@ -17,6 +15,7 @@ ghost use Rattle.kapi_store.specs.Stamps.{with_stamps_of as with_stamps_of_tree}
 ghost use Rattle.kapi_store.specs.Stored.{stored_tree};
 
 use crate::change::Shared;
+use crate::cut::is_near;
 use crate::error::StoreError;
 use crate::written::Written;
 use kapi_text::{Memory, Text};
@@ -46,7 +45,7 @@ pub(crate) fn created(alloc: Global, object: Object, revision: u64) -> Result<Wr
     ensures tree { IfOk result (λ w. stored_tree w.stored ≡ created_tree revision (tree_of object)) }
     ensures same { IfOk result (λ w. stored_tree w.stored ≡ tree_of w.object) }
 {
-    Written::stamped(alloc, object, revision)
+    Written::stamped(alloc, object, revision, revision)
 }
 
 /// The object where nothing else is changed: with the old one's unique id and version.
@@ -63,8 +62,9 @@ pub fn text_of(alloc: Global, object: &Object) -> Result<Text, Memory>
     ensures text { IfOk result (λ t. t ≡ compact_text (tree_of object.now)) }
     ensures reads { IfOk result (λ t. read t ≡ Some (tree_of object.now)) }
 {
-    let written = object.as_tree().to_string(alloc)?;
-    Text::copy_of(alloc, written.as_str())
+    let mut text = object.as_tree().to_string(alloc)?;
+    text.shrink_to_fit();
+    Ok(Text::new(text))
 }
 
 /// Whether an object is the old one.
@@ -76,18 +76,46 @@ pub fn is_unchanged(alloc: Global, object: &Object, old: &Shared) -> Result<bool
     Ok(text.as_str() == old.get().text())
 }
 
-/// The object in the place of the old one, whose unique id it has, at the version of a revision.
-pub(crate) fn in_place_of(
+/// The object in the place of the old one, at the version of a revision.
+fn in_place_of(
     alloc: Global,
     object: Object,
     old: &Shared,
     revision: u64,
 ) -> Result<Written, Memory>
-    requires { option_and_then as_str (in_metadata (codes "uid") (tree_of object)) ≡ Some (uid_in (stored_tree old.now)) }
-    ensures tree { IfOk result (λ w. stored_tree w.stored ≡ with_text (codes "resourceVersion") (decimal revision) (tree_of object)) }
+    ensures tree { IfOk result (λ w. stored_tree w.stored ≡ replaced_tree revision (stored_tree old.now) (tree_of object)) }
     ensures same { IfOk result (λ w. stored_tree w.stored ≡ tree_of w.object) }
 {
-    Written::versioned(alloc, object, old.get().created(), revision)
+    let written = Written::stamped(alloc, object, old.get().created(), revision)?;
+    Ok(written)
+}
+
+/// The object in the place of the old one, at the version of a revision; none where all else of it is that of the old
+/// one. Texts that differ in more than a number tell so at once, and the object is written once.
+pub(crate) fn replacing(
+    alloc: Global,
+    object: Object,
+    old: &Shared,
+    revision: u64,
+) -> Result<Option<Written>, Memory>
+    ensures none { IfOk result (λ o. o ≡ None → with_stamps_of_tree (stored_tree old.now) (tree_of object) ≡ stored_tree old.now) }
+    ensures other { IfOk result (λ o. IfSome o (λ w. with_stamps_of_tree (stored_tree old.now) (tree_of object) ≡ stored_tree old.now → ⊥)) }
+    ensures tree { IfOk result (λ o. IfSome o (λ w. stored_tree w.stored ≡ replaced_tree revision (stored_tree old.now) (tree_of object))) }
+    ensures same { IfOk result (λ o. IfSome o (λ w. stored_tree w.stored ≡ tree_of w.object)) }
+{
+    let written = in_place_of(alloc, object, old, revision)?;
+    if !is_near(
+        written.stored.text().as_bytes(),
+        old.get().text().as_bytes(),
+    ) {
+        return Ok(Some(written));
+    }
+    let object = with_stamps_of(alloc, written.into_object(), old)?;
+    if is_unchanged(alloc, &object, old)? {
+        return Ok(None);
+    }
+    let again = in_place_of(alloc, object, old, revision)?;
+    Ok(Some(again))
 }
 
 /// Whether a write with this given version may change the object of the current one.

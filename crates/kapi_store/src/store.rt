@@ -6,7 +6,7 @@ use crate::namespaces::{any_stands_in, forget_if_removed, is_known, is_namespace
 use crate::ready::Ready;
 use crate::rows::is_namespaced;
 use crate::slots::{find, place, reserve_slot};
-use crate::stamps::{admitted, created, in_place_of, is_unchanged, with_stamps_of};
+use crate::stamps::{admitted, created, replacing};
 use crate::stored::StoredObject;
 use crate::window::{Changes, WINDOW, Window};
 use kapi_model::{ResourceRow, Selector};
@@ -319,21 +319,18 @@ impl Store {
     }
 
     /// Prepares the replacement of a stored object.
-    #[tactic(auto, using(crate::proofs::Stamped::old_uid))]
     fn replace_old(&self, key: Key, object: Object, old: &Shared) -> Result<Ready, StoreError>
         requires { lookup (is_key key) (plain_of self.now).objects ≡ Some (stored_tree old.now) }
         ensures gives { Gives fault_of (map plain_change) result (replaced (plain_of self.now) key (tree_of object) (stored_tree old.now)) }
         ensures unchanged { IfOk result (λ r. (r ≡ []) ↔ (with_stamps (stored_tree old.now) (tree_of object) ≡ stored_tree old.now)) }
         ensures fits { IfOk result (Fits self.now) }
     {
-        let object = with_stamps_of(self.alloc, object, old)?;
-        let is_same = is_unchanged(self.alloc, &object, old)?;
-        if is_same {
-            return Ok(Ready::nothing(self.alloc));
-        }
-        self.check_revisions(1)?;
         let revision = self.revision + 1;
-        let written = in_place_of(self.alloc, object, old, revision)?;
+        let changed = replacing(self.alloc, object, old, revision)?;
+        let Some(written) = changed else {
+            return Ok(Ready::nothing(self.alloc));
+        };
+        self.check_revisions(1)?;
         Ok(Ready::replacement(self.alloc, revision, key, old, written)?)
     }
 

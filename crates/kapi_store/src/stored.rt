@@ -8,6 +8,7 @@ ghost use Rattle.kapi_tree.specs.Tree.{in_metadata};
 ghost use Rattle.kapi_store.specs.Stamps.{uid_of};
 ghost use Rattle.kapi_store.specs.Told.{labels_of as labels_of_tree, told_by};
 
+use crate::cut::{around, joined, version_text};
 use crate::labels::{are_same, labels_of};
 use crate::stamps::{text_of, uid, version};
 use kapi_model::{AggregationRule, Label, Labels, Selector};
@@ -78,8 +79,22 @@ impl StoredObject {
     }
 
     /// The text of the object with a revision as its version; all else of it stays.
-    #[tactic(auto, using(crate::proofs::Versions::versioned_again))]
     pub(crate) fn text_at(&self, alloc: Global, revision: u64) -> Result<Text, Memory>
+        ensures { IfOk result (λ t. t ≡ compact_text (at_version revision (stored_tree self.now))) }
+    {
+        let own = version_text(alloc, self.revision)?;
+        match around(self.text.as_str(), own.as_str()) {
+            Some((before, behind)) => {
+                let other = version_text(alloc, revision)?;
+                Ok(joined(alloc, before, other.as_str(), behind)?)
+            }
+            None => self.written_at(alloc, revision),
+        }
+    }
+
+    /// The same text, written of the object's tree.
+    #[tactic(auto, using(crate::proofs::Versions::versioned_again))]
+    fn written_at(&self, alloc: Global, revision: u64) -> Result<Text, Memory>
         ensures { IfOk result (λ t. t ≡ compact_text (at_version revision (stored_tree self.now))) }
     {
         let version = version(alloc, revision)?;

@@ -17,39 +17,33 @@ impl Written {
     ghost use Rattle.std.specs.Prelude.{◌≡◌, ◌<◌, ◌^◌, Some, codes, option_and_then, IfOk};
     ghost use Rattle.std.specs.Fmt.{decimal};
     ghost use Rattle.serde_json.specs.Find.{as_str};
-    ghost use Rattle.kapi_tree.specs.Object.{tree_of};
-    ghost use Rattle.kapi_tree.specs.Tree.{in_metadata, with_text};
-    ghost use Rattle.kapi_store.specs.Stamps.{uid_of, created_tree};
+    ghost use Rattle.kapi_tree.specs.Object.{tree_of, stamped_tree};
+    ghost use Rattle.kapi_tree.specs.Tree.{in_metadata};
+    ghost use Rattle.kapi_store.specs.Stamps.{uid_of};
     ghost use Rattle.kapi_store.specs.Stored.{stored_tree};
 
-    /// The object with the unique id and the version of the revision that creates it.
+    /// The object with the unique id of one revision and the version of another.
     #[tactic(auto, using(crate::proofs::Stamped::uid_there))]
-    pub(crate) fn stamped(alloc: Global, object: Object, revision: u64) -> Result<Written, Memory>
-        requires { revision < 2 ^ 48 }
-        ensures tree { IfOk result (λ w. tree_of w.object ≡ created_tree revision (tree_of object)) }
-        ensures same { IfOk result (λ w. stored_tree w.stored ≡ tree_of w.object) }
-    {
-        let (uid, version) = (uid(alloc, revision)?, version(alloc, revision)?);
-        let object = object.stamped(alloc, uid, version)?;
-        Written::kept(alloc, object, revision, revision)
-    }
-
-    /// The object, which has the unique id of one revision, at the version of another.
-    #[tactic(auto, using(crate::proofs::Stamped::uid_stays, crate::proofs::Stamped::version_there))]
-    pub(crate) fn versioned(
+    pub(crate) fn stamped(
         alloc: Global,
         object: Object,
         created: u64,
         revision: u64,
     ) -> Result<Written, Memory>
-        requires numbered { created < 2 ^ 48 }
-        requires born { option_and_then as_str (in_metadata (codes "uid") (tree_of object)) ≡ Some (uid_of created) }
-        ensures tree { IfOk result (λ w. tree_of w.object ≡ with_text (codes "resourceVersion") (decimal revision) (tree_of object)) }
+        requires { created < 2 ^ 48 }
+        ensures tree { IfOk result (λ w. tree_of w.object ≡ stamped_tree (uid_of created) (decimal revision) (tree_of object)) }
         ensures same { IfOk result (λ w. stored_tree w.stored ≡ tree_of w.object) }
     {
-        let version = version(alloc, revision)?;
-        let object = object.versioned(alloc, version)?;
+        let (uid, version) = (uid(alloc, created)?, version(alloc, revision)?);
+        let object = object.stamped(alloc, uid, version)?;
         Written::kept(alloc, object, created, revision)
+    }
+
+    /// The object as a tree.
+    pub(crate) fn into_object(self) -> Object
+        ensures { result ≡ self.object }
+    {
+        self.object
     }
 
     /// The object, which has the unique id of one revision and the version of another, also as it is kept.

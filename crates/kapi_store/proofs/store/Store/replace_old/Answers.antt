@@ -1,4 +1,4 @@
-use Rattle.std.proofs.Common.{◌≡◌, ◌+◌, ◌≤◌, Ok, true, false, Some, IsSome, ap, sym, subst, refl, ◌∙◌, arith, rules}
+use Rattle.std.proofs.Common.{◌≡◌, ◌+◌, ◌≤◌, Ok, true, false, Option, Some, IsSome, IfSome, ap, sym, subst, refl, ◌∙◌, arith, rules}
 use Rattle.std.specs.Map.{lookup}
 use Rattle.kapi_tree.specs.Object.{tree_of}
 use Rattle.kapi_store.specs.Limits.{last_revision}
@@ -7,25 +7,29 @@ use Rattle.kapi_store.specs.declared.key.Key.{Key}
 use Rattle.kapi_store.specs.declared.stored.StoredObject.{StoredObject}
 use Rattle.kapi_store.specs.Stored.{stored_tree}
 use Rattle.kapi_store.specs.Same.{same_tree}
-use Rattle.kapi_store.specs.Stamps.{with_stamps_of}
+use Rattle.kapi_store.specs.Stamps.{replaced_tree, with_stamps_of}
+use Rattle.kapi_store.specs.declared.written.Written.{Written}
 use Rattle.kapi_store.specs.Plain.{plain_of, revisions_left}
 use Rattle.kapi_store.specs.View.{state_of}
 use Rattle.kapi_store.specs.State.{State, Fits, hides}
+use Rattle.kapi_store.proofs.Equality.{found_other, found_same}
 use Rattle.kapi_store.proofs.Stores.{fits_none, fits_one}
 use Rattle.kapi_store.proofs.Places.{slot_of_tree}
-use Rattle.kapi_store.proofs.Versions.{version_alone}
 use Rattle.kapi_store.proofs.Writes.{replaced_by}
 use Rattle.kapi_store.proofs.store.Store.replace_old.Goals as goal
 
-pub returns-then-is_same-clause-gives : goal.returns-then-is_same-clause-gives
-returns-then-is_same-clause-gives c =
-    let old = stored_tree c.args.old.now in
-    let same : same_tree (with_stamps_of old (tree_of c.args.object)) old ≡ true
-    = ap (λ t. same_tree t old) (sym c.in_ok-object.ensures) ∙ sym c.in_ok-is_same.ensures.test ∙ c.if-is_same.true in
+in_some : (P : Written → Type 0) (o : Option Written) (w : Written) → o ≡ Some w → IfSome o P → P w
+in_some P o w is h = subst (λ q. IfSome q P) is h
+
+pub returns-in_default-clause-gives : goal.returns-in_default-clause-gives
+returns-in_default-clause-gives c =
+    let old = c.args.old.now in
+    let same : same_tree (with_stamps_of (stored_tree old) (tree_of c.args.object)) (stored_tree old) ≡ true
+    = found_same (with_stamps_of (stored_tree old) (tree_of c.args.object)) (stored_tree old) old.whole (c.in_ok-changed.ensures.none c.in_default.is) in
     rw (same, c.nothing.ensures) refl
 
-pub returns-then-is_same-clause-fits : goal.returns-then-is_same-clause-fits
-returns-then-is_same-clause-fits c =
+pub returns-in_default-clause-fits : goal.returns-in_default-clause-fits
+returns-in_default-clause-fits c =
     let now : state_of c.self.inside ≡ c.args.self.now = c.self.view_is in
     let P : State → Type 0 = λ s. Fits s c.nothing.result in
     subst P now (fits_none (state_of c.self.inside) c.nothing.result c.self.invariant.0 c.nothing.ensures)
@@ -33,19 +37,19 @@ returns-then-is_same-clause-fits c =
 pub returns-in_err-check_revisions-clause-gives : goal.returns-in_err-check_revisions-clause-gives
 returns-in_err-check_revisions-clause-gives c =
     let old = stored_tree c.args.old.now in
-    let same : same_tree (with_stamps_of old (tree_of c.args.object)) old ≡ false
-    = ap (λ t. same_tree t old) (sym c.in_ok-object.ensures) ∙ sym c.in_ok-is_same.ensures.test ∙ c.if-is_same.false in
-    rw same (search rules)
+    let differ : with_stamps_of old (tree_of c.args.object) ≡ old → ⊥ = in_some (λ w. with_stamps_of old (tree_of c.args.object) ≡ old → ⊥) c.in_ok-changed.changed c.in-Some.written c.in-Some.is c.in_ok-changed.ensures.other in
+    let other : same_tree (with_stamps_of old (tree_of c.args.object)) old ≡ false = found_other (with_stamps_of old (tree_of c.args.object)) old differ in
+    rw other (search rules)
 
 pub returns-clause-gives : goal.returns-clause-gives
 returns-clause-gives c =
     let old = stored_tree c.args.old.now in
-    let same : same_tree (with_stamps_of old (tree_of c.args.object)) old ≡ false
-    = ap (λ t. same_tree t old) (sym c.in_ok-object.ensures) ∙ sym c.in_ok-is_same.ensures.test ∙ c.if-is_same.false in
+    let differ : with_stamps_of old (tree_of c.args.object) ≡ old → ⊥ = in_some (λ w. with_stamps_of old (tree_of c.args.object) ≡ old → ⊥) c.in_ok-changed.changed c.in-Some.written c.in-Some.is c.in_ok-changed.ensures.other in
+    let other : same_tree (with_stamps_of old (tree_of c.args.object)) old ≡ false = found_other (with_stamps_of old (tree_of c.args.object)) old differ in
     let left : revisions_left (plain_of c.args.self.now) 1 ≡ Ok tt = c.in_ok-check_revisions.ensures.gives in
-    replaced_by (plain_of c.args.self.now) c.args.key (tree_of c.args.object) old c.in_ok-replacement.field-0 (c.self.inside.revision + 1) c.args.old.now c.in_ok-written.written.stored
-    same left c.in_ok-replacement.ensures (ap (λ s. s.revision + 1) c.self.view_is) refl
-    (c.in_ok-written.ensures.tree ∙ version_alone old (tree_of c.args.object) (tree_of c.in_ok-object.object) (c.self.inside.revision + 1) c.in_ok-object.object.ordered c.in_ok-object.ensures)
+    replaced_by (plain_of c.args.self.now) c.args.key (tree_of c.args.object) old c.in_ok-replacement.field-0 (c.self.inside.revision + 1) c.args.old.now c.in-Some.written.stored
+    other left c.in_ok-replacement.ensures (ap (λ s. s.revision + 1) c.self.view_is) refl
+    (in_some (λ w. stored_tree w.stored ≡ replaced_tree (c.self.inside.revision + 1) old (tree_of c.args.object)) c.in_ok-changed.changed c.in-Some.written c.in-Some.is c.in_ok-changed.ensures.tree)
 
 pub returns-clause-fits : goal.returns-clause-fits
 returns-clause-fits c =
@@ -61,15 +65,3 @@ returns-clause-fits c =
     slot_at s k l o is h =
         let shown : hides s.hidden k ≡ false = ap (hides s.hidden) is ∙ h.1 in
         (subst (λ q. IsSome (lookup (is_key q) s.slots)) (sym is) h.0, λ there. absurd (cc (shown, there)))
-
--- no changes were prepared, and the trees are equal
-pub returns-then-is_same-clause-unchanged : goal.returns-then-is_same-clause-unchanged
-returns-then-is_same-clause-unchanged c =
-    let equal = c.in_ok-is_same.ensures.decides.0 c.if-is_same.true in
-    (λ _. sym c.in_ok-object.ensures ∙ equal, λ _. c.nothing.ensures)
-
-pub returns-clause-unchanged : goal.returns-clause-unchanged
-returns-clause-unchanged c = (
-  λ none. absurd (cc (c.in_ok-replacement.ensures.one, none)),
-  λ is. absurd (cc (c.in_ok-is_same.ensures.decides.1 (c.in_ok-object.ensures ∙ is), c.if-is_same.false)),
-)
