@@ -44,20 +44,25 @@ version_other : (q : List ℕ) (row : ResourceRow) (tree : Data) → bytes_eq q 
 unfolding kept_metadata
 version_other q row tree h = put_if_other q (codes "resourceVersion") (metadata_member (codes "resourceVersion") tree) (kept_place row tree) h
 
-kept_name : (row : ResourceRow) (tree : Data) → get_member (codes "name") (kept_metadata row tree) ≡ metadata_member (codes "name") tree
+pub kept_name : (row : ResourceRow) (tree : Data) → get_member (codes "name") (kept_metadata row tree) ≡ metadata_member (codes "name") tree
 kept_name row tree =
     version_other (codes "name") row tree refl
     ∙ place_other row.namespaced (codes "name") tree refl
     ∙ put_if_here (codes "name") (metadata_member (codes "name") tree) (kept_entries tree) (entries_other (codes "name") tree refl refl)
 
-kept_namespace : (row : ResourceRow) (tree : Data) → get_member (codes "namespace") (kept_metadata row tree) ≡ (if row.namespaced then metadata_member (codes "namespace") tree else None)
+pub kept_namespace : (row : ResourceRow) (tree : Data) → get_member (codes "namespace") (kept_metadata row tree) ≡ (if row.namespaced then metadata_member (codes "namespace") tree else None)
 kept_namespace row tree = version_other (codes "namespace") row tree refl ∙ place_here row.namespaced tree
 
-kept_version : (row : ResourceRow) (tree : Data) → get_member (codes "resourceVersion") (kept_metadata row tree) ≡ metadata_member (codes "resourceVersion") tree
+pub kept_version : (row : ResourceRow) (tree : Data) → get_member (codes "resourceVersion") (kept_metadata row tree) ≡ metadata_member (codes "resourceVersion") tree
 unfolding kept_metadata
 kept_version row tree =
     put_if_here (codes "resourceVersion") (metadata_member (codes "resourceVersion") tree) (kept_place row tree)
     (place_other row.namespaced (codes "resourceVersion") tree refl ∙ names_other (codes "resourceVersion") tree refl refl refl)
+
+-- nothing else is kept
+pub none_else : (q : List ℕ) (row : ResourceRow) (tree : Data) → bytes_eq q (codes "labels") ≡ false → bytes_eq q (codes "annotations") ≡ false → bytes_eq q (codes "name") ≡ false
+    → bytes_eq q (codes "namespace") ≡ false → bytes_eq q (codes "resourceVersion") ≡ false → get_member q (kept_metadata row tree) ≡ None
+none_else q row tree hl ha hn hp hv = version_other q row tree hv ∙ place_other row.namespaced q tree hp ∙ names_other q tree hl ha hn
 
 in_kept : (q : List ℕ) (row : ResourceRow) (tree : Data) → in_metadata q (kept_tree row tree) ≡ get_member q (kept_metadata row tree)
 unfolding kept_tree

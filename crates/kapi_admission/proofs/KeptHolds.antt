@@ -31,7 +31,7 @@ module _ {P : ℕ → Data → Type 0} {I : ℕ → Items → Type 0} {M : ℕ �
       (put_if_holds c n (codes "namespace") (metadata_member (codes "namespace") d) (kept_names d) (metadata_member_holds n (codes "namespace") d h) (kept_names_hold n d h))
       (kept_names_hold n d h)
 
-  kept_metadata_holds : (n : ℕ) (row : ResourceRow) (d : Data) → P (suc (suc n)) d → M n (kept_metadata row d)
+  pub kept_metadata_holds : (n : ℕ) (row : ResourceRow) (d : Data) → P (suc (suc n)) d → M n (kept_metadata row d)
   unfolding kept_metadata
   kept_metadata_holds n row d h =
       put_if_holds c n (codes "resourceVersion") (metadata_member (codes "resourceVersion") d) (kept_place row d)

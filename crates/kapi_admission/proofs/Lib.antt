@@ -1,6 +1,7 @@
 pub mod Bodies
 pub mod KeptGiven
 pub mod KeptHolds
+pub mod KeptMembers
 pub mod KeptParts
 pub mod CleanLists
 pub mod CleanLabels

@@ -1,36 +1,16 @@
 -- What is kept of a tree whose metadata were taken out of it.
-use Rattle.std.proofs.Common.{◌≡◌, ◌∙◌, ℕ, List, Option, None, Some, Bool, true, false, bytes_eq, codes, is_some, option_map, refl, ap}
+use Rattle.std.proofs.Common.{◌≡◌, ◌∙◌, ℕ, List, Some, true, false, bytes_eq, codes, option_map, refl, ap}
 use Rattle.std.specs.Option.{option_and_then}
-use Rattle.serde_json.specs.Data.{Data, null, string, object, Members, put}
-use Rattle.serde_json.specs.Find.{as_null, get, get_member}
+use Rattle.serde_json.specs.Data.{Data, string, object, Members, put}
+use Rattle.serde_json.specs.Find.{get_member}
 use Rattle.kapi_model.specs.declared.row.Schema.{Schema}
 use Rattle.kapi_model.specs.declared.row.Schema.TheVariants.{Open, Role, ClusterRole, RoleBinding, ClusterRoleBinding}
-use Rattle.kapi_tree.proofs.Metadata.{in_members, in_object}
+use Rattle.kapi_tree.proofs.Metadata.{in_object}
 use Rattle.kapi_tree.proofs.Ordered.{keys_in_order}
 use Rattle.kapi_tree.proofs.Removal.{get_without, members_are_in_order, put_back, put_without}
 use Rattle.kapi_tree.specs.Contents.{aggregation_of, binding_content, cluster_role_content, content_of, items_if, read_items, role_content, role_ref_if, role_ref_of, rule_of, subject_of, subjects_of}
 use Rattle.kapi_tree.specs.Order.{in_order, is_ordered}
-use Rattle.kapi_tree.specs.Tree.{member_of, members_or_none, metadata_member, metadata_of, unless_null, without}
-
--- null is as if it were absent
-pub null_left : (d : Data) → is_some (as_null d) ≡ true → unless_null d ≡ None
-null_left null h = refl
-null_left _ h = absurd (cc h)
-
-pub other_left : (d : Data) → is_some (as_null d) ≡ false → unless_null d ≡ Some d
-other_left null h = absurd (cc h)
-other_left _ h = refl
-
--- the other members stay where one was taken out
-pub stays : (q k : List ℕ) (old new : Members) → new ≡ without k old → bytes_eq q k ≡ false → get_member q new ≡ get_member q old
-stays q k old new is apart = ap (get_member q) is ∙ get_without q k old apart
-
-pub still_in_order : (k : List ℕ) (old new : Members) → in_order old ≡ true → new ≡ without k old → in_order new ≡ true
-still_in_order k old new h is = ap in_order is ∙ keys_in_order.without_one 0 k old h
-
--- a member that is there as in the metadata
-pub found : (q : List ℕ) (ms : Members) (tree : Data) → get_member q ms ≡ get_member q (metadata_of tree) → member_of q (object ms) ≡ metadata_member q tree
-found q ms tree h = ap (option_and_then unless_null) (h ∙ in_members q (get (codes "metadata") tree))
+use Rattle.kapi_tree.specs.Tree.{member_of, members_or_none, unless_null, without}
 
 -- another member of a tree without its metadata
 beside : (q : List ℕ) (tree : Data) → bytes_eq q (codes "metadata") ≡ false

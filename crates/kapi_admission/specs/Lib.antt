@@ -3,3 +3,4 @@ pub mod Typed
 pub mod Tables
 pub mod Shapes
 pub mod Admission
+pub mod Private

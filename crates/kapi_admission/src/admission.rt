@@ -1,4 +1,4 @@
-ghost use Rattle.std.specs.Prelude.{◌≡◌, ◌≤◌, [], true, false, codes, if◌then◌else◌, Some, OnOk, IfOk, ok_or, string_bytes};
+ghost use Rattle.std.specs.Prelude.{◌≡◌, ◌≤◌, [], true, false, Some, IfOk, ok_or, string_bytes};
 ghost use Rattle.serde_json.specs.Data.{Data, depth, object};
 ghost use Rattle.serde_json.specs.Find.{get};
 ghost use Rattle.serde_json.specs.Read.{max_depth};
@@ -7,12 +7,12 @@ ghost use Rattle.serde_json.specs.Written as written;
 ghost use Rattle.kapi_text.specs.Gives.{Gives};
 ghost use Rattle.kapi_admission.specs.Admission.{is_other, not_json, object_of, read_as, told};
 ghost use Rattle.kapi_admission.specs.Admission as admission;
-ghost use Rattle.kapi_admission.specs.Admission.{put_entries, version_of, admitted, faults_on};
-ghost use Rattle.kapi_tree.specs.Tree.{member_of, metadata_of, put_if, without};
+ghost use Rattle.kapi_admission.specs.Admission.{version_of, admitted, faults_on};
+ghost use Rattle.kapi_admission.specs.Private.Kept.{is_kept as is_kept_of, kept_members};
 ghost use Rattle.kapi_tree.specs.Given.{given_of};
 ghost use Rattle.kapi_tree.specs.Given as gives;
 ghost use Rattle.kapi_tree.specs.Object.{tree_of};
-ghost use Rattle.kapi_tree.specs.Order.{in_order, is_ordered};
+ghost use Rattle.kapi_tree.specs.Order.{is_ordered};
 ghost use Rattle.kapi_tree.specs.Tree.{json_object};
 ghost use Rattle.kapi_tree.specs.Tree as trees;
 
@@ -25,7 +25,7 @@ use kapi_text::{Memory, Sequence};
 use kapi_tree::Object;
 use kapi_tree::contents::content;
 use kapi_tree::given::{Given, GivenText, given_in};
-use kapi_tree::tree::{has_no_members, into_members, put_entry, take_entry, take_metadata};
+use kapi_tree::tree::{has_no_members, into_members, put_entry, take_metadata};
 use kapi_tree::tree_form::put_string;
 use serde_json::{Map, Value, put};
 use std::alloc::Global;
@@ -39,84 +39,26 @@ fn is_empty_object(value: &Value) -> bool
     }
 }
 
-/// Moves a member of the metadata to what is kept, if there is one; null is as if it were absent.
-fn keep(
-    kept: &mut Map<String, Value>,
-    metadata: &mut Map<String, Value>,
-    key: &str,
-) -> Result<(), Memory>
-    requires { in_order (members_view metadata.old.entries) ≡ true }
-    ensures kept { OnOk result (members_view kept.new.entries
-        ≡ put_if key.now (member_of key.now (object (members_view metadata.old.entries))) (members_view kept.old.entries)) }
-    ensures left { members_view metadata.new.entries ≡ without key.now (members_view metadata.old.entries) }
+/// Whether a member of the metadata is kept; null is as if it were absent.
+fn is_kept(row: &ResourceRow, key: &str, value: &Value) -> bool
+    ensures { result ≡ is_kept_of row.now key.now (view value.now) }
 {
-    let Some((name, value)) = take_entry(metadata, key) else {
-        return Ok(());
-    };
     if value.is_null() {
-        return Ok(());
+        return false;
     }
-    put_entry(kept, name, value)
+    if key == "labels" || key == "annotations" {
+        return !is_empty_object(value);
+    }
+    key == "name" || key == "resourceVersion" || (key == "namespace" && row.namespaced)
 }
 
-/// Moves labels or annotations to what is kept, if there are any.
-fn keep_entries(
-    kept: &mut Map<String, Value>,
-    metadata: &mut Map<String, Value>,
-    key: &str,
-) -> Result<(), Memory>
-    requires { in_order (members_view metadata.old.entries) ≡ true }
-    ensures kept { OnOk result (members_view kept.new.entries
-        ≡ put_entries key.now (member_of key.now (object (members_view metadata.old.entries))) (members_view kept.old.entries)) }
-    ensures left { members_view metadata.new.entries ≡ without key.now (members_view metadata.old.entries) }
+/// What is kept of the metadata, in its place.
+fn kept_metadata(row: &ResourceRow, metadata: Map<String, Value>) -> Map<String, Value>
+    ensures { members_view result.entries ≡ kept_members row.now (members_view metadata.entries) }
 {
-    let Some((name, value)) = take_entry(metadata, key) else {
-        return Ok(());
-    };
-    if value.is_null() || is_empty_object(&value) {
-        return Ok(());
-    }
-    put_entry(kept, name, value)
-}
-
-/// Moves the namespace to what is kept, where objects of the resource type live in namespaces.
-fn keep_place(
-    row: &ResourceRow,
-    kept: &mut Map<String, Value>,
-    metadata: &mut Map<String, Value>,
-) -> Result<(), Memory>
-    requires { in_order (members_view metadata.old.entries) ≡ true }
-    ensures kept { OnOk result (members_view kept.new.entries
-        ≡ (if row.now.namespaced then put_if (codes "namespace") (member_of (codes "namespace") (object (members_view metadata.old.entries))) (members_view kept.old.entries)
-        else members_view kept.old.entries)) }
-    ensures ordered { in_order (members_view metadata.new.entries) ≡ true }
-    ensures version { member_of (codes "resourceVersion") (object (members_view metadata.new.entries))
-        ≡ member_of (codes "resourceVersion") (object (members_view metadata.old.entries)) }
-{
-    if row.namespaced {
-        keep(kept, metadata, "namespace")
-    } else {
-        Ok(())
-    }
-}
-
-/// What is kept of the metadata; nothing of it is copied.
-fn kept_metadata(
-    alloc: Global,
-    row: &ResourceRow,
-    metadata: Map<String, Value>,
-) -> Result<Map<String, Value>, Memory>
-    requires { in_order (members_view metadata.entries) ≡ true }
-    ensures { (tree : Data) → members_view metadata.entries ≡ metadata_of tree
-        → IfOk result (λ m. members_view m.entries ≡ admission.kept_metadata row.now tree) }
-{
-    let (mut kept, mut left) = (Map::new(alloc), metadata);
-    keep_entries(&mut kept, &mut left, "labels")?;
-    keep_entries(&mut kept, &mut left, "annotations")?;
-    keep(&mut kept, &mut left, "name")?;
-    keep_place(row, &mut kept, &mut left)?;
-    keep(&mut kept, &mut left, "resourceVersion")?;
-    Ok(kept)
+    let mut kept = metadata;
+    kept.retain(|key, value| is_kept(row, key.as_str(), value));
+    kept
 }
 
 /// What is kept beside the metadata, with kind and version filled in; `version` is the resource type's.
@@ -148,7 +90,7 @@ fn kept_tree(
 {
     let mut rest = into_members(alloc, tree);
     let (name, metadata) = take_metadata(alloc, &mut rest)?;
-    let kept = kept_metadata(alloc, row, metadata)?;
+    let kept = kept_metadata(row, metadata);
     let mut members = filled(alloc, row, version, Value::Object(rest))?;
     put_entry(&mut members, name, Value::Object(kept))?;
     Ok(Value::Object(members))

@@ -1,9 +1,9 @@
 ghost use Rattle.std.specs.Prelude.{◌≡◌, IfOk};
 ghost use Rattle.serde_json.specs.View.{view};
 ghost use Rattle.kapi_tree.specs.Given.{given_of, text_given};
-ghost use Rattle.kapi_tree.specs.Tree.{metadata_member};
+ghost use Rattle.kapi_tree.specs.Tree.{member_of, metadata_member};
 
-use crate::tree::member_of_metadata;
+use crate::tree::member;
 use kapi_text::{Memory, Text, TryCopy};
 use serde_json::Value;
 use std::alloc::{AllocError, Global};
@@ -47,13 +47,23 @@ impl TryCopy for Given {
     }
 }
 
+/// The value of a key in an object.
+fn member_given(alloc: Global, tree: &Value, key: &str) -> Result<GivenText, Memory>
+    ensures { IfOk result (λ g. g ≡ text_given (member_of key.now (view tree.now))) }
+{
+    match member(tree, key) {
+        Some(Value::String(text)) => Ok(GivenText::Text(Text::copy_of(alloc, text.as_str())?)),
+        Some(_other) => Ok(GivenText::Mistyped),
+        None => Ok(GivenText::Absent),
+    }
+}
+
 /// The value of a key in the tree's metadata.
 pub fn given_at(alloc: Global, tree: &Value, key: &str) -> Result<GivenText, Memory>
     ensures { IfOk result (λ g. g ≡ text_given (metadata_member key.now (view tree.now))) }
 {
-    match member_of_metadata(tree, key) {
-        Some(Value::String(text)) => Ok(GivenText::Text(Text::copy_of(alloc, text.as_str())?)),
-        Some(_other) => Ok(GivenText::Mistyped),
+    match tree.get("metadata") {
+        Some(metadata) => member_given(alloc, metadata, key),
         None => Ok(GivenText::Absent),
     }
 }
@@ -62,9 +72,16 @@ pub fn given_at(alloc: Global, tree: &Value, key: &str) -> Result<GivenText, Mem
 pub fn given_in(alloc: Global, tree: &Value) -> Result<Given, Memory>
     ensures { IfOk result (λ g. g ≡ given_of (view tree.now)) }
 {
+    let Some(metadata) = tree.get("metadata") else {
+        return Ok(Given {
+            name: GivenText::Absent,
+            namespace: GivenText::Absent,
+            resource_version: GivenText::Absent,
+        });
+    };
     Ok(Given {
-        name: given_at(alloc, tree, "name")?,
-        namespace: given_at(alloc, tree, "namespace")?,
-        resource_version: given_at(alloc, tree, "resourceVersion")?,
+        name: member_given(alloc, metadata, "name")?,
+        namespace: member_given(alloc, metadata, "namespace")?,
+        resource_version: member_given(alloc, metadata, "resourceVersion")?,
     })
 }

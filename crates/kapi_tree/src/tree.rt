@@ -73,7 +73,7 @@ fn take(members: &mut Map<String, Value>, key: &str) -> Option<Value>
 }
 
 /// Takes the member of a key out, with its key.
-pub fn take_entry(members: &mut Map<String, Value>, key: &str) -> Option<(String, Value)>
+fn take_entry(members: &mut Map<String, Value>, key: &str) -> Option<(String, Value)>
     requires { in_order (members_view members.old.entries) ≡ true }
     ensures left { members_view members.new.entries ≡ without key.now (members_view members.old.entries) }
     ensures key { IfSome result (λ p. string_bytes p.0 ≡ key.now) }
