@@ -16,6 +16,7 @@ mod list_members;
 mod list_text;
 mod listed_keys;
 pub mod loading;
+pub mod old_object;
 pub mod outcome;
 mod plan;
 mod prepared;

@@ -1,6 +1,7 @@
+use crate::old_object::OldObject;
 use kapi_http::StatusCode;
 use kapi_reply::Content;
-use kapi_store::{Key, Ready, Shared};
+use kapi_store::{Key, Ready};
 use kapi_text::Text;
 use kapi_tree::Object;
 use kapi_watch::Watch;
@@ -47,7 +48,7 @@ pub struct NewObject {
 #[derive(Drop)]
 pub struct Replacement {
     pub new: NewObject,
-    pub old: Shared,
+    pub old: OldObject,
 }
 
 /// The objects that are to be deleted, and the reply.

@@ -216,7 +216,7 @@ fn plan_replace<P: Policy>(
     ensures gives { (s : APlain) → Stands s replacement → Gives refused_by plan_data result (to_be_replaced s (task_data (P.content policy.now) task.entry) (new_data replacement.new)) }
     ensures same { IfOk result (λ plan. plan ≡ Plan.Replace replacement) }
 {
-    let (new, old) = (&replacement.new, replacement.old.get());
+    let (new, old) = (&replacement.new, &replacement.old);
     let (identity, name) = (task.identity, task.name);
     check_escalation(
         alloc,

@@ -23,6 +23,7 @@ use crate::create::{
     refused, refused_by_store, text_after, with_namespace,
 };
 use crate::delete::existing;
+use crate::old_object::OldObject;
 use crate::outcome::{NewObject, Outcome, Replacement};
 use kapi_admission::{ObjectError, read_tree};
 use kapi_http::StatusCode;
@@ -30,7 +31,7 @@ use kapi_model::{FieldFault, ResourceRow};
 use kapi_patch::merge_patch;
 use kapi_reply::{BadWord, CheckError, Content, Refusal};
 use kapi_route::Part;
-use kapi_store::{Key, Shared, Store, StoredObject};
+use kapi_store::{Key, Store};
 use kapi_text::{Memory, Sequence, Text, TryCopy};
 use kapi_tree::{GivenText, Object};
 use serde_json::Value;
@@ -50,7 +51,7 @@ pub fn check_update(
     ensures stands { IfOk result (Stands (plain_of store.now)) }
 {
     let body = read_body(alloc, row, body)?;
-    check_replacement(alloc, store, row, part, key, body)
+    check_replacement(alloc, store, row, part, key, None, body)
 }
 
 /// The checks of a patch: it is a JSON object, and its target exists; the result is checked as the body of an update.
@@ -67,9 +68,9 @@ pub fn check_patch(
     ensures stands { IfOk result (Stands (plain_of store.now)) }
 {
     let patch = read_patch(alloc, body)?;
-    let old = existing(store, &key)?;
-    let body = admit(alloc, row, merge(alloc, old, &patch)?)?;
-    check_replacement(alloc, store, row, part, key, body)
+    let old = existing(store, &key)?.object(alloc)?;
+    let body = admit(alloc, row, merge(alloc, &old, &patch)?)?;
+    check_replacement(alloc, store, row, part, key, Some(old), body)
 }
 
 fn read_patch(alloc: Global, body: &[u8]) -> Result<Value, CheckError>
@@ -85,19 +86,19 @@ fn read_patch(alloc: Global, body: &[u8]) -> Result<Value, CheckError>
 }
 
 /// The object's tree with a patch applied.
-fn merge(alloc: Global, object: &StoredObject, patch: &Value) -> Result<Value, Memory>
+fn merge(alloc: Global, object: &Object, patch: &Value) -> Result<Value, Memory>
     requires ordered { is_ordered (view patch.now) ≡ true }
     requires nests { depth (view patch.now) ≤ max_depth }
-    ensures tree { IfOk result (λ v. view v ≡ merged (stored_tree object.now) (view patch.now)) }
+    ensures tree { IfOk result (λ v. view v ≡ merged (tree_of object.now) (view patch.now)) }
     ensures ordered { IfOk result (λ v. is_ordered (view v) ≡ true) }
     ensures nests { IfOk result (λ v. depth (view v) ≤ max_depth) }
 {
-    let object = object.object(alloc)?;
     let merged = merge_patch(alloc, object.as_tree(), patch)?;
     Ok(merged)
 }
 
 /// The checks of the object that a body was read as, in their order: name, namespace, existence and version, validity.
+/// `read` is the tree of the object that is stored at the key, where its text was read.
 #[tactic(auto, unfolding(crate::specs::Update::to_replace))]
 fn check_replacement(
     alloc: Global,
@@ -105,8 +106,10 @@ fn check_replacement(
     row: &ResourceRow,
     part: Part,
     key: Key,
+    read: Option<Object>,
     body: Admitted,
 ) -> Result<Replacement, CheckError>
+    requires { IfSome read (λ t. lookup (is_key key) (plain_of store.now).objects ≡ Some (tree_of t)) }
     ensures gives { Gives refused_by (λ r. new_data r.new) result (to_replace (plain_of store.now) row.now part key (admitted_data body)) }
     ensures stands { IfOk result (Stands (plain_of store.now)) }
 {
@@ -117,7 +120,7 @@ fn check_replacement(
         &key.name,
         &body.given.namespace,
     )?;
-    let old = replaceable(alloc, store, &key, &body.given.resource_version)?;
+    let old = replaceable(alloc, store, &key, &body.given.resource_version, read)?;
     in_place_of(alloc, row, part, key, old, body.object)
 }
 
@@ -127,18 +130,18 @@ fn in_place_of(
     row: &ResourceRow,
     part: Part,
     key: Key,
-    old: &Shared,
+    mut old: OldObject,
     object: Result<Object, Sequence<FieldFault>>,
 ) -> Result<Replacement, CheckError>
-    ensures gives { Gives refused_by (λ r. new_data r.new) result (and_then (valid key.name (object_data object)) (λ tree. Ok (key, updates.replacing part row.now key (stored_tree old.now) tree))) }
+    ensures gives { Gives refused_by (λ r. new_data r.new) result (and_then (valid key.name (object_data object)) (λ tree. Ok (key, updates.replacing part row.now key (stored_tree old) tree))) }
     ensures key { IfOk result (λ r. r.new.key ≡ key) }
-    ensures old { IfOk result (λ r. stored_tree r.old ≡ stored_tree old.now) }
+    ensures old { IfOk result (λ r. r.old ≡ old) }
 {
     let object = check_validity(alloc, &key.name, object)?;
-    let object = replacing(alloc, part, row, &key, old.get(), object)?;
+    let object = replacing(alloc, part, row, &key, &mut old, object)?;
     Ok(Replacement {
         new: NewObject { key, object },
-        old: old.share()?,
+        old,
     })
 }
 
@@ -154,18 +157,20 @@ fn check_name(alloc: Global, name: &Text, given: &GivenText) -> Result<(), Check
     Err(refused(name, Refusal::BadRequest(BadWord::Name)))
 }
 
-/// The stored object, if the version that the body gives admits a write.
-fn replaceable<'a>(
+/// The stored object, with its tree where that was read, if the version that the body gives admits a write.
+fn replaceable(
     alloc: Global,
-    store: &'a Store,
+    store: &Store,
     key: &Key,
     given: &GivenText,
-) -> Result<&'a Shared, CheckError>
-    ensures gives { Gives refused_by (λ o. stored_tree o.now) result (stored key.now.name (Rattle.kapi_store.specs.Plain.replaceable (plain_of store.now) key.now given.now)) }
-    ensures found { IfOk result (λ o. lookup (is_key key.now) (plain_of store.now).objects ≡ Some (stored_tree o.now)) }
+    read: Option<Object>,
+) -> Result<OldObject, CheckError>
+    requires { IfSome read (λ t. lookup (is_key key.now) (plain_of store.now).objects ≡ Some (tree_of t)) }
+    ensures gives { Gives refused_by stored_tree result (stored key.now.name (Rattle.kapi_store.specs.Plain.replaceable (plain_of store.now) key.now given.now)) }
+    ensures found { IfOk result (λ o. lookup (is_key key.now) (plain_of store.now).objects ≡ Some (stored_tree o)) }
 {
     match store.replaceable(key, given) {
-        Ok(object) => Ok(object),
+        Ok(object) => Ok(OldObject::new(object.share()?, read)),
         Err(error) => Err(refused_by_store(key.name.copy(alloc)?, error)),
     }
 }
@@ -177,10 +182,11 @@ fn replacing(
     part: Part,
     row: &ResourceRow,
     key: &Key,
-    old: &StoredObject,
+    old: &mut OldObject,
     object: Object,
 ) -> Result<Object, Memory>
-    ensures { IfOk result (λ o. tree_of o ≡ updates.replacing part row.now key.now (stored_tree old.now) (tree_of object)) }
+    ensures same { old.new ≡ old.old }
+    ensures tree { IfOk result (λ o. tree_of o ≡ updates.replacing part row.now key.now (stored_tree old.old) (tree_of object)) }
 {
     match part {
         Part::Object => {
@@ -188,7 +194,7 @@ fn replacing(
             let object = with_namespace(alloc, row, key.namespace.as_str(), object)?;
             keep_status(alloc, row, old, object)
         }
-        Part::Status => old.object(alloc)?.with_status_of(alloc, &object),
+        Part::Status => old.take(alloc)?.with_status_of(alloc, &object),
     }
 }
 
@@ -197,13 +203,17 @@ fn replacing(
 fn keep_status(
     alloc: Global,
     row: &ResourceRow,
-    old: &StoredObject,
+    old: &mut OldObject,
     object: Object,
 ) -> Result<Object, Memory>
-    ensures { IfOk result (λ o. tree_of o ≡ keeping_status row.now (stored_tree old.now) (tree_of object)) }
+    ensures same { old.new ≡ old.old }
+    ensures tree { IfOk result (λ o. tree_of o ≡ keeping_status row.now (stored_tree old.old) (tree_of object)) }
 {
     if row.has_status {
-        object.with_status_of(alloc, &old.object(alloc)?)
+        let tree = old.take(alloc)?;
+        let object = object.with_status_of(alloc, &tree)?;
+        old.keep(tree);
+        Ok(object)
     } else {
         Ok(object)
     }
@@ -222,11 +232,11 @@ pub fn replace(
 {
     let Replacement { new, old } = replacement;
     let name = new.key.name.copy(alloc)?;
-    match store.replace_in_place(new.key, new.object, &old) {
+    match store.replace_in_place(new.key, new.object, old.stored()) {
         Ok(ready) => Ok(Outcome {
             code: StatusCode::Ok,
             content: Content::Json,
-            body: text_after(alloc, Some(old.get()), ready.changes())?,
+            body: text_after(alloc, Some(old.stored().get()), ready.changes())?,
             write: Some(ready),
         }),
         Err(error) => Err(refused_by_store(name, error)),
