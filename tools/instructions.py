@@ -24,12 +24,14 @@ FEW, MORE, SEEING, IDLE = 200, 1_024, 10, 240
 NAMED = re.compile(r"(fn|ob|cfn|cob)=(\(\d+\))(?: (.*))?")
 DENIED = "/api/v1/namespaces/default/secrets/a"
 OTHERS = "/api/v1/namespaces/other/configmaps"
+ROLE = "/apis/rbac.authorization.k8s.io/v1/namespaces/default/roles/reader"
 KINDS = {
     "a health request": (ROOT, "GET", "/healthz", None, []),
     "a get": (ANN, "GET", f"{MAPS}/map-0", None, []),
     "a denied get": (ANN, "GET", DENIED, None, []),
     "a put": (ROOT, "PUT", f"{MAPS}/map-0", "map-0", []),
     "a post": (ROOT, "POST", MAPS, "made-{}", []),
+    "a patch of a role": (ROOT, "PATCH", ROLE, ROLE, []),
     "a put that ten watches see": (ROOT, "PUT", f"{MAPS}/map-0", "map-0", [MAPS] * SEEING),
     "a get beside 240 watches of another namespace": (ANN, "GET", f"{MAPS}/map-0", None, [OTHERS] * IDLE),
     "a put beside 240 watches of another namespace": (ROOT, "PUT", f"{MAPS}/map-0", "map-0", [OTHERS] * IDLE),
@@ -37,9 +39,11 @@ KINDS = {
 
 
 def body(name, number):
-    """A configmap that no request before had."""
+    """A configmap that no request before had, or what a patch changes of a role."""
     if name is None:
         return ""
+    if name == ROLE:
+        return json.dumps({"metadata": {"annotations": {"key": f"{number:>0100}"}}})
     return json.dumps({"metadata": {"name": name.format(number), "namespace": "default"}, "data": {"key": f"{number:>0100}"}})
 
 

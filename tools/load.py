@@ -69,7 +69,8 @@ class Server:
 def request(method, path, body=""):
     """The bytes of a request; in nine # the sender writes its number."""
     length = f"Content-Length: {len(body)}\r\n" if body else ""
-    return f"{method} {path} HTTP/1.1\r\nHost: a\r\n{length}\r\n{body}"
+    media = "Content-Type: application/merge-patch+json\r\n" if method == "PATCH" else ""
+    return f"{method} {path} HTTP/1.1\r\nHost: a\r\n{media}{length}\r\n{body}"
 
 
 def written(name, value):
