@@ -75,13 +75,16 @@ def scripts_at(path):
 
 
 def run(program, shim, events, numbers=None, **settings):
-    with tempfile.NamedTemporaryFile() as count, tempfile.NamedTemporaryFile("w") as starts:
+    with tempfile.NamedTemporaryFile() as count, tempfile.NamedTemporaryFile("w") as starts, tempfile.TemporaryFile() as script:
+        # A pipe would hand it on in pieces that differ from run to run, and so would what is grown for a line.
+        script.write(b"".join(events))
+        script.seek(0)
         if numbers is not None:
             starts.write(" ".join(str(number) for number in numbers))
             starts.flush()
             settings["FROM"] = starts.name
         environment = {"LD_PRELOAD": shim, "COUNT": count.name} | {name: str(value) for name, value in settings.items()}
-        ended = subprocess.run([program, "script"], env=environment, input=b"".join(events), capture_output=True)
+        ended = subprocess.run([program, "script"], env=environment, stdin=script, capture_output=True)
         (growths, largest), *lines = [[int(word) for word in line.split()] for line in pathlib.Path(count.name).read_text().splitlines()]
     answers = ended.stdout.splitlines(keepends=True)
     return Run(ended.returncode, answers, ended.stderr, growths, largest, [Line(*line) for line in lines])
