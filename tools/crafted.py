@@ -336,8 +336,8 @@ CASES = (
     (f"a turn of {RULES:,} rules", 0.2, turn),
     ("the same, where all but one are there", 0.2, lambda it: turn(it, True)),
     (f"a cluster role that takes {RULES:,} rules, with its request and the look that finds them there", None, gathering),
-    (f"a pod of a mebibyte of small objects is deleted, which {WATCHES} watches see", 0.3, lambda it: gone(it, delete)),
-    ("the same loses the label that they ask for", 0.7, lambda it: gone(it, unlabel)),
+    (f"a pod of a mebibyte of small objects is deleted, which {WATCHES} watches see", 0.15, lambda it: gone(it, delete)),
+    ("the same loses the label that they ask for", 0.5, lambda it: gone(it, unlabel)),
     (f"{WRITES:,} roles", None, lambda it: writes(it, f"{RBAC}/namespaces/default/roles")),
     (f"{WRITES:,} cluster roles", None, lambda it: writes(it, f"{RBAC}/clusterroles")),
 )
