@@ -18,3 +18,4 @@ pub mod Existing
 pub mod Cuts
 pub mod VersionTexts
 pub mod Restamped
+pub mod SameText

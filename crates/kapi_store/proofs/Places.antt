@@ -1,5 +1,5 @@
 -- Free places, and places of objects that were found.
-use Rattle.std.proofs.Common.{◌≡◌, Bool, true, false, List, Option, None, Some, Result, Ok, Err, IsSome, option_map, if◌then◌else◌, ok_or, sym, refl, ◌∙◌}
+use Rattle.std.proofs.Common.{◌≡◌, Bool, true, false, List, Option, None, Some, Result, Ok, Err, IsSome, map, option_map, if◌then◌else◌, ok_or, ap, sym, refl, ◌∙◌}
 use Rattle.std.specs.Map.{lookup}
 use Rattle.serde_json.specs.Data.{Data}
 use Rattle.kapi_text.specs.Gives.{◌>>=◌}
@@ -9,11 +9,13 @@ use Rattle.kapi_tree.specs.declared.given.GivenText.{GivenText}
 use Rattle.kapi_store.specs.declared.stored.StoredObject.{StoredObject}
 use Rattle.kapi_store.specs.Faults.{StoreFault, Exists, Missing, NoNamespace, Conflict}
 use Rattle.kapi_store.specs.Keys.{is_key}
-use Rattle.kapi_store.specs.Plain.{Plain, PlainChange, admits, admitted, free_place, has_namespace, has_object, plain_of, replaced, replacement, replacement_in_place}
-use Rattle.kapi_store.specs.State.{State, hides, visible, objects}
+use Rattle.kapi_store.specs.Plain.{Plain, PlainChange, admits, admitted, free_place, has_namespace, has_object, plain_of, replaced, trees, replacement, replacement_in_place}
+use Rattle.kapi_store.specs.Private.Hidden.{hides, seen, visible}
+use Rattle.kapi_store.specs.State.{State, live, objects}
 use Rattle.kapi_store.specs.Stamps.{version_in}
 use Rattle.kapi_store.specs.declared.key.Key.{Key}
-use Rattle.kapi_store.proofs.SlotSteps.{none_there, slot_there}
+use Rattle.kapi_store.specs.declared.slots.Hidden.{Hidden}
+use Rattle.kapi_store.proofs.SlotSteps.{none_there, seen_live, seen_slot, slot_there}
 use Rattle.kapi_store.proofs.Trees.{lookup_trees}
 
 -- ---- a free place
@@ -50,15 +52,17 @@ no_object s k free = none_mapped (lookup (is_key k) (objects s)) (sym (lookup_tr
 
 -- ---- the place of an object
 
-slot_by : (hidden : Option Key) (k : Key) (slots : List (Key × StoredObject)) (tree : Data)
+slot_by : (hidden : Option Hidden) (k : Key) (slots : List (Key × StoredObject)) (tree : Data)
     → (o : Option StoredObject) → lookup (is_key k) (visible hidden slots) ≡ o → option_map stored_tree o ≡ Some tree → IsSome (lookup (is_key k) slots) × (hides hidden k ≡ false)
 slot_by hidden k slots tree None at is = absurd (cc is)
 slot_by hidden k slots tree (Some x) at is = slot_there hidden k x slots at
 
--- where a tree stands, there is a slot, which is not hidden
-pub slot_of_tree : (s : State) (k : Key) (tree : Data) → lookup (is_key k) (plain_of s).objects ≡ Some tree → IsSome (lookup (is_key k) s.slots) × (hides s.hidden k ≡ false)
-slot_of_tree s k tree is =
-    slot_by s.hidden k s.slots tree (lookup (is_key k) (objects s)) refl (sym (lookup_trees k (objects s)) ∙ is)
+-- where a tree stands, there is a slot
+pub slot_of_tree : (hidden : Option Hidden) (k : Key) (es : List (Key × StoredObject)) (tree : Data)
+    → lookup (is_key k) (trees (live (map (seen hidden) es))) ≡ Some tree → IsSome (lookup (is_key k) (map (seen hidden) es))
+slot_of_tree hidden k es tree is =
+    let at : lookup (is_key k) (trees (visible hidden es)) ≡ Some tree = ap (λ os. lookup (is_key k) (trees os)) (sym (seen_live hidden es)) ∙ is in
+    seen_slot hidden k es ∙ (slot_by hidden k es tree (lookup (is_key k) (visible hidden es)) refl (sym (lookup_trees k (visible hidden es)) ∙ at)).0
 
 -- ---- a replacement
 

@@ -16,8 +16,9 @@ use Rattle.kapi_store.specs.declared.stored.StoredObject.{StoredObject}
 use Rattle.kapi_model.specs.declared.row.ResourceRow.{ResourceRow}
 use Rattle.kapi_model.specs.declared.selector.Selector.{Selector}
 use Rattle.kapi_store.specs.declared.key.Key.{Key}
+use Rattle.kapi_store.specs.declared.slots.Hidden.{Hidden}
 use Rattle.kapi_store.specs.Keys.{key_cmp}
-use Rattle.kapi_store.specs.State.{hides, visible}
+use Rattle.kapi_store.specs.Private.Hidden.{hides, visible}
 use Rattle.kapi_store.proofs.SlotSteps.{own_reverse}
 use Rattle.kapi_store.specs.Listing.{is_asked, is_within, is_listed, listed_objects}
 use Rattle.kapi_store.specs.Private.Span.{after, first_key, end_key, is_of, namespace_start, namespace_end}
@@ -132,7 +133,7 @@ module _ {K X : Type 0} (q r : K → Bool) (p : K × X → Bool) (in_range : (e 
       ] refl
 
 -- what is listed lies in the range, so that nothing else need be read
-pub listed_between : (row : ResourceRow) (namespace : List ℕ) (selector : Selector) (name : List ℕ) (hidden : Option Key) (es : List (Key × StoredObject))
+pub listed_between : (row : ResourceRow) (namespace : List ℕ) (selector : Selector) (name : List ℕ) (hidden : Option Hidden) (es : List (Key × StoredObject))
     → listed_objects row namespace selector name (visible hidden (entries_between key_cmp (Included (first_key row namespace name)) (Excluded (end_key row namespace name)) es))
     ≡ listed_objects row namespace selector name (visible hidden es)
 unfolding is_listed visible
@@ -163,7 +164,7 @@ pub start_below_end : (row : ResourceRow) (namespace : List ℕ) → is_gt (key_
 start_below_end row namespace = rw (same row.group, same row.plural, after_is_past namespace) refl
 
 -- the keys of the namespace lie in the range
-pub standing_between : (row : ResourceRow) (namespace : List ℕ) (hidden : Option Key) (es : List (Key × StoredObject))
+pub standing_between : (row : ResourceRow) (namespace : List ℕ) (hidden : Option Hidden) (es : List (Key × StoredObject))
     → list_any (λ e. is_of row namespace e.0) (visible hidden (entries_between key_cmp (Included (namespace_start row namespace)) (Excluded (namespace_end row namespace)) es))
     ≡ list_any (λ e. is_of row namespace e.0) (visible hidden es)
 unfolding visible

@@ -1,5 +1,5 @@
 -- What holds of every store, from one change to the next, and the model that it refines.
-use Rattle.std.proofs.Common.{◌≡◌, ℕ, suc, ◌+◌, ◌-◌, ◌≤◌, ◌<◌, min, max, true, Ok, Err, List, [], ◌∷◌, ◌++◌, Some, IsSome, length, map, drop, refl, sym, ap, ◌∙◌, subst, arith}
+use Rattle.std.proofs.Common.{◌≡◌, ℕ, suc, ◌+◌, ◌-◌, ◌≤◌, ◌<◌, min, max, Ok, Err, List, [], ◌∷◌, ◌++◌, Option, IsSome, length, map, drop, refl, sym, ap, ◌∙◌, subst, arith}
 use Rattle.std.specs.Prelude.{nat_lt}
 use Rattle.std.specs.List.{filter}
 use Rattle.std.specs.List.Sorted.{IsStrictlySortedBy}
@@ -8,23 +8,27 @@ use Rattle.std.specs.Map.{keys_of, lookup}
 use Rattle.std.proofs.lemmas.List.{map-append, length-append, length-map, length-drop}
 use Rattle.kapi_model.specs.declared.row.ResourceRow.{ResourceRow}
 use Rattle.kapi_store.specs.declared.change.Change.{Change}
+use Rattle.kapi_store.specs.declared.key.Key.{Key}
+use Rattle.kapi_store.specs.declared.slots.Hidden.{Hidden}
 use Rattle.kapi_store.specs.declared.stored.StoredObject.{StoredObject}
 use Rattle.kapi_store.specs.Limits.{last_revision, window_limit}
 use Rattle.kapi_store.specs.Keys.{key_cmp, is_key}
 use Rattle.kapi_store.specs.Changes.{placed_all, left_by, last_of, Follow, revision_of, AreRemovals}
-use Rattle.kapi_store.specs.State.{State, objects, hides, visible, HasSlot, Same, Fits, IsStore}
+use Rattle.kapi_store.specs.Private.Hidden.{hidden_key, seen, visible}
+use Rattle.kapi_store.specs.State.{State, objects, live, IsSpare, HasSlot, Same, Fits, IsStore}
 use Rattle.kapi_store.specs.Plain.{Plain, PlainChange, RefinesPlain, plain_of, plain_change, changes_after, opened, written, trees, trees_left_by}
-use Rattle.kapi_store.proofs.SlotSteps.{visible_sorted, hidden_bound}
+use Rattle.kapi_store.proofs.SlotSteps.{visible_sorted, hidden_bound, seen_keys, seen_live, seen_spare}
 use Rattle.kapi_store.proofs.Writes.{placed_all_append, removals_slot}
 use Rattle.kapi_store.proofs.Trees.{placed_all_trees}
 use Rattle.kapi_store.proofs.Windows.{last_last, last_none, last_shorter, last_map, numbered_after, Follow_append, Follow_drop, Follow_map}
 
 -- the store without objects and changes
 pub new_store : (s : State) → s.slots ≡ [] → s.window ≡ [] → s.revision ≡ s.first → s.first ≤ last_revision → IsStore s
-unfolding visible Follow IsStrictlySortedBy
+unfolding live Follow IsStrictlySortedBy IsSpare
 new_store s slots window revision last = record {
   slots = rw slots tt;
   ordered = rw slots tt;
+  spare = rw slots tt;
   bounded = rw slots (omega arith);
   numbered = rw window tt;
   counted = rw window (omega arith);
@@ -32,11 +36,35 @@ new_store s slots window revision last = record {
   limited = omega arith;
 }
 
+-- slots are in order, and one alone is empty
+pub record AreSlots (s : State) : Type 0 where
+  pub slots : IsStrictlySortedBy key_cmp (keys_of s.slots)
+  pub ordered : IsStrictlySortedBy key_cmp (keys_of (objects s))
+  pub spare : IsSpare s.spare s.slots
+  pub bounded : length s.slots ≤ length (objects s) + 1
+
+-- so are those of a store as contracts see them
+pub seen_slots : (s : State) (hidden : Option Hidden) (es : List (Key × StoredObject)) → s.slots ≡ map (seen hidden) es → s.spare ≡ hidden_key hidden → IsStrictlySortedBy key_cmp (keys_of es) → AreSlots s
+seen_slots s hidden es slots spare sorted =
+    let Sorted : List Key → Type 0 = λ ks. IsStrictlySortedBy key_cmp ks in
+    let Spare : Option Key → Type 0 = λ k. IsSpare k (map (seen hidden) es) in
+    let At : List (Key × Option StoredObject) → Type 0 = λ os. IsSpare s.spare os in
+    let left : objects s ≡ visible hidden es = ap live slots ∙ seen_live hidden es in
+    let many : length s.slots ≡ length es = ap length slots ∙ length-map es (seen hidden) in
+    let few : length (objects s) ≡ length (visible hidden es) = ap length left in
+    let bound : length es ≤ length (visible hidden es) + 1 = hidden_bound hidden es sorted in
+    record {
+      slots = subst Sorted (sym (ap keys_of slots ∙ seen_keys hidden es)) sorted;
+      ordered = subst Sorted (sym (ap keys_of left)) (visible_sorted hidden es sorted);
+      spare = subst At (sym slots) (subst Spare (sym spare) (seen_spare hidden es));
+      bounded = omega arith;
+    }
+
 -- one change more
-pub next_store : (s t : State) (c : Change) → IsStore s → IsStrictlySortedBy key_cmp (keys_of t.slots)
+pub next_store : (s t : State) (c : Change) → IsStore s → AreSlots t
     → t.window ≡ last_of window_limit (s.window ++ c ∷ []) → t.first ≡ s.first → t.revision ≡ c.revision → c.revision ≡ s.revision + 1 → c.revision ≤ last_revision → IsStore t
 unfolding Follow
-next_store s t c h sorted window first revision next last =
+next_store s t c h slots window first revision next last =
     let counted : length s.window ≡ min window_limit (s.revision - s.first) = h.counted in
     let begun : s.first ≤ s.revision = h.begun in
     let all : length (s.window ++ c ∷ []) ≡ length s.window + 1 = length-append s.window (c ∷ []) in
@@ -51,9 +79,10 @@ next_store s t c h sorted window first revision next last =
     let P : ℕ → Type 0 = λ n. Follow revision_of n (drop over (s.window ++ c ∷ [])) in
     let Q : List Change → Type 0 = λ cs. Follow revision_of (t.revision - length t.window) cs in
     record {
-      slots = sorted;
-      ordered = visible_sorted t.hidden t.slots sorted;
-      bounded = hidden_bound t.hidden t.slots sorted;
+      slots = slots.slots;
+      ordered = slots.ordered;
+      spare = slots.spare;
+      bounded = slots.bounded;
       numbered = subst Q (sym window) (subst P from rest);
       counted = omega arith;
       begun = omega arith;
@@ -61,27 +90,38 @@ next_store s t c h sorted window first revision next last =
     }
 
 -- other slots for the same objects
-pub moved_store : (s t : State) → IsStore s → IsStrictlySortedBy key_cmp (keys_of t.slots)
+pub moved_store : (s t : State) → IsStore s → AreSlots t
     → t.window ≡ s.window → t.first ≡ s.first → t.revision ≡ s.revision → IsStore t
-moved_store s t h sorted window first revision =
+moved_store s t h slots window first revision =
     let P : List Change → Type 0 = λ cs. Follow revision_of (s.revision - length cs) cs in
     let counted : length s.window ≡ min window_limit (s.revision - s.first) = h.counted in
     let begun : s.first ≤ s.revision = h.begun in
     let limited : s.revision ≤ last_revision = h.limited in
     let len : length t.window ≡ length s.window = ap length window in
     record {
-      slots = sorted;
-      ordered = visible_sorted t.hidden t.slots sorted;
-      bounded = hidden_bound t.hidden t.slots sorted;
+      slots = slots.slots;
+      ordered = slots.ordered;
+      spare = slots.spare;
+      bounded = slots.bounded;
       numbered = rw revision (subst P (sym window) h.numbered);
       counted = omega arith;
       begun = omega arith;
       limited = omega arith;
     }
 
+-- they change nothing that a caller sees
+pub moved_same : (s t u : State) → s ≡ u → objects t ≡ objects s → t.revision ≡ s.revision → t.window ≡ s.window → t.table ≡ s.table → t.first ≡ s.first → Same u t
+moved_same s t u is same revision window table first = record {
+  objects = same ∙ ap objects is;
+  revision = revision ∙ ap (λ s. s.revision) is;
+  window = window ∙ ap (λ s. s.window) is;
+  table = table ∙ ap (λ s. s.table) is;
+  first = first ∙ ap (λ s. s.first) is;
+}
+
 -- a prepared change
 pub fits_one : (s : State) (cs : List Change) (c : Change) → cs ≡ c ∷ [] → c.revision ≡ s.revision + 1 → c.revision ≤ last_revision
-    → ((o : StoredObject) → c.new ≡ Some o → IsSome (lookup (is_key c.key) s.slots) × (hides s.hidden c.key ≡ true → lookup (is_key c.key) s.slots ≡ Some o)) → Fits s cs
+    → (IsSome c.new → IsSome (lookup (is_key c.key) s.slots)) → Fits s cs
 unfolding Follow HasSlot
 fits_one s cs c is next last slot = let P : List Change → Type 0 = λ cs. Fits s cs in subst P (sym is) record {
   next = (next, tt);
@@ -100,7 +140,7 @@ fits_none s cs h is = let P : List Change → Type 0 = λ cs. Fits s cs in subst
 
 -- a prepared removal
 pub fits_removals : (s : State) (cs : List Change) → Follow revision_of s.revision cs → AreRemovals cs → s.revision + length cs ≤ last_revision → Fits s cs
-fits_removals s cs next removals last = record { next = next; last = last; slot = removals_slot s.hidden s.slots cs removals }
+fits_removals s cs next removals last = record { next = next; last = last; slot = removals_slot s.slots cs removals }
 
 -- the first of several changes is the next one
 pub fits_first : (s : State) (c : Change) (cs : List Change) → Fits s (c ∷ cs) → Fits s (c ∷ [])
@@ -117,7 +157,7 @@ unfolding Follow
 fits_rest s t c cs h removals revision = record {
   next = rw revision h.next.1;
   last = let k : s.revision + suc (length cs) ≤ last_revision = h.last in omega arith;
-  slot = removals_slot t.hidden t.slots cs removals;
+  slot = removals_slot t.slots cs removals;
 }
 
 -- a store as data, where nothing was changed
@@ -141,9 +181,9 @@ same_stands s t h history p stands = record {
 
 -- a store at its start
 pub opened_stands : (s : State) (table : List ResourceRow) (first : ℕ) → s.table ≡ table → s.slots ≡ [] → s.first ≡ first → s.revision ≡ first → s.window ≡ [] → RefinesPlain s [] (opened table first)
-unfolding visible placed_all Follow
+unfolding live placed_all Follow
 opened_stands s table first is none begun at nothing = record {
-  plain = λ i. record { table = is i; objects = ap (λ es. trees (visible s.hidden es)) none i; first = begun i; revision = at i };
+  plain = λ i. record { table = is i; objects = ap (λ es. trees (live es)) none i; first = begun i; revision = at i };
   window = ap (map plain_change) nothing;
   made = refl;
   numbered = tt;

@@ -1,5 +1,5 @@
 -- Lists of changes, one after the other.
-use Rattle.std.proofs.Common.{◌≡◌, ℕ, ◌+◌, List, [], ◌∷◌, ◌++◌, Option, None, Some, Ok, false, option_map, map, refl, sym, ap, ◌∙◌, append_assoc}
+use Rattle.std.proofs.Common.{◌≡◌, ℕ, ◌+◌, List, [], ◌∷◌, ◌++◌, Option, None, Some, Ok, false, IsSome, option_map, map, refl, sym, ap, ◌∙◌, subst, append_assoc}
 use Rattle.std.specs.Map.{lookup}
 use Rattle.std.proofs.lemmas.List.{map-append}
 use Rattle.kapi_store.specs.Stored.{stored_tree}
@@ -31,10 +31,10 @@ removals_alone [] h = tt
 removals_alone (c ∷ []) h = tt
 removals_alone (c ∷ d ∷ cs) h = h
 
-pub removals_slot : (hidden : Option Key) (slots : List (Key × StoredObject)) (cs : List Change) → AreRemovals cs → HasSlot hidden slots cs
+pub removals_slot : (slots : List (Key × Option StoredObject)) (cs : List Change) → AreRemovals cs → HasSlot slots cs
 unfolding AreRemovals HasSlot
-removals_slot hidden slots [] h = tt
-removals_slot hidden slots (c ∷ cs) h = λ o some. absurd (cc (h.0, some))
+removals_slot slots [] h = tt
+removals_slot slots (c ∷ cs) h = λ some. let P : Option StoredObject → Type 0 = λ o. IsSome o in absurd (cc (subst P h.0 some))
 
 pub removals_more : (cs : List Change) (c : Change) → AreRemovals cs → c.new ≡ None → AreRemovals (cs ++ c ∷ [])
 unfolding AreRemovals

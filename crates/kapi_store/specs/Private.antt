@@ -2,4 +2,5 @@
 pub mod Span
 pub mod Alike
 pub mod Existing
+pub mod Hidden
 pub mod Cut

@@ -1,6 +1,5 @@
 -- What contracts see of a store.
-use Rattle.std.specs.Prelude.{◌≡◌, ℕ, ◌+◌, ◌-◌, ◌≤◌, min, Bool, true, false, not, List, [], ◌∷◌, Option, None, Some, IsSome, length}
-use Rattle.std.specs.List.{filter}
+use Rattle.std.specs.Prelude.{◌≡◌, ℕ, ◌+◌, ◌-◌, ◌≤◌, min, List, [], ◌∷◌, Option, None, Some, IsSome, length}
 use Rattle.std.specs.List.Sorted.{IsStrictlySortedBy}
 use Rattle.std.specs.Map.{lookup, keys_of}
 use Rattle.kapi_store.specs.declared.stored.StoredObject.{StoredObject}
@@ -11,31 +10,37 @@ use Rattle.kapi_store.specs.Limits.{last_revision, window_limit}
 use Rattle.kapi_store.specs.Keys.{key_cmp, is_key}
 use Rattle.kapi_store.specs.Changes.{revision_of, Follow}
 
--- the table, the slots (each a key with its object), the key of the slot whose object is still to be created, the first
--- and the current revision, and the last changes, the oldest first
+-- the table, the slots (a key with an object, or one reserved for a new object), the key of the slot that may be empty,
+-- the first and the current revision, and the last changes, the oldest first
 pub record State : Type 0 where
   pub table : List ResourceRow
-  pub slots : List (Key × StoredObject)
-  pub hidden : Option Key
+  pub slots : List (Key × Option StoredObject)
+  pub spare : Option Key
   pub first : ℕ
   pub revision : ℕ
   pub window : List Change
 
--- whether a key is the hidden one
-abbrev pub hides : Option Key → Key → Bool
-hides None k = false
-hides (Some hidden) k = is_key hidden k
+module _ {K X : Type 0} where
+  -- an entry in front, where its slot is not empty
+  abbrev pub held : K → Option X → List (K × X) → List (K × X)
+  held k None os = os
+  held k (Some x) os = (k, x) ∷ os
 
-module _ {X : Type 0} where
-  -- the entries but for that of the hidden key
-  unfoldable pub visible : Option Key → List (Key × X) → List (Key × X)
-  visible hidden es = filter (λ e. not (hides hidden e.0)) es
+  -- the entries of the slots that are not empty
+  unfoldable pub live : List (K × Option X) → List (K × X)
+  live [] = []
+  live (e ∷ es) = held e.0 e.1 (live es)
+
+  -- no slot is empty but that of the spare key
+  unfoldable pub IsSpare : Option K → List (K × Option X) → Type 0
+  IsSpare spare [] = Unit {0}
+  IsSpare spare (e ∷ es) = (e.1 ≡ None → spare ≡ Some e.0) × IsSpare spare es
 
 -- the objects, in the order of their keys
 abbrev pub objects : State → List (Key × StoredObject)
-objects s = visible s.hidden s.slots
+objects s = live s.slots
 
--- nothing that a caller sees was changed; the hidden slot may be another
+-- nothing that a caller sees was changed; the empty slot may be another
 pub record Same (s t : State) : Type 0 where
   pub objects : objects t ≡ objects s
   pub revision : t.revision ≡ s.revision
@@ -43,23 +48,23 @@ pub record Same (s t : State) : Type 0 where
   pub table : t.table ≡ s.table
   pub first : t.first ≡ s.first
 
--- where the first change leaves an object, its key has a slot, which holds that object if it is hidden
-unfoldable pub HasSlot : Option Key → List (Key × StoredObject) → List Change → Type 0
-HasSlot hidden slots [] = Unit {0}
-HasSlot hidden slots (c ∷ cs) = (o : StoredObject) → c.new ≡ Some o
-    → IsSome (lookup (is_key c.key) slots) × (hides hidden c.key ≡ true → lookup (is_key c.key) slots ≡ Some o)
+-- the first change's key has a slot, where the change leaves an object
+unfoldable pub HasSlot : List (Key × Option StoredObject) → List Change → Type 0
+HasSlot slots [] = Unit {0}
+HasSlot slots (c ∷ cs) = IsSome c.new → IsSome (lookup (is_key c.key) slots)
 
 -- the store is as it was when the changes were prepared
 pub record Fits (s : State) (cs : List Change) : Type 0 where
   pub next : Follow revision_of s.revision cs
   pub last : s.revision + length cs ≤ last_revision
-  pub slot : HasSlot s.hidden s.slots cs
+  pub slot : HasSlot s.slots cs
 
--- what holds of every store: its keys are in order, each once, at most one slot is hidden, and the changes that are kept
+-- what holds of every store: its keys are in order, each once, at most one slot is empty, and the changes that are kept
 -- are the last ones, numbered without a gap up to the current revision
 pub record IsStore (s : State) : Type 0 where
   pub slots : IsStrictlySortedBy key_cmp (keys_of s.slots)
   pub ordered : IsStrictlySortedBy key_cmp (keys_of (objects s))
+  pub spare : IsSpare s.spare s.slots
   pub bounded : length s.slots ≤ length (objects s) + 1
   pub numbered : Follow revision_of (s.revision - length s.window) s.window
   pub counted : length s.window ≡ min window_limit (s.revision - s.first)

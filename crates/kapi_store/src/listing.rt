@@ -1,14 +1,14 @@
 //! Lists: the objects of a resource, of one namespace or name or of all.
 
 ghost use Rattle.std.specs.Prelude.{◌≡◌, IfOk, map};
-ghost use Rattle.kapi_store.specs.State.{visible};
+ghost use Rattle.kapi_store.specs.Private.Hidden.{visible};
 ghost use Rattle.kapi_store.specs.Stored.{stored_tree};
 ghost use Rattle.kapi_store.specs.Listing.{is_asked as is_asked_of, is_within as is_within_of, is_listed as is_listed_of, listed_objects, shown};
 ghost use Rattle.kapi_store.specs.Private.Span.{after as after_text, first_key as first_key_of, end_key as end_key_of};
 
 use crate::change::Shared;
 use crate::key::Key;
-use crate::slots::is_hidden;
+use crate::slots::{Hidden, is_hidden};
 use kapi_model::{ResourceRow, Selector};
 use kapi_text::{Memory, Text};
 use std::alloc::Global;
@@ -102,12 +102,12 @@ impl<'a> Selection<'a> {
 
     /// The objects that are listed, in the order of their keys; only slots between the first and the last key
     /// that may be listed are read.
-    #[tactic(auto, unfolding(crate::specs::State::visible))]
+    #[tactic(auto, unfolding(crate::specs::Private::Hidden::visible))]
     pub(crate) fn list_in<'s>(
         &self,
         alloc: Global,
         slots: &'s BTreeMap<Key, Shared>,
-        hidden: &Option<Key>,
+        hidden: &Option<Hidden>,
     ) -> Result<Vec<Listed<'s>>, Memory>
         ensures { IfOk result (λ v. map shown v.items ≡ listed_objects self.now.row.now self.now.namespace.now self.now.selector.now self.now.name.now (visible hidden.now slots.now.entries)) }
     {

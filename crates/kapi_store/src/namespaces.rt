@@ -2,7 +2,7 @@
 
 ghost use Rattle.std.specs.Prelude.{◌≡◌, true, None, Some, IfOk};
 ghost use Rattle.std.specs.List.{list_any};
-ghost use Rattle.kapi_store.specs.State.{visible};
+ghost use Rattle.kapi_store.specs.Private.Hidden.{visible};
 ghost use Rattle.kapi_store.specs.Plain.{Plain, has_namespace, is_namespace as is_namespace_of};
 ghost use Rattle.kapi_store.specs.Private.Existing.{Exists};
 ghost use Rattle.kapi_store.specs.declared.stored.StoredObject.{StoredObject};
@@ -12,7 +12,7 @@ use crate::change::{Change, Shared};
 use crate::key::Key;
 use crate::listing::after;
 use crate::rows::is_namespaced;
-use crate::slots::is_hidden;
+use crate::slots::{Hidden, is_hidden};
 use kapi_model::ResourceRow;
 use kapi_text::{Memory, Text, TryCopy};
 use std::alloc::Global;
@@ -58,11 +58,11 @@ fn namespace_end(alloc: Global, row: &ResourceRow, namespace: &Text) -> Result<K
 }
 
 /// Whether the namespace holds an object of the resource type. No other object is read.
-#[tactic(auto, unfolding(crate::specs::State::visible))]
+#[tactic(auto, unfolding(crate::specs::Private::Hidden::visible))]
 fn stands_in(
     alloc: Global,
     slots: &BTreeMap<Key, Shared>,
-    hidden: &Option<Key>,
+    hidden: &Option<Hidden>,
     row: &ResourceRow,
     namespace: &Text,
 ) -> Result<bool, Memory>
@@ -82,7 +82,7 @@ fn stands_in(
 fn row_stands_in(
     alloc: Global,
     slots: &BTreeMap<Key, Shared>,
-    hidden: &Option<Key>,
+    hidden: &Option<Hidden>,
     row: &ResourceRow,
     namespace: &Text,
 ) -> Result<bool, Memory>
@@ -99,7 +99,7 @@ fn row_stands_in(
 pub fn any_stands_in(
     alloc: Global,
     slots: &BTreeMap<Key, Shared>,
-    hidden: &Option<Key>,
+    hidden: &Option<Hidden>,
     table: &[ResourceRow],
     namespace: &Text,
 ) -> Result<bool, Memory>

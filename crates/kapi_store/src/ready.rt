@@ -1,6 +1,6 @@
 use crate::change::{Change, Shared};
 use crate::key::Key;
-use crate::slots::share_at;
+use crate::slots::{Hidden, share_at};
 use crate::written::Written;
 use kapi_text::{Memory, TryCopy};
 use kapi_tree::Object;
@@ -45,7 +45,7 @@ impl Ready {
     ghost use Rattle.kapi_tree.specs.Object.{tree_of};
     ghost use Rattle.kapi_store.specs.Stored.{stored_tree};
     ghost use Rattle.kapi_store.specs.Changes.{IsLeft, IsOne, IsStep, IsWrite, AreRemovals, Follow, revision_of};
-    ghost use Rattle.kapi_store.specs.State.{visible};
+    ghost use Rattle.kapi_store.specs.Private.Hidden.{visible};
     ghost use Rattle.kapi_store.specs.Plain.{plain_change, trees, removals as removals_of};
 
     /// The changes that `Store::commit` will make, in order: none, one, or removals alone.
@@ -134,7 +134,7 @@ impl Ready {
     pub(crate) fn removals(
         alloc: Global,
         slots: &BTreeMap<Key, Shared>,
-        hidden: &Option<Key>,
+        hidden: &Option<Hidden>,
         before: u64,
         keys: Vec<Key>,
     ) -> Result<Ready, Memory>

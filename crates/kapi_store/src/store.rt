@@ -5,7 +5,7 @@ use crate::listing::{Listed, Selection};
 use crate::namespaces::{any_stands_in, forget_if_removed, is_known, is_namespace, keep_namespace};
 use crate::ready::Ready;
 use crate::rows::is_namespaced;
-use crate::slots::{find, place, reserve_slot};
+use crate::slots::{Hidden, find, place, reserve_slot};
 use crate::stamps::{admitted, created, replacing};
 use crate::stored::StoredObject;
 use crate::window::{Changes, WINDOW, Window};
@@ -25,8 +25,8 @@ pub struct Store {
     alloc: Global,
     table: Sequence<ResourceRow>,
     slots: BTreeMap<Key, Shared>,
-    /// The key of the slot whose object is still to be created.
-    hidden: Option<Key>,
+    /// The slot whose object is still to be created.
+    hidden: Option<Hidden>,
     /// The last namespace in which an object was created, while it surely exists: it need not be looked up again.
     known: Option<Text>,
     first: u64,
@@ -54,6 +54,9 @@ impl Model for Store {
     ghost use Rattle.kapi_store.specs.contracts.stored.StoredObject as held;
     ghost use Rattle.kapi_store.specs.contracts.change.Change as changed;
     ghost use Rattle.kapi_store.specs.State.{State, IsStore};
+    ghost use Rattle.std.specs.List.Sorted.{IsStrictlySortedBy};
+    ghost use Rattle.std.specs.Map.{keys_of};
+    ghost use Rattle.kapi_store.specs.Keys.{key_cmp};
 
     ghost Value = { State };
 
@@ -62,10 +65,11 @@ impl Model for Store {
     ghost use Rattle.kapi_store.specs.View.{state_of};
     ghost use Rattle.kapi_store.specs.Plain.{plain_of};
     ghost use Rattle.kapi_store.specs.Private.Existing.{Exists};
+    ghost use Rattle.kapi_store.specs.Private.Hidden.{HoldsHidden};
 
     ghost view = { state_of };
 
-    ghost invariant = { λ s. IsStore (state_of s) × Exists s.known (plain_of (state_of s)) };
+    ghost invariant = { λ s. IsStore (state_of s) × Exists s.known (plain_of (state_of s)) × IsStrictlySortedBy key_cmp (keys_of s.slots.entries) × HoldsHidden s.hidden s.slots.entries };
 }
 
 impl Store {
@@ -134,7 +138,6 @@ impl Store {
     ///
     /// The call reads the objects between the first and the last key that may be listed, and no others. For a resource
     /// that is cluster-scoped the caller passes an empty namespace: no object of it is in one. Each key is listed once.
-    #[tactic(auto, using(crate::proofs::Trees::listed_objects_trees))]
     pub fn list<'a>(
         &'a self,
         resource: &ResourceRow,

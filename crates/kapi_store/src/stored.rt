@@ -117,6 +117,14 @@ impl StoredObject {
         are_same(self.labels.as_slice(), other.labels.as_slice())
     }
 
+    /// Whether the other one is the same. Labels and rule are told by the text and not compared.
+    pub(crate) fn is_same(&self, other: &StoredObject) -> bool
+        ensures { Decides result (self.now ≡ other.now) }
+    {
+        self.revision == other.revision
+            && (self.created == other.created && self.text == other.text)
+    }
+
     /// The object as JSON text: compact, keys in the order of their bytes.
     pub fn text(&self) -> &str
         ensures { result.now ≡ compact_text (stored_tree self.now) }

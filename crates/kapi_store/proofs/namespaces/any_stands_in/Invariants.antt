@@ -1,6 +1,6 @@
 use Rattle.std.proofs.Common.{◌≡◌, drop}
 use Rattle.std.specs.List.{list_any}
-use Rattle.kapi_store.specs.State.{visible}
+use Rattle.kapi_store.specs.Private.Hidden.{visible}
 use Rattle.kapi_store.specs.Private.Span.{row_holds}
 use Rattle.kapi_store.proofs.namespaces.any_stands_in.Given as goal
 

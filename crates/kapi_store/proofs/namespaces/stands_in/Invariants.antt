@@ -1,6 +1,6 @@
 use Rattle.std.proofs.Common.{◌≡◌}
 use Rattle.std.specs.List.{list_any}
-use Rattle.kapi_store.specs.State.{visible}
+use Rattle.kapi_store.specs.Private.Hidden.{visible}
 use Rattle.kapi_store.specs.Private.Span.{is_of}
 use Rattle.kapi_store.proofs.namespaces.stands_in.Given as goal
 

@@ -3,7 +3,7 @@ use Rattle.std.specs.BTreeMap.Range.{entries_between}
 use Rattle.std.specs.declared.ops.Bound.TheVariants.{Included, Excluded}
 use Rattle.kapi_store.specs.Keys.{key_cmp}
 use Rattle.kapi_store.specs.Private.Span.{first_key}
-use Rattle.kapi_store.specs.State.{visible}
+use Rattle.kapi_store.specs.Private.Hidden.{visible}
 use Rattle.kapi_store.specs.Listing.{listed_objects}
 use Rattle.kapi_store.proofs.Spans.{first_below_end, listed_between}
 use Rattle.kapi_store.proofs.listing.Selection.list_in.Goals as goal

@@ -1,5 +1,5 @@
 use Rattle.std.proofs.Common.{◌≡◌, ◌++◌, map}
-use Rattle.kapi_store.specs.State.{visible}
+use Rattle.kapi_store.specs.Private.Hidden.{visible}
 use Rattle.kapi_store.specs.Listing.{listed_objects, shown}
 use Rattle.kapi_store.proofs.listing.Selection.list_in.Given as goal
 

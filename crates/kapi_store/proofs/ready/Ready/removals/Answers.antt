@@ -5,7 +5,7 @@ use Rattle.std.proofs.lemmas.List.{length-append}
 use Rattle.kapi_store.specs.declared.change.Change.{Change}
 use Rattle.kapi_store.specs.declared.key.Key.{Key}
 use Rattle.kapi_store.specs.Changes.{AreRemovals, Follow, revision_of}
-use Rattle.kapi_store.specs.State.{visible}
+use Rattle.kapi_store.specs.Private.Hidden.{visible}
 use Rattle.kapi_store.specs.Plain.{plain_change, trees, removals}
 use Rattle.kapi_store.proofs.Windows.{Follow_append}
 use Rattle.kapi_store.proofs.Writes.{removals_alone, removals_more, removals_step, removals_write}

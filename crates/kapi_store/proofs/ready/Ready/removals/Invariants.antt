@@ -1,7 +1,7 @@
 use Rattle.std.proofs.Common.{◌≡◌, ◌+◌, ◌++◌, map, length}
 use Rattle.std.specs.Vec.Iter.{into_iter_items}
 use Rattle.kapi_store.specs.Changes.{AreRemovals, Follow, revision_of}
-use Rattle.kapi_store.specs.State.{visible}
+use Rattle.kapi_store.specs.Private.Hidden.{visible}
 use Rattle.kapi_store.specs.Plain.{plain_change, trees, removals}
 use Rattle.kapi_store.proofs.ready.Ready.removals.Given as goal
 

@@ -1,17 +1,15 @@
-use Rattle.std.proofs.Common.{◌≡◌, ◌+◌, ◌≤◌, Ok, true, false, Option, Some, IsSome, IfSome, ap, sym, subst, refl, ◌∙◌, arith, rules}
+use Rattle.std.proofs.Common.{◌≡◌, ◌+◌, ◌≤◌, Ok, true, false, Option, Some, IsSome, IfSome, ap, sym, subst, refl, arith, rules}
 use Rattle.std.specs.Map.{lookup}
 use Rattle.kapi_tree.specs.Object.{tree_of}
 use Rattle.kapi_store.specs.Limits.{last_revision}
 use Rattle.kapi_store.specs.Keys.{is_key}
-use Rattle.kapi_store.specs.declared.key.Key.{Key}
-use Rattle.kapi_store.specs.declared.stored.StoredObject.{StoredObject}
 use Rattle.kapi_store.specs.Stored.{stored_tree}
 use Rattle.kapi_store.specs.Same.{same_tree}
 use Rattle.kapi_store.specs.Stamps.{replaced_tree, with_stamps_of}
 use Rattle.kapi_store.specs.declared.written.Written.{Written}
 use Rattle.kapi_store.specs.Plain.{plain_of, revisions_left}
 use Rattle.kapi_store.specs.View.{state_of}
-use Rattle.kapi_store.specs.State.{State, Fits, hides}
+use Rattle.kapi_store.specs.State.{State, Fits}
 use Rattle.kapi_store.proofs.Equality.{found_other, found_same}
 use Rattle.kapi_store.proofs.Stores.{fits_none, fits_one}
 use Rattle.kapi_store.proofs.Places.{slot_of_tree}
@@ -56,12 +54,8 @@ returns-clause-fits c =
     let at : c.args.self.now.revision ≡ c.self.inside.revision = ap (λ s. s.revision) (sym c.self.view_is) in
     let left : c.args.self.now.revision + 1 ≤ last_revision = c.in_ok-check_revisions.ensures.left in
     let one = c.in_ok-replacement.ensures in
+    let Slot : State → Type 0 = λ s. IsSome (lookup (is_key c.args.key) s.slots) in
+    let Stands : State → Type 0 = λ s. lookup (is_key c.args.key) (plain_of s).objects ≡ Some (stored_tree c.args.old.now) in
     let numbered : one.change.revision ≡ c.self.inside.revision + 1 = one.numbered in
     fits_one c.args.self.now _ one.change one.one (omega arith) (omega arith)
-    (λ o _. slot_at c.args.self.now one.change.key c.args.key o one.place (slot_of_tree c.args.self.now c.args.key (stored_tree c.args.old.now) c.requires))
-  where
-    slot_at : (s : State) (k l : Key) (o : StoredObject) → k ≡ l → IsSome (lookup (is_key l) s.slots) × (hides s.hidden l ≡ false)
-        → IsSome (lookup (is_key k) s.slots) × (hides s.hidden k ≡ true → lookup (is_key k) s.slots ≡ Some o)
-    slot_at s k l o is h =
-        let shown : hides s.hidden k ≡ false = ap (hides s.hidden) is ∙ h.1 in
-        (subst (λ q. IsSome (lookup (is_key q) s.slots)) (sym is) h.0, λ there. absurd (cc (shown, there)))
+    (λ _. subst (λ k. IsSome (lookup (is_key k) c.args.self.now.slots)) (sym one.place) (subst Slot c.self.view_is (slot_of_tree c.self.inside.hidden c.args.key c.self.inside.slots.entries (stored_tree c.args.old.now) (subst Stands (sym c.self.view_is) c.requires))))
