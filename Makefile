@@ -18,9 +18,9 @@
 # make audit-demo  answers a stored file of questions by a stored policy; it proves nothing
 # make compare-demo  compares two stored policies, and asks of one who may read secrets and who could become anybody; it proves nothing
 # make compare-random  compares random pairs of policies with a plain search (wants python3)
-# make load      proves and builds the program, and prints what a server does under load (wants cc and python3)
+# make load      proves and builds the program, and prints what a server does under load (wants cc, python3 and wrk)
 # make instructions  proves and builds the program, and counts the instructions and allocations of a request (wants python3 and valgrind)
-# make samples    proves and builds the program, and tells in which parts of it the time of a request goes (wants cc, python3 and perf)
+# make samples    proves and builds the program, and tells in which parts of it the time of a request goes (wants python3, perf and wrk)
 # make bench     proves and builds the program, and prints what its events and questions cost (wants python3)
 
 SCRIPTS ?= scripts
@@ -106,10 +106,8 @@ instructions: kapi
 	@python3 tools/instructions.py $(PROGRAM)
 
 samples: kapi
-	@cc -O2 -o crates/kapi/out/sender tools/sender.c
-	@python3 tools/samples.py $(PROGRAM) crates/kapi/out/sender
+	@python3 tools/samples.py $(PROGRAM)
 
 load: kapi
 	@cc -O2 -o crates/kapi/out/echo tools/echo.c
-	@cc -O2 -o crates/kapi/out/sender tools/sender.c
-	@python3 tools/load.py $(PROGRAM) crates/kapi/out/echo crates/kapi/out/sender
+	@python3 tools/load.py $(PROGRAM) crates/kapi/out/echo

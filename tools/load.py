@@ -1,8 +1,9 @@
 #!/usr/bin/env python3
-"""Measures a server under load, and prints requests a second, processor times and resident memory.
+"""Measures a server under load, and prints requests a second, processor times and resident memory. Wants wrk.
 
-usage: load.py KAPI ECHO SENDER     KAPI is the built program; ECHO and SENDER are tools/echo.c, which is measured beside it, and tools/sender.c
+usage: load.py KAPI ECHO     KAPI is the built program; ECHO is tools/echo.c, which is measured beside it
 """
+import itertools
 import json
 import os
 import pathlib
@@ -67,7 +68,7 @@ class Server:
 
 
 def request(method, path, body=""):
-    """The bytes of a request; in nine # the sender writes its number."""
+    """The bytes of a request."""
     length = f"Content-Length: {len(body)}\r\n" if body else ""
     media = "Content-Type: application/merge-patch+json\r\n" if method == "PATCH" else ""
     return f"{method} {path} HTTP/1.1\r\nHost: a\r\n{media}{length}\r\n{body}"
@@ -78,29 +79,47 @@ def written(name, value):
     return json.dumps({"metadata": {"name": name, "namespace": "default"}, "data": {"key": value}})
 
 
+# In the place of NUMBER stands a number that no request before had.
 NUMBER = "#" * 9
 KINDS = {
-    "a health request": (ROOT, request("GET", "/healthz")),
-    "a get": (ANN, request("GET", f"{MAPS}/map-0")),
-    "a denied get": (ANN, request("GET", "/api/v1/namespaces/default/secrets/a")),
-    "a post": (ROOT, request("POST", MAPS, written(f"made-{NUMBER}", "x"))),
-    "a put": (ROOT, request("PUT", f"{MAPS}/map-0", written("map-0", NUMBER))),
+    "a health request": (ROOT, "GET", "/healthz", ""),
+    "a get": (ANN, "GET", f"{MAPS}/map-0", ""),
+    "a denied get": (ANN, "GET", "/api/v1/namespaces/default/secrets/a", ""),
+    "a post": (ROOT, "POST", MAPS, written(f"made-{NUMBER}", "x")),
+    "a put": (ROOT, "PUT", f"{MAPS}/map-0", written("map-0", NUMBER)),
 }
+RUNS = itertools.count(1)
 
 
-def answered(sender, port, text, connections, seconds=4, spins=False):
-    """How many requests the sender got answers to; where it spins it never sleeps."""
-    with tempfile.NamedTemporaryFile("w") as file:
-        file.write(text)
+def wrk_script(method, body):
+    """What wrk is to send: the method and the body, whose number goes on behind those of earlier runs."""
+    before, _number, behind = body.partition(NUMBER)
+    return f"""wrk.method = "{method}"
+local number = {next(RUNS) * 10_000_000}
+local function numbered()
+  number = number + 1
+  return wrk.format(nil, nil, nil, [==[{before}]==] .. string.format("%09d", number) .. [==[{behind}]==])
+end
+request = {"numbered" if body else "nil"}
+"""
+
+
+def answered(kind, connections, seconds=4, port=None):
+    """How many requests wrk got answers to, all of them granted but for those of a denied get."""
+    own, method, path, body = KINDS[kind]
+    with tempfile.NamedTemporaryFile("w", suffix=".lua") as file:
+        file.write(wrk_script(method, body))
         file.flush()
-        words = [sender, str(port), str(connections), str(seconds), file.name, *(["spin"] if spins else [])]
-        return int(subprocess.run(words, capture_output=True, text=True, check=True).stdout)
+        words = ["wrk", "-t", "1", "-c", str(connections), "-d", f"{seconds}s", "-s", file.name, f"http://127.0.0.1:{port or own}{path}"]
+        told = subprocess.run(words, capture_output=True, text=True, check=True).stdout
+    if kind != "a denied get" and "Non-2xx" in told:
+        raise SystemExit(f"{kind} is refused:\n{told}")
+    return int(re.search(r"(\d+) requests in", told)[1])
 
 
-def rates(sender, kind, connections, times=3, port=None):
+def rates(kind, connections, times=3):
     """Requests a second, of several runs."""
-    own, text = KINDS[kind]
-    return ", ".join(str(answered(sender, port or own, text, connections) // 4) for _time in range(times))
+    return ", ".join(str(answered(kind, connections) // 4) for _time in range(times))
 
 
 def seconds_of(process):
@@ -109,22 +128,28 @@ def seconds_of(process):
     return [int(field) / os.sysconf("SC_CLK_TCK") for field in fields[11:13]]
 
 
-def time_of_each(sender, process, port, text, spins):
+def time_of_each(process, kind, port=None):
     """Microseconds of a process for each request that is answered in four seconds over 8 connections: its own, and the system's."""
     before = seconds_of(process)
-    count = answered(sender, port, text, 8, 4, spins)
+    count = answered(kind, 8, 4, port)
     return [(after - then) * 1_000_000 / count for after, then in zip(seconds_of(process), before)]
 
 
-def beside_the_echo(sender, program, echo, name, spins):
-    """The processor time of a request beside that of the echo, of five pairs of runs in turns: medians, and each ratio."""
-    port, text = KINDS[name]
-    with Server(program) as server:
-        pairs = [(time_of_each(sender, server.process, port, text, spins), time_of_each(sender, echo, ECHO, text, spins)) for _pair in range(5)]
+def beside_the_echo(program, echo, kind):
+    """The processor time of a request beside that of an echo of its answer, of five pairs of runs in turns: medians, and each ratio."""
+    port, method, path, body = KINDS[kind]
+    with Server(program) as server, tempfile.NamedTemporaryFile() as reply:
+        reply.write(answer_to(port, request(method, path, body.replace(NUMBER, "0" * 9))))
+        reply.flush()
+        other = started([echo, str(ECHO), reply.name], 1)
+        try:
+            pairs = [(time_of_each(server.process, kind), time_of_each(other, kind, ECHO)) for _pair in range(5)]
+        finally:
+            other.kill()
+            other.wait()
     ours, theirs = ([round(statistics.median(times), 1) for times in zip(*side)] for side in zip(*pairs))
     ratios = sorted(sum(one) / sum(other) for one, other in pairs)
-    print(f"{name}, a sender that {'spins' if spins else 'sleeps'}: {ours} us of its own and of the system, the echo {theirs};",
-          "ratios", *(f"{ratio:.2f}" for ratio in ratios), flush=True)
+    print(f"{kind}: {ours} us of its own and of the system, the echo {theirs};", "ratios", *(f"{ratio:.2f}" for ratio in ratios), flush=True)
 
 
 def drip(sockets, is_over):
@@ -138,12 +163,12 @@ def drip(sockets, is_over):
             time.sleep(1 / len(sockets))
 
 
-def beside_slow(sender):
+def beside_slow():
     """Requests a second over one connection while 255 others send one byte a second each."""
     sockets, is_over = [socket.create_connection(("127.0.0.1", ROOT)) for _client in range(255)], threading.Event()
     slow = threading.Thread(target=drip, args=(sockets, is_over))
     slow.start()
-    rate = rates(sender, "a get", 1, 1)
+    rate = rates("a get", 1, 1)
     is_over.set()
     slow.join()
     for each in sockets:
@@ -151,11 +176,11 @@ def beside_slow(sender):
     return rate
 
 
-def answer_to(text):
-    """The bytes that ann is answered."""
-    client = socket.create_connection(("127.0.0.1", ANN))
+def answer_to(port, text):
+    """The bytes that a request is answered."""
+    client = socket.create_connection(("127.0.0.1", port))
     client.sendall(text.encode())
-    answer = client.recv(65536)
+    answer = whole_answer(client)
     client.close()
     return answer
 
@@ -227,26 +252,15 @@ def kept(program, make, count):
 
 
 def main():
-    program, echo, sender = sys.argv[1:]
-    with tempfile.NamedTemporaryFile() as reply:
-        with Server(program):
-            reply.write(answer_to(KINDS["a get"][1]))
-            reply.flush()
-        echo = started([echo, str(ECHO), reply.name], 1)
+    program, echo = sys.argv[1:]
+    for kind in KINDS:
+        beside_the_echo(program, echo, kind)
+    for bindings in (10, 10_000):
+        with Server(program, bindings):
+            print(f"a get and a denied get, {bindings:,} bindings, requests a second over 8 connections:", rates("a get", 8), "and", rates("a denied get", 8))
     with Server(program):
         for _pair in range(5):
-            print("a get, and the same bytes from an echo, 8 connections:", rates(sender, "a get", 8, 1), rates(sender, "a get", 8, 1, ECHO))
-        print("a denied get, 10 bindings:", rates(sender, "a denied get", 8))
-    for spins in (False, True):
-        for name in KINDS:
-            beside_the_echo(sender, program, echo, name, spins)
-    echo.kill()
-    with Server(program, bindings=10_000):
-        print("a denied get, 10,000 bindings:", rates(sender, "a denied get", 8))
-    with Server(program):
-        for _pair in range(5):
-            alone = rates(sender, "a get", 1, 1)
-            print("a get over 1 connection, alone and beside 255 that send one byte a second:", alone, beside_slow(sender))
+            print("a get over 1 connection, alone and beside 255 that send one byte a second:", rates("a get", 1, 1), beside_slow())
     with Server(program) as server:
         watcher = socket.create_connection(("127.0.0.1", ANN))
         watcher.sendall(f"GET {MAPS}?watch=1 HTTP/1.1\r\nHost: a\r\n\r\n".encode())

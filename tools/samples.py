@@ -1,7 +1,7 @@
 #!/usr/bin/env python3
-"""Tells in which parts of a server the processor time of a request goes, by samples. Wants perf.
+"""Tells in which parts of a server the processor time of a request goes, by samples. Wants perf and wrk.
 
-usage: samples.py KAPI SENDER     KAPI is the built program, SENDER the built tools/sender.c, which spins
+usage: samples.py KAPI     KAPI is the built program
 
 The system's part is that of all that is not the program and its C library; a crate's is that of its functions, with what the compiler
 put into them of others.
@@ -11,8 +11,9 @@ import re
 import subprocess
 import sys
 import tempfile
+import threading
 
-from load import KINDS, Server
+from load import KINDS, Server, answered
 
 SECONDS = 6
 
@@ -29,16 +30,14 @@ def part_of(place, symbol):
     return crate if crate.startswith("kapi") else "allocation" if crate.startswith("rattle_") else "comparing bytes" if symbol.startswith("core::cmp") else "the standard library"
 
 
-def parts(program, sender, kind):
+def parts(program, kind):
     """The shares of the parts in the samples of a server, in percent, by size."""
-    port, text = KINDS[kind]
-    with Server(program) as server, tempfile.NamedTemporaryFile("w") as file, tempfile.NamedTemporaryFile() as told:
-        file.write(text)
-        file.flush()
-        load = subprocess.Popen([sender, str(port), "8", str(SECONDS), file.name, "spin"], stdout=subprocess.DEVNULL)
+    with Server(program) as server, tempfile.NamedTemporaryFile() as told:
+        load = threading.Thread(target=answered, args=(kind, 8, SECONDS))
+        load.start()
         record = ["perf", "record", "-q", "-e", "cpu-clock", "-F", "4000", "-o", told.name, "-p", str(server.process.pid), "--", "sleep", str(SECONDS - 2)]
         subprocess.run(record, check=True, stdout=subprocess.DEVNULL, stderr=subprocess.DEVNULL)
-        load.wait()
+        load.join()
         report = ["perf", "report", "-i", told.name, "--no-children", "--stdio", "-F", "overhead,dso,symbol", "-t", "\t"]
         lines = subprocess.run(report, check=True, capture_output=True, text=True).stdout.splitlines()
     shares = collections.Counter()
@@ -50,9 +49,9 @@ def parts(program, sender, kind):
 
 
 def main():
-    program, sender = sys.argv[1:]
+    program, = sys.argv[1:]
     for kind in KINDS:
-        told = parts(program, sender, kind)
+        told = parts(program, kind)
         print(f"{kind}:", ", ".join(f"{part} {share:.1f}" for part, share in told if share >= 0.5), flush=True)
 
 
