@@ -1,5 +1,5 @@
 -- Keys of rules compare as equal where the rules are the same, so a set of them shows which rules a list has.
-use Rattle.std.proofs.Common.{◌≡◌, ◌+◌, ℕ, List, [], ◌∷◌, ◌++◌, Bool, true, false, not, cond, if◌then◌else◌, ◌&&◌, ◌||◌, length, refl, sym, ap, subst, ◌∙◌, append-nil, arith}
+use Rattle.std.proofs.Common.{◌≡◌, ◌+◌, ℕ, List, [], ◌∷◌, ◌++◌, Bool, true, false, not, cond, if◌then◌else◌, ◌||◌, length, refl, sym, ap, subst, ◌∙◌, append-nil, arith}
 use Rattle.std.proofs.lemmas.List.{length-append}
 use Rattle.std.proofs.lemmas.Map.Text.{is_eq-slice_cmp}
 use Rattle.std.specs.Bool.{OnFalse}
@@ -21,30 +21,13 @@ texts_tied (x ∷ xs) [] = refl
 texts_tied (x ∷ xs) (y ∷ ys) =
     both_tied (bytes_eq x y) (same_texts xs ys) (slice_cmp nat_cmp x y) (slice_cmp (slice_cmp nat_cmp) xs ys) (sym (is_eq-slice_cmp x y)) (texts_tied xs ys)
 
--- the tests of five lists in another order
-in_turn : (v g r n u : Bool) → (v && (g && (r && (n && u)))) ≡ (r && (n && (u && (v && g))))
-in_turn true true true true true = refl
-in_turn true true true true false = refl
-in_turn true true true false u = refl
-in_turn true true false n u = refl
-in_turn true false true true true = refl
-in_turn true false true true false = refl
-in_turn true false true false u = refl
-in_turn true false false n u = refl
-in_turn false g true true true = refl
-in_turn false g true true false = refl
-in_turn false g true false u = refl
-in_turn false g false n u = refl
-
 rule_tied : (a b : RuleKey) → same_rule (rule_of_key a) (rule_of_key b) ≡ is_eq (rule_cmp a b)
 rule_tied a b =
-    in_turn (same_texts a.verbs.now b.verbs.now) (same_texts a.api_groups.now b.api_groups.now) (same_texts a.resources.now b.resources.now)
-    (same_texts a.resource_names.now b.resource_names.now) (same_texts a.non_resource_urls.now b.non_resource_urls.now)
-    ∙ both_tied _ _ _ _ (texts_tied a.resources.now b.resources.now)
+    both_tied _ _ _ _ (texts_tied a.verbs.now b.verbs.now)
+    (both_tied _ _ _ _ (texts_tied a.api_groups.now b.api_groups.now)
+    (both_tied _ _ _ _ (texts_tied a.resources.now b.resources.now)
     (both_tied _ _ _ _ (texts_tied a.resource_names.now b.resource_names.now)
-    (both_tied _ _ _ _ (texts_tied a.non_resource_urls.now b.non_resource_urls.now)
-    (both_tied _ _ _ _ (texts_tied a.verbs.now b.verbs.now)
-    (texts_tied a.api_groups.now b.api_groups.now))))
+    (texts_tied a.non_resource_urls.now b.non_resource_urls.now))))
 
 -- a test of a list that is one longer
 any_more : {X : Type 0} (p : X → Bool) (xs : List X) (x : X) (b : Bool) → p x ≡ b → list_any p (xs ++ x ∷ []) ≡ cond b true (list_any p xs)

@@ -22,11 +22,11 @@ rule_of_key k = record {
 -- keys are in order of their lists, in turn, and lists of their texts
 abbrev pub rule_cmp : RuleKey → RuleKey → Ordering
 rule_cmp a b =
-    ordering_then (slice_cmp (slice_cmp nat_cmp) a.resources.now b.resources.now)
+    ordering_then (slice_cmp (slice_cmp nat_cmp) a.verbs.now b.verbs.now)
+    (ordering_then (slice_cmp (slice_cmp nat_cmp) a.api_groups.now b.api_groups.now)
+    (ordering_then (slice_cmp (slice_cmp nat_cmp) a.resources.now b.resources.now)
     (ordering_then (slice_cmp (slice_cmp nat_cmp) a.resource_names.now b.resource_names.now)
-    (ordering_then (slice_cmp (slice_cmp nat_cmp) a.non_resource_urls.now b.non_resource_urls.now)
-    (ordering_then (slice_cmp (slice_cmp nat_cmp) a.verbs.now b.verbs.now)
-    (slice_cmp (slice_cmp nat_cmp) a.api_groups.now b.api_groups.now))))
+    (slice_cmp (slice_cmp nat_cmp) a.non_resource_urls.now b.non_resource_urls.now))))
 
 module _ {X : Type 0} where
   -- the items beside which there is a true

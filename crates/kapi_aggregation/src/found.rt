@@ -9,15 +9,14 @@ use kapi_text::{Memory, Text};
 use std::alloc::Global;
 use std::collections::BTreeSet;
 
-/// A rule as a key of a set: the lists of its entries, borrowed, which are compared in turn; first those in which rules
-/// differ most.
+/// A rule as a key of a set: the lists of its entries, borrowed, which are compared in turn.
 #[derive(PartialEq, Eq, PartialOrd, Ord, Drop)]
 struct RuleKey<'a> {
+    verbs: &'a [Text],
+    api_groups: &'a [Text],
     resources: &'a [Text],
     resource_names: &'a [Text],
     non_resource_urls: &'a [Text],
-    verbs: &'a [Text],
-    api_groups: &'a [Text],
 }
 
 /// The rule as a key; allocates nothing.
@@ -25,11 +24,11 @@ fn key_of(rule: &PolicyRule) -> RuleKey<'_>
     ensures { rule_of_key result ≡ rule.now }
 {
     RuleKey {
+        verbs: rule.verbs.as_slice(),
+        api_groups: rule.api_groups.as_slice(),
         resources: rule.resources.as_slice(),
         resource_names: rule.resource_names.as_slice(),
         non_resource_urls: rule.non_resource_urls.as_slice(),
-        verbs: rule.verbs.as_slice(),
-        api_groups: rule.api_groups.as_slice(),
     }
 }
 

@@ -1,4 +1,6 @@
 pub mod SlotSteps
+pub mod Seen
+pub mod Placed
 pub mod Keys
 pub mod Trees
 pub mod Writes

@@ -15,7 +15,8 @@ use Rattle.kapi_store.specs.State.{State, live, objects}
 use Rattle.kapi_store.specs.Stamps.{version_in}
 use Rattle.kapi_store.specs.declared.key.Key.{Key}
 use Rattle.kapi_store.specs.declared.slots.Hidden.{Hidden}
-use Rattle.kapi_store.proofs.SlotSteps.{none_there, seen_live, seen_slot, slot_there}
+use Rattle.kapi_store.proofs.Seen.{seen_live, seen_slot}
+use Rattle.kapi_store.proofs.SlotSteps.{none_there, slot_there}
 use Rattle.kapi_store.proofs.Trees.{lookup_trees}
 
 -- ---- a free place

@@ -17,7 +17,8 @@ use Rattle.kapi_store.specs.Changes.{placed_all, left_by, last_of, Follow, revis
 use Rattle.kapi_store.specs.Private.Hidden.{hidden_key, seen, visible}
 use Rattle.kapi_store.specs.State.{State, objects, live, IsSpare, HasSlot, Same, Fits, IsStore}
 use Rattle.kapi_store.specs.Plain.{Plain, PlainChange, RefinesPlain, plain_of, plain_change, changes_after, opened, written, trees, trees_left_by}
-use Rattle.kapi_store.proofs.SlotSteps.{visible_sorted, hidden_bound, seen_keys, seen_live, seen_spare}
+use Rattle.kapi_store.proofs.Seen.{seen_keys, seen_live, seen_spare}
+use Rattle.kapi_store.proofs.SlotSteps.{visible_sorted, hidden_bound}
 use Rattle.kapi_store.proofs.Writes.{placed_all_append, removals_slot}
 use Rattle.kapi_store.proofs.Trees.{placed_all_trees}
 use Rattle.kapi_store.proofs.Windows.{last_last, last_none, last_shorter, last_map, numbered_after, Follow_append, Follow_drop, Follow_map}

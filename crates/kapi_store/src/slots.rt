@@ -2,6 +2,7 @@
 //! until it is made: so that needs no memory, and need not look for the slot.
 
 ghost use Rattle.std.specs.Prelude.{◌≡◌, true, false, None, Some, IsSome, OnOk, IfOk, option_copied, option_map};
+ghost use Rattle.std.specs.Bool.{Decides};
 ghost use Rattle.std.specs.List.Sorted.{IsStrictlySortedBy};
 ghost use Rattle.std.specs.Map.{lookup, keys_of, set_value};
 ghost use Rattle.kapi_store.specs.Keys.{key_cmp, is_key};
@@ -79,7 +80,7 @@ fn reveal(hidden: &mut Option<Hidden>, key: &Key) -> Option<Shared>
 
 /// Whether what was hidden is the object.
 fn is_it(waiting: &Option<Shared>, object: &Shared) -> bool
-    ensures { result ≡ true → waiting.now ≡ Some object.now }
+    ensures { Decides result (waiting.now ≡ Some object.now) }
 {
     match waiting {
         Some(waiting) => waiting.get().is_same(object.get()),

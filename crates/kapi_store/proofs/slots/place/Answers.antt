@@ -5,7 +5,7 @@ use Rattle.kapi_store.specs.Keys.{is_key}
 use Rattle.kapi_store.specs.Private.Hidden.{visible, HoldsHidden}
 use Rattle.kapi_store.specs.declared.key.Key.{Key}
 use Rattle.kapi_store.specs.declared.stored.StoredObject.{StoredObject}
-use Rattle.kapi_store.proofs.SlotSteps.{filled, holds_filled, holds_same, holds_taken, revealed, taken, waiting_there}
+use Rattle.kapi_store.proofs.Placed.{filled, holds_filled, holds_same, holds_taken, revealed, taken, waiting_there}
 use Rattle.kapi_store.proofs.slots.place.Goals as goal
 
 -- an object that is placed has a slot
@@ -20,7 +20,7 @@ returns-in-Some-clause-objects c =
     let k = c.args.key.now in
     let x = c.in-Some.object in
     revealed before c.reveal-waiting.new.hidden k x es c.requires.ordered
-    (waiting_there before k es c.reveal-waiting.result x c.requires.holds (λ h. (c.reveal-waiting.ensures.shown h).1) (λ h. (c.reveal-waiting.ensures.other h).1) (c.is_it.ensures c.if-is_it.true))
+    (waiting_there before k es c.reveal-waiting.result x c.requires.holds (λ h. (c.reveal-waiting.ensures.shown h).1) (λ h. (c.reveal-waiting.ensures.other h).1) (c.is_it.ensures.0 c.if-is_it.true))
     (λ h. (c.reveal-waiting.ensures.shown h).0) (λ h. (c.reveal-waiting.ensures.other h).0)
     ∙ ap (λ o. placed k o (visible before es)) (sym c.in-Some.is)
 

@@ -1,6 +1,10 @@
-use Rattle.std.proofs.Common.{◌≡◌, ◌∙◌, true, sym, ap}
+use Rattle.std.proofs.Common.{◌≡◌, ℕ, ◌∙◌, true, sym, ap}
+use Rattle.serde_json.specs.Data.{Data}
 use Rattle.serde_json.specs.Written.{compact_text}
 use Rattle.kapi_tree.specs.Object.{tree_of}
+use Rattle.kapi_tree.specs.Order.{is_ordered}
+use Rattle.kapi_tree.specs.declared.object.Object.{Object}
+use Rattle.kapi_store.specs.declared.written.Written.{Written}
 use Rattle.kapi_store.specs.Private.Cut.{is_near}
 use Rattle.kapi_store.specs.Stamps.{replaced_tree, with_stamps_of}
 use Rattle.kapi_store.specs.Stored.{stored_tree}
@@ -8,6 +12,12 @@ use Rattle.kapi_store.proofs.Labelled.{told_ordered}
 use Rattle.kapi_store.proofs.Restamped.{replaced_again, stamps_again}
 use Rattle.kapi_store.proofs.VersionTexts.{replaced_near}
 use Rattle.kapi_store.proofs.stamps.replacing.Goals as goal
+
+-- what was written at the version of a revision has, with the old stamps, the tree that the object has with them
+with_old_stamps : (revision : ℕ) (old tree again : Data) (written : Written) (object : Object) → is_ordered tree ≡ true → stored_tree written.stored ≡ tree_of written.object
+    → stored_tree written.stored ≡ replaced_tree revision old tree → object ≡ written.object → again ≡ with_stamps_of old (tree_of object) → again ≡ with_stamps_of old tree
+with_old_stamps revision old tree again written object ordered same made taken is =
+    is ∙ ap (λ o. with_stamps_of old (tree_of o)) taken ∙ ap (with_stamps_of old) (sym same ∙ made) ∙ stamps_again revision old tree ordered
 
 -- the texts of an object that stays are near
 pub returns-then-not-is_near-clause-other : goal.returns-then-not-is_near-clause-other
@@ -25,25 +35,22 @@ pub returns-then-branch-clause-none : goal.returns-then-branch-clause-none
 returns-then-branch-clause-none c _ =
     let old = stored_tree c.args.old.now in
     let tree = tree_of c.args.object in
-    let written : tree_of c.in_ok-written.written.object ≡ replaced_tree c.args.revision old tree = sym c.in_ok-written.ensures.same ∙ c.in_ok-written.ensures.tree in
     let again : tree_of c.in_ok-object.object ≡ with_stamps_of old tree
-    = c.in_ok-object.ensures ∙ ap (λ o. with_stamps_of old (tree_of o)) c.into_object.ensures ∙ ap (with_stamps_of old) written ∙ stamps_again c.args.revision old tree c.args.object.ordered in
+    = with_old_stamps c.args.revision old tree (tree_of c.in_ok-object.object) c.in_ok-written.written c.into_object.result c.args.object.ordered c.in_ok-written.ensures.same c.in_ok-written.ensures.tree c.into_object.ensures c.in_ok-object.ensures in
     sym again ∙ c.in_ok-is_unchanged.ensures.decides.0 c.if-branch.true
 
 pub returns-clause-other : goal.returns-clause-other
 returns-clause-other c same =
     let old = stored_tree c.args.old.now in
     let tree = tree_of c.args.object in
-    let written : tree_of c.in_ok-written.written.object ≡ replaced_tree c.args.revision old tree = sym c.in_ok-written.ensures.same ∙ c.in_ok-written.ensures.tree in
     let again : tree_of c.in_ok-object.object ≡ with_stamps_of old tree
-    = c.in_ok-object.ensures ∙ ap (λ o. with_stamps_of old (tree_of o)) c.into_object.ensures ∙ ap (with_stamps_of old) written ∙ stamps_again c.args.revision old tree c.args.object.ordered in
+    = with_old_stamps c.args.revision old tree (tree_of c.in_ok-object.object) c.in_ok-written.written c.into_object.result c.args.object.ordered c.in_ok-written.ensures.same c.in_ok-written.ensures.tree c.into_object.ensures c.in_ok-object.ensures in
     cc (c.in_ok-is_unchanged.ensures.decides.1 (again ∙ same), c.if-branch.false)
 
 pub returns-clause-tree : goal.returns-clause-tree
 returns-clause-tree c =
     let old = stored_tree c.args.old.now in
     let tree = tree_of c.args.object in
-    let written : tree_of c.in_ok-written.written.object ≡ replaced_tree c.args.revision old tree = sym c.in_ok-written.ensures.same ∙ c.in_ok-written.ensures.tree in
     let again : tree_of c.in_ok-object.object ≡ with_stamps_of old tree
-    = c.in_ok-object.ensures ∙ ap (λ o. with_stamps_of old (tree_of o)) c.into_object.ensures ∙ ap (with_stamps_of old) written ∙ stamps_again c.args.revision old tree c.args.object.ordered in
+    = with_old_stamps c.args.revision old tree (tree_of c.in_ok-object.object) c.in_ok-written.written c.into_object.result c.args.object.ordered c.in_ok-written.ensures.same c.in_ok-written.ensures.tree c.into_object.ensures c.in_ok-object.ensures in
     c.in_ok-again.ensures.tree ∙ ap (replaced_tree c.args.revision old) again ∙ replaced_again c.args.revision old tree c.args.object.ordered

@@ -10,7 +10,7 @@ use Rattle.kapi_store.specs.View.{state_of}
 use Rattle.kapi_store.specs.State.{State}
 use Rattle.kapi_store.proofs.Existing.{exists_alike}
 use Rattle.kapi_store.proofs.Places.{namespace_there, no_object}
-use Rattle.kapi_store.proofs.SlotSteps.{seen_live, seen_same, seen_slot}
+use Rattle.kapi_store.proofs.Seen.{seen_live, seen_same, seen_slot}
 use Rattle.kapi_store.proofs.Stores.{fits_one, moved_same, moved_store, seen_slots}
 use Rattle.kapi_store.proofs.store.Store.create_in_place.Goals as goal
 

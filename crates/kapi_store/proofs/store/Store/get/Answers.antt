@@ -3,7 +3,7 @@ use Rattle.std.specs.Map.{lookup}
 use Rattle.kapi_store.specs.Keys.{is_key}
 use Rattle.kapi_store.specs.State.{objects}
 use Rattle.kapi_store.specs.Stored.{stored_tree}
-use Rattle.kapi_store.proofs.SlotSteps.{seen_live}
+use Rattle.kapi_store.proofs.Seen.{seen_live}
 use Rattle.kapi_store.proofs.Trees.{lookup_trees}
 use Rattle.kapi_store.proofs.store.Store.get.Goals as goal
 

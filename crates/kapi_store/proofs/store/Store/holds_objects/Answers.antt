@@ -5,7 +5,7 @@ use Rattle.kapi_store.specs.Plain.{holds_objects, plain_of}
 use Rattle.kapi_store.specs.Private.Span.{row_holds}
 use Rattle.kapi_store.specs.State.{objects}
 use Rattle.kapi_store.specs.View.{state_of}
-use Rattle.kapi_store.proofs.SlotSteps.{seen_live}
+use Rattle.kapi_store.proofs.Seen.{seen_live}
 use Rattle.kapi_store.proofs.Standing.{holds_by_rows}
 use Rattle.kapi_store.proofs.store.Store.holds_objects.Goals as goal
 

@@ -11,7 +11,8 @@ use Rattle.kapi_store.specs.Private.Hidden.{visible}
 use Rattle.kapi_store.specs.State.{objects}
 use Rattle.kapi_store.specs.Stored.{stored_tree}
 use Rattle.kapi_store.proofs.Keys.{filter_distinct}
-use Rattle.kapi_store.proofs.SlotSteps.{seen_live, visible_sorted}
+use Rattle.kapi_store.proofs.Seen.{seen_live}
+use Rattle.kapi_store.proofs.SlotSteps.{visible_sorted}
 use Rattle.kapi_store.proofs.Trees.{listed_objects_trees}
 use Rattle.kapi_store.proofs.store.Store.list.Goals as goal
 

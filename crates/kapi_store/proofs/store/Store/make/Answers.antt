@@ -11,7 +11,7 @@ use Rattle.kapi_store.specs.declared.key.Key.{Key}
 use Rattle.kapi_store.specs.declared.slots.Hidden.{Hidden}
 use Rattle.kapi_store.specs.declared.stored.StoredObject.{StoredObject}
 use Rattle.kapi_store.proofs.Existing.{exists_after}
-use Rattle.kapi_store.proofs.SlotSteps.{seen_live, seen_slot}
+use Rattle.kapi_store.proofs.Seen.{seen_live, seen_slot}
 use Rattle.kapi_store.proofs.Stores.{next_store, seen_slots}
 use Rattle.kapi_store.proofs.Trees.{placed_trees}
 use Rattle.kapi_store.proofs.store.Store.make.Goals as goal

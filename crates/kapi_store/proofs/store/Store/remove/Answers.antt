@@ -4,7 +4,7 @@ use Rattle.kapi_store.specs.Changes.{Follow, revision_of}
 use Rattle.kapi_store.specs.Plain.{plain_change, plain_of, removable, removals, revisions_left, trees}
 use Rattle.kapi_store.specs.State.{State, objects}
 use Rattle.kapi_store.specs.View.{state_of}
-use Rattle.kapi_store.proofs.SlotSteps.{seen_live}
+use Rattle.kapi_store.proofs.Seen.{seen_live}
 use Rattle.kapi_store.proofs.Stores.{fits_removals}
 use Rattle.kapi_store.proofs.store.Store.remove.Goals as goal
 

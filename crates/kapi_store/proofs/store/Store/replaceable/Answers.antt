@@ -9,7 +9,7 @@ use Rattle.kapi_store.specs.Keys.{is_key}
 use Rattle.kapi_store.specs.Plain.{admitted, trees}
 use Rattle.kapi_store.specs.State.{objects}
 use Rattle.kapi_store.specs.View.{state_of}
-use Rattle.kapi_store.proofs.SlotSteps.{seen_live}
+use Rattle.kapi_store.proofs.Seen.{seen_live}
 use Rattle.kapi_store.proofs.Trees.{lookup_trees}
 use Rattle.kapi_store.proofs.store.Store.replaceable.Goals as goal
 
