@@ -21,7 +21,7 @@
 # make load      proves and builds the program, and prints what a server does under load (wants cc, python3 and wrk)
 # make instructions  proves and builds the program, and counts the instructions and allocations of a request (wants python3 and valgrind)
 # make samples    proves and builds the program, and tells in which parts of it the time of a request goes (wants python3, perf and wrk)
-# make bench     proves and builds the program, and prints what its events and questions cost (wants python3)
+# make bench     proves and builds the program, and prints what its events and questions cost (wants python3); with MODE=load it is make load
 
 SCRIPTS ?= scripts
 PREFIX ?= /usr/local
@@ -99,8 +99,12 @@ compare-demo:
 compare-random: kapi
 	@python3 tools/compare.py $(PROGRAM)
 
+ifeq ($(MODE),load)
+bench: load
+else
 bench: kapi
 	@python3 tools/bench.py $(PROGRAM) && python3 tools/policies.py $(PROGRAM)
+endif
 
 instructions: kapi
 	@python3 tools/instructions.py $(PROGRAM)
