@@ -1,7 +1,7 @@
 #!/usr/bin/env python3
 """Attacks a server on 127.0.0.1 as a client without rights may, and prints what each attack costs the others.
 
-usage: hostile.py KAPI [ATTACK..]     KAPI is the built program; all attacks if none is named: greedy flood silent spin line
+usage: hostile.py KAPI [ATTACK..]     KAPI is the built program; all attacks if none is named: greedy flood silent stalled spin line
 
 Each attack starts a server of its own and is bounded in count and time. The exit status is 1 where one is above its bound.
 """
@@ -24,6 +24,7 @@ GET = b"GET /api/v1/namespaces/default/configmaps HTTP/1.1\r\nHost: a\r\n\r\n"
 GREEDY_CLIENTS, GREEDY_SECONDS = 8, 20
 CONNECTS, FLOODERS, FLOOD_SECONDS = 100_000, 4, 10
 SILENT_CLIENTS, SILENT_SECONDS = 450, 75
+STALLED_CLIENTS, STALLED_REQUESTS, GETS = 240, 320, 20_000
 SPIN_SECONDS = 2
 LINE_BYTES = 64_000_000
 
@@ -177,6 +178,45 @@ def silent(program):
     return judge(f"{SILENT_CLIENTS} clients that read nothing", figures)
 
 
+def cost(server):
+    """Microseconds of the server's processor time for each of root's gets, one after the other over one connection."""
+    client, before = connect(ROOT), server.seconds()
+    for _get in range(GETS):
+        client.sendall(GET)
+        client.recv(65536)
+    client.close()
+    return 1e6 * (server.seconds() - before) / GETS
+
+
+def rest(server):
+    """Waits until the server does nothing more."""
+    before = -1
+    while server.seconds() > before + 0.02:
+        before = server.seconds()
+        time.sleep(1)
+
+
+def stalled(program):
+    """Clients without rights that send requests and take none of their refusals, beside root's gets."""
+    request = b"GET /api/v1/namespaces/default/configmaps/%s HTTP/1.1\r\nHost: a\r\n\r\n" % (b"a" * 8_000)
+    with Server(program) as server:
+        alone, clients = cost(server), []
+        for _client in range(STALLED_CLIENTS):
+            client = socket.socket()
+            client.setsockopt(socket.SOL_SOCKET, socket.SO_RCVBUF, 4096)
+            client.connect(("127.0.0.1", ANN))
+            clients.append(client)
+        for _request in range(STALLED_REQUESTS // 16):
+            for client in clients:
+                client.sendall(request * 16)
+        rest(server)
+        beside = cost(server)
+        for client in clients:
+            client.close()
+    figures = [("root's get, us of processor time", beside, None), ("alone", alone, None), ("times that", beside / alone, 1.5)]
+    return judge(f"{STALLED_CLIENTS} clients that take no answer", figures)
+
+
 def spin(program):
     """Clients of the port for questions beyond the descriptors that the server has."""
     with Server(program, 24) as server:
@@ -207,7 +247,7 @@ def line(program):
     return judge(f"a line of {LINE_BYTES:,} bytes", [("million bytes more resident", grown, 8), ("sent, millions", sent / 1e6, None), ("others refused", answered, 0)])
 
 
-ATTACKS = {"greedy": greedy, "flood": flood, "silent": silent, "spin": spin, "line": line}
+ATTACKS = {"greedy": greedy, "flood": flood, "silent": silent, "stalled": stalled, "spin": spin, "line": line}
 
 
 def main():

@@ -5,6 +5,7 @@ use Rattle.std.specs.List.{HoldsAt, position, position_from, remove}
 use Rattle.std.proofs.Math.Seq.{map-set_same}
 use Rattle.std.proofs.lemmas.Bool.{eq-eqb, eqb-true}
 use Rattle.std.proofs.lemmas.Iterator.Adapters.{position_from-zero}
+use Rattle.std.proofs.lemmas.List.{get_or_default}
 use Rattle.std.proofs.lemmas.List.Quantifiers.{position-Some}
 use Rattle.kapi_serve.specs.declared.client.Client.{Client}
 use Rattle.kapi_serve.specs.Acts.{IsFree, Seat}
@@ -98,8 +99,13 @@ freed_first (x ∷ xs) slot zero c below at here before = rw (here, at) refl
 freed_first (x ∷ xs) slot (suc i) c below at here before =
     rw (before zero (omega arith)) (ap (λ ys. x ∷ ys) (freed_first xs slot i c (omega arith) at here (λ k l. before (suc k) (omega arith))))
 
-pub freed_at : (cs : List Client) (slot i : ℕ) (c : Client) → Some i ≡ position (λ c. c.slot == slot) cs → c ≡ get_or cs i c → set cs i (freed c) ≡ freed_on slot cs
-freed_at cs slot i c is at = let p = position-Some (λ y. y.slot == slot) cs i c (sym is) in freed_first cs slot i c p.0 at p.1 p.2
+pub freed_found : (cs ds : List Client) (slot i : ℕ) → Some i ≡ position (λ c. c.slot == slot) cs → i < length cs → HoldsAt (λ c. ds ≡ set cs i (freed c)) cs i → ds ≡ freed_on slot cs
+freed_found [] ds slot i is below holds = absurd (omega (arith, below))
+freed_found (x ∷ xs) ds slot i is below holds =
+    let cs : List Client = x ∷ xs in
+    let c : Client = get_or cs i x in
+    let p = position-Some (λ y. y.slot == slot) cs i c (sym is) in
+    holds x ∙ freed_first cs slot i c p.0 (get_or_default cs i x c below) p.1 p.2
 
 -- where no client is on a slot, none is freed
 pub freed_none : (cs : List Client) (slot : ℕ) → IsFree slot (seats_of cs) → cs ≡ freed_on slot cs
@@ -113,13 +119,22 @@ freed_to zero cs = cs
 freed_to (suc n) [] = []
 freed_to (suc n) (c ∷ cs) = freed c ∷ freed_to n cs
 
+freed_length : (n : ℕ) (cs : List Client) → length (freed_to n cs) ≡ length cs
+freed_length zero cs = refl
+freed_length (suc n) [] = refl
+freed_length (suc n) (c ∷ cs) = ap suc (freed_length n cs)
+
 freed_more : (cs : List Client) (i : ℕ) (c : Client) → i < length cs → c ≡ get_or (freed_to i cs) i c → set (freed_to i cs) i (freed c) ≡ freed_to (suc i) cs
 freed_more [] i c below at = absurd (omega arith)
 freed_more (x ∷ xs) zero c below at = ap (λ y. freed y ∷ xs) at
 freed_more (x ∷ xs) (suc i) c below at = ap (λ ys. freed x ∷ ys) (freed_more xs i c (omega arith) at)
 
-pub freed_next : (cs : List Client) (i : ℕ) (c : Client) → i < length cs → c ≡ get_or (freed_to i cs) i c → set (freed_to i cs) i (freed c) ≡ freed_to (i + 1) cs
-freed_next cs i c below at = rw add-one (freed_more cs i c below at)
+pub freed_next : (cs ds es : List Client) (i : ℕ) → i < length cs → ds ≡ freed_to i cs → HoldsAt (λ c. es ≡ set ds i (freed c)) ds i → es ≡ freed_to (i + 1) cs
+freed_next [] ds es i below is holds = absurd (omega (arith, below))
+freed_next (x ∷ xs) ds es i below is holds =
+    let cs : List Client = x ∷ xs in
+    let c : Client = get_or (freed_to i cs) i x in
+    holds x ∙ ap (λ ys. set ys i (freed (get_or ys i x))) is ∙ rw add-one (freed_more cs i c below (get_or_default (freed_to i cs) i x c (subst (λ n. i < n) (sym (freed_length i cs)) below)))
 
 pub freed_whole : (cs : List Client) (n : ℕ) → length cs ≤ n → freed_to n cs ≡ map freed cs
 freed_whole [] zero all = refl

@@ -333,10 +333,14 @@ passes_out a b e out = λ m r. (m, (out m r).0, stays_none m)
 pub owed_sent : (p : Pending) → IsSent p → owed p ≡ []
 owed_sent p sent = λ j. drop_all p.sent p.head sent.0 j ++ joined (sent.1 j)
 
+-- where less than a mebibyte is owed, less is counted
+under_limit : (p : Pending) → IsCounted p → length (owed p) < 1048576 → p.count < 1048576
+under_limit p counted less = omega (arith, counted, less)
+
 rests_quiet : (m : Machine) (c : Client) → Suits m c → IsQuiet c → Rests m c
 rests_quiet m c s q = record {
-  offered = λ e. q.owed;
-  answered = λ less. request_answered m c.id (s.unfed q.fed);
+  offered = q.owed;
+  answered = λ less. request_answered m c.id (s.unfed (q.fed (under_limit c.pending s.counted less)));
   ended = λ less e. open_not_ending (sym q.phase ∙ e);
   closed = λ e. absurd (open_not_closed (sym q.phase ∙ e));
 }
@@ -348,14 +352,11 @@ rests_same m n c same r = record { offered = r.offered; answered = λ less. answ
 pub rests_visited : (n : Machine) (f e : Client) → Suits n e → Waits f e → IsServed e → (f.blocked ≡ false → IsSent f.pending) → (f.phase ≡ phase.Closed → IsSent f.pending → ⊥) → Rests n e
 rests_visited n f e s w served sent over = record {
   offered = λ free. ap (λ z. z.owed) w.seat ∙ owed_sent f.pending (sent (sym w.blocked ∙ free));
-  answered = λ less. by_case (served (under less));
-  ended = λ less ending. by_end ending (served (under less));
+  answered = λ less. by_case (served (under_limit e.pending s.counted less));
+  ended = λ less ending. by_end ending (served (under_limit e.pending s.counted less));
   closed = λ closed. by_block e.blocked refl (sym w.phase ∙ closed);
 }
   where
-    under : length (owed e.pending) < 1048576 → e.pending.count < 1048576
-    under less = let few : e.pending.count ≤ length (owed e.pending) = s.counted in omega (arith, few, less)
-
     by_case : (e.fed ≡ false) ⊎ (e.phase ≡ phase.Closed) → (step n (event.Serve e.id)).0 ≡ answer.Nothing
     by_case (inl unfed) = request_answered n e.id (s.unfed unfed)
     by_case (inr closed) = request_answered n e.id (gone_request e.id.0 (link_at e.id.0 n) (s.closed closed))
@@ -568,22 +569,14 @@ on_left a b cs ds r s i e below left =
     let c : Client = get_or cs.list.items i e in
     on_closed a b cs.list.items ds.list.items cs.awake.numbers.items i c below (get_or_default cs.list.items i e c below) left.list (left.closes e)
 
--- a client's slot takes bytes again
-pub stands_free : (m : Machine) (cs : List Client) (aw : List ℕ) (i : ℕ) (c : Client) → i < length cs → c ≡ get_or cs i c → AllSuit m cs aw → AllSuit m (set cs i (record c { blocked = false })) aw
-stands_free m cs aw i c below is s =
+-- the slot of a client that is awake takes bytes again
+pub stands_free : (m : Machine) (cs : List Client) (aw bw : List ℕ) (i : ℕ) (c : Client) → i < length cs → c ≡ get_or cs i c → Has bw (get_or cs i c).id.0 → ((k : ℕ) → Has aw k → Has bw k) → AllSuit m cs aw
+    → AllSuit m (set cs i (record c { blocked = false })) bw
+stands_free m cs aw bw i c below is awake more s =
     let e : Client = record c { blocked = false } in
     let own : Suits m c = subst (λ x. Suits m x) (sym is) (each_at (λ x. Suits m x) cs i c s.suit below) in
-    let awake : IsAwakeOrQuiet aw c = subst (λ x. IsAwakeOrQuiet aw x) (sym is) (each_at (λ x. IsAwakeOrQuiet aw x) cs i c s.asleep below) in
-    record {
-      numbered = s.numbered;
-      suit = each_put (λ x. Suits m x) cs i e s.suit (suits_kept m c e (record { id = refl; phase = refl; fed = refl; watching = refl; counted = λ h. h }) own);
-      rise = rise_set cs i c e s.rise below (ap (λ x. x.id) is);
-      asleep = each_put (λ x. IsAwakeOrQuiet aw x) cs i e s.asleep (by_case awake);
-    }
-  where
-    by_case : IsAwakeOrQuiet aw c → IsAwakeOrQuiet aw (record c { blocked = false })
-    by_case (inl has) = inl has
-    by_case (inr quiet) = inr (record { phase = quiet.phase; fed = quiet.fed; shown = quiet.shown; owed = quiet.owed })
+    stands_set m m cs aw bw i c e s below (goes_none (get_or cs i c).id.0 m s.numbered) (ap (λ x. x.id) is)
+    (suits_kept m c e (record { id = refl; phase = refl; fed = refl; watching = refl; counted = λ h. h }) own) (subst (λ x. Has bw x.id.0) (sym is) awake) more
 
 -- a client's bytes have ended
 pub stands_ended : (m : Machine) (cs : List Client) (aw : List ℕ) (i : ℕ) (c : Client) → i < length cs → c ≡ get_or cs i c → Has aw (get_or cs i c).id.0 → AllSuit m cs aw

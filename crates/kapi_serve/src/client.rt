@@ -72,7 +72,22 @@ impl Client {
     pub(crate) fn is_quiet(&self) -> bool
         ensures { result ≡ true → IsQuiet self.now }
     {
-        self.phase == Phase::Open && !self.fed && self.has_shown() && self.pending.is_empty()
+        self.phase == Phase::Open && self.is_done() && self.has_offered()
+    }
+
+    /// Whether the machine has answered all that may be answered before the slot takes bytes.
+    fn is_done(&self) -> bool
+        ensures fed { result ≡ true → self.now.pending.count < 1048576 → self.now.fed ≡ false }
+        ensures shown { result ≡ true → self.now.pending.count < 1048576 → is_some self.now.watching ≡ true → self.now.shown ≡ true }
+    {
+        self.pending.is_full() || !self.fed && self.has_shown()
+    }
+
+    /// Whether the slot took all pending bytes, or takes none now.
+    fn has_offered(&self) -> bool
+        ensures { result ≡ true → self.now.blocked ≡ false → owed self.now.pending ≡ [] }
+    {
+        self.blocked || self.pending.is_empty()
     }
 
     /// Whether nothing is due to a watch of the connection, if it has one.

@@ -1,4 +1,4 @@
-ghost use Rattle.std.specs.Prelude.{◌≡◌, ◌<◌, ◌≤◌, ◌+◌, ℕ, List, Option, [], ◌∷◌, ◌++◌, drop, true, None, IfSome, OnOk, ◌==◌, length, map, option_map, suc, vec_len, vec_capacity};
+ghost use Rattle.std.specs.Prelude.{◌≡◌, ◌⊎◌, ◌<◌, ◌≤◌, ◌+◌, ℕ, List, Option, [], ◌∷◌, ◌++◌, drop, true, None, IfSome, OnOk, ◌==◌, length, map, option_map, set, suc, vec_len, vec_capacity};
 ghost use Rattle.std.specs.List.{HoldsAt, position};
 ghost use Rattle.kapi_core.specs.Concerns.{concern_on, is_among, is_concerned};
 ghost use Rattle.kapi_core.specs.Machine.{Machine, link_at};
@@ -215,27 +215,49 @@ impl Clients {
         ports.end(client.slot);
     }
 
-    /// Notes that a slot takes bytes again.
-    pub(crate) fn unblock(&mut self, slot: usize)
-        ensures freed { self.new.list.items ≡ freed_on slot self.old.list.items }
+    /// Notes that a slot takes bytes again, and wakes its connection.
+    pub(crate) fn unblock(&mut self, slot: usize) -> Progress
+        ensures freed { result ≡ progress.Still → self.new.list.items ≡ freed_on slot self.old.list.items }
+        ensures starved { (result ≡ progress.Still) ⊎ ((result ≡ progress.Starved) × (self.new.list.items ≡ self.old.list.items)) }
         ensures seats { seats_of self.new.list.items ≡ seats_of self.old.list.items }
         ensures stands { (m : Machine) → Stands m self.old → Stands m self.new }
     {
         match self.place(slot) {
-            Some(index) => self.list[index].blocked = false,
-            None => {}
+            Some(index) => self.free(index),
+            None => Progress::Still,
         }
     }
 
-    /// Notes that each slot may take bytes again.
-    pub(crate) fn unblock_all(&mut self)
-        ensures freed { self.new.list.items ≡ map freed self.old.list.items }
+    /// Notes that each slot may take bytes again, and wakes the connections on those that took none.
+    pub(crate) fn unblock_all(&mut self) -> Progress
+        ensures freed { result ≡ progress.Still → self.new.list.items ≡ map freed self.old.list.items }
         ensures seats { seats_of self.new.list.items ≡ seats_of self.old.list.items }
         ensures stands { (m : Machine) → Stands m self.old → Stands m self.new }
     {
+        let mut progress = Progress::Still;
         for index in 0..self.list.len() {
-            self.list[index].blocked = false;
+            progress = progress.and(self.free(index));
         }
+        progress
+    }
+
+    /// Notes that the slot of the connection at a place takes bytes again, and wakes the connection.
+    fn free(&mut self, index: usize) -> Progress
+        requires { index < length self.old.list.items }
+        ensures freed { result ≡ progress.Still → HoldsAt (λ client. self.new.list.items ≡ set self.old.list.items index (freed client)) self.old.list.items index }
+        ensures starved { (result ≡ progress.Still) ⊎ ((result ≡ progress.Starved) × (self.new.list.items ≡ self.old.list.items)) }
+        ensures count { length self.new.list.items ≡ length self.old.list.items }
+        ensures seats { seats_of self.new.list.items ≡ seats_of self.old.list.items }
+        ensures stands { (m : Machine) → Stands m self.old → Stands m self.new }
+    {
+        if !self.list[index].blocked {
+            return Progress::Still;
+        }
+        if self.awake.add(self.list[index].id).is_err() {
+            return Progress::Starved;
+        }
+        self.list[index].blocked = false;
+        Progress::Still
     }
 
     /// Wakes each connection with a watch that the changes since that was last done may concern. What memory does not

@@ -68,11 +68,11 @@ impl Server {
         ensures woken { result ≡ progress.Still → self.new.clients.woken ≡ core.new.store.revision }
     {
         self.publishing.retry(rt, desk);
-        self.take(rt, core, desk, ports, buffer, event);
+        let _noted = self.take(rt, core, desk, ports, buffer, event);
         self.settle(rt, core, desk, ports)
     }
 
-    /// Takes in an event of the ports.
+    /// Takes in an event of the ports, unless memory does not suffice to wake a connection whose slot takes bytes again.
     fn take<R: Wait, P: Policy + Drop, Q: Ports>(
         &mut self,
         rt: &R,
@@ -81,15 +81,21 @@ impl Server {
         ports: &mut Q,
         buffer: &mut [u8],
         event: PortEvent,
-    )
+    ) -> Progress
         ensures goes { GoesAfter event (at core.old desk.old self.old (Q.report ports.old)) (at core.new desk.new self.new (Q.report ports.new)) }
         ensures stands { StandsOn core.old core.new self.old.clients self.new.clients }
-        ensures writable { (slot : ℕ) → event ≡ happened.Writable slot → self.new.clients.list.items ≡ freed_on slot self.old.clients.list.items }
-        ensures idle { event ≡ happened.Idle → self.new.clients.list.items ≡ map freed self.old.clients.list.items }
+        ensures writable { (slot : ℕ) → event ≡ happened.Writable slot → result ≡ progress.Still → self.new.clients.list.items ≡ freed_on slot self.old.clients.list.items }
+        ensures idle { event ≡ happened.Idle → result ≡ progress.Still → self.new.clients.list.items ≡ map freed self.old.clients.list.items }
     {
         match event {
-            PortEvent::Opened(slot, identity) => self.clients.open(core, ports, slot, identity),
-            PortEvent::Readable(slot) => self.read(rt, core, desk, ports, slot, buffer),
+            PortEvent::Opened(slot, identity) => {
+                self.clients.open(core, ports, slot, identity);
+                Progress::Still
+            }
+            PortEvent::Readable(slot) => {
+                self.read(rt, core, desk, ports, slot, buffer);
+                Progress::Still
+            }
             PortEvent::Writable(slot) => self.clients.unblock(slot),
             PortEvent::Idle => self.clients.unblock_all(),
         }

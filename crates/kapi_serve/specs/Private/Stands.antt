@@ -87,9 +87,9 @@ IsServed c = c.pending.count < 1048576 → (c.fed ≡ false) ⊎ (c.phase ≡ ph
 -- nothing can be done at a client before its slot reports something, or the objects of the machine change
 pub record IsQuiet (c : Client) : Type 0 where
   pub phase : c.phase ≡ phase.Open
-  pub fed : c.fed ≡ false
-  pub shown : is_some c.watching ≡ true → c.shown ≡ true
-  pub owed : owed c.pending ≡ []
+  pub fed : c.pending.count < 1048576 → c.fed ≡ false
+  pub shown : c.pending.count < 1048576 → is_some c.watching ≡ true → c.shown ≡ true
+  pub owed : c.blocked ≡ false → owed c.pending ≡ []
 
 -- where a change after the revision may concern the watch of the client, that may have something to show
 abbrev pub IsRoused : Machine → ℕ → Client → Type 0
