@@ -1,5 +1,6 @@
 pub mod Looks
 pub mod Finds
+pub mod Ordered
 pub mod Changed
 pub mod Reindexed
 pub mod Meant

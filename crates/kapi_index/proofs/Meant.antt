@@ -67,7 +67,10 @@ abbrev pub asked : Identity → Bound → Bool
 asked identity b = is_key identity.user b.keys.users || list_any (λ g. is_key g b.keys.groups) identity.groups
 
 pub asked_means : (namespace : List ℕ) (identity : Identity) (b : Bound) → IsPrepared namespace b → means namespace identity b.binding ≡ asked identity b
-asked_means namespace identity b prepared = meant namespace identity b.binding.subjects ∙ rw (prepared.users, prepared.groups) refl
+asked_means namespace identity b prepared =
+    meant namespace identity b.binding.subjects
+    ∙ ap (λ t. t || list_any (λ g. is_key g (groups_of b.binding.subjects)) identity.groups) (sym (prepared.users identity.user))
+    ∙ ap (λ t. is_key identity.user b.keys.users || t) (any_same _ _ (λ g. sym (prepared.groups g)) identity.groups)
 
 -- the bindings that match the identity are those whose keys are asked for
 pub left_asked : (namespace : List ℕ) (identity : Identity) (start : Start (List ℕ)) (es : List (List ℕ × Bound)) → ArePrepared namespace es

@@ -28,6 +28,10 @@ AreOrdered sets = (key : List ℕ) → IsStrictlySortedBy name_cmp (names_at set
 abbrev pub is_key : List ℕ → List (List ℕ) → Bool
 is_key key keys = list_any (λ x. bytes_eq x key) keys
 
+-- the keys are the others, whatever their order
+abbrev pub AreKeys : List (List ℕ) → List (List ℕ) → Type 0
+AreKeys keys others = (key : List ℕ) → is_key key keys ≡ is_key key others
+
 -- each key has the names that it had
 abbrev pub AreSame : List (List ℕ × List (List ℕ)) → List (List ℕ × List (List ℕ)) → Type 0
 AreSame old new = (k n : List ℕ) → has_name new k n ≡ has_name old k n

@@ -12,7 +12,7 @@ use Rattle.kapi_model.specs.Subjects.{subject_matches}
 use Rattle.kapi_model.specs.declared.binding.RoleBinding.{RoleBinding}
 use Rattle.kapi_model.specs.declared.identity.Identity.{Identity}
 use Rattle.kapi_policy.specs.Objects.{name_cmp}
-use Rattle.kapi_index.specs.Listed.{AreOrdered, has_name, is_key, names_at}
+use Rattle.kapi_index.specs.Listed.{AreKeys, AreOrdered, has_name, is_key, names_at}
 use Rattle.kapi_index.specs.Prepared.{groups_of, users_of}
 use Rattle.kapi_index.specs.declared.scope.Bound.{Bound}
 
@@ -70,8 +70,8 @@ first_name users groups identity start =
 
 -- the keys of a binding are those of its subjects
 pub record IsPrepared (namespace : List ℕ) (b : Bound) : Type 0 where
-  pub users : b.keys.users ≡ users_of namespace b.binding.subjects
-  pub groups : b.keys.groups ≡ groups_of b.binding.subjects
+  pub users : AreKeys b.keys.users (users_of namespace b.binding.subjects)
+  pub groups : AreKeys b.keys.groups (groups_of b.binding.subjects)
 
 -- each binding has the keys of its subjects
 abbrev pub ArePrepared : List ℕ → List (List ℕ × Bound) → Type 0

@@ -2,19 +2,21 @@
 ghost use Rattle.std.specs.Prelude.{◌≡◌, ◌++◌, IfOk, OnOk};
 ghost use Rattle.kapi_index.specs.Prepared.{account_users, group_of, groups_of, user_of, users_of};
 
+use crate::key_list::KeyList;
 use kapi_model::{Subject, account_namespace, account_user};
-use kapi_text::{Memory, Sequence, Text, TryCopy};
+use kapi_text::{Memory, Text, TryCopy};
 use std::alloc::Global;
 
 /// The users and groups that the subjects of a binding match. A service account is the user that it is.
 #[derive(Drop)]
 pub struct Keys {
-    pub users: Sequence<Text>,
-    pub groups: Sequence<Text>,
+    pub users: KeyList,
+    pub groups: KeyList,
 }
 
 impl Keys {
     ghost use Rattle.std.specs.Prelude.{◌≡◌, [], IfOk};
+    ghost use Rattle.kapi_index.specs.Listed.{AreKeys};
     ghost use Rattle.kapi_index.specs.Prepared.{groups_of, users_of};
 
     /// The keys of no subject. Allocates nothing.
@@ -23,21 +25,21 @@ impl Keys {
         ensures groups { result.groups ≡ [] }
     {
         Keys {
-            users: Sequence::new(Vec::new(alloc)),
-            groups: Sequence::new(Vec::new(alloc)),
+            users: KeyList::none(alloc),
+            groups: KeyList::none(alloc),
         }
     }
 
     /// The keys of the subjects of a binding in the namespace.
     pub fn of(alloc: Global, namespace: &str, subjects: &[Subject]) -> Result<Keys, Memory>
-        ensures users { IfOk result (λ k. k.users ≡ users_of namespace.now subjects.now) }
-        ensures groups { IfOk result (λ k. k.groups ≡ groups_of subjects.now) }
+        ensures users { IfOk result (λ k. AreKeys k.users (users_of namespace.now subjects.now)) }
+        ensures groups { IfOk result (λ k. AreKeys k.groups (groups_of subjects.now)) }
     {
         let users = users(alloc, namespace, subjects)?;
         let groups = groups(alloc, subjects)?;
         Ok(Keys {
-            users: Sequence::new(users),
-            groups: Sequence::new(groups),
+            users: KeyList::of(users),
+            groups: KeyList::of(groups),
         })
     }
 }

@@ -3,6 +3,7 @@
 
 mod all;
 mod indexed;
+mod key_list;
 mod keys;
 mod name_tree;
 mod names;

@@ -71,23 +71,11 @@ fn index(
     ensures ordered_users { AreOrdered users.old.entries → AreOrdered users.new.entries }
     ensures ordered_groups { AreOrdered groups.old.entries → AreOrdered groups.new.entries }
 {
-    add_all(
-        alloc,
-        users,
-        keys.users.as_slice(),
-        kept.users.as_slice(),
-        name,
-    )?;
-    match add_all(
-        alloc,
-        groups,
-        keys.groups.as_slice(),
-        kept.groups.as_slice(),
-        name,
-    ) {
+    add_all(alloc, users, keys.users.as_slice(), &kept.users, name)?;
+    match add_all(alloc, groups, keys.groups.as_slice(), &kept.groups, name) {
         Ok(_) => Ok(()),
         Err(refused) => {
-            remove_all(users, keys.users.as_slice(), kept.users.as_slice(), name);
+            remove_all(users, keys.users.as_slice(), &kept.users, name);
             Err(refused)
         }
     }
@@ -100,8 +88,8 @@ fn unindex(users: &mut NameSets, groups: &mut NameSets, keys: &Keys, kept: &Keys
     ensures ordered_users { AreOrdered users.old.entries → AreOrdered users.new.entries }
     ensures ordered_groups { AreOrdered groups.old.entries → AreOrdered groups.new.entries }
 {
-    remove_all(users, keys.users.as_slice(), kept.users.as_slice(), name);
-    remove_all(groups, keys.groups.as_slice(), kept.groups.as_slice(), name);
+    remove_all(users, keys.users.as_slice(), &kept.users, name);
+    remove_all(groups, keys.groups.as_slice(), &kept.groups, name);
 }
 
 // The keys of the binding of a name, or none.

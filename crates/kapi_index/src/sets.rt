@@ -4,8 +4,9 @@ ghost use Rattle.std.specs.BTreeMap.Range.{is_from_start};
 ghost use Rattle.std.specs.List.{find};
 ghost use Rattle.std.specs.Range.Bound.{bound_map};
 ghost use Rattle.kapi_policy.specs.Objects.{name_cmp};
-ghost use Rattle.kapi_index.specs.Listed.{Adds, AreOrdered, AreSame, HasAt, Removes, is_key as is_key_of, names_at};
+ghost use Rattle.kapi_index.specs.Listed.{Adds, AreOrdered, AreSame, HasAt, Removes, names_at};
 
+use crate::key_list::KeyList;
 use crate::names::NameSet;
 use kapi_text::{Memory, Text, TryCopy};
 use std::alloc::Global;
@@ -77,24 +78,18 @@ fn remove(sets: &mut NameSets, key: &Text, name: &Text)
     }
 }
 
-fn is_key(key: &Text, keys: &[Text]) -> bool
-    ensures { result ≡ is_key_of key.now keys.now }
-{
-    keys.iter().any(|other| other == key)
-}
-
 // Takes the name out under the key, unless the key is one of those that are kept.
-fn remove_unless_kept(sets: &mut NameSets, key: &Text, kept: &[Text], name: &Text)
+fn remove_unless_kept(sets: &mut NameSets, key: &Text, kept: &KeyList, name: &Text)
     ensures gone { Removes (key.now ∷ []) kept.now name.now sets.old.entries sets.new.entries }
     ensures ordered { AreOrdered sets.old.entries → AreOrdered sets.new.entries }
 {
-    if !is_key(key, kept) {
+    if !kept.contains(key) {
         remove(sets, key, name);
     }
 }
 
 /// Takes the name out under the keys, but for the keys that are kept.
-pub fn remove_all(sets: &mut NameSets, keys: &[Text], kept: &[Text], name: &Text)
+pub fn remove_all(sets: &mut NameSets, keys: &[Text], kept: &KeyList, name: &Text)
     ensures gone { Removes keys.now kept.now name.now sets.old.entries sets.new.entries }
     ensures ordered { AreOrdered sets.old.entries → AreOrdered sets.new.entries }
 {
@@ -108,7 +103,7 @@ pub fn add_all(
     alloc: Global,
     sets: &mut NameSets,
     keys: &[Text],
-    kept: &[Text],
+    kept: &KeyList,
     name: &Text,
 ) -> Result<(), Memory>
     requires had { HasAt kept.now name.now sets.old.entries }
