@@ -1,10 +1,9 @@
-# make demo      plays scripts/demo.txt and shows it as a transcript, each event with its answer; it proves nothing (wants python3)
-# make replay    plays the stored transcript of a policy; it proves nothing
+# make demo      shows an example, of EXAMPLE=demo, audit, compare or replay; it proves nothing (wants python3)
 # make test      the gate: every proof, but where the kit keeps what an earlier run on this machine passed over the same files, the must-fail edits, the tests and the program's stored run
 # make kapi      says where the program lies that `make test` proved and built of these sources; where there is none, runs it
 # make install   proves and builds the program and copies it to PREFIX/bin, which is /usr/local/bin if PREFIX is not named
 # make serve     proves and builds the program, and starts it as a server on 127.0.0.1: port 8001 for root, port 8002 for ann
-# make serve-demo starts the same server for ten minutes, says when it is up, and proves nothing first (wants curl)
+# make serve-demo starts the same server for ten minutes, and proves nothing first
 # make growths   plays each script of the folder SCRIPTS, or each case of a transcript of that name that loads no file and rechecks no rights, with every growth of memory refused in turn (wants cc and python3)
 # make live      changes the policy of a server while two clients ask what it allows, and looks at what they are told (wants python3)
 # make hostile   attacks a server as a client without rights may, sends it policies that are made to be costly, and prints what each costs (wants python3)
@@ -15,8 +14,6 @@
 # make statuses  the program's exit statuses, what it writes on standard error, and that it serves the kinds of tools/kinds.txt (wants python3)
 # make pages     runs the commands of docs/USING.md, docs/COMPARE.md and docs/AUDIT.md, and looks whether they print what the pages show (wants curl, jq and python3)
 # make edits     tries the edits of crates/NAME/edits, which the gate does not, of all crates or of those that CRATES names; takes hours for all
-# make audit-demo  answers a stored file of questions by a stored policy; it proves nothing
-# make compare-demo  compares two stored policies, and asks of one who may read secrets and who could become anybody; it proves nothing
 # make compare-random  compares random pairs of policies with a plain search (wants python3)
 # make load      proves and builds the program, and prints what a server does under load (wants cc, python3 and wrk)
 # make instructions  proves and builds the program, and counts the instructions and allocations of a request (wants python3 and valgrind)
@@ -24,21 +21,18 @@
 # make bench     proves and builds the program, and prints what its events and questions cost (wants python3); with MODE=load it is make load
 
 SCRIPTS ?= scripts
+EXAMPLE ?= demo
 PREFIX ?= /usr/local
 PYTHON ?= python3
 KUBECTL ?= kubectl
 PROGRAM = crates/kapi/out/kapi
 PROVED = crates/kapi/out/proved
 
-.PHONY: pages audit-demo compare-demo compare-random demo replay test kapi install serve serve-demo edits growths live missing rechecks hostile restart kubectl-demo statuses bench load instructions samples
+.PHONY: pages compare-random demo test kapi install serve serve-demo edits growths live missing rechecks hostile restart kubectl-demo statuses bench load instructions samples
 
 demo:
-	@echo 'Compiles the program without proofs, in one to three minutes, and plays scripts/demo.txt: each event (>) with its answer below.'
-	@answers=$$(mktemp) && (cd crates/kapi && sh ../../tools/try.sh -- script < ../../scripts/demo.txt) > $$answers && python3 tools/transcript.py scripts/demo.txt $$answers; status=$$?; rm -f $$answers; exit $$status
-
-replay:
-	@echo 'Compiles the program without proofs, in one to three minutes, and plays scripts/replay/support.txt.'
-	@cd crates/kapi && sh ../../tools/try.sh --data scripts/replay/policy.jsonl=../../scripts/replay/policy.jsonl --data support.txt=../../scripts/replay/support.txt -- replay support.txt
+	@sh tools/unproved.sh
+	@cd examples/$(EXAMPLE) && PATH="$(CURDIR)/out/try:$$PATH" sh -v command
 
 test:
 	@rt ci
@@ -55,10 +49,15 @@ edits:
 	@sh tools/edits.sh $(CRATES)
 
 serve: kapi
-	@$(PROGRAM) serve --load scripts/serve/objects.jsonl --first-revision clock 8001=root,system:masters 8002=ann,system:authenticated
+	@cd examples/serve && PATH="$(CURDIR)/crates/kapi/out:$$PATH" sh -v command
 
 serve-demo:
-	@sh tools/serve_demo.sh
+	@sh tools/unproved.sh
+	@echo 'Port 8001 is for root, port 8002 for ann. When it listens go on in another terminal, as docs/USING.md tells:'
+	@echo '  curl -s 127.0.0.1:8002/api/v1/namespaces/default/configmaps     what ann may list'
+	@echo '  curl -s 127.0.0.1:8002/api/v1/namespaces/default/secrets        what ann may not'
+	@cd examples/serve && PATH="$(CURDIR)/out/try:$$PATH" timeout --foreground 600 $$(cat command) || test $$? = 124
+	@echo 'The server has ended, as it does after ten minutes.'
 
 growths: kapi
 	@cc -shared -fPIC -O2 -o crates/kapi/out/refuse.so tools/refuse.c -ldl
@@ -87,14 +86,6 @@ pages: kapi
 
 statuses: kapi
 	@sh tools/statuses.sh $(PROGRAM) && python3 tools/kinds.py $(PROGRAM)
-
-audit-demo:
-	@echo 'Compiles the program without proofs, in one to three minutes, and answers scripts/audit/questions.jsonl, a line each.'
-	@cd crates/kapi && sh ../../tools/try.sh --data policy.jsonl=../../scripts/audit/policy.jsonl --data questions.jsonl=../../scripts/audit/questions.jsonl -- audit policy.jsonl questions.jsonl
-
-compare-demo:
-	@echo 'Compiles the program without proofs, in one to three minutes, for each of three commands, and shows what it prints and its status.'
-	@cd crates/kapi && for words in 'compare before.jsonl after.jsonl' 'who after.jsonl get secrets --namespace shop' 'risks after.jsonl'; do echo "kapi $$words"; sh ../../tools/try.sh --data before.jsonl=../../scripts/compare/before.jsonl --data after.jsonl=../../scripts/compare/after.jsonl -- $$words; echo "status $$?"; done
 
 compare-random: kapi
 	@python3 tools/compare.py $(PROGRAM)

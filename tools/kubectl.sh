@@ -5,7 +5,7 @@ kubectl=${2:-kubectl}
 here=$(dirname "$0")
 room=$(mktemp -d)
 export HOME="$room"
-"$program" serve --load "$here/../scripts/serve/objects.jsonl" --first-revision clock 8031=root,system:masters > "$room/served" &
+"$program" serve --load "$here/../examples/serve/objects.jsonl" --first-revision clock 8031=root,system:masters > "$room/served" &
 served=$!
 python3 "$here/door.py" 8041 8031 > "$room/door" &
 door=$!

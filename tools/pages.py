@@ -5,7 +5,7 @@ usage: pages.py PROGRAM      PROGRAM is the built program; wants curl and jq, an
 
 A block of a page is run where its first line is a command; the next block without commands is what the page shows. Lines with kubectl, jq or make are
 left out. The server is started with the objects of the page, and with the options that a command `kapi serve` of the page has. An indented line that
-begins with `$` is a command, run in scripts/compare, and the indented lines below it are what it prints. The jq command of AUDIT is run on scripts/audit/cluster.json,
+begins with `$` is a command, run in examples/compare, and the indented lines below it are what it prints. The jq command of AUDIT is run on examples/audit/cluster.json,
 and what it makes is audited by the stored questions. Status 1 where a line lacks.
 """
 import os
@@ -21,7 +21,7 @@ import urllib.error
 import urllib.request
 
 HERE = pathlib.Path(__file__).resolve().parent.parent
-START = "kapi serve --load scripts/serve/objects.jsonl 8001=root,system:masters 8002=ann,system:authenticated"
+START = "kapi serve --load examples/serve/objects.jsonl 8001=root,system:masters 8002=ann,system:authenticated"
 RUN, LEFT_OUT = ("curl ", "printf ", "kapi "), ("kubectl", "jq ", "make ")
 COMMANDS = (*RUN, *LEFT_OUT, "echo ", "python3 ")
 
@@ -123,7 +123,7 @@ def indented(program, name):
     for line in (HERE / name).read_text(encoding="utf-8").splitlines():
         if line.startswith("    $ "):
             words = line[6:].replace("kapi ", f"{shlex.quote(program)} ", 1)
-            printed = subprocess.run(words, shell=True, cwd=HERE / "scripts/compare", capture_output=True, text=True, timeout=60).stdout.splitlines()
+            printed = subprocess.run(words, shell=True, cwd=HERE / "examples/compare", capture_output=True, text=True, timeout=60).stdout.splitlines()
         elif line.startswith("    ") and printed:
             count += 1
             lacking += [] if line[4:] in printed else [line[4:]]
@@ -134,7 +134,7 @@ def indented(program, name):
 
 def audited(program):
     """How many lines of the stored audit were looked for, its policy made by the command of AUDIT, and those that lack."""
-    stored = HERE / "scripts/audit"
+    stored = HERE / "examples/audit"
     commands = next(lines for language, lines in blocks((HERE / "docs/AUDIT.md").read_text(encoding="utf-8")) if language == "sh")
     with tempfile.TemporaryDirectory() as room:
         shutil.copy(stored / "cluster.json", room)

@@ -1,7 +1,7 @@
 #!/bin/sh
 # The program's exit statuses, and what it writes on standard error, servers that do not start among them; what audits of the stored files print. usage: statuses.sh PROGRAM
 program=$(realpath "$1")
-stored=$(dirname "$0")/../scripts/audit
+stored=$(dirname "$0")/../examples/audit
 room=$(mktemp -d)
 trap 'rm -rf "$room"' EXIT
 wrong=0
@@ -247,7 +247,7 @@ differs() {
     fi
 }
 
-(cd "$(dirname "$0")/.." && "$program" replay scripts/replay/support.txt) > "$room/played" 2>&1; status=$?; error=$(grep -v ': 12 answers$' "$room/played")
+(cd "$(dirname "$0")/../examples/replay" && "$program" replay support.txt) > "$room/played" 2>&1; status=$?; error=$(grep -v ': 12 answers$' "$room/played")
 sees 'a replay of the stored transcript' 0 ''
 differs 'another code' '= 404' 3
 differs 'a text that is not there' '= 200\n= 200 other' 4
@@ -468,7 +468,7 @@ page=$(dirname "$0")/../docs/COMPARE.md
 awk '/^```/ { code = !code } !code && sub(/^    /, "")' "$page" > "$room/page"
 grep '^\$ ' "$room/page" | sed 's/^\$ //' | while read -r command; do
     echo "\$ $command"
-    (cd "$(dirname "$page")/../scripts/compare" && eval "$(echo "$command" | sed "s|kapi|$program|")")
+    (cd "$(dirname "$page")/../examples/compare" && eval "$(echo "$command" | sed "s|kapi|$program|")")
 done > "$room/told"
 answers_page=$(diff "$room/page" "$room/told") || { echo "docs/COMPARE.md: $answers_page"; wrong=1; }
 [ "$(grep -c '^\$ ' "$room/page")" = 3 ] || { echo 'docs/COMPARE.md: not three commands'; wrong=1; }

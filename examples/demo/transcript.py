@@ -1,5 +1,5 @@
 #!/usr/bin/env python3
-"""Shows a script as a transcript: each event with its answer under it, wrapped to be read. usage: transcript.py SCRIPT ANSWERS"""
+"""Shows a script as a transcript: each event with its answer, from standard input, under it, wrapped to be read. usage: transcript.py SCRIPT"""
 import re
 import sys
 
@@ -32,7 +32,7 @@ def shown(first, text):
 
 def main():
     events = open(sys.argv[1], encoding="utf-8").read().splitlines()
-    answers = iter(open(sys.argv[2], encoding="utf-8").read().splitlines())
+    answers = iter(sys.stdin.read().splitlines())
     for event in events:
         if not event:
             continue
