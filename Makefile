@@ -12,7 +12,7 @@
 # make restart   kills a server behind a running informer and starts it again (wants python3 with the package kubernetes, which PYTHON may name)
 # make kubectl-demo  starts a server and the door for kubectl before it, and runs the commands of docs/USING.md (wants kubectl and python3)
 # make statuses  the program's exit statuses, what it writes on standard error, and that it serves the kinds of tools/kinds.txt (wants python3)
-# make pages     runs the commands of docs/USING.md, docs/COMPARE.md and docs/AUDIT.md, and looks whether they print what the pages show (wants curl, jq and python3)
+# make pages     runs the commands of docs/USING.md and docs/AUDIT.md, and looks whether they print what the pages show (wants curl, jq and python3)
 # make edits     tries the edits of crates/NAME/edits, which the gate does not, of all crates or of those that CRATES names; takes hours for all
 # make compare-random  compares random pairs of policies with a plain search (wants python3)
 # make load      proves and builds the program, and prints what a server does under load (wants cc, python3 and wrk)
@@ -82,10 +82,10 @@ kubectl-demo: kapi
 	@sh tools/kubectl.sh $(PROGRAM) $(KUBECTL)
 
 pages: kapi
-	@$(PYTHON) tools/pages.py $(PROGRAM)
+	@$(PYTHON) -m checks.pages $(PROGRAM)
 
 statuses: kapi
-	@sh tools/statuses.sh $(PROGRAM) && python3 tools/kinds.py $(PROGRAM)
+	@python3 -m checks.statuses $(PROGRAM) && python3 tools/kinds.py $(PROGRAM)
 
 compare-random: kapi
 	@python3 tools/compare.py $(PROGRAM)

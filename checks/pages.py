@@ -1,12 +1,10 @@
-#!/usr/bin/env python3
-"""Runs the commands of docs/USING.md, docs/COMPARE.md and docs/AUDIT.md as they stand there, and looks whether what a page shows is printed.
+"""Runs the commands of docs/USING.md and docs/AUDIT.md and the example of `kapi serve --help`, and looks whether what stands there is printed.
 
-usage: pages.py PROGRAM      PROGRAM is the built program; wants curl and jq, and for its Python block the package kubernetes
+usage: python3 -m checks.pages PROGRAM      wants curl and jq, and for the Python block of a page the package kubernetes
 
 A block of a page is run where its first line is a command; the next block without commands is what the page shows. Lines with kubectl, jq or make are
-left out. The server is started with the objects of the page, and with the options that a command `kapi serve` of the page has. An indented line that
-begins with `$` is a command, run in examples/compare, and the indented lines below it are what it prints. The jq command of AUDIT is run on examples/audit/cluster.json,
-and what it makes is audited by the stored questions. Status 1 where a line lacks.
+left out. The server is started with the objects of the page, and with the options that a command `kapi serve` of the page has. The jq command of
+AUDIT is run on examples/audit/cluster.json, and what it makes is audited by the stored questions. Status 1 where a line lacks.
 """
 import os
 import pathlib
@@ -17,8 +15,9 @@ import subprocess
 import sys
 import tempfile
 import time
-import urllib.error
-import urllib.request
+
+from checks.statuses import part, shell
+from tools.server import started
 
 HERE = pathlib.Path(__file__).resolve().parent.parent
 START = "kapi serve --load examples/serve/objects.jsonl 8001=root,system:masters 8002=ann,system:authenticated"
@@ -32,26 +31,21 @@ def blocks(page):
         yield match.group(1), match.group(2).splitlines()
 
 
-class Server:
+class Page:
+    """The server that a page's commands ask."""
+
     def __init__(self, program):
         self.program, self.process = program, None
 
     def start(self, command):
-        """Starts the server anew, with the words of a command."""
+        """Starts it anew, with the words of a command."""
         self.stop()
         words = [self.program, *[it for it in shlex.split(command)[1:] if it not in ("--first-revision", "clock")]]
-        self.process = subprocess.Popen(words, cwd=HERE, stdout=subprocess.DEVNULL)
-        for _ in range(100):
-            try:
-                urllib.request.urlopen("http://127.0.0.1:8001/healthz", timeout=5)
-                return
-            except (urllib.error.URLError, OSError):
-                time.sleep(0.1)
-        sys.exit(f"{command}: does not start")
+        self.process = started(words, sum("=" in it for it in words) + words.count("--answer"), cwd=HERE)
 
     def stop(self):
         if self.process:
-            self.process.terminate()
+            self.process.kill()
             self.process.wait()
 
 
@@ -117,21 +111,6 @@ def looked_at(server, name, room):
     return count, lacking
 
 
-def indented(program, name):
-    """How many lines below the indented commands of a page were looked for, and those that lack."""
-    count, lacking, printed = 0, [], []
-    for line in (HERE / name).read_text(encoding="utf-8").splitlines():
-        if line.startswith("    $ "):
-            words = line[6:].replace("kapi ", f"{shlex.quote(program)} ", 1)
-            printed = subprocess.run(words, shell=True, cwd=HERE / "examples/compare", capture_output=True, text=True, timeout=60).stdout.splitlines()
-        elif line.startswith("    ") and printed:
-            count += 1
-            lacking += [] if line[4:] in printed else [line[4:]]
-        else:
-            printed = []
-    return count, lacking
-
-
 def audited(program):
     """How many lines of the stored audit were looked for, its policy made by the command of AUDIT, and those that lack."""
     stored = HERE / "examples/audit"
@@ -145,13 +124,21 @@ def audited(program):
     return sum(len(wanted) for wanted, _ in pairs), [line for wanted, printed in pairs if wanted != printed for line in wanted]
 
 
+def served(program, room):
+    """How many answers of the example of `kapi serve --help` were looked for, and those that lack."""
+    text = subprocess.run([program, "serve", "--help"], capture_output=True, text=True).stdout
+    told = shell(program, part(text, "Example:").replace("8001", "60011").replace("8002", "60012"), room)
+    wanted = ['listening 60011\nlistening 60012\n{"apiVersion":"v1","data":{"k":"v"},"kind":"ConfigMap"', '"code":403,']
+    return len(wanted), [] if told.startswith(wanted[0]) and wanted[1] in told else [told]
+
+
 def main(program):
     program = os.path.abspath(program)
-    server = Server(program)
+    server = Page(program)
     with tempfile.TemporaryDirectory() as room:
         try:
             server.start(START)
-            pages = {"docs/USING.md": looked_at(server, "docs/USING.md", room), "docs/COMPARE.md": indented(program, "docs/COMPARE.md"), "docs/AUDIT.md": audited(program)}
+            pages = {"docs/USING.md": looked_at(server, "docs/USING.md", room), "docs/AUDIT.md": audited(program), "kapi serve --help": served(program, room)}
         finally:
             server.stop()
     for name, (count, lacking) in pages.items():

@@ -1,0 +1,370 @@
+"""The program's exit statuses, what it writes on standard error, and of some commands what it prints; servers that do not start among them.
+
+usage: python3 -m checks.statuses PROGRAM     wants bash
+"""
+import os
+import pathlib
+import re
+import shlex
+import shutil
+import subprocess
+import sys
+import tempfile
+import urllib.request
+from dataclasses import dataclass, field
+
+from tools.server import ROOT, Server
+
+
+@dataclass
+class Case:
+    """Words of a command, its status, and its lines on standard error. A pattern stands for whatever it matches, None for anything."""
+
+    words: object
+    status: int
+    error: object = ""
+    told: object = None
+    input: str = ""
+    files: dict = field(default_factory=dict)
+    folder: str = ""
+    is_full: bool = False
+
+
+def fault(program, case, room):
+    """What came where it is otherwise than the case says."""
+    for name, text in case.files.items():
+        (room / name).write_bytes(text.encode("latin-1"))
+    words = shlex.split(case.words) if isinstance(case.words, str) else case.words
+    with open("/dev/full", "wb") as full:
+        how = {"stdout": full if case.is_full else subprocess.PIPE, "stderr": subprocess.PIPE, "timeout": 60}
+        ran = subprocess.run([program, *words], input=case.input.encode("latin-1"), cwd=room / case.folder, **how)
+    got = {"status": ran.returncode, "error": ran.stderr.decode().removesuffix("\n"), "told": (ran.stdout or b"").decode()}
+    return {name: text for name, text in got.items() if not fits(getattr(case, name), text)}
+
+
+def fits(wanted, text):
+    return wanted is None or (wanted.fullmatch(text) is not None if isinstance(wanted, re.Pattern) else wanted == text)
+
+
+# A script of such a line behind three others is not played to its end, for this reason.
+EVENT = "no event: open USER[,GROUP..], feed N TEXT, serve N, pump N, turn or close N, one space between words; try 'kapi script --help'"
+CRLF = "the line ends with CR LF; a line of a script ends with LF alone"
+FEED = "too few words: feed N TEXT is wanted"
+NUMBER = "the connection is no number of 1 to 18 digits; 'open' answers the number"
+ESCAPE = r"a backslash in the text begins no escape; those are \\, \n, \r, \t and \x with two hexadecimal digits"
+FEW = "too few words: the number of a connection is wanted, as in serve 0"
+NO_NAME = "a name is empty: USER or USER,GROUP,.. is wanted"
+BAD_EVENTS = {
+    "list\n": EVENT,
+    "list": EVENT,
+    " turn\nlist\nopen a\n": EVENT,
+    "turn 0\n": EVENT,
+    "turn\r\n": CRLF,
+    "serve 0\r\n": CRLF,
+    "open\n": "too few words: open USER or open USER,GROUP,.. is wanted",
+    "open a,,b\n": NO_NAME,
+    "open \xff\n": "a name is no UTF-8",
+    "feed 0\n": FEED,
+    "feed\n": FEED,
+    "feed a GET\n": NUMBER,
+    "feed  0 GET\n": NUMBER,
+    "feed 0 GET\\q\n": ESCAPE,
+    "feed 0 GET\\x1\n": ESCAPE,
+}
+for word in ("serve", "pump", "close"):
+    BAD_EVENTS |= {f"{word}\n": FEW, f"{word} x\n": NUMBER, f"{word} 1234567890123456789\n": NUMBER,
+                   f"{word} 0 0\n": "too many words or spaces: one number stands behind one space"}
+SCRIPTS = [
+    Case("script", 0, input="open a\nserve 0\n"),
+    *[Case("script", 1, f"bad line 4\n  {reason}", input=f"open a\n\n# list\n{line}") for line, reason in BAD_EVENTS.items()],
+    Case("script", 1, f"bad line 40002\n  {NUMBER}", input="# a comment\n" * 20_000 + "open a\n" + "# another\n" * 20_000 + "close x"),
+    Case("script", 1, f"bad line 2\n  {ESCAPE}", input="open a\nfeed 0 " + "a" * 200_000 + "\\q\nlist\n"),
+    Case("script", 1, "the answers cannot be written", input="open a\n", is_full=True),
+]
+
+# Words that name no command: what is wrong with them, and the usage that is told.
+COMMANDS = ("script", "audit", "serve", "replay", "compare", "who", "risks")
+REQUIRED = "the following required arguments were not provided:\n  "
+MISUSED = (
+    ("", f"'kapi' requires a subcommand but one was not provided\n  [subcommands: {', '.join(COMMANDS)}, help]", "kapi <COMMAND>"),
+    ("scribble", "unrecognized subcommand 'scribble'\n\n  tip: a similar subcommand exists: 'script'", "kapi <COMMAND>"),
+    ("serve --lod x 8001=a", "unexpected argument '--lod' found\n\n  tip: a similar argument exists: '--load'", "kapi serve --load <FILE> <PORT=USER[,GROUP..]>..."),
+    ("serve", f"{REQUIRED}<PORT=USER[,GROUP..]>...", "kapi serve <PORT=USER[,GROUP..]>..."),
+    ("audit empty empty third", "unexpected argument 'third' found", "kapi audit [OPTIONS] <POLICY> <QUESTIONS>"),
+    ("replay", f"{REQUIRED}<FILE>...", "kapi replay <FILE>..."),
+)
+# Words with a value that is not of its form: the value, the argument, the form, and the command.
+READERS = ("--readers <N>", "a number from 1 to 16")
+PORTS = ("PORT=USER[,GROUP..]", "a port from 1 to 65535, a user, and any groups behind commas, as 8001=ann,dev")
+ANSWERS = ("--answer <PORT>", "a port is a number from 1 to 65535")
+FIRST = ("--first-revision <N|clock>", "'clock', or a number from 0 to 281474976710650")
+REFUSED = (
+    *[(["audit", "empty", "empty", f"--readers={it}"], it, *READERS) for it in ("0", "17", "x", "+2", "0x2", "002", "", " 2", "2 ")],
+    *[(["serve", "1=a", it], it, *PORTS) for it in ("8001", "0=a", "65536=a", "8001=", "=a", "8001=a,", "+1=a", "000001=a")],
+    *[(["serve", "--readers", it, "1=a"], it, *READERS) for it in ("0", "17")],
+    *[(["serve", "--answer", it, "1=a"], it, *ANSWERS) for it in ("0", "+1")],
+    *[(["serve", "--first-revision", it, "1=a"], it, *FIRST) for it in ("x", "+1", "281474976710651")],
+)
+# Questions about policies that lack a word or have one too many.
+UNASKED = (
+    "compare", "compare a", "compare a b c", "compare --json a", "compare --table a b", "who", "who a", "who a get", "who a get pods b",
+    "who a get pods --questions b", "who a --questions b --namespace c", "who a --questions b --name c", "who a get pods --namespace",
+    "who --questions b", "risks", "risks a b", "risks --json",
+)
+FULL = "kapi: what it prints cannot be written, as the disk is full"
+WORDS = [
+    *[Case(words, 2, f"error: {wrong}\n\nUsage: {usage}\n\nFor more information, try '--help'.") for words, wrong, usage in MISUSED],
+    *[Case(words, 2, f"error: invalid value '{value}' for '{name}': {form}\n\nFor more information, try 'kapi {words[0]} --help'.") for words, value, name, form in REFUSED],
+    *[Case(words, 2, re.compile("error: .*For more information, try '.*--help'.", re.S)) for words in UNASKED],
+    *[Case(words, 0) for words in ("--help", "--version", "help", *[f"{it} --help" for it in COMMANDS])],
+    *[Case(words, 1, FULL, is_full=True) for words in ("--help", "audit audit/policy.jsonl audit/questions.jsonl", "risks audit/policy.jsonl", "serve 60003=a")],
+]
+
+# What audits of the stored files print, and policies of one line that are not loaded, for this reason.
+EXAMPLES = pathlib.Path("examples")
+POLICY, QUESTIONS, STORED = ((EXAMPLES / "audit" / it).read_text() for it in ("policy.jsonl", "questions.jsonl", "answers"))
+WHOLE = "it is no whole JSON object; each line has one, as 'jq -c' writes it"
+KIND = "apiVersion and kind: required, each a text"
+SPACES = ("\r\n", " \n", "\t\r\n")
+RBAC = "rbac.authorization.k8s.io"
+FAULTY = f'{{"apiVersion":"{RBAC}/v1","kind":"Role","metadata":{{"name":"r","namespace":"NAMESPACE"}},"rules":[{{"apiGroups":[""],"resources":["pods"]}}]}}'
+UNLOADED = {
+    '{"kind":': WHOLE,
+    '{"kind":Role}': "it is no JSON: the fault is at column 9",
+    "[]": "it is JSON, and no object",
+    '{"apiVersion":"v1","kind":"List","items":[]}': "kind 'List' of apiVersion 'v1' is not served; docs/PROFILE.md names those that are",
+    f'{{"apiVersion":"{RBAC}/v1beta1","kind":"Role"}}': f"apiVersion: a Role has '{RBAC}/v1', and not '{RBAC}/v1beta1'",
+    '{"apiVersion":"authorization.k8s.io/v1","kind":"SubjectAccessReview","spec":{}}': "a SubjectAccessReview is answered and not kept, so none can be loaded",
+    '{"apiVersion":"v1","kind":"ConfigMap","metadata":{"name":"a"}}': "metadata.namespace: required, as objects of this kind live in a namespace",
+    '{"apiVersion":"v1","kind":"ConfigMap","metadata":{"name":"a","namespace":"shop"}}': "namespaces shop not found",
+    '{"apiVersion":"v1","kind":"ConfigMap","metadata":{"name":"a","namespace":"a/b?"}}': "namespaces a/b? not found",
+    '{"apiVersion":"v1","kind":"Namespace","metadata":{"name":"default"}}': "namespaces default already exists",
+    '{"apiVersion":"v1","kind":"Namespace","metadata":{"name":"A"}}': "metadata.name: bad value",
+    '{"apiVersion":"v1","kind":"Namespace","metadata":{"name":"a"},"spec":1.5}': "it has a number with a fraction or an exponent, or one of more than 64 bits",
+    FAULTY.replace("NAMESPACE", "default"): "rules[0].verbs: required",
+}
+
+
+def with_crlf(text):
+    return "".join(f"{it}\r\n" for it in text.splitlines() if it)
+
+
+AUDITS = [
+    Case("audit audit/policy.jsonl audit/questions.jsonl", 0, told=STORED),
+    *[Case(f"audit audit/policy.jsonl audit/questions.jsonl --readers {it}", 0, told=STORED) for it in (1, 2, 3, 16)],
+    Case("audit policy questions", 0, told=STORED, files={"policy": with_crlf(POLICY), "questions": with_crlf(QUESTIONS).removesuffix("\r\n") + "\r"}),
+    Case("audit empty empty", 0, told=""),
+    Case("audit bad bad", 1, f"policy line 3\n  {KIND}"),
+    Case("audit audit/policy.jsonl bad", 1, "question line 3\n  as the spec of a SubjectAccessReview: spec.resourceAttributes: required; spec.user: required"),
+    Case("audit none bad", 1, "none: there is no such file"),
+    Case("audit audit bad", 1, "audit: it is a directory"),
+    *[Case("audit line empty", 1, f"policy line 1\n  {reason}", files={"line": f"{line}\n"}) for line, reason in UNLOADED.items()],
+    Case("audit lines empty", 0, files={"lines": '# a comment\r\n\n{"apiVersion":"v1","kind":"Namespace","metadata":{"name":"a"}} \t\r\n'}),
+    *[Case("audit lines empty", 1, f"policy line 2\n  {WHOLE}", files={"lines": f"\n{it}"}) for it in SPACES],
+    *[Case("audit empty lines", 1, f"question line 2\n  {WHOLE}", files={"lines": f"\n{it}"}) for it in SPACES],
+]
+
+# Lines behind a request, and the line that is told not to be as it is wanted.
+DIFFERENT = {
+    "= 404": 3,
+    "= 200\n= 200 other": 4,
+    "== {}": 3,
+    "~ other": 3,
+    "> none": 3,
+    "begin\n= 200": 4,
+    "= 200\nlist": 4,
+    "= 200\nas ,a": 4,
+    "= 200\nHost: a": 4,
+    "load none": 3,
+    "load objects": 3,
+}
+# Transcripts whose last line has no known form, for this reason.
+ASKED = "as root\nGET /healthz\n"
+CODE = "a code of three digits is wanted: = CODE or = CODE TEXT"
+TEXT = "a space and a text are wanted behind the sign: == BODY, ~ TEXT or > LINE"
+BEGINS = ("no line begins so; there are load, recheck, begin, as, GET, POST, PUT, PATCH, DELETE, pump, =, ==, ~, >, "
+          "and the events open, feed, serve, pump, turn and close")
+FORMLESS = {
+    f"{ASKED}list": BEGINS,
+    f"{ASKED}HEAD /healthz": BEGINS,
+    "begin 2": BEGINS,
+    "as a,": NO_NAME,
+    "as \xff": "a name is no UTF-8",
+    "as": "an identity is wanted: as USER or as USER,GROUP,..",
+    "load": "a file is wanted: load FILE",
+    **{f"{ASKED}{it}": CODE for it in ("=", "=200", "= 20", "= 2000", "= 20x", "= 200\t")},
+    **{f"{ASKED}{it}": TEXT for it in ("==", "~", ">")},
+    f"{ASKED}POST": "a target is wanted: METHOD TARGET or METHOD TARGET BODY",
+    f"{ASKED}begin\nGET /healthz": "nobody asks: 'as USER' or 'as USER,GROUP,..' comes before the first request of a case",
+    "pump": "nobody asks: 'as USER' or 'as USER,GROUP,..' comes before the first pump of a case",
+    "as a\nHost: a": "it is read as a header field, and there is no request directly above it",
+    f"{ASKED}recheck": "recheck comes before the first event of a case",
+    "begin\r": "the line ends with CR LF; a line of a transcript ends with LF alone",
+    f"{ASKED}serve": FEW,
+    f"{ASKED}close a": NUMBER,
+    f"{ASKED}feed 0 \\q": ESCAPE,
+}
+SHOP = '{"apiVersion":"v1","kind":"Namespace","metadata":{"name":"shop"}}\n'
+# Files of objects: what a transcript that loads them tells, and the reason.
+OBJECTS = (
+    ("{}\n", "load line 1", KIND),
+    (SHOP + "# a role\n\n" + FAULTY.replace("NAMESPACE", "shop") + '\n{"kind":\n', "load line 4", "rules[0].verbs: required"),
+    ('{"apiVersion":"v1","kind":"A\\nB\\u001b[1m"}\n', "load line 1", "kind 'A?B?[1m' of apiVersion 'v1' is not served; docs/PROFILE.md names those that are"),
+)
+
+
+def tells(lines, what, reason, **files):
+    """A transcript of these lines tells what is wrong with the last of them, and why."""
+    told = f"transcript:{len(lines.splitlines())}: {what}\n  {reason}\ntranscript: 0 answers, 1 not as wanted\n"
+    return Case("replay transcript", 1, told=told, files={"transcript": lines + "\n", **files})
+
+
+def differs(lines, at):
+    text = f"as root,system:masters\nGET /api/v1/namespaces/default\n{lines}\n"
+    return Case("replay transcript", 1, told=re.compile(rf"(.*\n)?transcript:{at}\b.*", re.S), files={"transcript": text, "objects": "{}\n"})
+
+
+REPLAYS = [
+    Case("replay support.txt", 0, told="support.txt: 12 answers\n", folder="replay"),
+    *[differs(*it) for it in DIFFERENT.items()],
+    *[tells(lines, "no known form", reason) for lines, reason in FORMLESS.items()],
+    *[tells("# a case\nload objects", what, reason, objects=objects) for objects, what, reason in OBJECTS],
+    Case("replay transcript", 1, files={"transcript": "as a\nbegin\n= 200\n"},
+         told="transcript:3\n  asked  nothing: no request or event comes before it in its case\n  wanted = 200\n  got    \ntranscript: 1 answers, 1 not as wanted\n"),
+    Case("replay second first", 1, files={"first": "as a\nGET /healthz\n= 200\n", "second": "as a\nGET /healthz\n= 403\n"}),
+    Case("replay second second", 0, told="second: 1 answers\n" * 2),
+    Case("replay --write first", 1, told=re.compile("[^\n]*\n[^\n]*\n> out HTTP[^\n]*403.*", re.S)),
+    Case("replay none", 1, "none: there is no such file"),
+]
+
+
+def item(kind, metadata, members):
+    """A role or binding as a line."""
+    return f'{{"apiVersion":"{RBAC}/v1","kind":"{kind}","metadata":{{{metadata}}},{members}}}\n'
+
+
+def bound(role, name, group):
+    return f'"roleRef":{{"apiGroup":"{RBAC}","kind":"{role}","name":"{name}"}},"subjects":[{{"apiGroup":"{RBAC}","kind":"Group","name":"{group}"}}]'
+
+
+def gains(before, after, *lines):
+    """The second policy gives just these lines that the first did not."""
+    told = "([^\n]*\n)?" + "".join(re.escape(it).replace(r"\ ", " +") + "\n" for it in lines)
+    return Case("compare before after", 3 if lines else 0, told=re.compile(told), files={"before": before, "after": after})
+
+
+ROLE = item("Role", '"name":"r","namespace":"shop"', '"rules":[{"apiGroups":[""],"resources":["pods"],"resourceNames":["a","b"],"verbs":["get","list"]}]')
+BINDING = item("RoleBinding", '"name":"b","namespace":"shop"', bound("Role", "r", "dev"))
+POLICIES = (
+    SHOP + ROLE + BINDING,
+    SHOP + item("ClusterRole", '"name":"r"', '"rules":[{"apiGroups":[""],"resources":["pods"],"verbs":["get"]}]')
+    + item("RoleBinding", '"name":"b","namespace":"shop"', bound("ClusterRole", "r", "dev")),
+    item("ClusterRole", '"name":"fills","labels":{"fills":"view"}', '"rules":[{"apiGroups":[""],"resources":["pods","services"],"verbs":["get","list"]}]')
+    + item("ClusterRole", '"name":"view"', '"aggregationRule":{"clusterRoleSelectors":[{"matchLabels":{"fills":"view"}}]},"rules":[]')
+    + item("ClusterRole", '"name":"finds"', '"rules":[{"nonResourceURLs":["/api","/api/*","/healthz"],"verbs":["get"]}]')
+    + item("ClusterRoleBinding", '"name":"finders"', bound("ClusterRole", "finds", "all"))
+    + item("ClusterRoleBinding", '"name":"viewers"', bound("ClusterRole", "view", "dev")),
+)
+
+
+def changed(policy, old, new, who, by, *atoms):
+    """The policy with a text in place of another gives just these atoms besides."""
+    assert old in policy, old
+    return gains(policy, policy.replace(old, new), *[f"{who} {atom} {by}" for atom in atoms])
+
+
+DEV, BY, VIEWERS = "Group dev shop", "RoleBinding b, Role r, rule 0", "ClusterRoleBinding viewers, ClusterRole view, rule 0"
+HELD = [f'["{verb}","","pods","{name}"]' for verb in ("get", "list") for name in ("a", "b")]
+# 70 cluster roles, each of which is filled with the rules of the one before, of which 64 turns fill 64.
+CHAIN = item("ClusterRole", '"name":"r0","labels":{"n":"0"}', '"rules":[{"apiGroups":[""],"resources":["pods"],"verbs":["get"]}]') + "".join(
+    item("ClusterRole", f'"name":"r{it}","labels":{{"n":"{it}"}}', f'"aggregationRule":{{"clusterRoleSelectors":[{{"matchLabels":{{"n":"{it - 1}"}}}}]}},"rules":[]')
+    for it in range(1, 71)
+)
+UNSETTLED = "chain: the roles are not settled after 64 turns"
+BAD = f"bad: policy line 3\n  {KIND}"
+COMPARISONS = [
+    changed(POLICIES[0], '"list"]', '"list","watch"]', DEV, BY, '["watch","","pods","a"]', '["watch","","pods","b"]'),
+    changed(POLICIES[0], '"get","list"', '"*"', DEV, BY, '["*","","pods","a"]', '["*","","pods","b"]'),
+    changed(POLICIES[0], '"resourceNames":["a","b"],', "", DEV, BY, '["get","","pods"]', '["list","","pods"]'),
+    changed(POLICIES[0], '"a","b"', '"a","b","c"', DEV, BY, '["get","","pods","c"]', '["list","","pods","c"]'),
+    changed(POLICIES[0], '"a","b"', '"a"', DEV, BY),
+    changed(POLICIES[0], '"Group","name":"dev"', '"User","name":"dev"', "User dev shop", BY, *HELD),
+    changed(POLICIES[0], '"Group","name":"dev"', '"Group","name":"developers"', "Group developers shop", BY, *HELD),
+    gains(SHOP + BINDING, POLICIES[0], *[f"{DEV} {it} {BY}" for it in HELD]),
+    changed(POLICIES[1], '"RoleBinding","metadata":{"name":"b","namespace":"shop"}', '"ClusterRoleBinding","metadata":{"name":"b"}',
+            "Group dev *", "ClusterRoleBinding b, ClusterRole r, rule 0", '["get","","pods"]'),
+    gains(POLICIES[2], POLICIES[2]),
+    changed(POLICIES[2], '"services"', '"secrets"', "Group dev *", VIEWERS, '["get","","secrets"]', '["list","","secrets"]'),
+    Case("compare chain after", 3, UNSETTLED, files={"chain": CHAIN}),
+    Case("compare empty chain", 0, UNSETTLED),
+    Case("who chain get pods", 0, UNSETTLED),
+    Case("risks chain", 0, told=re.compile("(.*\n)?The roles are not settled.*", re.S)),
+    *[Case(words, 1, BAD) for words in ("compare bad empty", "compare empty bad", "who bad get pods", "risks bad")],
+    Case("who empty --questions asked", 1, "asked: question line 3\n  a question is VERB RESOURCE [NAMESPACE [NAME]], with one space between words",
+         files={"asked": "# nothing\n\nget\n"}),
+    *[Case(words, 1, "none: there is no such file")
+      for words in ("compare none empty", "compare empty none", "who none get pods", "who empty --questions none", "risks none")],
+]
+SERVERS = [
+    Case("serve --load none 1=a", 1, "none: there is no such file"),
+    Case("serve --load bad 1=a", 1, f"load line 3\n  {KIND}"),
+    Case("serve --load two --first-revision 281474976710649 1=a", 1, "load line 2\n  no revision is left", files={"two": SHOP + SHOP.replace("shop", "web")}),
+    Case("serve 60001=a 60001=b", 3, "cannot listen 60001: the port is in use"),
+    Case("serve --answer 60001 60001=a", 3, "cannot listen 60001: the port is in use"),
+]
+# With these words a server's list of namespaces is at a revision of this form.
+REVISIONS = {"": "5", "--first-revision 41": "46", "--first-revision 281474976710650": "281474976710655", "--first-revision clock": "1[0-9]{9}00005"}
+
+
+def at_another_revision(program):
+    for words, revision in REVISIONS.items():
+        with Server(program, *words.split()), urllib.request.urlopen(f"http://127.0.0.1:{ROOT}/api/v1/namespaces") as answer:
+            text = answer.read().decode()
+        if not re.search(rf'"metadata":{{"resourceVersion":"{revision}"}}', text):
+            yield f"serve {words}: {text}"
+
+
+def shell(program, commands, folder):
+    """What commands print that call the program `kapi`."""
+    words = {"env": {**os.environ, "PATH": f"{os.path.dirname(program)}:{os.environ['PATH']}"}, "stdout": subprocess.PIPE, "stderr": subprocess.DEVNULL}
+    return subprocess.run(["bash", "-c", commands], cwd=folder, text=True, timeout=60, **words).stdout
+
+
+def part(text, head):
+    """The lines that stand indented below a line of a help."""
+    return re.sub("^  ", "", re.search(rf"^{head}\n((?:  .*\n)+)", text, re.M)[1], flags=re.M)
+
+
+def other_examples(program, room):
+    """The example of each command's help prints what stands below it there, and so do the commands of docs/COMPARE.md."""
+    for command in ("script", "audit", "replay", "compare", "who", "risks"):
+        text = subprocess.run([program, command, "--help"], capture_output=True, text=True).stdout
+        told = shell(program, part(text, "Example:"), room)
+        if told != part(text, "It prints"):
+            yield f"the example of kapi {command} --help: {told}"
+    page = re.sub("^```.*?^```", "", pathlib.Path("docs/COMPARE.md").read_text(), flags=re.M | re.S)
+    wanted = "".join(f"{it}\n" for it in re.findall("^    (.*)", page, re.M))
+    commands = re.findall("^[$] (.*)\n", wanted, re.M)
+    told = "".join(f"$ {it}\n" + shell(program, it, room / "compare") for it in commands)
+    if told != wanted or commands != (EXAMPLES / "compare/command").read_text().splitlines():
+        yield f"docs/COMPARE.md: {told}"
+
+
+def main(program):
+    cases = [*SCRIPTS, *WORDS, *AUDITS, *REPLAYS, *COMPARISONS, *SERVERS]
+    with tempfile.TemporaryDirectory() as folder:
+        room = pathlib.Path(folder)
+        shutil.copytree(EXAMPLES, room, dirs_exist_ok=True)
+        (room / "bin").mkdir()
+        (room / "bin/kapi").symlink_to(os.path.abspath(program))
+        (room / "empty").write_text("")
+        (room / "bad").write_text('\n# nothing\n{"kind":"Pod"}\n')
+        kapi = str(room / "bin/kapi")
+        wrong = [f"kapi {case.words!r}, {case.input[:80]!r}, {case.files}: {got}" for case in cases if (got := fault(kapi, case, room))]
+        wrong += [*other_examples(kapi, room), *at_another_revision(kapi)]
+    print(*wrong, f"{len(cases)} commands, 6 examples of help, docs/COMPARE.md and {len(REVISIONS)} servers: {len(wrong)} not as they should be", sep="\n")
+    return 1 if wrong else 0
+
+
+if __name__ == "__main__":
+    sys.exit(main(*sys.argv[1:]))

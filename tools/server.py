@@ -1,0 +1,93 @@
+"""A server of the program, and clients of it over sockets."""
+import json
+import os
+import pathlib
+import re
+import socket
+import subprocess
+import sys
+import tempfile
+
+ROOT, ANN, ANSWER = 18011, 18012, 18013
+
+
+def started(words, lines, **how):
+    """The program once it has printed so many lines. Where it ends before, as it does where a port is taken, what it said is shown, and this ends with status 3."""
+    process = subprocess.Popen(words, stdout=subprocess.PIPE, **how)
+    if all(process.stdout.readline() for _line in range(lines)):
+        return process
+    process.kill()
+    said = process.communicate()[1]
+    print(f"{words[0]} did not start", *([said] if said else []), sep="\n", file=sys.stderr)
+    sys.exit(3)
+
+
+def seconds_of(process):
+    """Seconds of processor time of a process: its own, and the system's for it."""
+    fields = pathlib.Path(f"/proc/{process.pid}/stat").read_text().rsplit(")", 1)[1].split()
+    return [int(field) / os.sysconf("SC_CLK_TCK") for field in fields[11:13]]
+
+
+class Server:
+    """A server of root's and ann's port, with options and the objects that it loads. It is killed at the end of its block."""
+
+    def __init__(self, program, *options, objects=(), before=(), **how):
+        self.file = tempfile.NamedTemporaryFile("w", suffix=".jsonl")
+        self.file.writelines(json.dumps(it, separators=(",", ":")) + "\n" for it in objects)
+        self.file.flush()
+        words = [*before, program, "serve", "--load", self.file.name, *options, f"{ROOT}=root,system:masters", f"{ANN}=ann"]
+        self.process = started(words, 3 if "--answer" in options else 2, **how)
+
+    def __enter__(self):
+        return self
+
+    def __exit__(self, *_fault):
+        self.process.kill()
+        self.process.wait()
+
+    def resident(self):
+        """Resident memory, in kB."""
+        return int(re.search(r"VmRSS:\s+(\d+)", pathlib.Path(f"/proc/{self.process.pid}/status").read_text())[1])
+
+    def descriptors(self):
+        return len(os.listdir(f"/proc/{self.process.pid}/fd"))
+
+    def seconds(self):
+        """Seconds of processor time."""
+        return sum(seconds_of(self.process))
+
+    def precise(self):
+        """The same of all threads, to the nanosecond."""
+        tasks = pathlib.Path(f"/proc/{self.process.pid}/task")
+        return sum(int((it / "schedstat").read_text().split()[0]) for it in tasks.iterdir()) / 1e9
+
+
+def connect(port):
+    return socket.create_connection(("127.0.0.1", port))
+
+
+def request(method, path, body=""):
+    """The bytes of a request."""
+    length = f"Content-Length: {len(body)}\r\n" if body else ""
+    media = "Content-Type: application/merge-patch+json\r\n" if method == "PATCH" else ""
+    return f"{method} {path} HTTP/1.1\r\nHost: a\r\n{media}{length}\r\n{body}".encode()
+
+
+def whole_answer(client):
+    """An answer with its body, in whatever pieces it comes; of a watch its head, since that tells no length."""
+    answer = b""
+    while True:
+        head, found, body = answer.partition(b"\r\n\r\n")
+        length = re.search(rb"Content-Length: (\d+)", head)
+        if found and len(body) >= int(length[1] if length else 0):
+            return answer
+        piece = client.recv(65536)
+        if not piece:
+            raise ConnectionError(f"the connection ended behind {answer}")
+        answer += piece
+
+
+def ask(client, method, path, item=None):
+    """Sends a request, with an object if one is named, and waits for its answer."""
+    client.sendall(request(method, path, json.dumps(item) if item else ""))
+    return whole_answer(client)
