@@ -1,7 +1,6 @@
-#!/usr/bin/env python3
 """Compares what the program says is missing of random roles with what the published rule says.
 
-usage: missing.py PROGRAM [PAIRS] [SEED]     PROGRAM is the built program, PAIRS a number of pairs of roles, 100,000 if left out
+usage: python3 -m checks.missing PROGRAM [PAIRS] [SEED]     PAIRS is a number of pairs of roles, 100,000 if left out
 
 Ann holds the rules of one cluster role and writes another. The atoms of the rules that she wants, in order and each once, which no single
 rule that she holds covers, are computed here by themselves; the program has to tell exactly these as the causes of its 403, or to let her
@@ -167,9 +166,8 @@ def play(program, pairs):
     return [told(answer) for answer in answers[begun + 3 :: 4]]
 
 
-def main():
-    program, count, seed = sys.argv[1], int(sys.argv[2]) if len(sys.argv) > 2 else 100_000, int(sys.argv[3]) if len(sys.argv) > 3 else 1
-    dice = random.Random(seed)
+def main(program, count=100_000, seed=1):
+    count, dice = int(count), random.Random(int(seed))
     compared, whole, listed = 0, 0, 0
     while compared < count:
         pairs = [large_pair(dice)] + [random_pair(dice) for _ in range(min(BATCH, count - compared) - 1)]
@@ -183,4 +181,5 @@ def main():
     print(f"{compared} pairs of roles, {listed} missing permissions, {whole} roles with none: all as computed")
 
 
-main()
+if __name__ == "__main__":
+    main(*sys.argv[1:])

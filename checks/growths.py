@@ -1,9 +1,8 @@
-#!/usr/bin/env python3
-"""Plays scripts and the cases of transcripts with every growth of memory that they make refused in turn.
+"""Plays the cases of transcripts with every growth of memory that they make refused in turn.
 
-usage: growths.py PROGRAM REFUSE.SO FOLDER|TRANSCRIPT
+usage: python3 -m checks.growths PROGRAM [TRANSCRIPT..]     that of the demo if none is named; wants cc
 
-FOLDER has scripts, each a file NAME.txt; of a TRANSCRIPT each case is a script, but those that load a file or recheck rights.
+Each case is played as a script, but those that load a file or recheck rights.
 
 A refused growth may end the program with a message before its first event or between two events; else the event's answer is
 `error Memory`, the same line once more gets the undisturbed answer, and so do all lines after it. Whatever differs is printed,
@@ -22,8 +21,9 @@ import sys
 import tempfile
 from dataclasses import dataclass
 
-import transcripts
+from checks import cases
 
+DEMO = "examples/demo/events.txt"
 REFUSED = b"error Memory\n"
 
 
@@ -62,16 +62,6 @@ class Played:
 
 def tells_of_memory(message):
     return b"memory" in message or b"OutOfMemory" in message
-
-
-def scripts_at(path):
-    """The scripts of a folder or of a transcript: a name and the lines of each."""
-    if path.is_dir():
-        for script in sorted(path.glob("*.txt")):
-            yield script.name, [line for line in script.read_bytes().split(b"\n") if line and not line.startswith(b"#")]
-    else:
-        for number, lines in enumerate(transcripts.scripts(path.read_bytes()), 1):
-            yield f"{path.name}, case {number}", lines
 
 
 def run(program, shim, events, numbers=None, **settings):
@@ -162,6 +152,8 @@ def play_all(program, shim, name, lines, workers):
     """Plays a script with each of its growths refused, and says what was wrong."""
     events = [line + b"\n" for line in lines]
     plain = run(program, shim, events, [])
+    if not plain.growths:
+        sys.exit(f"{program} hands its growths to no C library, as a program that `rt try` builds")
     answers, played, faults = plain.answers, [Played() for _event in events], []
     while any(event.next for event in played):
         faults += play_on(program, shim, events, answers, played)
@@ -186,12 +178,16 @@ def play_all(program, shim, name, lines, workers):
     return not faults
 
 
-def main():
-    program, shim, path = os.path.abspath(sys.argv[1]), os.path.abspath(sys.argv[2]), pathlib.Path(sys.argv[3])
-    with multiprocessing.Pool() as workers:
-        well = [play_all(program, shim, name, lines, workers) for name, lines in scripts_at(path)]
+def main(program, *files):
+    with multiprocessing.Pool() as workers, tempfile.TemporaryDirectory() as room:
+        shim = f"{room}/refuse.so"
+        subprocess.run(["cc", "-shared", "-fPIC", "-O2", "-o", shim, pathlib.Path(__file__).with_name("refuse.c"), "-ldl"], check=True)
+        well = []
+        for file in files or [DEMO]:
+            for number, lines in enumerate(cases.scripts(pathlib.Path(file).read_bytes()), 1):
+                well.append(play_all(os.path.abspath(program), shim, f"{file}, case {number}", lines, workers))
     return 0 if all(well) else 1
 
 
 if __name__ == "__main__":
-    sys.exit(main())
+    sys.exit(main(*sys.argv[1:]))

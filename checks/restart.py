@@ -1,39 +1,25 @@
-#!/usr/bin/env python3
 """Kills a server behind a running informer and starts it again, with fewer and with more objects, and looks at the informer's cache.
 
-usage: restart.py KAPI     KAPI is the built program; wants the package kubernetes of Python, and stands its door (door.py) before the server
+usage: python3 -m checks.restart PROGRAM     wants the package kubernetes of Python, and stands the door (tools/door.py) before the server
 
 The informer lists, watches from the list's revision, goes on from the last revision that it saw where its connection breaks, and lists anew
 where it is told 410, as client-go's does. The exit status is 1 where its cache is not the server's list within 10 s.
 """
-import json
-import pathlib
 import sys
-import tempfile
 import threading
 import time
 
 import urllib3
 from kubernetes import client, watch
 
-from started import started
+from tools.server import ROOT, Server, started
 
-SERVED, DOOR = 18021, 18022
+DOOR = 18022
 SECONDS = 10
 
 
 def objects(number):
     return [{"apiVersion": "v1", "kind": "ConfigMap", "metadata": {"name": f"c{it}", "namespace": "default"}, "data": {"of": str(number)}} for it in range(number)]
-
-
-def start(program, number):
-    """A server with so many ConfigMaps, whose revisions the clock gives."""
-    with tempfile.NamedTemporaryFile("w", suffix=".jsonl", delete=False) as file:
-        file.writelines(json.dumps(it) + "\n" for it in objects(number))
-    words = [program, "serve", "--load", file.name, "--first-revision", "clock", f"{SERVED}=root,system:masters"]
-    process = started(words, 1)
-    pathlib.Path(file.name).unlink()
-    return process
 
 
 class Informer(threading.Thread):
@@ -85,26 +71,20 @@ def is_right_after(informer, number):
 
 
 def main(program):
-    door = started([sys.executable, pathlib.Path(__file__).with_name("door.py"), str(DOOR), str(SERVED)], 1)
-    informer, server, wrong = Informer(), None, 0
+    door = started([sys.executable, "tools/door.py", str(DOOR), str(ROOT)], 1)
+    informer, wrong = Informer(), 0
     for number in (40, 20, 80, 0):
-        if server:
-            server.kill()
-            server.wait()
-            time.sleep(1)
-        server = start(program, number)
-        if not informer.is_alive():
-            informer.start()
-        seconds = is_right_after(informer, number)
+        with Server(program, "--first-revision", "clock", objects=objects(number)):
+            if not informer.is_alive():
+                informer.start()
+            seconds = is_right_after(informer, number)
         wrong += seconds is None
         said = "its cache is wrong" if seconds is None else f"its cache is right after {seconds:.1f} s"
         print(f"{number} objects: {said}, {informer.lists} lists so far")
-    server.kill()
+        time.sleep(1)
     door.kill()
     return 1 if wrong else 0
 
 
 if __name__ == "__main__":
-    if len(sys.argv) != 2:
-        sys.exit(__doc__)
-    sys.exit(main(sys.argv[1]))
+    sys.exit(main(*sys.argv[1:]))

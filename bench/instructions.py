@@ -1,24 +1,21 @@
-#!/usr/bin/env python3
 """Counts what a request costs a server: instructions of the processor, also by part, and allocations, by kind. Wants valgrind.
 
-usage: instructions.py KAPI..     each KAPI is a built program
+usage: python3 -m bench.instructions PROGRAM..
 
 Each figure is the difference of a run of 1,024 requests more, in which watches are woken four times: of one connection, with
 eleven bindings. An event is what a put costs more for each of ten watches that see it. A part is that of samples.py, without
 the system's.
 """
 import collections
-import json
 import re
 import signal
-import socket
 import subprocess
 import sys
 import tempfile
 
-from load import ANN, MAPS, ROOT, ask, objects
-from samples import part_of
-from started import started
+from bench.load import MAPS, objects
+from bench.samples import part_of
+from tools.server import ANN, ROOT, Server, ask, connect
 
 FEW, MORE, SEEING, IDLE = 200, 1_024, 10, 240
 NAMED = re.compile(r"(fn|ob|cfn|cob)=(\(\d+\))(?: (.*))?")
@@ -41,16 +38,16 @@ KINDS = {
 def body(name, number):
     """A configmap that no request before had, or what a patch changes of a role."""
     if name is None:
-        return ""
+        return None
     if name == ROLE:
-        return json.dumps({"metadata": {"annotations": {"key": f"{number:>0100}"}}})
-    return json.dumps({"metadata": {"name": name.format(number), "namespace": "default"}, "data": {"key": f"{number:>0100}"}})
+        return {"metadata": {"annotations": {"key": f"{number:>0100}"}}}
+    return {"metadata": {"name": name.format(number), "namespace": "default"}, "data": {"key": f"{number:>0100}"}}
 
 
 def watch_of(path):
     """A connection that watches what is there."""
-    watch = socket.create_connection(("127.0.0.1", ROOT))
-    ask(watch, "GET", f"{path}?watch=1", "")
+    watch = connect(ROOT)
+    ask(watch, "GET", f"{path}?watch=1")
     return watch
 
 
@@ -59,7 +56,7 @@ def send(kind, times):
     port, method, path, name, watched = kind
     watches = [watch_of(each) for each in watched]
     seeing = watches if MAPS in watched else []
-    client = socket.create_connection(("127.0.0.1", port))
+    client = connect(port)
     for number in range(times):
         ask(client, method, path, body(name, number))
         for watch in seeing:
@@ -70,14 +67,10 @@ def send(kind, times):
 
 def told_by(program, options, kind, times):
     """What valgrind tells on standard error of a server that answers so many requests."""
-    with tempfile.NamedTemporaryFile("w") as file:
-        file.write("".join(json.dumps(item) + "\n" for item in objects(10, 1)))
-        file.flush()
-        words = ["valgrind", *options, program, "serve", "--load", file.name, f"{ROOT}=root,system:masters", f"{ANN}=ann"]
-        server = started(words, 2, stderr=subprocess.PIPE, text=True)
+    with Server(program, objects=objects(10, 1), before=["valgrind", *options], stderr=subprocess.PIPE, text=True) as server:
         send(kind, times)
-        server.send_signal(signal.SIGTERM)
-        return server.communicate()[1]
+        server.process.send_signal(signal.SIGTERM)
+        return server.process.communicate()[1]
 
 
 def own_costs(lines):
@@ -115,8 +108,8 @@ def for_each(count, program, kind):
     return {part: cost / MORE for part, cost in more.most_common()}
 
 
-def main():
-    for program in sys.argv[1:]:
+def main(*programs):
+    for program in programs:
         print(program)
         for name, kind in KINDS.items():
             parts = for_each(instructions, program, kind)
@@ -125,4 +118,4 @@ def main():
 
 
 if __name__ == "__main__":
-    main()
+    main(*sys.argv[1:])

@@ -1,7 +1,6 @@
-#!/usr/bin/env python3
 """Compares tools/kinds.txt with the program: each resource is served, in its scope, with its kind and its status, and no other stands in the source.
 
-usage: kinds.py KAPI     KAPI is the built program
+usage: python3 -m checks.kinds PROGRAM
 
 The exit status is 1 where they differ.
 """
@@ -11,7 +10,7 @@ import subprocess
 import sys
 import tempfile
 
-import door
+from tools import door
 
 CRATES = pathlib.Path(__file__).parent.parent / "crates"
 SOURCES = [CRATES / "kapi_core/src/resource.rt", CRATES / "kapi_core/src/programs.rt"]
@@ -61,6 +60,4 @@ def main(program):
 
 
 if __name__ == "__main__":
-    if len(sys.argv) != 2:
-        sys.exit(__doc__)
-    sys.exit(main(sys.argv[1]))
+    sys.exit(main(*sys.argv[1:]))

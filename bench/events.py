@@ -1,8 +1,7 @@
-#!/usr/bin/env python3
 """Measures the program from outside: seconds of processor time for N and for 2N events or questions, what each of the second N takes, and
 how many times the second N takes what the first N took. Times that programs and other work share are noise; ratios tell more.
 
-usage: bench.py PROGRAM [N]     PROGRAM is the built program, N a number of events, 10,000 if left out
+usage: python3 -m bench.events PROGRAM [N]     N is a number of events, 10,000 if left out
 """
 import json
 import os
@@ -117,8 +116,8 @@ def tell(what, none, once, twice, count):
     print(f"{what}: {once:.2f} s of {count}, {twice:.2f} s of {2 * count}; {second / count * 1e6:.1f} us each, the second half {second / max(first, 1e-9):.2f} times the first")
 
 
-def main():
-    program, count = sys.argv[1], int(sys.argv[2]) if len(sys.argv) > 2 else 10_000
+def main(program, count=10_000):
+    count = int(count)
     for what, lines in (("a create", creates), ("a get", gets), ("a denied get", denials), ("a patch", patches), ("a change seen by ten watches", watched), ("a role whose writer holds it", roles)):
         tell(what, *[script_time(program, lines(number)) for number in (0, count, 2 * count)], count)
     for bindings in (10, 1_000, 10_000):
@@ -126,4 +125,4 @@ def main():
 
 
 if __name__ == "__main__":
-    main()
+    main(*sys.argv[1:])

@@ -1,25 +1,21 @@
-#!/usr/bin/env python3
 """Attacks a server on 127.0.0.1 as a client without rights may, and prints what each attack costs the others.
 
-usage: hostile.py KAPI [ATTACK..]     KAPI is the built program; all attacks if none is named: greedy flood silent stalled spin line
+usage: python3 -m checks.hostile PROGRAM [ATTACK..]     all attacks if none is named: greedy flood silent stalled spin line
 
 Each attack starts a server of its own and is bounded in count and time. The exit status is 1 where one is above its bound.
 """
-import os
-import pathlib
-import re
+import multiprocessing
 import resource
 import select
 import socket
 import statistics
-import subprocess
 import sys
 import threading
 import time
 
-from started import started
+from tools.server import ANN, ANSWER, ROOT, Server, ask, connect
 
-ROOT, ANN, ANSWER = 18011, 18012, 18013
+ANSWERS = ("--answer", str(ANSWER), "--readers", "2")
 GET = b"GET /api/v1/namespaces/default/configmaps HTTP/1.1\r\nHost: a\r\n\r\n"
 GREEDY_CLIENTS, GREEDY_SECONDS = 8, 20
 CONNECTS, FLOODERS, FLOOD_SECONDS = 100_000, 4, 10
@@ -29,45 +25,9 @@ SPIN_SECONDS = 2
 LINE_BYTES = 64_000_000
 
 
-class Server:
-    """A server of root's and ann's port, and one for questions; so many descriptors, and the objects of a file, if they are named."""
-
-    def __init__(self, program, descriptors=None, load=None):
-        limit = (lambda: resource.setrlimit(resource.RLIMIT_NOFILE, (descriptors, descriptors))) if descriptors else None
-        words = [program, "serve", "--answer", str(ANSWER), "--readers", "2", *(["--load", load] if load else []), f"{ROOT}=root,system:masters", f"{ANN}=ann"]
-        self.process = started(words, 3, preexec_fn=limit)
-
-    def __enter__(self):
-        return self
-
-    def __exit__(self, *_fault):
-        self.process.kill()
-        self.process.wait()
-
-    def resident(self):
-        """Resident memory, in millions of bytes."""
-        status = pathlib.Path(f"/proc/{self.process.pid}/status").read_text()
-        return int(re.search(r"VmRSS:\s+(\d+)", status)[1]) / 1000
-
-    def descriptors(self):
-        return len(os.listdir(f"/proc/{self.process.pid}/fd"))
-
-    def seconds(self):
-        """Seconds of processor time."""
-        fields = pathlib.Path(f"/proc/{self.process.pid}/stat").read_text().rsplit(")", 1)[1].split()
-        return (int(fields[11]) + int(fields[12])) / os.sysconf("SC_CLK_TCK")
-
-
-def connect(port):
-    return socket.create_connection(("127.0.0.1", port))
-
-
 def create(client, name, letters):
     """Creates a ConfigMap with so many letters."""
-    body = b'{"metadata":{"name":"%s"},"data":{"k":"%s"}}' % (name, b"a" * letters)
-    client.sendall(b"POST /api/v1/namespaces/default/configmaps HTTP/1.1\r\nHost: a\r\nContent-Length: %d\r\n\r\n" % len(body) + body)
-    while not client.recv(65536).endswith(b"}"):
-        pass
+    ask(client, "POST", "/api/v1/namespaces/default/configmaps", {"metadata": {"name": name}, "data": {"k": "a" * letters}})
 
 
 def waits(seconds, pause=0.02):
@@ -112,15 +72,16 @@ def demand():
 
 def greedy(program):
     """Clients that send without pause, in processes of their own, beside root's gets."""
-    with Server(program):
-        words = [sys.executable, __file__, program, "--demand"]
-        clients = [subprocess.Popen(words) for _client in range(GREEDY_CLIENTS)]
+    with Server(program, *ANSWERS):
+        clients = [multiprocessing.Process(target=demand) for _client in range(GREEDY_CLIENTS)]
+        for client in clients:
+            client.start()
         time.sleep(1)
         told = waits(GREEDY_SECONDS)
-        lasting = sum(client.poll() is None for client in clients)
+        lasting = sum(client.is_alive() for client in clients)
         for client in clients:
             client.kill()
-            client.wait()
+            client.join()
     figures = [("root's get, ms in the median", statistics.median(told), 10), ("at the most", max(told), 100), ("clients left", lasting, None)]
     return judge(f"{GREEDY_CLIENTS} clients that send without pause", figures)
 
@@ -137,7 +98,7 @@ def flood(program):
                 time.sleep(0.01)
             made[number] += 1
 
-    with Server(program):
+    with Server(program, *ANSWERS):
         is_over, told = threading.Event(), []
         threads = [threading.Thread(target=attack, args=(number, is_over)) for number in range(FLOODERS)]
         asker = threading.Thread(target=lambda: told.extend(waits(FLOOD_SECONDS)))
@@ -154,9 +115,9 @@ def flood(program):
 def silent(program):
     """Clients that ask for a large answer and that their connection be closed, and read nothing."""
     request = GET.replace(b"\r\n\r\n", b"\r\nConnection: close\r\n\r\n")
-    with Server(program) as server:
+    with Server(program, *ANSWERS) as server:
         root = connect(ROOT)
-        for name in (b"a", b"b", b"c"):
+        for name in ("a", "b", "c"):
             create(root, name, 900_000)
         root.close()
         clients, most = [], 0
@@ -168,7 +129,7 @@ def silent(program):
             clients.append(client)
             most = max(most, server.descriptors())
         time.sleep(3)
-        most, resident = max(most, server.descriptors()), server.resident()
+        most, resident = max(most, server.descriptors()), server.resident() / 1000
         time.sleep(SILENT_SECONDS)
         begin, late = time.monotonic(), connect(ROOT)
         late.settimeout(20)
@@ -199,7 +160,7 @@ def rest(server):
 def stalled(program):
     """Clients without rights that send requests and take none of their refusals, beside root's gets."""
     request = b"GET /api/v1/namespaces/default/configmaps/%s HTTP/1.1\r\nHost: a\r\n\r\n" % (b"a" * 8_000)
-    with Server(program) as server:
+    with Server(program, *ANSWERS) as server:
         alone, clients = cost(server), []
         for _client in range(STALLED_CLIENTS):
             client = socket.socket()
@@ -219,7 +180,7 @@ def stalled(program):
 
 def spin(program):
     """Clients of the port for questions beyond the descriptors that the server has."""
-    with Server(program, 24) as server:
+    with Server(program, *ANSWERS, preexec_fn=lambda: resource.setrlimit(resource.RLIMIT_NOFILE, (24, 24))) as server:
         clients = [connect(ANSWER) for _client in range(40)] + [connect(ANN) for _client in range(40)]
         time.sleep(0.5)
         before = server.seconds()
@@ -232,14 +193,14 @@ def spin(program):
 
 def line(program):
     """A line without end on the port for questions."""
-    with Server(program) as server:
+    with Server(program, *ANSWERS) as server:
         before, sent, client = server.resident(), 0, connect(ANSWER)
         try:
             while sent < LINE_BYTES:
                 sent += client.send(b"a" * 65536)
         except OSError:
             pass
-        grown = server.resident() - before
+        grown = (server.resident() - before) / 1000
         other = connect(ANSWER)
         other.settimeout(10)
         other.sendall(b'{"user":"ann","resourceAttributes":{"verb":"get","resource":"pods"}}\n')
@@ -250,13 +211,10 @@ def line(program):
 ATTACKS = {"greedy": greedy, "flood": flood, "silent": silent, "stalled": stalled, "spin": spin, "line": line}
 
 
-def main():
-    program, *names = sys.argv[1:]
-    if names == ["--demand"]:
-        return demand()
+def main(program, *names):
     resource.setrlimit(resource.RLIMIT_NOFILE, (min(4096, resource.getrlimit(resource.RLIMIT_NOFILE)[1]),) * 2)
     return 0 if all([ATTACKS[name](program) for name in names or ATTACKS]) else 1
 
 
 if __name__ == "__main__":
-    sys.exit(main())
+    sys.exit(main(*sys.argv[1:]))

@@ -1,7 +1,6 @@
-#!/usr/bin/env python3
 """Tells in which parts of a server the processor time of a request goes, by samples. Wants perf and wrk.
 
-usage: samples.py KAPI     KAPI is the built program
+usage: python3 -m bench.samples PROGRAM
 
 The system's part is that of all that is not the program and its C library; a crate's is that of its functions, with what the compiler
 put into them of others.
@@ -13,7 +12,7 @@ import sys
 import tempfile
 import threading
 
-from load import KINDS, Server, answered
+from bench.load import KINDS, answered, loaded
 
 SECONDS = 6
 
@@ -32,7 +31,7 @@ def part_of(place, symbol):
 
 def parts(program, kind):
     """The shares of the parts in the samples of a server, in percent, by size."""
-    with Server(program) as server, tempfile.NamedTemporaryFile() as told:
+    with loaded(program) as server, tempfile.NamedTemporaryFile() as told:
         load = threading.Thread(target=answered, args=(kind, 8, SECONDS))
         load.start()
         record = ["perf", "record", "-q", "-e", "cpu-clock", "-F", "4000", "-o", told.name, "-p", str(server.process.pid), "--", "sleep", str(SECONDS - 2)]
@@ -48,12 +47,11 @@ def parts(program, kind):
     return shares.most_common()
 
 
-def main():
-    program, = sys.argv[1:]
+def main(program):
     for kind in KINDS:
         told = parts(program, kind)
         print(f"{kind}:", ", ".join(f"{part} {share:.1f}" for part, share in told if share >= 0.5), flush=True)
 
 
 if __name__ == "__main__":
-    main()
+    main(*sys.argv[1:])

@@ -1,14 +1,11 @@
-#!/usr/bin/env python3
 """Measures a server under load, and prints requests a second, processor times and resident memory. Wants wrk.
 
-usage: load.py KAPI ECHO     KAPI is the built program; ECHO is tools/echo.c, which is measured beside it
+usage: python3 -m bench.load PROGRAM     bench/echo.c is compiled and measured beside it
 """
 import itertools
 import json
-import os
 import pathlib
 import re
-import socket
 import statistics
 import subprocess
 import sys
@@ -16,10 +13,10 @@ import tempfile
 import threading
 import time
 
-from started import started
+from tools.server import ANN, ROOT, Server, ask, connect, request, seconds_of, started, whole_answer
 
 MAPS = "/api/v1/namespaces/default/configmaps"
-ROOT, ANN, ECHO = 18001, 18002, 18003
+ECHO = 18004
 RULES = [{"apiGroups": [""], "resources": ["configmaps"], "verbs": ["get", "list", "watch"]}]
 
 
@@ -47,31 +44,9 @@ def labelled(number):
     return config_map(f"map-{number}") | {"metadata": {"name": f"map-{number}", "namespace": "default", "labels": labels}}
 
 
-class Server:
-    def __init__(self, program, bindings=10, maps=1, more=()):
-        self.file = tempfile.NamedTemporaryFile("w")
-        self.file.write("".join(json.dumps(item) + "\n" for item in [*objects(bindings, maps), *more]))
-        self.file.flush()
-        words = [program, "serve", "--load", self.file.name, f"{ROOT}=root,system:masters", f"{ANN}=ann"]
-        self.process = started(words, 2)
-
-    def __enter__(self):
-        return self
-
-    def __exit__(self, *_fault):
-        self.process.kill()
-        self.process.wait()
-
-    def resident(self):
-        status = pathlib.Path(f"/proc/{self.process.pid}/status").read_text()
-        return int(re.search(r"VmRSS:\s+(\d+)", status)[1])
-
-
-def request(method, path, body=""):
-    """The bytes of a request."""
-    length = f"Content-Length: {len(body)}\r\n" if body else ""
-    media = "Content-Type: application/merge-patch+json\r\n" if method == "PATCH" else ""
-    return f"{method} {path} HTTP/1.1\r\nHost: a\r\n{media}{length}\r\n{body}"
+def loaded(program, bindings=10, maps=1, more=()):
+    """A server of these objects."""
+    return Server(program, objects=[*objects(bindings, maps), *more])
 
 
 def written(name, value):
@@ -122,12 +97,6 @@ def rates(kind, connections, times=3):
     return ", ".join(str(answered(kind, connections) // 4) for _time in range(times))
 
 
-def seconds_of(process):
-    """Seconds of processor time of a process: its own, and the system's for it."""
-    fields = pathlib.Path(f"/proc/{process.pid}/stat").read_text().rsplit(")", 1)[1].split()
-    return [int(field) / os.sysconf("SC_CLK_TCK") for field in fields[11:13]]
-
-
 def time_of_each(process, kind, port=None):
     """Microseconds of a process for each request that is answered in four seconds over 8 connections: its own, and the system's."""
     before = seconds_of(process)
@@ -138,7 +107,7 @@ def time_of_each(process, kind, port=None):
 def beside_the_echo(program, echo, kind):
     """The processor time of a request beside that of an echo of its answer, of five pairs of runs in turns: medians, and each ratio."""
     port, method, path, body = KINDS[kind]
-    with Server(program) as server, tempfile.NamedTemporaryFile() as reply:
+    with loaded(program) as server, tempfile.NamedTemporaryFile() as reply:
         reply.write(answer_to(port, request(method, path, body.replace(NUMBER, "0" * 9))))
         reply.flush()
         other = started([echo, str(ECHO), reply.name], 1)
@@ -165,7 +134,7 @@ def drip(sockets, is_over):
 
 def beside_slow():
     """Requests a second over one connection while 255 others send one byte a second each."""
-    sockets, is_over = [socket.create_connection(("127.0.0.1", ROOT)) for _client in range(255)], threading.Event()
+    sockets, is_over = [connect(ROOT) for _client in range(255)], threading.Event()
     slow = threading.Thread(target=drip, args=(sockets, is_over))
     slow.start()
     rate = rates("a get", 1, 1)
@@ -178,59 +147,37 @@ def beside_slow():
 
 def answer_to(port, text):
     """The bytes that a request is answered."""
-    client = socket.create_connection(("127.0.0.1", port))
-    client.sendall(text.encode())
-    answer = whole_answer(client)
-    client.close()
-    return answer
+    with connect(port) as client:
+        client.sendall(text)
+        return whole_answer(client)
 
 
 def change(times):
     """Changes a configmap so often."""
-    client = socket.create_connection(("127.0.0.1", ROOT))
-    for number in range(times):
-        body = json.dumps({"data": {"key": str(number) + "x" * 1000}})
-        head = f"PATCH {MAPS}/map-0 HTTP/1.1\r\nHost: a\r\nContent-Type: application/merge-patch+json\r\nContent-Length: {len(body)}\r\n\r\n"
-        client.sendall((head + body).encode())
-        client.recv(65536)
-    client.close()
-
-
-def ask(client, method, path, body=""):
-    """Sends a request and waits for its answer."""
-    client.sendall(request(method, path, body).encode())
-    return whole_answer(client)
-
-
-def whole_answer(client):
-    """An answer with its body, in whatever pieces it comes; of a watch its head, since that tells no length."""
-    answer = client.recv(65536)
-    while b"\r\n\r\n" not in answer:
-        answer += client.recv(65536)
-    while (told := re.search(rb"Content-Length: (\d+)\r\n", answer)) and len(answer.partition(b"\r\n\r\n")[2]) < int(told[1]):
-        answer += client.recv(65536)
-    return answer
+    with connect(ROOT) as client:
+        for number in range(times):
+            ask(client, "PATCH", f"{MAPS}/map-0", {"data": {"key": str(number) + "x" * 1000}})
 
 
 def cost(server, requests):
     """Microseconds of the server's processor time for each of some requests of root."""
-    client, before = socket.create_connection(("127.0.0.1", ROOT)), sum(seconds_of(server.process))
+    client, before = connect(ROOT), server.seconds()
     for one in requests:
         ask(client, *one)
     client.close()
-    return round((sum(seconds_of(server.process)) - before) * 1_000_000 / len(requests), 1)
+    return round((server.seconds() - before) * 1_000_000 / len(requests), 1)
 
 
 def beside_watches(program, count, namespace, times=10_000):
     """What a get and a put cost beside so many watches of a namespace, in microseconds."""
-    with Server(program) as server:
-        root = socket.create_connection(("127.0.0.1", ROOT))
-        ask(root, "POST", "/api/v1/namespaces", json.dumps({"apiVersion": "v1", "kind": "Namespace", "metadata": {"name": "other"}}))
-        watches = [socket.create_connection(("127.0.0.1", ROOT)) for _watch in range(count)]
+    with loaded(program) as server:
+        root = connect(ROOT)
+        ask(root, "POST", "/api/v1/namespaces", {"metadata": {"name": "other"}})
+        watches = [connect(ROOT) for _watch in range(count)]
         for watch in watches:
             ask(watch, "GET", f"/api/v1/namespaces/{namespace}/configmaps?watch=1")
         gets = [("GET", f"{MAPS}/map-0")] * times
-        puts = [("PUT", f"{MAPS}/map-0", json.dumps(config_map("map-0") | {"data": {"key": str(number)}})) for number in range(times if namespace != "default" else 400)]
+        puts = [("PUT", f"{MAPS}/map-0", config_map("map-0") | {"data": {"key": str(number)}}) for number in range(times if namespace != "default" else 400)]
         told = cost(server, gets), cost(server, puts)
         for each in [root, *watches]:
             each.close()
@@ -247,23 +194,25 @@ KEPT = {
 
 def kept(program, make, count):
     """The kB resident of a server that has loaded so many more objects, and the microseconds that it took."""
-    with Server(program, maps=0, more=[make(number) for number in range(count)]) as server:
-        return server.resident(), round(sum(seconds_of(server.process)) * 1_000_000)
+    with loaded(program, maps=0, more=[make(number) for number in range(count)]) as server:
+        return server.resident(), round(server.seconds() * 1_000_000)
 
 
-def main():
-    program, echo = sys.argv[1:]
-    for kind in KINDS:
-        beside_the_echo(program, echo, kind)
+def main(program):
+    with tempfile.TemporaryDirectory() as room:
+        echo = f"{room}/echo"
+        subprocess.run(["cc", "-O2", "-o", echo, pathlib.Path(__file__).with_name("echo.c")], check=True)
+        for kind in KINDS:
+            beside_the_echo(program, echo, kind)
     for bindings in (10, 10_000):
-        with Server(program, bindings):
+        with loaded(program, bindings):
             print(f"a get and a denied get, {bindings:,} bindings, requests a second over 8 connections:", rates("a get", 8), "and", rates("a denied get", 8))
-    with Server(program):
+    with loaded(program):
         for _pair in range(5):
             print("a get over 1 connection, alone and beside 255 that send one byte a second:", rates("a get", 1, 1), beside_slow())
-    with Server(program) as server:
-        watcher = socket.create_connection(("127.0.0.1", ANN))
-        watcher.sendall(f"GET {MAPS}?watch=1 HTTP/1.1\r\nHost: a\r\n\r\n".encode())
+    with loaded(program) as server:
+        watcher = connect(ANN)
+        watcher.sendall(request("GET", f"{MAPS}?watch=1"))
         change(2000)
         before = server.resident()
         change(20_000)
@@ -278,4 +227,4 @@ def main():
 
 
 if __name__ == "__main__":
-    main()
+    main(*sys.argv[1:])

@@ -1,7 +1,6 @@
-#!/usr/bin/env python3
 """Compares random pairs of small policies with a plain search over all identities and points of a small world, through `kapi compare --json`.
 
-usage: compare.py PROGRAM [PAIRS [SEED]]     PROGRAM is the built program; 10,000 pairs and the seed 1 if left out
+usage: python3 -m checks.compare_random PROGRAM [PAIRS [SEED]]     10,000 pairs and the seed 1 if left out
 
 The world: 3 users and one whom no binding names, 2 groups, 2 namespaces, 4 verbs, 3 resources, 2 names. For each pair three things are looked at:
 whatever somebody gains is covered by a line; each line is a gain of somebody whom it names; the status is 3 just where there is a line.
@@ -155,11 +154,8 @@ def compared(program, seed, number):
     return lines, faults(before, after, lines)
 
 
-def main():
-    program = sys.argv[1]
-    pairs = int(sys.argv[2]) if len(sys.argv) > 2 else 10_000
-    seed = sys.argv[3] if len(sys.argv) > 3 else "1"
-    bad = total = silent = 0
+def main(program, pairs=10_000, seed="1"):
+    pairs, bad, total, silent = int(pairs), 0, 0, 0
     with ThreadPoolExecutor(4) as pool:
         for number, (lines, wrong) in enumerate(pool.map(lambda each: compared(program, seed, each), range(pairs))):
             total += len(lines)
@@ -168,8 +164,8 @@ def main():
                 print(f"pair {number} of seed {seed}: {fault}")
             bad += bool(wrong)
     print(f"{pairs} pairs of seed {seed}: {total} lines, {silent} pairs without one, {bad} pairs not as they should be")
-    sys.exit(bad > 0)
+    return 1 if bad else 0
 
 
 if __name__ == "__main__":
-    main()
+    sys.exit(main(*sys.argv[1:]))

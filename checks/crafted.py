@@ -1,23 +1,19 @@
-#!/usr/bin/env python3
 """Sends a server on 127.0.0.1 policies that are made to be costly, and prints the processor time that each costs it.
 
-usage: crafted.py KAPI [KAPI]     KAPI is the built program; a second one is measured beside it, and the ratio is told
+usage: python3 -m checks.crafted PROGRAM [PROGRAM]     a second program is measured beside the first, and the ratio is told
 
 Ann may bind cluster roles whose rules she holds, and holds what each line says. What is above its bound is measured up to twice more, and the
 least counts, since others on the machine can only add to it. The exit status is 1 where the first program is above a bound.
 """
-import contextlib
 import http.client
 import itertools
 import json
-import pathlib
 import random
 import sys
-import tempfile
 import time
 
-import bench
-from hostile import ANN, ROOT, Server, connect
+from bench import events
+from tools.server import ANN, ROOT, Server, connect
 
 RBAC = "/apis/rbac.authorization.k8s.io/v1"
 PODS = "/api/v1/namespaces/default/pods"
@@ -182,13 +178,6 @@ class Client:
         return self.server.precise() - before
 
 
-class Measured(Server):
-    def precise(self):
-        """Processor time of all threads, in seconds."""
-        tasks = pathlib.Path(f"/proc/{self.process.pid}/task")
-        return sum(int((it / "schedstat").read_text().split()[0]) for it in tasks.iterdir()) / 1e9
-
-
 def role(name, rules, **metadata):
     return {"apiVersion": "rbac.authorization.k8s.io/v1", "kind": "ClusterRole", "metadata": {"name": name, **metadata}, "rules": rules}
 
@@ -202,23 +191,14 @@ def binding(name):
 BINDER = role("binder", [rule(["create"], ["rbac.authorization.k8s.io"], ["clusterrolebindings"])])
 
 
-@contextlib.contextmanager
-def loaded(program, *objects):
-    with tempfile.NamedTemporaryFile("w", suffix=".jsonl") as file:
-        file.writelines(compact(it) + "\n" for it in objects)
-        file.flush()
-        with Measured(program, load=file.name) as server:
-            yield server
-
-
 def check(program, held, wanted, is_held):
     """The cost of the check of a binding that ann writes to a role, who holds the first rules."""
-    with loaded(program, BINDER, binding("binder"), role("held", held), binding("held"), role("new", wanted)) as server:
+    with Server(program, objects=[BINDER, binding("binder"), role("held", held), binding("held"), role("new", wanted)]) as server:
         return Client(server, ANN).send("POST", f"{RBAC}/clusterrolebindings", binding("new"), (201,) if is_held else (403,))
 
 
 def refused(program):
-    with loaded(program, BINDER, binding("binder"), role("new", [square(320)])) as server:
+    with Server(program, objects=[BINDER, binding("binder"), role("new", [square(320)])]) as server:
         return Client(server, ANN).ask_without_answer(f"{RBAC}/clusterrolebindings", binding("new"))
 
 
@@ -231,7 +211,7 @@ def source(rules):
 
 def gathering(program):
     """The creation of a cluster role that takes many rules from another, in a server: the request, the turn, and the look that finds them there."""
-    with Measured(program) as server:
+    with Server(program) as server:
         root = Client(server, ROOT)
         root.send("POST", f"{RBAC}/clusterroles", source(resources()))
         first = root.send("POST", f"{RBAC}/clusterroles", {**role("all", []), "aggregationRule": AGGREGATION})
@@ -242,12 +222,12 @@ def gathering(program):
 
 def turn(program, is_again=False):
     """A turn of a script: it takes many rules into a cluster role that has none, or that has them all but the last."""
-    lines = bench.request(0, "POST", f"{RBAC}/clusterroles", source(resources()))
-    lines += bench.request(0, "POST", f"{RBAC}/clusterroles", {**role("all", []), "aggregationRule": AGGREGATION})
+    lines = events.request(0, "POST", f"{RBAC}/clusterroles", source(resources()))
+    lines += events.request(0, "POST", f"{RBAC}/clusterroles", {**role("all", []), "aggregationRule": AGGREGATION})
     if is_again:
-        lines += ["turn", "turn", *bench.request(0, "PUT", f"{RBAC}/clusterroles/source", source([*resources()[:-1], rule(["list"], [""], ["last"])]))]
-    lines = bench.opening(lines)
-    return bench.script_time(program, [*lines, "turn"]) - bench.script_time(program, lines)
+        lines += ["turn", "turn", *events.request(0, "PUT", f"{RBAC}/clusterroles/source", source([*resources()[:-1], rule(["list"], [""], ["last"])]))]
+    lines = events.opening(lines)
+    return events.script_time(program, [*lines, "turn"]) - events.script_time(program, lines)
 
 
 def watch(target, length):
@@ -270,7 +250,7 @@ def watch(target, length):
 def gone(program, change):
     """An object of nearly a mebibyte goes, which watches see: it is deleted, or loses the label that they ask for."""
     body = {"apiVersion": "v1", "kind": "Pod", "metadata": {"name": "a", "labels": {"seen": "yes"}}, "spec": {"x": [{"": 0}] * 149_000}}
-    with Measured(program) as server:
+    with Server(program) as server:
         root = Client(server, ROOT)
         root.send("POST", PODS, body)
         watches = [watch(f"{PODS}?watch=1&labelSelector=seen%3Dyes", len(compact(body))) for _ in range(WATCHES)]
@@ -292,7 +272,7 @@ def unlabel(root, target, body):
 
 
 def writes(program, target):
-    with Measured(program) as server:
+    with Server(program) as server:
         root = Client(server, ROOT)
         return sum(root.send("POST", target, {"metadata": {"name": it}, "rules": [rule(["get"], [""], ["pods"])]}) for it in entries(WRITES))
 

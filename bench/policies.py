@@ -1,7 +1,6 @@
-#!/usr/bin/env python3
 """Measures the questions about whole policies: processor time and memory of `kapi compare`, `who` and `risks` over policies of many bindings.
 
-usage: policies.py PROGRAM [BINDINGS..]     PROGRAM is the built program; 10,000 and 100,000 bindings if none are named
+usage: python3 -m bench.policies PROGRAM [BINDINGS..]     10,000 and 100,000 bindings if none are named
 
 Each binding gives a user of its own a role in one of 100 namespaces. The policy after has ten bindings more, of users who hold nothing.
 """

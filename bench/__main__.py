@@ -1,0 +1,15 @@
+"""Measures a program. usage: python3 -m bench PROGRAM [NAME,NAME.. [WORD..]]     those that want python3 alone if none is named"""
+import sys
+
+from tools.chosen import Module, main
+
+MEASURES = {
+    "events": Module(words=()),
+    "policies": Module(words=()),
+    "load": Module("cc and wrk"),
+    "instructions": Module("valgrind"),
+    "samples": Module("perf and wrk"),
+}
+
+if __name__ == "__main__":
+    sys.exit(main("bench", MEASURES, *sys.argv[1:]))

@@ -1,0 +1,22 @@
+"""Runs the checks of a program. usage: python3 -m checks PROGRAM [NAME,NAME.. [WORD..]]     the quick ones that want python3 alone if none is named"""
+import sys
+
+from tools.chosen import Module, main
+
+CHECKS = {
+    "statuses": Module(words=()),
+    "kinds": Module(words=()),
+    "live": Module(words=()),
+    "rechecks": Module(words=()),
+    "missing": Module(words=("1000",)),
+    "compare-random": Module(words=("200",)),
+    "hostile": Module(),
+    "crafted": Module(),
+    "growths": Module("cc"),
+    "pages": Module("curl and jq"),
+    "kubectl": Module("kubectl"),
+    "restart": Module("python3-kubernetes"),
+}
+
+if __name__ == "__main__":
+    sys.exit(main("checks", CHECKS, *sys.argv[1:]))
