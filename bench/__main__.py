@@ -12,4 +12,4 @@ MEASURES = {
 }
 
 if __name__ == "__main__":
-    sys.exit(main("bench", MEASURES, *sys.argv[1:]))
+    sys.exit(main("bench", MEASURES, 1, *sys.argv[1:]))

@@ -13,10 +13,9 @@ import tempfile
 import threading
 import time
 
-from tools.server import ANN, ROOT, Server, ask, connect, request, seconds_of, started, whole_answer
+from tools.server import ANN, OTHER, ROOT, Server, ask, connect, request, seconds_of, started, whole_answer
 
 MAPS = "/api/v1/namespaces/default/configmaps"
-ECHO = 18004
 RULES = [{"apiGroups": [""], "resources": ["configmaps"], "verbs": ["get", "list", "watch"]}]
 
 
@@ -110,9 +109,9 @@ def beside_the_echo(program, echo, kind):
     with loaded(program) as server, tempfile.NamedTemporaryFile() as reply:
         reply.write(answer_to(port, request(method, path, body.replace(NUMBER, "0" * 9))))
         reply.flush()
-        other = started([echo, str(ECHO), reply.name], 1)
+        other = started([echo, str(OTHER), reply.name], 1)
         try:
-            pairs = [(time_of_each(server.process, kind), time_of_each(other, kind, ECHO)) for _pair in range(5)]
+            pairs = [(time_of_each(server.process, kind), time_of_each(other, kind, OTHER)) for _pair in range(5)]
         finally:
             other.kill()
             other.wait()

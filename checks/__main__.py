@@ -8,8 +8,8 @@ CHECKS = {
     "kinds": Module(words=()),
     "live": Module(words=()),
     "rechecks": Module(words=()),
-    "missing": Module(words=("1000",)),
-    "compare-random": Module(words=("200",)),
+    "missing": Module(words=("500",)),
+    "compare-random": Module(words=("100",)),
     "hostile": Module(),
     "crafted": Module(),
     "growths": Module("cc"),
@@ -19,4 +19,4 @@ CHECKS = {
 }
 
 if __name__ == "__main__":
-    sys.exit(main("checks", CHECKS, *sys.argv[1:]))
+    sys.exit(main("checks", CHECKS, 4, *sys.argv[1:]))

@@ -10,9 +10,8 @@ import subprocess
 import sys
 import tempfile
 
-from tools.server import ROOT, Server, started
+from tools.server import OTHER, ROOT, Server, started
 
-DOOR = 18022
 MAP = {"apiVersion": "v1", "kind": "ConfigMap", "metadata": {"name": "size"}, "data": {"door": "two"}}
 FILES = {
     "size.json": MAP,
@@ -39,7 +38,7 @@ WANTED = (
 
 
 def said(kubectl, words, room):
-    command = [kubectl, "--server", f"http://127.0.0.1:{DOOR}", *shlex.split(words)]
+    command = [kubectl, "--server", f"http://127.0.0.1:{OTHER}", *shlex.split(words)]
     ran = subprocess.run(command, stdout=subprocess.PIPE, stderr=subprocess.STDOUT, text=True, timeout=60, cwd=room, env={**os.environ, "HOME": room})
     return ran.stdout.partition("\n")[0]
 
@@ -48,7 +47,7 @@ def main(program, kubectl="kubectl"):
     objects = [json.loads(it) for it in pathlib.Path("examples/serve/objects.jsonl").read_text().splitlines() if it.startswith("{")]
     wrong = 0
     with Server(program, "--first-revision", "clock", objects=objects), tempfile.TemporaryDirectory() as room:
-        door = started([sys.executable, "tools/door.py", str(DOOR), str(ROOT)], 1)
+        door = started([sys.executable, "tools/door.py", str(OTHER), str(ROOT)], 1)
         for name, item in FILES.items():
             pathlib.Path(room, name).write_text(json.dumps(item))
         for words, wanted in WANTED:

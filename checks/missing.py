@@ -11,6 +11,8 @@ import random
 import subprocess
 import sys
 
+from bench import events
+
 RBAC = "/apis/rbac.authorization.k8s.io/v1"
 BATCH = 2_000
 VERBS = ["get", "list", "watch", "*", "update"]
@@ -116,9 +118,7 @@ def missing(held, wanted):
 
 
 def request(conn, method, target, body):
-    text = json.dumps(body, separators=(",", ":"))
-    head = f"{method} {RBAC}/{target} HTTP/1.1\\r\\nHost: a\\r\\nContent-Length: {len(text)}\\r\\n\\r\\n"
-    return [f"feed {conn} {head}" + text.replace("\\", "\\\\"), f"serve {conn}"]
+    return events.request(conn, method, f"{RBAC}/{target}", body)
 
 
 def role(name, rules):

@@ -12,9 +12,8 @@ import time
 import urllib3
 from kubernetes import client, watch
 
-from tools.server import ROOT, Server, started
+from tools.server import OTHER, ROOT, Server, started
 
-DOOR = 18022
 SECONDS = 10
 
 
@@ -28,7 +27,7 @@ class Informer(threading.Thread):
     def __init__(self):
         super().__init__(daemon=True)
         configuration = client.Configuration()
-        configuration.host = f"http://127.0.0.1:{DOOR}"
+        configuration.host = f"http://127.0.0.1:{OTHER}"
         self.api = client.CoreV1Api(client.ApiClient(configuration))
         self.cache, self.revision, self.lists = {}, None, 0
 
@@ -71,7 +70,7 @@ def is_right_after(informer, number):
 
 
 def main(program):
-    door = started([sys.executable, "tools/door.py", str(DOOR), str(ROOT)], 1)
+    door = started([sys.executable, "tools/door.py", str(OTHER), str(ROOT)], 1)
     informer, wrong = Informer(), 0
     for number in (40, 20, 80, 0):
         with Server(program, "--first-revision", "clock", objects=objects(number)):

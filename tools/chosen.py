@@ -1,7 +1,8 @@
-"""Runs modules of a folder over a program, one after the other, and tells how long each took."""
+"""Runs modules of a folder over a program, and tells how long each took."""
 import subprocess
 import sys
 import time
+from concurrent.futures import ThreadPoolExecutor
 from dataclasses import dataclass
 
 
@@ -13,24 +14,31 @@ class Module:
     words: tuple = None
 
 
-def main(folder, modules, program, names="", *words):
-    """Runs the modules of these names, with commas between them, and hands them the words; or all that have words here. Whether all ended well."""
+def run(folder, name, words, **how):
+    """Runs a module: whether it failed, what it printed where that is caught, and how it ended."""
+    begun = time.monotonic()
+    ran = subprocess.run([sys.executable, "-m", f"{folder}.{name.replace('-', '_')}", *words], **how)
+    ended = f"FAILED with status {ran.returncode}" if ran.returncode else "passed"
+    return ran.returncode != 0, (ran.stdout or b"").decode(), f"{name}: {ended} after {time.monotonic() - begun:.0f} s"
+
+
+def main(folder, modules, jobs, program, names="", *words):
+    """Runs the modules of these names, with commas between them, one after the other with the words; or so many at a time of all that have words here."""
     named = [it for it in names.replace(",", " ").split() if it]
     others = [it for it in named if it not in modules]
     if others:
-        sys.exit(f"no {', '.join(others)} in {folder}/; there are {', '.join(modules)}")
+        sys.exit(f"{folder}/ has no {', '.join(others)}; there are {', '.join(modules)}")
+    chosen = named or [it for it, module in modules.items() if module.words is not None]
+    how = {} if named or jobs == 1 else {"stdout": subprocess.PIPE, "stderr": subprocess.STDOUT}
     failed = []
+    with ThreadPoolExecutor(1 if named else jobs) as pool:
+        runs = pool.map(lambda it: run(folder, it, [program, *(words if named else modules[it].words)], **how), chosen)
+        for name, (is_failed, told, ended) in zip(chosen, runs):
+            print(told + ended, flush=True)
+            failed += [name] if is_failed else []
     for name, module in modules.items():
-        if named and name not in named:
-            continue
-        if not named and module.words is None:
-            print(f"{name}: left out, as it {'wants ' + module.wants if module.wants else 'takes long'}; ONLY={name} runs it", flush=True)
-            continue
-        begun = time.monotonic()
-        command = [sys.executable, "-m", f"{folder}.{name.replace('-', '_')}", program, *(words if named else module.words)]
-        status = subprocess.run(command).returncode
-        failed += [name] if status else []
-        print(f"{name}: {f'FAILED with status {status}' if status else 'passed'} after {time.monotonic() - begun:.0f} s", flush=True)
+        if not named and name not in chosen:
+            print(f"{name}: left out, as it {'wants ' + module.wants if module.wants else 'takes long'}; ONLY={name} runs it")
     if failed:
         print(f"of {folder}/ failed: {', '.join(failed)}")
     return 1 if failed else 0

@@ -8,7 +8,9 @@ import subprocess
 import sys
 import tempfile
 
-ROOT, ANN, ANSWER = 18011, 18012, 18013
+# Each process has ports of its own, below those that the system gives to clients.
+FIRST = 20_000 + os.getpid() % 2_500 * 4
+ROOT, ANN, ANSWER, OTHER = range(FIRST, FIRST + 4)
 
 
 def started(words, lines, **how):
