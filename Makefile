@@ -3,10 +3,11 @@ PREFIX ?= /usr/local
 PYTHON ?= python3
 PROVED = crates/kapi/out/kapi
 PROGRAM ?= $(PROVED)
+TRIED = out/try/kapi
 # What has to be there before the program is run: nothing, where another one is named.
 READY = $(if $(filter $(PROVED),$(PROGRAM)),kapi)
 
-.PHONY: help demo serve-demo test kapi install serve checks bench kubectl-demo edits
+.PHONY: help demo serve-demo quick test gate kapi install serve checks bench kubectl-demo edits
 
 help: ## tells what there is
 	@sed -n 's/^\([a-z-]*\):.*## /\1 /p' Makefile | while read -r name what; do printf 'make %-13s %s\n' "$$name" "$$what"; done
@@ -23,12 +24,19 @@ serve-demo: ## starts a server on ports 8001 and 8002 for ten minutes; proves no
 	@cd examples/serve && PATH="$(CURDIR)/out/try:$$PATH" timeout --foreground 600 $$(cat command) || test $$? = 124
 	@echo 'The server has ended, as it does after ten minutes.'
 
-test: ## the gate (rt ci)
+quick: ## plays all transcripts and runs the quick checks; proves nothing first
+	@sh tools/unproved.sh
+	@$(PYTHON) -m checks $(TRIED)
+
+test: gate ## the gate (rt ci), and then the quick checks of what it proved
+	@$(MAKE) --no-print-directory checks
+
+gate:
 	@rt ci
 	@sh tools/sources.sh > crates/kapi/out/proved
 
 kapi: ## says where the program lies that was proved of these sources; without one, runs the gate
-	@sh tools/sources.sh | cmp -s - crates/kapi/out/proved && test -x $(PROVED) || $(MAKE) --no-print-directory test
+	@sh tools/sources.sh | cmp -s - crates/kapi/out/proved && test -x $(PROVED) || $(MAKE) --no-print-directory gate
 	@ls -l $(PROVED)
 
 install: kapi ## copies the proved program to PREFIX/bin, of PREFIX=/usr/local

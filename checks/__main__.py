@@ -4,6 +4,7 @@ import sys
 from tools.chosen import Module, main
 
 CHECKS = {
+    "transcripts": Module(words=()),
     "statuses": Module(words=()),
     "kinds": Module(words=()),
     "live": Module(words=()),
