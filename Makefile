@@ -7,7 +7,7 @@ TRIED = out/try/kapi
 # What has to be there before the program is run: nothing, where another one is named.
 READY = $(if $(filter $(PROVED),$(PROGRAM)),kapi)
 
-.PHONY: help demo serve-demo quick test gate kapi install serve checks bench kubectl-demo edits
+.PHONY: help demo serve-demo quick test kapi install serve checks bench kubectl-demo edits
 
 help: ## tells what there is
 	@sed -n 's/^\([a-z-]*\):.*## /\1 /p' Makefile | while read -r name what; do printf 'make %-13s %s\n' "$$name" "$$what"; done
@@ -28,15 +28,12 @@ quick: ## plays all transcripts and runs the quick checks; proves nothing first
 	@sh tools/unproved.sh
 	@$(PYTHON) -m checks $(TRIED)
 
-test: gate ## the gate (rt ci), and then the quick checks of what it proved
-	@$(MAKE) --no-print-directory checks
-
-gate:
+test: ## the gate (rt ci): every proof, the edits that must be refused, the tests and all transcripts
 	@rt ci
 	@sh tools/sources.sh > crates/kapi/out/proved
 
 kapi: ## says where the program lies that was proved of these sources; without one, runs the gate
-	@sh tools/sources.sh | cmp -s - crates/kapi/out/proved && test -x $(PROVED) || $(MAKE) --no-print-directory gate
+	@sh tools/sources.sh | cmp -s - crates/kapi/out/proved && test -x $(PROVED) || $(MAKE) --no-print-directory test
 	@ls -l $(PROVED)
 
 install: kapi ## copies the proved program to PREFIX/bin, of PREFIX=/usr/local
