@@ -9,7 +9,7 @@ READY = $(if $(filter $(PROVED),$(PROGRAM)),kapi)
 
 .PHONY: help demo serve-demo quick test kapi install serve checks bench kubectl-demo edits
 
-help: ## tells what there is
+help: ## lists the targets
 	@sed -n 's/^\([a-z-]*\):.*## /\1 /p' Makefile | while read -r name what; do printf 'make %-13s %s\n' "$$name" "$$what"; done
 
 demo: ## shows an example, of EXAMPLE=demo, audit, compare or replay; proves nothing first
@@ -18,7 +18,7 @@ demo: ## shows an example, of EXAMPLE=demo, audit, compare or replay; proves not
 
 serve-demo: ## starts a server on ports 8001 and 8002 for ten minutes; proves nothing first
 	@sh tools/unproved.sh
-	@echo 'Port 8001 is for root, port 8002 for ann. When it listens go on in another terminal, as docs/USING.md tells:'
+	@echo 'Port 8001 is for root, port 8002 for ann. When it listens go on in another terminal, as docs/USING.md says:'
 	@echo '  curl -s 127.0.0.1:8002/api/v1/namespaces/default/configmaps     what ann may list'
 	@echo '  curl -s 127.0.0.1:8002/api/v1/namespaces/default/secrets        what ann may not'
 	@cd examples/serve && PATH="$(CURDIR)/out/try:$$PATH" timeout --foreground 600 $$(cat command) || test $$? = 124

@@ -1,4 +1,4 @@
-"""Runs modules of a folder over a program, and tells how long each took."""
+"""Runs modules of a folder over a program, and says how long each took."""
 import subprocess
 import sys
 import time
@@ -33,8 +33,8 @@ def main(folder, modules, jobs, program, names="", *words):
     failed = []
     with ThreadPoolExecutor(1 if named else jobs) as pool:
         runs = pool.map(lambda it: run(folder, it, [program, *(words if named else modules[it].words)], **how), chosen)
-        for name, (is_failed, told, ended) in zip(chosen, runs):
-            print(told + ended, flush=True)
+        for name, (is_failed, text, ended) in zip(chosen, runs):
+            print(text + ended, flush=True)
             failed += [name] if is_failed else []
     for name, module in modules.items():
         if not named and name not in chosen:

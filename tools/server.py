@@ -76,7 +76,7 @@ def request(method, path, body=""):
 
 
 def whole_answer(client):
-    """An answer with its body, in whatever pieces it comes; of a watch its head, since that tells no length."""
+    """An answer with its body, in whatever pieces it comes; of a watch its head, since that has no length."""
     answer = b""
     while True:
         head, found, body = answer.partition(b"\r\n\r\n")
