@@ -18,8 +18,7 @@ use Rattle.kapi_rules.specs.declared.atom.Atom.{Atom}
 use Rattle.kapi_rules.specs.declared.atom.Atom.TheVariants as atom
 use Rattle.kapi_rules.specs.declared.atom.Names.{Names}
 use Rattle.kapi_rules.specs.declared.atom.Names.TheVariants as names
-use Rattle.kapi_missing.specs.Private.Left.{is_stopped}
-use Rattle.kapi_missing.specs.Private.Once.{once, once_each, with_word}
+use Rattle.kapi_missing.specs.Private.Once.{is_stopped, once, once_each, with_word}
 
 -- ---- elements of lists
 
@@ -170,7 +169,7 @@ module _ (p : Atom → Bool) where
       by_case true t more = rw t (more found)
       by_case false t more = rw t (more (found ++ w ∷ []))
 
-  some_once : (x : List ℕ) (xs : List (List ℕ)) → (length (once_each (x ∷ xs)) == 0) ≡ false
+  pub some_once : (x : List ℕ) (xs : List (List ℕ)) → (length (once_each (x ∷ xs)) == 0) ≡ false
   unfolding once_each
   some_once x xs = longer x [] xs
 

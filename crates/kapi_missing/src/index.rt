@@ -1,159 +1,342 @@
-//! Rules that may stop atoms, found by the entries of the wanted rule.
-ghost use Rattle.std.specs.Prelude.{◌≡◌, ◌==◌, ◌<◌, ◌+◌, ◌∷◌, [], ◌++◌, ◌&&◌, ◌||◌, ℕ, Bool, List, length, true, IfOk, OnOk};
+//! The rules that may stop atoms, by their entries.
+ghost use Rattle.std.specs.Prelude.{◌≡◌, ◌==◌, ◌∷◌, [], ◌++◌, ◌&&◌, ◌||◌, ℕ, List, Bool, true, false, length, map, IfOk, OnOk};
 ghost use Rattle.std.specs.List.{list_any};
-ghost use Rattle.kapi_model.specs.declared.policy_rule.PolicyRule.{PolicyRule as PolicyRuleValue};
-ghost use Rattle.kapi_missing.specs.Private.Bars.{rule_in};
-ghost use Rattle.kapi_missing.specs.Private.Index.{AddsOnly, AreAllPlaced, AreBars, IsPlaced, Keeps, has_pattern, is_starred as starred, open_start};
-ghost use Rattle.kapi_missing.specs.Private.Sets.{stands, stands_at};
+ghost use Rattle.std.specs.Str.{bytes_eq};
+ghost use Rattle.std.specs.Prelude.{MatchOption};
+ghost use Rattle.kapi_rules.specs.Entries.{star};
+ghost use Rattle.kapi_missing.specs.Private.Index.{IsCovered, IsIndex, IsListed, has_at, is_any_with, is_beginning};
+ghost use Rattle.kapi_missing.specs.Private.Numbers.{has, has_number};
+ghost use Rattle.kapi_missing.specs.Private.Stoppers.{Stopper, earlier_one, held_one, lists as lists_text, stoppers};
 
-use crate::bars::{Bar, bar_of};
-use crate::sets::{Block, Patterns, Sets, add_number, continued, put_at, put_under_all};
+use crate::numbers::{Numbers, add};
 use kapi_model::PolicyRule;
-use kapi_rules::without_stars;
+use kapi_rules::{is_listed, without_stars};
 use kapi_text::{Memory, Text};
 use std::alloc::Global;
 use std::collections::BTreeMap;
 
-/// The numbers of rules: under each entry of each of their lists, and apart those that list no names. Those with an entry
-/// that covers others by a star stand under a fingerprint of that too.
+/// The numbers of rules, by texts.
+pub type Sets<'a> = BTreeMap<&'a [u8], Numbers>;
+
+/// The rules that may stop atoms, held and wanted ones, by each entry of each list and by what held ones cover besides.
 #[derive(Drop)]
-pub struct Index<'a> {
+pub struct Rules<'a> {
     pub verbs: Sets<'a>,
     pub groups: Sets<'a>,
     pub resources: Sets<'a>,
     pub names: Sets<'a>,
     pub urls: Sets<'a>,
-    pub patterns: Patterns,
-    pub nameless: Vec<Block>,
+    /// Those that list no names.
+    pub nameless: Numbers,
+    /// Held ones that list `*`, or no names.
+    pub any_verb: Numbers,
+    pub any_group: Numbers,
+    pub any_resource: Numbers,
+    pub any_name: Numbers,
+    /// Held ones by the text behind the slash of `*/SUBRESOURCE`.
+    pub subresources: Sets<'a>,
+    /// Held ones by the text before the stars at the end of a URL.
+    pub beginnings: Sets<'a>,
+    /// The lengths of these texts.
+    pub lengths: Vec<usize>,
 }
 
-/// Rules that may stop atoms: held ones, or wanted ones. So many of them stand in the index: the others are placed once it is
-/// asked, since many are stopped or found without it.
-#[derive(Drop)]
-pub struct Bars<'a> {
-    pub is_held: bool,
-    pub rules: Vec<Bar<'a>>,
-    pub index: Index<'a>,
-    pub placed: usize,
-}
-
-/// No bars yet.
-pub fn no_bars<'a>(alloc: Global, is_held: bool) -> Bars<'a>
-    ensures { AreBars is_held [] result }
+fn no_rules<'a>(alloc: Global) -> Rules<'a>
+    ensures { IsIndex [] result }
 {
-    Bars {
-        is_held,
-        rules: Vec::new(alloc),
-        index: Index {
-            verbs: BTreeMap::new(alloc),
-            groups: BTreeMap::new(alloc),
-            resources: BTreeMap::new(alloc),
-            names: BTreeMap::new(alloc),
-            urls: BTreeMap::new(alloc),
-            patterns: BTreeMap::new(alloc),
-            nameless: Vec::new(alloc),
-        },
-        placed: 0,
+    Rules {
+        verbs: BTreeMap::new(alloc),
+        groups: BTreeMap::new(alloc),
+        resources: BTreeMap::new(alloc),
+        names: BTreeMap::new(alloc),
+        urls: BTreeMap::new(alloc),
+        nameless: Numbers::Few(Vec::new(alloc)),
+        any_verb: Numbers::Few(Vec::new(alloc)),
+        any_group: Numbers::Few(Vec::new(alloc)),
+        any_resource: Numbers::Few(Vec::new(alloc)),
+        any_name: Numbers::Few(Vec::new(alloc)),
+        subresources: BTreeMap::new(alloc),
+        beginnings: BTreeMap::new(alloc),
+        lengths: Vec::new(alloc),
     }
 }
 
-fn is_starred(entry: &[u8]) -> bool
-    ensures { result ≡ starred entry.now }
-{
-    entry.ends_with(b"*")
+/// The number of a rule, and how many rules there are.
+#[derive(Clone, Copy, Drop)]
+pub struct Numbered {
+    pub number: usize,
+    pub all: usize,
 }
 
-fn is_open(entry: &[u8]) -> bool
-    ensures { result ≡ open_start entry.now }
+// The numbers under the key, which stand there no more.
+fn taken(alloc: Global, sets: &mut Sets<'_>, key: &[u8]) -> Numbers
+    ensures those { (n : ℕ) → has result n ≡ has_at sets.old key.now n }
+    ensures others { (text : List ℕ) (n : ℕ) → bytes_eq key.now text ≡ false → has_at sets.new text n ≡ has_at sets.old text n }
 {
-    entry.starts_with(b"*")
-}
-
-// A URL with stars at its end stands for what begins with the text before them, and a resource with a star at its start
-// for itself.
-fn put_pattern(
-    patterns: &mut Patterns,
-    entry: &[u8],
-    is_url: bool,
-    number: usize,
-) -> Result<(), Memory>
-    ensures { OnOk result ((h n : ℕ) → (stands_at patterns.old h n || (has_pattern is_url h entry.now && (number == n))) ≡ true → stands_at patterns.new h n ≡ true) }
-{
-    if is_url {
-        if is_starred(entry) {
-            return put_at(patterns, continued(0, without_stars(entry)), number);
-        }
-    } else if is_open(entry) {
-        return put_at(patterns, continued(0, entry), number);
+    match sets.remove(key) {
+        Some(numbers) => numbers,
+        None => Numbers::Few(Vec::new(alloc)),
     }
+}
+
+fn put<'a>(alloc: Global, sets: &mut Sets<'a>, key: &'a [u8], this: Numbered) -> Result<(), Memory>
+    ensures { OnOk result ((text : List ℕ) (n : ℕ) → has_at sets.new text n ≡ (has_at sets.old text n || (bytes_eq key.now text && (this.number == n)))) }
+{
+    let mut numbers = taken(alloc, sets, key);
+    add(alloc, &mut numbers, this.number, this.all)?;
+    sets.insert(key, numbers)?;
     Ok(())
 }
 
-fn put_patterns(
-    patterns: &mut Patterns,
-    entries: &[Text],
-    is_url: bool,
-    number: usize,
+fn put_each<'a>(
+    alloc: Global,
+    sets: &mut Sets<'a>,
+    entries: &'a [Text],
+    this: Numbered,
 ) -> Result<(), Memory>
-    ensures { OnOk result ((h n : ℕ) → (stands_at patterns.old h n || (list_any (has_pattern is_url h) entries.now && (number == n))) ≡ true → stands_at patterns.new h n ≡ true) }
+    ensures { OnOk result ((text : List ℕ) (n : ℕ) → has_at sets.new text n ≡ (has_at sets.old text n || (lists_text entries.now text && (this.number == n)))) }
 {
     for entry in entries {
-        put_pattern(patterns, entry.as_str().as_bytes(), is_url, number)?;
+        put(alloc, sets, entry.as_str().as_bytes(), this)?;
     }
     Ok(())
 }
 
-fn put_nameless(nameless: &mut Vec<Block>, names: &[Text], number: usize) -> Result<(), Memory>
-    ensures added { OnOk result ((n : ℕ) → (stands nameless.old.items n || ((length names.now == 0) && (number == n))) ≡ true → stands nameless.new.items n ≡ true) }
-    ensures only { OnOk result ((n : ℕ) → stands nameless.new.items n ≡ true → (stands nameless.old.items n || ((length names.now == 0) && (number == n))) ≡ true) }
+fn add_if(alloc: Global, numbers: &mut Numbers, is_one: bool, this: Numbered) -> Result<(), Memory>
+    ensures { OnOk result ((n : ℕ) → has numbers.new n ≡ (has numbers.old n || (is_one && (this.number == n)))) }
 {
-    if names.is_empty() {
-        add_number(nameless, number)
+    if is_one {
+        add(alloc, numbers, this.number, this.all)
     } else {
         Ok(())
     }
 }
 
-fn place<'a>(index: &mut Index<'a>, bar: &Bar<'a>, number: usize) -> Result<(), Memory>
-    ensures placed { OnOk result (IsPlaced index.new number (rule_in bar.now)) }
-    ensures kept { OnOk result (Keeps index.old index.new) }
-    ensures only { OnOk result (AddsOnly index.old index.new (rule_in bar.now) number) }
+// The text behind `*/`.
+fn subresource(entry: &[u8]) -> Option<&[u8]>
+    ensures { MatchOption result ((text : List ℕ) → is_any_with text entry.now ≡ false) (λ behind. (text : List ℕ) → is_any_with text entry.now ≡ bytes_eq behind.now text) }
 {
-    put_under_all(&mut index.verbs, bar.verbs.all, number)?;
-    put_under_all(&mut index.groups, bar.groups.all, number)?;
-    put_under_all(&mut index.resources, bar.resources.all, number)?;
-    put_under_all(&mut index.names, bar.names.all, number)?;
-    put_under_all(&mut index.urls, bar.urls.all, number)?;
-    put_nameless(&mut index.nameless, bar.names.all, number)?;
-    put_patterns(&mut index.patterns, bar.resources.all, false, number)?;
-    put_patterns(&mut index.patterns, bar.urls.all, true, number)
+    match entry {
+        [b'*', b'/', subresource @ ..] => Some(subresource),
+        _ => None,
+    }
 }
 
-/// One rule more, which is not placed yet.
-pub fn add_bar<'a>(alloc: Global, bars: &mut Bars<'a>, rule: &'a PolicyRule) -> Result<(), Memory>
-    ensures { OnOk result ((held : Bool) (rules : List PolicyRuleValue) → AreBars held rules bars.old → AreBars held (rules ++ rule.now ∷ []) bars.new) }
+fn put_subresource<'a>(
+    alloc: Global,
+    sets: &mut Sets<'a>,
+    entry: &'a [u8],
+    this: Numbered,
+) -> Result<(), Memory>
+    ensures { OnOk result ((text : List ℕ) (n : ℕ) → has_at sets.new text n ≡ (has_at sets.old text n || (is_any_with text entry.now && (this.number == n)))) }
 {
-    bars.rules.push(bar_of(alloc, rule)?)?;
-    Ok(())
+    match subresource(entry) {
+        Some(text) => put(alloc, sets, text, this),
+        None => Ok(()),
+    }
 }
 
-fn place_next(bars: &mut Bars<'_>, number: usize) -> Result<(), Memory>
-    requires { number < length bars.old.rules.items }
-    ensures rules { OnOk result (bars.new.rules ≡ bars.old.rules) }
-    ensures placed { OnOk result (bars.new.placed ≡ number + 1) }
-    ensures bars { OnOk result ((held : Bool) (rules : List PolicyRuleValue) → bars.old.placed ≡ number → AreBars held rules bars.old → AreBars held rules bars.new) }
+fn put_subresources<'a>(
+    alloc: Global,
+    sets: &mut Sets<'a>,
+    entries: &'a [Text],
+    this: Numbered,
+) -> Result<(), Memory>
+    ensures { OnOk result ((text : List ℕ) (n : ℕ) → has_at sets.new text n ≡ (has_at sets.old text n || (list_any (is_any_with text) entries.now && (this.number == n)))) }
 {
-    place(&mut bars.index, &bars.rules[number], number)?;
-    bars.placed = number + 1;
-    Ok(())
-}
-
-/// Places the rules that are not yet, before the index is asked.
-pub fn place_rest(bars: &mut Bars<'_>) -> Result<(), Memory>
-    ensures { OnOk result ((held : Bool) (rules : List PolicyRuleValue) → AreBars held rules bars.old → AreBars held rules bars.new × AreAllPlaced bars.new) }
-{
-    for number in bars.placed..bars.rules.len() {
-        place_next(bars, number)?;
+    for entry in entries {
+        put_subresource(alloc, sets, entry.as_str().as_bytes(), this)?;
     }
     Ok(())
+}
+
+// The text before the stars at the end, if there are some.
+#[tactic(auto, unfolding(crate::specs::Private::Index::is_beginning))]
+fn beginning(entry: &[u8]) -> Option<&[u8]>
+    ensures { MatchOption result ((text : List ℕ) → is_beginning text entry.now ≡ false) (λ front. (text : List ℕ) → is_beginning text entry.now ≡ bytes_eq front.now text) }
+{
+    if entry.ends_with(b"*") {
+        Some(without_stars(entry))
+    } else {
+        None
+    }
+}
+
+fn put_beginning<'a>(
+    alloc: Global,
+    sets: &mut Sets<'a>,
+    entry: &'a [u8],
+    this: Numbered,
+) -> Result<(), Memory>
+    ensures { OnOk result ((text : List ℕ) (n : ℕ) → has_at sets.new text n ≡ (has_at sets.old text n || (is_beginning text entry.now && (this.number == n)))) }
+{
+    match beginning(entry) {
+        Some(text) => put(alloc, sets, text, this),
+        None => Ok(()),
+    }
+}
+
+fn put_beginnings<'a>(
+    alloc: Global,
+    sets: &mut Sets<'a>,
+    entries: &'a [Text],
+    this: Numbered,
+) -> Result<(), Memory>
+    ensures { OnOk result ((text : List ℕ) (n : ℕ) → has_at sets.new text n ≡ (has_at sets.old text n || (list_any (is_beginning text) entries.now && (this.number == n)))) }
+{
+    for entry in entries {
+        put_beginning(alloc, sets, entry.as_str().as_bytes(), this)?;
+    }
+    Ok(())
+}
+
+fn add_length(lengths: &mut Vec<usize>, length: usize) -> Result<(), Memory>
+    ensures { OnOk result ((n : ℕ) → has_number lengths.new.items n ≡ (has_number lengths.old.items n || (length == n))) }
+{
+    if !lengths.iter().any(|known| *known == length) {
+        lengths.push(length)?;
+    }
+    Ok(())
+}
+
+fn add_lengths(lengths: &mut Vec<usize>, entries: &[Text]) -> Result<(), Memory>
+    ensures kept { OnOk result ((n : ℕ) → has_number lengths.old.items n ≡ true → has_number lengths.new.items n ≡ true) }
+    ensures added { OnOk result ((text : List ℕ) → list_any (is_beginning text) entries.now ≡ true → has_number lengths.new.items (length text) ≡ true) }
+{
+    for entry in entries {
+        if let Some(front) = beginning(entry.as_str().as_bytes()) {
+            add_length(lengths, front.len())?;
+        }
+    }
+    Ok(())
+}
+
+fn place_held<'a>(
+    alloc: Global,
+    rules: &mut Rules<'a>,
+    rule: &'a PolicyRule,
+    this: Numbered,
+) -> Result<(), Memory>
+    ensures covered { OnOk result ((all : List Stopper) → this.number ≡ length all → IsCovered all rules.old → IsCovered (all ++ held_one rule.now ∷ []) rules.new) }
+    ensures listed { OnOk result ((all : List Stopper) → IsListed all rules.old → IsListed all rules.new) }
+{
+    add_if(
+        alloc,
+        &mut rules.any_verb,
+        is_listed(rule.verbs.as_slice(), "*"),
+        this,
+    )?;
+    add_if(
+        alloc,
+        &mut rules.any_group,
+        is_listed(rule.api_groups.as_slice(), "*"),
+        this,
+    )?;
+    add_if(
+        alloc,
+        &mut rules.any_resource,
+        is_listed(rule.resources.as_slice(), "*"),
+        this,
+    )?;
+    add_if(
+        alloc,
+        &mut rules.any_name,
+        rule.resource_names.as_slice().is_empty(),
+        this,
+    )?;
+    put_subresources(
+        alloc,
+        &mut rules.subresources,
+        rule.resources.as_slice(),
+        this,
+    )?;
+    put_beginnings(
+        alloc,
+        &mut rules.beginnings,
+        rule.non_resource_urls.as_slice(),
+        this,
+    )?;
+    add_lengths(&mut rules.lengths, rule.non_resource_urls.as_slice())
+}
+
+fn place<'a>(
+    alloc: Global,
+    rules: &mut Rules<'a>,
+    rule: &'a PolicyRule,
+    this: Numbered,
+) -> Result<(), Memory>
+    ensures listed { OnOk result ((all : List Stopper) (s : Stopper) → s.rule ≡ rule.now → this.number ≡ length all → IsListed all rules.old → IsListed (all ++ s ∷ []) rules.new) }
+    ensures covered { OnOk result ((all : List Stopper) → IsCovered all rules.old → IsCovered all rules.new) }
+{
+    put_each(alloc, &mut rules.verbs, rule.verbs.as_slice(), this)?;
+    put_each(alloc, &mut rules.groups, rule.api_groups.as_slice(), this)?;
+    put_each(alloc, &mut rules.resources, rule.resources.as_slice(), this)?;
+    put_each(
+        alloc,
+        &mut rules.names,
+        rule.resource_names.as_slice(),
+        this,
+    )?;
+    put_each(
+        alloc,
+        &mut rules.urls,
+        rule.non_resource_urls.as_slice(),
+        this,
+    )?;
+    add_if(
+        alloc,
+        &mut rules.nameless,
+        rule.resource_names.as_slice().is_empty(),
+        this,
+    )
+}
+
+fn add_held<'a>(
+    alloc: Global,
+    rules: &mut Rules<'a>,
+    rule: &'a PolicyRule,
+    this: Numbered,
+) -> Result<(), Memory>
+    ensures { OnOk result ((all : List Stopper) → this.number ≡ length all → IsIndex all rules.old → IsIndex (all ++ held_one rule.now ∷ []) rules.new) }
+{
+    place(alloc, rules, rule, this)?;
+    place_held(alloc, rules, rule, this)
+}
+
+fn add_wanted<'a>(
+    alloc: Global,
+    rules: &mut Rules<'a>,
+    rule: &'a PolicyRule,
+    this: Numbered,
+) -> Result<(), Memory>
+    ensures { OnOk result ((all : List Stopper) → this.number ≡ length all → IsIndex all rules.old → IsIndex (all ++ earlier_one rule.now ∷ []) rules.new) }
+{
+    place(alloc, rules, rule, this)
+}
+
+fn held_rules<'a>(alloc: Global, held: &'a [PolicyRule], all: usize) -> Result<Rules<'a>, Memory>
+    ensures { IfOk result (λ r. IsIndex (map held_one held.now) r) }
+{
+    let mut rules = no_rules(alloc);
+    for (number, rule) in held.iter().enumerate() {
+        add_held(alloc, &mut rules, rule, Numbered { number, all })?;
+    }
+    Ok(rules)
+}
+
+/// The held rules, which have the first numbers, and the wanted ones.
+pub fn rules_of<'a>(
+    alloc: Global,
+    held: &'a [PolicyRule],
+    wanted: &'a [PolicyRule],
+) -> Result<Rules<'a>, Memory>
+    ensures { IfOk result (λ r. IsIndex (stoppers held.now wanted.now) r) }
+{
+    let all = held.len() + wanted.len();
+    let mut rules = held_rules(alloc, held, all)?;
+    for (position, rule) in wanted.iter().enumerate() {
+        let number = held.len() + position;
+        add_wanted(alloc, &mut rules, rule, Numbered { number, all })?;
+    }
+    Ok(rules)
 }

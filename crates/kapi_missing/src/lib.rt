@@ -1,31 +1,16 @@
-//! What the holder of some rules lacks of others, at a cost that hostile rules cannot drive up.
+//! What the holder of some rules lacks of others.
+//!
+//! A rule, held or wanted earlier, stops an atom exactly if it meets each of the atom's entries. So each entry has its row,
+//! the set of rules that meet it, and what is left below some chosen entries depends only on the rules that meet them all:
+//! all of it if there is no such rule, none of it if one of them meets every entry that may still be chosen. Entries that
+//! the same rules meet leave the same: they are counted once, before any atom is made.
 #![tactic(auto)]
 
-mod alone;
-mod bars;
-mod choosing;
-mod columns;
-mod entries;
-mod finding;
+mod grid;
 mod index;
-mod left;
-mod marks;
 mod missing_atoms;
-mod narrow;
-mod near;
-mod once;
-mod places;
-mod plans;
+mod numbers;
 mod rows;
-mod rules;
-mod sets;
-mod shape;
-mod single;
-mod slices;
-mod slim;
-mod stopped;
-mod table;
-mod tabled;
-mod words;
+mod tree;
 
 pub use missing_atoms::missing;

@@ -1,120 +1,206 @@
-//! The rules that meet each entry of a wanted rule, found once for all its atoms.
-ghost use Rattle.std.specs.Prelude.{◌≡◌, ◌∷◌, [], map, IfOk};
-ghost use Rattle.kapi_missing.specs.Private.Bars.{name_marks};
-ghost use Rattle.kapi_missing.specs.Private.Index.{IsExact, lists, meets_some};
-ghost use Rattle.kapi_missing.specs.Private.Rows.{AreKnown, Listed, Rowed};
+//! Entries of a wanted rule, and the rules that meet each of them.
+ghost use Rattle.std.specs.Prelude.{◌≡◌, ◌&&◌, ◌||◌, ◌==◌, ℕ, List as ListValue, [], true, not, map, IfOk, OnOk};
+ghost use Rattle.std.specs.Str.{bytes_eq};
+ghost use Rattle.kapi_rules.specs.Atoms.{after_slash as behind_slash, names_of};
+ghost use Rattle.kapi_missing.specs.Private.Index.{IsIndex, has_at, has_beginning, has_behind};
+ghost use Rattle.kapi_missing.specs.Private.Left.{IsRow, item, items_in};
+ghost use Rattle.kapi_missing.specs.Private.Numbers.{has, some_has};
+ghost use Rattle.kapi_missing.specs.Private.Once.{HasWords, is_in, once_each, with_word};
+ghost use Rattle.kapi_missing.specs.Private.Stoppers.{Stopper, at, meets, names_item, word_in};
 
-use crate::bars::{Dimension, Sort};
-use crate::index::Bars;
-use crate::near::{row_of, row_of_all};
-use kapi_model::PolicyRule;
+use crate::index::{Rules, Sets};
+use crate::numbers::Numbers;
+use kapi_rules::after_slash;
 use kapi_text::{Memory, Text};
 use std::alloc::Global;
+use std::collections::BTreeSet;
 
-/// The rows of the entries of a list. Where there is no row, each rule may meet the entry, and none surely lists it.
-#[derive(Drop)]
-pub struct Rows {
-    pub met: Vec<Vec<u64>>,
-    pub listed: Vec<Vec<u64>>,
+/// The lists of a rule.
+#[derive(Clone, Copy, Drop, PartialEq)]
+pub enum List {
+    Groups,
+    Resources,
+    Verbs,
+    Names,
+    Urls,
 }
 
-/// The rows of the lists of a wanted rule. For atoms on URLs the groups are the URLs, and resources and names have none.
-#[derive(Drop)]
-pub struct Known {
-    pub groups: Rows,
-    pub resources: Rows,
-    pub verbs: Rows,
-    pub names: Rows,
+/// An entry of a list of a wanted rule; without a text all names, of a rule that lists none.
+#[derive(Clone, Copy, Drop)]
+pub struct Part<'a> {
+    pub list: List,
+    pub text: Option<&'a Text>,
 }
 
-/// A wanted rule whose atoms of one sort are looked at one by one, and the rules that may stop them.
-#[derive(Drop)]
-pub struct Asked<'b, 'a> {
-    pub bars: &'b Bars<'a>,
-    pub sort: Sort,
-    pub rule: &'b PolicyRule,
-    pub known: Known,
-}
-
-fn rows_of(
-    alloc: Global,
-    bars: &Bars<'_>,
-    dimension: Dimension,
-    entries: &[Text],
-) -> Result<Rows, Memory>
-    ensures met { IfOk result (λ r. Rowed bars.now.index (λ b. map (λ e. meets_some bars.now.is_held dimension b (e ∷ [])) entries.now) r.met.items) }
-    ensures listed { IfOk result (λ r. IsExact bars.now → Listed bars.now (λ b. map (λ e. lists dimension e b) entries.now) r.listed.items) }
+fn add_word<'a>(seen: &mut BTreeSet<&'a str>, word: &'a str) -> Result<(), Memory>
+    ensures { OnOk result ((w : ListValue ℕ) → is_in seen.new w ≡ (bytes_eq word.now w || is_in seen.old w)) }
 {
-    let mut met = Vec::new(alloc);
-    let mut listed = Vec::new(alloc);
+    seen.insert(word)?;
+    Ok(())
+}
+
+fn has_word(seen: &BTreeSet<&str>, word: &str) -> bool
+    ensures { result ≡ is_in seen.now word.now }
+{
+    seen.contains(word)
+}
+
+// The word too, unless it is among those that were seen.
+fn push_new<'a>(
+    parts: &mut Vec<Part<'a>>,
+    seen: &mut BTreeSet<&'a str>,
+    list: List,
+    word: &'a Text,
+) -> Result<(), Memory>
+    ensures { OnOk result ((words : ListValue (ListValue ℕ)) → items_in parts.old.items ≡ map (word_in list) words → HasWords seen.old words
+        → (items_in parts.new.items ≡ map (word_in list) (with_word words word.now)) × HasWords seen.new (with_word words word.now)) }
+{
+    if !has_word(seen, word.as_str()) {
+        add_word(seen, word.as_str())?;
+        parts.push(Part {
+            list,
+            text: Some(word),
+        })?;
+    }
+    Ok(())
+}
+
+/// Each entry of the list once, in the order in which they come first.
+#[tactic(auto, unfolding(crate::specs::Private::Once::once_each))]
+pub fn parts<'a>(alloc: Global, list: List, entries: &'a [Text]) -> Result<Vec<Part<'a>>, Memory>
+    ensures { IfOk result (λ v. items_in v.items ≡ map (word_in list) (once_each entries.now)) }
+{
+    let mut parts = Vec::new(alloc);
+    let mut seen = BTreeSet::new(alloc);
     for entry in entries {
-        let row = row_of(alloc, bars, dimension, entry)?;
-        met.push(row.met)?;
-        listed.push(row.listed)?;
+        push_new(&mut parts, &mut seen, list, entry)?;
     }
-    Ok(Rows { met, listed })
+    Ok(parts)
 }
 
-fn rows_of_all(alloc: Global, bars: &Bars<'_>) -> Result<Rows, Memory>
-    ensures met { IfOk result (λ r. Rowed bars.now.index (λ b. name_marks bars.now.is_held b []) r.met.items) }
-    ensures listed { IfOk result (λ r. IsExact bars.now → Listed bars.now (λ b. name_marks bars.now.is_held b []) r.listed.items) }
+fn all_names<'a>(alloc: Global) -> Result<Vec<Part<'a>>, Memory>
+    ensures { IfOk result (λ v. items_in v.items ≡ map names_item (names_of [])) }
 {
-    let row = row_of_all(alloc, bars)?;
-    let mut met = Vec::new(alloc);
-    let mut listed = Vec::new(alloc);
-    met.push(row.met)?;
-    listed.push(row.listed)?;
-    Ok(Rows { met, listed })
+    let mut parts = Vec::new(alloc);
+    parts.push(Part {
+        list: List::Names,
+        text: None,
+    })?;
+    Ok(parts)
 }
 
-fn rows_of_names(alloc: Global, bars: &Bars<'_>, names: &[Text]) -> Result<Rows, Memory>
-    ensures met { IfOk result (λ r. Rowed bars.now.index (λ b. name_marks bars.now.is_held b names.now) r.met.items) }
-    ensures listed { IfOk result (λ r. IsExact bars.now → Listed bars.now (λ b. name_marks bars.now.is_held b names.now) r.listed.items) }
+/// The names of a rule, or all names.
+pub fn names<'a>(alloc: Global, entries: &'a [Text]) -> Result<Vec<Part<'a>>, Memory>
+    ensures { IfOk result (λ v. items_in v.items ≡ map names_item (names_of (once_each entries.now))) }
 {
-    if names.is_empty() {
-        rows_of_all(alloc, bars)
+    if entries.is_empty() {
+        all_names(alloc)
     } else {
-        rows_of(alloc, bars, Dimension::Names, names)
+        parts(alloc, List::Names, entries)
     }
 }
 
-fn no_rows(alloc: Global) -> Rows
-    ensures met { result.met.items ≡ [] }
-    ensures listed { result.listed.items ≡ [] }
+fn push_under<'i>(row: &mut Vec<&'i Numbers>, sets: &'i Sets<'_>, text: &[u8]) -> Result<(), Memory>
+    ensures { OnOk result ((n : ℕ) → some_has row.new.items n ≡ (some_has row.old.items n || has_at sets.now text.now n)) }
 {
-    Rows {
-        met: Vec::new(alloc),
-        listed: Vec::new(alloc),
+    if let Some(numbers) = sets.get(text) {
+        row.push(numbers)?;
+    }
+    Ok(())
+}
+
+// The rules that list the word, and those that meet any word.
+fn push_word<'i>(
+    row: &mut Vec<&'i Numbers>,
+    any: &'i Numbers,
+    sets: &'i Sets<'_>,
+    word: &Text,
+) -> Result<(), Memory>
+    ensures { OnOk result ((n : ℕ) → some_has row.new.items n ≡ (some_has row.old.items n || (has any.now n || has_at sets.now word.now n))) }
+{
+    row.push(any)?;
+    push_under(row, sets, word.as_str().as_bytes())
+}
+
+fn push_behind<'i>(
+    row: &mut Vec<&'i Numbers>,
+    sets: &'i Sets<'_>,
+    resource: &[u8],
+) -> Result<(), Memory>
+    ensures { OnOk result ((n : ℕ) → some_has row.new.items n ≡ (some_has row.old.items n || has_behind sets.now (behind_slash resource.now) n)) }
+{
+    match after_slash(resource) {
+        Some(subresource) => push_under(row, sets, subresource),
+        None => Ok(()),
     }
 }
 
-/// The rows of the lists of a wanted rule.
-pub fn known_of(
+fn push_resource<'i>(
+    row: &mut Vec<&'i Numbers>,
+    rules: &'i Rules<'_>,
+    resource: &Text,
+) -> Result<(), Memory>
+    ensures { OnOk result ((n : ℕ) → some_has row.new.items n
+        ≡ (some_has row.old.items n || ((has rules.now.any_resource n || has_at rules.now.resources resource.now n) || has_behind rules.now.subresources (behind_slash resource.now) n))) }
+{
+    push_word(row, &rules.any_resource, &rules.resources, resource)?;
+    push_behind(row, &rules.subresources, resource.as_str().as_bytes())
+}
+
+fn push_beginnings<'i>(
+    row: &mut Vec<&'i Numbers>,
+    sets: &'i Sets<'_>,
+    lengths: &[usize],
+    url: &[u8],
+) -> Result<(), Memory>
+    ensures { OnOk result ((n : ℕ) → some_has row.new.items n ≡ (some_has row.old.items n || has_beginning sets.now lengths.now url.now n)) }
+{
+    for length in lengths {
+        if *length <= url.len() {
+            push_under(row, sets, &url[..*length])?;
+        }
+    }
+    Ok(())
+}
+
+fn push_url<'i>(row: &mut Vec<&'i Numbers>, rules: &'i Rules<'_>, url: &Text) -> Result<(), Memory>
+    ensures { OnOk result ((n : ℕ) → some_has row.new.items n
+        ≡ (some_has row.old.items n || (has_at rules.now.urls url.now n || has_beginning rules.now.beginnings rules.now.lengths.items url.now n))) }
+{
+    let text = url.as_str().as_bytes();
+    push_under(row, &rules.urls, text)?;
+    push_beginnings(row, &rules.beginnings, rules.lengths.as_slice(), text)
+}
+
+fn push_text<'i>(
+    row: &mut Vec<&'i Numbers>,
+    rules: &'i Rules<'_>,
+    list: List,
+    text: &Text,
+) -> Result<(), Memory>
+    ensures { OnOk result ((all : ListValue Stopper) → IsIndex all rules.now → (n : ℕ) → some_has row.new.items n ≡ (some_has row.old.items n || at (map (meets (word_in list text.now)) all) n)) }
+{
+    match list {
+        List::Groups => push_word(row, &rules.any_group, &rules.groups, text),
+        List::Resources => push_resource(row, rules, text),
+        List::Verbs => push_word(row, &rules.any_verb, &rules.verbs, text),
+        List::Names => push_word(row, &rules.any_name, &rules.names, text),
+        List::Urls => push_url(row, rules, text),
+    }
+}
+
+/// The rules that meet the entry: held ones that cover it, and wanted ones that list it.
+pub fn row<'i>(
     alloc: Global,
-    bars: &Bars<'_>,
-    sort: Sort,
-    rule: &PolicyRule,
-) -> Result<Known, Memory>
-    ensures { IfOk result (λ known. IsExact bars.now → AreKnown bars.now sort rule.now known) }
+    rules: &'i Rules<'_>,
+    part: Part<'_>,
+) -> Result<Vec<&'i Numbers>, Memory>
+    ensures { IfOk result (λ v. (all : ListValue Stopper) → IsIndex all rules.now → IsRow all (item part.entry) v.items) }
 {
-    let verbs = rows_of(alloc, bars, Dimension::Verbs, rule.verbs.as_slice())?;
-    match sort {
-        Sort::Resources => Ok(Known {
-            groups: rows_of(alloc, bars, Dimension::Groups, rule.api_groups.as_slice())?,
-            resources: rows_of(alloc, bars, Dimension::Resources, rule.resources.as_slice())?,
-            verbs,
-            names: rows_of_names(alloc, bars, rule.resource_names.as_slice())?,
-        }),
-        Sort::Urls => Ok(Known {
-            groups: rows_of(
-                alloc,
-                bars,
-                Dimension::Urls,
-                rule.non_resource_urls.as_slice(),
-            )?,
-            resources: no_rows(alloc),
-            verbs,
-            names: no_rows(alloc),
-        }),
+    let mut row = Vec::new(alloc);
+    match part.text {
+        Some(text) => push_text(&mut row, rules, part.list, text)?,
+        None => row.push(&rules.nameless)?,
     }
+    Ok(row)
 }

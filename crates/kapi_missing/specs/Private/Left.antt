@@ -1,100 +1,113 @@
--- The missing atoms of a rule, by the parts that are left of it.
-use Rattle.std.specs.Prelude.{ℕ, suc, Bool, not, ◌&&◌, ◌||◌, if◌then◌else◌, List, [], ◌∷◌, ◌++◌, map}
-use Rattle.std.specs.List.{filter, list_any}
+-- What is left of a wanted rule.
+use Rattle.std.specs.Prelude.{◌≡◌, ℕ, Bool, true, ◌&&◌, if◌then◌else◌, List, [], ◌∷◌, ◌++◌, map, Option, Some, None}
+use Rattle.std.specs.List.{flat_map, list_all, list_any}
+use Rattle.std.specs.Option.{option_map}
 use denote.Ref.{Bor}
 use Rattle.kapi_model.specs.declared.policy_rule.PolicyRule.{PolicyRule}
-use Rattle.kapi_rules.specs.Atoms.{atoms, names_of, resource_atom, url_atom}
-use Rattle.kapi_rules.specs.Missing.{rule_implies, same_atom}
+use Rattle.kapi_rules.specs.Atoms.{names_of, resource_atom, url_atom}
 use Rattle.kapi_rules.specs.declared.atom.Atom.{Atom}
 use Rattle.kapi_rules.specs.declared.atom.Names.{Names}
 use Rattle.kapi_rules.specs.declared.atom.Names.TheVariants as names
-use Rattle.kapi_missing.specs.Private.Marks.{at}
-use Rattle.kapi_missing.specs.declared.left.Level.{Level}
-use Rattle.kapi_missing.specs.declared.left.Level.TheVariants as level
-use Rattle.kapi_missing.specs.declared.marks.Marks.{Marks}
-use Rattle.kapi_missing.specs.declared.plans.Plan.{Plan}
+use Rattle.kapi_missing.specs.Private.Numbers.{has_bit, some_has}
+use Rattle.kapi_missing.specs.Private.Stoppers.{Item, Stopper, at, meets, names_item, word_in}
+use Rattle.kapi_missing.specs.declared.numbers.Numbers.{Numbers}
+use Rattle.kapi_missing.specs.declared.rows.List.TheVariants as of
+use Rattle.kapi_missing.specs.declared.rows.Part.{Part}
+use Rattle.kapi_missing.specs.declared.tree.Class.{Class}
+use Rattle.kapi_missing.specs.declared.tree.Entry.{Entry}
+use Rattle.kapi_missing.specs.declared.tree.Level.{Level}
 
--- what is made of each element and its position, which is counted from there
-abbrev pub each : {A B : Type 0} → (ℕ → A → List B) → ℕ → List A → List B
-each f i [] = []
-each f i (x ∷ xs) = f i x ++ each f (suc i) xs
+-- the choices of an entry of each list that none of the rules meets in all for which the test holds
+abbrev pub left : List Stopper → (Stopper → Bool) → List (List Item) → List (List Item)
+left all test [] = if list_any test all then [] else [] ∷ []
+left all test (items ∷ lists) = flat_map (λ i. map (λ c. i ∷ c) (left all (λ s. test s && meets i s) lists)) items
 
--- the part has the entry at that position
-abbrev pub marked : Level → ℕ → Marks → Bool
-marked level.Groups i m = at m.groups.items i
-marked level.Resources i m = at m.resources.items i
-marked level.Verbs i m = at m.verbs.items i
-marked level.Names i m = at m.names.items i
+abbrev pub names_in : Option (List ℕ) → Names
+names_in None = names.All
+names_in (Some name) = names.One name
 
--- the parts that are referred to
-abbrev pub parts_at : List (Bor Marks) → List Marks
-parts_at parts = map (λ (m : Bor Marks). m.now) parts
+abbrev pub on_url : Option (List ℕ) → Option (List ℕ) → List Atom
+on_url (Some url) (Some verb) = url_atom verb url ∷ []
+on_url (Some url) None = []
+on_url None verb = []
 
--- the atom of those names, where a part has it
-abbrev pub left_name : List Marks → List ℕ → List ℕ → List ℕ → ℕ → Names → List Atom
-left_name parts verb group resource i names =
-    if list_any (marked level.Names i) parts then resource_atom verb group resource names ∷ [] else []
+abbrev pub on_resource : Option (List ℕ) → Option (List ℕ) → Option (List ℕ) → Option (List ℕ) → List Atom
+on_resource (Some group) (Some resource) (Some verb) name = resource_atom verb group resource (names_in name) ∷ []
+on_resource (Some group) (Some resource) None name = []
+on_resource (Some group) None verb name = []
+on_resource None resource verb name = []
 
--- the atom of one name, where a part has it
-abbrev pub left_one_name : List Marks → List ℕ → List ℕ → List ℕ → ℕ → List ℕ → List Atom
-left_one_name parts verb group resource i name = left_name parts verb group resource i (names.One name)
+-- the atom of chosen entries: of a URL and a verb, or of a group, a resource, a verb and names
+abbrev pub atoms_of : List Item → List Atom
+atoms_of (url ∷ verb ∷ []) = on_url url.text verb.text
+atoms_of (group ∷ resource ∷ verb ∷ name ∷ []) = on_resource group.text resource.text verb.text name.text
+atoms_of other = []
 
--- the atoms of one verb on one resource of one group
-abbrev pub left_verb : List Marks → PolicyRule → List ℕ → List ℕ → List ℕ → List Atom
-left_verb parts rule group resource verb = each (left_name parts verb group resource) 0 (names_of rule.resource_names)
+-- the entry that is borrowed
+abbrev pub item : Part → Item
+item part = record { list = part.list; text = option_map (λ (t : Bor (List ℕ)). t.now) part.text }
 
--- the atoms of one verb on one resource of one group, of the parts that have the verb at that position
-abbrev pub near_verb : List Marks → PolicyRule → List ℕ → List ℕ → ℕ → List ℕ → List Atom
-near_verb parts rule group resource i verb = left_verb (filter (marked level.Verbs i) parts) rule group resource verb
+abbrev pub items_in : List Part → List Item
+items_in parts = map item parts
 
--- the atoms of one resource of one group
-abbrev pub left_resource : List Marks → PolicyRule → List ℕ → List ℕ → List Atom
-left_resource parts rule group resource = each (near_verb parts rule group resource) 0 rule.verbs
+-- the set has the numbers of the rules for which the test holds
+abbrev pub Sees : List Stopper → (Stopper → Bool) → List ℕ → Type 0
+Sees all test words = (n : ℕ) → has_bit words n ≡ at (map test all) n
 
--- the atoms of one resource of one group, of the parts that have the resource at that position
-abbrev pub near_resource : List Marks → PolicyRule → List ℕ → ℕ → List ℕ → List Atom
-near_resource parts rule group i resource = left_resource (filter (marked level.Resources i) parts) rule group resource
+-- the row has the numbers of the rules that meet the entry
+abbrev pub IsRow : List Stopper → Item → List (Bor Numbers) → Type 0
+IsRow all i row = (n : ℕ) → some_has row n ≡ at (map (meets i) all) n
 
--- the atoms of one group
-abbrev pub left_group : List Marks → PolicyRule → List ℕ → List Atom
-left_group parts rule group = each (near_resource parts rule group) 0 rule.resources
+abbrev pub AreRows : List Stopper → List Entry → Type 0
+AreRows all [] = Unit {0}
+AreRows all (e ∷ entries) = IsRow all (item e.part) e.row.items × AreRows all entries
 
--- the atoms of one group, of the parts that have the group at that position
-abbrev pub near_group : List Marks → PolicyRule → ℕ → List ℕ → List Atom
-near_group parts rule i group = left_group (filter (marked level.Groups i) parts) rule group
+-- the entries of the lists
+abbrev pub entries_in : List Entry → List Item
+entries_in entries = map (λ e. item e.part) entries
 
--- the atoms on resources
-unfoldable pub left : List Marks → PolicyRule → List Atom
-left parts rule = each (near_group parts rule) 0 rule.api_groups
+abbrev pub lists_in : List Level → List (List Item)
+lists_in levels = map (λ l. entries_in l.entries.items) levels
 
--- the part of the atoms on URLs has the verb at that position
-abbrev pub url_marked : ℕ → Marks → Bool
-url_marked i m = at m.resources.items 0 && (at m.verbs.items i && at m.names.items 0)
+-- the rule meets every entry of the lists
+abbrev pub meets_every : List (List Item) → Stopper → Bool
+meets_every [] s = true
+meets_every (items ∷ lists) s = meets_every lists s && list_all (λ i. meets i s) items
 
--- the atom of one verb on that URL, where a part has it
-abbrev pub left_url_verb : List Marks → List ℕ → ℕ → List ℕ → List Atom
-left_url_verb parts url i verb = if list_any (url_marked i) parts then url_atom verb url ∷ [] else []
+-- the lists, for those rules; others may be in the rows besides
+abbrev pub AreLevels : List Stopper → List Stopper → List Level → Type 0
+AreLevels all others [] = Unit {0}
+AreLevels all others (level ∷ levels) =
+    AreRows (all ++ others) level.entries.items × Sees all (meets_every (lists_in (level ∷ levels))) level.full.items × AreLevels all others levels
 
--- the atoms of one URL
-abbrev pub left_url : List Marks → PolicyRule → List ℕ → List Atom
-left_url parts rule url = each (left_url_verb parts url) 0 rule.verbs
+-- the lists of a rule's atoms on resources, and on URLs
+abbrev pub resource_lists : PolicyRule → List (List Item)
+resource_lists rule =
+    map (word_in of.Groups) rule.api_groups ∷ map (word_in of.Resources) rule.resources ∷ map (word_in of.Verbs) rule.verbs ∷ map names_item (names_of rule.resource_names) ∷ []
 
--- the atoms of one URL, of the parts that have the URL at that position
-abbrev pub near_url : List Marks → PolicyRule → ℕ → List ℕ → List Atom
-near_url parts rule i url = left_url (filter (marked level.Groups i) parts) rule url
+abbrev pub url_lists : PolicyRule → List (List Item)
+url_lists rule = map (word_in of.Urls) rule.non_resource_urls ∷ map (word_in of.Verbs) rule.verbs ∷ []
 
--- the atoms on URLs
-unfoldable pub left_urls : List Marks → PolicyRule → List Atom
-left_urls parts rule = each (near_url parts rule) 0 rule.non_resource_urls
+-- the atoms that are left of the lists
+abbrev pub left_atoms : List Stopper → List (List Item) → List Atom
+left_atoms all lists = flat_map atoms_of (left all (λ s. true) lists)
 
--- the missing atoms of a planned rule
-abbrev pub left_of : Plan → List Atom
-left_of plan = left plan.resources.items plan.rule ++ left_urls plan.urls.items plan.rule
+-- none counted, none left of the lists, if the rules meet what is chosen
+abbrev pub IsCounted : List Stopper → List (List Item) → List ℕ → ℕ → Type 0
+IsCounted all lists rules count = count ≡ 0 → (test : Stopper → Bool) → Sees all test rules → left all test lists ≡ []
 
--- an atom that a held rule implies, or that an earlier wanted rule has
-abbrev pub is_stopped : List PolicyRule → List PolicyRule → Atom → Bool
-is_stopped held before a = list_any (λ h. rule_implies h a) held || list_any (λ w. list_any (same_atom a) (atoms w)) before
+abbrev pub AreClasses : List Stopper → List (List Item) → List Class → Type 0
+AreClasses all lists [] = Unit {0}
+AreClasses all lists (c ∷ classes) = IsCounted all lists c.rules.items c.left × AreClasses all lists classes
 
--- the atoms of a wanted rule that are missing
-unfoldable pub left_atoms : List PolicyRule → List PolicyRule → PolicyRule → List Atom
-left_atoms held before rule = filter (λ a. not (is_stopped held before a)) (atoms rule)
+-- the text that is borrowed
+abbrev pub text_in : Option (Bor (List ℕ)) → Option (List ℕ)
+text_in text = option_map (λ (t : Bor (List ℕ)). t.now) text
+
+-- the atoms of the choices, behind what is chosen
+abbrev pub atoms_behind : List Item → List (List Item) → List Atom
+atoms_behind chosen choices = flat_map (λ c. atoms_of (chosen ++ c)) choices
+
+-- nothing is left of the rule
+abbrev pub IsNoneLeft : List Stopper → PolicyRule → Type 0
+IsNoneLeft all rule = (left all (λ s. true) (resource_lists rule) ≡ []) × (left all (λ s. true) (url_lists rule) ≡ [])

@@ -1,52 +1,21 @@
-use Rattle.std.proofs.lemmas.Bool.{or_left}
+use Rattle.std.proofs.Common.{◌∙◌, ◌==◌, length, ap, sym}
 use Rattle.std.proofs.lemmas.Result.{on_ok_weaker}
-use Rattle.kapi_missing.proofs.Adding.{adds_only, placed_all, put_own}
-use Rattle.kapi_missing.specs.Private.Bars.{rule_in}
-use Rattle.kapi_missing.specs.declared.index.Index.{Index}
+use Rattle.kapi_missing.proofs.Placing.{grown}
+use Rattle.kapi_missing.specs.Private.Stoppers.{lists}
 use Rattle.kapi_missing.proofs.index.place.Goals as goal
 
-pub returns-clause-placed : goal.returns-clause-placed
-returns-clause-placed c =
-    let rule = rule_in c.args.bar.now in
-    let n = c.args.number in
-    let new : Index = record {
-      verbs = c.put_under_all.new.sets;
-      groups = c.put_under_all-2.new.sets;
-      resources = c.put_under_all-3.new.sets;
-      names = c.put_under_all-4.new.sets;
-      urls = c.put_under_all-5.new.sets;
-      patterns = c.put_patterns-2.new.patterns;
-      nameless = c.put_nameless.new.nameless;
-    } in
-    on_ok_weaker c.put_patterns-2.result (λ urls.
-    placed_all new n rule
-    (λ e is. c.in_ok-put_under_all.ensures.added e n (put_own _ _ n is))
-    (λ e is. c.in_ok-put_under_all-2.ensures.added e n (put_own _ _ n is))
-    (λ e is. c.in_ok-put_under_all-3.ensures.added e n (put_own _ _ n is))
-    (λ e is. c.in_ok-put_under_all-4.ensures.added e n (put_own _ _ n is))
-    (λ e is. c.in_ok-put_under_all-5.ensures.added e n (put_own _ _ n is))
-    (λ h is. urls h n (or_left _ _ (c.in_ok-put_patterns.ensures h n (put_own _ _ n is))))
-    (λ h is. urls h n (put_own _ _ n is))
-    (λ is. c.in_ok-put_nameless.ensures.added n (put_own _ _ n is)))
-    c.put_patterns-2.ensures
-
-pub returns-clause-only : goal.returns-clause-only
-returns-clause-only c =
-    let new : Index = record {
-      verbs = c.put_under_all.new.sets;
-      groups = c.put_under_all-2.new.sets;
-      resources = c.put_under_all-3.new.sets;
-      names = c.put_under_all-4.new.sets;
-      urls = c.put_under_all-5.new.sets;
-      patterns = c.put_patterns-2.new.patterns;
-      nameless = c.put_nameless.new.nameless;
-    } in
-    on_ok_weaker c.put_patterns-2.result (λ urls.
-    adds_only c.args.index.now new (rule_in c.args.bar.now) c.args.number
-    (λ e n is. c.in_ok-put_under_all.ensures.only e n is)
-    (λ e n is. c.in_ok-put_under_all-2.ensures.only e n is)
-    (λ e n is. c.in_ok-put_under_all-3.ensures.only e n is)
-    (λ e n is. c.in_ok-put_under_all-4.ensures.only e n is)
-    (λ e n is. c.in_ok-put_under_all-5.ensures.only e n is)
-    (λ n is. c.in_ok-put_nameless.ensures.only n is))
-    c.put_patterns-2.ensures
+pub returns-clause-listed : goal.returns-clause-listed
+returns-clause-listed c = on_ok_weaker c.add_if.result (λ last. λ all s is number old. record {
+  verbs = λ text n. grown (λ s. lists s.rule.verbs text) all s c.args.this.number n _ _ _ number (old.verbs text n)
+      (ap (λ xs. lists xs text) (c.as_slice.ensures ∙ ap (λ r. r.verbs) (sym is))) (c.in_ok-put_each.ensures text n);
+  groups = λ text n. grown (λ s. lists s.rule.api_groups text) all s c.args.this.number n _ _ _ number (old.groups text n)
+      (ap (λ xs. lists xs text) (c.as_slice-2.ensures ∙ ap (λ r. r.api_groups) (sym is))) (c.in_ok-put_each-2.ensures text n);
+  resources = λ text n. grown (λ s. lists s.rule.resources text) all s c.args.this.number n _ _ _ number (old.resources text n)
+      (ap (λ xs. lists xs text) (c.as_slice-3.ensures ∙ ap (λ r. r.resources) (sym is))) (c.in_ok-put_each-3.ensures text n);
+  names = λ text n. grown (λ s. lists s.rule.resource_names text) all s c.args.this.number n _ _ _ number (old.names text n)
+      (ap (λ xs. lists xs text) (c.as_slice-4.ensures ∙ ap (λ r. r.resource_names) (sym is))) (c.in_ok-put_each-4.ensures text n);
+  urls = λ text n. grown (λ s. lists s.rule.non_resource_urls text) all s c.args.this.number n _ _ _ number (old.urls text n)
+      (ap (λ xs. lists xs text) (c.as_slice-5.ensures ∙ ap (λ r. r.non_resource_urls) (sym is))) (c.in_ok-put_each-5.ensures text n);
+  nameless = λ n. grown (λ s. length s.rule.resource_names == 0) all s c.args.this.number n _ _ _ number (old.nameless n)
+      (c.is_empty.ensures ∙ ap (λ xs. length xs == 0) (c.as_slice-6.ensures ∙ ap (λ r. r.resource_names) (sym is))) (last n);
+}) c.add_if.ensures

@@ -1,7 +1,0 @@
-use Rattle.std.proofs.Common.{◌≡◌, drop}
-use Rattle.std.specs.List.{list_any}
-use Rattle.kapi_missing.specs.Private.Left.{parts_at, url_marked}
-use Rattle.kapi_missing.proofs.left.is_any_url.Given as goal
-
-abbrev pub invariant-loop-marks : goal.invariant-loop-marks
-invariant-loop-marks l = list_any (url_marked l.position) (parts_at (drop l.marks-index l.parts)) ≡ list_any (url_marked l.position) (parts_at l.parts)
