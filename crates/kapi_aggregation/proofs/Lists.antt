@@ -1,5 +1,5 @@
 -- Elements of lists, and tests on them.
-use Rattle.std.proofs.Common.{◌≡◌, inl, inr, ℕ, List, [], ◌∷◌, Bool, true, false, cond, ◌&&◌, refl, ap, map}
+use Rattle.std.proofs.Common.{◌≡◌, inl, inr, ℕ, List, [], ◌∷◌, Bool, true, false, cond, ◌&&◌, ◌||◌, refl, ap, map}
 use Rattle.std.proofs.lemmas.Slice.Eq.{bytes_eq-Decides}
 use Rattle.std.specs.List.{AllByRecursion, filter, list_any}
 use Rattle.std.specs.Str.{bytes_eq}
@@ -23,6 +23,15 @@ module _ {X : Type 0} (p : X → Bool) where
   none_at [] x fails has = absurd has
   none_at (y ∷ ys) x fails (inl same) = rw (← same) (or_parts (p y) (list_any p ys) fails).0
   none_at (y ∷ ys) x fails (inr has) = none_at ys x (or_parts (p y) (list_any p ys) fails).1 has
+
+  -- some item passes
+  pub any_of : (xs : List X) → list_any p xs ≡ true → (x : X) × (Has xs x × (p x ≡ true))
+  any_of [] h = absurd (cc h)
+  any_of (y ∷ ys) h = by_case (p y) refl (any_of ys) h
+    where
+      by_case : (b : Bool) → p y ≡ b → (list_any p ys ≡ true → (x : X) × (Has ys x × (p x ≡ true))) → (b || list_any p ys) ≡ true → (x : X) × (Has (y ∷ ys) x × (p x ≡ true))
+      by_case true passes rest k = (y, (inl refl, passes))
+      by_case false fails rest k = let more = rest k in (more.0, (inr more.1.0, more.1.1))
 
   pub some_at : (xs : List X) (x : X) → Has xs x → p x ≡ true → list_any p xs ≡ true
   some_at [] x has passes = absurd has

@@ -1,9 +1,9 @@
 -- After a note every aggregated cluster role is known, and marked if it differs.
-use Rattle.std.proofs.Common.{◌≡◌, ◌⊎◌, inl, inr, ℕ, List, [], ◌∷◌, ◌++◌, Bool, true, false, cond, not, ◌&&◌, ◌||◌, Option, None, Some, option_map, codes, refl, sym, ap, ◌∙◌, subst, map}
+use Rattle.std.proofs.Common.{◌≡◌, ◌⊎◌, inl, inr, ℕ, List, [], ◌∷◌, ◌++◌, Bool, true, false, cond, not, ◌&&◌, ◌||◌, Option, None, Some, option_map, is_some, codes, refl, sym, ap, ◌∙◌, subst, map}
 use Rattle.std.proofs.lemmas.Cmp.{tied_itself}
 use Rattle.std.proofs.lemmas.Map.Text.{is_eq-slice_cmp}
 use Rattle.std.specs.Cmp.Lexicographic.{slice_cmp}
-use Rattle.std.specs.List.{filter, flat_map, fold, list_any}
+use Rattle.std.specs.List.{AllByRecursion, filter, flat_map, fold, list_any}
 use Rattle.std.specs.List.Sorted.{IsStrictlySortedBy}
 use Rattle.std.specs.Map.{keys_of, lookup}
 use Rattle.std.specs.Ordering.{is_eq, nat_cmp}
@@ -13,22 +13,28 @@ use Rattle.std.proofs.lemmas.Bool.{and_parts, and_from, or_parts, and_right}
 use Rattle.serde_json.specs.Data.{Data}
 use Rattle.kapi_model.specs.Kinds.{rbac_group}
 use Rattle.kapi_model.specs.Selector.{matches}
+use Rattle.kapi_model.specs.declared.aggregation_rule.AggregationRule.{AggregationRule}
 use Rattle.kapi_model.specs.declared.policy_rule.PolicyRule.{PolicyRule}
 use Rattle.kapi_model.specs.declared.selector.Selector.{Selector}
+use Rattle.kapi_rbac_types.specs.Trees.{cluster_role_of}
 use Rattle.kapi_store.proofs.Keys.{key_total}
 use Rattle.kapi_store.specs.Changes.{placed_all}
 use Rattle.kapi_store.specs.Keys.{is_key, key_cmp}
-use Rattle.kapi_store.specs.Plain.{PlainChange, plain_of, trees_left_by}
+use Rattle.kapi_store.proofs.Labelled.{told_ordered, values_kept}
+use Rattle.kapi_store.specs.Plain.{PlainChange, plain_change, plain_of, trees, trees_left_by}
 use Rattle.kapi_store.specs.State.{IsStore, State, objects}
+use Rattle.kapi_store.specs.Stored.{stored_tree}
+use Rattle.kapi_store.specs.declared.change.Change.{Change}
 use Rattle.kapi_store.specs.declared.key.Key.{Key}
+use Rattle.kapi_store.specs.declared.stored.StoredObject.{StoredObject}
 use Rattle.kapi_aggregation.specs.Rewriting.{role_key}
-use Rattle.kapi_aggregation.specs.Roles.{Labelled, is_aggregated, is_cluster_role, labelled_at, labelled_tree, labels_in, roles_in, selectors_of, takes_from}
+use Rattle.kapi_aggregation.specs.Roles.{Labelled, is_aggregated, is_cluster_role, labelled_at, labelled_tree, labels_in, roles_in, selectors_in, selectors_of, takes_from}
 use Rattle.kapi_aggregation.specs.Unions.{is_meant, rules_meant, same_rules, union_for, with_rule}
 use Rattle.kapi_aggregation.specs.Turns.{differs}
-use Rattle.kapi_aggregation.specs.Marks.{Covers, IsCovered, KeepsBoth, Tracked, has_rule, is_marked, is_taker, learned, listed_if, mark_all, noted, role_at, takers_in}
+use Rattle.kapi_aggregation.specs.Marks.{Covers, IsCovered, IsKnown, KeepsBoth, Tracked, is_known, is_marked, learned, mark_all, noted, role_at, rule_left, taker_of}
 use Rattle.kapi_aggregation.proofs.Lists.{all_at, all_from, filter_mapped, filter_twice, has_kept, has_mapped, kept_of, mapped_of, none_at, same_text, then_false}
 use Rattle.kapi_aggregation.specs.Members.{Has}
-use Rattle.kapi_aggregation.proofs.Marking.{all_keep, all_mark, is_moved, learned_has, learned_keeps, takes_object}
+use Rattle.kapi_aggregation.proofs.Marking.{AreKept, all_keep, all_mark, is_moved, learned_has, learned_keeps, still_known, takes_object}
 use Rattle.kapi_aggregation.proofs.Placed.{key_is, placed_all_filter, placed_all_has}
 use Rattle.kapi_aggregation.proofs.Read.{empty_is, keys_of_trees}
 
@@ -45,13 +51,8 @@ key_itself k = tied_itself key_total k
 not_itself : (k l : Key) → l ≡ k → key_cmp k l ≡ Less → ⊥
 not_itself k l same less = let equal : key_cmp k l ≡ Equal = rw same (key_itself k) in cc (equal, less)
 
--- a role behind the listed ones
-listed_before : (o : Option Labelled) (rs : List Labelled) (r : Labelled) → Has rs r → Has (listed_if o ++ rs) r
-listed_before None rs r has = has
-listed_before (Some q) rs r has = inr has
-
 -- in the order of keys, what is looked up at the place of an entry is that entry's
-entry_found : (os : List (Key × Data)) → IsStrictlySortedBy key_cmp (keys_of os) → (e : Key × Data) → Has os e → lookup (is_key e.0) os ≡ Some e.1
+pub entry_found : (os : List (Key × Data)) → IsStrictlySortedBy key_cmp (keys_of os) → (e : Key × Data) → Has os e → lookup (is_key e.0) os ≡ Some e.1
 unfolding IsStrictlySortedBy
 entry_found [] sorted e has = absurd has
 entry_found (y ∷ os) sorted e (inl same) =
@@ -79,25 +80,13 @@ place_is k is =
     }
 
 -- a stored cluster role is the one of its name
-role_found : (os : List (Key × Data)) → IsStrictlySortedBy key_cmp (keys_of os) → (e : Key × Data) → Has os e → is_cluster_role e.0 ≡ true → role_at os e.0.name ≡ Some (labelled_tree e)
+pub role_found : (os : List (Key × Data)) → IsStrictlySortedBy key_cmp (keys_of os) → (e : Key × Data) → Has os e → is_cluster_role e.0 ≡ true → role_at os e.0.name ≡ Some (labelled_tree e)
 role_found os sorted e has is =
     ap (λ (k : Key). option_map (labelled_at e.0.name) (lookup (is_key k) os)) (place_is e.0 is) ∙ ap (option_map (labelled_at e.0.name)) (entry_found os sorted e has)
 
--- a cluster role is read where its name is kept
-taker_has : (os : List (Key × Data)) (names : List (List ℕ)) (name : List ℕ) (r : Labelled) → role_at os name ≡ Some r → is_marked names name ≡ true → Has (takers_in os names) r
-taker_has os [] name r found kept = absurd (cc kept)
-taker_has os (n ∷ names) name r found kept = by_name (is_eq (slice_cmp nat_cmp name n)) refl (taker_has os names name r found) kept
-  where
-    by_name : (b : Bool) → is_eq (slice_cmp nat_cmp name n) ≡ b → (is_marked names name ≡ true → Has (takers_in os names) r) → (b || is_marked names name) ≡ true → Has (listed_if (role_at os n) ++ takers_in os names) r
-    by_name true same rest k =
-        let P : Option Labelled → Type 0 = λ o. Has (listed_if o ++ takers_in os names) r in
-        let at : name ≡ n = same_text name n (sym (is_eq-slice_cmp name n) ∙ same) in
-        subst P (sym found ∙ ap (role_at os) at) (inl refl)
-    by_name false same rest k = listed_before (role_at os n) (takers_in os names) r (rest k)
-
 -- ---- what a note leaves
 
-module _ (os : List (Key × Data)) (cs : List PlainChange) (sorted : IsStrictlySortedBy key_cmp (keys_of os)) where
+module _ (os : List (Key × Data)) (cs : List PlainChange) (sorted : IsStrictlySortedBy key_cmp (keys_of os)) (kept : AllByRecursion (λ c. AreKept (lookup (is_key c.key) os) × AreKept c.new) cs) where
   module _ (r : Labelled) (still : list_any (is_moved os r) cs ≡ false) where
     -- a selector of the role matches the object of an entry
     meant : Selector → Key × Data → Bool
@@ -171,34 +160,33 @@ module _ (os : List (Key × Data)) (cs : List PlainChange) (sorted : IsStrictlyS
       covered : IsCovered t (roles_in os) (labelled_tree e)
       covered = all_at (IsCovered t (roles_in os)) (roles_in os) (labelled_tree e) covers (has_mapped labelled_tree (filter (λ e. is_cluster_role e.0) os) e (has_kept (λ (e : Key × Data). is_cluster_role e.0) os e there is))
 
-      known : is_aggregated (labelled_tree e) ≡ true → is_marked (learned t cs).takers e.0.name ≡ true
-      known aggregated = (learned_keeps t cs).1 e.0.name (covered.0 aggregated)
+      known : IsKnown (learned t cs).takers (labelled_tree e)
+      known = still_known t.takers (learned t cs).takers (labelled_tree e) (learned_keeps t cs).1 covered.0
 
       marked : (b : Bool) → list_any (is_moved os (labelled_tree e)) cs ≡ b → differs (roles_in after) (labelled_tree e) ≡ true
-          → is_marked (mark_all os (takers_in os (learned t cs).takers) (learned t cs).marks cs) e.0.name ≡ true
-      marked true moved d =
-          let aggregated = (and_parts (is_aggregated (labelled_tree e)) _ d).0 in
-          all_mark os (takers_in os (learned t cs).takers) (learned t cs).marks cs (labelled_tree e)
-          (taker_has os (learned t cs).takers e.0.name (labelled_tree e) (role_found os sorted e there is) (known aggregated)) moved
+          → is_marked (mark_all os (learned t cs).takers (learned t cs).marks cs) e.0.name ≡ true
+      marked true moved d = all_mark os (learned t cs).takers (labelled_tree e) (role_found os sorted e there is) known (learned t cs).marks cs kept moved
       marked false still d =
           let before : differs (roles_in os) (labelled_tree e) ≡ true = sym (same_differs (labelled_tree e) still) ∙ d in
-          all_keep os (takers_in os (learned t cs).takers) (learned t cs).marks cs e.0.name ((learned_keeps t cs).0 e.0.name (covered.1 before))
+          all_keep os (learned t cs).takers (learned t cs).marks cs e.0.name ((learned_keeps t cs).0 e.0.name (covered.1 before))
 
       stood : IsCovered (noted os t cs) (roles_in after) (labelled_tree e)
       unfolding noted
       stood = (known, marked (list_any (is_moved os (labelled_tree e)) cs) refl)
 
-    leaves_rule : (c : PlainChange) (x : Data) → c.new ≡ Some x → is_aggregated (labelled_at c.key.name x) ≡ true → has_rule c.new ≡ true
-    leaves_rule c x puts is = rw puts is
+    leaves_rule : (c : PlainChange) (x : Data) (rule : AggregationRule) → c.new ≡ Some x → is_cluster_role c.key ≡ true → (cluster_role_of x).aggregation_rule ≡ Some rule → rule_left c ≡ Some rule
+    leaves_rule c x rule puts is has = rw (is, puts) has
 
     -- a role that a change leaves is known, and marked if it differs
     left : (c : PlainChange) (x : Data) → Has cs c → c.new ≡ Some x → is_cluster_role c.key ≡ true → IsCovered (noted os t cs) (roles_in after) (labelled_at c.key.name x)
     unfolding noted
-    left c x there puts is =
-        let taker : is_aggregated (labelled_at c.key.name x) ≡ true → is_taker c ≡ true = λ aggregated. and_from (is_cluster_role c.key) (has_rule c.new) is (leaves_rule c x puts aggregated) in (
-          λ aggregated. (learned_has t cs c there (taker aggregated)).1,
-          λ d. all_keep os (takers_in os (learned t cs).takers) (learned t cs).marks cs c.key.name (learned_has t cs c there (taker (and_parts (is_aggregated (labelled_at c.key.name x)) _ d).0)).0,
-        )
+    left c x there puts is = by_rule (cluster_role_of x).aggregation_rule refl
+      where
+        by_rule : (o : Option AggregationRule) → (cluster_role_of x).aggregation_rule ≡ o → IsCovered (noted os t cs) (roles_in after) (labelled_at c.key.name x)
+        by_rule None none = (subst (λ o. AllByRecursion (λ s. is_known (learned t cs).takers (taker_of c.key.name s) ≡ true) (selectors_in o)) (sym none) tt, λ d. absurd (let never : is_some (cluster_role_of x).aggregation_rule ≡ false = ap is_some none in cc (never, (and_parts (is_aggregated (labelled_at c.key.name x)) _ d).0)))
+        by_rule (Some rule) some =
+            let both = learned_has t cs c rule there (leaves_rule c x rule puts is some) in
+            (subst (λ o. AllByRecursion (λ s. is_known (learned t cs).takers (taker_of c.key.name s) ≡ true) (selectors_in o)) (sym some) both.1, λ d. all_keep os (learned t cs).takers (learned t cs).marks cs c.key.name both.0)
 
     Covered : Labelled → Type 0
     Covered r = IsCovered (noted os t cs) (roles_in after) r
@@ -227,13 +215,35 @@ module _ (os : List (Key × Data)) (cs : List PlainChange) (sorted : IsStrictlyS
     unfolding Covered
     covers_noted = all_from (IsCovered (noted os t cs) (roles_in after)) (roles_in after) (λ r has. by_entry r (mapped_of labelled_tree (filter (λ e. is_cluster_role e.0) after) r has))
 
--- a note of a store's changes covers its cluster roles
-pub note_covers : (s : State) (cs : List PlainChange) (old new : Tracked) → IsStore s → new ≡ noted (plain_of s).objects old cs → Covers old (roles_in (plain_of s).objects)
-    → Covers new (roles_in (placed_all (trees_left_by cs) (plain_of s).objects))
-note_covers s cs old new is made covers = rw made (covers_noted (plain_of s).objects cs (rw (keys_of_trees (objects s)) is.ordered) old covers)
+-- ---- the labels that are kept
 
--- names that are more cover as well
+kept_there : (os : List (Key × StoredObject)) (k : Key) → AreKept (lookup (is_key k) (trees os))
+kept_there [] k = tt
+kept_there (o ∷ os) k = by_key (is_key k o.0) (kept_there os k)
+  where
+    by_key : (b : Bool) → AreKept (lookup (is_key k) (trees os)) → AreKept (cond b (Some (stored_tree o.1)) (lookup (is_key k) (trees os)))
+    by_key true rest = values_kept (stored_tree o.1) (told_ordered o.1.text o.1.reads)
+    by_key false rest = rest
+
+kept_left : (c : Change) → AreKept (plain_change c).new
+kept_left c = by_new c.new
+  where
+    by_new : (o : Option StoredObject) → AreKept (option_map stored_tree o)
+    by_new None = tt
+    by_new (Some o) = values_kept (stored_tree o) (told_ordered o.text o.reads)
+
+kept_all : (s : State) (cs : List Change) → AllByRecursion (λ c. AreKept (lookup (is_key c.key) (plain_of s).objects) × AreKept c.new) (map plain_change cs)
+kept_all s [] = tt
+kept_all s (c ∷ cs) = ((kept_there (objects s) c.key, kept_left c), kept_all s cs)
+
+-- a note of a store's changes covers its cluster roles
+pub note_covers : (s : State) (cs : List Change) (old new : Tracked) → IsStore s → new ≡ noted (plain_of s).objects old (map plain_change cs) → Covers old (roles_in (plain_of s).objects)
+    → Covers new (roles_in (placed_all (trees_left_by (map plain_change cs)) (plain_of s).objects))
+note_covers s cs old new is made covers =
+    rw made (covers_noted (plain_of s).objects (map plain_change cs) (rw (keys_of_trees (objects s)) is.ordered) (kept_all s cs) old covers)
+
+-- what is more covers as well
 pub keeps_covers : (old new : Tracked) (roles : List Labelled) → KeepsBoth old new → Covers old roles → Covers new roles
 keeps_covers old new roles keeps covers =
     all_from (IsCovered new roles) roles
-    (λ r has. let covered = all_at (IsCovered old roles) roles r covers has in ((λ is. keeps.1 r.name (covered.0 is)), (λ d. keeps.0 r.name (covered.1 d))))
+    (λ r has. let covered = all_at (IsCovered old roles) roles r covers has in (still_known old.takers new.takers r keeps.1 covered.0, (λ d. keeps.0 r.name (covered.1 d))))

@@ -1,9 +1,9 @@
 -- The cluster roles of a list of cluster roles are those of the store, and they are in the order of their names.
-use Rattle.std.proofs.Common.{◌≡◌, ℕ, List, [], ◌∷◌, Bool, true, false, cond, ◌&&◌, ◌==◌, length, refl, sym, ap, ◌∙◌, subst, map, codes}
+use Rattle.std.proofs.Common.{◌≡◌, ℕ, List, [], ◌∷◌, Bool, true, false, cond, not, ◌&&◌, ◌==◌, length, refl, sym, ap, ◌∙◌, subst, map, codes, Result, Ok, Err, IfOk}
 use Rattle.std.proofs.Math.Dec.{eqb-suc-zero}
 use Rattle.std.proofs.lemmas.Map.Text.{is_eq-slice_cmp}
 use Rattle.std.specs.Cmp.Lexicographic.{slice_cmp}
-use Rattle.std.specs.List.{AllByRecursion, filter, list_all}
+use Rattle.std.specs.List.{AllByRecursion, filter, flat_map, list_all}
 use Rattle.std.specs.List.Sorted.{IsStrictlySortedBy}
 use Rattle.std.specs.Map.{keys_of}
 use Rattle.std.specs.Ordering.{is_eq, nat_cmp, ordering_then}
@@ -23,7 +23,12 @@ use Rattle.kapi_store.specs.Plain.{plain_of, trees}
 use Rattle.kapi_store.specs.State.{IsStore, State, objects}
 use Rattle.kapi_store.specs.declared.key.Key.{Key}
 use Rattle.kapi_aggregation.specs.Roles.{IsInNameOrder, Labelled, is_cluster_role, labelled_tree, labels_in, names_of, roles_in}
-use Rattle.kapi_aggregation.proofs.Lists.{filter_alike, filter_twice, itself, same_text}
+use Rattle.kapi_aggregation.specs.Unions.{is_meant, rules_meant}
+use Rattle.kapi_aggregation.proofs.Lists.{filter_alike, filter_mapped, filter_twice, itself, same_text}
+
+and_true : (a : Bool) → (a && true) ≡ a
+and_true true = refl
+and_true false = refl
 
 -- ---- what is listed
 
@@ -61,6 +66,55 @@ pub read_roles : (row : ResourceRow) (selector : Selector) (os listed : List (Ke
     → roles ≡ roles_in listed → listed ≡ listed_trees row [] selector [] os → roles ≡ roles_in os
 read_roles row selector os listed roles group plural labels expressions made are =
     made ∙ ap roles_in are ∙ listed_roles row selector group plural labels expressions os
+
+-- ---- what a selector matches
+
+module _ (row : ResourceRow) (selector : Selector) (group : row.group ≡ rbac_group) (plural : row.plural ≡ codes "clusterroles") where
+  place_within : (k : Key) → is_cluster_role k ≡ true → is_within row [] [] k ≡ true
+  unfolding is_cluster_role
+  place_within k is =
+      let parts = and_parts (bytes_eq k.group rbac_group) _ is in
+      let others = and_parts (bytes_eq k.resource (codes "clusterroles")) _ parts.1 in
+      let first : row.group ≡ k.group = group ∙ sym (same_text k.group rbac_group parts.0) in
+      let second : row.plural ≡ k.resource = plural ∙ sym (same_text k.resource (codes "clusterroles") others.0) in
+      and_from (bytes_eq row.group k.group) _ (rw first (itself k.group))
+      (and_from (bytes_eq row.plural k.resource) true (rw second (itself k.resource)) refl)
+
+  selected_too : (e : Key × Data) → (is_listed row [] selector [] e.0 e.1 && is_cluster_role e.0) ≡ (is_cluster_role e.0 && matches selector (labels_in e.1))
+  unfolding is_listed
+  selected_too e = by_case (is_cluster_role e.0) refl
+    where
+      by_case : (b : Bool) → is_cluster_role e.0 ≡ b → ((is_within row [] [] e.0 && matches selector (labels_in e.1)) && b) ≡ (b && matches selector (labels_in e.1))
+      by_case true is = rw (place_within e.0 is) (and_true (matches selector (labels_in e.1)))
+      by_case false is = and_right _ false refl
+
+  pub selected_listed : (os : List (Key × Data)) → roles_in (listed_trees row [] selector [] os) ≡ filter (λ r. matches selector r.labels) (roles_in os)
+  selected_listed os =
+      ap (map labelled_tree) (filter_twice (λ (e : Key × Data). is_cluster_role e.0) (λ e. is_listed row [] selector [] e.0 e.1) os
+      ∙ filter_alike (λ (e : Key × Data). is_listed row [] selector [] e.0 e.1 && is_cluster_role e.0) (λ e. is_cluster_role e.0 && matches selector (labels_in e.1)) selected_too os
+      ∙ sym (filter_twice (λ (e : Key × Data). matches selector (labels_in e.1)) (λ e. is_cluster_role e.0) os))
+      ∙ sym (filter_mapped labelled_tree (λ (r : Labelled). matches selector r.labels) (filter (λ e. is_cluster_role e.0) os))
+
+pub if_ok : {X E : Type 0} (r : Result X E) (P Q : X → Type 0) → ((x : X) → P x → Q x) → IfOk r P → IfOk r Q
+if_ok (Ok x) P Q more h = more x h
+if_ok (Err e) P Q more h = tt
+
+-- the roles among what a selector lists are those of the store that it matches
+pub selected_roles : (row : ResourceRow) (selector : Selector) (os listed : List (Key × Data)) (roles : List Labelled)
+    → row.group ≡ rbac_group → row.plural ≡ codes "clusterroles" → roles ≡ roles_in listed → listed ≡ listed_trees row [] selector [] os → roles ≡ filter (λ r. matches selector r.labels) (roles_in os)
+selected_roles row selector os listed roles group plural made are = made ∙ ap roles_in are ∙ selected_listed row selector group plural os
+
+-- what a selector takes from those that it matches is what it takes from all
+pub selected_meant : (selector : Selector) (name : List ℕ) (roles selected : List Labelled) → selected ≡ filter (λ r. matches selector r.labels) roles
+    → rules_meant selected name selector ≡ rules_meant roles name selector
+selected_meant selector name roles selected are =
+    ap (λ (rs : List Labelled). rules_meant rs name selector) are
+    ∙ ap (flat_map (λ (r : Labelled). r.role.rules)) (filter_twice (is_meant name selector) (λ r. matches selector r.labels) roles
+    ∙ filter_alike (λ (r : Labelled). matches selector r.labels && is_meant name selector r) (is_meant name selector) (λ r. twice (not (bytes_eq r.name name)) (matches selector r.labels)) roles)
+  where
+    twice : (a b : Bool) → (b && (a && b)) ≡ (a && b)
+    twice a true = refl
+    twice a false = sym (and_right a false refl)
 
 -- ---- the order of names
 

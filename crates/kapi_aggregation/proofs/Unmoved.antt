@@ -1,17 +1,18 @@
 -- Changes of no cluster role leave the cluster roles as they are; where no role is aggregated, no names are enough.
-use Rattle.std.proofs.Common.{◌≡◌, ◌==◌, ℕ, List, [], ◌∷◌, Bool, true, false, not, ◌||◌, length, Option, None, refl, sym, ap, ◌∙◌, map}
+use Rattle.std.proofs.Common.{◌≡◌, ◌==◌, ℕ, List, [], ◌∷◌, Bool, true, false, not, ◌||◌, length, Option, None, Some, is_some, refl, sym, ap, ◌∙◌, map}
 use Rattle.std.proofs.Math.Dec.{eqb-suc-zero}
-use Rattle.std.specs.List.{list_any}
+use Rattle.std.specs.List.{AllByRecursion, list_any}
 use Rattle.std.proofs.lemmas.Bool.{and_parts}
 use Rattle.serde_json.specs.Data.{Data}
+use Rattle.kapi_model.specs.declared.aggregation_rule.AggregationRule.{AggregationRule}
 use Rattle.kapi_store.specs.Changes.{placed_all}
 use Rattle.kapi_store.specs.Plain.{PlainChange, plain_change, trees_left_by}
 use Rattle.kapi_store.specs.declared.change.Change.{Change}
 use Rattle.kapi_store.specs.declared.key.Key.{Key}
-use Rattle.kapi_aggregation.specs.Roles.{Labelled, is_aggregated, is_cluster_role, labelled_tree, roles_in}
+use Rattle.kapi_aggregation.specs.Roles.{Labelled, is_aggregated, is_cluster_role, labelled_tree, roles_in, selectors_in}
 use Rattle.kapi_aggregation.specs.Turns.{differs, first_some, next}
 use Rattle.kapi_aggregation.specs.Unions.{same_rules, union_for}
-use Rattle.kapi_aggregation.specs.Marks.{Covers, IsCovered, NoneAggregated, Tracked, turn_if_marked}
+use Rattle.kapi_aggregation.specs.Marks.{Covers, IsCovered, IsKnown, NoneAggregated, Tracked, is_known, taker_of, turn_if_marked}
 use Rattle.kapi_aggregation.proofs.Lists.{all_at, all_from, mapped_of, none_at}
 use Rattle.kapi_aggregation.specs.Members.{Has}
 use Rattle.kapi_aggregation.proofs.Placed.{placed_all_filter}
@@ -59,8 +60,15 @@ none_differ : (roles : List Labelled) (r : Labelled) → is_aggregated r ≡ fal
 none_differ roles r none d =
     let parts = and_parts (is_aggregated r) (not (same_rules r.role.rules (union_for roles r))) d in cc (none, parts.0)
 
+none_known : (t : Tracked) (r : Labelled) → is_aggregated r ≡ false → IsKnown t.takers r
+none_known t r none = by_rule r.role.aggregation_rule none
+  where
+    by_rule : (o : Option AggregationRule) → is_some o ≡ false → AllByRecursion (λ s. is_known t.takers (taker_of r.name s) ≡ true) (selectors_in o)
+    by_rule None h = tt
+    by_rule (Some rule) h = absurd (cc h)
+
 -- where no role is aggregated, any names cover the cluster roles
 pub none_covered : (t : Tracked) (roles : List Labelled) → NoneAggregated roles → Covers t roles
 none_covered t roles none =
     all_from (IsCovered t roles) roles
-    (λ r has. let fails = all_at (λ (q : Labelled). is_aggregated q ≡ false) roles r none has in ((λ is. absurd (cc (fails, is))), (λ d. absurd (none_differ roles r fails d))))
+    (λ r has. let fails = all_at (λ (q : Labelled). is_aggregated q ≡ false) roles r none has in (none_known t r fails, (λ d. absurd (none_differ roles r fails d))))

@@ -1,25 +1,33 @@
--- What a tracker keeps: the names of the cluster roles that take rules from others, and of those that may differ.
-use Rattle.std.specs.Prelude.{◌≡◌, ℕ, List, [], ◌∷◌, ◌++◌, Bool, true, false, ◌&&◌, if◌then◌else◌, Option, Some, None, is_some, option_map}
+-- What a tracker keeps: the cluster roles that take rules from others, and the names of those that may differ.
+use Rattle.std.specs.Prelude.{◌≡◌, ℕ, List, [], ◌∷◌, ◌++◌, Bool, true, false, if◌then◌else◌, Option, Some, None, codes, option_and_then, option_map}
 use Rattle.std.specs.Cmp.Lexicographic.{slice_cmp}
-use Rattle.std.specs.Ordering.{nat_cmp, is_le}
+use Rattle.std.specs.Ordering.{nat_cmp, is_le, ordering_then}
 use Rattle.std.specs.BTreeMap.{is_at}
+use Rattle.std.specs.BTreeMap.Range.{range_contains}
 use Rattle.std.specs.BTreeSet.{insert_key}
 use Rattle.std.specs.List.{AllByRecursion, filter, fold, list_any}
 use Rattle.std.specs.Map.{lookup}
+use Rattle.std.specs.declared.cmp.Ordering.{Ordering}
+use Rattle.std.specs.declared.ops.Bound.TheVariants.{Included, Excluded}
 use Rattle.serde_json.specs.Data.{Data}
+use Rattle.kapi_model.specs.declared.aggregation_rule.AggregationRule.{AggregationRule}
+use Rattle.kapi_model.specs.declared.selector.Label.{Label}
+use Rattle.kapi_model.specs.declared.selector.Selector.{Selector}
 use Rattle.kapi_rbac_types.specs.Trees.{cluster_role_of}
 use Rattle.kapi_store.specs.Keys.{is_key}
 use Rattle.kapi_store.specs.Plain.{PlainChange}
+use Rattle.kapi_store.specs.Told.{labels_of}
 use Rattle.kapi_store.specs.declared.key.Key.{Key}
 use Rattle.kapi_aggregation.specs.Rewriting.{role_key}
-use Rattle.kapi_aggregation.specs.Roles.{Labelled, is_aggregated, is_cluster_role, labelled_at, labels_in, takes_from}
+use Rattle.kapi_aggregation.specs.Roles.{Labelled, is_aggregated, is_cluster_role, labelled_at, labels_in, roles_in, selectors_of, takes_from}
 use Rattle.kapi_aggregation.specs.Turns.{differs, turn_at}
+use Rattle.kapi_aggregation.specs.declared.takers.Taker.{Taker}
 use Rattle.kapi_aggregation.specs.declared.turn.Turn.{Turn}
 
--- the names of the cluster roles that may differ from their unions, and names that include each aggregated cluster role
+-- the names of the cluster roles that may differ from their unions, and cluster roles that include each aggregated one
 pub record Tracked : Type 0 where
   pub marks : List (List ℕ)
-  pub takers : List (List ℕ)
+  pub takers : List Taker
 
 -- the name is among the marks
 abbrev pub is_marked : List (List ℕ) → List ℕ → Bool
@@ -29,22 +37,78 @@ is_marked marks name = list_any (is_at (slice_cmp nat_cmp name)) marks
 abbrev pub with_mark : List (List ℕ) → List ℕ → List (List ℕ)
 with_mark marks name = if is_marked marks name then marks else insert_key (slice_cmp nat_cmp) marks name
 
+-- ---- cluster roles by the labels that they ask for
+
+-- a label as one text, its key first
+abbrev pub label_text : Label → List ℕ
+label_text l = (l.key ++ codes "=") ++ l.value
+
+-- the label that stands first, as text; empty where there is none
+abbrev pub first_text : List Label → List ℕ
+first_text [] = []
+first_text (l ∷ ls) = label_text l
+
+-- they are in the order of their labels, then of their names
+abbrev pub taker_cmp : Taker → Taker → Ordering
+taker_cmp a b = ordering_then (slice_cmp nat_cmp a.label b.label) (slice_cmp nat_cmp a.name b.name)
+
+-- the cluster role of a name, at the label that a selector lists first
+abbrev pub taker_of : List ℕ → Selector → Taker
+taker_of name s = record { label = first_text s.match_labels; name = name }
+
+-- the taker is among the others
+abbrev pub is_known : List Taker → Taker → Bool
+is_known takers t = list_any (is_at (taker_cmp t)) takers
+
+-- the takers with the cluster role of a name, for each of its selectors
+abbrev pub with_takers : List Taker → List ℕ → List Selector → List Taker
+with_takers takers name selectors = fold (λ ts s. insert_key taker_cmp ts (taker_of name s)) takers selectors
+
+-- the takers that some cluster roles are
+abbrev pub all_takers : List Labelled → List Taker
+all_takers roles = fold (λ ts r. with_takers ts r.name (selectors_of r)) [] roles
+
+-- where the takers at a label begin
+abbrev pub start_at : List ℕ → Taker
+start_at label = record { label = label; name = [] }
+
+-- what comes after all takers at a label
+abbrev pub end_at : List ℕ → Taker
+end_at label = record { label = label ++ 0 ∷ []; name = [] }
+
+-- the takers at a label
+abbrev pub takers_at : List Taker → List ℕ → List Taker
+takers_at takers label = filter (range_contains taker_cmp (Included (start_at label)) (Excluded (end_at label))) takers
+
+-- the names with those of the takers at a label
+abbrev pub with_names_at : List Taker → List (List ℕ) → List ℕ → List (List ℕ)
+with_names_at takers names label = fold (λ ns t. with_mark ns t.name) names (takers_at takers label)
+
+-- the names of the takers that may take rules from one with these labels
+abbrev pub names_for : List Taker → List Label → List (List ℕ)
+names_for takers labels = fold (λ ns l. with_names_at takers ns (label_text l)) (with_names_at takers [] []) labels
+
 -- ---- what a write marks
 
--- the object, if there is one, has an aggregation rule
-abbrev pub has_rule : Option Data → Bool
-has_rule None = false
-has_rule (Some tree) = is_some (cluster_role_of tree).aggregation_rule
+-- the aggregation rule of an object, if there is one
+abbrev pub rule_in : Option Data → Option AggregationRule
+rule_in None = None
+rule_in (Some tree) = (cluster_role_of tree).aggregation_rule
 
--- a change leaves an aggregated cluster role
-abbrev pub is_taker : PlainChange → Bool
-is_taker c = is_cluster_role c.key && has_rule c.new
+-- the rule of the aggregated cluster role that a change leaves, if it leaves one
+abbrev pub rule_left : PlainChange → Option AggregationRule
+rule_left c = if is_cluster_role c.key then rule_in c.new else None
 
--- the names with that of an aggregated cluster role which a change leaves
+-- what is kept with an aggregated cluster role of this rule
+abbrev pub learn_rule : Tracked → List ℕ → Option AggregationRule → Tracked
+learn_rule t name None = t
+learn_rule t name (Some rule) = record { marks = with_mark t.marks name; takers = with_takers t.takers name rule.cluster_role_selectors }
+
+-- what is kept with the aggregated cluster role which a change leaves
 abbrev pub learn : Tracked → PlainChange → Tracked
-learn t c = if is_taker c then record { marks = with_mark t.marks c.key.name; takers = with_mark t.takers c.key.name } else t
+learn t c = learn_rule t c.key.name (rule_left c)
 
--- the names after each change was noted in turn
+-- what is kept after each change was noted in turn
 abbrev pub learned : Tracked → List PlainChange → Tracked
 learned t cs = fold learn t cs
 
@@ -70,28 +134,28 @@ mark_taker labels marks r = if takes_from r labels then with_mark marks r.name e
 unfoldable pub mark_takers : List Labelled → List (List ℕ) → Option Data → List (List ℕ)
 mark_takers roles marks labels = fold (mark_taker labels) marks roles
 
--- the marks with those of the cluster roles that take rules from an object, if there is one
-abbrev pub mark_object : List Labelled → List (List ℕ) → Option Data → List (List ℕ)
-mark_object roles marks None = marks
-mark_object roles marks (Some tree) = mark_takers roles marks (labels_in tree)
+-- the marks with those of the cluster roles that take rules from an object, if there is one; only those that may are read
+abbrev pub mark_object : List (Key × Data) → List Taker → List (List ℕ) → Option Data → List (List ℕ)
+mark_object os takers marks None = marks
+mark_object os takers marks (Some tree) = mark_takers (takers_in os (names_for takers (labels_of tree))) marks (labels_in tree)
 
 -- the marks with those of the cluster roles that take rules from a changed one, as it was or as the change leaves it
-unfoldable pub mark_changed : List (Key × Data) → List Labelled → List (List ℕ) → PlainChange → List (List ℕ)
-mark_changed os roles marks c = mark_object roles (mark_object roles marks (lookup (is_key c.key) os)) c.new
+unfoldable pub mark_changed : List (Key × Data) → List Taker → List (List ℕ) → PlainChange → List (List ℕ)
+mark_changed os takers marks c = mark_object os takers (mark_object os takers marks (lookup (is_key c.key) os)) c.new
 
 -- the marks with those of a change; a change of no cluster role marks nothing
-abbrev pub mark_change : List (Key × Data) → List Labelled → List (List ℕ) → PlainChange → List (List ℕ)
-mark_change os roles marks c = if is_cluster_role c.key then mark_changed os roles marks c else marks
+abbrev pub mark_change : List (Key × Data) → List Taker → List (List ℕ) → PlainChange → List (List ℕ)
+mark_change os takers marks c = if is_cluster_role c.key then mark_changed os takers marks c else marks
 
 -- the marks after each change was noted in turn
-abbrev pub mark_all : List (Key × Data) → List Labelled → List (List ℕ) → List PlainChange → List (List ℕ)
-mark_all os roles marks cs = fold (mark_change os roles) marks cs
+abbrev pub mark_all : List (Key × Data) → List Taker → List (List ℕ) → List PlainChange → List (List ℕ)
+mark_all os takers marks cs = fold (mark_change os takers) marks cs
 
--- what is kept after a note of some changes of some objects: only cluster roles whose names are kept are read
+-- what is kept after a note of some changes of some objects
 unfoldable pub noted : List (Key × Data) → Tracked → List PlainChange → Tracked
 noted os t cs =
     let after = learned t cs in
-    record { marks = mark_all os (takers_in os after.takers) after.marks cs; takers = after.takers }
+    record { marks = mark_all os after.takers after.marks cs; takers = after.takers }
 
 -- ---- what the names are good for
 
@@ -99,13 +163,21 @@ noted os t cs =
 abbrev pub Keeps : List (List ℕ) → List (List ℕ) → Type 0
 Keeps old new = (name : List ℕ) → is_marked old name ≡ true → is_marked new name ≡ true
 
--- each name of both lists is kept
+-- each taker is kept
+abbrev pub KeepsTakers : List Taker → List Taker → Type 0
+KeepsTakers old new = (t : Taker) → is_known old t ≡ true → is_known new t ≡ true
+
+-- each name and each taker is kept
 abbrev pub KeepsBoth : Tracked → Tracked → Type 0
-KeepsBoth old new = Keeps old.marks new.marks × Keeps old.takers new.takers
+KeepsBoth old new = Keeps old.marks new.marks × KeepsTakers old.takers new.takers
+
+-- the cluster role is known by each of its selectors
+abbrev pub IsKnown : List Taker → Labelled → Type 0
+IsKnown takers r = AllByRecursion (λ s. is_known takers (taker_of r.name s) ≡ true) (selectors_of r)
 
 -- the cluster role is known as one that takes rules, if it is aggregated, and is marked, if it differs
 abbrev pub IsCovered : Tracked → List Labelled → Labelled → Type 0
-IsCovered t roles r = (is_aggregated r ≡ true → is_marked t.takers r.name ≡ true) × (differs roles r ≡ true → is_marked t.marks r.name ≡ true)
+IsCovered t roles r = IsKnown t.takers r × (differs roles r ≡ true → is_marked t.marks r.name ≡ true)
 
 -- each aggregated cluster role is known, and marked if it differs from its union
 abbrev pub Covers : Tracked → List Labelled → Type 0
@@ -134,14 +206,10 @@ abbrev pub marks_after : List (List ℕ) → Option Turn → List (List ℕ)
 marks_after marks None = []
 marks_after marks (Some turn) = marks_from marks turn.name
 
--- the names with that of a cluster role, if it is aggregated
-abbrev pub with_taker : List (List ℕ) → Labelled → List (List ℕ)
-with_taker names r = if is_aggregated r then with_mark names r.name else names
-
--- the names of the aggregated ones among some cluster roles
-abbrev pub names_of_takers : List Labelled → List (List ℕ)
-names_of_takers roles = fold with_taker [] roles
-
 -- what is kept after a turn
 abbrev pub left_by : Tracked → List Labelled → Option Turn → Tracked
-left_by t roles turn = record { marks = marks_after t.marks turn; takers = names_of_takers roles }
+left_by t roles turn = record { marks = marks_after t.marks turn; takers = t.takers }
+
+-- what the cluster role of a name is to become, if it is there and differs
+abbrev pub turn_of_name : List (Key × Data) → List ℕ → Option Turn
+turn_of_name os name = option_and_then (turn_at (roles_in os)) (role_at os name)

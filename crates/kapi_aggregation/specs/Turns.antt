@@ -1,6 +1,7 @@
 -- Which aggregated cluster role is rewritten next, and how.
 use Rattle.std.specs.Prelude.{List, [], ◌∷◌, Bool, not, ◌&&◌, if◌then◌else◌, Option, Some, None}
 use Rattle.std.specs.Option.{option_or}
+use Rattle.kapi_model.specs.declared.policy_rule.PolicyRule.{PolicyRule}
 use Rattle.kapi_aggregation.specs.Roles.{Labelled, is_aggregated}
 use Rattle.kapi_aggregation.specs.Unions.{same_rules, union_for}
 use Rattle.kapi_aggregation.specs.declared.turn.Turn.{Turn}
@@ -16,6 +17,10 @@ turn_of roles r = record { name = r.name; rules = union_for roles r }
 -- what a cluster role that differs is to become
 abbrev pub turn_at : List Labelled → Labelled → Option Turn
 turn_at roles r = if differs roles r then Some (turn_of roles r) else None
+
+-- what an aggregated cluster role is to become, if these are not its rules
+abbrev pub turn_to : Labelled → List PolicyRule → Option Turn
+turn_to r rules = if is_aggregated r && not (same_rules r.role.rules rules) then Some (record { name = r.name; rules = rules }) else None
 
 -- the first answer that there is
 abbrev pub first_some : {X Y : Type 0} → (X → Option Y) → List X → Option Y

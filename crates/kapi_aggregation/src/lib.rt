@@ -6,6 +6,7 @@ mod found;
 pub mod laws;
 mod roles;
 mod same;
+mod takers;
 mod tracker;
 mod turn;
 mod union;

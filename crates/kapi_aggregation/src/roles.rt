@@ -1,7 +1,9 @@
 //! The cluster roles of a store.
 ghost use Rattle.std.specs.Prelude.{◌≡◌, [], codes, is_some, map, option_map, IfOk};
+ghost use Rattle.std.specs.List.{filter};
 ghost use Rattle.std.proofs.Props.{props};
 ghost use Rattle.kapi_model.specs.Kinds.{rbac_group};
+ghost use Rattle.kapi_model.specs.Selector.{matches};
 ghost use Rattle.kapi_store.specs.Stored.{stored_tree};
 ghost use Rattle.kapi_store.specs.Plain.{plain_of, trees};
 ghost use Rattle.kapi_store.specs.Listing.{shown};
@@ -108,13 +110,6 @@ pub(crate) fn role_key(alloc: Global, name: &Text) -> Result<Key, Memory>
     })
 }
 
-/// Whether the object has an aggregation rule.
-pub(crate) fn is_aggregated(object: &StoredObject) -> bool
-    ensures { result ≡ is_some (cluster_role_of (stored_tree object.now)).aggregation_rule }
-{
-    object.aggregation_rule().is_some()
-}
-
 /// The cluster role that a listed object is.
 fn named_role<'a>(listed: &Listed<'a>) -> NamedRole<'a>
     ensures { labelled result ≡ labelled_tree (listed.now.key.now, stored_tree listed.now.object.now) }
@@ -126,7 +121,7 @@ fn named_role<'a>(listed: &Listed<'a>) -> NamedRole<'a>
 }
 
 /// The cluster role of the name in the store, if it is there.
-fn role_named<'a>(
+pub(crate) fn role_named<'a>(
     alloc: Global,
     store: &'a Store,
     name: &'a Text,
@@ -179,6 +174,19 @@ fn read_roles<'a>(alloc: Global, store: &'a Store) -> Result<Vec<NamedRole<'a>>,
     let row = cluster_roles_row(alloc)?;
     let selector = everything(alloc);
     let list = store.list(&row, "", &selector, "")?;
+    named_roles(alloc, list.as_slice())
+}
+
+/// The cluster roles of the store that the selector matches.
+pub(crate) fn roles_selected<'a>(
+    alloc: Global,
+    store: &'a Store,
+    selector: &Selector,
+) -> Result<Vec<NamedRole<'a>>, Memory>
+    ensures { IfOk result (λ v. map labelled v.items ≡ filter (λ r. matches selector.now r.labels) (roles_in (plain_of store.now).objects)) }
+{
+    let row = cluster_roles_row(alloc)?;
+    let list = store.list(&row, "", selector, "")?;
     named_roles(alloc, list.as_slice())
 }
 

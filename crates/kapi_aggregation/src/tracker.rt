@@ -1,29 +1,36 @@
 //! Which aggregated cluster roles may differ from their unions.
-ghost use Rattle.std.specs.Prelude.{◌≡◌, map, IfOk, OnOk, option_map};
+ghost use Rattle.std.specs.Prelude.{◌≡◌, map, IfOk, OnOk, option_copied, option_map};
 ghost use Rattle.std.specs.Cmp.Lexicographic.{slice_cmp};
 ghost use Rattle.std.specs.List.{list_any};
 ghost use Rattle.std.specs.Ordering.{is_le, nat_cmp};
 ghost use Rattle.kapi_store.specs.Stored.{stored_tree};
 ghost use Rattle.kapi_store.specs.Plain.{plain_change, plain_of};
-ghost use Rattle.kapi_aggregation.specs.Marks.{Keeps, is_taker as is_taker_change, mark_all, mark_change, mark_changed, mark_object, mark_takers, marks_from, names_of_takers, with_mark};
+ghost use Rattle.kapi_aggregation.specs.Marks.{Keeps, mark_all, mark_change, mark_changed, mark_object, mark_takers, marks_from, rule_left, turn_of_name};
 ghost use Rattle.kapi_aggregation.specs.Roles.{is_cluster_role as is_cluster_role_key, labels_in, takes_from as takes_from_labels};
 ghost use Rattle.kapi_aggregation.specs.Views.{labelled};
 
-use crate::roles::{ClusterRoles, NamedRole, is_aggregated, is_cluster_role, roles_named};
-use crate::turn::{Turn, turn_at};
+use crate::roles::{ClusterRoles, NamedRole, is_cluster_role, role_named, roles_named};
+use crate::takers::{Taker, names_for, put_name, put_selectors, takers_of};
+use crate::turn::{Turn, turn_at, turn_in};
+use kapi_model::AggregationRule;
 use kapi_store::{Change, Store, StoredObject};
-use kapi_text::{Memory, Text, TryCopy};
+use kapi_text::{Memory, Text};
 use std::alloc::Global;
 use std::collections::BTreeSet;
 use std::marker::Model;
+
+/// So many takers are kept at least before those that were are forgotten.
+const ROOM: usize = 64;
 
 /// The names of the cluster roles that may differ from their unions, and of those that take rules from others.
 #[derive(Debug, Drop)]
 pub struct Tracker {
     alloc: Global,
     marks: BTreeSet<Text>,
-    /// The aggregated cluster roles, and maybe some that were.
-    takers: BTreeSet<Text>,
+    /// The aggregated cluster roles by the labels that they ask for, and maybe some that were.
+    takers: BTreeSet<Taker>,
+    /// With more takers than this those that were are forgotten.
+    room: usize,
 }
 
 impl Model for Tracker {
@@ -32,18 +39,6 @@ impl Model for Tracker {
     ghost Value = { Tracked };
 
     ghost view = { λ t. record { marks = t.marks.keys; takers = t.takers.keys } };
-}
-
-/// Puts the name among the others.
-#[tactic(auto, using(crate::proofs::Marking::with_mark_keeps))]
-fn put_name(alloc: Global, names: &mut BTreeSet<Text>, name: &Text) -> Result<(), Memory>
-    ensures put { OnOk result (names.new.keys ≡ with_mark names.old.keys name.now) }
-    ensures kept { Keeps names.old.keys names.new.keys }
-{
-    if !names.contains(name) {
-        names.insert(name.copy(alloc)?)?;
-    }
-    Ok(())
 }
 
 /// Whether the role takes rules from the object, by its labels.
@@ -76,29 +71,6 @@ fn are_of_roles(changes: &[Change]) -> bool
     changes.iter().any(|change| is_cluster_role(&change.key))
 }
 
-/// Whether the change leaves an aggregated cluster role.
-fn is_taker(change: &Change) -> bool
-    ensures { result ≡ is_taker_change (plain_change change.now) }
-{
-    match &change.new {
-        Some(object) => is_cluster_role(&change.key) && is_aggregated(object.get()),
-        None => false,
-    }
-}
-
-/// The names of the aggregated ones among the roles.
-fn taker_names(alloc: Global, roles: &[NamedRole<'_>]) -> Result<BTreeSet<Text>, Memory>
-    ensures { IfOk result (λ s. s.keys ≡ names_of_takers (map labelled roles.now)) }
-{
-    let mut names = BTreeSet::new(alloc);
-    for role in roles {
-        if role.is_aggregated() {
-            put_name(alloc, &mut names, role.name)?;
-        }
-    }
-    Ok(names)
-}
-
 /// Marks the roles that take rules from the object, by its labels.
 #[tactic(auto, unfolding(crate::specs::Marks::mark_takers))]
 fn mark_by_labels(
@@ -118,18 +90,23 @@ fn mark_by_labels(
     Ok(())
 }
 
-/// Marks the roles that take rules from the object, if there is one.
+/// Marks the roles that take rules from the object, if there is one. Of the others, those alone are read that may.
 fn mark_by_object(
     alloc: Global,
     marks: &mut BTreeSet<Text>,
-    roles: &[NamedRole<'_>],
+    takers: &BTreeSet<Taker>,
+    store: &Store,
     object: Option<&StoredObject>,
 ) -> Result<(), Memory>
-    ensures marked { OnOk result (marks.new.keys ≡ mark_object (map labelled roles.now) marks.old.keys (option_map (λ o. stored_tree o.now) object.entry)) }
+    ensures marked { OnOk result (marks.new.keys ≡ mark_object (plain_of store.now).objects takers.now.keys marks.old.keys (option_map (λ o. stored_tree o.now) object.entry)) }
     ensures kept { Keeps marks.old.keys marks.new.keys }
 {
     match object {
-        Some(object) => mark_by_labels(alloc, marks, roles, object),
+        Some(object) => {
+            let names = names_for(alloc, takers, object)?;
+            let roles = roles_named(alloc, store, &names)?;
+            mark_by_labels(alloc, marks, roles.as_slice(), object)
+        }
         None => Ok(()),
     }
 }
@@ -144,35 +121,45 @@ fn left_object(change: &Change) -> Option<&StoredObject>
     }
 }
 
+/// The rule of the aggregated cluster role that a change leaves, if it leaves one.
+fn left_rule(change: &Change) -> Option<&AggregationRule>
+    ensures { option_copied result ≡ rule_left (plain_change change.now) }
+{
+    match &change.new {
+        Some(object) if is_cluster_role(&change.key) => object.get().aggregation_rule(),
+        _none => None,
+    }
+}
+
 /// Marks the roles that take rules from a changed one, as it is in the store or as the change leaves it.
 #[tactic(auto, unfolding(crate::specs::Marks::mark_changed))]
 fn mark_by_change(
     alloc: Global,
     marks: &mut BTreeSet<Text>,
-    roles: &[NamedRole<'_>],
+    takers: &BTreeSet<Taker>,
     store: &Store,
     change: &Change,
 ) -> Result<(), Memory>
-    ensures marked { OnOk result (marks.new.keys ≡ mark_changed (plain_of store.now).objects (map labelled roles.now) marks.old.keys (plain_change change.now)) }
+    ensures marked { OnOk result (marks.new.keys ≡ mark_changed (plain_of store.now).objects takers.now.keys marks.old.keys (plain_change change.now)) }
     ensures kept { Keeps marks.old.keys marks.new.keys }
 {
-    mark_by_object(alloc, marks, roles, store.get(&change.key))?;
-    mark_by_object(alloc, marks, roles, left_object(change))
+    mark_by_object(alloc, marks, takers, store, store.get(&change.key))?;
+    mark_by_object(alloc, marks, takers, store, left_object(change))
 }
 
 /// Marks the roles that take rules from a changed one, where the change is of a cluster role.
 fn mark_if_role(
     alloc: Global,
     marks: &mut BTreeSet<Text>,
-    roles: &[NamedRole<'_>],
+    takers: &BTreeSet<Taker>,
     store: &Store,
     change: &Change,
 ) -> Result<(), Memory>
-    ensures marked { OnOk result (marks.new.keys ≡ mark_change (plain_of store.now).objects (map labelled roles.now) marks.old.keys (plain_change change.now)) }
+    ensures marked { OnOk result (marks.new.keys ≡ mark_change (plain_of store.now).objects takers.now.keys marks.old.keys (plain_change change.now)) }
     ensures kept { Keeps marks.old.keys marks.new.keys }
 {
     if is_cluster_role(&change.key) {
-        mark_by_change(alloc, marks, roles, store, change)
+        mark_by_change(alloc, marks, takers, store, change)
     } else {
         Ok(())
     }
@@ -182,26 +169,39 @@ fn mark_if_role(
 fn mark_by_changes(
     alloc: Global,
     marks: &mut BTreeSet<Text>,
-    roles: &[NamedRole<'_>],
+    takers: &BTreeSet<Taker>,
     store: &Store,
     changes: &[Change],
 ) -> Result<(), Memory>
-    ensures marked { OnOk result (marks.new.keys ≡ mark_all (plain_of store.now).objects (map labelled roles.now) marks.old.keys (map plain_change changes.now)) }
+    ensures marked { OnOk result (marks.new.keys ≡ mark_all (plain_of store.now).objects takers.now.keys marks.old.keys (map plain_change changes.now)) }
     ensures kept { Keeps marks.old.keys marks.new.keys }
 {
     for change in changes {
-        mark_if_role(alloc, marks, roles, store, change)?;
+        mark_if_role(alloc, marks, takers, store, change)?;
     }
     Ok(())
 }
 
+/// What the cluster role of the name is to become, where it is there and differs from its union.
+fn turn_named(alloc: Global, store: &Store, name: &Text) -> Result<Option<Turn>, Memory>
+    ensures { IfOk result (λ t. t ≡ turn_of_name (plain_of store.now).objects name.now) }
+{
+    match role_named(alloc, store, name)? {
+        Some(role) => turn_in(alloc, store, &role),
+        None => Ok(None),
+    }
+}
+
 impl Tracker {
+    ghost use Rattle.std.specs.Cmp.Lexicographic.{slice_cmp};
+    ghost use Rattle.std.specs.List.Sorted.{IsStrictlySortedBy};
+    ghost use Rattle.std.specs.Ordering.{nat_cmp};
     ghost use Rattle.std.specs.Prelude.{◌≡◌, ◌==◌, List, [], length, map, not, None, IfOk, OnOk, OnErr};
     ghost use Rattle.kapi_store.specs.Changes.{placed_all};
     ghost use Rattle.kapi_store.specs.Plain.{plain_change, plain_of, trees_left_by};
     ghost use Rattle.kapi_aggregation.specs.Roles.{Labelled, roles_in};
     ghost use Rattle.kapi_aggregation.specs.Turns.{first_some, next as next_of};
-    ghost use Rattle.kapi_aggregation.specs.Marks.{Covers, CoversAsMuch, KeepsBoth, NoneAggregated, learn, learned, left_by, marks_after, noted, turn_if_marked as turn_of_marked};
+    ghost use Rattle.kapi_aggregation.specs.Marks.{Covers, CoversAsMuch, KeepsBoth, NoneAggregated, learn, learned, left_by, marks_after, noted, turn_if_marked as turn_of_marked, turn_of_name};
     ghost use Rattle.kapi_aggregation.specs.Lent.{roles_of};
     ghost use Rattle.kapi_aggregation.specs.Views.{labelled};
 
@@ -216,6 +216,7 @@ impl Tracker {
             alloc,
             marks: BTreeSet::new(alloc),
             takers: BTreeSet::new(alloc),
+            room: ROOM,
         }
     }
 
@@ -245,14 +246,7 @@ impl Tracker {
         ensures kept { KeepsBoth self.old self.new }
     {
         self.learn_all(changes)?;
-        let roles = roles_named(self.alloc, store, &self.takers)?;
-        mark_by_changes(
-            self.alloc,
-            &mut self.marks,
-            roles.as_slice(),
-            store,
-            changes,
-        )
+        mark_by_changes(self.alloc, &mut self.marks, &self.takers, store, changes)
     }
 
     /// Keeps and marks the aggregated cluster roles that the changes leave.
@@ -270,18 +264,19 @@ impl Tracker {
         ensures learned { OnOk result (self.new ≡ learn self.old (plain_change change.now)) }
         ensures kept { KeepsBoth self.old self.new }
     {
-        if is_taker(change) {
-            put_name(self.alloc, &mut self.takers, &change.key.name)?;
-            put_name(self.alloc, &mut self.marks, &change.key.name)?;
-        }
-        Ok(())
+        let Some(rule) = left_rule(change) else {
+            return Ok(());
+        };
+        let name = &change.key.name;
+        put_name(self.alloc, &mut self.marks, name)?;
+        let selectors = rule.cluster_role_selectors.as_slice();
+        put_selectors(self.alloc, &mut self.takers, name, selectors)
     }
 
     /// The aggregated cluster role of least name that differs from its union, with its union; none where none differs.
     ///
     /// Reads marked roles alone, in the order of their names. The marks before the returned role are dropped, and all
-    /// where none is returned; the names of roles that are not aggregated any more are dropped. Where an allocation
-    /// fails none is dropped.
+    /// where none is returned. Where an allocation fails none is dropped.
     #[tactic(auto, using(crate::proofs::Turning::found_where_covered, crate::proofs::Turning::none_unmarked, crate::proofs::Turning::next_covers))]
     pub fn next(&mut self, roles: &ClusterRoles<'_>) -> Result<Option<Turn>, Memory>
         ensures turn { IfOk result (λ t. t ≡ first_some (turn_of_marked self.old.marks (roles_of roles.now)) (roles_of roles.now)) }
@@ -294,12 +289,13 @@ impl Tracker {
         ensures unmarked { IfOk result (λ t. self.old.marks ≡ [] → t ≡ None) }
     {
         let turn = self.first_turn(roles.as_slice())?;
-        self.takers = taker_names(self.alloc, roles.as_slice())?;
         self.keep_marks_after(&turn);
         Ok(turn)
     }
 
-    /// The next turn for the cluster roles of the store. Where no role is marked, nothing is read.
+    /// The next turn for the cluster roles of the store. Where no role is marked, nothing is read; else the marked ones
+    /// are, in the order of their names, and what they take rules from.
+    #[tactic(auto, using(crate::proofs::Turning::marks_next))]
     pub fn next_turn(&mut self, store: &Store) -> Result<Option<Turn>, Memory>
         ensures exact { IfOk result (λ t. Covers self.old (roles_in (plain_of store.now).objects) → t ≡ next_of (roles_in (plain_of store.now).objects)) }
         ensures covers { Covers self.old (roles_in (plain_of store.now).objects) → Covers self.new (roles_in (plain_of store.now).objects) }
@@ -307,8 +303,42 @@ impl Tracker {
         if !self.has_marks() {
             return Ok(None);
         }
+        let _revision = store.revision();
+        self.forget_takers_that_were(store)?;
+        let turn = self.first_in(store)?;
+        self.keep_marks_after(&turn);
+        Ok(turn)
+    }
+
+    /// Keeps those takers alone that are aggregated, where many takers are kept. It is done once in so many writes that the walk
+    /// over all cluster roles counts for nothing.
+    #[tactic(auto, using(crate::proofs::Turning::anew_covers))]
+    fn forget_takers_that_were(&mut self, store: &Store) -> Result<(), Memory>
+        ensures marks { self.new.marks ≡ self.old.marks }
+        ensures covers { Covers self.old (roles_in (plain_of store.now).objects) → Covers self.new (roles_in (plain_of store.now).objects) }
+    {
+        if self.takers.len() <= self.room {
+            return Ok(());
+        }
         let roles = ClusterRoles::read(self.alloc, store)?;
-        self.next(&roles)
+        self.takers = takers_of(self.alloc, roles.as_slice())?;
+        self.room = self.takers.len().saturating_mul(2).saturating_add(ROOM);
+        Ok(())
+    }
+
+    /// What the first marked role that differs from its union is to become. Other roles are read for its union alone.
+    fn first_in(&self, store: &Store) -> Result<Option<Turn>, Memory>
+        ensures first { IfOk result (λ t. t ≡ first_some (turn_of_name (plain_of store.now).objects) self.now.marks) }
+        ensures ordered { IsStrictlySortedBy (slice_cmp nat_cmp) self.now.marks }
+    {
+        let _count = self.marks.len();
+        for name in &self.marks {
+            let turn = turn_named(self.alloc, store, name)?;
+            if turn.is_some() {
+                return Ok(turn);
+            }
+        }
+        Ok(None)
     }
 
     /// Whether some cluster role is marked.

@@ -8,12 +8,13 @@ ghost use Rattle.kapi_store.specs.Plain.{plain_change, plain_of};
 ghost use Rattle.kapi_store.specs.State.{Fits};
 ghost use Rattle.kapi_text.specs.Gives.{Gives};
 ghost use Rattle.kapi_aggregation.specs.Rewriting.{rewriting, with_rules as with_rules_of};
-ghost use Rattle.kapi_aggregation.specs.Turns.{turn_at as turn_of};
+ghost use Rattle.kapi_aggregation.specs.Roles.{roles_in};
+ghost use Rattle.kapi_aggregation.specs.Turns.{turn_at as turn_of, turn_to as turn_to_rules};
 ghost use Rattle.kapi_aggregation.specs.Views.{labelled};
 
 use crate::roles::{NamedRole, role_key};
 use crate::same::same_rules;
-use crate::union::union_for;
+use crate::union::{union_for, union_in};
 use kapi_model::PolicyRule;
 use kapi_store::{Ready, Store, StoreError, StoredObject};
 use kapi_text::{Memory, Sequence, Text, TryCopy};
@@ -38,11 +39,29 @@ pub(crate) fn turn_at(
 ) -> Result<Option<Turn>, Memory>
     ensures { IfOk result (λ t. t ≡ turn_of (map labelled roles.now) (labelled role.now)) }
 {
-    if !role.is_aggregated() {
-        return Ok(None);
-    }
-    let rules = union_for(alloc, roles, role)?;
-    if same_rules(role.rules(alloc)?.as_slice(), rules.as_slice()) {
+    turn_to(alloc, role, union_for(alloc, roles, role)?)
+}
+
+/// The same for a role of the store, of which those roles alone are read that its selectors match.
+pub(crate) fn turn_in(
+    alloc: Global,
+    store: &Store,
+    role: &NamedRole<'_>,
+) -> Result<Option<Turn>, Memory>
+    ensures { IfOk result (λ t. t ≡ turn_of (roles_in (plain_of store.now).objects) (labelled role.now)) }
+{
+    turn_to(alloc, role, union_in(alloc, store, role)?)
+}
+
+/// What an aggregated role is to become, where its rules are not these.
+fn turn_to(
+    alloc: Global,
+    role: &NamedRole<'_>,
+    rules: Vec<PolicyRule>,
+) -> Result<Option<Turn>, Memory>
+    ensures { IfOk result (λ t. t ≡ turn_to_rules (labelled role.now) rules.items) }
+{
+    if !role.is_aggregated() || same_rules(role.rules(alloc)?.as_slice(), rules.as_slice()) {
         return Ok(None);
     }
     Ok(Some(Turn {

@@ -2,14 +2,16 @@
 ghost use Rattle.std.specs.Prelude.{◌≡◌, ◌++◌, map, IfOk, OnOk, option_copied};
 ghost use Rattle.std.specs.List.{find, flat_map};
 ghost use Rattle.std.specs.Str.{bytes_eq};
-ghost use Rattle.kapi_aggregation.specs.Roles.{selectors_of};
+ghost use Rattle.kapi_store.specs.Plain.{plain_of};
+ghost use Rattle.kapi_aggregation.specs.Roles.{roles_in, selectors_of};
 ghost use Rattle.kapi_aggregation.specs.Unions.{is_meant as is_meant_by, rules_meant, union, union_for as union_for_role};
 ghost use Rattle.kapi_aggregation.specs.Lent.{roles_of};
 ghost use Rattle.kapi_aggregation.specs.Views.{labelled};
 
 use crate::found::each_once;
-use crate::roles::{ClusterRoles, NamedRole};
+use crate::roles::{ClusterRoles, NamedRole, roles_selected};
 use kapi_model::{PolicyRule, Selector};
+use kapi_store::Store;
 use kapi_text::Memory;
 use std::alloc::Global;
 
@@ -47,6 +49,44 @@ pub(crate) fn union_for(
     ensures { IfOk result (λ v. v.items ≡ union_for_role (map labelled roles.now) (labelled role.now)) }
 {
     each_once(alloc, meant(alloc, roles, role)?)
+}
+
+/// The union of a role of the store, of which those roles alone are read that the role's selectors match.
+#[tactic(auto, unfolding(crate::specs::Unions::union_for))]
+pub(crate) fn union_in(
+    alloc: Global,
+    store: &Store,
+    role: &NamedRole<'_>,
+) -> Result<Vec<PolicyRule>, Memory>
+    ensures { IfOk result (λ v. v.items ≡ union_for_role (roles_in (plain_of store.now).objects) (labelled role.now)) }
+{
+    each_once(alloc, meant_in(alloc, store, role)?)
+}
+
+/// The rules of the roles of the store that the role's selectors match, by the selectors in their order.
+fn meant_in(alloc: Global, store: &Store, role: &NamedRole<'_>) -> Result<Vec<PolicyRule>, Memory>
+    ensures { IfOk result (λ v. v.items ≡ flat_map (rules_meant (roles_in (plain_of store.now).objects) (labelled role.now).name) (selectors_of (labelled role.now))) }
+{
+    let mut rules = Vec::new(alloc);
+    for selector in role.selectors() {
+        add_selected(alloc, &mut rules, store, role.name.as_str(), selector)?;
+    }
+    Ok(rules)
+}
+
+/// Adds the rules of the roles of the store that the selector matches, but for the role of that name.
+#[tactic(auto, using(crate::proofs::Read::selected_meant))]
+fn add_selected(
+    alloc: Global,
+    rules: &mut Vec<PolicyRule>,
+    store: &Store,
+    name: &str,
+    selector: &Selector,
+) -> Result<(), Memory>
+    ensures { OnOk result (rules.new.items ≡ rules.old.items ++ rules_meant (roles_in (plain_of store.now).objects) name.now selector.now) }
+{
+    let roles = roles_selected(alloc, store, selector)?;
+    add_meant(alloc, rules, roles.as_slice(), name, selector)
 }
 
 /// The rules of the roles that the role's selectors match, by the selectors in their order.

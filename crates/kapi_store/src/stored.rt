@@ -177,6 +177,13 @@ impl StoredObject {
         Labels::new(self.labels.as_slice())
     }
 
+    /// The object's labels that are texts, in the order of their keys; allocates nothing.
+    pub fn label_list(&self) -> &[Label]
+        ensures { result.now ≡ labels_of_tree (stored_tree self.now) }
+    {
+        self.labels.as_slice()
+    }
+
     /// The rule by which the object takes rules from others, where it is such a cluster role; allocates nothing.
     pub fn aggregation_rule(&self) -> Option<&AggregationRule>
         ensures { option_copied result ≡ aggregation_in (stored_tree self.now) }
