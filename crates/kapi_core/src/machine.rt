@@ -5,7 +5,7 @@ ghost use Rattle.std.specs.Ordering.{nat_cmp};
 ghost use Rattle.kapi_core.specs.Concerns.{concern_on, is_among, is_concerned};
 ghost use Rattle.kapi_core.specs.Machine.{Machine, is_last, link_at, with_rechecks};
 ghost use Rattle.kapi_core.specs.Limits.{last_first};
-ghost use Rattle.kapi_core.specs.Opening.{opening};
+ghost use Rattle.kapi_core.specs.Opening.{empty, opening};
 ghost use Rattle.kapi_core.specs.Table.{fits};
 ghost use Rattle.kapi_core.specs.Refines.{HasOpened};
 ghost use Rattle.kapi_core.specs.Refines.{Opens, TakesIn, Sends, Makes, Loads, Refines, Turns};
@@ -102,6 +102,30 @@ impl<P: Policy + Drop> Core<P> {
             store,
             policy,
             tracker,
+            connections: BTreeMap::new(alloc),
+            next_id: 0,
+            rechecks: false,
+        })
+    }
+
+    /// A machine without objects and connections, over an empty policy, whose revisions begin after `first`.
+    pub fn without_objects(
+        alloc: Global,
+        table: Sequence<ResourceRow>,
+        policy: P,
+        first: u64,
+    ) -> Result<Core<P>, Memory>
+        requires first { first ≤ last_first }
+        requires table { fits table ≡ true }
+        requires empty { P.content policy ≡ no_objects }
+        ensures stands { IfOk result (λ core. Refines core (empty table first)) }
+        ensures unopened { IfOk result (λ core. core.next_id ≡ 0) }
+    {
+        Ok(Core {
+            alloc,
+            store: Store::new(alloc, table, first)?,
+            policy,
+            tracker: Tracker::new(alloc),
             connections: BTreeMap::new(alloc),
             next_id: 0,
             rechecks: false,

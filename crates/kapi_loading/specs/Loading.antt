@@ -6,7 +6,7 @@ use Rattle.kapi_answer.specs.declared.loading.LoadError.{LoadError}
 use Rattle.kapi_answer.specs.declared.loading.LoadError.TheVariants as error
 use Rattle.kapi_store.specs.Plain.{PlainChange}
 use Rattle.kapi_core.specs.Machine.{Machine, changed, policy_of, step}
-use Rattle.kapi_core.specs.Opening.{opening}
+use Rattle.kapi_core.specs.Opening.{empty, opening}
 use Rattle.kapi_core.specs.Running.{Running}
 use Rattle.kapi_core.specs.Refines.{Refines}
 use Rattle.kapi_core.specs.declared.event.Event.TheVariants as event
@@ -72,6 +72,10 @@ steps_made m lines = steps_loaded m lines ++ turns_behind (loaded m lines)
 -- the machine that a file of objects makes of the one that opens at revision `first`, or the first line at fault
 unfoldable pub machine_from : ℕ → List ℕ → Result Machine FileFault
 machine_from first objects = made_of (opening program_rows first) (lines_of objects)
+
+-- the machine that the objects of a file make alone, of the one without objects whose revisions begin after `first`
+unfoldable pub machine_alone : ℕ → List ℕ → Result Machine FileFault
+machine_alone first objects = made_of (empty program_rows first) (lines_of objects)
 
 -- the machine that a file of objects makes of the opening one at revision 0, or the first line that is not loaded
 abbrev pub machine_of : List ℕ → Result Machine FileFault

@@ -8,4 +8,4 @@ mod starting;
 
 pub use fault::StartError;
 pub use laws::a_file_makes_a_machine_of_the_laws;
-pub use starting::{Started, start};
+pub use starting::{Started, start, start_without_objects};

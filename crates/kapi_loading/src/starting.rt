@@ -3,7 +3,7 @@ ghost use Rattle.kapi_desk.specs.Boards.{fresh};
 ghost use Rattle.kapi_core.specs.Opening.{opening};
 ghost use Rattle.kapi_core.specs.ProgramTable.{program_rows};
 ghost use Rattle.kapi_lines.specs.Lines.{lines_of};
-ghost use Rattle.kapi_loading.specs.Loading.{machine_from, steps_made};
+ghost use Rattle.kapi_loading.specs.Loading.{machine_alone, machine_from, steps_made};
 ghost use Rattle.kapi_loading.specs.Starting.{Starts};
 
 use crate::fault::StartError;
@@ -44,6 +44,41 @@ pub fn start<R: Wait>(
 {
     let lines = numbered_lines(alloc, objects)?;
     let mut core = Core::new(
+        alloc,
+        program_table(alloc)?,
+        IndexedPolicy::new(alloc),
+        first,
+    )?;
+    let opening = core.policy().copy()?;
+    let (mut desk, seats) = Desk::new(alloc, rt, opening, seats)?;
+    match publish_policy(rt, &mut core, &mut desk, lines.as_slice()) {
+        Ok(()) => Ok(Started { core, desk, seats }),
+        Err(error) => {
+            drop(desk.close(rt));
+            Err(error)
+        }
+    }
+}
+
+/// The machine that the objects of a file make alone, without those that every other machine begins with; the rest is as
+/// of `start`.
+///
+/// # Errors
+/// `Line` at the first line that cannot be loaded, `Memory` where an allocation fails.
+pub fn start_without_objects<R: Wait>(
+    alloc: Global,
+    rt: &R,
+    objects: &[u8],
+    first: u64,
+    seats: usize,
+) -> Result<Started, StartError>
+    requires first { first ≤ 281474976710650 }
+    requires seats { (1 ≤ seats) × (seats ≤ 16) }
+    ensures machine { Starts result (machine_alone first objects.now) }
+    ensures waiting { IfOk result (λ s. s.desk.waiting ≡ []) }
+{
+    let lines = numbered_lines(alloc, objects)?;
+    let mut core = Core::without_objects(
         alloc,
         program_table(alloc)?,
         IndexedPolicy::new(alloc),
