@@ -21,6 +21,11 @@ pub fn begun(alloc: Global, first: u64) -> Result<Core<PlainPolicy>, Memory>
     Core::new(alloc, program_table(alloc)?, PlainPolicy::new(alloc), first)
 }
 
+/// A machine without objects.
+pub fn begun_empty(alloc: Global) -> Result<Core<PlainPolicy>, Memory> {
+    Core::without_objects(alloc, program_table(alloc)?, PlainPolicy::new(alloc), 0)
+}
+
 /// Why the machine refuses to create what the bytes are at a target; none where it does not refuse.
 pub fn refusal(
     core: &mut Core<PlainPolicy>,

@@ -12,5 +12,5 @@ mod words;
 
 pub use events::script_reason;
 pub use forms::form_reason;
-pub use objects::object_reason;
+pub use objects::{LineReason, line_reasons, object_reason};
 pub use questions::question_reason;

@@ -8,7 +8,7 @@ ghost use Rattle.kapi_loading.specs.Loading.{loaded, machine_from};
 ghost use Rattle.kapi_reasons.specs.Private.Requests as requests;
 ghost use Rattle.kapi_reasons.specs.Reasons.{is_reason};
 
-use crate::asking::{Read, begun, read_line, refusal};
+use crate::asking::{Read, begun, begun_empty, read_line, refusal};
 use crate::shown::one_line;
 use crate::words::text_at;
 use kapi_core::{Core, LoadError, program_table};
@@ -48,6 +48,49 @@ fn first_reason(
         }
     }
     Ok(None)
+}
+
+/// A line of a file of objects that is not loaded, by its number from 1, and why.
+#[derive(Debug, Drop)]
+pub struct LineReason {
+    pub number: usize,
+    pub reason: String,
+}
+
+/// The number of lines whose reasons are looked for; those of later lines are empty.
+const REASONS: usize = 20;
+
+/// Each line of a file of objects that is not loaded where the objects of the file stand alone, and why: no others stand
+/// beside them, and lines that are loaded stay where others are not.
+pub fn line_reasons(alloc: Global, objects: &[u8]) -> Result<Vec<LineReason>, Memory> {
+    let lines = numbered_lines(alloc, objects)?;
+    let mut core = begun_empty(alloc)?;
+    let mut reasons = Vec::new(alloc);
+    for line in lines.as_slice() {
+        if let Err(error) = core.load(line.text) {
+            push_reason(alloc, &mut reasons, &mut core, *line, error)?;
+        }
+    }
+    Ok(reasons)
+}
+
+fn push_reason(
+    alloc: Global,
+    reasons: &mut Vec<LineReason>,
+    core: &mut Core<PlainPolicy>,
+    line: Line<'_>,
+    error: LoadError,
+) -> Result<(), Memory> {
+    let reason = if reasons.len() < REASONS {
+        line_reason(alloc, core, line.text, error)?
+    } else {
+        String::new(alloc)
+    };
+    reasons.push(LineReason {
+        number: line.number,
+        reason,
+    })?;
+    Ok(())
 }
 
 /// Why a machine did not load a line, with this error.
