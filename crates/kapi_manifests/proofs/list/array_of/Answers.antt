@@ -1,0 +1,7 @@
+use Rattle.std.proofs.Common.{sym}
+use Rattle.serde_json.proofs.Views.{view-Array}
+use Rattle.kapi_manifests.proofs.Listed.{listed_items}
+use Rattle.kapi_manifests.proofs.list.array_of.Goals as goal
+
+pub returns-in-Array : goal.returns-in-Array
+returns-in-Array c = rw (c.in-Array.is, view-Array c.in-Array.items) (sym (listed_items _))

@@ -1,0 +1,119 @@
+-- The objects of files.
+use Rattle.std.specs.Prelude.{◌≡◌, ℕ, ◌+◌, ◌==◌, ◌&&◌, ◌||◌, nat_le, not, Bool, true, false, if◌then◌else◌, List, [], ◌∷◌, ◌++◌, length, slice_index, drop, take, flat_map, map, Option, Some, None, option_and_then, codes}
+use Rattle.std.specs.Str.{is_utf8, bytes_eq}
+use Rattle.serde_json.specs.Data.{Data, Items, no_items, item}
+use Rattle.serde_json.specs.Find.{get, as_array}
+use Rattle.serde_json.specs.Read.{read}
+use Rattle.serde_json.specs.View.{view}
+use Rattle.kapi_manifests.specs.Kinds.{is_list}
+use Rattle.kapi_manifests.specs.Pieces.{pieces}
+use Rattle.kapi_manifests.specs.Sorting.{faults_if, namespace_if, object_if, sort_of}
+use Rattle.kapi_manifests.specs.declared.reading.Document.{Document}
+use Rattle.kapi_manifests.specs.declared.reading.Document.TheVariants as told
+use Rattle.kapi_manifests.specs.declared.sorted.Scope.{Scope}
+use Rattle.kapi_manifests.specs.declared.sorted.Manifest.{Manifest}
+use Rattle.kapi_manifests.specs.declared.sorted.Options.{Options}
+use Rattle.kapi_manifests.specs.declared.sorted.Sorted.{Sorted}
+
+-- the text without the byte order mark of UTF-8 at its beginning (RFC 3629, 'Byte order mark')
+unfoldable pub unmarked : List ℕ → List ℕ
+unmarked text = if bytes_eq (take 3 text) (239 ∷ 187 ∷ 191 ∷ []) then drop 3 text else text
+
+-- an ASCII letter, a dash or a percent sign
+abbrev pub begins_yaml : ℕ → Bool
+begins_yaml b = (nat_le 65 b && nat_le b 90) || ((nat_le 97 b && nat_le b 122) || ((b == 45) || (b == 37)))
+
+-- what a piece of a file is: a document, or a fault
+pub data Read : Type 0 where
+  document : Data → Read
+  fault : Read
+
+abbrev pub read_or_fault : Option Data → Read
+read_or_fault (Some d) = document d
+read_or_fault None = fault
+
+-- what a piece is: the JSON text of an object, or a fault
+unfoldable pub read_piece : List ℕ → Read
+read_piece text = if (slice_index text 0 == 123) && is_utf8 text then read_or_fault (read text) else fault
+
+-- what the code read of a piece
+abbrev pub document_told : Document → Read
+document_told (told.Read v) = document (view v)
+document_told told.Stray = fault
+document_told (told.Wrong e) = fault
+
+-- the items of a list
+abbrev pub listed : Items → List Data
+listed no_items = []
+listed (item d ds) = d ∷ listed ds
+
+abbrev pub items_or_none : Option Items → List Data
+items_or_none (Some ds) = listed ds
+items_or_none None = []
+
+-- the items of a document that is a list
+abbrev pub items_in : Data → List Data
+items_in d = items_or_none (option_and_then as_array (get (codes "items") d))
+
+-- the objects of a document: the items of a list, or the document
+abbrev pub objects_in : Data → List Data
+objects_in d = if is_list d then items_in d else d ∷ []
+
+-- the document that a piece is, as its objects
+abbrev pub objects_read : Read → List Data
+objects_read (document d) = objects_in d
+objects_read fault = []
+
+-- how many faults a piece is
+abbrev pub faults_read : Read → ℕ
+faults_read (document d) = 0
+faults_read fault = 1
+
+-- the first piece of a file begins like YAML
+abbrev pub is_yaml : List (List ℕ) → Bool
+is_yaml [] = false
+is_yaml (piece ∷ later) = begins_yaml (slice_index piece 0)
+
+-- the pieces of a file, read; a file that begins like YAML is one fault
+abbrev pub readings_of : List (List ℕ) → List Read
+readings_of ps = if is_yaml ps then fault ∷ [] else map read_piece ps
+
+-- what the pieces of a file are
+unfoldable pub readings : List ℕ → List Read
+readings text = readings_of (pieces (unmarked text))
+
+-- the objects of a file, in order
+abbrev pub objects_of : List ℕ → List Data
+objects_of text = flat_map objects_read (readings text)
+
+-- how many pieces of a file are faults
+abbrev pub sum_of : {X : Type 0} → (X → ℕ) → List X → ℕ
+sum_of f [] = 0
+sum_of f (x ∷ xs) = f x + sum_of f xs
+
+abbrev pub bad_pieces : List ℕ → ℕ
+bad_pieces text = sum_of faults_read (readings text)
+
+-- ---- sorted
+
+-- the tree of an object
+abbrev pub data_of : Manifest → Data
+data_of m = view m.object
+
+-- the namespaces among objects
+abbrev pub namespaces_among : Scope → List ℕ → List Data → List Data
+namespaces_among scope given ds = flat_map (λ d. namespace_if (sort_of scope given d) d) ds
+
+-- the other objects that are loaded, as they are loaded
+abbrev pub loaded_among : Scope → List ℕ → List Data → List Data
+loaded_among scope given ds = flat_map (λ d. object_if (sort_of scope given d) given d) ds
+
+-- how many objects are faults
+abbrev pub faults_among : Scope → List ℕ → List Data → ℕ
+faults_among scope given ds = sum_of (λ d. faults_if (sort_of scope given d)) ds
+
+-- objects were taken, in order, and so many pieces that are faults
+pub record Takes (options : Options) (before : Sorted) (after : Sorted) (ds : List Data) (bad : ℕ) : Type 0 where
+  pub namespaces : map data_of after.namespaces.items ≡ map data_of before.namespaces.items ++ namespaces_among options.scope options.namespace.now ds
+  pub objects : map data_of after.objects.items ≡ map data_of before.objects.items ++ loaded_among options.scope options.namespace.now ds
+  pub faults : length after.faults.items ≡ length before.faults.items + (bad + faults_among options.scope options.namespace.now ds)

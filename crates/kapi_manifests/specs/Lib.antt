@@ -1,0 +1,9 @@
+pub mod Places
+pub mod Pieces
+pub mod Kinds
+pub mod Sorting
+pub mod Files
+pub mod Standing
+pub mod Made
+pub mod Dangling
+pub mod Written

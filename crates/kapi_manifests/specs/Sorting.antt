@@ -1,0 +1,62 @@
+-- What each object of a file is to the machine that loads the files.
+use Rattle.std.specs.Prelude.{ℕ, ◌==◌, ◌&&◌, ◌||◌, not, Bool, true, false, if◌then◌else◌, List, [], ◌∷◌, length, codes, Option, Some, None}
+use Rattle.std.specs.Str.{bytes_eq}
+use Rattle.serde_json.specs.Data.{Data, string, object, Members, no_members, put}
+use Rattle.serde_json.specs.Find.{get}
+use Rattle.kapi_manifests.specs.Kinds.{is_namespace, is_policy, kind_of, lives_in_namespace, metadata_text, version_of}
+use Rattle.kapi_manifests.specs.declared.sorted.Scope.{Scope}
+use Rattle.kapi_manifests.specs.declared.sorted.Scope.TheVariants.{Policy, All}
+use Rattle.kapi_manifests.specs.declared.sorted.Sort.{Sort}
+use Rattle.kapi_manifests.specs.declared.sorted.Sort.TheVariants as sort
+
+-- only what counts for policy is loaded
+abbrev pub is_for_policy : Scope → Bool
+is_for_policy Policy = true
+is_for_policy All = false
+
+-- an object that lives in a namespace and names none, where this one is given
+abbrev pub sort_without_namespace : List ℕ → Sort
+sort_without_namespace given = if length given == 0 then sort.Homeless else sort.Placed
+
+-- an object that lives in a namespace and names none
+abbrev pub is_homeless : Data → Bool
+is_homeless d = lives_in_namespace (kind_of d) && (length (metadata_text (codes "namespace") d) == 0)
+
+-- what an object is that is no namespace
+abbrev pub sort_of_object : Scope → List ℕ → Data → Sort
+sort_of_object scope given d =
+    if is_for_policy scope && not (is_policy d) then sort.Skipped
+    else (if is_homeless d then sort_without_namespace given else sort.Loaded)
+
+-- what an object is, where objects without a namespace get the one that is given
+unfoldable pub sort_of : Scope → List ℕ → Data → Sort
+sort_of scope given d =
+    if (length (kind_of d) == 0) || (length (version_of d) == 0) then sort.Nameless
+    else (if is_namespace d then sort.Namespace else sort_of_object scope given d)
+
+-- the members of an object; none of anything else
+abbrev pub members_of : Option Data → Members
+members_of (Some (object ms)) = ms
+members_of _ = no_members
+
+-- the object in a namespace: its metadata names it
+unfoldable pub placed : List ℕ → Data → Data
+placed namespace d =
+    object (put (codes "metadata") (object (put (codes "namespace") (string namespace) (members_of (get (codes "metadata") d)))) (members_of (Some d)))
+
+-- the object, where it is a namespace that is loaded
+abbrev pub namespace_if : Sort → Data → List Data
+namespace_if sort.Namespace d = d ∷ []
+namespace_if _ d = []
+
+-- the object as it is loaded, where it is and is no namespace
+abbrev pub object_if : Sort → List ℕ → Data → List Data
+object_if sort.Loaded given d = d ∷ []
+object_if sort.Placed given d = placed given d ∷ []
+object_if _ given d = []
+
+-- how many faults an object is
+abbrev pub faults_if : Sort → ℕ
+faults_if sort.Nameless = 1
+faults_if sort.Homeless = 1
+faults_if _ = 0

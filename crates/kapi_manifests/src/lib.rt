@@ -1,0 +1,21 @@
+//! Manifests: files of objects as people have them, made into the lines that a machine loads.
+#![tactic(auto)]
+
+mod cut;
+mod dangling;
+mod fault;
+mod kinds;
+mod lines;
+mod list;
+mod namespaces;
+mod place;
+mod placing;
+mod prepared;
+mod reading;
+mod sorted;
+mod standing;
+
+pub use dangling::Dangling;
+pub use fault::{Fault, Origin, Reason};
+pub use prepared::{Prepared, prepare};
+pub use sorted::{Options, Scope};

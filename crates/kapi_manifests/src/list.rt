@@ -1,0 +1,94 @@
+//! The items of a list, and the lines that they begin in.
+ghost use Rattle.std.specs.Prelude.{◌≡◌, ◌≤◌, ◌<◌, ◌+◌, ◌^◌, IfOk, map};
+ghost use Rattle.serde_json.specs.View.{view, items_view};
+ghost use Rattle.kapi_manifests.specs.Files.{items_in, items_or_none};
+ghost use Rattle.serde_json.specs.Find.{as_array};
+ghost use Rattle.kapi_manifests.specs.Places.{depth_of};
+
+use crate::place::{Place, next};
+use kapi_text::Memory;
+use serde_json::Value;
+use std::alloc::Global;
+
+/// The items of a list; none where it has none.
+pub fn items_of(alloc: Global, list: Value) -> Vec<Value>
+    ensures { map view result.items ≡ items_in (view list) }
+{
+    let mut list = list;
+    match list.get_mut("items") {
+        Some(items) => array_of(alloc, items.take()),
+        None => Vec::new(alloc),
+    }
+}
+
+fn array_of(alloc: Global, value: Value) -> Vec<Value>
+    ensures { map view result.items ≡ items_or_none (as_array (view value)) }
+{
+    match value {
+        Value::Array(items) => items,
+        _ => Vec::new(alloc),
+    }
+}
+
+/// A reader of the text of a list: its place and the number of its line, and how many brackets are open.
+#[derive(Clone, Copy, Debug, PartialEq, Eq)]
+struct ListCursor {
+    place: Place,
+    line: usize,
+    brackets: usize,
+}
+
+/// The numbers of the lines in which the objects begin that stand in lists among the members of an object, which itself
+/// begins in that line.
+pub fn item_lines(alloc: Global, line: usize, text: &[u8]) -> Result<Vec<usize>, Memory> {
+    let mut lines = Vec::new(alloc);
+    let mut cursor = ListCursor {
+        place: Place::Between,
+        line,
+        brackets: 0,
+    };
+    for byte in text {
+        if begins_item(cursor, *byte) {
+            lines.push(cursor.line)?;
+        }
+        cursor = advance(cursor, *byte);
+    }
+    Ok(lines)
+}
+
+fn begins_item(cursor: ListCursor, byte: u8) -> bool {
+    is_member(cursor.place) && cursor.brackets == 1 && byte == b'{'
+}
+
+/// Whether a place is inside of one brace.
+fn is_member(place: Place) -> bool {
+    match place {
+        Place::Inside(depth) => depth == 1,
+        _ => false,
+    }
+}
+
+fn advance(cursor: ListCursor, byte: u8) -> ListCursor
+    requires { depth_of cursor.place < 2 ^ 63 }
+    ensures { depth_of result.place ≤ depth_of cursor.place + 1 }
+{
+    ListCursor {
+        place: next(cursor.place, byte),
+        line: cursor
+            .line
+            .saturating_add(if byte == b'\n' { 1 } else { 0 }),
+        brackets: if is_member(cursor.place) {
+            brackets_after(cursor.brackets, byte)
+        } else {
+            cursor.brackets
+        },
+    }
+}
+
+fn brackets_after(brackets: usize, byte: u8) -> usize {
+    match byte {
+        b'[' => brackets.saturating_add(1),
+        b']' => brackets.saturating_sub(1),
+        _ => brackets,
+    }
+}

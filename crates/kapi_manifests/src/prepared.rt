@@ -1,0 +1,145 @@
+//! Files of manifests, made into lines.
+ghost use Rattle.std.specs.Prelude.{◌≡◌, ◌+◌, ◌++◌, IfOk, OnOk, filter, length, map};
+ghost use Rattle.kapi_manifests.specs.Files.{Takes, bad_pieces, data_of, sum_of};
+ghost use Rattle.kapi_manifests.specs.Dangling.{origin_of};
+ghost use Rattle.kapi_manifests.specs.Made.{made};
+ghost use Rattle.kapi_manifests.specs.Standing.{standing_among, standing_namespaces, standing_roles};
+ghost use Rattle.kapi_manifests.specs.Written as written;
+ghost use Rattle.serde_json.specs.View.{view};
+ghost use Rattle.kapi_manifests.specs.Written.{AreOf, IsDangling, IsWritten, Loads, faults_in_all, objects_in_all};
+
+use crate::dangling::{Dangling, dangling_bindings};
+use crate::fault::{Fault, Origin};
+use crate::kinds::text_at;
+use crate::lines::Lines;
+use crate::namespaces::made_namespaces;
+use crate::reading::take_file;
+use crate::sorted::{Manifest, Options, Sorted};
+use crate::standing::{standing_beside, standing_namespaces, standing_roles};
+use kapi_text::{Memory, Text};
+use serde_json::Value;
+use std::alloc::Global;
+use std::collections::BTreeMap;
+
+/// What files of manifests are to the machine that loads them.
+#[derive(Debug, Drop)]
+pub struct Prepared {
+    /// The objects, a JSON text a line: namespaces first, those of the files and then the made ones.
+    pub text: Vec<u8>,
+    /// Where the object of each line begins.
+    pub origins: Vec<Origin>,
+    /// How many roles and cluster roles the files have.
+    pub roles: usize,
+    /// How many of their bindings the files have.
+    pub bindings: usize,
+    /// The bindings whose role is neither in the files nor in every policy.
+    pub dangling: Vec<Dangling>,
+    /// How many objects of a kind are passed over.
+    pub skipped: BTreeMap<Text, usize>,
+    /// What is wrong, in order. Where something is, the lines are those of the other objects.
+    pub faults: Vec<Fault>,
+}
+
+/// The lines that files are.
+pub fn prepare(alloc: Global, options: Options<'_>, files: &[&[u8]]) -> Result<Prepared, Memory>
+    ensures loads { IfOk result (λ p. Loads options.entry.scope options.entry.namespace.now (map (λ text. text.now) files.now) p) }
+    ensures faults { IfOk result (λ p. length p.faults.items ≡ faults_in_all options.entry.scope options.entry.namespace.now (map (λ text. text.now) files.now)) }
+{
+    let mut sorted = Sorted::new(alloc);
+    take_files(alloc, &mut sorted, options, files)?;
+    write(alloc, sorted)
+}
+
+/// Takes the objects of all files.
+fn take_files(
+    alloc: Global,
+    sorted: &mut Sorted,
+    options: Options<'_>,
+    files: &[&[u8]],
+) -> Result<(), Memory>
+    ensures { OnOk result (Takes options.entry sorted.old sorted.new (objects_in_all (map (λ text. text.now) files.now)) (sum_of bad_pieces (map (λ text. text.now) files.now))) }
+{
+    let mut number = 0;
+    for text in files {
+        take_file(alloc, sorted, options, number, text)?;
+        number = number.saturating_add(1);
+    }
+    Ok(())
+}
+
+/// Writes the objects as lines.
+fn write(alloc: Global, sorted: Sorted) -> Result<Prepared, Memory>
+    ensures { IfOk result (λ p. IsWritten sorted p) }
+{
+    let Sorted {
+        namespaces,
+        objects,
+        skipped,
+        faults,
+    } = sorted;
+    let homes = homes(alloc, namespaces)?;
+    let roles = count_of(objects.as_slice(), "Role", "ClusterRole");
+    let bindings = count_of(objects.as_slice(), "RoleBinding", "ClusterRoleBinding");
+    let dangling = dangling_beside(alloc, objects.as_slice())?;
+    let lines = write_lines(alloc, homes.as_slice(), objects.as_slice())?;
+    Ok(Prepared {
+        text: lines.text,
+        origins: lines.origins,
+        roles,
+        bindings,
+        dangling,
+        skipped,
+        faults,
+    })
+}
+
+/// The bindings whose role is neither among the objects nor in every policy.
+fn dangling_beside(alloc: Global, objects: &[Manifest]) -> Result<Vec<Dangling>, Memory>
+    ensures { IfOk result (λ v. IsDangling (map origin_of v.items) objects.now) }
+{
+    let others = standing_beside(alloc, &standing_roles(), &[])?;
+    dangling_bindings(alloc, others.as_slice(), objects)
+}
+
+/// How many objects are of one of two kinds.
+fn count_of(objects: &[Manifest], kind: &str, other: &str) -> usize
+    ensures { result ≡ length (filter (written.is_either kind.now other.now) (map data_of objects.now)) }
+{
+    let mut count = 0;
+    for manifest in objects {
+        if is_either(&manifest.object, kind, other) {
+            count += 1;
+        }
+    }
+    count
+}
+
+fn is_either(object: &Value, kind: &str, other: &str) -> bool
+    ensures { result ≡ written.is_either kind.now other.now (view object.now) }
+{
+    text_at(object, "kind") == kind || text_at(object, "kind") == other
+}
+
+/// The namespaces, behind those that every policy has.
+fn homes(alloc: Global, namespaces: Vec<Manifest>) -> Result<Vec<Manifest>, Memory>
+    ensures { IfOk result (λ v. map data_of v.items ≡ standing_among (map data_of namespaces.items) standing_namespaces ++ map data_of namespaces.items) }
+{
+    let mut homes = standing_beside(alloc, &standing_namespaces(), namespaces.as_slice())?;
+    let mut namespaces = namespaces;
+    homes.append(&mut namespaces)?;
+    Ok(homes)
+}
+
+/// The lines of the namespaces, of those that are made, of the roles and bindings that stand, and of the objects.
+fn write_lines(alloc: Global, homes: &[Manifest], objects: &[Manifest]) -> Result<Lines, Memory>
+    ensures { IfOk result (λ l. AreOf l (map data_of homes.now ++ (made homes.now objects.now ++ (standing_among (map data_of objects.now) standing_roles ++ map data_of objects.now)))) }
+{
+    let made = made_namespaces(alloc, homes, objects)?;
+    let standing = standing_beside(alloc, &standing_roles(), objects)?;
+    let mut lines = Lines::new(alloc);
+    lines.push_all(alloc, homes)?;
+    lines.push_all(alloc, made.as_slice())?;
+    lines.push_all(alloc, standing.as_slice())?;
+    lines.push_all(alloc, objects)?;
+    Ok(lines)
+}

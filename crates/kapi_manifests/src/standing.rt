@@ -1,0 +1,138 @@
+//! The objects that every policy begins with, unless a file has others of their kinds and names.
+ghost use Rattle.std.specs.Prelude.{◌≡◌, ◌++◌, IfOk, OnOk, map};
+ghost use Rattle.kapi_manifests.specs.Files.{data_of};
+ghost use Rattle.kapi_manifests.specs.Standing as standing;
+ghost use Rattle.kapi_manifests.specs.Standing.{object_told, standing_among, standing_if};
+ghost use Rattle.std.specs.List.{list_any};
+ghost use Rattle.serde_json.specs.Errors.{IsMemory};
+
+use crate::fault::Origin;
+use crate::kinds::{metadata_text, text_at};
+use crate::sorted::Manifest;
+use kapi_text::Memory;
+use serde_json::{Error, Value};
+use std::alloc::{AllocError, Global};
+
+/// An object that every policy begins with: its kind, its name, and its text.
+#[derive(Clone, Copy)]
+pub struct Standing {
+    kind: &'static str,
+    name: &'static str,
+    text: &'static str,
+}
+
+/// The namespace `default`.
+#[tactic(auto, unfolding(crate::specs::Standing::standing_namespaces))]
+pub fn standing_namespaces() -> [Standing; 1]
+    ensures { map standing.object_told result ≡ standing.standing_namespaces }
+{
+    [Standing {
+        kind: "Namespace",
+        name: "default",
+        text: "{\"apiVersion\":\"v1\",\"kind\":\"Namespace\",\"metadata\":{\"name\":\"default\"}}",
+    }]
+}
+
+/// The role that allows everything, the role by which users may review their own access, and a binding of each
+/// (Kubernetes, 'Using RBAC Authorization').
+#[tactic(auto, unfolding(crate::specs::Standing::standing_roles))]
+pub fn standing_roles() -> [Standing; 4]
+    ensures { map standing.object_told result ≡ standing.standing_roles }
+{
+    [
+        Standing {
+            kind: "ClusterRole",
+            name: "cluster-admin",
+            text: "{\"apiVersion\":\"rbac.authorization.k8s.io/v1\",\"kind\":\"ClusterRole\",\"metadata\":{\"name\":\"cluster-admin\"},\"rules\":[{\"apiGroups\":[\"*\"],\"resources\":[\"*\"],\"verbs\":[\"*\"]},{\"nonResourceURLs\":[\"*\"],\"verbs\":[\"*\"]}]}",
+        },
+        Standing {
+            kind: "ClusterRole",
+            name: "system:basic-user",
+            text: "{\"apiVersion\":\"rbac.authorization.k8s.io/v1\",\"kind\":\"ClusterRole\",\"metadata\":{\"name\":\"system:basic-user\"},\"rules\":[{\"apiGroups\":[\"authorization.k8s.io\"],\"resources\":[\"selfsubjectaccessreviews\",\"selfsubjectrulesreviews\"],\"verbs\":[\"create\"]}]}",
+        },
+        Standing {
+            kind: "ClusterRoleBinding",
+            name: "cluster-admin",
+            text: "{\"apiVersion\":\"rbac.authorization.k8s.io/v1\",\"kind\":\"ClusterRoleBinding\",\"metadata\":{\"name\":\"cluster-admin\"},\"roleRef\":{\"apiGroup\":\"rbac.authorization.k8s.io\",\"kind\":\"ClusterRole\",\"name\":\"cluster-admin\"},\"subjects\":[{\"apiGroup\":\"rbac.authorization.k8s.io\",\"kind\":\"Group\",\"name\":\"system:masters\"}]}",
+        },
+        Standing {
+            kind: "ClusterRoleBinding",
+            name: "system:basic-user",
+            text: "{\"apiVersion\":\"rbac.authorization.k8s.io/v1\",\"kind\":\"ClusterRoleBinding\",\"metadata\":{\"name\":\"system:basic-user\"},\"roleRef\":{\"apiGroup\":\"rbac.authorization.k8s.io\",\"kind\":\"ClusterRole\",\"name\":\"system:basic-user\"},\"subjects\":[{\"apiGroup\":\"rbac.authorization.k8s.io\",\"kind\":\"Group\",\"name\":\"system:authenticated\"}]}",
+        },
+    ]
+}
+
+/// Those that stand where the objects of files are these.
+pub fn standing_beside(
+    alloc: Global,
+    begun: &[Standing],
+    objects: &[Manifest],
+) -> Result<Vec<Manifest>, Memory>
+    ensures { IfOk result (λ v. map data_of v.items ≡ standing_among (map data_of objects.now) (map object_told begun.now)) }
+{
+    let mut found = Vec::new(alloc);
+    for one in begun {
+        push_standing(alloc, &mut found, *one, objects)?;
+    }
+    Ok(found)
+}
+
+fn push_standing(
+    alloc: Global,
+    found: &mut Vec<Manifest>,
+    one: Standing,
+    objects: &[Manifest],
+) -> Result<(), Memory>
+    ensures { OnOk result (map data_of found.new.items ≡ map data_of found.old.items ++ standing_if (map data_of objects.now) (object_told one)) }
+{
+    if is_among(one, objects) {
+        return Ok(());
+    }
+    push_text(alloc, found, one.text)
+}
+
+/// Whether one of the objects is of that kind and name.
+fn is_among(one: Standing, objects: &[Manifest]) -> bool
+    ensures { result ≡ list_any (standing.is_same (object_told one)) (map data_of objects.now) }
+{
+    for object in objects {
+        if is_same(one, object) {
+            return true;
+        }
+    }
+    false
+}
+
+/// Whether an object is of that kind and name.
+fn is_same(one: Standing, manifest: &Manifest) -> bool
+    ensures { result ≡ standing.is_same (object_told one) (data_of manifest.now) }
+{
+    text_at(&manifest.object, "kind") == one.kind
+        && metadata_text(&manifest.object, "name") == one.name
+}
+
+/// Keeps the object that a text is.
+#[tactic(auto, unfolding(crate::specs::Standing::object_read))]
+fn push_text(alloc: Global, found: &mut Vec<Manifest>, text: &str) -> Result<(), Memory>
+    ensures { OnOk result (map data_of found.new.items ≡ map data_of found.old.items ++ standing.object_read text.now) }
+{
+    match Value::from_str(alloc, text) {
+        Ok(object) => {
+            let origin = Origin { file: 0, line: 0 };
+            found.push(Manifest { origin, object })?;
+            Ok(())
+        }
+        Err(error) => memory_only(&error),
+    }
+}
+
+/// An error only where memory is refused.
+fn memory_only(error: &Error) -> Result<(), Memory>
+    ensures { OnOk result (¬ IsMemory error.now) }
+{
+    if error.is_memory() {
+        return Err(AllocError);
+    }
+    Ok(())
+}
