@@ -1,4 +1,5 @@
 """Runs the checks of a program. usage: python3 -m checks PROGRAM [NAME,NAME.. [WORD..]]     the quick ones that want python3 alone if none is named"""
+import importlib.util
 import sys
 
 from tools.chosen import Module, main
@@ -6,6 +7,8 @@ from tools.chosen import Module, main
 CHECKS = {
     "transcripts": Module(words=()),
     "statuses": Module(words=()),
+    "commands": Module(words=()),
+    "manifests": Module(words=()),
     "kinds": Module(words=()),
     "live": Module(words=()),
     "rechecks": Module(words=()),
@@ -17,6 +20,7 @@ CHECKS = {
     "pages": Module("curl and jq"),
     "kubectl": Module("kubectl"),
     "restart": Module("python3-kubernetes"),
+    "cluster": Module("python3-kubernetes", ("80",) if importlib.util.find_spec("kubernetes") else None),
 }
 
 if __name__ == "__main__":

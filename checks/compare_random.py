@@ -149,7 +149,9 @@ def compared(program, seed, number):
             file.write_text(written(made))
         ran = subprocess.run([program, "compare", "--json", *map(str, files)], capture_output=True, text=True)
     lines = [json.loads(line) for line in ran.stdout.splitlines()]
-    if ran.stderr or ran.returncode != (3 if lines else 0):
+    counts = [f"{file}: roles: " for file in files]
+    said = [it for it in ran.stderr.splitlines() if not it.startswith(tuple(counts)) and not it.endswith(": it gives nothing")]
+    if said or ran.returncode != (3 if lines else 0):
         return lines, [f"status {ran.returncode}, {ran.stderr!r}"]
     return lines, faults(before, after, lines)
 

@@ -1,10 +1,11 @@
-"""Runs the commands of docs/USING.md and docs/AUDIT.md and the example of `kapi serve --help`, and looks whether what stands there is printed.
+"""Runs the commands of README and of the pages for users, and compares what they print with what the page shows.
 
-usage: python3 -m checks.pages PROGRAM      wants curl and jq, and for the Python block of a page the package kubernetes
+usage: python3 -m checks.pages PROGRAM [PAGE..]      wants curl and jq; a block that wants more is left out if that is not there
 
-A block of a page is run where its first line is a command; the next block without commands is what the page shows. Lines with kubectl, jq or make are
-left out. The server is started with the objects of the page, and with the options that a command `kapi serve` of the page has. The jq command of
-AUDIT is run on examples/audit/cluster.json, and what it makes is audited by the stored questions. Status 1 where a line lacks.
+A block marked `sh` is run by bash at the top of a copy of the repository. The next block without a mark is what a terminal shows of
+it, but for line ends at the end; a block that shows nothing must end with status 0. The server of `make serve-demo` goes on until the
+page starts another. Lines that compile, install or fetch are left out, and a cluster's objects are those of examples/audit. A block
+marked `python` is run by python3.
 """
 import os
 import pathlib
@@ -14,138 +15,122 @@ import shutil
 import subprocess
 import sys
 import tempfile
-import time
 
 from checks.statuses import part, shell
 from tools.server import started
 
 HERE = pathlib.Path(__file__).resolve().parent.parent
-START = "kapi serve --load examples/serve/objects.jsonl 8001=root,system:masters 8002=ann,system:authenticated"
-RUN, LEFT_OUT = ("curl ", "printf ", "kapi "), ("kubectl", "jq ", "make ")
-COMMANDS = (*RUN, *LEFT_OUT, "echo ", "python3 ")
+PAGES = ("README.md", *(f"docs/{name}.md" for name in ("USING", "AUDIT", "REPLAY", "COMPARE", "DEPLOYING", "ESCALATION", "KUBERNETES")))
+LEFT_OUT = ("make ", "sudo ", "git ")
+SERVERS = ("kapi serve ", "make serve-demo", "python3 tools/door.py ")
+WANTED = {"kubectl ": ["kubectl", "version", "--client"], "tools/policy.py": ["python3", "-c", "import yaml"], "import client": ["python3", "-c", "import kubernetes"]}
 
 
 def blocks(page):
-    """The fenced blocks of a page, each as its language and its lines."""
-    for match in re.finditer(r"^```(\w*)\n(.*?)^```$", page, re.M | re.S):
-        yield match.group(1), match.group(2).splitlines()
+    """The fenced blocks of a page, each as its mark and its text."""
+    return re.findall(r"^```(\w*)\n(.*?)^```$", page, re.M | re.S)
 
 
-class Page:
-    """The server that a page's commands ask."""
+class Terminal:
+    """A shell in a copy of the repository, and the servers that it has started."""
 
-    def __init__(self, program):
-        self.program, self.process = program, None
+    def __init__(self, program, room):
+        self.room, self.servers = room, {}
+        for name in ("examples", "tools"):
+            shutil.copytree(HERE / name, room / name)
+        for line, text in enumerate(it for it in (HERE / "examples/compare/before.jsonl").read_text().splitlines() if it.startswith("{")):
+            for folder in (room / "base/rbac", room / "rbac"):
+                folder.mkdir(parents=True, exist_ok=True)
+                (folder / f"{line}.json").write_text(text)
+        (room / "bin").mkdir()
+        (room / "bin/kapi").symlink_to(program)
+        # Debian's packages are for Debian's python3, which need not be the first on the PATH.
+        (room / "bin/python3").symlink_to(shutil.which("python3", path="/usr/bin") or sys.executable)
+        self.env = {**os.environ, "HOME": str(room), "PATH": f"{room}/bin:{os.environ['PATH']}"}
 
-    def start(self, command):
-        """Starts it anew, with the words of a command."""
-        self.stop()
-        words = [self.program, *[it for it in shlex.split(command)[1:] if it not in ("--first-revision", "clock")]]
-        self.process = started(words, sum("=" in it for it in words) + words.count("--answer"), cwd=HERE)
+    def serve(self, command):
+        """Starts a server in place of the one of its kind."""
+        folder = self.room
+        if command.startswith("make "):
+            folder = self.room / "examples/serve"
+            command = (folder / "command").read_text()
+        words = shlex.split(command, comments=True)
+        self.stop(words[0])
+        lines = sum("=" in it for it in words) + words.count("--answer") if words[0] == "kapi" else 1
+        self.servers[words[0]] = started([self.room / "bin" / words[0], *words[1:]], lines, cwd=folder)
 
-    def stop(self):
-        if self.process:
-            self.process.kill()
-            self.process.wait()
+    def stop(self, *names):
+        for process in [self.servers.pop(it) for it in names if it in self.servers]:
+            process.kill()
+            process.wait()
 
+    def run(self, command):
+        """What a terminal shows of a command, and its status."""
+        ran = subprocess.run(command, cwd=self.room, env=self.env, stdout=subprocess.PIPE, stderr=subprocess.STDOUT, text=True, timeout=120, start_new_session=True)
+        return ran.stdout, ran.returncode
 
-def run(server, lines, room):
-    """The lines that the commands of a block print. One that watches is left alone for a moment and then ended."""
-    printed, watches = [], []
-    for line in lines:
-        if line.startswith("kapi serve"):
-            server.start(line)
-        elif "watch=" in line:
-            file = tempfile.NamedTemporaryFile("w+", dir=room)
-            watches.append((file, subprocess.Popen(line.removesuffix("&"), shell=True, cwd=HERE, stdout=file)))
-            time.sleep(0.5)
-        else:
-            told = subprocess.run(line.replace("kapi ", f"{server.program} ", 1) if line.startswith("kapi ") else line, shell=True, cwd=HERE, capture_output=True, text=True, timeout=60)
-            printed += told.stdout.splitlines()
-    return printed, watches
-
-
-def ended(watches):
-    """What the watches have shown until now."""
-    time.sleep(0.5)
-    lines = []
-    for file, process in watches:
-        subprocess.run(["pkill", "-P", str(process.pid)], check=False)
-        process.terminate()
-        process.wait()
-        file.seek(0)
-        lines += file.read().splitlines()
-    return lines
-
-
-def run_of(lines):
-    """The commands of a block that are run."""
-    return [it for it in lines if lines[0].startswith(RUN) and not any(word in it for word in LEFT_OUT)]
+    def block(self, mark, text):
+        """What a terminal shows of a block, and its status; nothing if it starts a server or is left out."""
+        text = re.sub(r"^kubectl get .*> cluster.json$", "cp examples/audit/cluster.json cluster.json", text, flags=re.M)
+        lines = [it for it in text.splitlines() if not it.startswith(LEFT_OUT)]
+        servers = [it for it in text.splitlines() if it.startswith(SERVERS)]
+        if servers:
+            self.serve(servers[0])
+        elif lines and not any(word in text and self.run(words)[1] for word, words in WANTED.items()):
+            return self.run(["python3" if mark == "python" else "bash", "-c", "\n".join(lines)])
+        return None
 
 
-def is_shown(lines):
-    """Whether the block is what a page shows, and no commands."""
-    return not lines[0].startswith(COMMANDS)
-
-
-def looked_at(server, name, room):
-    """How many lines of a page were looked for, and those that lack."""
-    count, lacking, printed, watches = 0, [], [], []
-    for language, lines in blocks((HERE / name).read_text(encoding="utf-8")):
-        if language == "python":
-            told = subprocess.run([sys.executable, "-c", "\n".join(lines)], capture_output=True, text=True, timeout=60)
-            if "No module named" in told.stderr:
-                print(f"{name}: the Python block is left out, since the package kubernetes is not there")
-            printed = told.stdout.splitlines() or None
-        elif run_of(lines):
-            more, begun = run(server, run_of(lines), room)
-            printed = (printed or []) + more if watches else more
-            watches += begun
-        elif printed and not language and is_shown(lines):
-            printed += ended(watches)
-            watches = []
-            count += len(lines)
-            lacking += [it for it in lines if it not in printed]
-            printed = []
-    ended(watches)
-    return count, lacking
-
-
-def audited(program):
-    """How many lines of the stored audit were looked for, its policy made by the command of AUDIT, and those that lack."""
-    stored = HERE / "examples/audit"
-    commands = next(lines for language, lines in blocks((HERE / "docs/AUDIT.md").read_text(encoding="utf-8")) if language == "sh")
-    with tempfile.TemporaryDirectory() as room:
-        shutil.copy(stored / "cluster.json", room)
-        subprocess.run("\n".join(line for line in commands if not line.startswith("kubectl ")), shell=True, cwd=room, check=True)
-        made = pathlib.Path(room, "policy.jsonl").read_text(encoding="utf-8").splitlines()
-        told = subprocess.run([program, "audit", f"{room}/policy.jsonl", stored / "questions.jsonl"], capture_output=True, text=True, timeout=60).stdout.splitlines()
-    pairs = [((stored / "policy.jsonl").read_text(encoding="utf-8").splitlines(), made), ((stored / "answers").read_text(encoding="utf-8").splitlines(), told)]
-    return sum(len(wanted) for wanted, _ in pairs), [line for wanted, printed in pairs if wanted != printed for line in wanted]
+def wrong(terminal, page):
+    """How many blocks of a page were run, and those that print something else or fail."""
+    count, faults, found = 0, [], blocks(page) + [("end", "")]
+    for (mark, text), (next_mark, shown) in zip(found, found[1:]):
+        if mark not in ("sh", "python"):
+            continue
+        ended = terminal.block(mark, text)
+        if ended is None:
+            continue
+        count += 1
+        printed, status = ended
+        if printed.rstrip("\n") != shown.rstrip("\n") if not next_mark else status:
+            faults.append(f"{text}  prints, with status {status}:\n{printed}")
+    return count, faults
 
 
 def served(program, room):
-    """How many answers of the example of `kapi serve --help` were looked for, and those that lack."""
+    """Whether the example of `kapi serve --help` prints what it says."""
     text = subprocess.run([program, "serve", "--help"], capture_output=True, text=True).stdout
-    told = shell(program, part(text, "Example:").replace("8001", "60011").replace("8002", "60012"), room)
-    wanted = ['listening 60011\nlistening 60012\n{"apiVersion":"v1","data":{"k":"v"},"kind":"ConfigMap"', '"code":403,']
-    return len(wanted), [] if told.startswith(wanted[0]) and wanted[1] in told else [told]
+    printed = shell(program, part(text, "Example:").replace("8001", "60011").replace("8002", "60012"), room)
+    first = 'listening 60011\nlistening 60012\n{"apiVersion":"v1","data":{"k":"v"},"kind":"ConfigMap"'
+    return 1, [] if printed.startswith(first) and '"code":403,' in printed else [printed]
 
 
-def main(program):
-    program = os.path.abspath(program)
-    server = Page(program)
+def checked(program, name):
+    """What is wrong with a page."""
     with tempfile.TemporaryDirectory() as room:
+        terminal = Terminal(program, pathlib.Path(room))
         try:
-            server.start(START)
-            pages = {"docs/USING.md": looked_at(server, "docs/USING.md", room), "docs/AUDIT.md": audited(program), "kapi serve --help": served(program, room)}
+            terminal.serve("make serve-demo")
+            if name not in PAGES:
+                return served(str(terminal.room / "bin/kapi"), room)
+            count, faults = wrong(terminal, (HERE / name).read_text(encoding="utf-8"))
+            made = terminal.room / "policy.jsonl"
+            if made.exists() and made.read_bytes() != (HERE / "examples/audit/policy.jsonl").read_bytes():
+                faults.append("examples/audit/policy.jsonl is not what the page makes of cluster.json there\n")
+            return count, faults
         finally:
-            server.stop()
-    for name, (count, lacking) in pages.items():
-        print(f"{name}: {count} lines looked for, {len(lacking)} lack")
-        print("".join(f"  {line}\n" for line in lacking), end="")
-    return 1 if any(lacking for _, lacking in pages.values()) else 0
+            terminal.stop(*list(terminal.servers))
+
+
+def main(program, *pages):
+    failed = False
+    for name in pages or (*PAGES, "kapi serve --help"):
+        count, faults = checked(os.path.abspath(program), name)
+        failed |= bool(faults)
+        print(f"{name}: {count} blocks run, {len(faults)} not as shown")
+        print("".join(f"  {it}\n" for it in faults), end="")
+    return 1 if failed else 0
 
 
 if __name__ == "__main__":
-    sys.exit(main(sys.argv[1]))
+    sys.exit(main(*sys.argv[1:]))

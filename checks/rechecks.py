@@ -7,10 +7,9 @@ A quick client has read what there is when its binding goes; a slow one reads no
 binding is gone. The first server ends both watches with a 403 behind what was sent before, and serves the next request of the connection;
 the second one goes on. The exit status is 1 where it is otherwise.
 """
-import json
 import sys
 
-from tools.server import ANN, ROOT, Server, ask, connect, request
+from tools.server import ANN, ROOT, Client, Server, ask, connect
 
 ROLES = "/apis/rbac.authorization.k8s.io/v1/namespaces/default"
 MAPS = "/api/v1/namespaces/default/configmaps"
@@ -23,25 +22,11 @@ def ask_code(client, method, path, item=None):
     return int(ask(client, method, path, item)[9:12])
 
 
-class Watch:
-    """A watch of all config maps of the namespace, read event by event."""
-
-    def __init__(self):
-        self.client = connect(ANN)
-        self.client.settimeout(3)
-        self.client.sendall(request("GET", MAPS + "?watch=true"))
-        self.lines = self.client.makefile("rb")
-        while self.lines.readline() not in (b"\r\n", b""):
-            pass
-
-    def event(self):
-        """The next event; the word end at the end of the body, and the word nothing where none comes."""
-        try:
-            size = int(self.lines.readline(), 16)
-            text = self.lines.read(size + 2)
-        except (TimeoutError, ValueError):
-            return "nothing"
-        return json.loads(text) if size else "end"
+def watching():
+    """A client who watches all config maps of the namespace."""
+    client = Client(ANN, seconds=3)
+    client.reply("GET", MAPS + "?watch=true")
+    return client
 
 
 def is_refusal(event):
@@ -50,18 +35,18 @@ def is_refusal(event):
 
 def quick(root, rechecks):
     """Whether a client that reads at once is told what it should be."""
-    watch = Watch()
+    watch = watching()
     shown = watch.event()["type"] == "ADDED"
     ask_code(root, "DELETE", ROLES + "/rolebindings/b")
     next_event = watch.event()
     if not rechecks:
         return shown and next_event == "nothing"
-    return shown and is_refusal(next_event) and watch.event() == "end" and ask_code(watch.client, "GET", MAPS) == 403
+    return shown and is_refusal(next_event) and watch.event() == "end" and ask_code(watch.socket, "GET", MAPS) == 403
 
 
 def slow(root, rechecks):
     """Whether one that reads only afterwards is told what it should be, and how many changes it was shown."""
-    watch = Watch()
+    watch = watching()
     for number in range(CHANGES):
         ask_code(root, "PUT", MAPS + "/a", {"metadata": {"name": "a"}, "data": {"k": f"{number} " + "x" * 10_000}})
     ask_code(root, "DELETE", ROLES + "/rolebindings/b")

@@ -247,10 +247,14 @@ def bound(role, name, group):
     return f'"roleRef":{{"apiGroup":"{RBAC}","kind":"{role}","name":"{name}"}},"subjects":[{{"apiGroup":"{RBAC}","kind":"Group","name":"{group}"}}]'
 
 
+# How many roles and bindings each policy has, and the bindings that give nothing.
+COUNTS = re.compile("before: roles: .*\nafter: roles: .*(\n.* gives nothing)*")
+
+
 def gains(before, after, *lines):
     """The second policy gives just these lines that the first did not."""
     told = "([^\n]*\n)?" + "".join(re.escape(it).replace(r"\ ", " +") + "\n" for it in lines)
-    return Case("compare before after", 3 if lines else 0, told=re.compile(told), files={"before": before, "after": after})
+    return Case("compare before after", 3 if lines else 0, COUNTS, told=re.compile(told), files={"before": before, "after": after})
 
 
 ROLE = item("Role", '"name":"r","namespace":"shop"', '"rules":[{"apiGroups":[""],"resources":["pods"],"resourceNames":["a","b"],"verbs":["get","list"]}]')
@@ -281,7 +285,7 @@ CHAIN = item("ClusterRole", '"name":"r0","labels":{"n":"0"}', '"rules":[{"apiGro
     for it in range(1, 71)
 )
 UNSETTLED = "chain: the roles are not settled after 64 turns"
-BAD = f"bad: policy line 3\n  {KIND}"
+BAD = f"bad:3: {KIND}"
 COMPARISONS = [
     changed(POLICIES[0], '"list"]', '"list","watch"]', DEV, BY, '["watch","","pods","a"]', '["watch","","pods","b"]'),
     changed(POLICIES[0], '"get","list"', '"*"', DEV, BY, '["*","","pods","a"]', '["*","","pods","b"]'),
@@ -295,15 +299,16 @@ COMPARISONS = [
             "Group dev *", "ClusterRoleBinding b, ClusterRole r, rule 0", '["get","","pods"]'),
     gains(POLICIES[2], POLICIES[2]),
     changed(POLICIES[2], '"services"', '"secrets"', "Group dev *", VIEWERS, '["get","","secrets"]', '["list","","secrets"]'),
-    Case("compare chain after", 3, UNSETTLED, files={"chain": CHAIN}),
-    Case("compare empty chain", 0, UNSETTLED),
-    Case("who chain get pods", 0, UNSETTLED),
-    Case("risks chain", 0, told=re.compile("(.*\n)?The roles are not settled.*", re.S)),
-    *[Case(words, 1, BAD) for words in ("compare bad empty", "compare empty bad", "who bad get pods", "risks bad")],
+    Case("compare chain after", 4, re.compile(f"chain: .*\nafter: .*\n{UNSETTLED}"), files={"chain": CHAIN}),
+    Case("compare after chain", 4, re.compile(f"after: .*\nchain: .*\n{UNSETTLED}")),
+    Case("who chain get pods", 4, UNSETTLED),
+    Case("risks chain", 4, told=re.compile("(.*\n)?The roles are not settled.*", re.S)),
+    *[Case(words, 1, BAD) for words in ("compare bad after", "compare after bad", "who bad get pods", "risks bad")],
+    *[Case(f"compare {words}", 1, re.compile("(after: .*\n)?empty: there is no role and no binding in it(\nafter: .*)?"), "") for words in ("empty after", "after empty")],
     Case("who empty --questions asked", 1, "asked: question line 3\n  a question is VERB RESOURCE [NAMESPACE [NAME]], with one space between words",
          files={"asked": "# nothing\n\nget\n"}),
     *[Case(words, 1, "none: there is no such file")
-      for words in ("compare none empty", "compare empty none", "who none get pods", "who empty --questions none", "risks none")],
+      for words in ("compare none after", "compare after none", "who none get pods", "who empty --questions none", "risks none")],
 ]
 SERVERS = [
     Case("serve --load none 1=a", 1, "none: there is no such file"),

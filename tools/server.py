@@ -1,4 +1,5 @@
 """A server of the program, and clients of it over sockets."""
+import itertools
 import json
 import os
 import pathlib
@@ -11,6 +12,14 @@ import tempfile
 # Each process has ports of its own, below those that the system gives to clients.
 FIRST = 20_000 + os.getpid() % 2_500 * 4
 ROOT, ANN, ANSWER, OTHER = range(FIRST, FIRST + 4)
+
+
+def free():
+    """Other ports, on which nobody listens."""
+    for port in range(10_000 + os.getpid() % 20 * 300, 18_000):
+        with socket.socket() as client:
+            if client.connect_ex(("127.0.0.1", port)):
+                yield port
 
 
 def started(words, lines, **how):
@@ -93,3 +102,28 @@ def ask(client, method, path, item=None):
     """Sends a request, with an object if one is named, and waits for its answer."""
     client.sendall(request(method, path, json.dumps(item) if item else ""))
     return whole_answer(client)
+
+
+class Client:
+    """A client of a port, whose answers are read line by line."""
+
+    def __init__(self, port, seconds):
+        self.socket = connect(port)
+        self.socket.settimeout(seconds)
+        self.lines = self.socket.makefile("rb")
+
+    def reply(self, *words):
+        """The code and the body of the answer to a request; of a watch the code alone."""
+        self.socket.sendall(request(*words))
+        head = b"".join(itertools.takewhile(bytes.strip, self.lines))
+        length = re.search(rb"Content-Length: (\d+)", head)
+        return (head[9:13] + self.lines.read(int(length[1]) if length else 0)).decode()
+
+    def event(self):
+        """The next event of a watch; the word end at the end of the body, and the word nothing if none comes."""
+        try:
+            size = int(self.lines.readline(), 16)
+            text = self.lines.read(size + 2)
+        except (TimeoutError, ValueError):
+            return "nothing"
+        return json.loads(text) if size else "end"

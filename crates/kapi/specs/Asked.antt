@@ -49,8 +49,10 @@ pub record Transcripts : Type 0 where
 pub record Policies : Type 0 where
   pub before : Text
   pub after : Text
+  pub namespace : Text
   pub usual_groups : Bool
   pub json : Bool
+  pub strict : Bool
 
 -- the words of a question; the namespace and the name are empty where they are left out
 pub record QuestionWords : Type 0 where
@@ -69,11 +71,14 @@ pub record Who : Type 0 where
   pub policy : Text
   pub question : Question
   pub json : Bool
+  pub strict : Bool
 
 -- the policy that is asked who may gain more than it grants, by the name of its file, and whether JSON is printed
 pub record Risks : Type 0 where
   pub policy : Text
+  pub namespace : Text
   pub json : Bool
+  pub strict : Bool
 
 -- one of the programs with its arguments, or a text of that kind
 pub data Asked : Type 0 where
@@ -149,13 +154,13 @@ abbrev pub compare_in : List Row → Option Policies
 compare_in rows = do
   before ← first_of (codes "BEFORE") rows
   after ← first_of (codes "AFTER") rows
-  Some (record { before = before; after = after; usual_groups = is_true (first_of (codes "usual-groups") rows); json = is_true (first_of (codes "json") rows) })
+  Some (record { before = before; after = after; namespace = unwrap_or (first_of (codes "namespace") rows) []; usual_groups = is_true (first_of (codes "usual-groups") rows); json = is_true (first_of (codes "json") rows); strict = is_true (first_of (codes "strict") rows) })
 
 -- the risks that parsed rows ask for
 abbrev pub risks_in : List Row → Option Risks
 risks_in rows = do
   policy ← first_of (codes "POLICY") rows
-  Some (record { policy = policy; json = is_true (first_of (codes "json") rows) })
+  Some (record { policy = policy; namespace = unwrap_or (first_of (codes "namespace") rows) []; json = is_true (first_of (codes "json") rows); strict = is_true (first_of (codes "strict") rows) })
 
 -- the question that parsed rows specify in words
 abbrev pub wanted_in : List Row → Option QuestionWords
@@ -191,7 +196,7 @@ abbrev pub who_in : List Row → Option Who
 who_in rows = do
   policy ← first_of (codes "POLICY") rows
   question ← question_in rows
-  Some (record { policy = policy; question = question; json = is_true (first_of (codes "json") rows) })
+  Some (record { policy = policy; question = question; json = is_true (first_of (codes "json") rows); strict = is_true (first_of (codes "strict") rows) })
 
 -- what the subcommand of that name asks for
 abbrev pub asked_by : Text → List Row → Option Asked
@@ -249,11 +254,11 @@ transcripts_told o = record { files = map string_bytes o.files.items; write = o.
 
 -- a comparison's policies, as data
 abbrev pub compare_told : CompareFiles → Policies
-compare_told f = record { before = string_bytes f.before; after = string_bytes f.after; usual_groups = f.usual_groups; json = f.json }
+compare_told f = record { before = string_bytes f.before; after = string_bytes f.after; namespace = string_bytes f.namespace; usual_groups = f.usual_groups; json = f.json; strict = f.strict }
 
 -- the policy whose risks are asked for, as data
 abbrev pub risks_told : RisksFile → Risks
-risks_told f = record { policy = string_bytes f.policy; json = f.json }
+risks_told f = record { policy = string_bytes f.policy; namespace = string_bytes f.namespace; json = f.json; strict = f.strict }
 
 -- the words of a question, as data
 abbrev pub wanted_told : WhoWanted → QuestionWords
@@ -271,7 +276,7 @@ question_told (who_question.File f) = File (string_bytes f)
 
 -- a question and its policy, as data
 abbrev pub who_told : WhoWords → Who
-who_told w = record { policy = string_bytes w.policy; question = question_told w.question; json = w.json }
+who_told w = record { policy = string_bytes w.policy; question = question_told w.question; json = w.json; strict = w.strict }
 
 -- a command, as data
 abbrev pub told : Command → Asked

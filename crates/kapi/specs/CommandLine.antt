@@ -66,9 +66,17 @@ word name = new_rule name
 abbrev pub json : Rule
 json = flag (codes "json")
 
+-- `--strict`
+abbrev pub strict : Rule
+strict = flag (codes "strict")
+
+-- a program that asks about policies, with the flags that all of these have
+abbrev pub asking : Text → App
+asking name = with_rule (with_rule (new_app name) json) strict
+
 -- the options of `kapi compare`
 abbrev pub compare_options : App
-compare_options = with_rule (with_rule (new_app (codes "compare")) json) (flag (codes "usual-groups"))
+compare_options = with_rule (with_rule (asking (codes "compare")) (flag (codes "usual-groups"))) (option (codes "namespace"))
 
 -- `kapi compare`, its flags before its files
 abbrev pub compare : App
@@ -76,7 +84,7 @@ compare = with_rule (with_rule compare_options (file (codes "BEFORE"))) (file (c
 
 -- how and where `kapi who` asks
 abbrev pub who_flags : App
-who_flags = with_rule (with_rule (with_rule (new_app (codes "who")) json) (option (codes "namespace"))) (option (codes "name"))
+who_flags = with_rule (with_rule (asking (codes "who")) (option (codes "namespace"))) (option (codes "name"))
 
 -- the options of `kapi who`, and its file behind them
 abbrev pub who_options : App
@@ -86,9 +94,9 @@ who_options = with_rule (with_rule who_flags (option (codes "questions"))) (file
 abbrev pub who : App
 who = with_rule (with_rule who_options (word (codes "VERB"))) (word (codes "RESOURCE"))
 
--- `kapi risks`, its flag before its file
+-- `kapi risks`, its options before its file
 abbrev pub risks : App
-risks = with_rule (with_rule (new_app (codes "risks")) json) (file (codes "POLICY"))
+risks = with_rule (with_rule (asking (codes "risks")) (option (codes "namespace"))) (file (codes "POLICY"))
 
 -- the subcommands that run a machine
 abbrev pub machines : App

@@ -7,6 +7,8 @@ abbrev pub status_of : Ending → ℕ
 status_of ending.Done = 0
 status_of ending.Differs = 1
 status_of ending.Stopped = 1
+status_of ending.Doubted = 1
+status_of ending.Unsettled = 4
 status_of ending.Misused = 2
 status_of ending.Gains = 3
 status_of ending.Unheard = 3

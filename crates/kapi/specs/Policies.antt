@@ -9,7 +9,7 @@ use Rattle.kapi_core.specs.declared.event.Answer.{Answer}
 use Rattle.kapi_core.specs.declared.event.Answer.TheVariants as told
 use Rattle.kapi_core.specs.declared.event.Event.TheVariants as event
 use Rattle.kapi_loading.specs.Faults.{FileFault, bad_line}
-use Rattle.kapi_loading.specs.Loading.{machine_of}
+use Rattle.kapi_loading.specs.Loading.{machine_alone}
 use Rattle.kapi_access.specs.Gained.{gained}
 use Rattle.kapi_access.specs.declared.identities.Identities.{Identities}
 use Rattle.kapi_access.specs.Risks.{risks}
@@ -115,7 +115,7 @@ compared_to f who b second = as_second second >>= λ a. Ok (comparison f who b a
 
 -- the comparison of the policies that two files are
 unfoldable pub compare_files : Form → Identities → List ℕ → List ℕ → Result Comparison FilesError
-compare_files f who before after = as_first (machine_of before) >>= λ b. compared_to f who b (machine_of after)
+compare_files f who before after = as_first (machine_alone 0 before) >>= λ b. compared_to f who b (machine_alone 0 after)
 
 -- a comparison, as data
 abbrev pub compared_told : Compared → Comparison
@@ -141,7 +141,7 @@ who_on f w m = record { text = who_text f (policy_of m) w; settled = is_settled 
 
 -- who may do what is asked, by the policy that a file is
 unfoldable pub who_wanted : Form → List ℕ → Wanted → Result Reply FilesError
-who_wanted f objects w = as_first (machine_of objects) >>= λ m. Ok (who_on f w m)
+who_wanted f objects w = as_first (machine_alone 0 objects) >>= λ m. Ok (who_on f w m)
 
 -- the line that is no question
 abbrev pub as_question : Result (List ℕ) LineError → Result (List ℕ) FilesError
@@ -154,12 +154,12 @@ lines_on f lines m = as_question (answered_lines f (policy_of m) lines) >>= λ t
 
 -- who may do what each line of a file asks, by the policy that another file is
 unfoldable pub who_file : Form → List ℕ → List ℕ → Result Reply FilesError
-who_file f objects questions = as_first (machine_of objects) >>= λ m. lines_on f (lines_of questions) m
+who_file f objects questions = as_first (machine_alone 0 objects) >>= λ m. lines_on f (lines_of questions) m
 
 -- who may gain more than a policy grants, and what holds of all others
-abbrev pub risks_on : Form → Machine → List ℕ
-risks_on f m = ways_text f (risks (policy_of m)) ++ settled_line f (is_settled m)
+abbrev pub risks_on : Form → Machine → Reply
+risks_on f m = record { text = ways_text f (risks (policy_of m)) ++ settled_line f (is_settled m); settled = is_settled m }
 
 -- who may gain more than the policy of a file grants, and what holds of all others
-unfoldable pub risks_file : Form → List ℕ → Result (List ℕ) FilesError
-risks_file f objects = as_first (machine_of objects) >>= λ m. Ok (risks_on f m)
+unfoldable pub risks_file : Form → List ℕ → Result Reply FilesError
+risks_file f objects = as_first (machine_alone 0 objects) >>= λ m. Ok (risks_on f m)

@@ -2,7 +2,7 @@ ghost use Rattle.std.specs.Prelude.{◌≡◌, IfOk, codes, false};
 ghost use Rattle.clap.specs.Simple.{app_of, new_app};
 ghost use Rattle.clap.specs.Walk.{rule_of};
 ghost use Rattle.clap.specs.declared.builder.command.Command.TheViews.{out-Command};
-ghost use Rattle.kapi.specs.CommandLine.{kapi, audit as audit_app, compare as compare_app, compare_options as compare_options_app, replay as replay_app, risks as risks_app, serve as serve_app, script as script_app, who as who_app, who_flags as who_flags_app, who_options as who_options_app, word as word_rule, file as file_rule, json as json_rule, machines as machines_app, option as option_rule, readers as readers_rule, listen as listen_rule, transcripts as transcripts_rule, flag as flag_rule};
+ghost use Rattle.kapi.specs.CommandLine.{kapi, asking as asking_app, audit as audit_app, compare as compare_app, compare_options as compare_options_app, replay as replay_app, risks as risks_app, serve as serve_app, script as script_app, who as who_app, who_flags as who_flags_app, who_options as who_options_app, word as word_rule, file as file_rule, json as json_rule, strict as strict_rule, machines as machines_app, option as option_rule, readers as readers_rule, listen as listen_rule, transcripts as transcripts_rule, flag as flag_rule};
 
 use crate::command_line::PORTS;
 use clap::{Arg, ArgAction, Command};
@@ -205,23 +205,25 @@ fn replay<'a>(alloc: Global) -> Result<Command<'a>, Memory>
 
 /// What `kapi compare --help` shows below the arguments.
 const COMPARE_FORMS: &str =
-    r#"Each file has one JSON object a line, as a cluster gives them, namespaces first; empty lines and lines that begin with # are skipped.
+    r#"BEFORE, AFTER: objects as 'kubectl get -o json' prints them, or JSON objects one after the other, in any order. A folder is its files
+*.json and *.jsonl, and - is standard input. Objects that say nothing about policy are counted and passed over.
 
 Each line tells a user or group that gains, the namespace (* is all of them), what it gains, and the binding, role and rule that give it.
 A user is looked at without groups, a group by another user in it alone. With --usual-groups all are in system:authenticated, service
 accounts in their two groups besides, and the anonymous user in system:unauthenticated alone.
 
 Example:
-  printf '%s\n' \
-    '{"apiVersion":"rbac.authorization.k8s.io/v1","kind":"Role","metadata":{"name":"reader","namespace":"default"},"rules":[{"apiGroups":[""],"resources":["secrets"],"verbs":["get"]}]}' \
-    '{"apiVersion":"rbac.authorization.k8s.io/v1","kind":"RoleBinding","metadata":{"name":"readers","namespace":"default"},"roleRef":{"kind":"Role","name":"reader"},"subjects":[{"kind":"User","name":"ann"}]}' > policy.jsonl
-  kapi compare /dev/null policy.jsonl
+  echo '{"apiVersion":"rbac.authorization.k8s.io/v1","kind":"Role","metadata":{"name":"reader","namespace":"default"},"rules":[{"apiGroups":[""],"resources":["secrets"],"verbs":["get"]}]}' > before.json
+  cp before.json after.json
+  echo '{"apiVersion":"rbac.authorization.k8s.io/v1","kind":"RoleBinding","metadata":{"name":"readers","namespace":"default"},"roleRef":{"kind":"Role","name":"reader"},"subjects":[{"kind":"User","name":"ann"}]}' >> after.json
+  kapi compare before.json after.json
 
 It prints
   SUBJECT   NAMESPACE  GAINS                 BY
   User ann  default    ["get","","secrets"]  RoleBinding readers, Role reader, rule 0
 
-Status 0 where nobody gains, 3 where somebody does, and 1 where a file is not loaded."#;
+Status 0 where nobody gains, 3 where somebody does, and 1 where a file is not loaded, has neither role nor
+binding, or, with --strict, where a binding's role is not in the policy."#;
 
 fn compare<'a>(alloc: Global) -> Result<Command<'a>, Memory>
     ensures { IfOk result (λ c. (app_of c ≡ compare_app) × ((out-Command c).has_globals ≡ false)) }
@@ -231,24 +233,53 @@ fn compare<'a>(alloc: Global) -> Result<Command<'a>, Memory>
         .arg(file(alloc, "AFTER", "The objects of the policy that is to be"))
 }
 
+/// A program that asks about policies, with the flags that all of these have.
+fn asking<'a>(
+    alloc: Global,
+    name: &'a str,
+    about: &'a str,
+    forms: &'a str,
+) -> Result<Command<'a>, Memory>
+    ensures { IfOk result (λ c. (app_of c ≡ asking_app name.entry.now) × ((out-Command c).has_globals ≡ false)) }
+{
+    Command::new(alloc, name)
+        .about(about)
+        .after_help(forms)
+        .arg(json(alloc))?
+        .arg(strict(alloc))
+}
+
 /// `kapi compare` without its files.
 fn compare_options<'a>(alloc: Global) -> Result<Command<'a>, Memory>
     ensures { IfOk result (λ c. (app_of c ≡ compare_options_app) × ((out-Command c).has_globals ≡ false)) }
 {
-    Command::new(alloc, "compare")
-        .about("Tells what a policy allows to whom that another did not")
-        .after_help(COMPARE_FORMS)
-        .arg(json(alloc))?
+    let about = "Tells what a policy allows to whom that another did not";
+    asking(alloc, "compare", about, COMPARE_FORMS)?
         .arg(flag(
             alloc,
             "usual-groups",
             "Asks of each subject with the groups that authentication gives it",
-        ))
+        ))?
+        .arg(home(alloc))
+}
+
+/// `--namespace NS`, of programs that read manifests.
+fn home<'a>(alloc: Global) -> Arg<'a>
+    ensures rule { rule_of result ≡ option_rule (codes "namespace") }
+    ensures local { result.global ≡ false }
+{
+    option(
+        alloc,
+        "namespace",
+        "NS",
+        "The namespace of objects that live in one and name none",
+    )
 }
 
 /// What `kapi who --help` shows below the arguments.
 const WHO_FORMS: &str =
-    r#"POLICY has one JSON object a line, as a cluster gives them, namespaces first; empty lines and lines that begin with # are skipped.
+    r#"POLICY: objects as 'kubectl get -o json' prints them, or JSON objects one after the other, in any order. A folder is its files
+*.json and *.jsonl, and - is standard input. Objects that say nothing about policy are counted and passed over.
 
 RESOURCE: pods, pods/log, deployments.apps, or a path that begins with a slash, which is asked about cluster-wide.
 
@@ -296,15 +327,13 @@ fn who_options<'a>(alloc: Global) -> Result<Command<'a>, Memory>
 fn who_flags<'a>(alloc: Global) -> Result<Command<'a>, Memory>
     ensures { IfOk result (λ c. (app_of c ≡ who_flags_app) × ((out-Command c).has_globals ≡ false)) }
 {
-    Command::new(alloc, "who")
-        .about("Tells who may do something by a policy")
-        .after_help(WHO_FORMS)
-        .arg(json(alloc))?
+    let about = "Tells who may do something by a policy";
+    asking(alloc, "who", about, WHO_FORMS)?
         .arg(option(
             alloc,
             "namespace",
             "NS",
-            "The namespace that is asked about; all of them where it is left out",
+            "The namespace that is asked about, and that of objects that live in one and name none; all of them where it is left out",
         ))?
         .arg(option(
             alloc,
@@ -316,7 +345,8 @@ fn who_flags<'a>(alloc: Global) -> Result<Command<'a>, Memory>
 
 /// What `kapi risks --help` shows below the arguments.
 const RISKS_FORMS: &str =
-    r#"POLICY has one JSON object a line, as a cluster gives them, namespaces first; empty lines and lines that begin with # are skipped.
+    r#"POLICY: objects as 'kubectl get -o json' prints them, or JSON objects one after the other, in any order. A folder is its files
+*.json and *.jsonl, and - is standard input. Objects that say nothing about policy are counted and passed over.
 
 Each line tells a user or group that may escalate or bind roles or impersonate, the namespace (* is all of them), and the binding, role and
 rule that let it. The last line tells what holds of all others.
@@ -335,11 +365,22 @@ It prints
 fn risks<'a>(alloc: Global) -> Result<Command<'a>, Memory>
     ensures { IfOk result (λ c. (app_of c ≡ risks_app) × ((out-Command c).has_globals ≡ false)) }
 {
-    Command::new(alloc, "risks")
-        .about("Tells who may come to more than a policy gives")
-        .after_help(RISKS_FORMS)
-        .arg(json(alloc))?
+    let about = "Tells who may come to more than a policy gives";
+    asking(alloc, "risks", about, RISKS_FORMS)?
+        .arg(home(alloc))?
         .arg(file(alloc, "POLICY", "The objects of the policy"))
+}
+
+/// `--strict`, of programs that read manifests.
+fn strict<'a>(alloc: Global) -> Arg<'a>
+    ensures rule { rule_of result ≡ strict_rule }
+    ensures local { result.global ≡ false }
+{
+    flag(
+        alloc,
+        "strict",
+        "Ends with status 1 where there is a doubt about a policy",
+    )
 }
 
 fn json<'a>(alloc: Global) -> Arg<'a>

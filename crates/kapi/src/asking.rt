@@ -1,90 +1,120 @@
 //! Questions about the policies of files.
 use crate::ending::Ending;
+use crate::manifests::{Doubts, ReadPolicy, read_policy, tell_refused};
 use crate::policies::{
     Answered, Compared, FilesFault, compare_files, risks_file, who_file, who_wanted,
 };
 use crate::program::{CompareFiles, RisksFile, WhoQuestion, WhoWanted, WhoWords};
-use crate::telling::{print, read_file, tell_reason};
+use crate::telling::{print, read_file};
 use kapi_access::Identities;
 use kapi_questions::{Form, question_of};
-use kapi_reasons::object_reason;
 use std::fs::Files;
 use std::io;
 use std::sync::Wait;
 use std::thread::Threads;
 
-/// A file that was read, and its name.
+/// A file of questions that was read, and its name.
 #[derive(Clone, Copy)]
 struct Source<'a> {
     name: &'a str,
     bytes: &'a [u8],
 }
 
-/// Prints what a policy allows that another did not: status 0 where nobody gains, 3 where somebody does, or 1 after a
-/// line on standard error.
-pub fn run_compare<R: Files + Print + Eprint + AllocGlobal + Wait + Threads + Sync>(
-    rt: &R,
-    files: &CompareFiles,
-) -> io::Result<Ending> {
-    let Some(before) = read_file(rt, files.before.as_str())? else {
+/// Prints what a policy allows that another did not: status 0 if nobody gains, 3 if somebody does, 4 if the roles of a
+/// policy are not settled, or 1 after a line on standard error.
+pub fn run_compare<
+    R: Files + Input + Print + Eprint + AllocGlobal + Wait + Threads + Sync + Clone + Drop,
+>(rt: &R, files: &CompareFiles) -> io::Result<Ending> {
+    let namespace = files.namespace.as_str();
+    let before = read_policy(rt, files.before.as_str(), namespace)?;
+    let after = read_policy(rt, files.after.as_str(), namespace)?;
+    let (Some(before), Some(after)) = (before, after) else {
         return Ok(Ending::Stopped);
     };
-    let Some(after) = read_file(rt, files.after.as_str())? else {
+    let before_counts = tell_counts(rt, files.before.as_str(), &before)?;
+    let after_counts = tell_counts(rt, files.after.as_str(), &after)?;
+    if !before_counts || !after_counts {
         return Ok(Ending::Stopped);
-    };
+    }
+    let mut doubts = Doubts::new(rt.alloc());
+    doubts.tell(rt, &after)?;
+    doubts.tell(rt, &before)?;
     let compared = compare_files(
         rt.alloc(),
         rt,
         form(files.json),
         identities(files.usual_groups),
-        before.as_slice(),
-        after.as_slice(),
+        before.lines(),
+        after.lines(),
     );
-    let before = file_of(files.before.as_str(), before.as_slice());
-    let after = file_of(files.after.as_str(), after.as_slice());
-    tell_compared(rt, &before, &after, compared)
+    let ending = tell_compared(rt, files, &before, &after, compared)?;
+    Ok(ending.or_doubted(files.strict && doubts.are_some()))
+}
+
+/// Reports how many roles and bindings a policy has, and whether it has any.
+fn tell_counts(rt: &impl Eprint, name: &str, policy: &ReadPolicy) -> io::Result<bool> {
+    if !policy.has_policy() {
+        eprintln!(rt; "{name}: there is no role and no binding in it")?;
+        return Ok(false);
+    }
+    let roles = policy.prepared.roles;
+    let bindings = policy.prepared.bindings;
+    eprintln!(rt; "{name}: roles: {roles}, bindings: {bindings}")?;
+    Ok(true)
 }
 
 fn tell_compared<R: Print + Eprint + AllocGlobal>(
     rt: &R,
-    before: &Source<'_>,
-    after: &Source<'_>,
+    files: &CompareFiles,
+    before: &ReadPolicy,
+    after: &ReadPolicy,
     compared: Result<Compared, FilesFault>,
 ) -> io::Result<Ending> {
     match compared {
         Ok(compared) => {
             print(rt, compared.text.as_slice())?;
-            tell_unsettled(rt, before.name, compared.before_settled)?;
-            tell_unsettled(rt, after.name, compared.after_settled)?;
-            Ok(Ending::of_comparison(compared.gains))
+            tell_unsettled(rt, files.before.as_str(), compared.before_settled)?;
+            tell_unsettled(rt, files.after.as_str(), compared.after_settled)?;
+            let settled = compared.before_settled && compared.after_settled;
+            Ok(Ending::of_comparison(compared.gains).or_unsettled(settled))
         }
-        Err(fault) => refuse(rt, fault, before, after),
+        Err(FilesFault::Memory) => {
+            eprintln!(rt; "out of memory")?;
+            Ok(Ending::Stopped)
+        }
+        Err(_refused) => {
+            tell_refused(rt, before)?;
+            tell_refused(rt, after)?;
+            Ok(Ending::Stopped)
+        }
     }
 }
 
-/// Prints who may do something: status 0, or 1 after a line on standard error.
-pub fn run_who<R: Files + Print + Eprint + AllocGlobal + Wait>(
+/// Prints who may do something: status 0, 4 if the roles are not settled, or 1 after a line on standard error.
+pub fn run_who<R: Files + Input + Print + Eprint + AllocGlobal + Wait + Clone + Drop>(
     rt: &R,
     words: &WhoWords,
 ) -> io::Result<Ending> {
-    let policy = words.policy.as_str();
-    let Some(objects) = read_file(rt, policy)? else {
-        return Ok(Ending::Stopped);
-    };
-    let policy = file_of(policy, objects.as_slice());
     match &words.question {
         WhoQuestion::Words(wanted) => {
-            let asked = ask_words(rt, form(words.json), policy.bytes, wanted);
-            tell_who(rt, &policy, &file_of("", b"".as_slice()), asked)
+            let Some(policy) = read_policy(rt, words.policy.as_str(), wanted.namespace.as_str())?
+            else {
+                return Ok(Ending::Stopped);
+            };
+            let asked = ask_words(rt, form(words.json), policy.lines(), wanted);
+            tell_who(rt, words, &policy, &file_of("", b"".as_slice()), asked)
         }
         WhoQuestion::File(file) => {
+            let Some(policy) = read_policy(rt, words.policy.as_str(), "")? else {
+                return Ok(Ending::Stopped);
+            };
             let Some(lines) = read_file(rt, file.as_str())? else {
                 return Ok(Ending::Stopped);
             };
             let form = form(words.json);
             let questions = file_of(file.as_str(), lines.as_slice());
-            let asked = who_file(rt.alloc(), rt, form, policy.bytes, questions.bytes);
-            tell_who(rt, &policy, &questions, asked)
+            let asked = who_file(rt.alloc(), rt, form, policy.lines(), questions.bytes);
+            tell_who(rt, words, &policy, &questions, asked)
         }
     }
 }
@@ -107,36 +137,50 @@ fn ask_words<R: AllocGlobal + Wait>(
 
 fn tell_who<R: Print + Eprint + AllocGlobal>(
     rt: &R,
-    policy: &Source<'_>,
+    words: &WhoWords,
+    policy: &ReadPolicy,
     questions: &Source<'_>,
     asked: Result<Answered, FilesFault>,
 ) -> io::Result<Ending> {
     match asked {
         Ok(answered) => {
             print(rt, answered.text.as_slice())?;
-            tell_unsettled(rt, policy.name, answered.settled)?;
-            Ok(Ending::Done)
+            tell_unsettled(rt, words.policy.as_str(), answered.settled)?;
+            let ending = tell_doubts(rt, policy, words.strict)?;
+            Ok(ending.or_unsettled(answered.settled))
         }
         Err(fault) => refuse(rt, fault, policy, questions),
     }
 }
 
-/// Prints who may gain more than a policy grants: status 0, or 1 after a line on standard error.
-pub fn run_risks<R: Files + Print + Eprint + AllocGlobal + Wait>(
+/// Prints who may gain more than a policy grants: status 0, 4 if the roles are not settled, or 1 after a line on
+/// standard error.
+pub fn run_risks<R: Files + Input + Print + Eprint + AllocGlobal + Wait + Clone + Drop>(
     rt: &R,
     file: &RisksFile,
 ) -> io::Result<Ending> {
-    let policy = file.policy.as_str();
-    let Some(objects) = read_file(rt, policy)? else {
+    let Some(policy) = read_policy(rt, file.policy.as_str(), file.namespace.as_str())? else {
         return Ok(Ending::Stopped);
     };
-    match risks_file(rt.alloc(), rt, form(file.json), objects.as_slice()) {
-        Ok(text) => {
-            print(rt, text.as_slice())?;
-            Ok(Ending::Done)
+    match risks_file(rt.alloc(), rt, form(file.json), policy.lines()) {
+        Ok(answered) => {
+            print(rt, answered.text.as_slice())?;
+            let ending = tell_doubts(rt, &policy, file.strict)?;
+            Ok(ending.or_unsettled(answered.settled))
         }
-        Err(fault) => refuse_policy(rt, fault, policy, objects.as_slice()),
+        Err(fault) => refuse(rt, fault, &policy, &file_of("", b"".as_slice())),
     }
+}
+
+/// Reports the doubts about a policy: status 1 where there is one and the words are strict.
+fn tell_doubts<R: Eprint + AllocGlobal>(
+    rt: &R,
+    policy: &ReadPolicy,
+    strict: bool,
+) -> io::Result<Ending> {
+    let mut doubts = Doubts::new(rt.alloc());
+    doubts.tell(rt, policy)?;
+    Ok(Ending::Done.or_doubted(strict && doubts.are_some()))
 }
 
 fn file_of<'a>(name: &'a str, bytes: &'a [u8]) -> Source<'a> {
@@ -162,18 +206,17 @@ fn tell_unsettled(rt: &impl Eprint, file: &str, settled: bool) -> io::Result<()>
     Ok(())
 }
 
-/// Reports a line of a file at fault and the reason, or that the program is out of memory: status 1.
+/// Reports what is wrong with a policy or a question, or that the program is out of memory: status 1.
 fn refuse<R: Eprint + AllocGlobal>(
     rt: &R,
     fault: FilesFault,
-    first: &Source<'_>,
-    second: &Source<'_>,
+    policy: &ReadPolicy,
+    questions: &Source<'_>,
 ) -> io::Result<Ending> {
     match fault {
-        FilesFault::First(line) => tell_policy_line(rt, first.name, first.bytes, line)?,
-        FilesFault::Second(line) => tell_policy_line(rt, second.name, second.bytes, line)?,
+        FilesFault::First(_) | FilesFault::Second(_) => tell_refused(rt, policy)?,
         FilesFault::Question(line) => {
-            let name = second.name;
+            let name = questions.name;
             eprintln!(rt; "{name}: question line {line}")?;
             eprintln!(rt;
                 "  a question is VERB RESOURCE [NAMESPACE [NAME]], with one space between words"
@@ -182,28 +225,4 @@ fn refuse<R: Eprint + AllocGlobal>(
         FilesFault::Memory => eprintln!(rt; "out of memory")?,
     }
     Ok(Ending::Stopped)
-}
-
-/// Reports a line of the only policy at fault and the reason, or that the program is out of memory: status 1.
-fn refuse_policy<R: Eprint + AllocGlobal>(
-    rt: &R,
-    fault: FilesFault,
-    name: &str,
-    objects: &[u8],
-) -> io::Result<Ending> {
-    match fault {
-        FilesFault::First(line) => tell_policy_line(rt, name, objects, line)?,
-        _ => eprintln!(rt; "out of memory")?,
-    }
-    Ok(Ending::Stopped)
-}
-
-fn tell_policy_line<R: Eprint + AllocGlobal>(
-    rt: &R,
-    name: &str,
-    objects: &[u8],
-    line: usize,
-) -> io::Result<()> {
-    eprintln!(rt; "{name}: policy line {line}")?;
-    tell_reason(rt, object_reason(rt.alloc(), 0, objects))
 }

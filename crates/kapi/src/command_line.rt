@@ -1,4 +1,4 @@
-ghost use Rattle.std.specs.Prelude.{◌≡◌, ◌≤◌, ℕ, List, IfOk, IfSome, IsErrOf, codes, map, option_and_then, option_map, string_bytes, vec_len};
+ghost use Rattle.std.specs.Prelude.{◌≡◌, ◌≤◌, ℕ, List, [], Some, IfOk, IfSome, IsErrOf, codes, map, option_and_then, option_map, string_bytes, unwrap_or, vec_len};
 ghost use Rattle.clap.specs.Matches.{found_of};
 ghost use Rattle.clap.specs.Simple.{subcommand_rows_of};
 ghost use Rattle.clap.specs.Walk.{all_of, first_of, rows_of};
@@ -92,17 +92,27 @@ fn needed(alloc: Global, words: &ArgMatches<'_>, name: &str) -> Result<String, C
     Ok(String::from_str(alloc, value)?)
 }
 
+/// The value of that name, copied; empty where it has none.
+fn text_or_empty(alloc: Global, words: &ArgMatches<'_>, name: &str) -> Result<String, CommandFault>
+    ensures { Reads (λ s. string_bytes s) result (Some (unwrap_or (first_of name.now (rows_of (found_of words.now))) [])) }
+{
+    Ok(String::from_str(alloc, value(words, name).unwrap_or(""))?)
+}
+
 /// The files that the words behind `compare` name.
 fn compare_files(alloc: Global, words: &ArgMatches<'_>) -> Result<CompareFiles, CommandFault>
     ensures { Reads compare_told result (compare_in (rows_of (found_of words.now))) }
 {
     let before = needed(alloc, words, "BEFORE")?;
     let after = needed(alloc, words, "AFTER")?;
+    let namespace = text_or_empty(alloc, words, "namespace")?;
     Ok(CompareFiles {
         before,
         after,
+        namespace,
         usual_groups: is_given(words, "usual-groups"),
         json: is_given(words, "json"),
+        strict: is_given(words, "strict"),
     })
 }
 
@@ -111,9 +121,12 @@ fn risks_file(alloc: Global, words: &ArgMatches<'_>) -> Result<RisksFile, Comman
     ensures { Reads risks_told result (risks_in (rows_of (found_of words.now))) }
 {
     let policy = needed(alloc, words, "POLICY")?;
+    let namespace = text_or_empty(alloc, words, "namespace")?;
     Ok(RisksFile {
         policy,
+        namespace,
         json: is_given(words, "json"),
+        strict: is_given(words, "strict"),
     })
 }
 
@@ -127,6 +140,7 @@ fn who_words(alloc: Global, words: &ArgMatches<'_>) -> Result<WhoWords, CommandF
         policy,
         question,
         json: is_given(words, "json"),
+        strict: is_given(words, "strict"),
     })
 }
 
@@ -165,8 +179,8 @@ fn who_wanted(alloc: Global, words: &ArgMatches<'_>) -> Result<WhoWanted, Comman
 {
     let verb = needed(alloc, words, "VERB")?;
     let resource = needed(alloc, words, "RESOURCE")?;
-    let namespace = String::from_str(alloc, value(words, "namespace").unwrap_or(""))?;
-    let name = String::from_str(alloc, value(words, "name").unwrap_or(""))?;
+    let namespace = text_or_empty(alloc, words, "namespace")?;
+    let name = text_or_empty(alloc, words, "name")?;
     Ok(WhoWanted {
         verb,
         resource,

@@ -1,5 +1,6 @@
 //! How a program ends, and the exit status that tells so.
-ghost use Rattle.std.specs.Prelude.{◌≡◌};
+ghost use Rattle.std.specs.Prelude.{◌≡◌, if◌then◌else◌};
+ghost use Rattle.kapi.specs.declared.ending.Ending.TheVariants.{Doubted, Unsettled};
 ghost use Rattle.std.specs.Process.{exit_status};
 ghost use Rattle.kapi.specs.Endings.{compared_as, played_as, status_of};
 
@@ -14,6 +15,10 @@ pub enum Ending {
     Differs,
     /// A file, a line of one, the memory, the system, or what is printed stood in the way.
     Stopped,
+    /// There is a doubt about a policy, and the words of the command line are strict.
+    Doubted,
+    /// Roles of a policy still change after the last turn, so an answer may not hold.
+    Unsettled,
     /// The words of the command line are not understood.
     Misused,
     /// Somebody gains by the other policy.
@@ -30,6 +35,20 @@ impl Ending {
         ensures { result ≡ compared_as gains }
     {
         if gains { Ending::Gains } else { Ending::Done }
+    }
+
+    /// This ending, or that of a doubt.
+    pub fn or_doubted(self, doubted: bool) -> Ending
+        ensures { result ≡ (if doubted then Doubted else self) }
+    {
+        if doubted { Ending::Doubted } else { self }
+    }
+
+    /// This ending, or that of a policy whose roles are not settled.
+    pub fn or_unsettled(self, settled: bool) -> Ending
+        ensures { result ≡ (if settled then self else Unsettled) }
+    {
+        if settled { self } else { Ending::Unsettled }
     }
 
     /// The ending of transcripts that were played.
@@ -50,11 +69,11 @@ impl Ending {
         match self {
             Ending::Done => ExitCode::from(0),
             Ending::Differs => ExitCode::from(1),
-            Ending::Stopped => ExitCode::from(1),
+            Ending::Stopped | Ending::Doubted => ExitCode::from(1),
             Ending::Misused => ExitCode::from(2),
             Ending::Gains => ExitCode::from(3),
             Ending::Unheard => ExitCode::from(3),
-            Ending::Adrift => ExitCode::from(4),
+            Ending::Adrift | Ending::Unsettled => ExitCode::from(4),
         }
     }
 }

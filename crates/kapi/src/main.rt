@@ -13,6 +13,7 @@ mod bounded_lines;
 mod command_line;
 mod ending;
 mod kept_lines;
+mod manifests;
 mod numbers;
 mod policies;
 mod program;

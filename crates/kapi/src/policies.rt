@@ -6,7 +6,7 @@ ghost use Rattle.kapi_core.specs.Machine.{Machine};
 ghost use Rattle.kapi_core.specs.Refines.{Refines};
 ghost use Rattle.kapi_loading.specs.Faults as loading;
 ghost use Rattle.kapi_loading.specs.Faults.{FileFault};
-ghost use Rattle.kapi_loading.specs.Loading.{machine_of};
+ghost use Rattle.kapi_loading.specs.Loading.{machine_alone};
 ghost use Rattle.kapi_access.specs.Risks.{risks};
 ghost use Rattle.kapi_questions.specs.Answers.{ways_text, who_text};
 ghost use Rattle.kapi_questions.specs.Lines as lined;
@@ -18,7 +18,7 @@ use kapi_access::Identities;
 use kapi_core::Core;
 use kapi_index::IndexedPolicy;
 use kapi_lines::{Line, numbered_lines};
-use kapi_loading::{StartError, Started, start};
+use kapi_loading::{StartError, Started, start_without_objects};
 use kapi_questions::{
     Form, LineFault, Wanted, answer_compare, answer_lines, answer_risks, answer_who, settled_line,
 };
@@ -76,9 +76,9 @@ impl From<Memory> for FilesFault {
 
 /// The machine that a file of objects makes, with its turns.
 fn loaded<R: Wait>(alloc: Global, rt: &R, objects: &[u8]) -> Result<Core<IndexedPolicy>, StartError>
-    ensures { Holds loading.fault_told result (machine_of objects.now) }
+    ensures { Holds loading.fault_told result (machine_alone 0 objects.now) }
 {
-    match start(alloc, rt, objects, 0, 1) {
+    match start_without_objects(alloc, rt, objects, 0, 1) {
         Ok(started) => {
             let Started {
                 core,
@@ -117,7 +117,7 @@ fn loaded_first<R: Wait>(
     rt: &R,
     objects: &[u8],
 ) -> Result<Core<IndexedPolicy>, FilesFault>
-    ensures { Holds fault_told result (as_first (machine_of objects.now)) }
+    ensures { Holds fault_told result (as_first (machine_alone 0 objects.now)) }
 {
     match loaded(alloc, rt, objects) {
         Ok(core) => Ok(core),
@@ -140,9 +140,9 @@ fn is_settled(core: &mut Core<IndexedPolicy>) -> Result<bool, Memory>
 
 /// The policy that a file of objects makes, with its turns.
 fn load_policy<R: Wait>(alloc: Global, rt: &R, objects: &[u8]) -> Result<LoadedPolicy, StartError>
-    ensures { IsLoaded loading.fault_told result (machine_of objects.now) }
+    ensures { IsLoaded loading.fault_told result (machine_alone 0 objects.now) }
 {
-    match start(alloc, rt, objects, 0, 1) {
+    match start_without_objects(alloc, rt, objects, 0, 1) {
         Ok(started) => {
             let Started {
                 core,
@@ -168,16 +168,16 @@ fn load_both<R: Wait + Threads + Sync>(
     Result<LoadedPolicy, StartError>,
     Result<LoadedPolicy, StartError>,
 )
-    ensures before { IsLoaded loading.fault_told result.0 (machine_of before.now) }
-    ensures after { IsLoaded loading.fault_told result.1 (machine_of after.now) }
+    ensures before { IsLoaded loading.fault_told result.0 (machine_alone 0 before.now) }
+    ensures after { IsLoaded loading.fault_told result.1 (machine_alone 0 after.now) }
 {
     thread::join(
         rt,
         move || -> Result<LoadedPolicy, StartError>
-            ensures { IsLoaded loading.fault_told result (machine_of before.entry.now) }
+            ensures { IsLoaded loading.fault_told result (machine_alone 0 before.entry.now) }
         { load_policy(alloc, rt, before) },
         move || -> Result<LoadedPolicy, StartError>
-            ensures { IsLoaded loading.fault_told result (machine_of after.entry.now) }
+            ensures { IsLoaded loading.fault_told result (machine_alone 0 after.entry.now) }
         { load_policy(alloc, rt, after) },
     )
 }
@@ -375,13 +375,13 @@ fn risks_machine(
     alloc: Global,
     form: Form,
     core: &mut Core<IndexedPolicy>,
-) -> Result<Vec<u8>, Memory>
-    ensures { (m : Machine) → Refines core.old m → IfOk result (λ v. v.items ≡ risks_on form m) }
+) -> Result<Answered, Memory>
+    ensures { (m : Machine) → Refines core.old m → IfOk result (λ a. answered_told a ≡ risks_on form m) }
 {
     let mut text = risks_core(alloc, form, core)?;
     let settled = is_settled(core)?;
     text.extend_from_slice(settled_line(form, settled))?;
-    Ok(text)
+    Ok(Answered { text, settled })
 }
 
 /// Who may gain more than the policy of a file grants, and what holds of all others.
@@ -393,8 +393,8 @@ pub fn risks_file<R: Wait>(
     rt: &R,
     form: Form,
     objects: &[u8],
-) -> Result<Vec<u8>, FilesFault>
-    ensures { Gives fault_told (λ v. v.items) result (files.risks_file form objects.now) }
+) -> Result<Answered, FilesFault>
+    ensures { Gives fault_told answered_told result (files.risks_file form objects.now) }
 {
     match loaded_first(alloc, rt, objects) {
         Ok(core) => {

@@ -34,10 +34,14 @@ pub enum Command {
 pub struct CompareFiles {
     pub before: String,
     pub after: String,
+    /// The namespace of objects that live in one and name none; empty where none is given.
+    pub namespace: String,
     /// Whether the question is about identities with the groups that authentication gives them.
     pub usual_groups: bool,
     /// Whether JSON is printed.
     pub json: bool,
+    /// Whether a doubt about a policy ends with status 1.
+    pub strict: bool,
 }
 
 /// What is asked of a policy.
@@ -64,14 +68,20 @@ pub struct WhoWords {
     pub question: WhoQuestion,
     /// Whether JSON is printed.
     pub json: bool,
+    /// Whether a doubt about a policy ends with status 1.
+    pub strict: bool,
 }
 
 /// The policy that is asked who may gain more than it grants, by the name of its file.
 #[derive(Debug, Drop)]
 pub struct RisksFile {
     pub policy: String,
+    /// The namespace of objects that live in one and name none; empty where none is given.
+    pub namespace: String,
     /// Whether JSON is printed.
     pub json: bool,
+    /// Whether a doubt about a policy ends with status 1.
+    pub strict: bool,
 }
 
 /// The files of an audit, by their names, and how many threads answer.

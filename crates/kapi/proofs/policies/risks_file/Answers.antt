@@ -1,5 +1,5 @@
 use Rattle.std.proofs.Common.{Ok, ap, sym}
-use Rattle.kapi.specs.Policies.{risks_file, risks_on}
+use Rattle.kapi.specs.Policies.{answered_told, risks_file, risks_on}
 use Rattle.kapi.proofs.Held.{goes_on, onward}
 use Rattle.kapi.proofs.policies.risks_file.Goals as goal
 
@@ -7,7 +7,7 @@ pub returns-in_ok-risks_machine-in-Ok : goal.returns-in_ok-risks_machine-in-Ok
 unfolding risks_file
 returns-in_ok-risks_machine-in-Ok g c =
     let h = c.in-Ok.ensures in
-    onward (λ v. v.items) (Ok c.in_ok-risks_machine-in-Ok.field-0) _ (λ m. Ok (risks_on c.args.form m)) h.0 h.1 (ap Ok (sym (c.in_ok-risks_machine-in-Ok.ensures h.0 h.2)))
+    onward answered_told (Ok c.in_ok-risks_machine-in-Ok.field-0) _ (λ m. Ok (risks_on c.args.form m)) h.0 h.1 (ap Ok (sym (c.in_ok-risks_machine-in-Ok.ensures h.0 h.2)))
 
 pub returns-in-Err : goal.returns-in-Err
 unfolding risks_file

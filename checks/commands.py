@@ -1,0 +1,249 @@
+"""Each program by its real command, with each option and without it: its output and status, and of a server what its clients are answered.
+
+usage: python3 -m checks.commands PROGRAM     prints each case that is otherwise on a line, and ends with status 1 if there is one
+
+Faults of the words and of files, and what is told on standard error, are looked at in checks/statuses.py.
+"""
+import collections
+import contextlib
+import functools
+import json
+import os
+import pathlib
+import re
+import select
+import socket
+import subprocess
+import sys
+import tempfile
+import time
+from concurrent.futures import ThreadPoolExecutor
+
+from tools.server import Client, free
+
+text_of = functools.partial(json.dumps, separators=(",", ":"))
+
+
+def item(kind, place, **members):
+    """An object as a line; its place is NAME or NAMESPACE/NAME."""
+    namespace, _slash, name = place.rpartition("/")
+    metadata = {"name": name, "namespace": namespace} if namespace else {"name": name}
+    return text_of({"apiVersion": "rbac.authorization.k8s.io/v1" if "Role" in kind else "v1", "kind": kind, "metadata": metadata, **members}) + "\n"
+
+
+def role(kind, place, verbs, resource, *names):
+    return item(kind, place, rules=[{"apiGroups": [""], "resources": [resource], "verbs": verbs.split(","), "resourceNames": names}])
+
+
+def bound(kind, place, *named):
+    """A binding of the role KIND NAME to each subject KIND NAME behind it."""
+    whom, *subjects = [dict(zip(("kind", "name"), it.split())) for it in named]
+    return item(kind, place, roleRef=whom, subjects=subjects)
+
+
+def question(user, verb, resource, namespace="shop"):
+    return text_of({"user": user, "resourceAttributes": {"namespace": namespace, "verb": verb, "resource": resource}}) + "\n"
+
+
+# The last line of some files has no end.
+SEER = role("ClusterRole", "seer", "get", "nodes") + bound("ClusterRoleBinding", "seers", "ClusterRole seer", "Group system:authenticated")
+READER, READERS = role("Role", "shop/reader", "get,delete", "pods"), bound("RoleBinding", "shop/readers", "Role reader", "User ann")
+BEFORE = item("Namespace", "shop") + SEER + READER + READERS
+AFTER = BEFORE.replace("delete", "list") + bound("ClusterRoleBinding", "olga-sees", "ClusterRole seer", "User olga")
+ACTORS = role("Role", "actor", "impersonate", "users") + bound("RoleBinding", "actors", "Role actor", "User bob")
+QUESTIONS = question("ann", "list", "pods") + question("ann", "delete", "pods") + question("bob", "get", "pods") + question("ann", "get", "pods").rstrip()
+MAPS, MAP = "/api/v1/namespaces/default/configmaps", {it: item("ConfigMap", f"default/{it}", data={"k": it}) for it in "ab"}
+FILES = {
+    "before": BEFORE, "after": AFTER, "questions": QUESTIONS, "asked": "list pods shop\nget pods shop", "others": "get nodes *\n",
+    "doubtful": AFTER + bound("RoleBinding", "shop/viewers", "ClusterRole view", "User ann"),
+    "homeless": ACTORS, "more": ACTORS + bound("RoleBinding", "others", "Role actor", "User eve"),
+    "named": role("Role", "shop/reader", "get", "pods", "a") + READERS.rstrip(), "map": MAP["b"], "maps": MAP["a"] + MAP["b"].rstrip(),
+    "folder/1.json": text_of({"kind": "List", "items": [json.loads(it) for it in SEER.splitlines()]}),
+    "folder/2.jsonl": READER.rstrip(), "folder/3.jsonl": READERS.rstrip(), "folder/notes.txt": "not read",
+    "one": f"load map\nas root,system:masters\nGET {MAPS}/a\n= 404\nGET /healthz\n> ?\n",
+    "two": f"load maps\nas root,system:masters\nGET {MAPS}/a\n= 200\nGET {MAPS}/b\n= 200\nGET /healthz\n= 403",
+    "may": role("Role", "default/m", "get,list,watch", "configmaps") + bound("RoleBinding", "default/ms", "Role m", "User ann", "Group dev")
+    + role("Role", "default/s", "list", "secrets") + bound("RoleBinding", "default/ss", "Role s", "Group ops").rstrip(),
+}
+# The words of a command, what it prints, its status, and its standard input. Of a server A to P are ports and Q is that of answers, and it has
+# steps of clients: a client's name, which begins with its port, what it does, and what comes.
+Case = collections.namedtuple("Case", "words told status input steps", defaults=("", 0, "", ()))
+
+
+def table(*rows):
+    """Rows in columns that are as wide as their widest cells."""
+    cells = [it.split(" | ") for it in rows]
+    widths = [max(map(len, column)) for column in zip(*cells)]
+    return "".join("  ".join(map(str.ljust, row, widths)).rstrip() + "\n" for row in cells)
+
+
+gains = functools.partial(table, "SUBJECT | NAMESPACE | GAINS | BY")
+ways = functools.partial(table, "SUBJECT | NAMESPACE | BINDING | RULE", "Group system:masters | * | - | everything",
+                         "Group system:masters | * | ClusterRoleBinding cluster-admin | ClusterRole cluster-admin, rule 0")
+LIST, DELETE = (f'User ann | shop | ["{verb}","","pods"] | RoleBinding readers, Role reader, rule 0' for verb in ("list", "delete"))
+OLGA = 'User olga | * | ["get","","nodes"] | ClusterRoleBinding olga-sees, ClusterRole seer, rule 0'
+EVE = 'User eve | {} | ["impersonate","","users"] | RoleBinding others, Role actor, rule 0'
+ANN, BOB = "User ann | shop | RoleBinding readers | Role reader, rule 0", "User bob | {} | RoleBinding actors | Role actor, rule 0"
+SEES = "User olga | * | ClusterRoleBinding olga-sees | ClusterRole seer, rule 0", "Group system:authenticated | * | ClusterRoleBinding seers | ClusterRole seer, rule 0"
+BY = '"binding":"readers","bindingKind":"RoleBinding","namespace":"shop","role":"reader","roleKind":"Role","rule":0,"subject":"ann","subjectKind":"User"}\n'
+BY_OLGA = '"binding":"olga-sees","bindingKind":"ClusterRoleBinding","namespace":"","role":"seer","roleKind":"ClusterRole","rule":0,"subject":"olga","subjectKind":"User"}\n'
+JSON = '{"subject":"system:masters","subjectKind":"Group"}\n{"binding":"cluster-admin","bindingKind":"ClusterRoleBinding","namespace":"",' \
+    '"role":"cluster-admin","roleKind":"ClusterRole","rule":0,"subject":"system:masters","subjectKind":"Group"}\n'
+NOTHING = "Nothing that all others write lets anybody do what neither that one nor any of them was allowed.\n"
+ALLOWED = "allowed RoleBinding readers, Role reader, rule 0\n"
+HEALTHY = r"out HTTP/1.1 200 OK\r\nContent-Type: text/plain\r\nContent-Length: 2\r\n\r\nok"
+ONE, TWO = (f"{place}\n  asked  GET /healthz\n  wanted {wanted}\n  got    {HEALTHY}\n{place[:3]}: {answers} answers, 1 not as wanted\n"
+            for place, wanted, answers in (("one:6", "> ?", 2), ("two:8", "= 403", 3)))
+CASES = [
+    *[Case(it, "kapi 0.1.0\n") for it in ("--version", "-V")], Case("script"),
+    Case("script", f"conn 0\nok\n{HEALTHY}\n", input="open root,system:masters\nfeed 0 GET /healthz HTTP/1.1\\r\\nHost: a\\r\\n\\r\\n\nserve 0"),
+    *[Case(f"audit before questions {it}", f"denied\n{ALLOWED}denied\n{ALLOWED}") for it in ("", "--readers 1", "--readers 16")],
+    *[Case(f"audit {it}", f"{ALLOWED}denied\ndenied\n{ALLOWED}", 0, given) for it, given in (("after /dev/stdin", QUESTIONS), ("/dev/stdin questions", AFTER.rstrip()))],
+    *[Case(f"compare {it} after", gains(OLGA, LIST), 3, BEFORE.rstrip()) for it in ("before", "-", "folder")],
+    *[Case(f"compare after {it}", gains(DELETE), 3, BEFORE.rstrip()) for it in ("before", "-")],
+    Case("compare --json before after", f'{{"atom":["get","","nodes"],{BY_OLGA}{{"atom":["list","","pods"],{BY}', 3),
+    Case("compare --usual-groups before after", gains(LIST), 3),
+    Case("compare --usual-groups --json before doubtful", f'{{"atom":["list","","pods"],{BY}', 3),
+    *[Case(f"compare {it}", gains(OLGA, LIST), status) for it, status in (("before doubtful", 3), ("--strict before after", 3), ("--strict before doubtful", 1))],
+    Case("compare --strict doubtful before", gains(DELETE), 1),
+    Case("compare --strict after after", "Nobody gains.\n"),
+    *[Case(it, "", 1) for it in ("compare homeless more", "who homeless impersonate users", "risks homeless")],
+    *[Case(f"compare homeless more --namespace {it}", gains(EVE.format(it)), 3) for it in ("shop", "web")],
+    *[Case(f"who after list pods {it}", ways(*[ANN] * ("shop" in it))) for it in ("", "--namespace shop", "--namespace web")],
+    *[Case(f"who after list pods --namespace shop {it}", f"{JSON}{{{BY}") for it in ("--json", "--strict --json")],
+    *[Case(f"who doubtful get nodes {it}", ways(*SEES), it == "--strict") for it in ("", "--strict")],
+    *[Case(f"who homeless impersonate users --namespace {it}", ways(BOB.format(it))) for it in ("shop", "web")],
+    *[Case(f"who named get pods --namespace shop {it}", ways(*[ANN] * (it == "--name a"))) for it in ("", "--name a", "--name b")],
+    Case("who before --questions asked", f"line 1: list pods shop\n{ways()}line 2: get pods shop\n{ways(ANN)}"),
+    *[Case(f"who doubtful --questions others {it}", f"line 1: get nodes *\n{ways(*SEES)}", it == "--strict") for it in ("", "--strict")],
+    Case("who before --questions /dev/stdin --json", f'{{"line":1}}\n{JSON}{{{BY}', input="get pods shop"),
+    Case("who - get pods --namespace shop", ways(ANN), input=BEFORE.rstrip()),
+    Case("who folder delete pods --namespace shop", ways(ANN)),
+    *[Case(f"risks homeless --namespace {it}", ways(BOB.format(it)) + NOTHING) for it in ("shop", "web")],
+    Case("risks homeless --namespace shop --json", JSON + "{" + BY.replace("reader", "actor").replace("ann", "bob") + '{"settled":true}\n'),
+    *[Case(f"risks {it}", ways() + NOTHING, it == "doubtful --strict") for it in ("doubtful", "doubtful --strict", "after --strict", "folder")],
+    Case("risks - --namespace shop", ways(BOB.format("shop")) + NOTHING, input=ACTORS.rstrip()),
+    *[Case(f"replay {words}", told, 1) for words, told in (("one", ONE), ("one two", ONE + TWO), ("two one", TWO + ONE))],
+    Case("replay /dev/stdin", "/dev/stdin: 2 answers\n", input=FILES["two"].partition("GET /healthz")[0].rstrip()),
+    Case("replay --write one two", f"{FILES['one'][:-2]}{HEALTHY}\n{FILES['two'][:-5]}> {HEALTHY}", 1),
+]
+
+
+def listed(revision, **revisions):
+    """The list of the ConfigMaps of these names, at the revision of each."""
+    places = {name: {"name": name, "namespace": "default", "resourceVersion": str(at), "uid": f"00000000-0000-4000-8000-{at:012x}"} for name, at in revisions.items()}
+    maps = [{"apiVersion": "v1", "data": {"k": name}, "kind": "ConfigMap", "metadata": place} for name, place in places.items()]
+    return "200 " + text_of({"apiVersion": "v1", "items": maps, "kind": "ConfigMapList", "metadata": {"resourceVersion": str(revision)}})
+
+
+def refused(user):
+    return re.compile(f'403 .*"message":"{user} may not do this in namespace default".*')
+
+
+ROOT, BINDING, SOME = "A=root,system:masters", "/apis/rbac.authorization.k8s.io/v1/namespaces/default/rolebindings/ms", re.compile("20[01] .*")
+CLOCK = re.compile(f'200 .*"resourceVersion":"({"|".join(str(int(time.time()) + it) for it in range(200))})00005".*')
+ASKS, TOLD, OTHER = f'?{question("ann", "get", "configmaps", "default")}', "4 allowed RoleBinding ms, Role m, rule 0\n", question("bob", "get", "configmaps", "default")
+LOST = [("B", f"GET {MAPS}?watch=1", "200 "), ("A", f"DELETE {BINDING}", SOME), ("A", f"POST {MAPS} {MAP['a']}", SOME)]
+GROUPS = [(client, f"GET {MAPS.replace('configmaps', it)}", SOME if it in may else refused(user)) for it in ("configmaps", "secrets")
+          for client, user, may in (("A", "ann", "configmaps"), ("B", "bob", ""), ("C", "bob", "configmaps"), ("D", "bob", "configmaps, secrets"), ("E", "bob", "secrets"))]
+ONE_MORE = [("Q", ASKS, ""), ("Q", "wait", "nothing"), ("Q0", "end", ""), ("Q", "?", TOLD)]
+SERVERS = [Case(f"serve {words}", steps=steps) for words, steps in (
+    (ROOT, [("A", f"GET {MAPS}", listed(5)), ("A", "elsewhere", "nobody")]),
+    (f"--load maps {ROOT}", [("A", f"GET {MAPS}", listed(7, a=6, b=7))]),
+    (f"--load map --answer Q {ROOT}", [("A", f"GET {MAPS}", listed(6, b=6)), ("Q", ASKS, "0 denied\n")]),
+    (f"--first-revision 41 {ROOT}", [("A", f"GET {MAPS}", listed(46))]),
+    (f"--load map --first-revision 4100 {ROOT}", [("A", f"GET {MAPS}", listed(4106, b=4106))]),
+    (f"--first-revision clock {ROOT}", [("A", f"GET {MAPS}", CLOCK)]),
+    (" ".join(f"{it}={it.lower()}" for it in "PONMLKJIHGFEDCBA"), [(it, f"GET {MAPS}", refused(it.lower())) for it in "ABCDEFGHIJKLMNOP"]),
+    ("--load may A=ann B=bob C=bob,dev D=bob,dev,ops E=bob,qa,ops", GROUPS),
+    (f"--load may {ROOT} B=ann", [*LOST, ("B", "event", "ADDED a")]),
+    *[(f"--load may --recheck-watches {words} {ROOT} B=ann", [*LOST, ("B", "event", "ERROR 403"), ("B", "event", "end"), ("B", f"GET {MAPS}", refused("ann"))])
+      for words in ("", "--answer Q --readers 1")],
+    *[(f"--load may --answer Q {words} {ROOT}", [(f"Q{it}", ASKS, TOLD) for it in range(count)] + ONE_MORE) for words, count in (("", 2), ("--readers 1", 1), ("--readers 3", 3))],
+    (f"--load may --answer Q {ROOT}", [
+        ("Q", f"?# a comment\n\n{ASKS[1:]}{OTHER}x\n{ASKS[1:]}", f"{TOLD}4 denied\nbad\n{TOLD}"), ("Q", ASKS[:20], ""), ("Q", "wait", "nothing"),
+        ("Q", f"?{ASKS[20:]}", TOLD), ("A", f"DELETE {BINDING}", SOME), ("Q", ASKS, "5 denied\n"), ("Q", ASKS[:-1], ""), ("Q", "end", "5 denied\n"),
+        ("Q1", "elsewhere", "nobody"), ("Q1", f"?{OTHER[:-1]:70000}\n", "5 denied\n"), ("Q1", f"?{OTHER[:-1]:1048577}", ""), ("Q1", "end", "")]),
+)] + [Case(f"serve --load /dev/stdin {ROOT}", input=MAP["b"].rstrip(), steps=[("A", f"GET {MAPS}", listed(6, b=6))])]
+
+
+def step(client, does, wanted):
+    """What comes when a client does this. A text behind `?` is sent, and as many lines are read as are wanted."""
+    if does.startswith("?"):
+        client.socket.sendall(does[1:].encode())
+        return b"".join(client.lines.readline() for _line in wanted.splitlines()).decode()
+    if does == "wait":
+        return "something" if select.select([client.socket], [], [], 0.2)[0] else "nothing"
+    if does == "elsewhere":
+        return "somebody" if socket.socket().connect_ex(("127.0.0.2", client.socket.getpeername()[1])) == 0 else "nobody"
+    if does == "end":
+        client.socket.shutdown(socket.SHUT_WR)
+        return client.lines.read().decode()
+    if does != "event":
+        return client.reply(*does.split(" ", 2))
+    event = client.event()
+    return event if isinstance(event, str) else f'{event["type"]} {event["object"].get("code") or event["object"]["metadata"]["name"]}'
+
+
+def command(program, case, room):
+    """What is wanted of a command, and what came."""
+    try:
+        ran = subprocess.run([program, *case.words.split()], input=case.input, cwd=room, text=True, capture_output=True, timeout=60)
+        yield from (("it prints", case.told, ran.stdout), ("its status", str(int(case.status)), str(ran.returncode)))
+    except subprocess.TimeoutExpired as error:
+        yield "it ends", "", str(error)
+
+
+def server(program, case, room, ports):
+    """The same of a server: what it has printed, each step of its clients, and what it has printed then."""
+    words, told = re.sub(r"\b[A-Q]\b", lambda it: str(ports[it[0]]), case.words), room / f"told-{min(ports.values())}"
+    printed = "".join(f"listening {ports[it]}\n" for it in re.findall("([A-P])=", case.words) + re.findall("--answer (Q)", case.words))
+    with told.open("w") as output:
+        process = subprocess.Popen([program, *words.split()], stdin=subprocess.PIPE, stdout=output, cwd=room, text=True)
+    try:
+        with contextlib.suppress(BrokenPipeError), process.stdin as given:
+            given.write(case.input)
+        end, clients = time.monotonic() + 60, {}
+        while told.read_text() != printed and process.poll() is None and time.monotonic() < end:
+            time.sleep(0.01)
+        yield "it prints", printed, told.read_text()
+        for name, does, wanted in case.steps:
+            try:
+                clients[name] = clients.get(name) or Client(ports[name[0]], seconds=60)
+                yield f"client {name}, {does[:80]!r}", wanted, step(clients[name], does, wanted)
+            except (OSError, ValueError) as error:
+                yield f"client {name}, {does[:80]!r}", wanted, repr(error)
+        yield "it has printed in the end", printed, told.read_text()
+    finally:
+        process.kill()
+        process.wait()
+
+
+def fault(run, program, case, *where):
+    """The first thing that is otherwise, on a line, from a little before the first byte that is."""
+    with contextlib.closing(run(program, case, *where)) as seen:
+        for what, wanted, got in seen:
+            text = getattr(wanted, "pattern", wanted)
+            if not (text == got if text is wanted else wanted.fullmatch(got)):
+                at = len(os.path.commonprefix([text, got]))
+                parts = [repr(it[max(at - 40, 0) : at + 80]) for it in (text, got)]
+                return f"kapi {case.words}: {what}, line {got[:at].count(chr(10)) + 1}: wanted {parts[0]}, got {parts[1]}"
+    return None
+
+
+def main(program):
+    program, ports = os.path.abspath(program), free()
+    with tempfile.TemporaryDirectory() as folder, ThreadPoolExecutor(4) as pool:
+        room = pathlib.Path(folder)
+        (room / "folder").mkdir()
+        for name, text in FILES.items():
+            (room / name).write_text(text)
+        runs = [pool.submit(fault, server, program, it, room, dict(zip(re.findall(r"\b[A-Q]\b", it.words), ports))) for it in SERVERS]
+        runs += [pool.submit(fault, command, program, it, room) for it in CASES]
+        wrong = [line for it in runs if (line := it.result())]
+    print(*wrong, f"{len(CASES)} commands and {len(SERVERS)} servers: {len(wrong)} not as they should be", sep="\n")
+    return 1 if wrong else 0
+
+
+if __name__ == "__main__":
+    sys.exit(main(*sys.argv[1:]))

@@ -1,0 +1,198 @@
+"""Files of manifests as people have them, of each form, through `kapi compare`, `kapi who` and `kapi risks`: what loads, what is told of it, and what is refused.
+
+usage: python3 -m checks.manifests PROGRAM     wants bash, and the package PyYAML for the files of YAML
+"""
+import importlib.util
+import json
+import pathlib
+import re
+import subprocess
+import sys
+import tempfile
+
+from checks.statuses import Case, fault
+
+RBAC = "rbac.authorization.k8s.io"
+
+
+def thing(kind, name, namespace=None, version=f"{RBAC}/v1", **members):
+    metadata = {"name": name} | ({"namespace": namespace} if namespace else {})
+    return {"apiVersion": version, "kind": kind, "metadata": metadata, **members}
+
+
+def rule(verbs, resources, groups=("",)):
+    return {"apiGroups": list(groups), "resources": resources.split(), "verbs": verbs.split()}
+
+
+def bound(kind, name, user="ann", subject="User"):
+    return {"roleRef": {"apiGroup": RBAC, "kind": kind, "name": name}, "subjects": [{"apiGroup": RBAC, "kind": subject, "name": user}]}
+
+
+def pretty(value):
+    return json.dumps(value, indent=4) + "\n"
+
+
+def lines(*values):
+    return "".join(json.dumps(it) + "\n" for it in values)
+
+
+def listed(*values, kind="List", version="v1"):
+    return {"apiVersion": version, "items": list(values), "kind": kind, "metadata": {"resourceVersion": ""}}
+
+
+SHOP = thing("Namespace", "shop", version="v1")
+READER = thing("Role", "reader", "shop", rules=[rule("get", "secrets")])
+READERS = thing("RoleBinding", "readers", "shop", **bound("Role", "reader"))
+SEER = thing("ClusterRole", "seer", rules=[rule("list", "secrets")])
+SEERS = thing("ClusterRoleBinding", "seers", **bound("ClusterRole", "seer", "bob"))
+OTHERS = [
+    thing("NetworkPolicy", f"n{it}", "shop", "networking.k8s.io/v1", spec={"podSelector": {}}) for it in range(3)
+] + [thing("CustomResourceDefinition", "c", None, "apiextensions.k8s.io/v1", spec={"weight": 0.5}), thing("ConfigMap", "m", "shop", "v1")]
+MASTERS = "Group system:masters"
+ADMIN = (MASTERS, "*", "ClusterRoleBinding cluster-admin", "ClusterRole cluster-admin, rule 0")
+EVERY = (MASTERS, "*", "-", "everything")
+ANN = ("User ann", "shop", "RoleBinding readers", "Role reader, rule 0")
+
+
+def table(*rows):
+    """The rows of an answer, whatever the width of its columns."""
+    head = ("SUBJECT", "NAMESPACE", "BINDING", "RULE")
+    return re.compile("".join(" +".join(re.escape(it) for it in row) + "\n" for row in (head, *rows)))
+
+
+def who(text, *rows, error="", name="policy", words="get secrets --namespace shop"):
+    """The policy of a text lets just these get secrets in the namespace `shop`, besides the masters."""
+    return Case(f"who {name} {words}", 0, error, table(EVERY, *rows), files={name: text})
+
+
+def refused(text, *told, words="risks policy", name="policy"):
+    """The policy of a text is refused with these lines on standard error, and nothing is printed."""
+    return Case(words, 1, "\n".join(told), "", files={name: text})
+
+
+SKIPPED = "skipped: 1 ConfigMap, 1 CustomResourceDefinition, 3 NetworkPolicy"
+POLICY = [READER, READERS, SEER]
+HOMELESS = "metadata.namespace: required of {} {}; --namespace names one for all objects that name none"
+BARE = lines(thing("Role", "reader", rules=[rule("get", "secrets")]), thing("RoleBinding", "readers", **bound("Role", "reader")))
+YAML = "policy:1: it begins like YAML, and JSON is read; 'tools/policy.py FILE..' makes JSON of it, as 'yq -o json FILE' does"
+NO_JSON = "the object is no JSON: the fault is at line {}, column {}"
+OPEN = "the object that begins here is not closed"
+STRAY = "no JSON object begins here"
+FORMS = [
+    who(lines(*POLICY), ADMIN, ANN),
+    who(lines(SHOP, *POLICY), ADMIN, ANN),
+    who(pretty(READER) + pretty(READERS), ADMIN, ANN),
+    who(lines(READERS) + "\n# a comment\n" + pretty(READER) + lines(SEER).rstrip("\n"), ADMIN, ANN),
+    who(json.dumps(READER) + json.dumps(READERS) + " " + json.dumps(SEER), ADMIN, ANN),
+    who(pretty(listed(*POLICY)), ADMIN, ANN),
+    who(json.dumps(listed(*reversed(POLICY))), ADMIN, ANN),
+    who(pretty(listed(READER, kind="RoleList", version=f"{RBAC}/v1")) + pretty(listed(READERS)), ADMIN, ANN),
+    who(pretty(listed(*POLICY)).replace("\n", "\r\n"), ADMIN, ANN),
+    who("\xef\xbb\xbf" + lines(*POLICY).replace("\n", "\r\n"), ADMIN, ANN),
+    who(pretty(listed(*OTHERS, *POLICY)), ADMIN, ANN, error=SKIPPED),
+    who(lines(thing("Role", "}{\"\\", "shop", rules=[]), *POLICY), ADMIN, ANN),
+    Case("risks - --namespace shop", 0, "", re.compile("SUBJECT.*\n(Group.*\n){2}Nothing.*\n"), input=BARE),
+    who(BARE, ADMIN, ANN),
+    refused(BARE, "policy:1: " + HOMELESS.format("Role", "reader"), "policy:2: " + HOMELESS.format("RoleBinding", "readers")),
+]
+STANDING = [
+    thing("Namespace", "default", version="v1"),
+    thing("ClusterRole", "cluster-admin", rules=[rule("*", "*", "*"), {"nonResourceURLs": ["*"], "verbs": ["*"]}]),
+    thing("ClusterRole", "system:basic-user", rules=[rule("create", "selfsubjectreviews", ["authentication.k8s.io"])]),
+    thing("ClusterRoleBinding", "cluster-admin", **bound("ClusterRole", "cluster-admin", "olga")),
+    thing("ClusterRoleBinding", "system:basic-user", **bound("ClusterRole", "system:basic-user", "system:authenticated", "Group")),
+]
+OLGA = ("User olga", "*", "ClusterRoleBinding cluster-admin", "ClusterRole cluster-admin, rule 0")
+DUMPS = [
+    who(pretty(listed(*STANDING, *POLICY)), OLGA, ANN),
+    Case("who policy create selfsubjectreviews.authentication.k8s.io", 0, "", re.compile(".*\nGroup system:masters .*\nUser olga .*\nGroup system:authenticated .*\n"),
+         files={"policy": pretty(listed(*STANDING))}),
+    Case("who policy create selfsubjectaccessreviews.authorization.k8s.io", 0, "", re.compile(".*\nGroup system:masters .*\nUser olga .*\n")),
+    Case("who policy create selfsubjectaccessreviews.authorization.k8s.io", 0, "",
+         re.compile(".*\n(Group system:masters .*\n){2}Group system:authenticated .*\n"), files={"policy": lines(SEER)}),
+]
+FAULTS = [
+    refused("apiVersion: v1\nkind: Role\nmetadata: {}\n", YAML),
+    refused("# roles\n---\napiVersion: v1\n", YAML),
+    refused(lines(READER) + "kind: Role\n[]\n", f"policy:2: {STRAY}", f"policy:3: {STRAY}"),
+    refused(lines(READER) + '{"kind" "Role"}\n' + lines(READERS) + '{\n "kind":\n  Role\n}\n{"kind":', "policy:2: " + NO_JSON.format(2, 9),
+            "policy:4: " + NO_JSON.format(6, 3), f"policy:8: {OPEN}"),
+    refused(lines({"kind": "Role"}, {"apiVersion": "v1"}, {"apiVersion": 1, "kind": "Role"}), *[f"policy:{it}: apiVersion and kind: required, each a text" for it in (1, 2, 3)]),
+    refused("".join(f'{{"a":{it},}}\n' for it in range(25)), *[f"policy:{it}: " + NO_JSON.format(it, 8 if it <= 10 else 9) for it in range(1, 21)], "and 5 more"),
+    refused(lines(READER, READER), "policy:2: roles reader already exists"),
+    refused(pretty(listed(READER, {**READERS, "roleRef": {}}, thing("Role", "none", "shop", rules=[{}]))),
+            "policy:25: roleRef.kind: required; roleRef.name: required",
+            "policy:41: rules[0].verbs: required; rules[0].apiGroups: required; rules[0].resources: required"),
+    refused(lines(thing("Role", "r", "shop", f"{RBAC}/v1beta1", rules=[])), f"policy:1: apiVersion: a Role has '{RBAC}/v1', and not '{RBAC}/v1beta1'"),
+    refused(lines(thing("Group", "r", None, f"{RBAC}/v1")), f"policy:1: kind 'Group' of apiVersion '{RBAC}/v1' is not served; docs/PROFILE.md names those that are"),
+    refused(lines(thing("Role", "r", "shop", "v1", rules=[])), f"policy:1: apiVersion: a Role has '{RBAC}/v1', and not 'v1'"),
+    refused(lines(thing("Role", "r", "No Name", rules=[])), "policy:1: metadata.name: bad value", "policy:1: namespaces No Name not found"),
+    refused("[" * 200 + "]" * 200 + "\n", f"policy:1: {STRAY}"),
+    Case("risks policy", 1, re.compile("policy:1: the object is no JSON: .*"), "", files={"policy": '{"a":' * 200 + "1" + "}" * 200 + "\n"}),
+    refused(b"\xff\xfe{".decode("latin-1"), f"policy:1: {STRAY}"),
+]
+COUNTS = "before: roles: {}, bindings: {}\nafter: roles: {}, bindings: {}"
+GAINED = re.compile("SUBJECT.*\nUser bob +\\* .*\n")
+LOOSE = "RoleBinding shop/viewers: ClusterRole view is not in the policy: it gives nothing"
+COMPARED = [
+    Case("compare before after", 0, COUNTS.format(2, 1, 2, 1), "Nobody gains.\n", files={"before": lines(*POLICY), "after": pretty(listed(*reversed(POLICY)))}),
+    Case("compare before after", 3, COUNTS.format(2, 1, 2, 2), GAINED, files={"after": lines(*POLICY, SEERS)}),
+    Case("compare after before", 0, "after: roles: 2, bindings: 2\nbefore: roles: 2, bindings: 1", "Nobody gains.\n"),
+    Case("compare before empty", 1, "before: roles: 2, bindings: 1\nempty: there is no role and no binding in it", "", files={"empty": lines(SHOP)}),
+    Case("compare before yaml", 1, YAML.replace("policy:", "yaml:"), "", files={"yaml": "kind: ClusterRoleBinding\nroleRef: {name: cluster-admin}\n"}),
+    Case("compare before loose", 0, "before: roles: 2, bindings: 1\nloose: roles: 2, bindings: 2\n" + LOOSE, "Nobody gains.\n",
+         files={"loose": lines(*POLICY, thing("RoleBinding", "viewers", "shop", **bound("ClusterRole", "view")))}),
+    *[Case(f"compare {words}", 1, None, "Nobody gains.\n") for words in ("--strict before loose", "--strict loose loose", "loose loose --strict")],
+    Case("compare --strict before before", 0, None, "Nobody gains.\n"),
+    Case("compare loose loose", 0, "loose: roles: 2, bindings: 2\n" * 2 + LOOSE, "Nobody gains.\n"),
+    Case("who loose get secrets", 0, LOOSE, None),
+    Case("risks loose", 0, LOOSE, None),
+    *[Case(words, 1, LOOSE, None) for words in ("who --strict loose get secrets", "risks --strict loose")],
+    Case("risks --strict before", 0, "", None),
+    Case("compare --namespace shop bare before", 0, "bare: roles: 1, bindings: 1\nbefore: roles: 2, bindings: 1", "Nobody gains.\n", files={"bare": BARE}),
+]
+
+
+def in_folder(program, room):
+    """A folder is its files of JSON, in the order of their names, and one of YAML among them is refused; other files are left alone."""
+    folder = room / "rbac"
+    folder.mkdir()
+    for name, text in {"b.json": pretty(READERS), "a.jsonl": lines(READER), "notes.md": "# notes\n"}.items():
+        (folder / name).write_text(text)
+    yield fault(program, Case("who rbac get secrets --namespace shop", 0, "", table(EVERY, ADMIN, ANN)), room)
+    (folder / "c.yml").write_text("kind: Role\n")
+    yield fault(program, Case("risks rbac", 1, YAML.replace("policy:", "rbac/c.yml:"), ""), room)
+    (folder / "c.yml").unlink()
+    (folder / "d.json").write_text("{")
+    yield fault(program, Case("who rbac/ get secrets", 1, f"rbac/d.json:1: {OPEN}", ""), room)
+
+
+def of_yaml(program, room):
+    """What tools/policy.py makes of YAML is the policy of the same objects."""
+    if importlib.util.find_spec("yaml") is None:
+        return
+    import yaml
+
+    (room / "policy.yaml").write_text(yaml.safe_dump_all([listed(READER), None, READERS]))
+    made = subprocess.run([sys.executable, pathlib.Path(__file__).parent.parent / "tools/policy.py", "policy.yaml"], cwd=room, capture_output=True, text=True)
+    yield made.stderr
+    yield fault(program, who(made.stdout, ADMIN, ANN), room)
+
+
+def main(program):
+    program, wrong, count = str(pathlib.Path(program).resolve()), 0, 0
+    with tempfile.TemporaryDirectory() as folder:
+        room = pathlib.Path(folder)
+        found = [(case.words, fault(program, case, room)) for case in [*FORMS, *DUMPS, *FAULTS, *COMPARED]]
+        found += [("a folder", it) for it in in_folder(program, room)] + [("YAML", it) for it in of_yaml(program, room)]
+        for words, what in found:
+            count += 1
+            if what:
+                wrong += 1
+                print(f"{words}: {what}")
+    print(f"{count} commands, {wrong} not as wanted")
+    return 1 if wrong else 0
+
+
+if __name__ == "__main__":
+    sys.exit(main(*sys.argv[1:]))

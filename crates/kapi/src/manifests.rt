@@ -1,0 +1,230 @@
+//! Policies as people have them: files of manifests, read, and what is wrong with them told.
+use crate::telling::tell_unread;
+use kapi_manifests::{Options, Origin, Prepared, Scope, prepare};
+use kapi_reasons::{LineReason, line_reasons};
+use kapi_text::{Memory, Text};
+use std::alloc::Global;
+use std::collections::BTreeMap;
+use std::fs::{self, Files};
+use std::io::{self, Read};
+
+/// The largest number of faults that are told one by one.
+const TOLD: usize = 20;
+
+/// A file that was read, and its name.
+#[derive(Drop)]
+struct Source {
+    name: String,
+    bytes: Vec<u8>,
+}
+
+/// A policy that was read: its files, and the lines that they are.
+#[derive(Drop)]
+pub struct ReadPolicy {
+    sources: Vec<Source>,
+    pub prepared: Prepared,
+}
+
+/// The policy of a file, of the files of a folder, or of standard input, which is named `-`. Objects that name no
+/// namespace and live in one are in the namespace that is given, if it is not empty. None where there is a fault, after a
+/// line on standard error for each.
+pub fn read_policy<R: Files + Input + Eprint + AllocGlobal + Clone + Drop>(
+    rt: &R,
+    path: &str,
+    namespace: &str,
+) -> io::Result<Option<ReadPolicy>> {
+    let mut sources = Vec::new(rt.alloc());
+    if let Err(error) = read_sources(rt, path, &mut sources) {
+        tell_unread(rt, path, &error)?;
+        return Ok(None);
+    }
+    let prepared = prepare_sources(rt.alloc(), sources.as_slice(), namespace)?;
+    let policy = ReadPolicy { sources, prepared };
+    tell_skipped(rt, &policy.prepared)?;
+    if policy.prepared.faults.is_empty() {
+        return Ok(Some(policy));
+    }
+    tell_faults(rt, &policy)?;
+    Ok(None)
+}
+
+fn prepare_sources(alloc: Global, sources: &[Source], namespace: &str) -> Result<Prepared, Memory> {
+    let mut texts: Vec<&[u8]> = Vec::new(alloc);
+    for source in sources {
+        texts.push(source.bytes.as_slice())?;
+    }
+    let options = Options {
+        scope: Scope::Policy,
+        namespace,
+    };
+    prepare(alloc, options, texts.as_slice())
+}
+
+fn read_sources<R: Files + Input + AllocGlobal + Clone + Drop>(
+    rt: &R,
+    path: &str,
+    sources: &mut Vec<Source>,
+) -> io::Result<()> {
+    if path == "-" {
+        let mut bytes = Vec::new(rt.alloc());
+        let _length = rt.reader().read_to_end(&mut bytes)?;
+        return keep(rt.alloc(), sources, path, bytes);
+    }
+    if !fs::metadata(rt, path)?.is_dir() {
+        return keep(rt.alloc(), sources, path, fs::read(rt, path)?);
+    }
+    for name in files_in(rt, path)?.iter() {
+        let bytes = fs::read(rt, name.as_str())?;
+        keep(rt.alloc(), sources, name.as_str(), bytes)?;
+    }
+    Ok(())
+}
+
+fn keep(alloc: Global, sources: &mut Vec<Source>, name: &str, bytes: Vec<u8>) -> io::Result<()> {
+    let name = String::from_str(alloc, name)?;
+    sources.push(Source { name, bytes })?;
+    Ok(())
+}
+
+/// The names of a folder's files of JSON, in their order. Those of YAML are among them, so that they are refused and not
+/// passed over.
+fn files_in<R: Files + AllocGlobal + Clone + Drop>(
+    rt: &R,
+    folder: &str,
+) -> io::Result<Vec<String>> {
+    let mut names = Vec::new(rt.alloc());
+    for entry in fs::read_dir(rt, folder)? {
+        let entry = entry?;
+        let name = entry.file_name();
+        if is_manifest(name) {
+            let separator = if folder.ends_with('/') { "" } else { "/" };
+            names.push(format!(in rt.alloc(); "{folder}{separator}{name}")?)?;
+        }
+    }
+    names.sort()?;
+    Ok(names)
+}
+
+/// Whether a file of that name is read where its folder is.
+fn is_manifest(name: &str) -> bool {
+    [".json", ".jsonl", ".yaml", ".yml"]
+        .iter()
+        .any(|end| name.ends_with(*end))
+}
+
+/// Reports how many objects of which kinds are passed over.
+fn tell_skipped(rt: &impl Eprint, prepared: &Prepared) -> io::Result<()> {
+    if prepared.skipped.len() == 0 {
+        return Ok(());
+    }
+    rt.eprint("skipped:")?;
+    let mut separator = "";
+    for (kind, count) in &prepared.skipped {
+        let kind = kind.as_str();
+        eprint!(rt; "{separator} {count} {kind}")?;
+        separator = ",";
+    }
+    rt.eprint("\n")
+}
+
+fn tell_faults<R: Eprint>(rt: &R, policy: &ReadPolicy) -> io::Result<()> {
+    let faults = policy.prepared.faults.as_slice();
+    for fault in faults.iter().take(TOLD) {
+        let name = policy.name_of(fault.origin);
+        let line = fault.origin.line;
+        let reason = &fault.reason;
+        eprintln!(rt; "{name}:{line}: {reason}")?;
+    }
+    tell_more(rt, faults.len())
+}
+
+/// Reports how many faults there are beside those that were told.
+fn tell_more(rt: &impl Eprint, faults: usize) -> io::Result<()> {
+    let more = faults.saturating_sub(TOLD);
+    if more > 0 {
+        eprintln!(rt; "and {more} more")?;
+    }
+    Ok(())
+}
+
+/// The doubts about policies that were told: the bindings that give nothing.
+#[derive(Drop)]
+pub struct Doubts {
+    told: BTreeMap<Text, ()>,
+}
+
+impl Doubts {
+    /// No doubts.
+    pub fn new(alloc: Global) -> Doubts {
+        Doubts {
+            told: BTreeMap::new(alloc),
+        }
+    }
+
+    /// Whether there is a doubt.
+    pub fn are_some(&self) -> bool {
+        self.told.len() > 0
+    }
+
+    /// Reports the bindings of a policy whose role is not in it, each once for all policies.
+    pub fn tell<R: Eprint + AllocGlobal>(&mut self, rt: &R, policy: &ReadPolicy) -> io::Result<()> {
+        for dangling in policy.prepared.dangling.as_slice() {
+            self.tell_one(rt, dangling.binding.as_str(), dangling.role.as_str())?;
+        }
+        Ok(())
+    }
+
+    fn tell_one<R: Eprint + AllocGlobal>(
+        &mut self,
+        rt: &R,
+        binding: &str,
+        role: &str,
+    ) -> io::Result<()> {
+        let line = Text::new(format!(in rt.alloc(); "{binding}: {role}")?);
+        if self.told.contains_key(&line) {
+            return Ok(());
+        }
+        drop(self.told.insert(line, ())?);
+        eprintln!(rt; "{binding}: {role} is not in the policy: it gives nothing")
+    }
+}
+
+/// Reports the objects of a policy that a machine does not load.
+pub fn tell_refused<R: Eprint + AllocGlobal>(rt: &R, policy: &ReadPolicy) -> io::Result<()> {
+    let reasons = line_reasons(rt.alloc(), policy.prepared.text.as_slice())?;
+    for reason in reasons.as_slice().iter().take(TOLD) {
+        tell_reason_of(rt, policy, reason)?;
+    }
+    tell_more(rt, reasons.len())
+}
+
+fn tell_reason_of(rt: &impl Eprint, policy: &ReadPolicy, reason: &LineReason) -> io::Result<()> {
+    let origins = policy.prepared.origins.as_slice();
+    let Some(origin) = origins.get(reason.number.saturating_sub(1)) else {
+        return Ok(());
+    };
+    let name = policy.name_of(*origin);
+    let line = origin.line;
+    let reason = reason.reason.as_str();
+    eprintln!(rt; "{name}:{line}: {reason}")
+}
+
+impl ReadPolicy {
+    /// The name of the file in which an object stands.
+    fn name_of(&self, origin: Origin) -> &str {
+        match self.sources.get(origin.file) {
+            Some(source) => source.name.as_str(),
+            None => "",
+        }
+    }
+
+    /// The lines of the policy.
+    pub fn lines(&self) -> &[u8] {
+        self.prepared.text.as_slice()
+    }
+
+    /// Whether the files have a role or a binding.
+    pub fn has_policy(&self) -> bool {
+        self.prepared.roles > 0 || self.prepared.bindings > 0
+    }
+}
