@@ -1,7 +1,8 @@
 #!/usr/bin/env python3
-"""Writes docs/PROOFS.md: each public call of each crate with the clauses that are proved of it and what it does, read from the sources.
+"""Prints each public call of each crate with the clauses that are proved of it and what it does, read from the sources.
 
-usage: proofs.py [--check]     with --check the page is compared and not written; the exit status is 1 where it differs
+usage: proofs.py             the list of public calls (make proofs-page)
+       proofs.py --lines     the lines of the definitions that docs/PROOFS.md names; status 1 if the page has other numbers
 """
 import pathlib
 import re
@@ -9,15 +10,16 @@ import sys
 import textwrap
 
 ROOT = pathlib.Path(__file__).parent.parent
+CRATES = ROOT / "crates"
 PAGE = ROOT / "docs/PROOFS.md"
 HEAD = """# What is proved of each public call
 
-Every function of every crate is proved to meet its contract. This page lists the public ones: a call, the names of
-its clauses (`ensures NAME {..}` in the source; `result` is a clause without a name) and the first sentence of its
-comment. A call without a clause is proved safe and total alone. A call of a module `laws` does nothing: its clauses
-are statements about definitions. The page is written by `tools/proofs.py`; README says which of these properties
-users rely on.
+Every function of every crate is proved to meet its contract. This list has the public ones: a call, the names of its
+clauses (`ensures NAME {..}` in the source; `result` is a clause without a name) and the first sentence of its comment.
+A call without a clause is proved safe and total alone. A call of a module `laws` does nothing: its clauses are
+statements about definitions.
 """
+IMPORT = r"(?:pub )?use Rattle\.(kapi_\w+)\.specs\.([\w.]+?)(?:\.\{|\.TheVariants| as |$)"
 
 
 def exported(crate):
@@ -36,7 +38,7 @@ def sentence(comments):
 
 
 def calls(text):
-    """Each public function of a source with the type or trait that it stands in, its comment and its clauses."""
+    """Each public function of a source with its type or trait, its comment and its clauses."""
     owner, comments, found = "", [], None
     for line in text.splitlines():
         if re.match(r"(impl|pub trait)\b", line):
@@ -65,7 +67,7 @@ def paragraph(comments):
 
 
 def owner_of(line):
-    """The type of an inherent `impl`, `trait NAME` of a public trait, or a mark that names nothing for an impl of a trait."""
+    """The type of an inherent `impl`, `trait NAME` of a public trait, or `-` for the impl of a trait."""
     trait = re.match(r"pub trait (\w+)", line)
     if trait:
         return f"trait {trait[1]}"
@@ -89,16 +91,46 @@ def section(crate):
 
 def page():
     names = re.findall(r"^(\w+):", (ROOT / "crates.txt").read_text(), re.M)
-    return HEAD + "".join(section(ROOT / "crates" / name) for name in names if not name.endswith("_tests"))
+    return HEAD + "".join(section(CRATES / name) for name in names if not name.endswith("_tests"))
 
 
-def main(words):
-    text = page()
-    if words == ["--check"]:
-        return int(not PAGE.is_file() or PAGE.read_text() != text)
-    PAGE.write_text(text)
-    return 0
+def definition(name):
+    """The file of a definition that is written as `CRATE/FILE`."""
+    crate, file = name.split("/")
+    return CRATES / f"kapi_{crate}" / "specs" / f"{file}.antt"
+
+
+def lines(file):
+    """The lines of a definition without comments, imports and empty ones."""
+    return sum(1 for line in file.read_text().splitlines() if not re.match(r"\s*(--.*|(pub )?(use|mod) .*)?$", line))
+
+
+def reached(file, seen):
+    """Adds the file, and all definitions that it imports, to those seen."""
+    if file in seen or not file.is_file():
+        return
+    seen.add(file)
+    for crate, path in re.findall(IMPORT, file.read_text(), re.M):
+        reached(CRATES / crate / "specs" / (path.replace(".", "/") + ".antt"), seen)
+
+
+def count():
+    """Prints the lines of each row of the page's table; whether the page says the same numbers."""
+    total, is_right = 0, True
+    for part, names, said in re.findall(r"^\| (\d+) \|.*\| ([^|]+) \| (\d+) \|$", PAGE.read_text(), re.M):
+        found = {name: lines(definition(name)) for name in re.findall(r"`(\w+/\w+)`", names)}
+        total += sum(found.values())
+        is_right = is_right and sum(found.values()) == int(said)
+        print(part, sum(found.values()), *(f"{name} {number}" for name, number in found.items()))
+    seen = set()
+    for name in ("core/Machine", "core/Gains"):
+        reached(definition(name), seen)
+        print(f"{name} and what it imports: {sum(map(lines, seen))} lines of {len(seen)} files")
+    print(f"the table: {total} lines")
+    return int(not is_right)
 
 
 if __name__ == "__main__":
-    sys.exit(main(sys.argv[1:]))
+    if sys.argv[1:] == ["--lines"]:
+        sys.exit(count())
+    print(page(), end="")
