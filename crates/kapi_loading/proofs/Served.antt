@@ -17,7 +17,7 @@ use Rattle.kapi_core.specs.declared.event.Event.TheVariants as event
 use Rattle.kapi_loading.specs.Faults.{FileFault}
 use Rattle.kapi_loading.specs.Laws.{FileIsServed, FileIsUnopened}
 use Rattle.kapi_lines.specs.Lines.{NumberedLine, lines_of}
-use Rattle.kapi_loading.specs.Loading.{loaded, machine_from, made_by, turned}
+use Rattle.kapi_loading.specs.Loading.{loaded, machine_alone, machine_from, made_by, turned}
 use Rattle.kapi_core.specs.ProgramTable.{program_rows}
 
 -- the texts of lines
@@ -121,3 +121,15 @@ pub file_is_unopened : FileIsUnopened
 file_is_unopened first file m is =
     let new = loads_new (texts (lines_of file)) (opening program_rows first) (opening_new first) in
     subst IsNew (sym (made_is first file m is)) (turns_new 64 (with_objects first file) new)
+
+-- no connection was opened on the machine that objects make alone
+pub alone_is_unopened : (first : ℕ) (objects : List ℕ) (m : Machine) → machine_alone first objects ≡ Ok m → (m.next_id ≡ 0) × (m.rechecks ≡ false)
+unfolding machine_alone
+alone_is_unopened first objects m is = by_load (loaded (empty program_rows first) (lines_of objects)) refl is
+  where
+    by_load : (r : Result Machine FileFault) → loaded (empty program_rows first) (lines_of objects) ≡ r → (r >>= λ k. Ok (turned 64 k)) ≡ Ok m → IsNew m
+    by_load (Ok k) at made =
+        let new : IsNew k = subst IsNew (sym (loaded_is (lines_of objects) (empty program_rows first) k at))
+        (loads_new (texts (lines_of objects)) (empty program_rows first) (refl, refl)) in
+        subst IsNew (sym (same (turned 64 k) m made ∙ turned_is 64 k)) (turns_new 64 k new)
+    by_load (Err fault) at made = absurd (cc made)

@@ -75,6 +75,7 @@ pub fn start_without_objects<R: Wait>(
     requires first { first ≤ 281474976710650 }
     requires seats { (1 ≤ seats) × (seats ≤ 16) }
     ensures machine { Starts result (machine_alone first objects.now) }
+    ensures unopened { IfOk result (λ s. s.core.next_id ≡ 0) }
     ensures waiting { IfOk result (λ s. s.desk.waiting ≡ []) }
 {
     let lines = numbered_lines(alloc, objects)?;
