@@ -20,6 +20,7 @@ import sys
 import tempfile
 import threading
 import time
+import urllib.parse
 
 from tools.server import ANN, ANSWER, OTHER, ROOT
 
@@ -343,6 +344,23 @@ def watch_cut(run):
     return waited
 
 
+def odd_names(run):
+    """Of names with signs of a URL, each change is one of the object of that name"""
+    names = {"odd": "dan", "odd?of=ann": "ann", "odd#ann": "ann", "odd ann&+;\u00e4": "ann"}
+    for name, user in names.items():
+        run.write("POST", NAMED + "/rolebindings", binding(name, "sees-pods", user))
+    until_equal(run)
+    for name in list(names)[1:]:
+        path = f"{NAMED}/rolebindings/{urllib.parse.quote(name)}"
+        run.write("PUT", path, binding(name, "sees-pods", "ann", "fay"))
+        until_equal(run)
+        run.write("DELETE", path)
+        until_equal(run)
+    assert (run.status("ann"), run.status("fay"), run.status("dan")) == (403, 403, 200)
+    run.write("DELETE", NAMED + "/rolebindings/odd")
+    return until_equal(run)
+
+
 def pair(_status, said):
     """The roles and users of the bindings `one` and `two`, as one list shows them."""
     found = {it["metadata"]["name"]: f"{it['roleRef']['name']} {it['subjects'][0]['name']}" for it in said.get("items", [])}
@@ -493,7 +511,8 @@ def shadow(run):
 
 
 STEPS = (cluster_alone, mirror_later, set_up_is_seen, grants_are_seen, kapi_killed, mirror_killed, kapi_then_mirror, mirror_then_kapi,
-         cluster_restarts, mirror_first, watch_cut, swap_live, swap_in_a_cut, stored_watch, change_between_lists, refused_object, many_changes, refused, old_reviews, shadow)
+         cluster_restarts, mirror_first, watch_cut, swap_live, swap_in_a_cut, odd_names, stored_watch, change_between_lists, refused_object,
+         many_changes, refused, old_reviews, shadow)
 
 
 def cluster_of(webhook):

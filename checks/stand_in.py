@@ -181,7 +181,7 @@ class Handler(http.server.BaseHTTPRequestHandler):
     do_GET = do_POST = do_PUT = do_DELETE = serve
 
     def go_on(self, path, query, item):
-        words = path.removeprefix(f"/apis/{RBAC}/").split("/")
+        words = [urllib.parse.unquote(it) for it in path.removeprefix(f"/apis/{RBAC}/").split("/")]
         namespace = words[1] if words[0] == "namespaces" else ""
         resource, name = (words[2:] if namespace else words)[:1], (words[3:] if namespace else words[1:])[:1]
         if not path.startswith(f"/apis/{RBAC}/"):

@@ -17,6 +17,7 @@ import sys
 import tempfile
 import threading
 import time
+import urllib.parse
 
 try:
     import urllib3
@@ -62,7 +63,8 @@ def copied(kind, item):
 
 
 def path_of(kind, namespace="", name=""):
-    return f"/apis/{RBAC}" + (f"/namespaces/{namespace}" if namespace else "") + f"/{KINDS[kind]}" + (f"/{name}" if name else "")
+    """A name may have any sign but / and %: unquoted, that of one object could be the path of another."""
+    return f"/apis/{RBAC}" + (f"/namespaces/{namespace}" if namespace else "") + f"/{KINDS[kind]}" + (f"/{urllib.parse.quote(name)}" if name else "")
 
 
 class Cluster:
