@@ -9,6 +9,7 @@ import argparse
 import contextlib
 import http.client
 import json
+import os
 import queue
 import secrets
 import socket
@@ -149,16 +150,16 @@ class Kapi:
     def __init__(self, program, root, webhook):
         self.program, self.root, self.webhook = program, root, webhook
         self.user = f"kapi:{secrets.token_hex(16)}"
-        self.wanted, self.process, self.changed, self.lock = {}, None, 0, threading.RLock()
+        self.wanted, self.is_filled, self.process, self.changed, self.lock = {}, False, None, 0, threading.RLock()
 
     def fill(self, objects):
         """Makes it equal to a list. More than one difference is never shown in part: Kapi is started anew."""
         with self.lock:
             differ = [key for key in {**self.wanted, **objects} if self.wanted.get(key) != objects.get(key)]
-            if self.process and len(differ) == 1:
+            if self.is_filled and len(differ) == 1:
                 self.change(differ[0], objects.get(differ[0]))
-            elif differ or not self.process:
-                self.wanted, self.changed = objects, self.changed + len(differ)
+            elif differ or not self.is_filled:
+                self.wanted, self.is_filled, self.changed = objects, True, self.changed + len(differ)
                 self.start()
 
     def change(self, key, item):
@@ -225,7 +226,9 @@ class Kapi:
             file.writelines(json.dumps(it) + "\n" for it in objects)
             file.flush()
             ports = [f"{self.root}=kapi:mirror,system:masters", f"{self.webhook}={self.user}"]
-            words = ["setpriv", "--pdeathsig", "KILL", self.program, "serve", "--load", file.name, *ports]
+            # It is killed when this ends. If this had ended before that was so, it would have another parent, and so is not run.
+            bound = ["setpriv", "--pdeathsig", "KILL", "sh", "-c", f'test $PPID = {os.getpid()} && exec "$@"', "sh"]
+            words = [*bound, self.program, "serve", "--load", file.name, *ports]
             self.process = subprocess.Popen(words, stdout=subprocess.PIPE, stderr=subprocess.PIPE, text=True)
             if all(self.process.stdout.readline() for _port in ports):
                 return None
@@ -248,8 +251,8 @@ class Kapi:
         while True:
             time.sleep(0.1)
             with self.lock:
-                if self.process and self.process.poll() is not None:
-                    say(f"Kapi has ended with status {self.process.returncode}; it is started anew")
+                if self.is_filled and (not self.process or self.process.poll() is not None):
+                    say(f"Kapi has ended{f' with status {self.process.returncode}' if self.process else ''}; it is started anew")
                     self.start()
 
 
