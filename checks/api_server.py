@@ -1,4 +1,5 @@
 """A real kube-apiserver over an etcd of its own, both on loopback addresses, which asks a webhook. Wants openssl."""
+import copy
 import functools
 import pathlib
 import socket
@@ -20,6 +21,10 @@ AUDIT = "apiVersion: audit.k8s.io/v1\nkind: Policy\nrules: [{level: Metadata}]\n
 USERS = ("ann", "bob", "dan", "eve", "fay", "hal")
 
 
+def openssl(path, *words):
+    subprocess.run(["openssl", *words], cwd=path, check=True, stderr=subprocess.DEVNULL)
+
+
 def free_port():
     with socket.create_server(("127.0.0.1", 0)) as server:
         return server.getsockname()[1]
@@ -36,8 +41,32 @@ class ApiServer:
         tokens = ["admin,admin,1,system:masters"] + [f"{name},{name},{name}" for name in USERS]
         (self.path / "tokens").write_text("\n".join(tokens) + "\n")
         (self.path / "audit.yaml").write_text(AUDIT)
-        subprocess.run(["openssl", "genrsa", "-out", str(self.path / "sa.key"), "2048"], check=True, stderr=subprocess.DEVNULL)
-        self.etcd = subprocess.Popen(self.etcd_words(etcd), stdout=subprocess.DEVNULL, stderr=subprocess.DEVNULL)
+        openssl(self.path, "genrsa", "-out", "sa.key", "2048")
+        openssl(self.path, "req", "-x509", "-newkey", "rsa:2048", "-nodes", "-keyout", "ca.key", "-out", "ca.crt", "-subj", "/CN=ca")
+        self.store_words = self.etcd_words(etcd)
+        self.start_store()
+
+    def start_store(self):
+        self.etcd = subprocess.Popen(self.store_words, stdout=subprocess.DEVNULL, stderr=subprocess.DEVNULL)
+
+    def stop_store(self):
+        self.etcd.kill()
+        self.etcd.wait()
+
+    def beside(self, port, webhook):
+        """Another one over the same etcd, which asks another webhook."""
+        other = copy.copy(self)
+        other.port, other.webhook, other.process = port, webhook, None
+        return other
+
+    def certified(self, user, group):
+        """How to trust this one, as a client with a certificate of this user."""
+        file = user.replace(":", "-")
+        openssl(self.path, "req", "-newkey", "rsa:2048", "-nodes", "-keyout", f"{file}.key", "-out", f"{file}.csr", "-subj", f"/O={group}/CN={user}")
+        openssl(self.path, "x509", "-req", "-in", f"{file}.csr", "-CA", "ca.crt", "-CAkey", "ca.key", "-CAcreateserial", "-out", f"{file}.crt")
+        context = ssl.create_default_context(cafile=str(self.path / "apiserver.crt"))
+        context.load_cert_chain(self.path / f"{file}.crt", self.path / f"{file}.key")
+        return context
 
     def etcd_words(self, etcd):
         client, peer = f"http://127.0.0.1:{self.client}", f"http://127.0.0.1:{free_port()}"
@@ -46,15 +75,16 @@ class ApiServer:
 
     def flags(self):
         """Those of docs/CLUSTER.md, and what else an API server wants."""
-        (self.path / "webhook.yaml").write_text(HOOK % self.webhook)
-        hook = {"config-file": self.path / "webhook.yaml", "version": self.version, "cache-authorized-ttl": "0s", "cache-unauthorized-ttl": "0s"}
+        config = self.path / f"webhook-{self.webhook}.yaml"
+        config.write_text(HOOK % self.webhook)
+        hook = {"config-file": config, "version": self.version, "cache-authorized-ttl": "0s", "cache-unauthorized-ttl": "0s"}
         given = {f"authorization-webhook-{name}": value for name, value in hook.items()} if "Webhook" in self.mode else {}
         given |= {"authorization-mode": self.mode, "etcd-servers": f"http://127.0.0.1:{self.client}", "cert-dir": self.path, "secure-port": self.port}
         given |= {"bind-address": "127.0.0.1", "advertise-address": "127.0.0.1", "endpoint-reconciler-type": "none"}
-        given |= {"token-auth-file": self.path / "tokens", "service-cluster-ip-range": "10.0.0.0/24"}
+        given |= {"token-auth-file": self.path / "tokens", "client-ca-file": self.path / "ca.crt", "service-cluster-ip-range": "10.0.0.0/24"}
         given |= {"service-account-issuer": "https://kubernetes.default.svc", "service-account-key-file": self.path / "sa.key"}
         given |= {"service-account-signing-key-file": self.path / "sa.key"}
-        given |= {"audit-log-path": self.path / "audit.log", "audit-policy-file": self.path / "audit.yaml"}
+        given |= {"audit-log-path": self.path / f"audit-{self.port}.log", "audit-policy-file": self.path / "audit.yaml"}
         return [f"--{name}={value}" for name, value in given.items()]
 
     def begin(self):
@@ -91,6 +121,5 @@ class ApiServer:
     def end(self):
         if self.process:
             self.stop()
-        self.etcd.kill()
-        self.etcd.wait()
+        self.stop_store()
         self.room.cleanup()

@@ -3,220 +3,26 @@
 usage: python3 -m checks.cluster PROGRAM [CHANGES]     wants python3-kubernetes and setpriv
 
 With KUBE_APISERVER and ETCD, the paths of the two programs, the API server is a real one (checks/api_server.py), else the stand-in of
-checks/stand_in.py. While the steps run, bob, who may list pods, and eve, who may not, ask the API server without pause: it never answers 403 to bob
-or 200 to eve, only 500 while there is no Kapi. The exit status is 1 if a step fails.
+checks/stand_in.py. While the steps run, bob, who may list pods, eve, who may not, and a member of system:masters ask the API server without pause:
+it never answers 403 to bob or 200 to eve, only 500 while there is no Kapi, and never 403 or 500 to the last. The exit status is 1 if a step fails.
+With fewer than 10,000 changes the steps that wait for half a minute and longer are left out.
 """
 import contextlib
-import http.client
 import importlib.util
 import json
 import os
 import pathlib
-import re
 import signal
-import socket
 import subprocess
 import sys
 import tempfile
-import threading
 import time
 import urllib.parse
 
-from tools.server import ANN, ANSWER, OTHER, ROOT
+from checks.mirrored import API, GROUP, MANY, NAMED, PODS, RBAC, ROOT, SECONDS, SECRETS, SELF, SELF_REVIEW, WEBHOOK, Asker, Client, Mirror, Run, binding, role, until_equal
 
 if not importlib.util.find_spec("kubernetes"):
     sys.exit("this check wants the package kubernetes of Python: apt-get install python3-kubernetes, and PYTHON=/usr/bin/python3")
-
-API, WIRE, WEBHOOK = ANSWER, OTHER, ANN
-SECONDS = 60
-RBAC = "/apis/rbac.authorization.k8s.io/v1"
-NAMED = RBAC + "/namespaces/default"
-PODS, SECRETS = "/api/v1/namespaces/default/pods", "/api/v1/namespaces/default/secrets"
-SELF = "/apis/authorization.k8s.io/v1/selfsubjectaccessreviews"
-SELF_REVIEW = {"spec": {"resourceAttributes": {"namespace": "default", "verb": "list", "resource": "pods"}}}
-GROUP = "rbac.authorization.k8s.io"
-
-
-def role(name, resource):
-    return {"metadata": {"name": name}, "rules": [{"apiGroups": [""], "resources": [resource], "verbs": ["list"]}]}
-
-
-def binding(name, of, *users):
-    subjects = [{"kind": "User", "apiGroup": GROUP, "name": user} for user in users]
-    return {"metadata": {"name": name}, "roleRef": {"apiGroup": GROUP, "kind": "Role", "name": of}, "subjects": subjects}
-
-
-class Client:
-    """A client of an HTTP port, of one thread, with a header that says who it is."""
-
-    def __init__(self, port, trust=None, **headers):
-        self.port, self.trust, self.client = port, trust, None
-        self.headers = {"Content-Type": "application/json", **{name.replace("_", "-"): value for name, value in headers.items()}}
-
-    def ask(self, method, path, item=None):
-        """The status, 0 if nobody answers, and what is answered."""
-        try:
-            if not self.client:
-                given = {"context": self.trust()} if self.trust else {}
-                self.client = (http.client.HTTPSConnection if self.trust else http.client.HTTPConnection)("127.0.0.1", self.port, timeout=60, **given)
-            self.client.request(method, path, json.dumps(item) if item else None, self.headers)
-            answer = self.client.getresponse()
-            said = answer.read()
-            # A real API server writes a 500 as plain text.
-            return answer.status, json.loads(said) if said.startswith(b"{") else {"message": said.decode()}
-        except (OSError, http.client.HTTPException):
-            self.client = None
-            return 0, {}
-
-
-class Wire:
-    """Hands on what comes to a port to another, until it is cut."""
-
-    def __init__(self, port, behind):
-        self.behind, self.is_cut, self.ends = behind, False, []
-        self.server = socket.create_server(("127.0.0.1", port))
-        threading.Thread(target=self.take, daemon=True).start()
-
-    def take(self):
-        while True:
-            client, _address = self.server.accept()
-            try:
-                if self.is_cut:
-                    raise OSError
-                served = socket.create_connection(("127.0.0.1", self.behind))
-            except OSError:
-                client.close()
-                continue
-            self.ends += [client, served]
-            for ends in ((client, served), (served, client)):
-                threading.Thread(target=self.hand_on, args=ends, daemon=True).start()
-
-    @staticmethod
-    def hand_on(one, other):
-        with contextlib.suppress(OSError):
-            while data := one.recv(65536):
-                other.sendall(data)
-        with contextlib.suppress(OSError):
-            other.shutdown(socket.SHUT_RDWR)
-
-    def cut(self, is_cut=True):
-        self.is_cut = is_cut
-        for end in self.ends if is_cut else []:
-            with contextlib.suppress(OSError):
-                end.shutdown(socket.SHUT_RDWR)
-        self.ends = [] if is_cut else self.ends
-
-
-class Mirror:
-    """A running tools/mirror.py and what it says."""
-
-    def __init__(self, program, kubeconfig):
-        words = [sys.executable, "tools/mirror.py", "--kubeconfig", kubeconfig, "--kapi", program, str(ROOT), str(WEBHOOK)]
-        self.process, self.lines = subprocess.Popen(words, stdout=subprocess.PIPE, stderr=subprocess.STDOUT, text=True), []
-        threading.Thread(target=self.read, daemon=True).start()
-
-    def read(self):
-        for line in self.process.stdout:
-            self.lines.append(line)
-
-    def kapi(self):
-        """The process of its Kapi, or nothing."""
-        children = pathlib.Path(f"/proc/{self.process.pid}/task")
-        found = [it for task in children.glob("*/children") for it in task.read_text().split()]
-        return int(found[0]) if found else None
-
-    def end(self, how=signal.SIGKILL):
-        self.process.send_signal(how)
-        self.process.wait()
-
-
-class Asker(threading.Thread):
-    """Asks without pause, and counts the answers."""
-
-    def __init__(self, client, method, path, item=None, read=lambda status, _said: status):
-        super().__init__(daemon=True)
-        self.client, self.question, self.seen, self.goes_on, self.read = client, (method, path, item), {}, True, read
-
-    def run(self):
-        while self.goes_on:
-            found = self.read(*self.client.ask(*self.question))
-            self.seen[found] = self.seen.get(found, 0) + 1
-            time.sleep(0.01)
-
-    def end(self):
-        self.goes_on = False
-        self.join()
-        return self.seen
-
-
-class Run:
-    """An API server, a wire before it, and what mirrors it."""
-
-    def __init__(self, program, cluster, room, changes):
-        self.program, self.cluster, self.room, self.changes, self.mirror = program, cluster, room, changes, None
-        self.trust = getattr(cluster, "trust", None)
-        self.admin, self.clients = self.client("admin"), {}
-        self.wire = Wire(WIRE, API)
-
-    def client(self, user):
-        return Client(API, self.trust, Authorization=f"Bearer {user}")
-
-    def kubeconfig(self, token):
-        served = {"server": f"{'https' if self.trust else 'http'}://127.0.0.1:{WIRE}"}
-        served |= {"certificate-authority": str(self.cluster.path / "apiserver.crt")} if self.trust else {}
-        parts = {"clusters": [{"name": "c", "cluster": served}], "users": [{"name": "u", "user": {"token": token}}]}
-        path = pathlib.Path(self.room, f"{token}.json")
-        whole = {"apiVersion": "v1", "kind": "Config", **parts, "contexts": [{"name": "c", "context": {"cluster": "c", "user": "u"}}], "current-context": "c"}
-        path.write_text(json.dumps(whole))
-        return str(path)
-
-    def mirrored(self, token="admin"):
-        self.mirror = Mirror(self.program, self.kubeconfig(token))
-
-    def write(self, method, path, item=None):
-        status, said = self.admin.ask(method, path, item)
-        assert status in (200, 201), (method, path, status, said)
-
-    def status(self, user, path=PODS, method="GET", item=None):
-        return self.clients.setdefault(user, self.client(user)).ask(method, path, item)[0]
-
-    def until(self, status, user, path=PODS, method="GET", item=None):
-        """Milliseconds until a user is answered so."""
-        begun = time.monotonic()
-        while (found := self.status(user, path, method, item)) != status:
-            assert time.monotonic() - begun < SECONDS, f"{user} {method} {path} is answered {found} and not {status}; the mirror: {self.said()}"
-            time.sleep(0.001)
-        return f"{(time.monotonic() - begun) * 1000:.0f} ms"
-
-    def said(self):
-        return "".join(self.mirror.lines[-5:]) if self.mirror else ""
-
-    def until_said(self, words):
-        begun = time.monotonic()
-        while not any(words in line for line in self.mirror.lines):
-            assert time.monotonic() - begun < SECONDS, f"the mirror does not say '{words}': {self.said()}"
-            time.sleep(0.02)
-
-
-def held(client):
-    """Roles and bindings by kind, namespace and name, with what decisions read; nothing if nobody answers."""
-    found = {}
-    for kind in ("clusterroles", "roles", "clusterrolebindings", "rolebindings"):
-        for it in client.ask("GET", f"{RBAC}/{kind}")[1].get("items", []):
-            found[kind, it["metadata"].get("namespace"), it["metadata"]["name"]] = it.get("rules") or [], it.get("roleRef"), it.get("subjects") or []
-    return found
-
-
-def until_equal(run, seconds=SECONDS):
-    """Milliseconds until Kapi has the cluster's objects, but for the two that are its own."""
-    begun, kapi = time.monotonic(), Client(ROOT)
-    while True:
-        wanted, found = held(run.admin), held(kapi)
-        own = {key for key in found if re.fullmatch("kapi:[0-9a-f]{32}", key[2])}
-        if wanted and len(own) == 2 and {key: it for key, it in found.items() if key not in own} == wanted:
-            return f"{len(wanted)} objects equal after {(time.monotonic() - begun) * 1000:.0f} ms"
-        assert time.monotonic() - begun < seconds, sorted(key for key in {**found, **wanted} if found.get(key) != wanted.get(key))
-        time.sleep(0.1)
 
 
 def cluster_alone(run):
@@ -288,26 +94,85 @@ def mirror_killed(run):
     return waited
 
 
+ENDS = (signal.SIGINT, signal.SIGTERM, signal.SIGKILL)
+
+
 def kapi_then_mirror(run):
-    """Kapi is killed, then the mirror"""
-    os.kill(run.mirror.kapi(), signal.SIGKILL)
-    run.mirror.end(signal.SIGTERM)
-    time.sleep(0.1)
-    kapi_is_gone(run)
-    run.mirrored()
-    return run.until(200, "bob")
+    """Kapi is killed, then the mirror is ended, by each of three signals"""
+    times = []
+    for how in ENDS:
+        os.kill(run.mirror.kapi(), signal.SIGKILL)
+        run.mirror.end(how)
+        time.sleep(0.1)
+        kapi_is_gone(run)
+        run.mirrored()
+        times.append(run.until(200, "bob"))
+    return ", ".join(times)
 
 
 def mirror_then_kapi(run):
-    """The mirror is ended, then Kapi"""
-    kapi = run.mirror.kapi()
-    run.mirror.end(signal.SIGTERM)
-    with contextlib.suppress(ProcessLookupError):
-        os.kill(kapi, signal.SIGKILL)
-    time.sleep(0.1)
-    kapi_is_gone(run)
+    """The mirror is ended by each of three signals, then Kapi is killed"""
+    times = []
+    for how in ENDS:
+        kapi = run.mirror.kapi()
+        run.mirror.end(how)
+        with contextlib.suppress(ProcessLookupError):
+            os.kill(kapi, signal.SIGKILL)
+        time.sleep(0.1)
+        kapi_is_gone(run)
+        run.mirrored()
+        times.append(run.until(200, "bob"))
+    return ", ".join(times)
+
+
+def words_of(process):
+    """The command of a process that has not ended."""
+    with contextlib.suppress(OSError):
+        return pathlib.Path(f"/proc/{process}/cmdline").read_text().split("\0")
+    return []
+
+
+def killed_at_once(run):
+    """The mirror is killed when it has just begun to start Kapi, thirty times: no Kapi outlives it"""
+    run.mirror.end()
+    for _time in range(30):
+        run.mirrored()
+        while not (kapi := run.mirror.kapi()):
+            assert run.mirror.process.poll() is None, run.said()
+        run.mirror.end()
+        begun = time.monotonic()
+        while any(found := words_of(kapi)):
+            # What was not run yet may be seen before it ends.
+            assert time.monotonic() - begun < (1 if found[0] == run.program else 10), found
+            time.sleep(0.01)
     run.mirrored()
     return run.until(200, "bob")
+
+
+def mirror_stopped(run):
+    """While the mirror is stopped and not ended, Kapi goes on by the policy that it has"""
+    run.mirror.process.send_signal(signal.SIGSTOP)
+    run.write("POST", NAMED + "/rolebindings", binding("ann", "sees-pods", "ann"))
+    time.sleep(1)
+    assert run.status("ann") == 403 and run.status("bob") == 200
+    run.mirror.process.send_signal(signal.SIGCONT)
+    waited = run.until(200, "ann")
+    run.write("DELETE", NAMED + "/rolebindings/ann")
+    run.until(403, "ann")
+    return f"{waited} after it goes on"
+
+
+def kapi_stopped(run):
+    """While Kapi is stopped and not ended, nobody is answered but members of system:masters"""
+    if run.changes < MANY:
+        return "left out of a short run"
+    os.kill(run.mirror.kapi(), signal.SIGSTOP)
+    begun = time.monotonic()
+    answered = run.status("bob"), run.admin.ask("GET", PODS)[0]
+    waited = f"{answered[0]} after {time.monotonic() - begun:.0f} s"
+    os.kill(run.mirror.kapi(), signal.SIGCONT)
+    assert answered[0] not in (200, 403) and answered[1] == 200, answered
+    return f"bob is answered {waited}; {run.until(200, 'bob')} after it goes on"
 
 
 def cluster_restarts(run):
@@ -344,6 +209,23 @@ def watch_cut(run):
     return waited
 
 
+def watch_silent(run):
+    """Watches that are silent are given up, and what changes meanwhile is not missed"""
+    if run.changes < MANY:
+        return "left out of a short run"
+    run.wire.flows.clear()
+    begun, behind = time.monotonic(), len(run.mirror.lines)
+    run.write("POST", NAMED + "/rolebindings", binding("ann", "sees-pods", "ann"))
+    run.until_said("ReadTimeoutError", behind, 2 * SECONDS)
+    waited = f"given up after {time.monotonic() - begun:.0f} s"
+    assert run.status("ann") == 403 and run.status("bob") == 200
+    run.wire.flows.set()
+    waited += f"; {run.until(200, 'ann')} after they go on; {until_equal(run)}"
+    run.write("DELETE", NAMED + "/rolebindings/ann")
+    run.until(403, "ann")
+    return waited
+
+
 def odd_names(run):
     """Of names with signs of a URL, each change is one of the object of that name"""
     names = {"odd": "dan", "odd?of=ann": "ann", "odd#ann": "ann", "odd ann&+;\u00e4": "ann"}
@@ -359,6 +241,19 @@ def odd_names(run):
     assert (run.status("ann"), run.status("fay"), run.status("dan")) == (403, 403, 200)
     run.write("DELETE", NAMED + "/rolebindings/odd")
     return until_equal(run)
+
+
+def selectors(run):
+    """A review with the selectors, uid and extra that newer API servers send is answered as one without them"""
+    review = {"kind": "SubjectAccessReview", "apiVersion": "authorization.k8s.io/v1", "metadata": {"creationTimestamp": None}, "status": {"allowed": False}}
+    asked = {"namespace": "default", "verb": "list", "version": "v1", "resource": "pods"}
+    more = {"fieldSelector": {"requirements": [{"key": "spec.nodeName", "operator": "In", "values": ["x"]}]},
+            "labelSelector": {"requirements": [{"key": "app", "operator": "NotIn", "values": ["a", "b"]}, {"key": "tier", "operator": "Exists"}]}}
+    for user, wanted in ("bob", True), ("eve", False):
+        whole = {"user": user, "groups": ["system:authenticated"]}
+        for spec in ({**whole, "resourceAttributes": asked}, {**whole, "uid": "1", "extra": {"a/b": ["c"]}, "resourceAttributes": {**asked, **more}}):
+            status, said = Client(WEBHOOK).ask("POST", "/apis/authorization.k8s.io/v1/subjectaccessreviews", {**review, "spec": spec})
+            assert (status, said["status"]["allowed"]) == (201, wanted), (spec, status, said)
 
 
 def pair(_status, said):
@@ -510,20 +405,21 @@ def shadow(run):
     return said.strip().splitlines()[-1]
 
 
-STEPS = (cluster_alone, mirror_later, set_up_is_seen, grants_are_seen, kapi_killed, mirror_killed, kapi_then_mirror, mirror_then_kapi,
-         cluster_restarts, mirror_first, watch_cut, swap_live, swap_in_a_cut, odd_names, stored_watch, change_between_lists, refused_object,
-         many_changes, refused, old_reviews, shadow)
+STEPS = (cluster_alone, mirror_later, set_up_is_seen, grants_are_seen, kapi_killed, mirror_killed, kapi_then_mirror, mirror_then_kapi, killed_at_once,
+         mirror_stopped, kapi_stopped, cluster_restarts, mirror_first, watch_cut, watch_silent, swap_live, swap_in_a_cut, odd_names, selectors,
+         stored_watch, change_between_lists, refused_object, many_changes, refused, old_reviews, shadow)
 
 
 def cluster_of(webhook):
-    """The real one if there is one, else the stand-in; and how it is called."""
+    """The real one if there is one, else the stand-in; how it is called; and what steps want it."""
     if "KUBE_APISERVER" in os.environ and "ETCD" in os.environ:
+        from checks import real_cluster
         from checks.api_server import ApiServer
         cluster = ApiServer(os.environ["KUBE_APISERVER"], os.environ["ETCD"], API, webhook)
         cluster.begin()
-        return cluster, "a real kube-apiserver"
+        return cluster, "a real kube-apiserver", real_cluster.STEPS
     from checks.stand_in import RECORDED, StandIn
-    return StandIn(API, webhook), f"a stand-in that replays {RECORDED.stem}; for a real one name its programs by KUBE_APISERVER and ETCD (docs/CLUSTER.md builds them)"
+    return StandIn(API, webhook), f"a stand-in that replays {RECORDED.stem}; for a real one name its programs by KUBE_APISERVER and ETCD (docs/CLUSTER.md builds them)", ()
 
 
 def played(run, step):
@@ -536,15 +432,16 @@ def played(run, step):
         return False
 
 
-def play(run):
+def play(run, steps):
     """Plays the steps up to the first that fails; whether all went well."""
-    bob, eve, hal = (Asker(run.client(user), *asked) for user, *asked in (("bob", "GET", PODS), ("eve", "GET", PODS), ("hal", "POST", SELF, SELF_REVIEW)))
-    is_well = played(run, STEPS[0])
-    for asker in (bob, eve, hal):
+    asked = {"bob": ("GET", PODS), "eve": ("GET", PODS), "hal": ("POST", SELF, SELF_REVIEW), "admin": ("GET", "/version")}
+    askers = {user: Asker(run.client(user), *question) for user, question in asked.items()}
+    is_well = played(run, steps[0])
+    for asker in askers.values():
         asker.start()
-    is_well = is_well and all(played(run, step) for step in STEPS[1:])
-    for name, asker, wanted in (("bob", bob, {0, 200, 500}), ("eve", eve, {0, 403, 500}), ("hal", hal, {0, 403, 500})):
-        seen = asker.end()
+    is_well = is_well and all(played(run, step) for step in steps[1:])
+    for name, wanted in {"bob": {0, 200, 500}, "eve": {0, 403, 500}, "hal": {0, 403, 500}, "admin": {0, 200}}.items():
+        seen = askers[name].end()
         is_well = is_well and set(seen) <= wanted
         counted = ", ".join(f"{status} {count} times" for status, count in sorted(seen.items()))
         print(f"{name} was answered {counted}" + ("" if set(seen) <= wanted else f"; FAILED, never but {wanted}"))
@@ -553,12 +450,12 @@ def play(run):
 
 def main(program, changes="10000"):
     with tempfile.TemporaryDirectory() as room:
-        cluster, called = cluster_of(WEBHOOK)
+        cluster, called, more = cluster_of(WEBHOOK)
         print(f"the API server is {called}", flush=True)
         run = Run(program, cluster, room, int(changes))
         try:
             cluster.start()
-            return 0 if play(run) else 1
+            return 0 if play(run, STEPS + more) else 1
         finally:
             run.mirror and run.mirror.end()
             cluster.end()
