@@ -13,10 +13,18 @@ def restarted(run, mode):
     run.cluster.stop()
     run.cluster.mode = mode
     run.cluster.start()
+    forget_connections(run)
+
+
+def forget_connections(run):
+    """After a start of the API server the first request over an old connection is answered by nobody."""
+    run.clients.clear()
+    run.admin = run.client("admin")
 
 
 def without_kapi(run):
     """Without Kapi the API server answers 500, to whoever impersonates 403, and 500 to probes that name no user"""
+    forget_connections(run)
     run.mirror.end()
     assert run.status("bob") == 500
     assert Client(run.cluster.port, run.trust, Authorization="Bearer bob", Impersonate_User="ann").ask("GET", PODS)[0] == 403

@@ -44,7 +44,7 @@ class Objects:
             return {"kind": KINDS[resource] + "List", "apiVersion": RBAC, "metadata": {"resourceVersion": str(self.revision)}, "items": items}
 
     def write(self, kind, key, item):
-        """Makes a change and tells those that watch."""
+        """Makes a change and wakes those that watch."""
         with self.changed:
             self.revision += 1
             whole = {**(item or self.held[key]), "kind": KINDS[key[0]], "apiVersion": RBAC}
