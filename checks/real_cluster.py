@@ -2,6 +2,7 @@
 import contextlib
 import time
 
+from checks.alike import alike
 from checks.api_server import free_port
 from checks.mirrored import GROUP, NAMED, PODS, RBAC, SECONDS, SELF, SELF_REVIEW, Client, Mirror, binding, role
 
@@ -153,4 +154,4 @@ def two_of_them(run):
         other.stop()
 
 
-STEPS = (without_kapi, store_away, escalation, default_roles, kubelets, two_of_them)
+STEPS = (without_kapi, store_away, escalation, default_roles, kubelets, two_of_them, alike)
