@@ -358,7 +358,12 @@ def many_changes(run):
 
 
 def refused(run):
-    """A mirror whose user the cluster refuses ends with status 3"""
+    """A mirror ends with status 2 if its kubeconfig cannot be read, and with 3 if the cluster refuses its user"""
+    file = pathlib.Path(run.room, "odd")
+    for text in ("", "a: [b", "[]", "{}", "\udcff"):
+        file.write_text(text, errors="surrogateescape")
+        other = Mirror(run.program, str(file))
+        assert other.process.wait(SECONDS) == 2, other.lines
     for token in ("ann", "nobody"):
         other = Mirror(run.program, run.kubeconfig(token))
         assert other.process.wait(SECONDS) == 3, other.lines

@@ -11,6 +11,7 @@ import http.client
 import json
 import os
 import queue
+import re
 import secrets
 import socket
 import subprocess
@@ -22,6 +23,7 @@ import urllib.parse
 
 try:
     import urllib3
+    import yaml
     from kubernetes import client, config
 except ImportError:
     sys.exit("mirror.py wants the package kubernetes of Python: apt-get install python3-kubernetes")
@@ -31,7 +33,7 @@ KINDS = {"ClusterRole": "clusterroles", "Role": "roles", "ClusterRoleBinding": "
 # What Kapi has from its start, so no file can load it.
 BEGINS_WITH = [(kind, "", name) for kind in ("ClusterRole", "ClusterRoleBinding") for name in ("cluster-admin", "system:basic-user")]
 # The cluster ends a watch after so long, and it goes on by another; one that is silent for longer is broken.
-WATCH_SECONDS, SILENT_SECONDS, PAUSE_SECONDS = 60, 70, 1
+WATCH_SECONDS, SILENT_SECONDS, PAUSE_SECONDS, SAME_SECONDS = 60, 70, 1, 60
 
 
 class Fault(Exception):
@@ -49,7 +51,7 @@ def words_of(fault):
     """A fault in one line."""
     is_answer = isinstance(fault, client.ApiException)
     words = f"{fault.status} {fault.reason} {(fault.body or b'').decode()}" if is_answer else f"{type(fault).__name__} {fault}".removeprefix("Fault ")
-    return " ".join(words.split())
+    return " ".join(re.sub(" object at 0x[0-9a-f]+", "", words).split())
 
 
 def key_of(kind, item):
@@ -269,16 +271,21 @@ def report(cluster, kapi):
 
 def follow(cluster, kapi):
     """Lists the cluster and follows its changes, and begins again if that breaks; what the cluster says if it refuses that."""
+    last, since = None, 0
     while True:
         try:
             revision, objects = cluster.list()
+            last = None
             kapi.fill(objects)
             for change in cluster.changes(revision):
                 kapi.change(*change)
         except (client.ApiException, *FAULTS) as fault:
             if getattr(fault, "status", 0) in (401, 403):
                 return words_of(fault)
-            say(words_of(fault))
+            # While there is no API server each second has the same fault.
+            if words_of(fault) != last or time.monotonic() - since > SAME_SECONDS:
+                last, since = words_of(fault), time.monotonic()
+                say(last)
         time.sleep(PAUSE_SECONDS)
 
 
@@ -290,8 +297,8 @@ def main():
     words = reader.parse_args()
     try:
         config.load_kube_config(words.kubeconfig)
-    except (config.ConfigException, OSError) as fault:
-        say(f"the kubeconfig cannot be read: {fault}")
+    except (config.ConfigException, yaml.YAMLError, OSError, ValueError, TypeError, KeyError, AttributeError) as fault:
+        say(f"the kubeconfig cannot be read: {words_of(fault)}")
         return 2
     cluster, kapi = Cluster(), Kapi(words.kapi, *words.ports)
     threading.Thread(target=kapi.tend, daemon=True).start()
