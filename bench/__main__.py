@@ -9,6 +9,7 @@ MEASURES = {
     "load": Module("cc and wrk"),
     "instructions": Module("valgrind"),
     "samples": Module("perf and wrk"),
+    "cluster": Module("wrk, python3-kubernetes, KUBE_APISERVER and ETCD"),
 }
 
 if __name__ == "__main__":
