@@ -66,7 +66,7 @@ def escalation(run):
     run.write("POST", NAMED + "/roles", writes)
     run.write("POST", NAMED + "/rolebindings", binding("fay", "writes-roles", "fay"))
     begun = time.monotonic()
-    while (said := run.client("fay").ask("POST", NAMED + "/roles", role("more", "secrets")))[0] != 403 or "attempting to grant" not in said[1]["message"]:
+    while (said := run.client("fay").ask("POST", NAMED + "/roles", role("more", "services")))[0] != 403 or "attempting to grant" not in said[1]["message"]:
         assert time.monotonic() - begun < SECONDS and said[0] in (403, 500), said
     run.write("DELETE", NAMED + "/rolebindings/fay")
 
