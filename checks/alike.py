@@ -104,7 +104,7 @@ class Pair:
             headers = {**client.headers, "Impersonate-User": user, **({"Impersonate-Group": team} if team else {})}
             asker = Client(client.port, client.trust)
             asker.headers = headers
-            found.append(asker.ask(method, path, {"odd": 1} if method in ("POST", "PUT", "PATCH") else None)[0])
+            found.append(asker.ask(method, path, {"kind": "Odd", "apiVersion": "v9"} if method in ("POST", "PUT", "PATCH") else None)[0])
         assert not {0, 500} & set(found), (user, team, method, path, found)
         return [status == 403 for status in found]
 
