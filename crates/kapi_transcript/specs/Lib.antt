@@ -2,5 +2,6 @@ pub mod Fields
 pub mod Requests
 pub mod Sent
 pub mod Wants
+pub mod Corrections
 pub mod Forms
 pub mod Cases

@@ -2,6 +2,7 @@
 #![tactic(auto)]
 
 mod case;
+mod correction;
 mod draft;
 mod field;
 mod form;
@@ -10,7 +11,8 @@ mod sent;
 mod wanted;
 
 pub use case::{Case, Event, Loaded, Want};
+pub use correction::{corrected, exactly};
 pub use draft::{Draft, cases};
 pub use form::{Form, parse_form};
 pub use request::{Request, push_number};
-pub use wanted::{Wanted, is_met};
+pub use wanted::{Wanted, is_met, parse_wanted};
