@@ -2,6 +2,7 @@
 use Rattle.std.specs.Prelude.{ℕ, if◌then◌else◌, List, drop, codes, Option, Some, None}
 use Rattle.std.specs.Str.{bytes_eq}
 use Rattle.kapi_transcript.specs.Fields.{is_field}
+use Rattle.kapi_transcript.specs.Names.{are_names}
 use Rattle.kapi_transcript.specs.Requests.{request_line, request_of}
 use Rattle.kapi_transcript.specs.Wants.{wanted_of}
 use Rattle.kapi_transcript.specs.declared.form.Form.{Form}
@@ -27,6 +28,10 @@ abbrev pub want_form : List ℕ → Option Wanted → Form
 want_form line None = line_form_of line
 want_form line (Some wanted) = form.Want wanted
 
+-- an identity; a line of no known form, if a name is none
+abbrev pub actor_form : List ℕ → Form
+actor_form names = if are_names names then form.Actor names else form.Event
+
 -- the form of a line
 unfoldable pub form_of : List ℕ → Form
 form_of line =
@@ -34,4 +39,4 @@ form_of line =
     else (if bytes_eq line (codes "pump") then form.Pump
     else (if bytes_eq line (codes "recheck") then form.Recheck
     else (if begins line (codes "load ") then form.Load (drop 5 line)
-    else (if begins line (codes "as ") then form.Actor (drop 3 line) else want_form line (wanted_of line)))))
+    else (if begins line (codes "as ") then actor_form (drop 3 line) else want_form line (wanted_of line)))))

@@ -4,6 +4,7 @@ ghost use Rattle.kapi_transcript.specs.Forms as forms;
 ghost use Rattle.kapi_transcript.specs.Forms.{form_of, line_form_of};
 
 use crate::field::is_field;
+use crate::names::are_names;
 use crate::request::{Request, parse_request, request_line};
 use crate::wanted::{Wanted, parse_wanted};
 use kapi_lines::copy_of;
@@ -17,7 +18,8 @@ pub enum Form {
     Begin,
     /// `load FILE`: a new machine, with the objects of a file.
     Load(Sequence<u8>),
-    /// `as USER` or `as USER,GROUP,..`: the connection of that identity.
+    /// `as USER` or `as USER,GROUP,..`: the connection of that identity. No name is empty, or begins or ends with white
+    /// space.
     Actor(Sequence<u8>),
     /// `METHOD TARGET` or `METHOD TARGET BODY`: a request on the connection that was taken last.
     Request(Request),
@@ -51,11 +53,22 @@ pub fn parse_form(alloc: Global, line: &[u8]) -> Result<Form, Memory>
         return Ok(Form::Load(copy_of(alloc, &line[5..])?));
     }
     if line.starts_with(b"as ") {
-        return Ok(Form::Actor(copy_of(alloc, &line[3..])?));
+        return Ok(actor_form(copy_of(alloc, &line[3..])?));
     }
     match parse_wanted(alloc, line)? {
         Some(wanted) => Ok(Form::Want(wanted)),
         None => line_form(alloc, line),
+    }
+}
+
+/// An identity, or a line of no known form if a name is none.
+fn actor_form(names: Sequence<u8>) -> Form
+    ensures { result ≡ forms.actor_form names }
+{
+    if are_names(names.as_slice()) {
+        Form::Actor(names)
+    } else {
+        Form::Event
     }
 }
 

@@ -6,6 +6,7 @@ mod correction;
 mod draft;
 mod field;
 mod form;
+mod names;
 mod request;
 mod sent;
 mod wanted;
