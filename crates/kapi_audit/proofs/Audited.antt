@@ -1,7 +1,7 @@
 -- The answers by a policy that was published.
 use Rattle.std.proofs.Common.{◌≡◌, ℕ, List, Result, Ok, Err, IsErrAnd, sym, ap, ◌∙◌, subst}
 use Rattle.kapi_text.specs.Gives.{Fails, Gives}
-use Rattle.kapi_audit.specs.Answers.{answer_of, answered_by, answers, answers_on}
+use Rattle.kapi_audit.specs.Answers.{answer_of, answered_by, answers, answers_alone, answers_on}
 use Rattle.kapi_audit.specs.Faults.{AuditError, fault_told, unloaded}
 use Rattle.kapi_audit.specs.declared.fault.AuditFault.{AuditFault}
 use Rattle.kapi_core.specs.Machine.{Machine}
@@ -12,7 +12,7 @@ use Rattle.kapi_desk.specs.Steps.{after}
 use Rattle.kapi_loading.specs.Faults as loading
 use Rattle.kapi_loading.specs.Faults.{FileFault}
 use Rattle.kapi_lines.specs.Lines.{NumberedLine, lines_of}
-use Rattle.kapi_loading.specs.Loading.{Publishes, machine_of}
+use Rattle.kapi_loading.specs.Loading.{Publishes, machine_alone, machine_of}
 use Rattle.kapi_loading.specs.declared.fault.StartError.{StartError}
 use Rattle.kapi_loading.specs.declared.fault.StartError.TheVariants as start
 use Rattle.kapi_policy.specs.Objects.{PolicyObjects}
@@ -39,3 +39,8 @@ pub audited_files : {X : Type 0} (items : X → List ℕ) (result : Result X Aud
     → Gives fault_told items result (answers_on (machine_of policy) asked) → Gives fault_told items result (answers policy questions)
 unfolding answers
 audited_files items result policy questions asked is h = subst (λ ls. Gives fault_told items result (answers_on (machine_of policy) ls)) is h
+
+pub audited_objects : {X : Type 0} (items : X → List ℕ) (result : Result X AuditFault) (policy questions : List ℕ) (asked : List NumberedLine) → asked ≡ lines_of questions
+    → Gives fault_told items result (answers_on (machine_alone 0 policy) asked) → Gives fault_told items result (answers_alone policy questions)
+unfolding answers_alone
+audited_objects items result policy questions asked is h = subst (λ ls. Gives fault_told items result (answers_on (machine_alone 0 policy) ls)) is h

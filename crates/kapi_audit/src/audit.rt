@@ -3,7 +3,7 @@ ghost use Rattle.kapi_text.specs.Gives.{Gives};
 ghost use Rattle.kapi_core.specs.Table.{access_reviews_row};
 ghost use Rattle.kapi_desk.specs.Boards.{Chair, fresh, informed};
 ghost use Rattle.kapi_desk.specs.Steps.{after};
-ghost use Rattle.kapi_audit.specs.Answers.{answer_of, answered_by, answers};
+ghost use Rattle.kapi_audit.specs.Answers.{answer_of, answered_by, answers, answers_alone};
 ghost use Rattle.kapi_audit.specs.Faults.{fault_told};
 ghost use Rattle.kapi_lines.specs.Lines.{line_of};
 ghost use Rattle.kapi_audit.specs.Private.Readers.{AreReaders};
@@ -16,7 +16,7 @@ use crate::reader::Reader;
 use crate::threads::answer_in_threads;
 use kapi_desk::{Desk, Seat};
 use kapi_lines::{Line, numbered_lines};
-use kapi_loading::{Started, start};
+use kapi_loading::{Started, start, start_without_objects};
 use kapi_text::Memory;
 use std::alloc::Global;
 use std::sync::Wait;
@@ -102,6 +102,28 @@ fn answer_told<R: Threads + Wait + Sync, G: Gate + Sync>(
     }
 }
 
+/// Answers questions by the policy of a machine that has begun.
+fn answer_started<R: Threads + Wait + Sync, G: Gate + Sync>(
+    rt: &R,
+    started: Started,
+    asked: &[Line<'_>],
+    gate: &G,
+) -> Result<Vec<u8>, AuditFault>
+    requires free { started.desk.waiting ≡ [] }
+    requires count { 1 ≤ length started.seats.items }
+    requires seats { All (λ s. s ≡ fresh started.desk) started.seats.items }
+    ensures { Gives fault_told (λ v. v.items) result (answered_by (answer_of access_reviews_row (after started.desk.opening started.desk.list)) (map line_of asked.now)) }
+{
+    let Started {
+        core,
+        mut desk,
+        seats,
+    } = started;
+    let answered = answer_told(core.allocator(), rt, &mut desk, seats, asked, gate);
+    drop(desk.close(rt));
+    answered
+}
+
 /// Answers a file of questions by the policy of a file of objects, with so many reader threads. The text has a line for
 /// each question, in their order, whatever the number of readers is.
 ///
@@ -122,19 +144,23 @@ pub fn audit_run<R: Threads + Wait + Sync, G: Gate + Sync>(
 {
     let asked = numbered_lines(alloc, questions)?;
     let started = start(alloc, rt, policy, 0, readers)?;
-    let Started {
-        core,
-        mut desk,
-        seats,
-    } = started;
-    let answered = answer_told(
-        core.allocator(),
-        rt,
-        &mut desk,
-        seats,
-        asked.as_slice(),
-        gate,
-    );
-    drop(desk.close(rt));
-    answered
+    answer_started(rt, started, asked.as_slice(), gate)
+}
+
+/// Answers a file of questions by the policy of objects alone, without those that every other machine begins with; the
+/// rest, errors too, is as of `audit_run`.
+pub fn audit_alone<R: Threads + Wait + Sync, G: Gate + Sync>(
+    alloc: Global,
+    rt: &R,
+    policy: &[u8],
+    questions: &[u8],
+    readers: usize,
+    gate: &G,
+) -> Result<Vec<u8>, AuditFault>
+    requires { (1 ≤ readers) × (readers ≤ 16) }
+    ensures { Gives fault_told (λ v. v.items) result (answers_alone policy.now questions.now) }
+{
+    let asked = numbered_lines(alloc, questions)?;
+    let started = start_without_objects(alloc, rt, policy, 0, readers)?;
+    answer_started(rt, started, asked.as_slice(), gate)
 }

@@ -77,6 +77,7 @@ pub fn start_without_objects<R: Wait>(
     ensures machine { Starts result (machine_alone first objects.now) }
     ensures unopened { IfOk result (λ s. s.core.next_id ≡ 0) }
     ensures waiting { IfOk result (λ s. s.desk.waiting ≡ []) }
+    ensures seats { IfOk result (λ s. s.seats.items ≡ replicate seats (fresh s.desk)) }
 {
     let lines = numbered_lines(alloc, objects)?;
     let mut core = Core::without_objects(
