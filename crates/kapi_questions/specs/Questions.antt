@@ -1,5 +1,5 @@
 -- Questions of whom a policy allows something, as words tell them.
-use Rattle.std.specs.Prelude.{ℕ, ◌==◌, Bool, false, if◌then◌else◌, List, [], ◌∷◌, codes, Option, Some, None}
+use Rattle.std.specs.Prelude.{ℕ, ◌-◌, ◌==◌, drop, length, take, Bool, false, if◌then◌else◌, List, [], ◌∷◌, codes, Option, Some, None}
 use Rattle.std.specs.List.{after_first, before_first, slice_split}
 use Rattle.std.specs.Str.{bytes_eq, is_utf8}
 use Rattle.kapi_rules.specs.declared.point.Point.{Point}
@@ -52,6 +52,10 @@ question_by (verb ∷ resource ∷ namespace ∷ []) = Some (question_of verb re
 question_by (verb ∷ resource ∷ namespace ∷ name ∷ []) = Some (question_of verb resource (namespace_in namespace) name)
 question_by _ = None
 
+-- a line without the carriage return at its end, if it has one
+unfoldable pub without_return : List ℕ → List ℕ
+without_return line = if bytes_eq (drop (length line - 1) line) (13 ∷ []) then take (length line - 1) line else line
+
 -- the question of a line, if it is one
 unfoldable pub question_in : List ℕ → Option Wanted
-question_in line = if is_utf8 line then question_by (words_in line) else None
+question_in line = if is_utf8 (without_return line) then question_by (words_in (without_return line)) else None

@@ -118,12 +118,21 @@ fn question_by(alloc: Global, words: &[&str]) -> Result<Option<Wanted>, Memory>
     }
 }
 
+/// A line without the carriage return at its end, if it has one.
+#[tactic(auto, unfolding(crate::specs::Questions::without_return))]
+fn without_return(line: &[u8]) -> &[u8]
+    ensures { result.now ≡ asks.without_return line.now }
+{
+    let (rest, end) = line.split_at(line.len().saturating_sub(1));
+    if end == b"\r".as_slice() { rest } else { line }
+}
+
 /// The question of a line `VERB RESOURCE [NAMESPACE [NAME]]`, where the namespace `*` asks cluster-wide; none where it is none.
 #[tactic(auto, unfolding(crate::specs::Questions::question_in))]
 pub fn read_question_line(alloc: Global, line: &[u8]) -> Result<Option<Wanted>, Memory>
     ensures { IfOk result (λ o. o ≡ asks.question_in line.now) }
 {
-    match as_text(line) {
+    match as_text(without_return(line)) {
         Some(text) => question_by(alloc, split_words(alloc, text)?.as_slice()),
         None => Ok(None),
     }
