@@ -9,6 +9,7 @@ CHECKS = {
     "statuses": Module(words=()),
     "commands": Module(words=()),
     "manifests": Module(words=()),
+    "reporting": Module(words=()),
     "kinds": Module(words=()),
     "live": Module(words=()),
     "rechecks": Module(words=()),

@@ -92,7 +92,7 @@ JSON = '{"subject":"system:masters","subjectKind":"Group"}\n{"binding":"cluster-
 NOTHING = "Nothing that all others write lets anybody do what neither that one nor any of them was allowed.\n"
 ALLOWED = "allowed RoleBinding readers, Role reader, rule 0\n"
 HEALTHY = r"out HTTP/1.1 200 OK\r\nContent-Type: text/plain\r\nContent-Length: 2\r\n\r\nok"
-ONE, TWO = (f"{place}\n  asked  GET /healthz\n  wanted {wanted}\n  got    {HEALTHY}\n{place[:3]}: {answers} answers, 1 not as wanted\n"
+ONE, TWO = (f"{place}\n  asked  GET /healthz\n  wanted {wanted}\n  got    {HEALTHY}\n{place[:3]}: {answers} checks, 1 not as wanted\n"
             for place, wanted, answers in (("one:6", "> ?", 2), ("two:8", "= 403", 3)))
 CASES = [
     *[Case(it, "kapi 0.1.0\n") for it in ("--version", "-V")], Case("script"),
@@ -124,8 +124,8 @@ CASES = [
     *[Case(f"risks {it}", ways() + NOTHING, it == "doubtful --strict") for it in ("doubtful", "doubtful --strict", "after --strict", "folder")],
     Case("risks - --namespace shop", ways(BOB.format("shop")) + NOTHING, input=ACTORS.rstrip()),
     *[Case(f"replay {words}", told, 1) for words, told in (("one", ONE), ("one two", ONE + TWO), ("two one", TWO + ONE))],
-    Case("replay /dev/stdin", "/dev/stdin: 2 answers\n", input=FILES["two"].partition("GET /healthz")[0].rstrip()),
-    Case("replay --write one two", f"{FILES['one'][:-2]}{HEALTHY}\n{FILES['two'][:-5]}> {HEALTHY}", 1),
+    Case("replay /dev/stdin", "/dev/stdin: 2 checks\n", input=FILES["two"].partition("GET /healthz")[0].rstrip()),
+    Case("replay --write one two", f"{FILES['one'][:-2]}{HEALTHY}\n{FILES['two'][:-5]}= 200", 1),
 ]
 
 

@@ -152,6 +152,49 @@ COMPARED = [
     Case("compare --namespace shop bare before", 0, "bare: roles: 1, bindings: 1\nbefore: roles: 2, bindings: 1", "Nobody gains.\n", files={"bare": BARE}),
 ]
 
+BARE_ROLES = json.dumps({"apiVersion": f"{RBAC}/v1", "kind": "RoleList", "items": [{"metadata": {"name": "reader", "namespace": "shop"}, "rules": READER["rules"]}]})
+VIEWERS = lines(thing("RoleBinding", "viewers", "shop", **bound("ClusterRole", "view", "bob")))
+BOB = ("User bob", "shop", "RoleBinding viewers", "ClusterRole view, rule 0")
+QUESTIONS = "".join(json.dumps({"user": user, "resourceAttributes": {"namespace": "shop", "verb": "get", "resource": what}}) + "\n" for user, what in (("ann", "secrets"), ("bob", "pods")))
+ALLOWED = "allowed RoleBinding readers, Role reader, rule 0\n"
+NONE = "none: there is no role and no binding in it"
+MEANT = "no rule names the resource secret; did you mean secrets?"
+ASKED = [
+    {"user": "anne", "resourceAttributes": {"namespace": "shop", "verb": "get", "resource": "widgets"}},
+    {"user": "olga", "groups": ["system:masters"], "nonResourceAttributes": {"verb": "get", "path": "/healthz"}},
+    {"user": "system:serviceaccount:shop:till", "resourceAttributes": {"verb": "get", "resource": "pods"}},
+]
+MORE = "For more information, try 'kapi {} --help'."
+READING = "error: --with, --with-defaults, --namespace and --strict are for --manifests\n\n" + MORE.format("audit")
+TOGETHER = [
+    Case("who roles get secrets --namespace shop --with readers", 0, "", table(EVERY, ADMIN, ANN), files={"roles": BARE_ROLES, "readers": lines(READERS), "viewers": VIEWERS}),
+    Case("who - get secrets --namespace shop --with roles --with viewers", 0, LOOSE, table(EVERY, ADMIN, ANN), input=lines(READERS)),
+    Case("who roles get pods --namespace shop --with viewers --with-defaults --strict", 0, "", table(EVERY, ADMIN, BOB)),
+    Case("compare readers readers --with roles --with viewers --with-defaults --strict", 0, re.compile("(readers: roles: 1, bindings: 2\n?){2}"), "Nobody gains.\n"),
+    Case("risks roles --with missing", 1, re.compile("missing: .*"), ""),
+    Case("audit --manifests readers questions --with roles --with viewers --with-defaults", 0, "", ALLOWED + "allowed RoleBinding viewers, ClusterRole view, rule 0\n", files={"questions": QUESTIONS}),
+    Case("audit --manifests readers questions --with roles --with viewers", 0, LOOSE, ALLOWED + "denied\n"),
+    Case("audit readers questions --manifests --with roles --with viewers --strict", 1, LOOSE, ALLOWED + "denied\n"),
+    Case("audit --manifests loose bad", 1, "question line 1\n  it is JSON, and no object", "", files={"bad": "[]\n"}),
+    Case("audit --manifests twice questions", 1, "twice:2: roles reader already exists", "", files={"twice": lines(READER, READER)}),
+    *[Case(f"audit readers questions {it}", 2, READING, "") for it in ("--strict", "--with roles", "--with-defaults", "--namespace shop")],
+    *[Case(f"{it} --strict", 1, NONE, None, files={"none": lines(SHOP)}) for it in ("risks none", "who none get secrets")],
+    Case("audit --manifests none questions", 0, NONE + "\nno binding names the user ann\nno binding names the user bob", "denied\n" * 2),
+    Case("who before get secret", 0, MEANT, None),
+    Case("who before gte secrets --namespace shpo --strict", 1, "no rule names the verb gte; did you mean get?\nno object names the namespace shpo; did you mean shop?", None),
+    Case("who before get endpoints", 0, "no rule names the resource endpoints", None),
+    *[Case(f"who before {it}", 0, "", None) for it in ("get endpoints --with-defaults", "get /healthz", "get pods/log", "'*' '*'", "delete deployments.apps")],
+    Case("who before --questions lines --strict", 1, MEANT, None, files={"lines": "# two\nget secret shop\nlist secret *\n"}),
+    Case("audit --manifests before asked --strict", 1, "no rule names the resource widgets\nno binding names the user anne; did you mean ann?\nno binding names the service account till", "denied\nallowed group system:masters\ndenied\n",
+         files={"asked": "".join(json.dumps(it) + "\n" for it in ASKED)}),
+    Case("who none get secrets --with-defaults", 0, NONE, None),
+    Case("who roles --questions crlf --with readers", 0, "", re.compile("(line [12]: .*\n.*\n(Group .*\n){2}User ann .*\n){2}"), files={"crlf": "get secrets shop\r\nget secrets shop anything\r\n"}),
+    Case("serve --manifests roles --load readers 8001=ann", 2, "error: --load FILE, or --manifests FILE and --with-defaults, and not both\n\n" + MORE.format("serve"), ""),
+    Case("serve --namespace shop 8001=ann", 2, "error: --namespace is for --manifests\n\n" + MORE.format("serve"), ""),
+    Case("serve --manifests policy 8001=ann", 1, "policy:1: kind 'NetworkPolicy' of apiVersion 'networking.k8s.io/v1' is not served; docs/PROFILE.md names those that are", "", files={"policy": lines(OTHERS[0])}),
+    Case("serve --manifests bare 8001=ann", 1, "bare:1: " + HOMELESS.format("Role", "reader") + "\nbare:2: " + HOMELESS.format("RoleBinding", "readers"), ""),
+]
+
 
 def in_folder(program, room):
     """A folder is its files of JSON, in the order of their names, and one of YAML among them is refused; other files are left alone."""
@@ -165,6 +208,40 @@ def in_folder(program, room):
     (folder / "c.yml").unlink()
     (folder / "d.json").write_text("{")
     yield fault(program, Case("who rbac/ get secrets", 1, f"rbac/d.json:1: {OPEN}", ""), room)
+
+
+def as_shipped(program, room):
+    """A folder as projects ship it loads by one command: lists, several documents, other kinds, objects without a namespace, bindings before their roles, CRLF, and a byte order mark."""
+    folder = room / "shipped"
+    folder.mkdir()
+    bare = {**READERS, "metadata": {"name": "readers"}}
+    for name, text in {
+        "10-bindings.json": pretty(listed(bare, *OTHERS[:1])).replace("\n", "\r\n"),
+        "20-roles.json": "\ufeff" + pretty({**READER, "metadata": {"name": "reader"}}) + pretty(SEER),
+        "30-crd.json": pretty(OTHERS[3]) + pretty(OTHERS[4]),
+        "40-more.jsonl": "# bindings of everybody\n" + lines(SEERS),
+    }.items():
+        (folder / name).write_text(text, newline="")
+    told = "skipped: 1 ConfigMap, 1 CustomResourceDefinition, 1 NetworkPolicy"
+    yield fault(program, Case("who shipped get secrets --namespace shop --strict", 0, told, table(EVERY, ADMIN, ANN)), room)
+    yield fault(program, Case("compare shipped shipped --namespace shop --strict", 0, re.compile(f"({told}\n){{2}}(shipped: roles: 2, bindings: 2\n?){{2}}"), "Nobody gains.\n"), room)
+
+
+def pull_request(program, room):
+    """The recipe of docs/COMPARE.md finds what a pull request of YAML gives everybody."""
+    if importlib.util.find_spec("yaml") is None:
+        return
+    import yaml
+
+    everybody = thing("ClusterRoleBinding", "everybody", **bound("ClusterRole", "cluster-admin", "system:authenticated", "Group"))
+    for name, objects in {"base": [READER, READERS], "head": [READER, READERS, everybody]}.items():
+        (room / name).mkdir()
+        (room / name / "rbac.yaml").write_text(yaml.safe_dump_all(objects))
+        made = subprocess.run([sys.executable, pathlib.Path(__file__).parent.parent / "tools/policy.py", name], cwd=room, capture_output=True, text=True)
+        yield made.stderr
+        (room / f"{name}.jsonl").write_text(made.stdout)
+    yield fault(program, Case("compare --strict base.jsonl head.jsonl", 3, None, re.compile('SUBJECT.*\nGroup system:authenticated .*\n(.*\n)*')), room)
+    yield fault(program, Case("compare --strict base head", 1, re.compile("base/rbac.yaml:1: it begins like YAML.*\nhead/rbac.yaml:1: it begins like YAML.*"), ""), room)
 
 
 def of_yaml(program, room):
@@ -183,8 +260,9 @@ def main(program):
     program, wrong, count = str(pathlib.Path(program).resolve()), 0, 0
     with tempfile.TemporaryDirectory() as folder:
         room = pathlib.Path(folder)
-        found = [(case.words, fault(program, case, room)) for case in [*FORMS, *DUMPS, *FAULTS, *COMPARED]]
+        found = [(case.words, fault(program, case, room)) for case in [*FORMS, *DUMPS, *FAULTS, *COMPARED, *TOGETHER]]
         found += [("a folder", it) for it in in_folder(program, room)] + [("YAML", it) for it in of_yaml(program, room)]
+        found += [("a folder as shipped", it) for it in as_shipped(program, room)] + [("a pull request", it) for it in pull_request(program, room)]
         for words, what in found:
             count += 1
             if what:

@@ -188,7 +188,7 @@ FORMLESS = {
     f"{ASKED}list": BEGINS,
     f"{ASKED}HEAD /healthz": BEGINS,
     "begin 2": BEGINS,
-    "as a,": NO_NAME,
+    **{f"as {it}": "a user or group is empty, or begins or ends with white space" for it in ("a,", "a, b", " a", "a\t,b", "a\r")},
     "as \xff": "a name is no UTF-8",
     "as": "an identity is wanted: as USER or as USER,GROUP,..",
     "load": "a file is wanted: load FILE",
@@ -215,7 +215,7 @@ OBJECTS = (
 
 def tells(lines, what, reason, **files):
     """A transcript of these lines tells what is wrong with the last of them, and why."""
-    told = f"transcript:{len(lines.splitlines())}: {what}\n  {reason}\ntranscript: 0 answers, 1 not as wanted\n"
+    told = f"transcript:{len(lines.splitlines())}: {what}\n  {reason}\ntranscript: 0 checks, 1 not as wanted\n"
     return Case("replay transcript", 1, told=told, files={"transcript": lines + "\n", **files})
 
 
@@ -225,15 +225,15 @@ def differs(lines, at):
 
 
 REPLAYS = [
-    Case("replay support.txt", 0, told="support.txt: 12 answers\n", folder="replay"),
+    Case("replay support.txt", 0, told="support.txt: 12 checks\n", folder="replay"),
     *[differs(*it) for it in DIFFERENT.items()],
     *[tells(lines, "no known form", reason) for lines, reason in FORMLESS.items()],
     *[tells("# a case\nload objects", what, reason, objects=objects) for objects, what, reason in OBJECTS],
     Case("replay transcript", 1, files={"transcript": "as a\nbegin\n= 200\n"},
-         told="transcript:3\n  asked  nothing: no request or event comes before it in its case\n  wanted = 200\n  got    \ntranscript: 1 answers, 1 not as wanted\n"),
+         told="transcript:3\n  asked  nothing: no request or event comes before it in its case\n  wanted = 200\n  got    \ntranscript: 1 checks, 1 not as wanted\n"),
     Case("replay second first", 1, files={"first": "as a\nGET /healthz\n= 200\n", "second": "as a\nGET /healthz\n= 403\n"}),
-    Case("replay second second", 0, told="second: 1 answers\n" * 2),
-    Case("replay --write first", 1, told=re.compile("[^\n]*\n[^\n]*\n> out HTTP[^\n]*403.*", re.S)),
+    Case("replay second second", 0, told="second: 1 checks\n" * 2),
+    Case("replay --write first", 1, told="as a\nGET /healthz\n= 403\n"),
     Case("replay none", 1, "none: there is no such file"),
 ]
 

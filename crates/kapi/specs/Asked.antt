@@ -1,5 +1,5 @@
 -- What the words of a command line ask for.
-use Rattle.std.specs.Prelude.{◌≡◌, ◌⊎◌, ℕ, ◌==◌, ◌||◌, not, if◌then◌else◌, Bool, true, false, List, [], length, codes, map, string_bytes, Option, Some, None, option_map, is_some, unwrap_or, Result, Ok, Err}
+use Rattle.std.specs.Prelude.{◌≡◌, ◌⊎◌, ℕ, ◌==◌, ◌&&◌, ◌||◌, not, if◌then◌else◌, Bool, true, false, List, [], length, codes, map, string_bytes, Option, Some, None, option_map, is_some, unwrap_or, Result, Ok, Err}
 use Rattle.std.specs.List.{list_any}
 use Rattle.std.specs.Str.{bytes_eq}
 use Rattle.clap.specs.Kinds.{IsAmong}
@@ -21,38 +21,51 @@ use Rattle.kapi.specs.declared.program.WhoWanted.{WhoWanted}
 use Rattle.kapi.specs.declared.program.WhoWords.{WhoWords}
 use Rattle.kapi.specs.declared.program.CommandFault.TheVariants as fault
 use Rattle.kapi.specs.declared.program.Listen.{Listen}
+use Rattle.kapi.specs.declared.program.Reading.{Reading}
 use Rattle.kapi.specs.declared.program.ReplayOptions.{ReplayOptions}
 use Rattle.kapi.specs.declared.program.ServeOptions.{ServeOptions}
 
--- the files of an audit, by their names, and how many threads answer
+-- how the files of a policy are read as manifests: files that are read as one with it, whether the default roles stand
+-- beneath, the namespace of objects that name none, and whether a doubt ends with status 1
+pub record Manifests : Type 0 where
+  pub with : List Text
+  pub defaults : Bool
+  pub namespace : Text
+  pub strict : Bool
+
+-- the files of an audit, by their names, how the policy is read where it is manifests, and how many threads answer
 pub record Files : Type 0 where
   pub policy : Text
   pub questions : Text
+  pub manifests : Option Manifests
   pub readers : ℕ
 
--- the file that a server loads, the revision after which its own begin (none: the clock gives it), whether the rights
--- of watches are rechecked, the ports that it serves, the port on which questions are answered, and by how many threads
+-- the file that a server loads, or the manifests in its place, the revision after which its own begin (none: the clock gives it), whether the rights
+-- of watches are rechecked, the ports that it serves, the port on which questions are answered, by how many threads, and
+-- whether that number is given without the port
 pub record Options : Type 0 where
   pub load : Option Text
+  pub manifests : Option Manifests
   pub first : Option ℕ
   pub recheck : Bool
   pub listens : List Listen
   pub answer : Option ℕ
   pub readers : ℕ
+  pub idle_readers : Bool
 
--- the transcripts that are played, by their names, and whether they are written
+-- the transcripts that are played, by their names, whether they are written, and the file that the outcomes are written to
 pub record Transcripts : Type 0 where
   pub files : List Text
   pub write : Bool
+  pub junit : Option Text
 
 -- the policies that are compared, by the names of their files, whether for identities with their usual groups, and whether JSON is printed
 pub record Policies : Type 0 where
   pub before : Text
   pub after : Text
-  pub namespace : Text
+  pub reading : Manifests
   pub usual_groups : Bool
   pub json : Bool
-  pub strict : Bool
 
 -- the words of a question; the namespace and the name are empty where they are left out
 pub record QuestionWords : Type 0 where
@@ -70,15 +83,14 @@ pub data Question : Type 0 where
 pub record Who : Type 0 where
   pub policy : Text
   pub question : Question
+  pub reading : Manifests
   pub json : Bool
-  pub strict : Bool
 
 -- the policy that is asked who may gain more than it grants, by the name of its file, and whether JSON is printed
 pub record Risks : Type 0 where
   pub policy : Text
-  pub namespace : Text
+  pub reading : Manifests
   pub json : Bool
-  pub strict : Bool
 
 -- one of the programs with its arguments, or a text of that kind
 pub data Asked : Type 0 where
@@ -93,9 +105,53 @@ pub data Asked : Type 0 where
 
 -- ---- of the matches behind a subcommand
 
--- the number of readers, 1 to 16
+-- a flag that is given has the value true
+abbrev pub is_true : Option Text → Bool
+is_true None = false
+is_true (Some value) = bytes_eq value (codes "true")
+
+-- how manifests are read, with the files that the option of that name names
+abbrev pub reading_by : Text → List Row → Manifests
+reading_by files rows = record {
+  with = unwrap_or (all_of files rows) [];
+  defaults = is_true (first_of (codes "with-defaults") rows);
+  namespace = unwrap_or (first_of (codes "namespace") rows) [];
+  strict = is_true (first_of (codes "strict") rows);
+}
+
+-- some word says how manifests are read
+abbrev pub has_reading : List Row → Bool
+has_reading rows =
+    is_some (first_of (codes "with") rows) || (is_true (first_of (codes "with-defaults") rows)
+    || (is_some (first_of (codes "namespace") rows) || is_true (first_of (codes "strict") rows)))
+
+-- how the manifests of an audit are read; none where its policy is lines, for which no word says how to read them
+abbrev pub audited_in : List Row → Option (Option Manifests)
+audited_in rows =
+    if is_true (first_of (codes "manifests") rows) then Some (Some (reading_by (codes "with") rows))
+    else (if has_reading rows then None else Some None)
+
+-- a server begins with manifests, or with the default roles
+abbrev pub has_manifests : List Row → Bool
+has_manifests rows = is_some (first_of (codes "manifests") rows) || is_true (first_of (codes "with-defaults") rows)
+
+-- how the manifests of a server are read, which stand in place of a file of lines; a namespace is theirs alone
+abbrev pub served_in : List Row → Option (Option Manifests)
+served_in rows =
+    if has_manifests rows then (if is_some (first_of (codes "load") rows) then None else Some (Some (reading_by (codes "manifests") rows)))
+    else (if is_some (first_of (codes "namespace") rows) then None else Some None)
+
+-- the number of readers, 1 to 16; 2 where it is left out
+abbrev pub readers_or_two : Option Text → Option ℕ
+readers_or_two None = Some 2
+readers_or_two (Some digits) = readers_of digits
+
 abbrev pub readers_in : List Row → Option ℕ
-readers_in rows = first_of (codes "readers") rows >>= readers_of
+readers_in rows = readers_or_two (first_of (codes "readers") rows)
+
+-- a number of readers is specified, and no port on which they would answer
+abbrev pub are_idle : List Row → Bool
+are_idle rows = is_some (first_of (codes "readers") rows) && not (is_some (first_of (codes "answer") rows))
 
 -- the audit that parsed rows ask for
 abbrev pub files_in : List Row → Option Files
@@ -103,7 +159,8 @@ files_in rows = do
   policy ← first_of (codes "POLICY") rows
   questions ← first_of (codes "QUESTIONS") rows
   readers ← readers_in rows
-  Some (record { policy = policy; questions = questions; readers = readers })
+  manifests ← audited_in rows
+  Some (record { policy = policy; questions = questions; manifests = manifests; readers = readers })
 
 -- the port for questions, where one is named; nothing where the word is no port
 abbrev pub answer_of : Option Text → Option (Option ℕ)
@@ -119,13 +176,8 @@ first_of_word (Some word) = if bytes_eq word (codes "clock") then Some None else
 abbrev pub listens_in : List Row → Option (List Listen)
 listens_in rows = do
   words ← all_of (codes "LISTEN") rows
-  listens ← listens_of words
+  listens ← listens_of (is_true (first_of (codes "free-ports") rows)) words
   few listens
-
--- a flag that is given has the value true
-abbrev pub is_true : Option Text → Bool
-is_true None = false
-is_true (Some value) = bytes_eq value (codes "true")
 
 -- the server that parsed rows ask for
 abbrev pub options_in : List Row → Option Options
@@ -134,33 +186,42 @@ options_in rows = do
   readers ← readers_in rows
   first ← first_of_word (first_of (codes "first-revision") rows)
   listens ← listens_in rows
+  manifests ← served_in rows
   Some (record {
     load = first_of (codes "load") rows;
+    manifests = manifests;
     first = first;
     recheck = is_true (first_of (codes "recheck-watches") rows);
     listens = listens;
     answer = answer;
     readers = readers;
+    idle_readers = are_idle rows;
   })
 
 -- the transcripts that parsed rows ask for
 abbrev pub transcripts_in : List Row → Option Transcripts
 transcripts_in rows = do
   files ← all_of (codes "FILE") rows
-  Some (record { files = files; write = is_true (first_of (codes "write") rows) })
+  Some (record { files = files; write = is_true (first_of (codes "write") rows); junit = first_of (codes "junit") rows })
 
 -- the comparison that parsed rows ask for
 abbrev pub compare_in : List Row → Option Policies
 compare_in rows = do
   before ← first_of (codes "BEFORE") rows
   after ← first_of (codes "AFTER") rows
-  Some (record { before = before; after = after; namespace = unwrap_or (first_of (codes "namespace") rows) []; usual_groups = is_true (first_of (codes "usual-groups") rows); json = is_true (first_of (codes "json") rows); strict = is_true (first_of (codes "strict") rows) })
+  Some (record {
+    before = before;
+    after = after;
+    reading = reading_by (codes "with") rows;
+    usual_groups = is_true (first_of (codes "usual-groups") rows);
+    json = is_true (first_of (codes "json") rows);
+  })
 
 -- the risks that parsed rows ask for
 abbrev pub risks_in : List Row → Option Risks
 risks_in rows = do
   policy ← first_of (codes "POLICY") rows
-  Some (record { policy = policy; namespace = unwrap_or (first_of (codes "namespace") rows) []; json = is_true (first_of (codes "json") rows); strict = is_true (first_of (codes "strict") rows) })
+  Some (record { policy = policy; reading = reading_by (codes "with") rows; json = is_true (first_of (codes "json") rows) })
 
 -- the question that parsed rows specify in words
 abbrev pub wanted_in : List Row → Option QuestionWords
@@ -196,7 +257,7 @@ abbrev pub who_in : List Row → Option Who
 who_in rows = do
   policy ← first_of (codes "POLICY") rows
   question ← question_in rows
-  Some (record { policy = policy; question = question; json = is_true (first_of (codes "json") rows); strict = is_true (first_of (codes "strict") rows) })
+  Some (record { policy = policy; question = question; reading = reading_by (codes "with") rows; json = is_true (first_of (codes "json") rows) })
 
 -- what the subcommand of that name asks for
 abbrev pub asked_by : Text → List Row → Option Asked
@@ -233,32 +294,44 @@ AreWrong words =
 
 -- ---- what a command is
 
+-- how manifests are read, as data
+abbrev pub reading_told : Reading → Manifests
+reading_told r = record { with = map string_bytes r.with.items; defaults = r.defaults; namespace = string_bytes r.namespace; strict = r.strict }
+
 -- an audit's files and readers, as data
 abbrev pub files_told : AuditFiles → Files
-files_told f = record { policy = string_bytes f.policy; questions = string_bytes f.questions; readers = f.readers }
+files_told f = record { policy = string_bytes f.policy; questions = string_bytes f.questions; manifests = option_map reading_told f.manifests; readers = f.readers }
 
 -- a server's options, as data
 abbrev pub options_told : ServeOptions → Options
 options_told o = record {
   load = option_map (λ s. string_bytes s) o.load;
+  manifests = option_map reading_told o.manifests;
   first = o.first_revision;
   recheck = o.recheck;
   listens = o.listens.items;
   answer = o.answer;
   readers = o.readers;
+  idle_readers = o.idle_readers;
 }
 
 -- a replay's transcripts, as data
 abbrev pub transcripts_told : ReplayOptions → Transcripts
-transcripts_told o = record { files = map string_bytes o.files.items; write = o.write }
+transcripts_told o = record { files = map string_bytes o.files.items; write = o.write; junit = option_map (λ s. string_bytes s) o.junit }
 
 -- a comparison's policies, as data
 abbrev pub compare_told : CompareFiles → Policies
-compare_told f = record { before = string_bytes f.before; after = string_bytes f.after; namespace = string_bytes f.namespace; usual_groups = f.usual_groups; json = f.json; strict = f.strict }
+compare_told f = record {
+  before = string_bytes f.before;
+  after = string_bytes f.after;
+  reading = reading_told f.reading;
+  usual_groups = f.usual_groups;
+  json = f.json;
+}
 
 -- the policy whose risks are asked for, as data
 abbrev pub risks_told : RisksFile → Risks
-risks_told f = record { policy = string_bytes f.policy; namespace = string_bytes f.namespace; json = f.json; strict = f.strict }
+risks_told f = record { policy = string_bytes f.policy; reading = reading_told f.reading; json = f.json }
 
 -- the words of a question, as data
 abbrev pub wanted_told : WhoWanted → QuestionWords
@@ -276,7 +349,7 @@ question_told (who_question.File f) = File (string_bytes f)
 
 -- a question and its policy, as data
 abbrev pub who_told : WhoWords → Who
-who_told w = record { policy = string_bytes w.policy; question = question_told w.question; json = w.json; strict = w.strict }
+who_told w = record { policy = string_bytes w.policy; question = question_told w.question; reading = reading_told w.reading; json = w.json }
 
 -- a command, as data
 abbrev pub told : Command → Asked

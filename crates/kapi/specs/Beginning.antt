@@ -1,9 +1,13 @@
 -- The machine that a server begins with.
-use Rattle.std.specs.Prelude.{◌≡◌, ℕ, List, Option, Some, None, Result, Ok, Err}
+use Rattle.std.specs.Prelude.{◌≡◌, ℕ, Option, Some, None, Result, Ok, Err}
 use Rattle.kapi.specs.Numbers.{clock_revision}
 use Rattle.kapi.specs.declared.beginning.BeginError.{BeginError}
 use Rattle.kapi.specs.declared.beginning.BeginError.TheVariants as error
-use Rattle.kapi_loading.specs.Loading.{machine_from}
+use Rattle.kapi.specs.declared.beginning.Objects.{Objects}
+use Rattle.kapi.specs.declared.beginning.Objects.TheVariants as objects
+use Rattle.kapi_core.specs.Machine.{Machine}
+use Rattle.kapi_loading.specs.Faults.{FileFault}
+use Rattle.kapi_loading.specs.Loading.{machine_alone, machine_from}
 use Rattle.kapi_loading.specs.Starting.{Starts}
 use Rattle.kapi_loading.specs.declared.starting.Started.{Started}
 
@@ -12,9 +16,14 @@ abbrev pub first_given : Option ℕ → ℕ → Option ℕ
 first_given (Some first) seconds = Some first
 first_given None seconds = clock_revision seconds
 
--- the machine that a file makes behind that revision, or why none is; where there is no such revision, just the absence
-abbrev pub Begins : Result Started BeginError → Option ℕ → List ℕ → Type 0
-Begins (Ok s) (Some first) objects = Starts (Ok s) (machine_from first objects)
-Begins (Err (error.Start e)) (Some first) objects = Starts (Err e) (machine_from first objects)
-Begins (Err error.Clock) (Some first) objects = ⊥
-Begins result None objects = result ≡ Err error.Clock
+-- the machine that objects make beside those that every server begins with, or in their place
+abbrev pub machine_with : ℕ → Objects → Result Machine FileFault
+machine_with first (objects.Lines lines) = machine_from first lines.now
+machine_with first (objects.Alone lines) = machine_alone first lines.now
+
+-- the machine behind that revision, or why none is; where there is no such revision, just the absence
+abbrev pub Begins : Result Started BeginError → Option ℕ → (ℕ → Result Machine FileFault) → Type 0
+Begins (Ok s) (Some first) machine = Starts (Ok s) (machine first)
+Begins (Err (error.Start e)) (Some first) machine = Starts (Err e) (machine first)
+Begins (Err error.Clock) (Some first) machine = ⊥
+Begins result None machine = result ≡ Err error.Clock

@@ -2,7 +2,7 @@
 use Rattle.std.specs.Prelude.{Some, [], ◌∷◌, codes, true}
 use Rattle.clap.specs.Words.{App, Rule, Text, new_app, new_rule, with_rule, with_subcommand}
 use Rattle.clap.specs.Simple.{on_top}
-use Rattle.clap.specs.declared.builder.action.ArgAction.TheVariants.{SetTrue}
+use Rattle.clap.specs.declared.builder.action.ArgAction.TheVariants.{Append, SetTrue}
 
 -- a file that must be named
 abbrev pub file : Text → Rule
@@ -12,9 +12,13 @@ file name = record (new_rule name) { required = true }
 abbrev pub option : Text → Rule
 option name = record (new_rule name) { long = Some name; value_names = 1 }
 
--- `--readers N`, where N is 2 where it is left out
+-- `--NAME VALUE`, which may be given again and again
+abbrev pub files : Text → Rule
+files name = record (option name) { action = Some Append }
+
+-- `--readers N`
 abbrev pub readers : Rule
-readers = record (option (codes "readers")) { defaults = codes "2" ∷ [] }
+readers = option (codes "readers")
 
 -- the words of the ports, 1 to 16
 abbrev pub listen : Rule
@@ -28,13 +32,37 @@ listen = record (new_rule (codes "LISTEN")) {
 abbrev pub script : App
 script = new_app (codes "script")
 
--- `kapi audit`, its files before its option
-abbrev pub audit : App
-audit = with_rule (with_rule (with_rule (new_app (codes "audit")) (file (codes "POLICY"))) (file (codes "QUESTIONS"))) readers
-
 -- `--NAME`, which has no value
 abbrev pub flag : Text → Rule
 flag name = record (new_rule name) { long = Some name; action = Some SetTrue }
+
+-- `--strict`
+abbrev pub strict : Rule
+strict = flag (codes "strict")
+
+-- a program that reads the files of a policy besides those that it names
+abbrev pub beside : Text → App
+beside name = with_rule (with_rule (new_app name) (files (codes "with"))) (flag (codes "with-defaults"))
+
+-- a program that reads a policy as manifests
+abbrev pub reading : Text → App
+reading name = with_rule (with_rule (beside name) (option (codes "namespace"))) strict
+
+-- `kapi audit` with its files
+abbrev pub audited : App
+audited = with_rule (with_rule (reading (codes "audit")) (file (codes "POLICY"))) (file (codes "QUESTIONS"))
+
+-- `kapi audit`, its files before its options
+abbrev pub audit : App
+audit = with_rule (with_rule audited readers) (flag (codes "manifests"))
+
+-- `kapi serve` with the manifests that it begins with
+abbrev pub served : App
+served = with_rule (with_rule (new_app (codes "serve")) (files (codes "manifests"))) (flag (codes "with-defaults"))
+
+-- `kapi serve` with the options that say more of these, and of its ports
+abbrev pub opened : App
+opened = with_rule (with_rule served (option (codes "namespace"))) (flag (codes "free-ports"))
 
 -- `kapi serve`, its options before its ports
 abbrev pub serve : App
@@ -42,7 +70,7 @@ serve =
     with_rule
     (with_rule
     (with_rule
-    (with_rule (with_rule (with_rule (new_app (codes "serve")) (option (codes "load"))) (option (codes "first-revision"))) (flag (codes "recheck-watches")))
+    (with_rule (with_rule (with_rule opened (option (codes "load"))) (option (codes "first-revision"))) (flag (codes "recheck-watches")))
     (option (codes "answer")))
     readers)
     listen
@@ -54,9 +82,9 @@ transcripts = record (new_rule (codes "FILE")) {
   range = Some (record { start_inclusive = 1; end_inclusive = 18446744073709551615 });
 }
 
--- `kapi replay`, its flag before its files
+-- `kapi replay`, its options before its files
 abbrev pub replay : App
-replay = with_rule (with_rule (new_app (codes "replay")) (flag (codes "write"))) transcripts
+replay = with_rule (with_rule (with_rule (new_app (codes "replay")) (flag (codes "write"))) (option (codes "junit"))) transcripts
 
 -- a word that may be left out
 abbrev pub word : Text → Rule
@@ -66,37 +94,29 @@ word name = new_rule name
 abbrev pub json : Rule
 json = flag (codes "json")
 
--- `--strict`
-abbrev pub strict : Rule
-strict = flag (codes "strict")
-
--- a program that asks about policies, with the flags that all of these have
+-- a program that asks about policies
 abbrev pub asking : Text → App
-asking name = with_rule (with_rule (new_app name) json) strict
+asking name = with_rule (reading name) json
 
 -- the options of `kapi compare`
 abbrev pub compare_options : App
-compare_options = with_rule (with_rule (asking (codes "compare")) (flag (codes "usual-groups"))) (option (codes "namespace"))
+compare_options = with_rule (asking (codes "compare")) (flag (codes "usual-groups"))
 
 -- `kapi compare`, its flags before its files
 abbrev pub compare : App
 compare = with_rule (with_rule compare_options (file (codes "BEFORE"))) (file (codes "AFTER"))
 
--- how and where `kapi who` asks
-abbrev pub who_flags : App
-who_flags = with_rule (with_rule (asking (codes "who")) (option (codes "namespace"))) (option (codes "name"))
-
--- the options of `kapi who`, and its file behind them
+-- the options of `kapi who`
 abbrev pub who_options : App
-who_options = with_rule (with_rule who_flags (option (codes "questions"))) (file (codes "POLICY"))
+who_options = with_rule (with_rule (asking (codes "who")) (option (codes "name"))) (option (codes "questions"))
 
 -- `kapi who`, its words behind its file
 abbrev pub who : App
-who = with_rule (with_rule who_options (word (codes "VERB"))) (word (codes "RESOURCE"))
+who = with_rule (with_rule (with_rule who_options (file (codes "POLICY"))) (word (codes "VERB"))) (word (codes "RESOURCE"))
 
 -- `kapi risks`, its options before its file
 abbrev pub risks : App
-risks = with_rule (with_rule (asking (codes "risks")) (option (codes "namespace"))) (file (codes "POLICY"))
+risks = with_rule (asking (codes "risks")) (file (codes "POLICY"))
 
 -- the subcommands that run a machine
 abbrev pub machines : App

@@ -1,5 +1,5 @@
 -- How a program ends, and the exit status that tells so.
-use Rattle.std.specs.Prelude.{ℕ, Bool, true, false, Result, Ok, Err}
+use Rattle.std.specs.Prelude.{ℕ, Bool, true, false}
 use Rattle.kapi.specs.declared.ending.Ending.{Ending}
 use Rattle.kapi.specs.declared.ending.Ending.TheVariants as ending
 
@@ -20,7 +20,6 @@ compared_as true = ending.Gains
 compared_as false = ending.Done
 
 -- transcripts that were played end by whether every answer is as wanted
-abbrev pub played_as : {E : Type 0} → Result Bool E → Ending
-played_as (Ok true) = ending.Done
-played_as (Ok false) = ending.Differs
-played_as (Err e) = ending.Stopped
+abbrev pub played_as : Bool → Ending
+played_as true = ending.Done
+played_as false = ending.Differs

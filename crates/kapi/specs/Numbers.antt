@@ -1,5 +1,5 @@
 -- The numbers that words of a command line specify.
-use Rattle.std.specs.Prelude.{ℕ, ◌*◌, ◌&&◌, nat_le, if◌then◌else◌, List, length, Option, Some, None}
+use Rattle.std.specs.Prelude.{ℕ, Bool, ◌*◌, ◌&&◌, nat_le, if◌then◌else◌, List, length, Option, Some, None}
 use Rattle.std.specs.Char.{is_ascii_digit}
 use Rattle.std.specs.List.{list_all}
 use Rattle.std.specs.Str.Parse.{digits_value}
@@ -14,6 +14,10 @@ number_of places least largest s =
 -- a port, from 1 to 65,535
 abbrev pub port_of : List ℕ → Option ℕ
 port_of s = number_of 5 1 65535 s
+
+-- a port that is listened on, from 1 to 65,535, or 0 for a free one where these are taken
+abbrev pub listening_port_of : Bool → List ℕ → Option ℕ
+listening_port_of free s = number_of 5 (if free then 0 else 1) 65535 s
 
 -- a number of readers, from 1 to 16
 abbrev pub readers_of : List ℕ → Option ℕ

@@ -2,7 +2,7 @@ ghost use Rattle.std.specs.Prelude.{◌≡◌, IfOk, codes, false};
 ghost use Rattle.clap.specs.Simple.{app_of, new_app};
 ghost use Rattle.clap.specs.Walk.{rule_of};
 ghost use Rattle.clap.specs.declared.builder.command.Command.TheViews.{out-Command};
-ghost use Rattle.kapi.specs.CommandLine.{kapi, asking as asking_app, audit as audit_app, compare as compare_app, compare_options as compare_options_app, replay as replay_app, risks as risks_app, serve as serve_app, script as script_app, who as who_app, who_flags as who_flags_app, who_options as who_options_app, word as word_rule, file as file_rule, json as json_rule, strict as strict_rule, machines as machines_app, option as option_rule, readers as readers_rule, listen as listen_rule, transcripts as transcripts_rule, flag as flag_rule};
+ghost use Rattle.kapi.specs.CommandLine.{kapi, asking as asking_app, audit as audit_app, audited as audited_app, beside as beside_app, compare as compare_app, compare_options as compare_options_app, opened as opened_app, reading as reading_app, replay as replay_app, risks as risks_app, serve as serve_app, served as served_app, script as script_app, who as who_app, who_options as who_options_app, word as word_rule, file as file_rule, files as files_rule, json as json_rule, strict as strict_rule, machines as machines_app, option as option_rule, readers as readers_rule, listen as listen_rule, transcripts as transcripts_rule, flag as flag_rule};
 
 use crate::command_line::PORTS;
 use clap::{Arg, ArgAction, Command};
@@ -92,12 +92,55 @@ docs/AUDIT.md tells how to take a policy out of a cluster."#;
 fn audit<'a>(alloc: Global) -> Result<Command<'a>, Memory>
     ensures { IfOk result (λ c. (app_of c ≡ audit_app) × ((out-Command c).has_globals ≡ false)) }
 {
-    Command::new(alloc, "audit")
-        .about("Answers the questions of a file by the roles and bindings of another")
-        .after_help(AUDIT_FORMS)
+    audited(alloc)?.arg(readers(alloc))?.arg(flag(
+        alloc,
+        "manifests",
+        "POLICY is manifests, in any order, and not lines",
+    ))
+}
+
+/// `kapi audit` with its files.
+fn audited<'a>(alloc: Global) -> Result<Command<'a>, Memory>
+    ensures { IfOk result (λ c. (app_of c ≡ audited_app) × ((out-Command c).has_globals ≡ false)) }
+{
+    let about = "Answers the questions of a file by the roles and bindings of another";
+    reading(alloc, "audit", about, AUDIT_FORMS)?
         .arg(file(alloc, "POLICY", "The objects of the policy"))?
-        .arg(file(alloc, "QUESTIONS", "The questions"))?
-        .arg(readers(alloc))
+        .arg(file(alloc, "QUESTIONS", "The questions"))
+}
+
+/// A program that reads the files of a policy besides those that it names.
+fn beside<'a>(
+    alloc: Global,
+    name: &'a str,
+    about: &'a str,
+    forms: &'a str,
+) -> Result<Command<'a>, Memory>
+    ensures { IfOk result (λ c. (app_of c ≡ beside_app name.entry.now) × ((out-Command c).has_globals ≡ false)) }
+{
+    Command::new(alloc, name)
+        .about(about)
+        .after_help(forms)
+        .arg(files(
+            alloc,
+            "with",
+            "A file or folder that is read as one with each policy; may be given again",
+        ))?
+        .arg(defaults(alloc))
+}
+
+/// A program that reads a policy as manifests.
+fn reading<'a>(
+    alloc: Global,
+    name: &'a str,
+    about: &'a str,
+    forms: &'a str,
+) -> Result<Command<'a>, Memory>
+    ensures { IfOk result (λ c. (app_of c ≡ reading_app name.entry.now) × ((out-Command c).has_globals ≡ false)) }
+{
+    beside(alloc, name, about, forms)?
+        .arg(home(alloc))?
+        .arg(strict(alloc))
 }
 
 /// What `kapi serve --help` shows below the arguments.
@@ -124,20 +167,36 @@ Example:
 
 The server prints a line for each port that it listens on. The last answer is a refusal, as ann has no role. docs/USING.md leads through a server with roles."#;
 
-/// `kapi serve` without its arguments.
-fn bare_serve<'a>(alloc: Global) -> Command<'a>
-    ensures app { app_of result ≡ new_app (codes "serve") }
-    ensures local { (out-Command result).has_globals ≡ false }
+/// `kapi serve` with the manifests that it begins with.
+fn served<'a>(alloc: Global) -> Result<Command<'a>, Memory>
+    ensures { IfOk result (λ c. (app_of c ≡ served_app) × ((out-Command c).has_globals ≡ false)) }
 {
     Command::new(alloc, "serve")
         .about("Serves requests on ports of this machine")
         .after_help(SERVE_FORMS)
+        .arg(files(
+            alloc,
+            "manifests",
+            "Manifests of the objects that stand at first, a file or folder; may be given again",
+        ))?
+        .arg(defaults(alloc))
+}
+
+/// `kapi serve` with the options that say more of these, and of its ports.
+fn opened<'a>(alloc: Global) -> Result<Command<'a>, Memory>
+    ensures { IfOk result (λ c. (app_of c ≡ opened_app) × ((out-Command c).has_globals ≡ false)) }
+{
+    served(alloc)?.arg(home(alloc))?.arg(flag(
+        alloc,
+        "free-ports",
+        "Takes a free port where PORT is 0, and prints it",
+    ))
 }
 
 fn serve<'a>(alloc: Global) -> Result<Command<'a>, Memory>
     ensures { IfOk result (λ c. (app_of c ≡ serve_app) × ((out-Command c).has_globals ≡ false)) }
 {
-    bare_serve(alloc)
+    opened(alloc)?
         .arg(option(alloc, "load", "FILE", "The objects that stand at first"))?
         .arg(option(
             alloc,
@@ -173,6 +232,7 @@ const REPLAY_FORMS: &str =
   turn                                   any line of kapi script
   > turn 8 monitoring                    the answer is exactly this line
   begin                                  a new machine; load FILE: one with the objects of a file, as of kapi serve --load
+  manifests FILE                         a new machine with the objects of manifests, as of kapi serve --manifests
   recheck                                rights of watches are looked at anew in this case, as of kapi serve --recheck-watches
 
 Example:
@@ -185,9 +245,9 @@ Example:
   kapi replay support.txt
 
 It prints
-  support.txt: 2 answers
+  support.txt: 2 checks
 
-Status 0 where every answer is as it is wanted, else 1. docs/REPLAY.md has every line."#;
+Status 0 where every answer is as it is wanted and there is one, else 1. A FILE is named from the transcript's folder. docs/REPLAY.md has every line."#;
 
 fn replay<'a>(alloc: Global) -> Result<Command<'a>, Memory>
     ensures { IfOk result (λ c. (app_of c ≡ replay_app) × ((out-Command c).has_globals ≡ false)) }
@@ -199,6 +259,12 @@ fn replay<'a>(alloc: Global) -> Result<Command<'a>, Memory>
             alloc,
             "write",
             "Prints the transcripts with the answers that came where others are wanted",
+        ))?
+        .arg(option(
+            alloc,
+            "junit",
+            "FILE",
+            "A file that the outcomes are written to as JUnit XML",
         ))?
         .arg(transcripts(alloc))
 }
@@ -233,7 +299,7 @@ fn compare<'a>(alloc: Global) -> Result<Command<'a>, Memory>
         .arg(file(alloc, "AFTER", "The objects of the policy that is to be"))
 }
 
-/// A program that asks about policies, with the flags that all of these have.
+/// A program that asks about policies.
 fn asking<'a>(
     alloc: Global,
     name: &'a str,
@@ -242,11 +308,7 @@ fn asking<'a>(
 ) -> Result<Command<'a>, Memory>
     ensures { IfOk result (λ c. (app_of c ≡ asking_app name.entry.now) × ((out-Command c).has_globals ≡ false)) }
 {
-    Command::new(alloc, name)
-        .about(about)
-        .after_help(forms)
-        .arg(json(alloc))?
-        .arg(strict(alloc))
+    reading(alloc, name, about, forms)?.arg(json(alloc))
 }
 
 /// `kapi compare` without its files.
@@ -254,13 +316,11 @@ fn compare_options<'a>(alloc: Global) -> Result<Command<'a>, Memory>
     ensures { IfOk result (λ c. (app_of c ≡ compare_options_app) × ((out-Command c).has_globals ≡ false)) }
 {
     let about = "Tells what a policy allows to whom that another did not";
-    asking(alloc, "compare", about, COMPARE_FORMS)?
-        .arg(flag(
-            alloc,
-            "usual-groups",
-            "Asks of each subject with the groups that authentication gives it",
-        ))?
-        .arg(home(alloc))
+    asking(alloc, "compare", about, COMPARE_FORMS)?.arg(flag(
+        alloc,
+        "usual-groups",
+        "Asks of each subject with the groups that authentication gives it",
+    ))
 }
 
 /// `--namespace NS`, of programs that read manifests.
@@ -272,7 +332,7 @@ fn home<'a>(alloc: Global) -> Arg<'a>
         alloc,
         "namespace",
         "NS",
-        "The namespace of objects that live in one and name none",
+        "The namespace of objects that live in one and name none; the one that kapi who asks about",
     )
 }
 
@@ -301,6 +361,7 @@ fn who<'a>(alloc: Global) -> Result<Command<'a>, Memory>
     ensures { IfOk result (λ c. (app_of c ≡ who_app) × ((out-Command c).has_globals ≡ false)) }
 {
     who_options(alloc)?
+        .arg(file(alloc, "POLICY", "The objects of the policy"))?
         .arg(word(alloc, "VERB", "The verb that is asked about, as get"))?
         .arg(word(
             alloc,
@@ -313,33 +374,19 @@ fn who<'a>(alloc: Global) -> Result<Command<'a>, Memory>
 fn who_options<'a>(alloc: Global) -> Result<Command<'a>, Memory>
     ensures { IfOk result (λ c. (app_of c ≡ who_options_app) × ((out-Command c).has_globals ≡ false)) }
 {
-    who_flags(alloc)?
-        .arg(option(
-            alloc,
-            "questions",
-            "FILE",
-            "Questions, in place of VERB and RESOURCE",
-        ))?
-        .arg(file(alloc, "POLICY", "The objects of the policy"))
-}
-
-/// `kapi who` with the flags that say how and where it asks.
-fn who_flags<'a>(alloc: Global) -> Result<Command<'a>, Memory>
-    ensures { IfOk result (λ c. (app_of c ≡ who_flags_app) × ((out-Command c).has_globals ≡ false)) }
-{
     let about = "Tells who may do something by a policy";
     asking(alloc, "who", about, WHO_FORMS)?
-        .arg(option(
-            alloc,
-            "namespace",
-            "NS",
-            "The namespace that is asked about, and that of objects that live in one and name none; all of them where it is left out",
-        ))?
         .arg(option(
             alloc,
             "name",
             "NAME",
             "The name of the object that is asked about",
+        ))?
+        .arg(option(
+            alloc,
+            "questions",
+            "FILE",
+            "Questions, in place of VERB and RESOURCE",
         ))
 }
 
@@ -366,9 +413,23 @@ fn risks<'a>(alloc: Global) -> Result<Command<'a>, Memory>
     ensures { IfOk result (λ c. (app_of c ≡ risks_app) × ((out-Command c).has_globals ≡ false)) }
 {
     let about = "Tells who may come to more than a policy gives";
-    asking(alloc, "risks", about, RISKS_FORMS)?
-        .arg(home(alloc))?
-        .arg(file(alloc, "POLICY", "The objects of the policy"))
+    asking(alloc, "risks", about, RISKS_FORMS)?.arg(file(
+        alloc,
+        "POLICY",
+        "The objects of the policy",
+    ))
+}
+
+/// `--with-defaults`, of programs that read manifests.
+fn defaults<'a>(alloc: Global) -> Arg<'a>
+    ensures rule { rule_of result ≡ flag_rule (codes "with-defaults") }
+    ensures local { result.global ≡ false }
+{
+    flag(
+        alloc,
+        "with-defaults",
+        "Puts Kubernetes' roles admin, edit and view beneath the files",
+    )
 }
 
 /// `--strict`, of programs that read manifests.
@@ -434,6 +495,14 @@ fn option<'a>(alloc: Global, name: &'a str, value: &'a str, help: &'a str) -> Ar
         .help(help)
 }
 
+/// `--NAME FILE`, which may be given again and again.
+fn files<'a>(alloc: Global, name: &'a str, help: &'a str) -> Arg<'a>
+    ensures rule { rule_of result ≡ files_rule name.entry.now }
+    ensures local { result.global ≡ false }
+{
+    option(alloc, name, "FILE", help).action(ArgAction::Append)
+}
+
 fn readers<'a>(alloc: Global) -> Arg<'a>
     ensures rule { rule_of result ≡ readers_rule }
     ensures local { result.global ≡ false }
@@ -442,9 +511,8 @@ fn readers<'a>(alloc: Global) -> Arg<'a>
         alloc,
         "readers",
         "N",
-        "How many threads answer, from 1 to 16",
+        "How many threads answer, from 1 to 16; 2 if it is left out",
     )
-    .default_value("2")
 }
 
 fn ports<'a>(alloc: Global) -> Arg<'a>

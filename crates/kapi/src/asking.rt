@@ -1,6 +1,7 @@
 //! Questions about the policies of files.
+use crate::doubts::{Doubts, EMPTY};
 use crate::ending::Ending;
-use crate::manifests::{Doubts, ReadPolicy, read_policy, tell_refused};
+use crate::manifests::{ReadPolicy, read_policy, tell_refused};
 use crate::policies::{
     Answered, Compared, FilesFault, compare_files, risks_file, who_file, who_wanted,
 };
@@ -25,9 +26,8 @@ struct Source<'a> {
 pub fn run_compare<
     R: Files + Input + Print + Eprint + AllocGlobal + Wait + Threads + Sync + Clone + Drop,
 >(rt: &R, files: &CompareFiles) -> io::Result<Ending> {
-    let namespace = files.namespace.as_str();
-    let before = read_policy(rt, files.before.as_str(), namespace)?;
-    let after = read_policy(rt, files.after.as_str(), namespace)?;
+    let before = read_policy(rt, files.before.as_str(), &files.reading)?;
+    let after = read_policy(rt, files.after.as_str(), &files.reading)?;
     let (Some(before), Some(after)) = (before, after) else {
         return Ok(Ending::Stopped);
     };
@@ -48,13 +48,13 @@ pub fn run_compare<
         after.lines(),
     );
     let ending = tell_compared(rt, files, &before, &after, compared)?;
-    Ok(ending.or_doubted(files.strict && doubts.are_some()))
+    Ok(ending.or_doubted(files.reading.strict && doubts.are_some()))
 }
 
 /// Reports how many roles and bindings a policy has, and whether it has any.
 fn tell_counts(rt: &impl Eprint, name: &str, policy: &ReadPolicy) -> io::Result<bool> {
     if !policy.has_policy() {
-        eprintln!(rt; "{name}: there is no role and no binding in it")?;
+        eprintln!(rt; "{name}: {EMPTY}")?;
         return Ok(false);
     }
     let roles = policy.prepared.roles;
@@ -97,15 +97,14 @@ pub fn run_who<R: Files + Input + Print + Eprint + AllocGlobal + Wait + Clone + 
 ) -> io::Result<Ending> {
     match &words.question {
         WhoQuestion::Words(wanted) => {
-            let Some(policy) = read_policy(rt, words.policy.as_str(), wanted.namespace.as_str())?
-            else {
+            let Some(policy) = read_policy(rt, words.policy.as_str(), &words.reading)? else {
                 return Ok(Ending::Stopped);
             };
             let asked = ask_words(rt, form(words.json), policy.lines(), wanted);
             tell_who(rt, words, &policy, &file_of("", b"".as_slice()), asked)
         }
         WhoQuestion::File(file) => {
-            let Some(policy) = read_policy(rt, words.policy.as_str(), "")? else {
+            let Some(policy) = read_policy(rt, words.policy.as_str(), &words.reading)? else {
                 return Ok(Ending::Stopped);
             };
             let Some(lines) = read_file(rt, file.as_str())? else {
@@ -146,11 +145,33 @@ fn tell_who<R: Print + Eprint + AllocGlobal>(
         Ok(answered) => {
             print(rt, answered.text.as_slice())?;
             tell_unsettled(rt, words.policy.as_str(), answered.settled)?;
-            let ending = tell_doubts(rt, policy, words.strict)?;
+            let ending = tell_who_doubts(rt, words, policy, questions)?;
             Ok(ending.or_unsettled(answered.settled))
         }
         Err(fault) => refuse(rt, fault, policy, questions),
     }
+}
+
+/// Reports the doubts about a question and its policy: status 1 if there is one and the words are strict.
+fn tell_who_doubts<R: Eprint + AllocGlobal>(
+    rt: &R,
+    words: &WhoWords,
+    policy: &ReadPolicy,
+    questions: &Source<'_>,
+) -> io::Result<Ending> {
+    let named = &policy.prepared.words;
+    let mut doubts = doubts_of(rt, words.policy.as_str(), policy)?;
+    match &words.question {
+        WhoQuestion::Words(wanted) => doubts.tell_question(
+            rt,
+            named,
+            wanted.verb.as_str(),
+            wanted.resource.as_str(),
+            wanted.namespace.as_str(),
+        )?,
+        WhoQuestion::File(_name) => doubts.tell_lines(rt, named, questions.bytes)?,
+    }
+    Ok(Ending::Done.or_doubted(words.reading.strict && doubts.are_some()))
 }
 
 /// Prints who may gain more than a policy grants: status 0, 4 if the roles are not settled, or 1 after a line on
@@ -159,28 +180,30 @@ pub fn run_risks<R: Files + Input + Print + Eprint + AllocGlobal + Wait + Clone 
     rt: &R,
     file: &RisksFile,
 ) -> io::Result<Ending> {
-    let Some(policy) = read_policy(rt, file.policy.as_str(), file.namespace.as_str())? else {
+    let Some(policy) = read_policy(rt, file.policy.as_str(), &file.reading)? else {
         return Ok(Ending::Stopped);
     };
     match risks_file(rt.alloc(), rt, form(file.json), policy.lines()) {
         Ok(answered) => {
             print(rt, answered.text.as_slice())?;
-            let ending = tell_doubts(rt, &policy, file.strict)?;
+            let doubts = doubts_of(rt, file.policy.as_str(), &policy)?;
+            let ending = Ending::Done.or_doubted(file.reading.strict && doubts.are_some());
             Ok(ending.or_unsettled(answered.settled))
         }
         Err(fault) => refuse(rt, fault, &policy, &file_of("", b"".as_slice())),
     }
 }
 
-/// Reports the doubts about a policy: status 1 where there is one and the words are strict.
-fn tell_doubts<R: Eprint + AllocGlobal>(
+/// Reports the doubts about a policy of that name.
+pub fn doubts_of<R: Eprint + AllocGlobal>(
     rt: &R,
+    name: &str,
     policy: &ReadPolicy,
-    strict: bool,
-) -> io::Result<Ending> {
+) -> io::Result<Doubts> {
     let mut doubts = Doubts::new(rt.alloc());
+    doubts.tell_empty(rt, name, policy)?;
     doubts.tell(rt, policy)?;
-    Ok(Ending::Done.or_doubted(strict && doubts.are_some()))
+    Ok(doubts)
 }
 
 fn file_of<'a>(name: &'a str, bytes: &'a [u8]) -> Source<'a> {

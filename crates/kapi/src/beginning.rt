@@ -1,9 +1,10 @@
 //! The machine that a server begins with.
 ghost use Rattle.std.specs.Prelude.{◌≡◌, ◌≤◌, [], IfOk, IfSome};
-ghost use Rattle.kapi.specs.Beginning.{Begins, first_given};
+ghost use Rattle.kapi.specs.Beginning.{Begins, first_given, machine_with};
+ghost use Rattle.kapi_loading.specs.Starting.{Starts};
 
 use crate::numbers::clock_revision;
-use kapi_loading::{StartError, Started, start};
+use kapi_loading::{StartError, Started, start, start_without_objects};
 use std::alloc::Global;
 use std::sync::Wait;
 use thiserror::Error;
@@ -29,27 +30,56 @@ pub fn first_of(first: Option<u64>, seconds: u64) -> Option<u64>
     }
 }
 
-/// The machine that a file of objects makes, whose revisions begin after `first`, or after the one that the clock gives
-/// so many seconds after the start of 1970.
+/// The objects that a server begins with, one a line.
+#[derive(Clone, Copy)]
+pub enum Objects<'a> {
+    /// Beside those that every server begins with.
+    Lines(&'a [u8]),
+    /// In their place.
+    Alone(&'a [u8]),
+}
+
+/// The machine that objects make, whose revisions begin after `first`, or after the one that the clock gives so many
+/// seconds after the start of 1970.
 pub fn begin<R: Wait>(
     alloc: Global,
     rt: &R,
-    objects: &[u8],
+    objects: Objects<'_>,
     first: Option<u64>,
     seconds: u64,
     seats: usize,
 ) -> Result<Started, BeginError>
     requires first { IfSome first (λ n. n ≤ 281474976710650) }
     requires seats { (1 ≤ seats) × (seats ≤ 16) }
-    ensures machine { Begins result (first_given first seconds) objects.now }
+    ensures machine { Begins result (first_given first seconds) (λ n. machine_with n objects.entry) }
     ensures unopened { IfOk result (λ s. s.core.next_id ≡ 0) }
     ensures waiting { IfOk result (λ s. s.desk.waiting ≡ []) }
 {
     let Some(first) = first_of(first, seconds) else {
         return Err(BeginError::Clock);
     };
-    match start(alloc, rt, objects, first, seats) {
+    match start_with(alloc, rt, objects, first, seats) {
         Ok(started) => Ok(started),
         Err(error) => Err(BeginError::Start(error)),
+    }
+}
+
+/// The machine that objects make, whose revisions begin after `first`.
+fn start_with<R: Wait>(
+    alloc: Global,
+    rt: &R,
+    objects: Objects<'_>,
+    first: u64,
+    seats: usize,
+) -> Result<Started, StartError>
+    requires first { first ≤ 281474976710650 }
+    requires seats { (1 ≤ seats) × (seats ≤ 16) }
+    ensures machine { Starts result (machine_with first objects.entry) }
+    ensures unopened { IfOk result (λ s. s.core.next_id ≡ 0) }
+    ensures waiting { IfOk result (λ s. s.desk.waiting ≡ []) }
+{
+    match objects {
+        Objects::Lines(lines) => start(alloc, rt, lines, first, seats),
+        Objects::Alone(lines) => start_without_objects(alloc, rt, lines, first, seats),
     }
 }

@@ -2,13 +2,13 @@ ghost use Rattle.std.specs.Prelude.{◌≡◌, ◌≤◌, ℕ, List, [], Some, I
 ghost use Rattle.clap.specs.Matches.{found_of};
 ghost use Rattle.clap.specs.Simple.{subcommand_rows_of};
 ghost use Rattle.clap.specs.Walk.{all_of, first_of, rows_of};
-ghost use Rattle.kapi.specs.Asked.{AreWrong, Names, Reads, answer_of, asked_by, compare_in, compare_told, file_alone, has_words, question_in, question_told, risks_in, risks_told, wanted_in, wanted_told, who_in, who_told, files_in, files_told, first_of_word, is_true, listens_in, options_in, options_told, readers_in, told, transcripts_in, transcripts_told};
+ghost use Rattle.kapi.specs.Asked.{AreWrong, Names, Reads, answer_of, are_idle, asked_by, audited_in, has_manifests, has_reading, reading_by, reading_told, served_in, compare_in, compare_told, file_alone, has_words, question_in, question_told, risks_in, risks_told, wanted_in, wanted_told, who_in, who_told, files_in, files_told, first_of_word, is_true, listens_in, options_in, options_told, readers_in, told, transcripts_in, transcripts_told};
 ghost use Rattle.kapi.specs.Listens.{listen_of, listens_of, parted as parted_of};
 
 use crate::arguments::program;
-use crate::numbers::{first_revision, number_of_readers, port};
+use crate::numbers::{first_revision, listening_port, number_of_readers, port};
 use crate::program::{
-    AuditFiles, Command, CommandFault, CompareFiles, Listen, ReplayOptions, RisksFile,
+    AuditFiles, Command, CommandFault, CompareFiles, Listen, Reading, ReplayOptions, RisksFile,
     ServeOptions, WhoQuestion, WhoWanted, WhoWords,
 };
 use clap::ArgMatches;
@@ -66,11 +66,61 @@ fn audit_files(alloc: Global, words: &ArgMatches<'_>) -> Result<AuditFiles, Comm
     let policy = value(words, "POLICY").ok_or(CommandFault::Words)?;
     let questions = value(words, "QUESTIONS").ok_or(CommandFault::Words)?;
     let readers = readers(words).ok_or(CommandFault::Words)?;
+    let manifests = audited_manifests(alloc, words)?;
     Ok(AuditFiles {
         policy: String::from_str(alloc, policy)?,
         questions: String::from_str(alloc, questions)?,
+        manifests,
         readers,
     })
+}
+
+/// How the manifests of an audit are read; none if its policy is lines, for which no word says how to read them.
+fn audited_manifests(alloc: Global, words: &ArgMatches<'_>) -> Result<Option<Reading>, CommandFault>
+    ensures { Reads (λ r. option_map reading_told r) result (audited_in (rows_of (found_of words.now))) }
+{
+    if is_given(words, "manifests") {
+        return Ok(Some(reading(alloc, words, "with")?));
+    }
+    if says_how_to_read(words) {
+        return Err(CommandFault::Words);
+    }
+    Ok(None)
+}
+
+/// Whether some word says how manifests are read.
+pub fn says_how_to_read(words: &ArgMatches<'_>) -> bool
+    ensures { result ≡ has_reading (rows_of (found_of words.now)) }
+{
+    value(words, "with").is_some()
+        || is_given(words, "with-defaults")
+        || value(words, "namespace").is_some()
+        || is_given(words, "strict")
+}
+
+/// How manifests are read, with the files that the option of that name names.
+fn reading(alloc: Global, words: &ArgMatches<'_>, files: &str) -> Result<Reading, CommandFault>
+    ensures { Reads reading_told result (Some (reading_by files.now (rows_of (found_of words.now)))) }
+{
+    let with = each_copied(alloc, words, files)?;
+    let namespace = text_or_empty(alloc, words, "namespace")?;
+    Ok(Reading {
+        with,
+        defaults: is_given(words, "with-defaults"),
+        namespace,
+        strict: is_given(words, "strict"),
+    })
+}
+
+/// The values of that name, copied, in the order of the words; none where it has none.
+#[tactic(auto, using(crate::proofs::Reading::raw_values_rows))]
+fn each_copied(alloc: Global, words: &ArgMatches<'_>, name: &str) -> Result<Vec<String>, Memory>
+    ensures { IfOk result (λ v. map string_bytes v.items ≡ unwrap_or (all_of name.now (rows_of (found_of words.now))) []) }
+{
+    match words.get_strs(name) {
+        Some(texts) => copies(alloc, texts),
+        None => Ok(Vec::new(alloc)),
+    }
 }
 
 /// The transcripts that the words behind `replay` name, and whether they are written.
@@ -78,9 +128,11 @@ fn replay_options(alloc: Global, words: &ArgMatches<'_>) -> Result<ReplayOptions
     ensures { Reads transcripts_told result (transcripts_in (rows_of (found_of words.now))) }
 {
     let files = files(alloc, words)?;
+    let junit = copied(alloc, value(words, "junit"))?;
     Ok(ReplayOptions {
         files,
         write: is_given(words, "write"),
+        junit,
     })
 }
 
@@ -105,14 +157,13 @@ fn compare_files(alloc: Global, words: &ArgMatches<'_>) -> Result<CompareFiles, 
 {
     let before = needed(alloc, words, "BEFORE")?;
     let after = needed(alloc, words, "AFTER")?;
-    let namespace = text_or_empty(alloc, words, "namespace")?;
+    let reading = reading(alloc, words, "with")?;
     Ok(CompareFiles {
         before,
         after,
-        namespace,
+        reading,
         usual_groups: is_given(words, "usual-groups"),
         json: is_given(words, "json"),
-        strict: is_given(words, "strict"),
     })
 }
 
@@ -121,12 +172,11 @@ fn risks_file(alloc: Global, words: &ArgMatches<'_>) -> Result<RisksFile, Comman
     ensures { Reads risks_told result (risks_in (rows_of (found_of words.now))) }
 {
     let policy = needed(alloc, words, "POLICY")?;
-    let namespace = text_or_empty(alloc, words, "namespace")?;
+    let reading = reading(alloc, words, "with")?;
     Ok(RisksFile {
         policy,
-        namespace,
+        reading,
         json: is_given(words, "json"),
-        strict: is_given(words, "strict"),
     })
 }
 
@@ -136,11 +186,12 @@ fn who_words(alloc: Global, words: &ArgMatches<'_>) -> Result<WhoWords, CommandF
 {
     let policy = needed(alloc, words, "POLICY")?;
     let question = who_question(alloc, words)?;
+    let reading = reading(alloc, words, "with")?;
     Ok(WhoWords {
         policy,
         question,
+        reading,
         json: is_given(words, "json"),
-        strict: is_given(words, "strict"),
     })
 }
 
@@ -212,7 +263,7 @@ fn copies(alloc: Global, texts: &[&str]) -> Result<Vec<String>, Memory>
 }
 
 /// Whether the flag of that name is given.
-fn is_given(words: &ArgMatches<'_>, name: &str) -> bool
+pub fn is_given(words: &ArgMatches<'_>, name: &str) -> bool
     ensures { result ≡ is_true (first_of name.now (rows_of (found_of words.now))) }
 {
     match value(words, name) {
@@ -229,14 +280,14 @@ pub fn value<'a>(words: &ArgMatches<'a>, name: &str) -> Option<&'a str>
     words.get_str(name)
 }
 
-/// The number behind `--readers`, where it is 1 to 16.
+/// The number behind `--readers`, if it is 1 to 16; 2 if it is left out.
 pub fn readers(words: &ArgMatches<'_>) -> Option<usize>
     ensures told { result ≡ readers_in (rows_of (found_of words.now)) }
     ensures few { IfSome result (λ n. (1 ≤ n) × (n ≤ 16)) }
 {
     match value(words, "readers") {
         Some(digits) => number_of_readers(digits),
-        None => None,
+        None => Some(2),
     }
 }
 
@@ -251,15 +302,49 @@ fn serve_options(alloc: Global, words: &ArgMatches<'_>) -> Result<ServeOptions, 
     let readers = readers(words).ok_or(CommandFault::Words)?;
     let first_revision = first(words).ok_or(CommandFault::Words)?;
     let listens = listens(alloc, words)?;
+    let manifests = served_manifests(alloc, words)?;
     let load = copied(alloc, value(words, "load"))?;
     Ok(ServeOptions {
         load,
+        manifests,
         first_revision,
         recheck: is_given(words, "recheck-watches"),
         listens,
         answer,
         readers,
+        idle_readers: has_idle_readers(words),
     })
+}
+
+/// Whether a number of readers is specified, and no port on which they would answer.
+fn has_idle_readers(words: &ArgMatches<'_>) -> bool
+    ensures { result ≡ are_idle (rows_of (found_of words.now)) }
+{
+    value(words, "readers").is_some() && value(words, "answer").is_none()
+}
+
+/// How the manifests that a server begins with are read; none if it begins with a file of lines or with nothing. They
+/// stand in place of such a file, and a namespace is only theirs.
+fn served_manifests(alloc: Global, words: &ArgMatches<'_>) -> Result<Option<Reading>, CommandFault>
+    ensures { Reads (λ r. option_map reading_told r) result (served_in (rows_of (found_of words.now))) }
+{
+    if serves_manifests(words) {
+        if value(words, "load").is_some() {
+            return Err(CommandFault::Words);
+        }
+        return Ok(Some(reading(alloc, words, "manifests")?));
+    }
+    if value(words, "namespace").is_some() {
+        return Err(CommandFault::Words);
+    }
+    Ok(None)
+}
+
+/// Whether a server begins with manifests, or with the default roles.
+pub fn serves_manifests(words: &ArgMatches<'_>) -> bool
+    ensures { result ≡ has_manifests (rows_of (found_of words.now)) }
+{
+    value(words, "manifests").is_some() || is_given(words, "with-defaults")
 }
 
 /// The port for questions, where one is specified.
@@ -302,8 +387,8 @@ fn listens(alloc: Global, words: &ArgMatches<'_>) -> Result<Vec<Listen>, Command
     ensures few { IfOk result (λ l. (1 ≤ vec_len l) × (vec_len l ≤ 16)) }
     ensures told { Reads (λ l. l.items) result (listens_in (rows_of (found_of words.now))) }
 {
-    let words = words.get_strs("LISTEN").ok_or(CommandFault::Words)?;
-    let listens = each_listen(alloc, words)?;
+    let texts = words.get_strs("LISTEN").ok_or(CommandFault::Words)?;
+    let listens = each_listen(alloc, texts, is_given(words, "free-ports"))?;
     if listens.is_empty() || listens.len() > PORTS {
         return Err(CommandFault::Words);
     }
@@ -311,23 +396,23 @@ fn listens(alloc: Global, words: &ArgMatches<'_>) -> Result<Vec<Listen>, Command
 }
 
 /// The port and the identity that each word specifies.
-fn each_listen(alloc: Global, words: &[&str]) -> Result<Vec<Listen>, CommandFault>
-    ensures { Reads (λ l. l.items) result (listens_of (map (λ word. word.now) words.now)) }
+fn each_listen(alloc: Global, words: &[&str], free: bool) -> Result<Vec<Listen>, CommandFault>
+    ensures { Reads (λ l. l.items) result (listens_of free (map (λ word. word.now) words.now)) }
 {
     let mut listens = Vec::new(alloc);
     for word in words {
-        listens.push(listen(alloc, word)?)?;
+        listens.push(listen(alloc, word, free)?)?;
     }
     Ok(listens)
 }
 
-/// `PORT=USER` or `PORT=USER,GROUP,..`.
+/// `PORT=USER` or `PORT=USER,GROUP,..`, where PORT may be 0 if free ports are taken.
 #[tactic(auto, unfolding(crate::specs::Listens::listen_of))]
-pub fn listen(alloc: Global, word: &str) -> Result<Listen, CommandFault>
-    ensures { Reads (λ l. l) result (listen_of word.now) }
+pub fn listen(alloc: Global, word: &str, free: bool) -> Result<Listen, CommandFault>
+    ensures { Reads (λ l. l) result (listen_of free word.now) }
 {
     let (digits, names) = parted(word).ok_or(CommandFault::Words)?;
-    let port = port(digits).ok_or(CommandFault::Words)?;
+    let port = listening_port(digits, free).ok_or(CommandFault::Words)?;
     let identity = read_identity(alloc, names.as_bytes())?.ok_or(CommandFault::Words)?;
     Ok(Listen { port, identity })
 }

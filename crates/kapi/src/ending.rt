@@ -11,7 +11,7 @@ use std::process::ExitCode;
 pub enum Ending {
     /// What was asked for is done.
     Done,
-    /// An answer of a transcript is not the wanted one.
+    /// An answer of a transcript is not the wanted one, or a transcript wants none.
     Differs,
     /// A file, a line of one, the memory, the system, or what is printed stood in the way.
     Stopped,
@@ -52,14 +52,10 @@ impl Ending {
     }
 
     /// The ending of transcripts that were played.
-    pub fn of_replay<E>(played: &Result<bool, E>) -> Ending
-        ensures { result ≡ played_as played.now }
+    pub fn of_replay(well: bool) -> Ending
+        ensures { result ≡ played_as well }
     {
-        match played {
-            Ok(true) => Ending::Done,
-            Ok(false) => Ending::Differs,
-            Err(_fault) => Ending::Stopped,
-        }
+        if well { Ending::Done } else { Ending::Differs }
     }
 
     /// The exit status.

@@ -3,14 +3,14 @@
 //! transcripts; `kapi compare`, `kapi who` and `kapi risks` answer questions about the policies of files.
 #![tactic(auto)]
 
-ghost use Rattle.std.specs.Prelude.{◌≤◌};
-
 mod answering;
 mod arguments;
 mod asking;
+mod auditing;
 mod beginning;
 mod bounded_lines;
 mod command_line;
+mod doubts;
 mod ending;
 mod kept_lines;
 mod manifests;
@@ -24,15 +24,15 @@ mod telling;
 mod wrong_words;
 
 use asking::{run_compare, run_risks, run_who};
+use auditing::run_audit;
 use clap::Error;
 use command_line::command;
 use ending::Ending;
-use kapi_audit::{AuditFault, NoGate, audit_run};
 use kapi_index::IndexedPolicy;
-use kapi_reasons::{object_reason, question_reason, script_reason};
+use kapi_reasons::script_reason;
 use kapi_script::{ScriptFault, script_run};
 use kept_lines::KeptLines;
-use program::{AuditFiles, Command, CommandFault};
+use program::{Command, CommandFault};
 use replaying::run_replay;
 use serving::run_serve;
 use std::env::{self, Env};
@@ -43,7 +43,7 @@ use std::process::ExitCode;
 use std::sync::Wait;
 use std::thread::Threads;
 use std::time::Clock;
-use telling::{print, read_file, tell_reason, tell_stopped};
+use telling::{tell_reason, tell_stopped};
 use wrong_words::complaint;
 
 fn main(rt: HostRuntime) -> io::Result<ExitCode> {
@@ -127,58 +127,6 @@ fn run_script<R: Input + Print + Eprint + AllocGlobal>(rt: &R) -> io::Result<End
             Ok(Ending::Stopped)
         }
     }
-}
-
-/// Prints the answers to the questions: status 0, or 1 after the fault and its reason on standard error.
-fn run_audit<R: Files + Print + Eprint + AllocGlobal + Threads + Wait + Sync>(
-    rt: &R,
-    files: &AuditFiles,
-) -> io::Result<Ending> {
-    let Some(policy) = read_file(rt, files.policy.as_str())? else {
-        return Ok(Ending::Stopped);
-    };
-    let Some(questions) = read_file(rt, files.questions.as_str())? else {
-        return Ok(Ending::Stopped);
-    };
-    let (policy, questions) = (policy.as_slice(), questions.as_slice());
-    match audit(rt, policy, questions, files.readers) {
-        Ok(answers) => {
-            print(rt, answers.as_slice())?;
-            Ok(Ending::Done)
-        }
-        Err(fault) => refuse_audit(rt, fault, policy, questions),
-    }
-}
-
-/// Reports why an audit has no answers: status 1.
-fn refuse_audit<R: Eprint + AllocGlobal>(
-    rt: &R,
-    fault: AuditFault,
-    policy: &[u8],
-    questions: &[u8],
-) -> io::Result<Ending> {
-    eprintln!(rt; "{fault}")?;
-    match fault {
-        AuditFault::PolicyLine(_line) => {
-            tell_reason(rt, object_reason(rt.alloc(), 0, policy))?;
-        }
-        AuditFault::QuestionLine(line) => {
-            tell_reason(rt, question_reason(rt.alloc(), questions, line))?;
-        }
-        AuditFault::Memory | AuditFault::Busy => {}
-    }
-    Ok(Ending::Stopped)
-}
-
-fn audit<R: AllocGlobal + Threads + Wait + Sync>(
-    rt: &R,
-    policy: &[u8],
-    questions: &[u8],
-    readers: usize,
-) -> Result<Vec<u8>, AuditFault>
-    requires { (1 ≤ readers) × (readers ≤ 16) }
-{
-    audit_run(rt.alloc(), rt, policy, questions, readers, &NoGate)
 }
 
 /// A command line that names no program: status 2.

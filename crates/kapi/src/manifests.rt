@@ -1,10 +1,10 @@
 //! Policies as people have them: files of manifests, read, and what is wrong with them told.
+use crate::program::Reading;
 use crate::telling::tell_unread;
 use kapi_manifests::{Options, Origin, Prepared, Scope, prepare};
 use kapi_reasons::{LineReason, line_reasons};
-use kapi_text::{Memory, Text};
+use kapi_text::{Memory, Sequence};
 use std::alloc::Global;
-use std::collections::BTreeMap;
 use std::fs::{self, Files};
 use std::io::{self, Read};
 
@@ -25,20 +25,42 @@ pub struct ReadPolicy {
     pub prepared: Prepared,
 }
 
-/// The policy of a file, of the files of a folder, or of standard input, which is named `-`. Objects that name no
-/// namespace and live in one are in the namespace that is given, if it is not empty. None where there is a fault, after a
-/// line on standard error for each.
+/// The policy of a file, of the files of a folder, or of standard input, which is named `-`, and of the files that are
+/// read as one with it. None if there is a fault, after a line on standard error for each.
 pub fn read_policy<R: Files + Input + Eprint + AllocGlobal + Clone + Drop>(
     rt: &R,
     path: &str,
-    namespace: &str,
+    reading: &Reading,
 ) -> io::Result<Option<ReadPolicy>> {
     let mut sources = Vec::new(rt.alloc());
-    if let Err(error) = read_sources(rt, path, &mut sources) {
-        tell_unread(rt, path, &error)?;
+    if !read_named(rt, path, &mut sources)? {
         return Ok(None);
     }
-    let prepared = prepare_sources(rt.alloc(), sources.as_slice(), namespace)?;
+    read_with(rt, sources, reading, Scope::Policy)
+}
+
+/// The objects that a server begins with. None if there is a fault, after a line on standard error for each.
+pub fn read_served<R: Files + Input + Eprint + AllocGlobal + Clone + Drop>(
+    rt: &R,
+    reading: &Reading,
+) -> io::Result<Option<ReadPolicy>> {
+    read_with(rt, Vec::new(rt.alloc()), reading, Scope::All)
+}
+
+/// The objects of files that were read and of those that are read with them.
+fn read_with<R: Files + Input + Eprint + AllocGlobal + Clone + Drop>(
+    rt: &R,
+    sources: Vec<Source>,
+    reading: &Reading,
+    scope: Scope,
+) -> io::Result<Option<ReadPolicy>> {
+    let mut sources = sources;
+    for name in reading.with.iter() {
+        if !read_named(rt, name.as_str(), &mut sources)? {
+            return Ok(None);
+        }
+    }
+    let prepared = prepare_sources(rt.alloc(), sources.as_slice(), reading, scope)?;
     let policy = ReadPolicy { sources, prepared };
     tell_skipped(rt, &policy.prepared)?;
     if policy.prepared.faults.is_empty() {
@@ -48,14 +70,55 @@ pub fn read_policy<R: Files + Input + Eprint + AllocGlobal + Clone + Drop>(
     Ok(None)
 }
 
-fn prepare_sources(alloc: Global, sources: &[Source], namespace: &str) -> Result<Prepared, Memory> {
+/// The texts of a file, or of the files of a folder; none if they cannot be read.
+pub fn read_texts<R: Files + Input + AllocGlobal + Clone + Drop>(
+    rt: &R,
+    path: &str,
+) -> io::Result<Option<Vec<Sequence<u8>>>> {
+    let mut sources = Vec::new(rt.alloc());
+    if read_sources(rt, path, &mut sources).is_err() {
+        return Ok(None);
+    }
+    let mut texts = Vec::new(rt.alloc());
+    for source in sources {
+        let Source { name: _name, bytes } = source;
+        texts.push(Sequence::new(bytes))?;
+    }
+    Ok(Some(texts))
+}
+
+/// Reads what is named: whether it can be read, after a line on standard error if not.
+fn read_named<R: Files + Input + Eprint + AllocGlobal + Clone + Drop>(
+    rt: &R,
+    path: &str,
+    sources: &mut Vec<Source>,
+) -> io::Result<bool> {
+    if let Err(error) = read_sources(rt, path, sources) {
+        tell_unread(rt, path, &error)?;
+        return Ok(false);
+    }
+    Ok(true)
+}
+
+fn prepare_sources(
+    alloc: Global,
+    sources: &[Source],
+    reading: &Reading,
+    scope: Scope,
+) -> Result<Prepared, Memory> {
+    let words = match scope {
+        Scope::Policy => true,
+        Scope::All => false,
+    };
     let mut texts: Vec<&[u8]> = Vec::new(alloc);
     for source in sources {
         texts.push(source.bytes.as_slice())?;
     }
     let options = Options {
-        scope: Scope::Policy,
-        namespace,
+        scope,
+        namespace: reading.namespace.as_str(),
+        defaults: reading.defaults,
+        words,
     };
     prepare(alloc, options, texts.as_slice())
 }
@@ -118,11 +181,15 @@ fn tell_skipped(rt: &impl Eprint, prepared: &Prepared) -> io::Result<()> {
         return Ok(());
     }
     rt.eprint("skipped:")?;
-    let mut separator = "";
+    let mut is_first = true;
     for (kind, count) in &prepared.skipped {
         let kind = kind.as_str();
-        eprint!(rt; "{separator} {count} {kind}")?;
-        separator = ",";
+        if is_first {
+            eprint!(rt; " {count} {kind}")?;
+        } else {
+            eprint!(rt; ", {count} {kind}")?;
+        }
+        is_first = false;
     }
     rt.eprint("\n")
 }
@@ -145,48 +212,6 @@ fn tell_more(rt: &impl Eprint, faults: usize) -> io::Result<()> {
         eprintln!(rt; "and {more} more")?;
     }
     Ok(())
-}
-
-/// The doubts about policies that were told: the bindings that give nothing.
-#[derive(Drop)]
-pub struct Doubts {
-    told: BTreeMap<Text, ()>,
-}
-
-impl Doubts {
-    /// No doubts.
-    pub fn new(alloc: Global) -> Doubts {
-        Doubts {
-            told: BTreeMap::new(alloc),
-        }
-    }
-
-    /// Whether there is a doubt.
-    pub fn are_some(&self) -> bool {
-        self.told.len() > 0
-    }
-
-    /// Reports the bindings of a policy whose role is not in it, each once for all policies.
-    pub fn tell<R: Eprint + AllocGlobal>(&mut self, rt: &R, policy: &ReadPolicy) -> io::Result<()> {
-        for dangling in policy.prepared.dangling.as_slice() {
-            self.tell_one(rt, dangling.binding.as_str(), dangling.role.as_str())?;
-        }
-        Ok(())
-    }
-
-    fn tell_one<R: Eprint + AllocGlobal>(
-        &mut self,
-        rt: &R,
-        binding: &str,
-        role: &str,
-    ) -> io::Result<()> {
-        let line = Text::new(format!(in rt.alloc(); "{binding}: {role}")?);
-        if self.told.contains_key(&line) {
-            return Ok(());
-        }
-        drop(self.told.insert(line, ())?);
-        eprintln!(rt; "{binding}: {role} is not in the policy: it gives nothing")
-    }
 }
 
 /// Reports the objects of a policy that a machine does not load.

@@ -1,6 +1,6 @@
 //! The numbers that words of a command line specify: decimal digits alone, at most as many as the largest has.
 ghost use Rattle.std.specs.Prelude.{◌≡◌, ◌≤◌, IfSome};
-ghost use Rattle.kapi.specs.Numbers.{clock_revision as revision_of_clock, number_of, port_of, readers_of, revision_of};
+ghost use Rattle.kapi.specs.Numbers.{clock_revision as revision_of_clock, listening_port_of, number_of, port_of, readers_of, revision_of};
 
 use kapi_text::{are_digits, number};
 
@@ -27,6 +27,17 @@ pub fn port(digits: &str) -> Option<u16>
     ensures { result ≡ port_of digits.now }
 {
     match number_within(digits, 5, 1, 65_535) {
+        Some(port) => u16::try_from(port).ok(),
+        None => None,
+    }
+}
+
+/// The port that the digits write, from 1 to 65,535, or also 0 if free ports are taken.
+pub fn listening_port(digits: &str, free: bool) -> Option<u16>
+    ensures { result ≡ listening_port_of free digits.now }
+{
+    let least = if free { 0 } else { 1 };
+    match number_within(digits, 5, least, 65_535) {
         Some(port) => u16::try_from(port).ok(),
         None => None,
     }

@@ -29,19 +29,29 @@ pub enum Command {
     Show(Shown),
 }
 
+/// How the files of a policy are read as manifests.
+#[derive(Debug, Drop)]
+pub struct Reading {
+    /// Files that are read as one with the policy, by their names.
+    pub with: Vec<String>,
+    /// Whether Kubernetes' user-facing roles stand beneath the files.
+    pub defaults: bool,
+    /// The namespace of objects that live in one and name none; empty if none is given.
+    pub namespace: String,
+    /// Whether a doubt about a policy ends with status 1.
+    pub strict: bool,
+}
+
 /// The policies that are compared, by the names of their files.
 #[derive(Debug, Drop)]
 pub struct CompareFiles {
     pub before: String,
     pub after: String,
-    /// The namespace of objects that live in one and name none; empty where none is given.
-    pub namespace: String,
+    pub reading: Reading,
     /// Whether the question is about identities with the groups that authentication gives them.
     pub usual_groups: bool,
     /// Whether JSON is printed.
     pub json: bool,
-    /// Whether a doubt about a policy ends with status 1.
-    pub strict: bool,
 }
 
 /// What is asked of a policy.
@@ -66,22 +76,18 @@ pub struct WhoWanted {
 pub struct WhoWords {
     pub policy: String,
     pub question: WhoQuestion,
+    pub reading: Reading,
     /// Whether JSON is printed.
     pub json: bool,
-    /// Whether a doubt about a policy ends with status 1.
-    pub strict: bool,
 }
 
 /// The policy that is asked who may gain more than it grants, by the name of its file.
 #[derive(Debug, Drop)]
 pub struct RisksFile {
     pub policy: String,
-    /// The namespace of objects that live in one and name none; empty where none is given.
-    pub namespace: String,
+    pub reading: Reading,
     /// Whether JSON is printed.
     pub json: bool,
-    /// Whether a doubt about a policy ends with status 1.
-    pub strict: bool,
 }
 
 /// The files of an audit, by their names, and how many threads answer.
@@ -89,6 +95,8 @@ pub struct RisksFile {
 pub struct AuditFiles {
     pub policy: String,
     pub questions: String,
+    /// How the policy is read if it is manifests; else it is lines.
+    pub manifests: Option<Reading>,
     /// The number of threads, 1 to 16.
     pub readers: usize,
     ghost few: { (1 ≤ readers) × (readers ≤ 16) },
@@ -100,6 +108,8 @@ pub struct ReplayOptions {
     /// The names of the transcripts, one or more, in the order of the words.
     pub files: Vec<String>,
     pub write: bool,
+    /// The file that the outcomes are written to as JUnit has them, by its name.
+    pub junit: Option<String>,
 }
 
 /// What a server loads, and the ports that it serves.
@@ -107,6 +117,8 @@ pub struct ReplayOptions {
 pub struct ServeOptions {
     /// The file of the objects that are stored at first, by its name.
     pub load: Option<String>,
+    /// The manifests of the objects that are stored at first, in place of such a file.
+    pub manifests: Option<Reading>,
     /// The revision after which the server's begin, at most 281,474,976,710,650; none where the clock gives it.
     pub first_revision: Option<u64>,
     /// The rights of a watch are rechecked at each of its events.
@@ -117,6 +129,8 @@ pub struct ServeOptions {
     pub answer: Option<u16>,
     /// The number of threads that answer questions.
     pub readers: usize,
+    /// Whether that number is specified, and no port on which they would answer.
+    pub idle_readers: bool,
     ghost first: { IfSome first_revision (λ n. n ≤ 281474976710650) } by { Prim.hlevel props },
     ghost few: { (1 ≤ vec_len listens) × (vec_len listens ≤ 16) },
     ghost threads: { (1 ≤ readers) × (readers ≤ 16) },
@@ -125,7 +139,7 @@ pub struct ServeOptions {
 /// A port of 127.0.0.1, and the identity of each of its clients.
 #[derive(Debug, Drop)]
 pub struct Listen {
-    /// The number of the port, 1 to 65,535.
+    /// The number of the port; a free one is taken for 0.
     pub port: u16,
     pub identity: Identity,
 }

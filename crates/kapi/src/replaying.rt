@@ -1,7 +1,11 @@
+//! Transcripts, played.
 use crate::ending::Ending;
+use crate::manifests::read_texts;
 use crate::program::ReplayOptions;
-use crate::telling::read_file;
-use kapi_replay::{NamedFile, loaded_names, replay_run};
+use crate::telling::{read_file, tell_unread};
+use kapi_replay::{
+    LoadedFile, NamedFile, Outcome, Transcript, are_well, junit_text, loaded_names, replay_run,
+};
 use kapi_text::{Memory, Sequence, Text};
 use std::alloc::Global;
 use std::fs::{self, Files};
@@ -9,8 +13,9 @@ use std::io::{self, BufWriter, Write};
 use std::str;
 use std::sync::Wait;
 
-/// Plays the transcripts and prints the outcome of each: status 0 where every answer is as wanted, else 1.
-pub fn run_replay<R: Files + Print + Eprint + AllocGlobal + Wait>(
+/// Plays the transcripts and prints the outcome of each: status 0 if each checks something and every answer is as wanted,
+/// else 1.
+pub fn run_replay<R: Files + Input + Print + Eprint + AllocGlobal + Wait + Clone + Drop>(
     rt: &R,
     options: &ReplayOptions,
 ) -> io::Result<Ending> {
@@ -19,25 +24,58 @@ pub fn run_replay<R: Files + Print + Eprint + AllocGlobal + Wait>(
         let Some(bytes) = read_file(rt, name.as_str())? else {
             return Ok(Ending::Stopped);
         };
-        transcripts.push(named(rt.alloc(), name.as_str(), bytes)?)?;
+        transcripts.push(transcript(rt, name.as_str(), bytes)?)?;
     }
-    play(rt, transcripts.as_slice(), options.write)
+    play(rt, transcripts.as_slice(), options)
 }
 
 fn play<R: Files + Print + Eprint + AllocGlobal + Wait>(
     rt: &R,
-    transcripts: &[NamedFile],
-    write: bool,
+    transcripts: &[Transcript],
+    options: &ReplayOptions,
 ) -> io::Result<Ending> {
-    let files = loaded_files(rt, transcripts)?;
     let mut writer = BufWriter::new(rt.alloc(), io::writer(rt))?;
-    let files = files.as_slice();
-    let played = replay_run(rt.alloc(), rt, files, transcripts, write, &mut writer);
+    let played = replay_run(rt.alloc(), rt, transcripts, options.write, &mut writer);
     writer.flush()?;
-    if let Err(fault) = &played {
-        eprintln!(rt; "{fault}")?;
+    match played {
+        Ok(outcomes) => end(rt, transcripts, outcomes.as_slice(), options),
+        Err(fault) => {
+            eprintln!(rt; "{fault}")?;
+            Ok(Ending::Stopped)
+        }
     }
-    Ok(Ending::of_replay(&played))
+}
+
+/// Writes the outcomes as JUnit has them, if a file is named for it.
+fn end<R: Files + Eprint + AllocGlobal>(
+    rt: &R,
+    transcripts: &[Transcript],
+    outcomes: &[Outcome],
+    options: &ReplayOptions,
+) -> io::Result<Ending> {
+    if let Some(file) = &options.junit {
+        let text = junit_text(rt.alloc(), transcripts, outcomes)?;
+        if let Err(error) = fs::write(rt, file.as_str(), text.as_slice()) {
+            return tell_unread(rt, file.as_str(), &error);
+        }
+    }
+    Ok(Ending::of_replay(are_well(outcomes)))
+}
+
+/// A transcript and the files that it names, as far as they can be read.
+fn transcript<R: Files + Input + AllocGlobal + Clone + Drop>(
+    rt: &R,
+    name: &str,
+    bytes: Vec<u8>,
+) -> io::Result<Transcript> {
+    let mut loads = Vec::new(rt.alloc());
+    for loaded in loaded_names(rt.alloc(), bytes.as_slice())?.iter() {
+        push_load(rt, &mut loads, name, loaded.as_slice())?;
+    }
+    Ok(Transcript {
+        file: named(rt.alloc(), name, bytes)?,
+        loads: Sequence::new(loads),
+    })
 }
 
 fn named(alloc: Global, name: &str, bytes: Vec<u8>) -> Result<NamedFile, Memory> {
@@ -47,34 +85,36 @@ fn named(alloc: Global, name: &str, bytes: Vec<u8>) -> Result<NamedFile, Memory>
     })
 }
 
-/// The files that the transcripts load, as far as they can be read.
-fn loaded_files<R: Files + AllocGlobal>(
+/// Reads what a transcript names, unless it was read; what cannot be read is left out.
+fn push_load<R: Files + Input + AllocGlobal + Clone + Drop>(
     rt: &R,
-    transcripts: &[NamedFile],
-) -> io::Result<Vec<NamedFile>> {
-    let mut files = Vec::new(rt.alloc());
-    for transcript in transcripts {
-        for name in loaded_names(rt.alloc(), transcript.bytes.as_slice())?.iter() {
-            push_file(rt, &mut files, name.as_slice())?;
-        }
-    }
-    Ok(files)
-}
-
-/// Reads a file that was not read yet; one that cannot be read is left out.
-fn push_file<R: Files + AllocGlobal>(
-    rt: &R,
-    files: &mut Vec<NamedFile>,
+    loads: &mut Vec<LoadedFile>,
+    transcript: &str,
     name: &[u8],
 ) -> io::Result<()> {
     let Ok(name) = str::from_utf8(name) else {
         return Ok(());
     };
-    if files.iter().any(|file| file.name.as_str() == name) {
+    if loads.iter().any(|file| file.name.as_str() == name) {
         return Ok(());
     }
-    if let Ok(bytes) = fs::read(rt, name) {
-        files.push(named(rt.alloc(), name, bytes)?)?;
+    let path = path_of(rt.alloc(), transcript, name)?;
+    if let Some(texts) = read_texts(rt, path.as_str())? {
+        loads.push(LoadedFile {
+            name: Text::copy_of(rt.alloc(), name)?,
+            texts: Sequence::new(texts),
+        })?;
     }
     Ok(())
+}
+
+/// The path of a file that a transcript names: in the transcript's folder, or for standard input in the working folder.
+fn path_of(alloc: Global, transcript: &str, name: &str) -> Result<String, Memory> {
+    if name.starts_with('/') || transcript.starts_with("/dev/") {
+        return String::from_str(alloc, name);
+    }
+    match transcript.rsplit_once('/') {
+        Some((folder, _file)) => format!(in alloc; "{folder}/{name}"),
+        None => String::from_str(alloc, name),
+    }
 }

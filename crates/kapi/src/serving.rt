@@ -3,8 +3,9 @@ ghost use Rattle.kapi.specs.Doors.{doors_of};
 ghost use Rattle.kapi_serve.specs.Listening.{doors};
 
 use crate::answering::start_readers;
-use crate::beginning::{BeginError, begin, first_of};
+use crate::beginning::{BeginError, Objects, begin, first_of};
 use crate::ending::Ending;
+use crate::manifests::{ReadPolicy, read_served, tell_refused};
 use crate::program::{Listen, ServeOptions};
 use crate::system_reason::Reason;
 use crate::telling::{read_file, tell_reason};
@@ -27,10 +28,18 @@ struct Refused {
     error: io::Error,
 }
 
+/// What a server begins with, as it was read.
+#[derive(Drop)]
+enum Opening {
+    Lines(Vec<u8>),
+    Manifests(ReadPolicy),
+}
+
 /// Serves the ports for as long as clients can be waited for. Status 1 where the file cannot be loaded or the clock
 /// gives no first revision, 3 where a port cannot be listened on, 4 where the wait fails.
 pub fn run_serve<
     R: Files
+        + Input
         + Print
         + Eprint
         + AllocGlobal
@@ -43,7 +52,10 @@ pub fn run_serve<
         + Net<Listener = TcpListener, Stream = TcpStream>
         + 'static,
 >(rt: &R, options: &ServeOptions) -> io::Result<Ending> {
-    let Some(objects) = read_objects(rt, options)? else {
+    if options.idle_readers {
+        eprintln!(rt; "--readers has no effect without --answer")?;
+    }
+    let Some(opening) = read_opening(rt, options)? else {
         return Ok(Ending::Stopped);
     };
     let seats = match options.answer {
@@ -55,39 +67,63 @@ pub fn run_serve<
         Some(_told) => 0,
         None => rt.since_1970()?.as_secs(),
     };
-    match begin(rt.alloc(), rt, objects.as_slice(), first, seconds, seats) {
+    match begin(rt.alloc(), rt, objects_of(&opening), first, seconds, seats) {
         Ok(started) => {
             // The text of the file is not kept beside what was made of it.
-            drop(objects);
+            drop(opening);
             serve_ports(rt, started, options)
         }
-        Err(fault) => refuse_begin(rt, fault, first_of(first, seconds), objects.as_slice()),
+        Err(fault) => refuse_begin(rt, fault, first_of(first, seconds), &opening),
     }
 }
 
-/// The objects that a server begins with; none where their file cannot be read.
-fn read_objects<R: Files + Eprint + AllocGlobal>(
+/// What a server begins with; none if a file cannot be read, or is no file of manifests.
+fn read_opening<R: Files + Input + Eprint + AllocGlobal + Clone + Drop>(
     rt: &R,
     options: &ServeOptions,
-) -> io::Result<Option<Vec<u8>>> {
+) -> io::Result<Option<Opening>> {
+    if let Some(reading) = &options.manifests {
+        return match read_served(rt, reading)? {
+            Some(policy) => Ok(Some(Opening::Manifests(policy))),
+            None => Ok(None),
+        };
+    }
     match &options.load {
-        Some(file) => read_file(rt, file.as_str()),
-        None => Ok(Some(Vec::new(rt.alloc()))),
+        Some(file) => match read_file(rt, file.as_str())? {
+            Some(lines) => Ok(Some(Opening::Lines(lines))),
+            None => Ok(None),
+        },
+        None => Ok(Some(Opening::Lines(Vec::new(rt.alloc())))),
     }
 }
 
-/// Reports why a server does not begin behind a revision, and why a line of its objects is not loaded: status 1.
+fn objects_of(opening: &Opening) -> Objects<'_> {
+    match opening {
+        Opening::Lines(lines) => Objects::Lines(lines.as_slice()),
+        Opening::Manifests(policy) => Objects::Alone(policy.lines()),
+    }
+}
+
+/// Reports why a server does not begin behind a revision, and why objects are not loaded: status 1.
 fn refuse_begin<R: Eprint + AllocGlobal>(
     rt: &R,
     fault: BeginError,
     first: Option<u64>,
-    objects: &[u8],
+    opening: &Opening,
 ) -> io::Result<Ending>
     requires { IfSome first (λ n. n ≤ 281474976710650) }
 {
-    eprintln!(rt; "{fault}")?;
-    if let (BeginError::Start(StartError::Line(_line)), Some(first)) = (fault, first) {
-        tell_reason(rt, object_reason(rt.alloc(), first, objects))?;
+    match (fault, opening) {
+        (BeginError::Start(StartError::Line(_line)), Opening::Manifests(policy)) => {
+            tell_refused(rt, policy)?;
+        }
+        (BeginError::Start(StartError::Line(_line)), Opening::Lines(lines)) => {
+            eprintln!(rt; "{fault}")?;
+            if let Some(first) = first {
+                tell_reason(rt, object_reason(rt.alloc(), first, lines.as_slice()))?;
+            }
+        }
+        _ => eprintln!(rt; "{fault}")?,
     }
     Ok(Ending::Stopped)
 }

@@ -1,6 +1,8 @@
 //! What is wrong with words that ask for nothing.
 use crate::arguments::program;
-use crate::command_line::{answer, first, listen, readers, value};
+use crate::command_line::{
+    answer, first, is_given, listen, readers, says_how_to_read, serves_manifests, value,
+};
 use crate::program::CommandFault;
 use clap::ArgMatches;
 use kapi_text::Memory;
@@ -35,9 +37,34 @@ fn value_complaint(alloc: Global, matches: &ArgMatches<'_>) -> Result<String, Me
     };
     match wrong_value(alloc, words) {
         Some(wrong) => wrong_text(alloc, name, wrong),
-        None => format!(in alloc;
-            "error: a verb and a resource are needed, or --questions FILE and neither of them, --namespace nor --name\n\nFor more information, try 'kapi {name} --help'.\n"
-        ),
+        None => {
+            let missing = missing_words(name, words);
+            format!(in alloc;
+                "error: {missing}\n\nFor more information, try 'kapi {name} --help'.\n"
+            )
+        }
+    }
+}
+
+/// What is wrong with words each of which is of the wanted form.
+fn missing_words(name: &str, words: &ArgMatches<'_>) -> &'static str {
+    match name {
+        "audit" => {
+            if says_how_to_read(words) {
+                "--with, --with-defaults, --namespace and --strict are for --manifests"
+            } else {
+                "the files are not understood"
+            }
+        }
+        "serve" => {
+            if serves_manifests(words) {
+                "--load FILE, or --manifests FILE and --with-defaults, and not both"
+            } else {
+                "--namespace is for --manifests"
+            }
+        }
+        _ =>
+            "a verb and a resource are needed, or --questions FILE and neither of them, --namespace nor --name",
     }
 }
 
@@ -60,7 +87,7 @@ fn wrong_value<'a>(alloc: Global, words: &ArgMatches<'a>) -> Option<Wrong<'a>> {
             "a port is a number from 1 to 65535",
         );
     }
-    if value(words, "readers").is_some() && readers(words).is_none() {
+    if readers(words).is_none() {
         return wrong_at(words, "readers", "--readers <N>", "a number from 1 to 16");
     }
     if first(words).is_none() {
@@ -91,7 +118,7 @@ fn wrong_at<'a>(
 /// The first word that is no port with its user.
 fn wrong_listen<'a>(alloc: Global, words: &ArgMatches<'a>) -> Option<Wrong<'a>> {
     for word in words.get_strs("LISTEN")? {
-        if let Err(CommandFault::Words) = listen(alloc, word) {
+        if let Err(CommandFault::Words) = listen(alloc, word, is_given(words, "free-ports")) {
             return Some(Wrong {
                 value: *word,
                 argument: "PORT=USER[,GROUP..]",

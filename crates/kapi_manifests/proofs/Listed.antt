@@ -1,14 +1,11 @@
 -- The items of a list, and what a piece is read as.
-use Rattle.std.proofs.Common.{◌≡◌, ◌∙◌, ℕ, List, [], ◌∷◌, Bool, true, false, ◌&&◌, ◌==◌, if◌then◌else◌, Option, Some, None, map, slice_index, refl, ap, sym}
+use Rattle.std.proofs.Common.{◌≡◌, ℕ, List, [], ◌∷◌, Bool, true, false, ◌&&◌, ◌==◌, if◌then◌else◌, Some, None, slice_index, refl, ap, sym}
 use Rattle.std.specs.Str.{IsUtf8, is_utf8}
 use Rattle.std.proofs.lemmas.Str.{IsUtf8-from_is_utf8, is_utf8-from_IsUtf8}
-use Rattle.serde_json.proofs.Views.{view-Array}
-use Rattle.serde_json.specs.Data.{Data, Items, no_items, item}
-use Rattle.serde_json.specs.Find.{as_array}
+use Rattle.serde_json.specs.Data.{Data}
 use Rattle.serde_json.specs.Read.{read}
-use Rattle.serde_json.specs.View.{items_of, items_view, view}
-use Rattle.serde_json.specs.declared.value.Value.{Value}
-use Rattle.kapi_manifests.specs.Files.{Read, document, fault, items_or_none, listed, read_or_fault, read_piece}
+use Rattle.serde_json.specs.View.{items_of}
+use Rattle.kapi_manifests.specs.Files.{document, fault, listed, read_or_fault, read_piece}
 
 pub listed_items : (ds : List Data) → listed (items_of ds) ≡ ds
 listed_items [] = refl

@@ -4,7 +4,7 @@ use Rattle.std.specs.List.{flat_map}
 use Rattle.std.proofs.lemmas.Grind.{flat_map-append}
 use Rattle.std.proofs.lemmas.List.{map-append, take_more}
 use Rattle.serde_json.specs.Data.{Data}
-use Rattle.kapi_manifests.specs.Files.{Takes, data_of, is_yaml, read_piece, readings_of, faults_among, loaded_among, namespaces_among, sum_of}
+use Rattle.kapi_manifests.specs.Files.{Takes, data_of, is_yaml, read_piece, readings_of, faults_among, sum_of}
 use Rattle.kapi_manifests.specs.Pieces.{piece_in, pieces, spans_of}
 use Rattle.kapi_manifests.specs.Sorting.{faults_if, namespace_if, object_if, sort_of}
 use Rattle.kapi_manifests.specs.declared.sorted.Options.{Options}

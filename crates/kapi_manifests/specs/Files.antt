@@ -1,13 +1,13 @@
 -- The objects of files.
-use Rattle.std.specs.Prelude.{◌≡◌, ℕ, ◌+◌, ◌==◌, ◌&&◌, ◌||◌, nat_le, not, Bool, true, false, if◌then◌else◌, List, [], ◌∷◌, ◌++◌, length, slice_index, drop, take, flat_map, map, Option, Some, None, option_and_then, codes}
+use Rattle.std.specs.Prelude.{◌≡◌, ℕ, ◌+◌, ◌==◌, ◌&&◌, ◌||◌, nat_le, Bool, false, if◌then◌else◌, List, [], ◌∷◌, ◌++◌, length, slice_index, drop, take, flat_map, map, Option, Some, None, option_and_then, codes}
 use Rattle.std.specs.Str.{is_utf8, bytes_eq}
 use Rattle.serde_json.specs.Data.{Data, Items, no_items, item}
 use Rattle.serde_json.specs.Find.{get, as_array}
 use Rattle.serde_json.specs.Read.{read}
 use Rattle.serde_json.specs.View.{view}
-use Rattle.kapi_manifests.specs.Kinds.{is_list}
+use Rattle.kapi_manifests.specs.Kinds.{is_list, item_kind, kind_of, version_of}
 use Rattle.kapi_manifests.specs.Pieces.{pieces}
-use Rattle.kapi_manifests.specs.Sorting.{faults_if, namespace_if, object_if, sort_of}
+use Rattle.kapi_manifests.specs.Sorting.{faults_if, item_of, namespace_if, object_if, sort_of}
 use Rattle.kapi_manifests.specs.declared.reading.Document.{Document}
 use Rattle.kapi_manifests.specs.declared.reading.Document.TheVariants as told
 use Rattle.kapi_manifests.specs.declared.sorted.Scope.{Scope}
@@ -55,9 +55,13 @@ items_or_none None = []
 abbrev pub items_in : Data → List Data
 items_in d = items_or_none (option_and_then as_array (get (codes "items") d))
 
+-- the items of a document that is a list, each of its kind
+abbrev pub objects_listed : Data → List Data
+objects_listed d = map (item_of (item_kind (kind_of d)) (version_of d)) (items_in d)
+
 -- the objects of a document: the items of a list, or the document
 abbrev pub objects_in : Data → List Data
-objects_in d = if is_list d then items_in d else d ∷ []
+objects_in d = if is_list d then objects_listed d else d ∷ []
 
 -- the document that a piece is, as its objects
 abbrev pub objects_read : Read → List Data

@@ -1,5 +1,5 @@
 -- What an object says of itself, and what it is to a policy.
-use Rattle.std.specs.Prelude.{ℕ, nat_eq, ◌==◌, ◌||◌, ◌&&◌, not, Bool, true, false, if◌then◌else◌, List, length, codes, drop, ◌-◌, Option, Some, None, option_and_then, is_some}
+use Rattle.std.specs.Prelude.{ℕ, nat_eq, ◌||◌, ◌&&◌, Bool, if◌then◌else◌, List, length, codes, drop, ◌-◌, Option, Some, option_and_then, is_some}
 use Rattle.std.specs.List.{starts_with}
 use Rattle.std.specs.Str.{bytes_eq}
 use Rattle.serde_json.specs.Data.{Data, string}
@@ -47,6 +47,16 @@ lives_in_namespace kind =
     bytes_eq kind (codes "Role") || (bytes_eq kind (codes "RoleBinding") || (bytes_eq kind (codes "ConfigMap")
     || (bytes_eq kind (codes "Secret") || (bytes_eq kind (codes "ServiceAccount") || (bytes_eq kind (codes "Pod")
     || bytes_eq kind (codes "Deployment"))))))
+
+-- the kind of the items of a list of namespaces, roles or bindings, which may leave it out; empty for other lists
+-- (Kubernetes API conventions, 'Lists and Simple kinds')
+abbrev pub item_kind : List ℕ → List ℕ
+item_kind kind =
+    if bytes_eq kind (codes "NamespaceList") then codes "Namespace"
+    else (if bytes_eq kind (codes "RoleList") then codes "Role"
+    else (if bytes_eq kind (codes "RoleBindingList") then codes "RoleBinding"
+    else (if bytes_eq kind (codes "ClusterRoleList") then codes "ClusterRole"
+    else (if bytes_eq kind (codes "ClusterRoleBindingList") then codes "ClusterRoleBinding" else codes ""))))
 
 -- the text ends with another
 unfoldable pub ends_with : List ℕ → List ℕ → Bool

@@ -1,7 +1,6 @@
 -- The pieces of a file: the texts of its objects, and the lines that begin none, in order.
-use Rattle.std.specs.Prelude.{ℕ, ◌+◌, ◌-◌, ◌==◌, ◌&&◌, Bool, not, List, [], ◌∷◌, ◌++◌, map, take, drop, if◌then◌else◌}
+use Rattle.std.specs.Prelude.{ℕ, ◌+◌, ◌-◌, ◌==◌, ◌&&◌, not, List, [], ◌∷◌, ◌++◌, map, take, drop, if◌then◌else◌}
 use Rattle.kapi_manifests.specs.Places.{behind, is_piece}
-use Rattle.kapi_manifests.specs.declared.cut.Start.{Start}
 use Rattle.kapi_manifests.specs.declared.cut.Span.{Span}
 use Rattle.kapi_manifests.specs.declared.cut.Cursor.{Cursor}
 use Rattle.kapi_manifests.specs.declared.place.Place.TheVariants.{Between}

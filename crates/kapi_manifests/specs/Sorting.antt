@@ -1,6 +1,5 @@
 -- What each object of a file is to the machine that loads the files.
-use Rattle.std.specs.Prelude.{ℕ, ◌==◌, ◌&&◌, ◌||◌, not, Bool, true, false, if◌then◌else◌, List, [], ◌∷◌, length, codes, Option, Some, None}
-use Rattle.std.specs.Str.{bytes_eq}
+use Rattle.std.specs.Prelude.{ℕ, ◌==◌, ◌&&◌, ◌||◌, not, Bool, true, false, if◌then◌else◌, List, [], ◌∷◌, length, codes, Option, Some}
 use Rattle.serde_json.specs.Data.{Data, string, object, Members, no_members, put}
 use Rattle.serde_json.specs.Find.{get}
 use Rattle.kapi_manifests.specs.Kinds.{is_namespace, is_policy, kind_of, lives_in_namespace, metadata_text, version_of}
@@ -43,6 +42,14 @@ members_of _ = no_members
 unfoldable pub placed : List ℕ → Data → Data
 placed namespace d =
     object (put (codes "metadata") (object (put (codes "namespace") (string namespace) (members_of (get (codes "metadata") d)))) (members_of (Some d)))
+
+-- the object, of that kind and version
+unfoldable pub named : List ℕ → List ℕ → Data → Data
+named kind version d = object (put (codes "kind") (string kind) (put (codes "apiVersion") (string version) (members_of (Some d))))
+
+-- an item of a list whose items are of that kind and version (no kind: any), which it need not name
+abbrev pub item_of : List ℕ → List ℕ → Data → Data
+item_of kind version d = if (length kind == 0) || not (length (kind_of d) == 0) then d else named kind version d
 
 -- the object, where it is a namespace that is loaded
 abbrev pub namespace_if : Sort → Data → List Data

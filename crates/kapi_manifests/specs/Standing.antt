@@ -1,11 +1,12 @@
 -- The objects that every policy begins with, unless a file has another of the same kind and name (Kubernetes, 'Using RBAC
 -- Authorization', user-facing roles and API discovery roles).
-use Rattle.std.specs.Prelude.{ℕ, ◌&&◌, Bool, if◌then◌else◌, List, [], ◌∷◌, codes, flat_map, Option, Some, None}
+use Rattle.std.specs.Prelude.{ℕ, ◌&&◌, Bool, if◌then◌else◌, List, [], ◌∷◌, ◌++◌, codes, flat_map, Option, Some, None}
 use Rattle.std.specs.List.{list_any}
 use Rattle.std.specs.Str.{bytes_eq}
 use Rattle.serde_json.specs.Data.{Data}
 use Rattle.serde_json.specs.Read.{read}
 use Rattle.kapi_manifests.specs.Kinds.{kind_of, metadata_text}
+use Rattle.kapi_manifests.specs.declared.defaults.TheConstants.{ADMIN, EDIT, VIEW, AGGREGATE_TO_ADMIN, AGGREGATE_TO_EDIT, AGGREGATE_TO_VIEW}
 use Rattle.kapi_manifests.specs.declared.standing.Standing.{Standing}
 
 -- an object: its kind, its name, and its text
@@ -31,6 +32,21 @@ standing_roles =
     ∷ record { kind = codes "ClusterRoleBinding"; name = codes "cluster-admin"; text = codes "{\"apiVersion\":\"rbac.authorization.k8s.io/v1\",\"kind\":\"ClusterRoleBinding\",\"metadata\":{\"name\":\"cluster-admin\"},\"roleRef\":{\"apiGroup\":\"rbac.authorization.k8s.io\",\"kind\":\"ClusterRole\",\"name\":\"cluster-admin\"},\"subjects\":[{\"apiGroup\":\"rbac.authorization.k8s.io\",\"kind\":\"Group\",\"name\":\"system:masters\"}]}" }
     ∷ record { kind = codes "ClusterRoleBinding"; name = codes "system:basic-user"; text = codes "{\"apiVersion\":\"rbac.authorization.k8s.io/v1\",\"kind\":\"ClusterRoleBinding\",\"metadata\":{\"name\":\"system:basic-user\"},\"roleRef\":{\"apiGroup\":\"rbac.authorization.k8s.io\",\"kind\":\"ClusterRole\",\"name\":\"system:basic-user\"},\"subjects\":[{\"apiGroup\":\"rbac.authorization.k8s.io\",\"kind\":\"Group\",\"name\":\"system:authenticated\"}]}" }
     ∷ []
+
+-- a cluster role of that name and text
+abbrev pub default_role : List ℕ → List ℕ → StandingObject
+default_role name text = record { kind = codes "ClusterRole"; name = name; text = text }
+
+-- the roles that a cluster gives its users, and those that they are put together of (Kubernetes, 'User-facing roles')
+unfoldable pub default_roles : List StandingObject
+default_roles =
+    default_role (codes "admin") ADMIN.now ∷ default_role (codes "edit") EDIT.now ∷ default_role (codes "view") VIEW.now
+    ∷ default_role (codes "system:aggregate-to-admin") AGGREGATE_TO_ADMIN.now ∷ default_role (codes "system:aggregate-to-edit") AGGREGATE_TO_EDIT.now
+    ∷ default_role (codes "system:aggregate-to-view") AGGREGATE_TO_VIEW.now ∷ []
+
+-- what stands beneath files: what every policy begins with, and the default roles where they are asked for
+abbrev pub standing_objects : Bool → List StandingObject
+standing_objects defaults = standing_roles ++ (if defaults then default_roles else [])
 
 -- the object is of that kind and name
 abbrev pub is_same : StandingObject → Data → Bool

@@ -6,8 +6,9 @@ use Rattle.serde_json.specs.Read.{max_depth, read}
 use Rattle.kapi_manifests.specs.Dangling.{dangling, origin_of}
 use Rattle.kapi_manifests.specs.Files.{bad_pieces, data_of, faults_among, loaded_among, namespaces_among, objects_of, sum_of}
 use Rattle.kapi_manifests.specs.Kinds.{kind_of}
-use Rattle.kapi_manifests.specs.Made.{made}
-use Rattle.kapi_manifests.specs.Standing.{standing_among, standing_namespaces, standing_roles}
+use Rattle.kapi_manifests.specs.Made.{Names, made}
+use Rattle.kapi_manifests.specs.Standing.{standing_among, standing_namespaces, standing_objects}
+use Rattle.kapi_manifests.specs.Words.{words_if}
 use Rattle.kapi_manifests.specs.declared.fault.Origin.{Origin}
 use Rattle.kapi_manifests.specs.declared.lines.Lines.{Lines}
 use Rattle.kapi_manifests.specs.declared.prepared.Prepared.{Prepared}
@@ -38,11 +39,11 @@ abbrev pub faults_in_all : Scope → List ℕ → List (List ℕ) → ℕ
 faults_in_all scope given texts = sum_of bad_pieces texts + faults_among scope given (objects_in_all texts)
 
 -- what is loaded of namespaces and other objects: the namespaces, beside those that every policy has; those that the
--- objects live in besides; the roles and bindings that every policy has, where the objects have no others; the objects
-pub record Loaded (namespaces : List Manifest) (objects : List Manifest) (ds : List Data) : Type 0 where
+-- objects live in besides; the roles and bindings that stand beneath, where the objects have no others; the objects
+pub record Loaded (defaults : Bool) (namespaces : List Manifest) (objects : List Manifest) (ds : List Data) : Type 0 where
   pub homes : List Manifest
   pub are_homes : map data_of homes ≡ standing_among (map data_of namespaces) standing_namespaces ++ map data_of namespaces
-  pub all : ds ≡ map data_of homes ++ (made homes objects ++ (standing_among (map data_of objects) standing_roles ++ map data_of objects))
+  pub all : ds ≡ map data_of homes ++ (made homes objects ++ (standing_among (map data_of objects) (standing_objects defaults) ++ map data_of objects))
 
 -- the object is of one of two kinds
 abbrev pub is_either : List ℕ → List ℕ → Data → Bool
@@ -55,33 +56,41 @@ roles_among ds = length (filter (is_either (codes "Role") (codes "ClusterRole"))
 abbrev pub bindings_among : List Data → ℕ
 bindings_among ds = length (filter (is_either (codes "RoleBinding") (codes "ClusterRoleBinding")) ds)
 
--- where the bindings begin whose role is neither among the objects nor in every policy
-pub record IsDangling (origins : List Origin) (objects : List Manifest) : Type 0 where
+-- where the bindings begin whose role is neither among the objects nor beneath them
+pub record IsDangling (defaults : Bool) (origins : List Origin) (objects : List Manifest) : Type 0 where
   pub others : List Manifest
-  pub are_others : map data_of others ≡ standing_among [] standing_roles
+  pub are_others : map data_of others ≡ standing_among [] (standing_objects defaults)
   pub all : origins ≡ dangling others objects
 
+-- the words that objects name, and those beneath them; none where they are not wanted
+pub record AreNamed (defaults words : Bool) (names : Names) (namespaces objects : List Manifest) : Type 0 where
+  pub others : List Manifest
+  pub are_others : map data_of others ≡ standing_among [] (standing_objects defaults)
+  pub all : names ≡ words_if words others namespaces objects
+
 -- sorted objects are written as lines
-pub record IsWritten (s : Sorted) (p : Prepared) : Type 0 where
+pub record IsWritten (defaults words : Bool) (s : Sorted) (p : Prepared) : Type 0 where
   pub all : List Data
-  pub loaded : Loaded s.namespaces.items s.objects.items all
+  pub loaded : Loaded defaults s.namespaces.items s.objects.items all
   pub text : AreLines p.text.items all
   pub origins : length p.origins.items ≡ length all
   pub faults : p.faults ≡ s.faults
   pub roles : p.roles ≡ roles_among (map data_of s.objects.items)
   pub bindings : p.bindings ≡ bindings_among (map data_of s.objects.items)
-  pub dangling : IsDangling (map origin_of p.dangling.items) s.objects.items
+  pub dangling : IsDangling defaults (map origin_of p.dangling.items) s.objects.items
+  pub named : AreNamed defaults words p.words.named.entries s.namespaces.items s.objects.items
 
--- what is loaded of files, and a place for each line
-pub record Loads (scope : Scope) (given : List ℕ) (texts : List (List ℕ)) (p : Prepared) : Type 0 where
+-- what is loaded of files, with the default roles beneath them or not, and a place for each line
+pub record Loads (scope : Scope) (given : List ℕ) (defaults words : Bool) (texts : List (List ℕ)) (p : Prepared) : Type 0 where
   pub namespaces : List Manifest
   pub objects : List Manifest
   pub all : List Data
   pub are_namespaces : map data_of namespaces ≡ namespaces_among scope given (objects_in_all texts)
   pub are_objects : map data_of objects ≡ loaded_among scope given (objects_in_all texts)
-  pub loaded : Loaded namespaces objects all
+  pub loaded : Loaded defaults namespaces objects all
   pub text : AreLines p.text.items all
   pub origins : length p.origins.items ≡ length all
   pub roles : p.roles ≡ roles_among (map data_of objects)
   pub bindings : p.bindings ≡ bindings_among (map data_of objects)
-  pub dangling : IsDangling (map origin_of p.dangling.items) objects
+  pub dangling : IsDangling defaults (map origin_of p.dangling.items) objects
+  pub named : AreNamed defaults words p.words.named.entries namespaces objects

@@ -68,6 +68,21 @@ pub fn lives_in_namespace(kind: &str) -> bool
     }
 }
 
+/// The kind of the items of a list of namespaces, roles or bindings, which may leave it out (Kubernetes API conventions,
+/// 'Lists and Simple kinds'); empty for lists of other kinds.
+pub fn item_kind(list: &str) -> &'static str
+    ensures { result.now ≡ kinds.item_kind list.now }
+{
+    match list {
+        "NamespaceList" => "Namespace",
+        "RoleList" => "Role",
+        "RoleBindingList" => "RoleBinding",
+        "ClusterRoleList" => "ClusterRole",
+        "ClusterRoleBindingList" => "ClusterRoleBinding",
+        _ => "",
+    }
+}
+
 /// Whether a document is a list, which stands for its items (Kubernetes API, 'Collections').
 pub fn is_list(document: &Value) -> bool
     ensures { result ≡ kinds.is_list (view document.now) }

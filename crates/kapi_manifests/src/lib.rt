@@ -3,6 +3,7 @@
 
 mod cut;
 mod dangling;
+mod defaults;
 mod fault;
 mod kinds;
 mod lines;
@@ -14,8 +15,10 @@ mod prepared;
 mod reading;
 mod sorted;
 mod standing;
+mod words;
 
 pub use dangling::Dangling;
 pub use fault::{Fault, Origin, Reason};
 pub use prepared::{Prepared, prepare};
 pub use sorted::{Options, Scope};
+pub use words::Words;

@@ -1,17 +1,55 @@
 //! The items of a list, and the lines that they begin in.
 ghost use Rattle.std.specs.Prelude.{◌≡◌, ◌≤◌, ◌<◌, ◌+◌, ◌^◌, IfOk, map};
 ghost use Rattle.serde_json.specs.View.{view, items_view};
-ghost use Rattle.kapi_manifests.specs.Files.{items_in, items_or_none};
+ghost use Rattle.kapi_manifests.specs.Files.{items_in, items_or_none, objects_listed};
+ghost use Rattle.kapi_manifests.specs.Sorting.{item_of};
 ghost use Rattle.serde_json.specs.Find.{as_array};
 ghost use Rattle.kapi_manifests.specs.Places.{depth_of};
 
+use crate::kinds::{item_kind, text_at};
 use crate::place::{Place, next};
+use crate::placing::named;
 use kapi_text::Memory;
 use serde_json::Value;
 use std::alloc::Global;
 
-/// The items of a list; none where it has none.
-pub fn items_of(alloc: Global, list: Value) -> Vec<Value>
+/// The items of a list, each of its kind.
+pub fn objects_of(alloc: Global, list: Value) -> Result<Vec<Value>, Memory>
+    ensures { IfOk result (λ v. map view v.items ≡ objects_listed (view list)) }
+{
+    let kind = item_kind(text_at(&list, "kind"));
+    let version = String::from_str(alloc, text_at(&list, "apiVersion"))?;
+    let items = items_of(alloc, list);
+    named_items(alloc, kind, version.as_str(), items)
+}
+
+/// Items, each of that kind and version if it names no kind.
+fn named_items(
+    alloc: Global,
+    kind: &str,
+    version: &str,
+    items: Vec<Value>,
+) -> Result<Vec<Value>, Memory>
+    ensures { IfOk result (λ v. map view v.items ≡ map (item_of kind.now version.now) (map view items.items)) }
+{
+    let mut all = Vec::new(alloc);
+    for item in items {
+        all.push(named_item(alloc, kind, version, item)?)?;
+    }
+    Ok(all)
+}
+
+fn named_item(alloc: Global, kind: &str, version: &str, item: Value) -> Result<Value, Memory>
+    ensures { IfOk result (λ v. view v ≡ item_of kind.now version.now (view item)) }
+{
+    if kind.is_empty() || !text_at(&item, "kind").is_empty() {
+        return Ok(item);
+    }
+    named(alloc, kind, version, item)
+}
+
+/// The items of a list as they stand; none where it has none.
+fn items_of(alloc: Global, list: Value) -> Vec<Value>
     ensures { map view result.items ≡ items_in (view list) }
 {
     let mut list = list;

@@ -1,4 +1,4 @@
-//! An object that names no namespace, put into one.
+//! Objects that leave out what is known of them: their namespace, or the kind of a list's items.
 ghost use Rattle.std.specs.Prelude.{◌≡◌, IfOk, Some, codes};
 ghost use Rattle.serde_json.specs.Data.{object, string, no_members, put as put_member};
 ghost use Rattle.serde_json.specs.Find.{get};
@@ -30,6 +30,17 @@ fn metadata_in(alloc: Global, namespace: &str, tree: &Value) -> Result<Value, Me
         None => Map::new(alloc),
     };
     with_text(alloc, members, "namespace", namespace)
+}
+
+/// The object, of that kind and version.
+#[tactic(auto, unfolding(crate::specs::Sorting::named))]
+pub fn named(alloc: Global, kind: &str, version: &str, tree: Value) -> Result<Value, Memory>
+    ensures { IfOk result (λ v. view v ≡ sorting.named kind.now version.now (view tree)) }
+{
+    let mut members = into_members(alloc, tree);
+    let version = Value::String(String::from_str(alloc, version)?);
+    put(&mut members, alloc, "apiVersion", version)?;
+    with_text(alloc, members, "kind", kind)
 }
 
 /// The members of an object; none of anything else.

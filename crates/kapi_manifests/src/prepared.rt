@@ -1,12 +1,12 @@
 //! Files of manifests, made into lines.
-ghost use Rattle.std.specs.Prelude.{◌≡◌, ◌+◌, ◌++◌, IfOk, OnOk, filter, length, map};
+ghost use Rattle.std.specs.Prelude.{◌≡◌, Bool, ◌+◌, ◌++◌, IfOk, OnOk, filter, length, map};
 ghost use Rattle.kapi_manifests.specs.Files.{Takes, bad_pieces, data_of, sum_of};
 ghost use Rattle.kapi_manifests.specs.Dangling.{origin_of};
 ghost use Rattle.kapi_manifests.specs.Made.{made};
-ghost use Rattle.kapi_manifests.specs.Standing.{standing_among, standing_namespaces, standing_roles};
+ghost use Rattle.kapi_manifests.specs.Standing.{object_told, standing_among, standing_namespaces, standing_objects};
 ghost use Rattle.kapi_manifests.specs.Written as written;
 ghost use Rattle.serde_json.specs.View.{view};
-ghost use Rattle.kapi_manifests.specs.Written.{AreOf, IsDangling, IsWritten, Loads, faults_in_all, objects_in_all};
+ghost use Rattle.kapi_manifests.specs.Written.{AreNamed, AreOf, IsDangling, IsWritten, Loads, faults_in_all, objects_in_all};
 
 use crate::dangling::{Dangling, dangling_bindings};
 use crate::fault::{Fault, Origin};
@@ -15,7 +15,8 @@ use crate::lines::Lines;
 use crate::namespaces::made_namespaces;
 use crate::reading::take_file;
 use crate::sorted::{Manifest, Options, Sorted};
-use crate::standing::{standing_beside, standing_namespaces, standing_roles};
+use crate::standing::{Standing, standing_beside, standing_namespaces, standing_objects};
+use crate::words::Words;
 use kapi_text::{Memory, Text};
 use serde_json::Value;
 use std::alloc::Global;
@@ -32,8 +33,10 @@ pub struct Prepared {
     pub roles: usize,
     /// How many of their bindings the files have.
     pub bindings: usize,
-    /// The bindings whose role is neither in the files nor in every policy.
+    /// The bindings whose role is neither in the files nor beneath them.
     pub dangling: Vec<Dangling>,
+    /// The words that the objects name, if they are wanted.
+    pub words: Words,
     /// How many objects of a kind are passed over.
     pub skipped: BTreeMap<Text, usize>,
     /// What is wrong, in order. Where something is, the lines are those of the other objects.
@@ -42,12 +45,12 @@ pub struct Prepared {
 
 /// The lines that files are.
 pub fn prepare(alloc: Global, options: Options<'_>, files: &[&[u8]]) -> Result<Prepared, Memory>
-    ensures loads { IfOk result (λ p. Loads options.entry.scope options.entry.namespace.now (map (λ text. text.now) files.now) p) }
+    ensures loads { IfOk result (λ p. Loads options.entry.scope options.entry.namespace.now options.entry.defaults options.entry.words (map (λ text. text.now) files.now) p) }
     ensures faults { IfOk result (λ p. length p.faults.items ≡ faults_in_all options.entry.scope options.entry.namespace.now (map (λ text. text.now) files.now)) }
 {
     let mut sorted = Sorted::new(alloc);
     take_files(alloc, &mut sorted, options, files)?;
-    write(alloc, sorted)
+    write(alloc, options, sorted)
 }
 
 /// Takes the objects of all files.
@@ -68,8 +71,8 @@ fn take_files(
 }
 
 /// Writes the objects as lines.
-fn write(alloc: Global, sorted: Sorted) -> Result<Prepared, Memory>
-    ensures { IfOk result (λ p. IsWritten sorted p) }
+fn write(alloc: Global, options: Options<'_>, sorted: Sorted) -> Result<Prepared, Memory>
+    ensures { IfOk result (λ p. IsWritten options.entry.defaults options.entry.words sorted p) }
 {
     let Sorted {
         namespaces,
@@ -77,27 +80,63 @@ fn write(alloc: Global, sorted: Sorted) -> Result<Prepared, Memory>
         skipped,
         faults,
     } = sorted;
-    let homes = homes(alloc, namespaces)?;
     let roles = count_of(objects.as_slice(), "Role", "ClusterRole");
     let bindings = count_of(objects.as_slice(), "RoleBinding", "ClusterRoleBinding");
-    let dangling = dangling_beside(alloc, objects.as_slice())?;
-    let lines = write_lines(alloc, homes.as_slice(), objects.as_slice())?;
+    let standing = standing_objects(alloc, options.defaults)?;
+    let standing = standing.as_slice();
+    let words = words_of(
+        alloc,
+        options.words,
+        standing,
+        namespaces.as_slice(),
+        objects.as_slice(),
+    )?;
+    let homes = homes(alloc, namespaces)?;
+    let dangling = dangling_beside(alloc, standing, objects.as_slice())?;
+    let lines = write_lines(alloc, standing, homes.as_slice(), objects.as_slice())?;
     Ok(Prepared {
         text: lines.text,
         origins: lines.origins,
         roles,
         bindings,
         dangling,
+        words,
         skipped,
         faults,
     })
 }
 
-/// The bindings whose role is neither among the objects nor in every policy.
-fn dangling_beside(alloc: Global, objects: &[Manifest]) -> Result<Vec<Dangling>, Memory>
-    ensures { IfOk result (λ v. IsDangling (map origin_of v.items) objects.now) }
+/// The words that the objects name, and those beneath them; none if they are not wanted.
+fn words_of(
+    alloc: Global,
+    wanted: bool,
+    standing: &[Standing],
+    namespaces: &[Manifest],
+    objects: &[Manifest],
+) -> Result<Words, Memory>
+    ensures { (defaults : Bool) → map object_told standing.now ≡ standing_objects defaults
+        → IfOk result (λ w. AreNamed defaults wanted w.named.entries namespaces.now objects.now) }
 {
-    let others = standing_beside(alloc, &standing_roles(), &[])?;
+    let others = standing_beside(alloc, standing, &[])?;
+    let mut words = Words::new(alloc);
+    if wanted {
+        words.add(alloc, others.as_slice())?;
+        words.add(alloc, namespaces)?;
+        words.add(alloc, objects)?;
+    }
+    Ok(words)
+}
+
+/// The bindings whose role is neither among the objects nor beneath them.
+fn dangling_beside(
+    alloc: Global,
+    standing: &[Standing],
+    objects: &[Manifest],
+) -> Result<Vec<Dangling>, Memory>
+    ensures { (defaults : Bool) → map object_told standing.now ≡ standing_objects defaults
+        → IfOk result (λ v. IsDangling defaults (map origin_of v.items) objects.now) }
+{
+    let others = standing_beside(alloc, standing, &[])?;
     dangling_bindings(alloc, others.as_slice(), objects)
 }
 
@@ -131,15 +170,20 @@ fn homes(alloc: Global, namespaces: Vec<Manifest>) -> Result<Vec<Manifest>, Memo
 }
 
 /// The lines of the namespaces, of those that are made, of the roles and bindings that stand, and of the objects.
-fn write_lines(alloc: Global, homes: &[Manifest], objects: &[Manifest]) -> Result<Lines, Memory>
-    ensures { IfOk result (λ l. AreOf l (map data_of homes.now ++ (made homes.now objects.now ++ (standing_among (map data_of objects.now) standing_roles ++ map data_of objects.now)))) }
+fn write_lines(
+    alloc: Global,
+    standing: &[Standing],
+    homes: &[Manifest],
+    objects: &[Manifest],
+) -> Result<Lines, Memory>
+    ensures { IfOk result (λ l. AreOf l (map data_of homes.now ++ (made homes.now objects.now ++ (standing_among (map data_of objects.now) (map object_told standing.now) ++ map data_of objects.now)))) }
 {
     let made = made_namespaces(alloc, homes, objects)?;
-    let standing = standing_beside(alloc, &standing_roles(), objects)?;
+    let beneath = standing_beside(alloc, standing, objects)?;
     let mut lines = Lines::new(alloc);
     lines.push_all(alloc, homes)?;
     lines.push_all(alloc, made.as_slice())?;
-    lines.push_all(alloc, standing.as_slice())?;
+    lines.push_all(alloc, beneath.as_slice())?;
     lines.push_all(alloc, objects)?;
     Ok(lines)
 }

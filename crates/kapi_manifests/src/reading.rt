@@ -8,7 +8,7 @@ ghost use Rattle.kapi_manifests.specs.Pieces.{piece_in};
 use crate::cut::{Span, spans};
 use crate::fault::{Origin, Reason};
 use crate::kinds::is_list;
-use crate::list::{item_lines, items_of};
+use crate::list::{item_lines, objects_of};
 use crate::sorted::{Options, Sorted};
 use kapi_text::Memory;
 use serde_json::{Error, Value};
@@ -214,7 +214,7 @@ fn take_document(
 {
     if is_list(&document) {
         let lines = item_lines(alloc, piece.origin.line, piece.text)?;
-        let items = items_of(alloc, document);
+        let items = objects_of(alloc, document)?;
         take_items(
             alloc,
             sorted,

@@ -27,6 +27,10 @@ pub struct Options<'a> {
     pub scope: Scope,
     /// The namespace of objects that name none and live in one; empty where none is given.
     pub namespace: &'a str,
+    /// Whether Kubernetes' user-facing roles stand beneath the files.
+    pub defaults: bool,
+    /// Whether the words that the objects name are wanted.
+    pub words: bool,
 }
 
 /// An object, and where it begins.

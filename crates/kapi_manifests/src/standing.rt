@@ -6,6 +6,7 @@ ghost use Rattle.kapi_manifests.specs.Standing.{object_told, standing_among, sta
 ghost use Rattle.std.specs.List.{list_any};
 ghost use Rattle.serde_json.specs.Errors.{IsMemory};
 
+use crate::defaults::default_roles;
 use crate::fault::Origin;
 use crate::kinds::{metadata_text, text_at};
 use crate::sorted::Manifest;
@@ -13,12 +14,25 @@ use kapi_text::Memory;
 use serde_json::{Error, Value};
 use std::alloc::{AllocError, Global};
 
-/// An object that every policy begins with: its kind, its name, and its text.
+/// An object that stands beneath those of files: its kind, its name, and its text.
 #[derive(Clone, Copy)]
 pub struct Standing {
-    kind: &'static str,
-    name: &'static str,
-    text: &'static str,
+    pub kind: &'static str,
+    pub name: &'static str,
+    pub text: &'static str,
+}
+
+/// The roles and bindings that stand beneath those of files: those that every policy begins with, and Kubernetes' own
+/// user-facing roles if they are asked for.
+pub fn standing_objects(alloc: Global, defaults: bool) -> Result<Vec<Standing>, Memory>
+    ensures { IfOk result (λ v. map object_told v.items ≡ standing.standing_objects defaults) }
+{
+    let mut objects = Vec::new(alloc);
+    objects.extend_from_slice(&standing_roles())?;
+    if defaults {
+        objects.extend_from_slice(&default_roles())?;
+    }
+    Ok(objects)
 }
 
 /// The namespace `default`.
@@ -36,7 +50,7 @@ pub fn standing_namespaces() -> [Standing; 1]
 /// The role that allows everything, the role by which users may review their own access, and a binding of each
 /// (Kubernetes, 'Using RBAC Authorization').
 #[tactic(auto, unfolding(crate::specs::Standing::standing_roles))]
-pub fn standing_roles() -> [Standing; 4]
+fn standing_roles() -> [Standing; 4]
     ensures { map standing.object_told result ≡ standing.standing_roles }
 {
     [

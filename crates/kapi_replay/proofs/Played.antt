@@ -1,13 +1,17 @@
 -- What a script's answers say of its case.
-use Rattle.std.proofs.Common.{◌≡◌, ℕ, Bool, true, false, ◌&&◌, List, [], ◌∷◌, ◌++◌, Option, Some, None, Result, Ok, Err, IfOk, refl, sym, ap, subst, ◌∙◌, length, append-nil, append_assoc}
+use Rattle.std.proofs.Common.{◌≡◌, ℕ, Bool, true, List, [], ◌∷◌, ◌++◌, Option, Some, None, Result, Ok, Err, IfOk, refl, sym, ap, subst, ◌∙◌, length, append-nil, append_assoc}
 use Rattle.kapi_core.specs.Machine.{Machine, with_rechecks}
 use Rattle.kapi_lines.proofs.Appending.{appends_nothing}
-use Rattle.kapi_replay.specs.Failures.{Fails, FailsAs, FailsBy, FailsOn, IsBadLine, IsNotLoaded, differences, number_at, script_text}
-use Rattle.kapi_replay.specs.Outcomes.{AreFailures, IsReplayed, IsReported}
+use Rattle.kapi_replay.specs.Failures.{FailsAs, FailsBy, FailsOn, IsBadLine, IsNotLoaded, differences, event_text, is_reason_of, number_at, script_text}
+use Rattle.kapi_replay.specs.Outcomes.{ArePlayed, IsReplayed, IsReported, checks_in}
+use Rattle.kapi_replay.specs.Playing.{Fails}
 use Rattle.kapi_reasons.specs.Reasons.{is_reason}
+use Rattle.kapi_replay.specs.declared.failure.Check.{Check}
 use Rattle.kapi_replay.specs.declared.failure.Failure.{Failure}
+use Rattle.kapi_replay.specs.declared.failure.Outcome.{Outcome}
 use Rattle.kapi_replay.specs.declared.failure.Failure.TheVariants as failure
-use Rattle.kapi_replay.specs.declared.replay.NamedFile.{NamedFile}
+use Rattle.kapi_replay.specs.declared.files.LoadedFile.{LoadedFile}
+use Rattle.kapi_replay.specs.declared.files.Transcript.{Transcript}
 use Rattle.kapi_script.specs.Scripts.{IsAnsweredBy, first_bad, lines, said}
 use Rattle.kapi_loading.specs.Faults.{FileFault, bad_line}
 use Rattle.kapi_transcript.specs.declared.case.Case.{Case}
@@ -34,7 +38,7 @@ refused items (Ok v) m c n text contents is h e =
 refused items (Err x) m c n text contents is h e = tt
 
 -- a line of no known form is told with a reason
-pub told_form : {V E : Type 0} (items : V → List Failure) (r : Result V E) (c : Case) (n : ℕ) (reason : List ℕ) → is_reason reason ≡ true
+pub told_form : {V E : Type 0} (items : V → List Failure) (r : Result V E) (c : Case) (n : ℕ) (reason : List ℕ) → is_reason_of (event_text c.script n) reason ≡ true
     → IfOk r (λ v. items v ≡ failure.NoForm (number_at c.script n) reason ∷ []) → IfOk r (λ v. IsBadLine c n (items v))
 told_form items (Ok v) c n reason is e = (reason, is, e)
 told_form items (Err x) c n reason is e = tt
@@ -60,37 +64,35 @@ pub none_left : {X : Type 0} (xs : List X) → length xs ≡ 0 → xs ≡ []
 none_left [] h = refl
 none_left (x ∷ xs) h = absurd (cc h)
 
--- the failures of a case more
-pub more_failures : (files : List NamedFile) (all rest later : List Case) (c : Case) (old first new : List Failure)
-    → ((more : List Failure) → AreFailures files rest more → AreFailures files all (old ++ more)) → rest ≡ c ∷ later → Fails files c first → new ≡ old ++ first
-    → (more : List Failure) → AreFailures files later more → AreFailures files all (new ++ more)
-more_failures files all rest later c old first new before is fails next more h =
-    rw (next, append_assoc old first more) (before (first ++ more) (rw is (first, more, refl, fails, h)))
+-- a case more
+pub more_played : (loads : List LoadedFile) (all rest later : List Case) (c : Case) (done next : List Check) (old first given new : List Failure)
+    → ((others : List Check) (more : List Failure) → ArePlayed loads rest others more → ArePlayed loads all (done ++ others) (old ++ more)) → rest ≡ c ∷ later
+    → Fails loads c first → given ≡ first → next ≡ done ++ checks_in c given → new ≡ old ++ first
+    → (others : List Check) (more : List Failure) → ArePlayed loads later others more → ArePlayed loads all (next ++ others) (new ++ more)
+more_played loads all rest later c done next old first given new before is fails same checks failures others more h =
+    let told : next ≡ done ++ checks_in c first = rw (← same) checks in
+    rw (told, failures, append_assoc done (checks_in c first) others, append_assoc old first more)
+    (before (checks_in c first ++ others) (first ++ more) (rw is (others, first, more, refl, refl, fails, h)))
 
 -- no case is left
-pub all_failures : (files : List NamedFile) (all rest : List Case) (old : List Failure)
-    → ((more : List Failure) → AreFailures files rest more → AreFailures files all (old ++ more)) → rest ≡ [] → AreFailures files all old
-all_failures files all rest old before is = subst (AreFailures files all) (append-nil old) (before [] (rw is refl))
-
-and_assoc : (a b c : Bool) → (a && (b && c)) ≡ ((a && b) && c)
-and_assoc true b c = refl
-and_assoc false b c = refl
-
-and_true : (a : Bool) → (a && true) ≡ a
-and_true true = refl
-and_true false = refl
+pub all_played : (loads : List LoadedFile) (all rest : List Case) (done : List Check) (old : List Failure)
+    → ((others : List Check) (more : List Failure) → ArePlayed loads rest others more → ArePlayed loads all (done ++ others) (old ++ more)) → rest ≡ []
+    → ArePlayed loads all done old
+all_played loads all rest done old before is =
+    subst (λ fs. ArePlayed loads all done fs) (append-nil old)
+    (subst (λ cs. ArePlayed loads all cs (old ++ [])) (append-nil done) (before [] [] (rw is (refl, refl))))
 
 -- a transcript more
-pub more_replayed : (rewrites : Bool) (files all rest later : List NamedFile) (t : NamedFile) (begun old new : Option (List ℕ)) (well first : Bool)
-    → ((contents : Option (List ℕ)) (more : Bool) → IsReplayed rewrites files rest old contents more → IsReplayed rewrites files all begun contents (well && more))
-    → rest ≡ t ∷ later → IsReported rewrites files t old new first
-    → (contents : Option (List ℕ)) (more : Bool) → IsReplayed rewrites files later new contents more → IsReplayed rewrites files all begun contents ((well && first) && more)
-more_replayed rewrites files all rest later t begun old new well first before is reported contents more h =
-    subst (IsReplayed rewrites files all begun contents) (and_assoc well first more) (before contents (first && more) (rw is (new, first, more, reported, h, refl)))
+pub more_replayed : (rewrites : Bool) (all rest later : List Transcript) (t : Transcript) (begun old new : Option (List ℕ)) (done next : List Outcome) (o : Outcome)
+    → ((contents : Option (List ℕ)) (more : List Outcome) → IsReplayed rewrites rest old contents more → IsReplayed rewrites all begun contents (done ++ more))
+    → rest ≡ t ∷ later → IsReported rewrites t old new o → next ≡ done ++ o ∷ []
+    → (contents : Option (List ℕ)) (more : List Outcome) → IsReplayed rewrites later new contents more → IsReplayed rewrites all begun contents (next ++ more)
+more_replayed rewrites all rest later t begun old new done next o before is reported pushed contents more h =
+    rw (pushed, append_assoc done (o ∷ []) more) (before contents (o ∷ more) (rw is (new, o, more, reported, h, refl)))
 
 -- no transcript is left
-pub all_replayed : (rewrites : Bool) (files all rest : List NamedFile) (begun old : Option (List ℕ)) (well : Bool)
-    → ((contents : Option (List ℕ)) (more : Bool) → IsReplayed rewrites files rest old contents more → IsReplayed rewrites files all begun contents (well && more))
-    → rest ≡ [] → IsReplayed rewrites files all begun old well
-all_replayed rewrites files all rest begun old well before is =
-    subst (IsReplayed rewrites files all begun old) (and_true well) (before old true (rw is (appends_nothing old, refl)))
+pub all_replayed : (rewrites : Bool) (all rest : List Transcript) (begun old : Option (List ℕ)) (done : List Outcome)
+    → ((contents : Option (List ℕ)) (more : List Outcome) → IsReplayed rewrites rest old contents more → IsReplayed rewrites all begun contents (done ++ more))
+    → rest ≡ [] → IsReplayed rewrites all begun old done
+all_replayed rewrites all rest begun old done before is =
+    subst (λ os. IsReplayed rewrites all begun old os) (append-nil done) (before old [] (rw is (appends_nothing old, refl)))

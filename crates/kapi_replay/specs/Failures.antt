@@ -1,12 +1,12 @@
 -- The answers of a case that are not as wanted.
-use Rattle.std.specs.Prelude.{◌≡◌, ℕ, Bool, true, if◌then◌else◌, List, [], ◌∷◌, ◌++◌, Option, Some, None, option_map, Result, Ok, Err}
-use Rattle.std.specs.List.{find, flat_map}
+use Rattle.std.specs.Prelude.{◌≡◌, ℕ, Bool, true, if◌then◌else◌, List, [], ◌∷◌, ◌++◌, codes, Option, Some, None, Result, Ok, Err}
+use Rattle.std.specs.List.{flat_map}
 use Rattle.std.specs.Str.{bytes_eq}
 use Rattle.kapi_core.specs.Machine.{Machine, with_rechecks}
 use Rattle.kapi_loading.specs.Faults.{FileFault}
 use Rattle.kapi_loading.specs.Faults as file_fault
 use Rattle.kapi_lines.specs.Lines.{parts_of}
-use Rattle.kapi_lines.specs.Words.{nth}
+use Rattle.kapi_lines.specs.Words.{begins, nth}
 use Rattle.kapi_loading.specs.Loading.{machine_of}
 use Rattle.kapi_reasons.specs.Reasons.{is_reason}
 use Rattle.kapi_replay.specs.Reports.{line_at}
@@ -17,8 +17,7 @@ use Rattle.kapi_transcript.specs.declared.case.Loaded.{Loaded}
 use Rattle.kapi_transcript.specs.declared.case.Want.{Want}
 use Rattle.kapi_replay.specs.declared.failure.Failure.{Failure}
 use Rattle.kapi_replay.specs.declared.failure.Failure.TheVariants as failure
-use Rattle.kapi_replay.specs.declared.replay.NamedFile.{NamedFile}
-use Rattle.kapi_script.specs.Scripts.{first_bad, lines, said, start}
+use Rattle.kapi_script.specs.Scripts.{first_bad, lines, said}
 
 -- a line of a script, with its end
 abbrev pub line_text : List ℕ → List ℕ
@@ -47,9 +46,27 @@ unmet script answers w =
 abbrev pub differences : Case → List ℕ → List Failure
 differences c text = flat_map (unmet c.script (parts_of text)) c.wants
 
+-- the text of an event, if there is one
+abbrev pub text_or : Option Event → List ℕ
+text_or None = []
+text_or (Some e) = e.text
+
+-- the line of a script of this number; nothing where there is none
+abbrev pub event_text : List Event → ℕ → List ℕ
+event_text script n = text_or (nth script n)
+
+-- why a line that names an identity has no known form
+abbrev pub names_reason : List ℕ
+names_reason = codes "a user or group is empty, or begins or ends with white space"
+
+-- the text may be the reason why this line of a script has no known form
+abbrev pub is_reason_of : List ℕ → List ℕ → Bool
+is_reason_of line reason = if begins line (codes "as ") then bytes_eq reason names_reason else is_reason reason
+
 -- the failure of a case whose script has a line of no known form: the line, and a reason
 abbrev pub IsBadLine : Case → ℕ → List Failure → Type 0
-IsBadLine c n failures = (reason : List ℕ) × (is_reason reason ≡ true) × (failures ≡ failure.NoForm (number_at c.script n) reason ∷ [])
+IsBadLine c n failures =
+    (reason : List ℕ) × (is_reason_of (event_text c.script n) reason ≡ true) × (failures ≡ failure.NoForm (number_at c.script n) reason ∷ [])
 
 -- a line of the script has no known form, or its answers are compared
 abbrev pub FailsAs : Case → Option ℕ → List ℕ → List Failure → Type 0
@@ -72,21 +89,3 @@ FailsBy c load (Err (file_fault.bad_line n)) failures = IsNotLoaded load n failu
 
 abbrev pub FailsLoaded : Case → Loaded → List ℕ → List Failure → Type 0
 FailsLoaded c load objects failures = FailsBy c load (machine_of objects) failures
-
--- the first file of that name
-abbrev pub file_named : List NamedFile → List ℕ → Option (List ℕ)
-file_named files name = option_map (λ f. f.bytes) (find (λ f. bytes_eq f.name name) files)
-
--- the failures where a file of that name is there or not
-abbrev pub FailsWith : Case → Loaded → Option (List ℕ) → List Failure → Type 0
-FailsWith c load (Some objects) failures = FailsLoaded c load objects failures
-FailsWith c load None failures = failures ≡ failure.NoFile load.number ∷ []
-
--- the failures of a case on the opening machine, or on the one that a file makes, which rechecks the rights of watches
--- where the case says so
-abbrev pub FailsFrom : List NamedFile → Case → Option Loaded → List Failure → Type 0
-FailsFrom files c None failures = FailsOn (with_rechecks c.rechecks start) c failures
-FailsFrom files c (Some load) failures = FailsWith c load (file_named files load.name) failures
-
-abbrev pub Fails : List NamedFile → Case → List Failure → Type 0
-Fails files c failures = FailsFrom files c c.load failures

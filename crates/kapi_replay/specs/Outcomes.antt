@@ -1,59 +1,59 @@
 -- What became of transcripts.
-use Rattle.std.specs.Prelude.{◌≡◌, ℕ, ◌+◌, Bool, true, ◌&&◌, List, [], ◌∷◌, ◌++◌, length, fold, Option, Some, None, min}
-use Rattle.std.specs.List.{flat_map}
+use Rattle.std.specs.Prelude.{◌≡◌, ℕ, Bool, List, [], ◌∷◌, ◌++◌, map, Option}
+use Rattle.std.specs.List.{flat_map, list_all}
 use Rattle.std.specs.Io.KnownBytes.{Appends}
 use Rattle.kapi_lines.specs.Lines.{lines_of}
 use Rattle.kapi_transcript.specs.Cases.{cases_of}
+use Rattle.kapi_transcript.specs.declared.case.Beginning.{Beginning}
+use Rattle.kapi_transcript.specs.declared.case.Beginning.TheVariants as beginning
 use Rattle.kapi_transcript.specs.declared.case.Case.{Case}
-use Rattle.kapi_transcript.specs.declared.case.Loaded.{Loaded}
-use Rattle.kapi_replay.specs.Failures.{Fails}
-use Rattle.kapi_replay.specs.Reports.{is_well, written}
+use Rattle.kapi_replay.specs.Playing.{Fails}
+use Rattle.kapi_replay.specs.Reports.{is_difference, written}
+use Rattle.kapi_replay.specs.declared.failure.Check.{Check}
 use Rattle.kapi_replay.specs.declared.failure.Failure.{Failure}
 use Rattle.kapi_replay.specs.declared.failure.Outcome.{Outcome}
-use Rattle.kapi_replay.specs.declared.replay.NamedFile.{NamedFile}
+use Rattle.kapi_replay.specs.declared.files.LoadedFile.{LoadedFile}
+use Rattle.kapi_replay.specs.declared.files.Transcript.{Transcript}
 
 -- the cases of a transcript
 abbrev pub cases_in : List ℕ → List Case
 cases_in transcript = cases_of (lines_of transcript)
 
--- how many answers cases want, counted up to 2^64 - 1
-abbrev pub wanted_in : List Case → ℕ
-wanted_in cases = fold (λ n c. min (n + length c.wants) 18446744073709551615) 0 cases
+-- the checks of a case with these failures: its answers were compared if these are all differences
+abbrev pub checks_in : Case → List Failure → List Check
+checks_in c failures = map (λ w. record { number = w.number; compared = list_all is_difference failures }) c.wants
 
--- the failures of all cases, one case after the other
-abbrev pub AreFailures : List NamedFile → List Case → List Failure → Type 0
-AreFailures files [] failures = failures ≡ []
-AreFailures files (c ∷ cs) failures =
-    (first : List Failure) × (rest : List Failure) × (failures ≡ first ++ rest) × Fails files c first × AreFailures files cs rest
+-- the checks and the failures of all cases, one case after the other
+abbrev pub ArePlayed : List LoadedFile → List Case → List Check → List Failure → Type 0
+ArePlayed loads [] checks failures = (checks ≡ []) × (failures ≡ [])
+ArePlayed loads (c ∷ cs) checks failures =
+    (others : List Check) × (first : List Failure) × (rest : List Failure) × (checks ≡ checks_in c first ++ others)
+    × (failures ≡ first ++ rest) × Fails loads c first × ArePlayed loads cs others rest
 
--- what became of a transcript: its name, how many answers it wants, and its failures
-pub record IsOutcome (files : List NamedFile) (transcript : NamedFile) (o : Outcome) : Type 0 where
-  pub name : o.name ≡ transcript.name
-  pub wanted : o.wanted ≡ wanted_in (cases_in transcript.bytes)
-  pub failures : AreFailures files (cases_in transcript.bytes) o.failures
+-- what became of a transcript: its name, its checks, and its failures
+pub record IsOutcome (t : Transcript) (o : Outcome) : Type 0 where
+  pub name : o.name ≡ t.file.name
+  pub played : ArePlayed t.loads (cases_in t.file.bytes) o.checks o.failures
 
--- the report of a transcript is written, and whether all of it is as wanted
-abbrev pub IsReported : Bool → List NamedFile → NamedFile → Option (List ℕ) → Option (List ℕ) → Bool → Type 0
-IsReported rewrites files transcript before contents well =
-    (o : Outcome) × IsOutcome files transcript o × Appends before contents (written rewrites transcript.bytes o) × (well ≡ is_well o)
+-- what became of a transcript, and its report is written
+abbrev pub IsReported : Bool → Transcript → Option (List ℕ) → Option (List ℕ) → Outcome → Type 0
+IsReported rewrites t before contents o = IsOutcome t o × Appends before contents (written rewrites t.file.bytes o)
 
--- the reports of all transcripts are written, in their order, and all is well exactly where each of them is
-abbrev pub IsReplayed : Bool → List NamedFile → List NamedFile → Option (List ℕ) → Option (List ℕ) → Bool → Type 0
-IsReplayed rewrites files [] before contents well = Appends before contents [] × (well ≡ true)
-IsReplayed rewrites files (t ∷ ts) before contents well =
-    (between : Option (List ℕ)) × (first : Bool) × (rest : Bool) × IsReported rewrites files t before between first
-    × IsReplayed rewrites files ts between contents rest × (well ≡ (first && rest))
+-- what became of all transcripts, whose reports are written in their order
+abbrev pub IsReplayed : Bool → List Transcript → Option (List ℕ) → Option (List ℕ) → List Outcome → Type 0
+IsReplayed rewrites [] before contents outcomes = Appends before contents [] × (outcomes ≡ [])
+IsReplayed rewrites (t ∷ ts) before contents outcomes =
+    (between : Option (List ℕ)) × (o : Outcome) × (rest : List Outcome) × IsReported rewrites t before between o
+    × IsReplayed rewrites ts between contents rest × (outcomes ≡ o ∷ rest)
 
 -- ---- the files that are loaded
 
--- the file that a case loads, if it loads one
-abbrev pub name_of : Option Loaded → List (List ℕ)
-name_of None = []
-name_of (Some load) = load.name ∷ []
+-- the names of the files that a case begins with
+abbrev pub names_of : Beginning → List (List ℕ)
+names_of beginning.Opening = []
+names_of (beginning.Lines file) = file.name ∷ []
+names_of (beginning.Manifests files) = map (λ f. f.name) files
 
-abbrev pub loaded_by : Case → List (List ℕ)
-loaded_by c = name_of c.load
-
--- the files that a transcript's cases load
+-- the names of the files that a transcript's cases begin with
 abbrev pub loaded_names : List ℕ → List (List ℕ)
-loaded_names transcript = flat_map loaded_by (cases_in transcript)
+loaded_names transcript = flat_map (λ c. names_of c.begins) (cases_in transcript)

@@ -1,10 +1,13 @@
 -- The report of a transcript.
-use Rattle.std.specs.Prelude.{ℕ, ◌+◌, ◌==◌, nat_lt, Bool, if◌then◌else◌, List, [], ◌∷◌, ◌++◌, length, codes, Option, None, Some}
+use Rattle.std.specs.Prelude.{ℕ, ◌+◌, ◌==◌, nat_lt, Bool, true, false, not, ◌&&◌, if◌then◌else◌, List, [], ◌∷◌, ◌++◌, length, codes, Option, None, Some}
 use Rattle.std.specs.List.{flat_map}
 use Rattle.std.specs.Option.{option_or, unwrap_or}
 use Rattle.kapi_lines.specs.Lines.{parts_of}
 use Rattle.kapi_lines.specs.Words.{nth}
+use Rattle.kapi_transcript.specs.Corrections.{corrected, exactly}
 use Rattle.kapi_transcript.specs.Requests.{number_line}
+use Rattle.kapi_transcript.specs.Wants.{wanted_of}
+use Rattle.kapi_transcript.specs.declared.wanted.Wanted.{Wanted}
 use Rattle.kapi_replay.specs.declared.failure.Failure.{Failure}
 use Rattle.kapi_replay.specs.declared.failure.Failure.TheVariants as failure
 use Rattle.kapi_replay.specs.declared.failure.Outcome.{Outcome}
@@ -23,6 +26,12 @@ number_of (failure.Differs n asked answer) = n
 number_of (failure.NoForm n reason) = n
 number_of (failure.NoFile n) = n
 number_of (failure.NotLoaded n line reason) = n
+number_of (failure.BadManifests n reason) = n
+
+-- the failure is an answer that differs
+abbrev pub is_difference : Failure → Bool
+is_difference (failure.Differs n asked answer) = true
+is_difference f = false
 
 -- the event that was answered, if one was
 abbrev pub asked_text : List (List ℕ) → ℕ → List ℕ
@@ -32,6 +41,10 @@ asked_text lines n = if n == 0 then codes "nothing: no request or event comes be
 abbrev pub reason_text : List ℕ → List ℕ
 reason_text reason = codes "\n  " ++ reason
 
+-- what is wrong with manifests
+abbrev pub manifests_text : List ℕ → List ℕ
+manifests_text reason = codes ": the manifests are not loaded\n  " ++ reason
+
 -- what is not as wanted: the event that was answered, what is wanted and what came; or why nothing came
 abbrev pub what_text : List (List ℕ) → Failure → List ℕ
 what_text lines (failure.Differs n asked answer) =
@@ -39,6 +52,7 @@ what_text lines (failure.Differs n asked answer) =
 what_text lines (failure.NoForm n reason) = codes ": no known form" ++ reason_text reason
 what_text lines (failure.NoFile n) = codes ": the file cannot be read"
 what_text lines (failure.NotLoaded n line reason) = number_line (codes ": load line ") line ++ reason_text reason
+what_text lines (failure.BadManifests n reason) = manifests_text reason
 
 -- a failure, and where it is
 abbrev pub failure_text : List ℕ → List (List ℕ) → Failure → List ℕ
@@ -48,14 +62,19 @@ failure_text name lines f = (place_text name (number_of f) ++ what_text lines f)
 abbrev pub failures_text : List ℕ → List (List ℕ) → List Failure → List ℕ
 failures_text name lines failures = flat_map (failure_text name lines) failures
 
--- how many failures there are, if there are some
-abbrev pub count_text : ℕ → List ℕ
-count_text n = if n == 0 then codes "\n" else number_line (codes ", ") n ++ codes " not as wanted\n"
+-- what is said of so many checks without a failure
+unfoldable pub well_text : ℕ → List ℕ
+well_text wanted = if wanted == 0 then codes ": it checks nothing\n" else codes "\n"
 
--- the failures of a transcript, and then how many answers it wants
+-- how many failures there are; if there are none, whether anything was checked
+abbrev pub count_text : ℕ → ℕ → List ℕ
+count_text wanted failures =
+    if failures == 0 then well_text wanted else number_line (codes ", ") failures ++ codes " not as wanted\n"
+
+-- the failures of a transcript, and then how many checks it has
 abbrev pub report_text : List (List ℕ) → Outcome → List ℕ
 report_text lines o =
-    (((failures_text o.name lines o.failures ++ o.name) ++ number_line (codes ": ") o.wanted) ++ codes " answers") ++ count_text (length o.failures)
+    (((failures_text o.name lines o.failures ++ o.name) ++ number_line (codes ": ") (length o.checks)) ++ codes " checks") ++ count_text (length o.checks) (length o.failures)
 
 -- ---- a transcript with the answers that came
 
@@ -69,10 +88,15 @@ abbrev pub came_for : ℕ → List Failure → Option (List ℕ)
 came_for n [] = None
 came_for n (f ∷ fs) = option_or (answer_for n f) (came_for n fs)
 
--- a line, or the answer that came in its place
+-- the line that wants what came, in place of one that wants this
+abbrev pub corrected_line : Option Wanted → List ℕ → List ℕ
+corrected_line None answer = exactly answer
+corrected_line (Some wanted) answer = corrected wanted answer
+
+-- a line, or in its place the line that wants the answer that came
 abbrev pub line_or : List ℕ → Option (List ℕ) → List ℕ
 line_or line None = line
-line_or line (Some answer) = codes "> " ++ answer
+line_or line (Some answer) = corrected_line (wanted_of line) answer
 
 -- a line of a transcript as it is rewritten, behind the end of the one before it
 abbrev pub rewritten_line : List Failure → ℕ → List ℕ → List ℕ
@@ -83,7 +107,7 @@ abbrev pub rewritten_from : List Failure → ℕ → List (List ℕ) → List �
 rewritten_from failures n [] = []
 rewritten_from failures n (l ∷ ls) = rewritten_line failures n l ++ rewritten_from failures (n + 1) ls
 
--- a transcript in which each line that wants another answer than came is that answer
+-- a transcript in which each line that wants another answer than came wants that answer
 abbrev pub rewritten : List (List ℕ) → List Failure → List ℕ
 rewritten lines failures = rewritten_from failures 1 lines
 
@@ -91,6 +115,6 @@ rewritten lines failures = rewritten_from failures 1 lines
 abbrev pub written : Bool → List ℕ → Outcome → List ℕ
 written rewrites text o = if rewrites then rewritten (parts_of text) o.failures else report_text (parts_of text) o
 
--- everything is as wanted
+-- something is checked, and everything is as wanted
 abbrev pub is_well : Outcome → Bool
-is_well o = length o.failures == 0
+is_well o = not (length o.checks == 0) && length o.failures == 0

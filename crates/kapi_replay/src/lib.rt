@@ -1,10 +1,16 @@
 //! Transcripts, played on the machine, and the answers that are not as wanted.
 #![tactic(auto)]
 
+mod case;
 mod failure;
+mod files;
+mod junit;
+mod manifests;
 mod play;
 mod replay;
 mod report;
 
-pub use failure::{Failure, Outcome};
-pub use replay::{NamedFile, ReplayFault, loaded_names, replay_run};
+pub use failure::{Check, Failure, Outcome};
+pub use files::{LoadedFile, NamedFile, Transcript};
+pub use junit::junit_text;
+pub use replay::{ReplayFault, are_well, loaded_names, replay_run};

@@ -1,5 +1,5 @@
 //! A case, played.
-ghost use Rattle.std.specs.Prelude.{◌≡◌, ◌++◌, ◌∷◌, [], true, IfOk, OnOk, is_err, option_map, string_bytes};
+ghost use Rattle.std.specs.Prelude.{◌≡◌, ◌++◌, ◌∷◌, [], true, IfOk, OnOk, is_err, string_bytes};
 ghost use Rattle.kapi_core.specs.Machine.{Machine, with_rechecks};
 ghost use Rattle.kapi_loading.specs.Loading.{machine_of};
 ghost use Rattle.kapi_core.specs.Refines.{Refines};
@@ -7,10 +7,9 @@ ghost use Rattle.kapi_script.specs.Scripts.{start as begun};
 ghost use Rattle.kapi_replay.specs.Reports.{line_at};
 ghost use Rattle.kapi_replay.specs.Failures as fails;
 ghost use Rattle.kapi_replay.specs.declared.failure.Failure.TheVariants as Told;
-ghost use Rattle.kapi_replay.specs.Failures.{Fails, file_named, script_text as script_text_of};
+ghost use Rattle.kapi_replay.specs.Failures.{script_text as script_text_of};
 
 use crate::failure::Failure;
-use crate::replay::NamedFile;
 use kapi_core::{Core, program_table};
 use kapi_index::IndexedPolicy;
 use kapi_lines::{copy_of, nth, split_lines};
@@ -99,7 +98,7 @@ fn differences(alloc: Global, case: &Case, text: &[u8]) -> Result<Vec<Failure>, 
 }
 
 /// The list of one failure.
-fn only(alloc: Global, failure: Failure) -> Result<Vec<Failure>, Memory>
+pub fn only(alloc: Global, failure: Failure) -> Result<Vec<Failure>, Memory>
     ensures { IfOk result (λ v. v.items ≡ failure ∷ []) }
 {
     let mut failures = Vec::new(alloc);
@@ -108,11 +107,26 @@ fn only(alloc: Global, failure: Failure) -> Result<Vec<Failure>, Memory>
 }
 
 /// The line of a script of this number; nothing where there is none.
-fn event_text(script: &[Event], number: usize) -> &[u8] {
+fn event_text(script: &[Event], number: usize) -> &[u8]
+    ensures { result.now ≡ fails.event_text script.now number }
+{
     match nth(script, number) {
         Some(event) => event.text.as_slice(),
         None => b"".as_slice(),
     }
+}
+
+/// Why a line of a script that names an identity has no known form.
+const NAMES_REASON: &str = "a user or group is empty, or begins or ends with white space";
+
+/// Why a line of a script has no known form.
+fn line_reason(alloc: Global, line: &[u8]) -> Result<&'static str, Memory>
+    ensures { IfOk result (λ reason. fails.is_reason_of line.now reason.now ≡ true) }
+{
+    if line.starts_with(b"as ") {
+        return Ok(NAMES_REASON);
+    }
+    form_reason(alloc, line)
 }
 
 /// The failure of a case whose script has a line of no known form, of this number.
@@ -123,7 +137,7 @@ fn bad_line(alloc: Global, case: &Case, number: u64) -> Result<Vec<Failure>, Mem
         return Err(AllocError);
     };
     let script = case.script.as_slice();
-    let reason = form_reason(alloc, event_text(script, number))?;
+    let reason = line_reason(alloc, event_text(script, number))?;
     no_form(alloc, number_at(script, number), reason)
 }
 
@@ -164,7 +178,7 @@ fn not_loaded_for(
 }
 
 /// Plays a case on a machine on which no connection was opened, and compares its answers with the wanted ones.
-fn play_on(
+pub fn play_on(
     alloc: Global,
     core: &mut Core<IndexedPolicy>,
     case: &Case,
@@ -183,21 +197,8 @@ fn play_on(
     }
 }
 
-/// The bytes of the file of that name.
-fn file<'a>(files: &'a [NamedFile], name: &[u8]) -> Option<&'a [u8]>
-    ensures { option_map (λ s. s.now) result ≡ file_named files.now name.now }
-{
-    match files
-        .iter()
-        .find(|file| file.name.as_str().as_bytes() == name)
-    {
-        Some(file) => Some(file.bytes.as_slice()),
-        None => None,
-    }
-}
-
 /// Plays a case on a machine that has loaded a file of objects.
-fn play_loaded<R: Wait>(
+pub fn play_loaded<R: Wait>(
     alloc: Global,
     rt: &R,
     case: &Case,
@@ -223,27 +224,9 @@ fn play_loaded<R: Wait>(
 }
 
 /// Plays a case on the opening machine.
-fn play_begun(alloc: Global, case: &Case) -> Result<Vec<Failure>, Memory>
+pub fn play_begun(alloc: Global, case: &Case) -> Result<Vec<Failure>, Memory>
     ensures { IfOk result (λ v. fails.FailsOn (with_rechecks case.now.rechecks begun) case.now v.items) }
 {
     let mut core = Core::new(alloc, program_table(alloc)?, IndexedPolicy::new(alloc), 0)?;
     play_on(alloc, &mut core, case)
-}
-
-/// The failures of a case. `files` are the files that the case may load.
-pub fn play_case<R: Wait>(
-    alloc: Global,
-    rt: &R,
-    files: &[NamedFile],
-    case: &Case,
-) -> Result<Vec<Failure>, Memory>
-    ensures { IfOk result (λ v. Fails files.now case.now v.items) }
-{
-    let Some(load) = &case.load else {
-        return play_begun(alloc, case);
-    };
-    match file(files, load.name.as_slice()) {
-        Some(objects) => play_loaded(alloc, rt, case, load, objects),
-        None => only(alloc, Failure::NoFile(load.number)),
-    }
 }

@@ -1,26 +1,21 @@
 //! Transcripts, played one after the other.
-ghost use Rattle.std.specs.Prelude.{◌≡◌, ◌&&◌, ◌++◌, IfOk, OnOk};
+ghost use Rattle.std.specs.Prelude.{◌≡◌, ◌++◌, ◌∷◌, [], IfOk, OnOk, map};
 ghost use Rattle.kapi_replay.specs.Outcomes as comes;
-ghost use Rattle.kapi_replay.specs.Outcomes.{AreFailures, IsOutcome, IsReplayed, wanted_in};
-ghost use Rattle.kapi_replay.specs.Reports.{is_well as is_well_of};
+ghost use Rattle.std.specs.List.{list_all};
+ghost use Rattle.kapi_replay.specs.Outcomes.{ArePlayed, IsOutcome, IsReplayed};
+ghost use Rattle.kapi_replay.specs.Reports.{is_difference as is_difference_of, is_well as is_well_of};
 
-use crate::failure::{Failure, Outcome};
-use crate::play::play_case;
-use crate::report::outcome_text;
+use crate::case::play_case;
+use crate::failure::{Check, Failure, Outcome};
+use crate::files::{LoadedFile, Transcript};
+use crate::report::{is_difference, outcome_text};
 use kapi_lines::numbered_lines;
-use kapi_text::{Memory, Sequence, Text, TryCopy};
-use kapi_transcript::{Case, cases};
+use kapi_text::{Memory, Sequence, TryCopy};
+use kapi_transcript::{Beginning, Case, Loaded, cases};
 use std::alloc::Global;
 use std::io::{self, Write};
 use std::sync::Wait;
 use thiserror::Error;
-
-/// A file by its name.
-#[derive(Drop)]
-pub struct NamedFile {
-    pub name: Text,
-    pub bytes: Sequence<u8>,
-}
 
 /// Why transcripts were not played to their end. The reports before the fault are written.
 #[derive(Clone, Copy, Debug, PartialEq, Eq, Error)]
@@ -37,114 +32,137 @@ impl From<Memory> for ReplayFault {
     }
 }
 
-/// How many answers the cases want, counted up to 2^64 - 1.
-fn wanted_of(cases: &[Case]) -> usize
-    ensures { result ≡ wanted_in cases.now }
-{
-    let mut wanted: usize = 0;
-    for case in cases {
-        wanted = wanted.saturating_add(case.wants.as_slice().len());
-    }
-    wanted
+/// What became of some cases.
+#[derive(Drop)]
+struct Played {
+    checks: Vec<Check>,
+    failures: Vec<Failure>,
 }
 
-/// The failures of some cases.
-fn failures_of<R: Wait>(
+/// Whether all failures are answers that differ.
+fn are_differences(failures: &[Failure]) -> bool
+    ensures { result ≡ list_all (λ f. is_difference_of f) failures.now }
+{
+    failures.iter().all(|failure| is_difference(failure))
+}
+
+/// Appends the checks of a case with these failures.
+fn push_checks(checks: &mut Vec<Check>, case: &Case, failures: &[Failure]) -> Result<(), Memory>
+    ensures { OnOk result (checks.new.items ≡ checks.old.items ++ comes.checks_in case.now failures.now) }
+{
+    let compared = are_differences(failures);
+    for want in case.wants.as_slice() {
+        let number = want.number;
+        checks.push(Check { number, compared })?;
+    }
+    Ok(())
+}
+
+/// Plays some cases.
+fn play_cases<R: Wait>(
     alloc: Global,
     rt: &R,
-    files: &[NamedFile],
+    loads: &[LoadedFile],
     cases: &[Case],
-) -> Result<Vec<Failure>, Memory>
-    ensures { IfOk result (λ v. AreFailures files.now cases.now v.items) }
+) -> Result<Played, Memory>
+    ensures { IfOk result (λ p. ArePlayed loads.now cases.now p.checks.items p.failures.items) }
 {
+    let mut checks = Vec::new(alloc);
     let mut failures = Vec::new(alloc);
     let mut rest = cases;
     while let Some((case, later)) = rest.split_first() {
-        let mut more = play_case(alloc, rt, files, case)?;
+        let mut more = play_case(alloc, rt, loads, case)?;
+        push_checks(&mut checks, case, more.as_slice())?;
         failures.append(&mut more)?;
         rest = later;
     }
-    Ok(failures)
+    Ok(Played { checks, failures })
 }
 
 /// Plays a transcript.
-fn play<R: Wait>(
-    alloc: Global,
-    rt: &R,
-    files: &[NamedFile],
-    transcript: &NamedFile,
-) -> Result<Outcome, Memory>
-    ensures { IfOk result (IsOutcome files.now transcript.now) }
+fn play<R: Wait>(alloc: Global, rt: &R, transcript: &Transcript) -> Result<Outcome, Memory>
+    ensures { IfOk result (IsOutcome transcript.now) }
 {
-    let lines = numbered_lines(alloc, transcript.bytes.as_slice())?;
+    let lines = numbered_lines(alloc, transcript.file.bytes.as_slice())?;
     let cases = cases(alloc, lines.as_slice())?;
-    let failures = failures_of(alloc, rt, files, cases.as_slice())?;
+    let Played { checks, failures } = play_cases(
+        alloc,
+        rt,
+        transcript.loads.as_slice(),
+        cases.as_slice(),
+    )?;
     Ok(Outcome {
-        name: transcript.name.copy(alloc)?,
-        wanted: wanted_of(cases.as_slice()),
+        name: transcript.file.name.copy(alloc)?,
+        checks: Sequence::new(checks),
         failures: Sequence::new(failures),
     })
 }
 
-/// Whether every answer is as wanted.
+/// Whether something is checked, and every answer is as wanted.
 fn is_well(outcome: &Outcome) -> bool
     ensures { result ≡ is_well_of outcome.now }
 {
-    outcome.failures.as_slice().is_empty()
+    !outcome.checks.as_slice().is_empty() && outcome.failures.as_slice().is_empty()
+}
+
+/// Whether each transcript checks something, and every answer is as wanted.
+pub fn are_well(outcomes: &[Outcome]) -> bool
+    ensures { result ≡ list_all (λ o. is_well_of o) outcomes.now }
+{
+    outcomes.iter().all(|outcome| is_well(outcome))
 }
 
 /// Plays a transcript and writes its report.
 fn replay<R: Wait, W: Write>(
     alloc: Global,
     rt: &R,
-    files: &[NamedFile],
-    transcript: &NamedFile,
+    transcript: &Transcript,
     rewrites: bool,
     writer: &mut W,
-) -> Result<bool, ReplayFault>
-    ensures { IfOk result (λ well. comes.IsReported rewrites files.now transcript.now (W.contents writer.old) (W.contents writer.new) well) }
+) -> Result<Outcome, ReplayFault>
+    ensures { IfOk result (λ o. comes.IsReported rewrites transcript.now (W.contents writer.old) (W.contents writer.new) o) }
 {
-    let outcome = play(alloc, rt, files, transcript)?;
-    let text = outcome_text(alloc, rewrites, transcript.bytes.as_slice(), &outcome)?;
+    let outcome = play(alloc, rt, transcript)?;
+    let text = outcome_text(alloc, rewrites, transcript.file.bytes.as_slice(), &outcome)?;
     match writer.write_all(text.as_slice()) {
-        Ok(()) => Ok(is_well(&outcome)),
+        Ok(()) => Ok(outcome),
         Err(_fault) => Err(ReplayFault::Write),
     }
 }
 
-fn both(first: bool, second: bool) -> bool
-    ensures { result ≡ (first && second) }
+fn keep(outcomes: &mut Vec<Outcome>, outcome: Outcome) -> Result<(), Memory>
+    ensures { OnOk result (outcomes.new.items ≡ outcomes.old.items ++ outcome ∷ []) }
 {
-    first && second
+    outcomes.push(outcome)?;
+    Ok(())
 }
 
 /// Plays transcripts, each of whose cases begins on a machine of its own, and writes the report of each, or where
-/// `rewrites` is set each transcript with the answers that came where others are wanted. `files` are those whose
-/// objects a case may load. Returns whether every answer is as wanted.
+/// `rewrites` is set each transcript with lines that want the answers that came where others are wanted. Returns what
+/// became of each.
 ///
 /// # Errors
 /// `Write` where the writer fails, `Memory` where an allocation fails outside an event.
 pub fn replay_run<R: Wait, W: Write>(
     alloc: Global,
     rt: &R,
-    files: &[NamedFile],
-    transcripts: &[NamedFile],
+    transcripts: &[Transcript],
     rewrites: bool,
     writer: &mut W,
-) -> Result<bool, ReplayFault>
-    ensures { IfOk result (λ well. IsReplayed rewrites files.now transcripts.now (W.contents writer.old) (W.contents writer.new) well) }
+) -> Result<Vec<Outcome>, ReplayFault>
+    ensures { IfOk result (λ v. IsReplayed rewrites transcripts.now (W.contents writer.old) (W.contents writer.new) v.items) }
 {
-    let mut well = true;
+    let mut outcomes = Vec::new(alloc);
     let mut rest = transcripts;
     while let Some((transcript, later)) = rest.split_first() {
-        let is_well = replay(alloc, rt, files, transcript, rewrites, writer)?;
-        well = both(well, is_well);
+        let outcome = replay(alloc, rt, transcript, rewrites, writer)?;
+        keep(&mut outcomes, outcome)?;
         rest = later;
     }
-    Ok(well)
+    Ok(outcomes)
 }
 
-/// The names of the files whose objects a transcript's cases load.
+/// The names of the files that a transcript's cases begin with.
 pub fn loaded_names(alloc: Global, transcript: &[u8]) -> Result<Vec<Sequence<u8>>, Memory>
     ensures { IfOk result (λ v. v.items ≡ comes.loaded_names transcript.now) }
 {
@@ -152,16 +170,37 @@ pub fn loaded_names(alloc: Global, transcript: &[u8]) -> Result<Vec<Sequence<u8>
     let cases = cases(alloc, lines.as_slice())?;
     let mut names = Vec::new(alloc);
     for case in cases.as_slice() {
-        push_name(alloc, &mut names, case)?;
+        push_names(alloc, &mut names, &case.begins)?;
     }
     Ok(names)
 }
 
-fn push_name(alloc: Global, names: &mut Vec<Sequence<u8>>, case: &Case) -> Result<(), Memory>
-    ensures { OnOk result (names.new.items ≡ names.old.items ++ comes.loaded_by case.now) }
+fn push_names(
+    alloc: Global,
+    names: &mut Vec<Sequence<u8>>,
+    begins: &Beginning,
+) -> Result<(), Memory>
+    ensures { OnOk result (names.new.items ≡ names.old.items ++ comes.names_of begins.now) }
 {
-    if let Some(load) = &case.load {
-        names.push(load.name.copy(alloc)?)?;
+    match begins {
+        Beginning::Opening => Ok(()),
+        Beginning::Lines(file) => push_name(alloc, names, file),
+        Beginning::Manifests(files) => push_all(alloc, names, files.as_slice()),
     }
+}
+
+fn push_all(alloc: Global, names: &mut Vec<Sequence<u8>>, files: &[Loaded]) -> Result<(), Memory>
+    ensures { OnOk result (names.new.items ≡ names.old.items ++ map (λ f. f.name) files.now) }
+{
+    for file in files {
+        push_name(alloc, names, file)?;
+    }
+    Ok(())
+}
+
+fn push_name(alloc: Global, names: &mut Vec<Sequence<u8>>, file: &Loaded) -> Result<(), Memory>
+    ensures { OnOk result (names.new.items ≡ names.old.items ++ file.now.name ∷ []) }
+{
+    names.push(file.name.copy(alloc)?)?;
     Ok(())
 }

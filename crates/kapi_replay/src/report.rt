@@ -1,16 +1,17 @@
 //! The report of a transcript.
 ghost use Rattle.std.specs.Prelude.{◌≡◌, ◌++◌, IfOk, OnOk, option_map};
+ghost use Rattle.kapi_transcript.specs.Wants.{wanted_of};
 ghost use Rattle.kapi_replay.specs.Reports as reports;
 ghost use Rattle.kapi_replay.specs.Reports.{came_for as came_for_of, failures_text, report_text, rewritten, rewritten_line};
 
 use crate::failure::{Failure, Outcome};
 use kapi_lines::{nth, split_lines};
 use kapi_text::{Memory, Sequence, Text};
-use kapi_transcript::push_number;
+use kapi_transcript::{corrected, exactly, parse_wanted, push_number};
 use std::alloc::Global;
 
 /// The line of this number, from 1; nothing where there is none.
-fn line_at(lines: &[Sequence<u8>], number: usize) -> &[u8]
+pub fn line_at(lines: &[Sequence<u8>], number: usize) -> &[u8]
     ensures { result.now ≡ reports.line_at lines.now number }
 {
     match nth(lines, number) {
@@ -66,6 +67,7 @@ fn push_what(text: &mut Vec<u8>, lines: &[Sequence<u8>], failure: &Failure) -> R
             push_number(text, b": load line ", *line)?;
             push_reason(text, reason)
         }
+        Failure::BadManifests(_number, reason) => push_manifests(text, reason),
     }
 }
 
@@ -76,8 +78,28 @@ fn push_reason(text: &mut Vec<u8>, reason: &Text) -> Result<(), Memory>
     push_part(text, b"\n  ", reason.as_str().as_bytes())
 }
 
+/// Appends what is wrong with manifests.
+fn push_manifests(text: &mut Vec<u8>, reason: &Sequence<u8>) -> Result<(), Memory>
+    ensures { OnOk result (text.new.items ≡ text.old.items ++ reports.manifests_text reason.now) }
+{
+    push_label(
+        text,
+        b": the manifests are not loaded\n  ",
+        reason.as_slice(),
+    )
+}
+
+/// Appends a label with what it names.
+fn push_label(text: &mut Vec<u8>, label: &[u8], part: &[u8]) -> Result<(), Memory>
+    ensures { OnOk result (text.new.items ≡ text.old.items ++ (label.now ++ part.now)) }
+{
+    text.extend_from_slice(label)?;
+    text.extend_from_slice(part)?;
+    Ok(())
+}
+
 /// The line of the transcript at which something is not as wanted.
-fn number_of(failure: &Failure) -> usize
+pub fn number_of(failure: &Failure) -> usize
     ensures { result ≡ reports.number_of failure.now }
 {
     match failure {
@@ -85,11 +107,19 @@ fn number_of(failure: &Failure) -> usize
         Failure::NoForm(number, _reason) => *number,
         Failure::NoFile(number) => *number,
         Failure::NotLoaded(number, _line, _reason) => *number,
+        Failure::BadManifests(number, _reason) => *number,
     }
 }
 
+/// Whether the failure is an answer that differs.
+pub fn is_difference(failure: &Failure) -> bool
+    ensures { result ≡ reports.is_difference failure.now }
+{
+    matches!(failure, Failure::Differs(_, _, _))
+}
+
 /// Appends a failure, and where it is.
-fn push_failure(
+pub fn push_failure(
     text: &mut Vec<u8>,
     name: &str,
     lines: &[Sequence<u8>],
@@ -117,30 +147,42 @@ fn push_failures(
     Ok(())
 }
 
-/// Appends how many failures there are, if there are some.
-fn push_count(text: &mut Vec<u8>, failures: usize) -> Result<(), Memory>
-    ensures { OnOk result (text.new.items ≡ text.old.items ++ reports.count_text failures) }
+/// Appends how many failures there are; if there are none, whether anything was checked.
+fn push_count(text: &mut Vec<u8>, wanted: usize, failures: usize) -> Result<(), Memory>
+    ensures { OnOk result (text.new.items ≡ text.old.items ++ reports.count_text wanted failures) }
 {
     if failures == 0 {
-        text.push(b'\n')?;
-        return Ok(());
+        return Ok(text.extend_from_slice(well_text(wanted))?);
     }
     push_number(text, b", ", failures)?;
     text.extend_from_slice(b" not as wanted\n")?;
     Ok(())
 }
 
-/// The report of a transcript: each failure, and how many answers it wants.
+/// What is said of so many checks without a failure.
+#[tactic(auto, unfolding(crate::specs::Reports::well_text))]
+fn well_text(wanted: usize) -> &'static [u8]
+    ensures { result.now ≡ reports.well_text wanted }
+{
+    if wanted == 0 {
+        b": it checks nothing\n".as_slice()
+    } else {
+        b"\n".as_slice()
+    }
+}
+
+/// The report of a transcript: each failure, and how many checks it has.
 fn report(alloc: Global, lines: &[Sequence<u8>], outcome: &Outcome) -> Result<Vec<u8>, Memory>
     ensures { IfOk result (λ v. v.items ≡ report_text lines.now outcome.now) }
 {
     let mut text = Vec::new(alloc);
     let name = outcome.name.as_str();
+    let checks = outcome.checks.as_slice().len();
     push_failures(&mut text, name, lines, outcome.failures.as_slice())?;
     text.extend_from_slice(name.as_bytes())?;
-    push_number(&mut text, b": ", outcome.wanted)?;
-    text.extend_from_slice(b" answers")?;
-    push_count(&mut text, outcome.failures.as_slice().len())?;
+    push_number(&mut text, b": ", checks)?;
+    text.extend_from_slice(b" checks")?;
+    push_count(&mut text, checks, outcome.failures.as_slice().len())?;
     Ok(text)
 }
 
@@ -175,8 +217,19 @@ fn came_for(number: usize, failures: &[Failure]) -> Option<&[u8]>
     None
 }
 
-/// Appends a line, or the answer that came in its place.
+/// The line that wants what came, in place of a line that wants something else.
+fn corrected_line(alloc: Global, line: &[u8], answer: &[u8]) -> Result<Sequence<u8>, Memory>
+    ensures { IfOk result (λ s. s ≡ reports.corrected_line (wanted_of line.now) answer.now) }
+{
+    match parse_wanted(alloc, line)? {
+        Some(wanted) => corrected(alloc, &wanted, answer),
+        None => exactly(alloc, answer),
+    }
+}
+
+/// Appends a line, or in its place the line that wants the answer that came.
 fn push_line(
+    alloc: Global,
     text: &mut Vec<u8>,
     number: usize,
     line: &[u8],
@@ -188,18 +241,27 @@ fn push_line(
         text.push(b'\n')?;
     }
     match came_for(number, failures) {
-        Some(answer) => push_part(text, b"> ", answer),
+        Some(answer) => {
+            let line = corrected_line(alloc, line, answer)?;
+            Ok(text.extend_from_slice(line.as_slice())?)
+        }
         None => Ok(text.extend_from_slice(line)?),
     }
 }
 
-/// A transcript in which each line that wants another answer than came is that answer.
+/// A transcript in which each line that wants another answer than came wants that answer.
 fn rewrite(alloc: Global, lines: &[Sequence<u8>], failures: &[Failure]) -> Result<Vec<u8>, Memory>
     ensures { IfOk result (λ v. v.items ≡ rewritten lines.now failures.now) }
 {
     let mut text = Vec::new(alloc);
     for index in 0..lines.len() {
-        push_line(&mut text, index + 1, lines[index].as_slice(), failures)?;
+        push_line(
+            alloc,
+            &mut text,
+            index + 1,
+            lines[index].as_slice(),
+            failures,
+        )?;
     }
     Ok(text)
 }

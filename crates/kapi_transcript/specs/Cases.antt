@@ -1,10 +1,12 @@
 -- The cases of a transcript: what each line adds to the script of its case.
-use Rattle.std.specs.Prelude.{ℕ, ◌==◌, Bool, true, false, if◌then◌else◌, List, [], ◌∷◌, ◌++◌, length, drop, codes, Option, Some, None}
+use Rattle.std.specs.Prelude.{ℕ, ◌==◌, Bool, true, false, not, ◌&&◌, if◌then◌else◌, List, [], ◌∷◌, ◌++◌, length, drop, codes, Option, Some, None}
 use Rattle.std.specs.List.{position}
 use Rattle.std.specs.Str.{bytes_eq}
 use Rattle.kapi_lines.specs.Lines.{NumberedLine}
 use Rattle.kapi_transcript.specs.Forms.{form_of}
 use Rattle.kapi_transcript.specs.Requests.{feed_line, number_line, request_text}
+use Rattle.kapi_transcript.specs.declared.case.Beginning.{Beginning}
+use Rattle.kapi_transcript.specs.declared.case.Beginning.TheVariants as beginning
 use Rattle.kapi_transcript.specs.declared.case.Case.{Case}
 use Rattle.kapi_transcript.specs.declared.case.Event.{Event}
 use Rattle.kapi_transcript.specs.declared.case.Loaded.{Loaded}
@@ -12,14 +14,16 @@ use Rattle.kapi_transcript.specs.declared.case.Want.{Want}
 use Rattle.kapi_transcript.specs.declared.draft.Draft.{Draft}
 use Rattle.kapi_transcript.specs.declared.form.Form.{Form}
 use Rattle.kapi_transcript.specs.declared.form.Form.TheVariants as form
+use Rattle.kapi_transcript.specs.declared.form.Source.{Source}
+use Rattle.kapi_transcript.specs.declared.form.Source.TheVariants as source
 use Rattle.kapi_transcript.specs.declared.request.Request.{Request}
 use Rattle.kapi_transcript.specs.declared.wanted.Wanted.{Wanted}
 use Rattle.kapi_lines.specs.Words.{begins}
 
--- a case that is being read: its file, whether it rechecks rights, its script and wants so far, the identities of its
+-- a case that is being read: what it begins with, whether it rechecks rights, its script and wants so far, the identities of its
 -- connections in their order, the connection that was taken last, and whether a header field may follow
 pub record PlainDraft : Type 0 where
-  pub load : Option Loaded
+  pub begins : Beginning
   pub rechecks : Bool
   pub script : List Event
   pub wants : List Want
@@ -30,15 +34,15 @@ pub record PlainDraft : Type 0 where
 -- a draft, as lists
 abbrev pub draft_of : Draft → PlainDraft
 draft_of d =
-    record { load = d.load; rechecks = d.rechecks; script = d.script.items; wants = d.wants.items; opened = d.opened.items; taken = d.taken; fields = d.fields }
+    record { begins = d.begins; rechecks = d.rechecks; script = d.script.items; wants = d.wants.items; opened = d.opened.items; taken = d.taken; fields = d.fields }
 
 -- a case without lines
-abbrev pub fresh : Option Loaded → PlainDraft
-fresh load = record { load = load; rechecks = false; script = []; wants = []; opened = []; taken = None; fields = false }
+abbrev pub fresh : Beginning → PlainDraft
+fresh begins = record { begins = begins; rechecks = false; script = []; wants = []; opened = []; taken = None; fields = false }
 
 -- the case that was read
 abbrev pub case_of : PlainDraft → Case
-case_of d = record { load = d.load; rechecks = d.rechecks; script = d.script; wants = d.wants }
+case_of d = record { begins = d.begins; rechecks = d.rechecks; script = d.script; wants = d.wants }
 
 -- ---- what a line adds
 
@@ -116,16 +120,44 @@ drafted d l f later = raw d l.number l.text
 
 -- ---- the cases
 
+-- files of manifests
+abbrev pub are_manifests : Beginning → Bool
+are_manifests (beginning.Manifests files) = true
+are_manifests begins = false
+
+-- files of manifests, and one more
+abbrev pub with_manifests : Beginning → Loaded → Beginning
+with_manifests (beginning.Manifests files) file = beginning.Manifests (files ++ file ∷ [])
+with_manifests begins file = beginning.Manifests (file ∷ [])
+
+-- the case begins with manifests, and has no other line yet
+abbrev pub takes_manifests : PlainDraft → Bool
+takes_manifests d = are_manifests d.begins && (length d.script == 0 && (length d.wants == 0 && not d.rechecks))
+
+-- what a case begins with that goes on with a file of manifests, or begins with it
+abbrev pub begun_with : PlainDraft → Loaded → Beginning
+begun_with d file = with_manifests (if takes_manifests d then d.begins else beginning.Opening) file
+
+-- the case that ends before a line that names a file, if one does
+abbrev pub ended_at : PlainDraft → Source → List Case
+ended_at d (source.Lines name) = case_of d ∷ []
+ended_at d (source.Manifests name) = if takes_manifests d then [] else case_of d ∷ []
+
+-- what a case begins with after a line that names a file
+abbrev pub begins_at : PlainDraft → ℕ → Source → Beginning
+begins_at d n (source.Lines name) = beginning.Lines (record { number = n; name = name })
+begins_at d n (source.Manifests name) = begun_with d (record { number = n; name = name })
+
 -- the case that ends before a line of that form, if one does
 abbrev pub ended : PlainDraft → Form → List Case
 ended d form.Begin = case_of d ∷ []
-ended d (form.Load name) = case_of d ∷ []
+ended d (form.Load s) = ended_at d s
 ended d f = []
 
 -- the case that is being read after a line of that form, before the lines that follow
 abbrev pub next : PlainDraft → NumberedLine → Form → List NumberedLine → PlainDraft
-next d l form.Begin later = fresh None
-next d l (form.Load name) later = fresh (Some (record { number = l.number; name = name }))
+next d l form.Begin later = fresh beginning.Opening
+next d l (form.Load s) later = fresh (begins_at d l.number s)
 next d l f later = drafted d l f later
 
 -- the cases of lines, the first of which is being read
@@ -133,6 +165,6 @@ unfoldable pub cases_from : PlainDraft → List NumberedLine → List Case
 cases_from d [] = case_of d ∷ []
 cases_from d (l ∷ ls) = ended d (form_of l.text) ++ cases_from (next d l (form_of l.text) ls) ls
 
--- the cases of a transcript: `begin` and `load` begin another one
+-- the cases of a transcript: `begin`, `load` and `manifests` begin another one
 abbrev pub cases_of : List NumberedLine → List Case
-cases_of lines = cases_from (fresh None) lines
+cases_of lines = cases_from (fresh beginning.Opening) lines

@@ -7,6 +7,7 @@ use Rattle.kapi_transcript.specs.Requests.{request_line, request_of}
 use Rattle.kapi_transcript.specs.Wants.{wanted_of}
 use Rattle.kapi_transcript.specs.declared.form.Form.{Form}
 use Rattle.kapi_transcript.specs.declared.form.Form.TheVariants as form
+use Rattle.kapi_transcript.specs.declared.form.Source.TheVariants as source
 use Rattle.kapi_transcript.specs.declared.wanted.Wanted.{Wanted}
 use Rattle.kapi_lines.specs.Words.{begins}
 
@@ -38,5 +39,6 @@ form_of line =
     if bytes_eq line (codes "begin") then form.Begin
     else (if bytes_eq line (codes "pump") then form.Pump
     else (if bytes_eq line (codes "recheck") then form.Recheck
-    else (if begins line (codes "load ") then form.Load (drop 5 line)
-    else (if begins line (codes "as ") then actor_form (drop 3 line) else want_form line (wanted_of line)))))
+    else (if begins line (codes "load ") then form.Load (source.Lines (drop 5 line))
+    else (if begins line (codes "manifests ") then form.Load (source.Manifests (drop 10 line))
+    else (if begins line (codes "as ") then actor_form (drop 3 line) else want_form line (wanted_of line))))))

@@ -1,11 +1,22 @@
 use crate::wanted::Wanted;
 use kapi_text::Sequence;
 
-/// The file whose objects a machine begins with, and the line that names it.
+/// A file whose objects a machine begins with, and the line that names it.
 #[derive(Drop)]
 pub struct Loaded {
     pub number: usize,
     pub name: Sequence<u8>,
+}
+
+/// What the machine of a case begins with.
+#[derive(Drop)]
+pub enum Beginning {
+    /// The opening objects alone.
+    Opening,
+    /// The opening objects and those of a file, which has one a line.
+    Lines(Loaded),
+    /// The objects of files of manifests, read as one policy.
+    Manifests(Sequence<Loaded>),
 }
 
 /// A line of a case's script, and the line of the transcript that it is made from.
@@ -26,7 +37,7 @@ pub struct Want {
 /// A case of a transcript: a script on a machine of its own, and what is wanted of its answers.
 #[derive(Drop)]
 pub struct Case {
-    pub load: Option<Loaded>,
+    pub begins: Beginning,
     /// The rights of watches are rechecked at each of their events.
     pub rechecks: bool,
     pub script: Sequence<Event>,

@@ -1,11 +1,11 @@
 //! The cases of a transcript, read line by line.
-ghost use Rattle.std.specs.Prelude.{◌≡◌, ◌++◌, ◌∷◌, [], IfOk, OnOk, map};
+ghost use Rattle.std.specs.Prelude.{◌≡◌, ◌++◌, ◌∷◌, [], if◌then◌else◌, IfOk, OnOk, map};
 ghost use Rattle.kapi_lines.specs.Lines.{line_of};
 ghost use Rattle.kapi_transcript.specs.Cases as cased;
 ghost use Rattle.kapi_transcript.specs.Cases.{case_of, cases_from, draft_of, drafted, fresh};
 
-use crate::case::{Case, Event, Loaded, Want};
-use crate::form::{Form, parse_form};
+use crate::case::{Beginning, Case, Event, Loaded, Want};
+use crate::form::{Form, Source, parse_form};
 use crate::request::{Request, feed_line, request_bytes, word_line};
 use crate::wanted::Wanted;
 use kapi_lines::{Line, copy_of};
@@ -16,7 +16,7 @@ use std::mem;
 /// A case that is being read.
 #[derive(Drop)]
 pub struct Draft {
-    load: Option<Loaded>,
+    begins: Beginning,
     rechecks: bool,
     script: Vec<Event>,
     wants: Vec<Want>,
@@ -30,11 +30,11 @@ pub struct Draft {
 
 impl Draft {
     /// A case without lines.
-    fn new(alloc: Global, load: Option<Loaded>) -> Draft
-        ensures { draft_of result ≡ fresh load }
+    fn new(alloc: Global, begins: Beginning) -> Draft
+        ensures { draft_of result ≡ fresh begins }
     {
         Draft {
-            load,
+            begins,
             rechecks: false,
             script: Vec::new(alloc),
             wants: Vec::new(alloc),
@@ -44,12 +44,22 @@ impl Draft {
         }
     }
 
+    /// Whether the case begins with manifests, and has no other line yet.
+    fn takes_manifests(&self) -> bool
+        ensures { result ≡ cased.takes_manifests (draft_of self.now) }
+    {
+        matches!(&self.begins, Beginning::Manifests(_))
+            && self.script.is_empty()
+            && self.wants.is_empty()
+            && !self.rechecks
+    }
+
     /// The case that was read.
     fn into_case(self) -> Case
         ensures { result ≡ case_of (draft_of self) }
     {
         Case {
-            load: self.load,
+            begins: self.begins,
             rechecks: self.rechecks,
             script: Sequence::new(self.script),
             wants: Sequence::new(self.wants),
@@ -213,14 +223,69 @@ fn begin(
     alloc: Global,
     cases: &mut Vec<Case>,
     draft: &mut Draft,
-    load: Option<Loaded>,
+    begins: Beginning,
 ) -> Result<(), Memory>
     ensures ended { OnOk result (cases.new.items ≡ cases.old.items ++ case_of (draft_of draft.old) ∷ []) }
-    ensures begun { OnOk result (draft_of draft.new ≡ fresh load) }
+    ensures begun { OnOk result (draft_of draft.new ≡ fresh begins) }
 {
-    let ended = mem::replace(draft, Draft::new(alloc, load));
+    let ended = mem::replace(draft, Draft::new(alloc, begins));
     cases.push(ended.into_case())?;
     Ok(())
+}
+
+/// Reads a line of this number that names a file.
+fn read_source(
+    alloc: Global,
+    cases: &mut Vec<Case>,
+    draft: &mut Draft,
+    number: usize,
+    source: Source,
+) -> Result<(), Memory>
+    ensures ended { OnOk result (cases.new.items ≡ cases.old.items ++ cased.ended_at (draft_of draft.old) source) }
+    ensures begun { OnOk result (draft_of draft.new ≡ fresh (cased.begins_at (draft_of draft.old) number source)) }
+{
+    match source {
+        Source::Lines(name) => {
+            begin(
+                alloc,
+                cases,
+                draft,
+                Beginning::Lines(Loaded { number, name }),
+            )
+        }
+        Source::Manifests(name) => read_manifests(alloc, cases, draft, Loaded { number, name }),
+    }
+}
+
+/// Reads a line that names a file of manifests: the case that is being read goes on with it, or another begins.
+fn read_manifests(
+    alloc: Global,
+    cases: &mut Vec<Case>,
+    draft: &mut Draft,
+    file: Loaded,
+) -> Result<(), Memory>
+    ensures ended { OnOk result (cases.new.items ≡ cases.old.items ++ (if cased.takes_manifests (draft_of draft.old) then [] else case_of (draft_of draft.old) ∷ [])) }
+    ensures begun { OnOk result (draft_of draft.new ≡ fresh (cased.begun_with (draft_of draft.old) file)) }
+{
+    if !draft.takes_manifests() {
+        let begins = with_manifests(alloc, Beginning::Opening, file)?;
+        return begin(alloc, cases, draft, begins);
+    }
+    let before = mem::replace(draft, Draft::new(alloc, Beginning::Opening));
+    draft.begins = with_manifests(alloc, before.begins, file)?;
+    Ok(())
+}
+
+/// Files of manifests, and one more.
+fn with_manifests(alloc: Global, begins: Beginning, file: Loaded) -> Result<Beginning, Memory>
+    ensures { IfOk result (λ b. b ≡ cased.with_manifests begins file) }
+{
+    let mut files = match begins {
+        Beginning::Manifests(files) => files.into_vec(),
+        _ => Vec::new(alloc),
+    };
+    files.push(file)?;
+    Ok(Beginning::Manifests(Sequence::new(files)))
 }
 
 /// Reads a line of that form, before the lines that follow.
@@ -236,11 +301,8 @@ fn read_form(
     ensures next { OnOk result (draft_of draft.new ≡ cased.next (draft_of draft.old) (line_of line.now) form (map line_of later.now)) }
 {
     match form {
-        Form::Begin => begin(alloc, cases, draft, None),
-        Form::Load(name) => {
-            let number = line.number;
-            begin(alloc, cases, draft, Some(Loaded { number, name }))
-        }
+        Form::Begin => begin(alloc, cases, draft, Beginning::Opening),
+        Form::Load(source) => read_source(alloc, cases, draft, line.number, source),
         form => draft.push(alloc, line, form, later),
     }
 }
@@ -274,7 +336,7 @@ pub fn cases(alloc: Global, lines: &[Line<'_>]) -> Result<Vec<Case>, Memory>
     ensures { IfOk result (λ v. v.items ≡ cased.cases_of (map line_of lines.now)) }
 {
     let mut cases = Vec::new(alloc);
-    let mut draft = Draft::new(alloc, None);
+    let mut draft = Draft::new(alloc, Beginning::Opening);
     let mut rest = lines;
     while let [line, later @ ..] = rest {
         read_line(alloc, &mut cases, &mut draft, line, later)?;

@@ -11,13 +11,22 @@ use kapi_lines::copy_of;
 use kapi_text::{Memory, Sequence};
 use std::alloc::Global;
 
+/// The file that a line names.
+#[derive(Drop)]
+pub enum Source {
+    /// `load FILE`: a file of objects, one a line.
+    Lines(Sequence<u8>),
+    /// `manifests FILE`: a file of manifests, or a folder of such files.
+    Manifests(Sequence<u8>),
+}
+
 /// The form of a line.
 #[derive(Drop)]
 pub enum Form {
     /// `begin`: a new machine.
     Begin,
-    /// `load FILE`: a new machine, with the objects of a file.
-    Load(Sequence<u8>),
+    /// A new machine, with the objects of a file.
+    Load(Source),
     /// `as USER` or `as USER,GROUP,..`: the connection of that identity. No name is empty, or begins or ends with white
     /// space.
     Actor(Sequence<u8>),
@@ -50,7 +59,10 @@ pub fn parse_form(alloc: Global, line: &[u8]) -> Result<Form, Memory>
         return Ok(Form::Recheck);
     }
     if line.starts_with(b"load ") {
-        return Ok(Form::Load(copy_of(alloc, &line[5..])?));
+        return Ok(Form::Load(Source::Lines(copy_of(alloc, &line[5..])?)));
+    }
+    if line.starts_with(b"manifests ") {
+        return Ok(Form::Load(Source::Manifests(copy_of(alloc, &line[10..])?)));
     }
     if line.starts_with(b"as ") {
         return Ok(actor_form(copy_of(alloc, &line[3..])?));

@@ -11,9 +11,9 @@ mod request;
 mod sent;
 mod wanted;
 
-pub use case::{Case, Event, Loaded, Want};
+pub use case::{Beginning, Case, Event, Loaded, Want};
 pub use correction::{corrected, exactly};
 pub use draft::{Draft, cases};
-pub use form::{Form, parse_form};
+pub use form::{Form, Source, parse_form};
 pub use request::{Request, push_number};
 pub use wanted::{Wanted, is_met, parse_wanted};

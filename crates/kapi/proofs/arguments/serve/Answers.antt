@@ -1,13 +1,13 @@
 -- Each argument that is added is one more rule, and none is global.
 use Rattle.std.proofs.Common.{ap₂, codes, false, ◌≡◌, ◌∙◌, ◌||◌}
 use Rattle.std.proofs.lemmas.Result.{IfOk-weaker}
-use Rattle.clap.specs.Simple.{App, app_of, new_app, with_rule}
+use Rattle.clap.specs.Simple.{App, app_of, with_rule}
 use Rattle.clap.specs.declared.builder.command.Command.TheViews.{out-Command}
-use Rattle.kapi.specs.CommandLine.{flag, option, readers}
+use Rattle.kapi.specs.CommandLine.{flag, opened, option, readers}
 use Rattle.kapi.proofs.arguments.serve.Goals as goal
 
 abbrev loading : App
-loading = with_rule (new_app (codes "serve")) (option (codes "load"))
+loading = with_rule opened (option (codes "load"))
 
 abbrev beginning : App
 beginning = with_rule loading (option (codes "first-revision"))
@@ -20,8 +20,8 @@ answering = with_rule looking (option (codes "answer"))
 
 pub returns : goal.returns
 returns c =
-    let named : app_of c.bare_serve.result ≡ new_app (codes "serve") = c.bare_serve.ensures.app in
-    let local : (out-Command c.bare_serve.result).has_globals ≡ false = c.bare_serve.ensures.local in
+    let named : app_of c.in_ok-opened.field-0 ≡ opened = c.in_ok-opened.ensures.0 in
+    let local : (out-Command c.in_ok-opened.field-0).has_globals ≡ false = c.in_ok-opened.ensures.1 in
     let first : app_of c.in_ok-arg.field-0 ≡ loading = c.in_ok-arg.ensures.shape c.option.ensures.local ∙ ap₂ with_rule named c.option.ensures.rule in
     let first_local : (out-Command c.in_ok-arg.field-0).has_globals ≡ false = c.in_ok-arg.ensures.globals ∙ ap₂ ◌||◌ local c.option.ensures.local in
     let second : app_of c.in_ok-arg-2.field-0 ≡ beginning = c.in_ok-arg-2.ensures.shape c.option-2.ensures.local ∙ ap₂ with_rule first c.option-2.ensures.rule in

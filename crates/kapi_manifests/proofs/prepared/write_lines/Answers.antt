@@ -1,8 +1,8 @@
-use Rattle.std.proofs.Common.{◌≡◌, ◌∙◌, ◌++◌, List, [], ap, length, map, subst}
+use Rattle.std.proofs.Common.{◌≡◌, ◌∙◌, List, [], ap, length, map, subst}
 use Rattle.serde_json.specs.Data.{Data}
 use Rattle.kapi_manifests.specs.Files.{data_of}
 use Rattle.kapi_manifests.specs.Made.{made}
-use Rattle.kapi_manifests.specs.Standing.{standing_among, standing_roles}
+use Rattle.kapi_manifests.specs.Standing.{object_told, standing_among}
 use Rattle.kapi_manifests.specs.Written.{AreOf}
 use Rattle.kapi_manifests.proofs.Wrote.{in_order}
 use Rattle.kapi_manifests.proofs.prepared.write_lines.Goals as goal
@@ -17,6 +17,6 @@ returns c =
     let third = c.in_ok-push_all-3.ensures _ second in
     let fourth = c.in_ok-push_all-4.ensures _ third in
     let made_is : map data_of c.as_slice.result.now ≡ made c.args.homes.now c.args.objects.now = ap (map data_of) c.as_slice.ensures.value ∙ c.in_ok-made.ensures in
-    let standing_is : map data_of c.as_slice-2.result.now ≡ standing_among objects standing_roles =
-    ap (map data_of) c.as_slice-2.ensures.value ∙ c.in_ok-standing.ensures ∙ ap (standing_among objects) c.standing_roles.ensures in
+    let standing_is : map data_of c.as_slice-2.result.now ≡ standing_among objects (map object_told c.args.standing.now) =
+    ap (map data_of) c.as_slice-2.ensures.value ∙ c.in_ok-beneath.ensures in
     subst (λ (ds : List Data). AreOf c.push_all-4.new.self ds) (in_order homes _ _ objects _ _ made_is standing_is) fourth

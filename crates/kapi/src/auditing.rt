@@ -1,0 +1,113 @@
+//! Questions of a file, answered by a policy.
+ghost use Rattle.std.specs.Prelude.{◌≤◌};
+
+use crate::asking::doubts_of;
+use crate::ending::Ending;
+use crate::manifests::{ReadPolicy, read_policy, tell_refused};
+use crate::program::{AuditFiles, Reading};
+use crate::telling::{print, read_file, tell_reason};
+use kapi_audit::{AuditFault, NoGate, audit_alone, audit_run};
+use kapi_reasons::{object_reason, question_reason};
+use std::fs::Files;
+use std::io;
+use std::sync::Wait;
+use std::thread::Threads;
+
+/// Prints the answers to the questions: status 0, or 1 after the fault and its reason on standard error.
+pub fn run_audit<
+    R: Files + Input + Print + Eprint + AllocGlobal + Threads + Wait + Sync + Clone + Drop,
+>(rt: &R, files: &AuditFiles) -> io::Result<Ending> {
+    match &files.manifests {
+        Some(reading) => audit_manifests(rt, files, reading),
+        None => audit_lines(rt, files),
+    }
+}
+
+/// Answers by a policy of lines.
+fn audit_lines<R: Files + Print + Eprint + AllocGlobal + Threads + Wait + Sync>(
+    rt: &R,
+    files: &AuditFiles,
+) -> io::Result<Ending> {
+    let Some(policy) = read_file(rt, files.policy.as_str())? else {
+        return Ok(Ending::Stopped);
+    };
+    let Some(questions) = read_file(rt, files.questions.as_str())? else {
+        return Ok(Ending::Stopped);
+    };
+    let (policy, questions) = (policy.as_slice(), questions.as_slice());
+    match audit(rt, policy, questions, files.readers) {
+        Ok(answers) => {
+            print(rt, answers.as_slice())?;
+            Ok(Ending::Done)
+        }
+        Err(fault) => {
+            if let AuditFault::PolicyLine(_line) = fault {
+                eprintln!(rt; "{fault}")?;
+                tell_reason(rt, object_reason(rt.alloc(), 0, policy))?;
+                return Ok(Ending::Stopped);
+            }
+            refuse(rt, fault, questions)
+        }
+    }
+}
+
+/// Answers by a policy of manifests, whose doubts are reported.
+fn audit_manifests<
+    R: Files + Input + Print + Eprint + AllocGlobal + Threads + Wait + Sync + Clone + Drop,
+>(rt: &R, files: &AuditFiles, reading: &Reading) -> io::Result<Ending> {
+    let Some(policy) = read_policy(rt, files.policy.as_str(), reading)? else {
+        return Ok(Ending::Stopped);
+    };
+    let Some(questions) = read_file(rt, files.questions.as_str())? else {
+        return Ok(Ending::Stopped);
+    };
+    let questions = questions.as_slice();
+    match audit_objects(rt, &policy, questions, files.readers) {
+        Ok(answers) => {
+            print(rt, answers.as_slice())?;
+            let mut doubts = doubts_of(rt, files.policy.as_str(), &policy)?;
+            doubts.tell_reviews(rt, &policy.prepared.words, questions)?;
+            Ok(Ending::Done.or_doubted(reading.strict && doubts.are_some()))
+        }
+        Err(AuditFault::PolicyLine(_line)) => {
+            tell_refused(rt, &policy)?;
+            Ok(Ending::Stopped)
+        }
+        Err(fault) => refuse(rt, fault, questions),
+    }
+}
+
+/// Reports why questions have no answers: status 1.
+fn refuse<R: Eprint + AllocGlobal>(
+    rt: &R,
+    fault: AuditFault,
+    questions: &[u8],
+) -> io::Result<Ending> {
+    eprintln!(rt; "{fault}")?;
+    if let AuditFault::QuestionLine(line) = fault {
+        tell_reason(rt, question_reason(rt.alloc(), questions, line))?;
+    }
+    Ok(Ending::Stopped)
+}
+
+fn audit<R: AllocGlobal + Threads + Wait + Sync>(
+    rt: &R,
+    policy: &[u8],
+    questions: &[u8],
+    readers: usize,
+) -> Result<Vec<u8>, AuditFault>
+    requires { (1 ≤ readers) × (readers ≤ 16) }
+{
+    audit_run(rt.alloc(), rt, policy, questions, readers, &NoGate)
+}
+
+fn audit_objects<R: AllocGlobal + Threads + Wait + Sync>(
+    rt: &R,
+    policy: &ReadPolicy,
+    questions: &[u8],
+    readers: usize,
+) -> Result<Vec<u8>, AuditFault>
+    requires { (1 ≤ readers) × (readers ≤ 16) }
+{
+    audit_alone(rt.alloc(), rt, policy.lines(), questions, readers, &NoGate)
+}

@@ -1,0 +1,43 @@
+-- What became of a case that begins with manifests.
+use Rattle.std.proofs.Common.{◌≡◌, ℕ, [], List, false, Result, Ok, Err, IfOk, length, sym, subst}
+use Rattle.kapi_core.specs.Machine.{Machine, with_rechecks}
+use Rattle.kapi_loading.specs.Faults.{FileFault, bad_line}
+use Rattle.kapi_manifests.specs.Written.{Loads, faults_in_all}
+use Rattle.kapi_manifests.specs.declared.fault.Origin.{Origin}
+use Rattle.kapi_manifests.specs.declared.prepared.Prepared.{Prepared}
+use Rattle.kapi_manifests.specs.declared.sorted.Scope.TheVariants.{All}
+use Rattle.kapi_replay.specs.Failures.{FailsOn}
+use Rattle.kapi_replay.specs.Manifests.{FailsAlone, FailsBehind, FailsTexts, IsFaultAt, IsRefused, all_texts, origin_at}
+use Rattle.kapi_replay.specs.declared.failure.Failure.{Failure}
+use Rattle.kapi_replay.specs.declared.files.LoadedFile.{LoadedFile}
+use Rattle.kapi_transcript.specs.declared.case.Case.{Case}
+use Rattle.kapi_transcript.specs.declared.case.Loaded.{Loaded}
+
+-- the machine is the one that lines make alone
+pub alone : {V E : Type 0} (items : V → List Failure) (r : Result V E) (m : Machine) (loads : List LoadedFile) (c : Case) (files : List Loaded) (p : Prepared) (given : Result Machine FileFault)
+    → given ≡ Ok m → IfOk r (λ v. FailsOn (with_rechecks c.rechecks m) c (items v)) → IfOk r (λ v. FailsAlone loads c files p given (items v))
+alone items r m loads c files p given is h = subst (λ x. IfOk r (λ v. FailsAlone loads c files p x (items v))) (sym is) h
+
+-- no machine is made, as a line is not loaded
+pub not_alone : {V E : Type 0} (items : V → List Failure) (r : Result V E) (n : ℕ) (loads : List LoadedFile) (c : Case) (files : List Loaded) (p : Prepared) (given : Result Machine FileFault)
+    → given ≡ Err (bad_line n) → IfOk r (λ v. IsRefused loads files p n (items v)) → IfOk r (λ v. FailsAlone loads c files p given (items v))
+not_alone items r n loads c files p given is h = subst (λ x. IfOk r (λ v. FailsAlone loads c files p x (items v))) (sym is) h
+
+-- a line is not loaded, for a reason
+pub is_refused : {V E : Type 0} (items : V → List Failure) (r : Result V E) (loads : List LoadedFile) (files : List Loaded) (p : Prepared) (n more : ℕ) (o : Origin)
+    → o ≡ origin_at p.origins.items n → IfOk r (λ v. IsFaultAt loads files o more (items v)) → IfOk r (λ v. IsRefused loads files p n (items v))
+is_refused items (Ok v) loads files p n more o is h = (more, subst (λ x. IsFaultAt loads files x more (items v)) is h)
+is_refused items (Err x) loads files p n more o is h = tt
+
+-- what is loaded of texts
+pub texts_fail : {V E : Type 0} (items : V → List Failure) (r : Result V E) (loads : List LoadedFile) (c : Case) (files : List Loaded) (p : Prepared) (texts : List (List ℕ)) → texts ≡ all_texts loads files
+    → Loads All [] false false texts p → length p.faults.items ≡ faults_in_all All [] texts
+    → IfOk r (λ v. FailsBehind loads c files p p.faults.items (items v)) → IfOk r (λ v. FailsTexts loads c files (items v))
+texts_fail items (Ok v) loads c files p texts is load count h =
+    record {
+      prepared = p;
+      is_prepared = subst (λ ts. Loads All [] false false ts p) is load;
+      faults = subst (λ ts. length p.faults.items ≡ faults_in_all All [] ts) is count;
+      fails = h;
+    }
+texts_fail items (Err x) loads c files p texts is load count h = tt

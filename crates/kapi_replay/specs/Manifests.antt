@@ -1,0 +1,98 @@
+-- The failures of a case that begins with manifests.
+use Rattle.std.specs.Prelude.{◌≡◌, ℕ, ◌+◌, ◌-◌, ◌==◌, nat_lt, true, false, if◌then◌else◌, List, [], ◌∷◌, ◌++◌, length, codes, Option, Some, None, Result, Ok, Err}
+use Rattle.std.specs.List.{find, flat_map, list_all}
+use Rattle.std.specs.Option.{unwrap_or}
+use Rattle.kapi_core.specs.Machine.{Machine, with_rechecks}
+use Rattle.kapi_lines.specs.Words.{nth}
+use Rattle.kapi_loading.specs.Faults.{FileFault}
+use Rattle.kapi_loading.specs.Faults as file_fault
+use Rattle.kapi_loading.specs.Loading.{machine_alone}
+use Rattle.kapi_manifests.specs.Written.{Loads, faults_in_all}
+use Rattle.kapi_manifests.specs.declared.fault.Fault.{Fault}
+use Rattle.kapi_manifests.specs.declared.fault.Origin.{Origin}
+use Rattle.kapi_manifests.specs.declared.prepared.Prepared.{Prepared}
+use Rattle.kapi_manifests.specs.declared.sorted.Scope.TheVariants.{All}
+use Rattle.kapi_reasons.specs.Reasons.{is_shown}
+use Rattle.kapi_replay.specs.Failures.{FailsOn}
+use Rattle.kapi_replay.specs.Files.{texts_named}
+use Rattle.kapi_replay.specs.Reports.{place_text}
+use Rattle.kapi_replay.specs.declared.failure.Failure.{Failure}
+use Rattle.kapi_replay.specs.declared.failure.Failure.TheVariants as failure
+use Rattle.kapi_replay.specs.declared.files.LoadedFile.{LoadedFile}
+use Rattle.kapi_transcript.specs.Requests.{number_line}
+use Rattle.kapi_transcript.specs.declared.case.Case.{Case}
+use Rattle.kapi_transcript.specs.declared.case.Loaded.{Loaded}
+
+-- the texts of files, one file after the other
+abbrev pub all_texts : List LoadedFile → List Loaded → List (List ℕ)
+all_texts loads files = flat_map (λ f. texts_named loads f.name) files
+
+-- the first file that is not there, or is a folder without files
+abbrev pub first_missing : List LoadedFile → List Loaded → Option Loaded
+first_missing loads files = find (λ f. length (texts_named loads f.name) == 0) files
+
+-- ---- what is wrong with manifests
+
+-- the file that has the text of this number, from 0 over all files; and the number of the text in it, from 1
+abbrev pub text_at : List LoadedFile → List Loaded → ℕ → Option (Loaded × ℕ)
+text_at loads [] n = None
+text_at loads (f ∷ fs) n =
+    if nat_lt n (length (texts_named loads f.name)) then Some (f, n + 1) else text_at loads fs (n - length (texts_named loads f.name))
+
+-- how the text of this number of a file with so many texts is named: as the file, and in a folder by its number too
+abbrev pub text_name : List ℕ → ℕ → ℕ → List ℕ
+text_name name count n = if count == 1 then name else name ++ number_line (codes ", file ") n
+
+-- how many more faults there are, if there are some
+abbrev pub more_text : ℕ → List ℕ
+more_text n = if n == 0 then [] else number_line (codes " (and ") n ++ codes " more)"
+
+-- `FILE:LINE: REASON`, and how many more faults there are
+abbrev pub fault_text : List ℕ → ℕ → List ℕ → ℕ → List ℕ
+fault_text name line reason more = ((place_text name line ++ codes ": ") ++ reason) ++ more_text more
+
+-- the failure at the transcript's line that names the file
+abbrev pub fault_at : List LoadedFile → Option (Loaded × ℕ) → ℕ → List ℕ → ℕ → Failure
+fault_at loads None line reason more = failure.BadManifests 0 (fault_text [] line reason more)
+fault_at loads (Some p) line reason more =
+    failure.BadManifests p.0.number (fault_text (text_name p.0.name (length (texts_named loads p.0.name)) p.1) line reason more)
+
+-- the failure of manifests with a fault that begins there, and so many more: it has a reason, on one line
+abbrev pub IsFaultAt : List LoadedFile → List Loaded → Origin → ℕ → List Failure → Type 0
+IsFaultAt loads files origin more failures =
+    (reason : List ℕ) × (list_all is_shown reason ≡ true) × (failures ≡ fault_at loads (text_at loads files origin.file) origin.line reason more ∷ [])
+
+-- where the object of a line begins
+abbrev pub origin_at : List Origin → ℕ → Origin
+origin_at origins n = unwrap_or (nth origins n) (record { file = 0; line = 0 })
+
+-- the failure of manifests whose line of this number is not loaded
+abbrev pub IsRefused : List LoadedFile → List Loaded → Prepared → ℕ → List Failure → Type 0
+IsRefused loads files p n failures = (more : ℕ) × IsFaultAt loads files (origin_at p.origins.items n) more failures
+
+-- ---- the failures
+
+-- the failures on the machine that the lines of manifests make alone, or the line that is not loaded
+abbrev pub FailsAlone : List LoadedFile → Case → List Loaded → Prepared → Result Machine FileFault → List Failure → Type 0
+FailsAlone loads c files p (Ok m) failures = FailsOn (with_rechecks c.rechecks m) c failures
+FailsAlone loads c files p (Err (file_fault.bad_line n)) failures = IsRefused loads files p n failures
+
+-- the failures of manifests with these faults
+abbrev pub FailsBehind : List LoadedFile → Case → List Loaded → Prepared → List Fault → List Failure → Type 0
+FailsBehind loads c files p [] failures = FailsAlone loads c files p (machine_alone 0 p.text.items) failures
+FailsBehind loads c files p (f ∷ fs) failures = IsFaultAt loads files f.origin (length fs) failures
+
+-- what is loaded of the texts, and the failures of the case that begins with it
+pub record FailsTexts (loads : List LoadedFile) (c : Case) (files : List Loaded) (failures : List Failure) : Type 0 where
+  pub prepared : Prepared
+  pub is_prepared : Loads All [] false false (all_texts loads files) prepared
+  pub faults : length prepared.faults.items ≡ faults_in_all All [] (all_texts loads files)
+  pub fails : FailsBehind loads c files prepared prepared.faults.items failures
+
+-- the failures of a case that begins with manifests, the first of which is not there, or all of which are
+abbrev pub FailsWithout : List LoadedFile → Case → List Loaded → Option Loaded → List Failure → Type 0
+FailsWithout loads c files None failures = FailsTexts loads c files failures
+FailsWithout loads c files (Some f) failures = failures ≡ failure.NoFile f.number ∷ []
+
+abbrev pub FailsManifests : List LoadedFile → Case → List Loaded → List Failure → Type 0
+FailsManifests loads c files failures = FailsWithout loads c files (first_missing loads files) failures
