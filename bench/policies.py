@@ -34,6 +34,17 @@ def used(*words):
     return usage.ru_utime + usage.ru_stime, usage.ru_maxrss, os.waitstatus_to_exitcode(status)
 
 
+def forms(program, lines, none, load):
+    """The same objects as manifests: a line each, and one List, printed prettily."""
+    listed = lines.with_suffix(".json")
+    items = [json.loads(it) for it in lines.read_text().splitlines()]
+    listed.write_text(json.dumps({"apiVersion": "v1", "kind": "List", "items": items}, indent=4))
+    for form, file in (("lines", lines), ("one List", listed)):
+        seconds, memory, status = used(program, "audit", "--manifests", str(file), str(none))
+        assert status == 0, status
+        print(f"  as manifests, {form} of {file.stat().st_size / 1e6:.0f} MB: {seconds:.2f} s, {seconds / load:.2f} of the loading as lines, and {memory:,} kB")
+
+
 def measure(program, count, room):
     before, after, none, one, many = (room / it for it in ("before", "after", "none", "one", "many"))
     policy(before, count)
@@ -48,6 +59,7 @@ def measure(program, count, room):
     assert status == 3, status
     who = (used(program, "who", str(before), "--questions", str(many))[0] - used(program, "who", str(before), "--questions", str(one))[0]) / QUESTIONS
     risks, _, _ = used(program, "risks", str(before))
+    forms(program, before, none, load)
     print(f"{count:,} bindings: loaded in {load:.2f} s and {load_memory:,} kB")
     print(f"  compare with itself {same:.2f} s, with {CHANGED} bindings more {changed:.2f} s and {memory:,} kB; above the loading of both {changed - 2 * load:.2f} s")
     print(f"  who, a question {who * 1000:.2f} ms; risks above the loading {risks - load:.2f} s", flush=True)
