@@ -18,7 +18,8 @@ use Rattle.kapi_questions.specs.Lines.{LineError, answered_lines}
 use Rattle.kapi_questions.specs.declared.answer.Form.{Form}
 use Rattle.kapi_questions.specs.declared.lines.LineFault.{LineFault}
 use Rattle.kapi_questions.specs.declared.lines.LineFault.TheVariants as line_fault
-use Rattle.kapi.specs.Policies.{FilesError, Holds, IsLoaded, IsPolicyOf, Reply, as_first, as_question, as_second, comparison, fault_told, first_fault, is_settled, lines_on, question_fault, second_fault}
+use Rattle.kapi_loading.specs.Settled.{is_settled}
+use Rattle.kapi.specs.Policies.{FilesError, Holds, IsLoaded, IsPolicyOf, Reply, as_first, as_question, as_second, comparison, fault_told, first_fault, lines_on, question_fault, second_fault}
 use Rattle.kapi.specs.declared.policies.FilesFault.{FilesFault}
 use Rattle.kapi.specs.declared.policies.LoadedPolicy.{LoadedPolicy}
 

@@ -2,14 +2,12 @@
 use Rattle.std.specs.Prelude.{◌≡◌, ℕ, ◌==◌, not, Bool, true, false, List, ◌++◌, length, Option, Some, None, Result, Ok, Err}
 use Rattle.kapi_text.specs.Gives.{Fails, ◌>>=◌}
 use Rattle.kapi_lines.specs.Lines.{NumberedLine, lines_of}
-use Rattle.kapi_core.specs.Machine.{Machine, policy_of, step}
+use Rattle.kapi_core.specs.Machine.{Machine, policy_of}
 use Rattle.kapi_core.specs.Running.{Running}
 use Rattle.kapi_core.specs.Refines.{Refines}
-use Rattle.kapi_core.specs.declared.event.Answer.{Answer}
-use Rattle.kapi_core.specs.declared.event.Answer.TheVariants as told
-use Rattle.kapi_core.specs.declared.event.Event.TheVariants as event
 use Rattle.kapi_loading.specs.Faults.{FileFault, bad_line}
 use Rattle.kapi_loading.specs.Loading.{machine_alone}
+use Rattle.kapi_loading.specs.Settled.{is_settled}
 use Rattle.kapi_access.specs.Gained.{gained}
 use Rattle.kapi_access.specs.declared.identities.Identities.{Identities}
 use Rattle.kapi_access.specs.Risks.{risks}
@@ -56,15 +54,6 @@ question_fault (lined.Question n) = fault.Question n
 question_fault lined.Memory = fault.Memory
 
 -- ---- machines
-
--- an answer says that nothing was done
-abbrev pub is_nothing : Answer → Bool
-is_nothing told.Nothing = true
-is_nothing _ = false
-
--- no turn of a machine is due
-abbrev pub is_settled : Machine → Bool
-is_settled m = is_nothing (step m event.Turn).0
 
 -- a core refines the machine that is given, or that fault is why there is none
 abbrev pub Holds : {E F : Type 0} → (E → Option F) → Result Running E → Result Machine F → Type 0

@@ -233,6 +233,7 @@ const REPLAY_FORMS: &str =
   > turn 8 monitoring                    the answer is exactly this line
   begin                                  a new machine; load FILE: one with the objects of a file, as of kapi serve --load
   manifests FILE                         a new machine with the objects of manifests, as of kapi serve --manifests
+  load defaults                          beside manifests: with the roles view, edit, admin and their parts beneath them
   recheck                                rights of watches are looked at anew in this case, as of kapi serve --recheck-watches
 
 Example:
@@ -259,6 +260,11 @@ fn replay<'a>(alloc: Global) -> Result<Command<'a>, Memory>
             alloc,
             "write",
             "Prints the transcripts with the answers that came where others are wanted",
+        ))?
+        .arg(flag(
+            alloc,
+            "strict",
+            "Ends with status 1 where 403 is wanted of a resource that is not served",
         ))?
         .arg(option(
             alloc,

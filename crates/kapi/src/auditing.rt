@@ -1,12 +1,12 @@
 //! Questions of a file, answered by a policy.
 ghost use Rattle.std.specs.Prelude.{◌≤◌};
 
-use crate::asking::doubts_of;
+use crate::asking::{doubts_of, tell_unsettled};
 use crate::ending::Ending;
 use crate::manifests::{ReadPolicy, read_policy, tell_refused};
 use crate::program::{AuditFiles, Reading};
 use crate::telling::{print, read_file, tell_reason};
-use kapi_audit::{AuditFault, NoGate, audit_alone, audit_run};
+use kapi_audit::{AuditFault, Audited, NoGate, audit_alone, audit_run};
 use kapi_reasons::{object_reason, question_reason};
 use std::fs::Files;
 use std::io;
@@ -63,11 +63,13 @@ fn audit_manifests<
     };
     let questions = questions.as_slice();
     match audit_objects(rt, &policy, questions, files.readers) {
-        Ok(answers) => {
-            print(rt, answers.as_slice())?;
+        Ok(audited) => {
+            print(rt, audited.text.as_slice())?;
+            tell_unsettled(rt, files.policy.as_str(), audited.settled)?;
             let mut doubts = doubts_of(rt, files.policy.as_str(), &policy)?;
             doubts.tell_reviews(rt, &policy.prepared.words, questions)?;
-            Ok(Ending::Done.or_doubted(reading.strict && doubts.are_some()))
+            let ending = Ending::Done.or_doubted(reading.strict && doubts.are_some());
+            Ok(ending.or_unsettled(audited.settled))
         }
         Err(AuditFault::PolicyLine(_line)) => {
             tell_refused(rt, &policy)?;
@@ -106,7 +108,7 @@ fn audit_objects<R: AllocGlobal + Threads + Wait + Sync>(
     policy: &ReadPolicy,
     questions: &[u8],
     readers: usize,
-) -> Result<Vec<u8>, AuditFault>
+) -> Result<Audited, AuditFault>
     requires { (1 ≤ readers) × (readers ≤ 16) }
 {
     audit_alone(rt.alloc(), rt, policy.lines(), questions, readers, &NoGate)

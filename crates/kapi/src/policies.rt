@@ -18,7 +18,7 @@ use kapi_access::Identities;
 use kapi_core::Core;
 use kapi_index::IndexedPolicy;
 use kapi_lines::{Line, numbered_lines};
-use kapi_loading::{StartError, Started, start_without_objects};
+use kapi_loading::{StartError, Started, is_settled, start_without_objects};
 use kapi_questions::{
     Form, LineFault, Wanted, answer_compare, answer_lines, answer_risks, answer_who, settled_line,
 };
@@ -122,17 +122,6 @@ fn loaded_first<R: Wait>(
     match loaded(alloc, rt, objects) {
         Ok(core) => Ok(core),
         Err(error) => Err(first_fault(error)),
-    }
-}
-
-/// Whether no turn is left.
-fn is_settled(core: &mut Core<IndexedPolicy>) -> Result<bool, Memory>
-    ensures { (m : Machine) → Refines core.old m → IfOk result (λ b. b ≡ files.is_settled m) }
-{
-    let turned = core.turn()?;
-    match turned {
-        Some(_turned) => Ok(false),
-        None => Ok(true),
     }
 }
 

@@ -55,6 +55,9 @@ pub fn run_serve<
     if options.idle_readers {
         eprintln!(rt; "--readers has no effect without --answer")?;
     }
+    for listen in options.listens.iter() {
+        tell_names(rt, listen)?;
+    }
     let Some(opening) = read_opening(rt, options)? else {
         return Ok(Ending::Stopped);
     };
@@ -75,6 +78,23 @@ pub fn run_serve<
         }
         Err(fault) => refuse_begin(rt, fault, first_of(first, seconds), &opening),
     }
+}
+
+/// Reports a port whose user or group hardly anybody means.
+fn tell_names(rt: &impl Eprint, listen: &Listen) -> io::Result<()> {
+    tell_name(rt, listen.port, listen.identity.user.as_str())?;
+    for group in listen.identity.groups.as_slice() {
+        tell_name(rt, listen.port, group.as_str())?;
+    }
+    Ok(())
+}
+
+/// Reports a name that begins or ends with white space.
+fn tell_name(rt: &impl Eprint, port: u16, name: &str) -> io::Result<()> {
+    if name.trim().len() < name.len() {
+        eprintln!(rt; "port {port}: the name '{name}' begins or ends with white space")?;
+    }
+    Ok(())
 }
 
 /// What a server begins with; none if a file cannot be read, or is no file of manifests.

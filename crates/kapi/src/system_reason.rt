@@ -15,7 +15,8 @@ impl fmt::Display for Reason<'_> {
     }
 }
 
-fn words(kind: ErrorKind) -> Option<&'static str> {
+/// The words for a usual reason; none for another.
+pub fn words(kind: ErrorKind) -> Option<&'static str> {
     match kind {
         ErrorKind::NotFound => Some("there is no such file"),
         ErrorKind::PermissionDenied => Some("permission denied"),

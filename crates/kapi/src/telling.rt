@@ -1,6 +1,6 @@
 //! Files that are read, answers on standard output, and faults on standard error.
 use crate::ending::Ending;
-use crate::system_reason::Reason;
+use crate::system_reason::{Reason, words};
 use kapi_text::Memory;
 use std::fmt::Display;
 use std::fs::{self, Files};
@@ -49,5 +49,8 @@ pub fn tell_unread(rt: &impl Eprint, file: &str, error: &io::Error) -> io::Resul
 pub fn tell_stopped(rt: &impl Eprint, error: &io::Error) -> io::Result<Ending> {
     let reason = Reason(error);
     eprintln!(rt; "kapi: {reason}")?;
+    if words(error.kind()).is_none() {
+        eprintln!(rt; "  standard output may be closed")?;
+    }
     Ok(Ending::Stopped)
 }

@@ -1,4 +1,7 @@
-ghost use Rattle.std.specs.Prelude.{◌≡◌, ◌≤◌, [], All, IfOk, map, length};
+ghost use Rattle.std.specs.Prelude.{◌≡◌, ◌≤◌, [], All, IfOk, Ok, map, length};
+ghost use Rattle.kapi_core.specs.Machine.{Machine};
+ghost use Rattle.kapi_loading.specs.Loading.{machine_alone};
+ghost use Rattle.kapi_loading.specs.Settled.{is_settled as is_settled_machine};
 ghost use Rattle.kapi_text.specs.Gives.{Gives};
 ghost use Rattle.kapi_core.specs.Table.{access_reviews_row};
 ghost use Rattle.kapi_desk.specs.Boards.{Chair, fresh, informed};
@@ -16,7 +19,7 @@ use crate::reader::Reader;
 use crate::threads::answer_in_threads;
 use kapi_desk::{Desk, Seat};
 use kapi_lines::{Line, numbered_lines};
-use kapi_loading::{Started, start, start_without_objects};
+use kapi_loading::{Started, is_settled, start, start_without_objects};
 use kapi_text::Memory;
 use std::alloc::Global;
 use std::sync::Wait;
@@ -102,24 +105,22 @@ fn answer_told<R: Threads + Wait + Sync, G: Gate + Sync>(
     }
 }
 
-/// Answers questions by the policy of a machine that has begun.
-fn answer_started<R: Threads + Wait + Sync, G: Gate + Sync>(
+/// Answers questions by the policy that a desk has published, and closes it.
+fn answer_seated<R: Threads + Wait + Sync, G: Gate + Sync>(
+    alloc: Global,
     rt: &R,
-    started: Started,
+    desk: Desk,
+    seats: Vec<Seat>,
     asked: &[Line<'_>],
     gate: &G,
 ) -> Result<Vec<u8>, AuditFault>
-    requires free { started.desk.waiting ≡ [] }
-    requires count { 1 ≤ length started.seats.items }
-    requires seats { All (λ s. s ≡ fresh started.desk) started.seats.items }
-    ensures { Gives fault_told (λ v. v.items) result (answered_by (answer_of access_reviews_row (after started.desk.opening started.desk.list)) (map line_of asked.now)) }
+    requires free { desk.waiting ≡ [] }
+    requires count { 1 ≤ length seats.items }
+    requires seats { All (λ s. s ≡ fresh desk) seats.items }
+    ensures { Gives fault_told (λ v. v.items) result (answered_by (answer_of access_reviews_row (after desk.opening desk.list)) (map line_of asked.now)) }
 {
-    let Started {
-        core,
-        mut desk,
-        seats,
-    } = started;
-    let answered = answer_told(core.allocator(), rt, &mut desk, seats, asked, gate);
+    let mut desk = desk;
+    let answered = answer_told(alloc, rt, &mut desk, seats, asked, gate);
     drop(desk.close(rt));
     answered
 }
@@ -144,7 +145,19 @@ pub fn audit_run<R: Threads + Wait + Sync, G: Gate + Sync>(
 {
     let asked = numbered_lines(alloc, questions)?;
     let started = start(alloc, rt, policy, 0, readers)?;
-    answer_started(rt, started, asked.as_slice(), gate)
+    let Started {
+        core: _core,
+        desk,
+        seats,
+    } = started;
+    answer_seated(alloc, rt, desk, seats, asked.as_slice(), gate)
+}
+
+/// The answers of an audit, and whether the roles of its policy are settled.
+#[derive(Drop)]
+pub struct Audited {
+    pub text: Vec<u8>,
+    pub settled: bool,
 }
 
 /// Answers a file of questions by the policy of objects alone, without those that every other machine begins with; the
@@ -156,11 +169,19 @@ pub fn audit_alone<R: Threads + Wait + Sync, G: Gate + Sync>(
     questions: &[u8],
     readers: usize,
     gate: &G,
-) -> Result<Vec<u8>, AuditFault>
+) -> Result<Audited, AuditFault>
     requires { (1 ≤ readers) × (readers ≤ 16) }
-    ensures { Gives fault_told (λ v. v.items) result (answers_alone policy.now questions.now) }
+    ensures text { Gives fault_told (λ a. a.text.items) result (answers_alone policy.now questions.now) }
+    ensures settled { (m : Machine) → machine_alone 0 policy.now ≡ Ok m → IfOk result (λ a. a.settled ≡ is_settled_machine m) }
 {
     let asked = numbered_lines(alloc, questions)?;
     let started = start_without_objects(alloc, rt, policy, 0, readers)?;
-    answer_started(rt, started, asked.as_slice(), gate)
+    let Started {
+        mut core,
+        desk,
+        seats,
+    } = started;
+    let text = answer_seated(alloc, rt, desk, seats, asked.as_slice(), gate)?;
+    let settled = is_settled(&mut core)?;
+    Ok(Audited { text, settled })
 }

@@ -2,3 +2,4 @@ pub mod Faults
 pub mod Loading
 pub mod Starting
 pub mod Laws
+pub mod Settled

@@ -9,7 +9,7 @@ use std::alloc::Global;
 
 /// The words that a line of a transcript may begin with.
 const FORMS: &str =
-    "no line begins so; there are load, recheck, begin, as, GET, POST, PUT, PATCH, DELETE, pump, =, ==, ~, >, and the events open, feed, serve, pump, turn and close";
+    "no line begins so; there are load, manifests, recheck, begin, as, GET, POST, PUT, PATCH, DELETE, pump, =, ==, ~, >, and the events open, feed, serve, pump, turn and close";
 
 /// Why a line of a transcript has no known form, where it stands in its case.
 pub fn form_reason(alloc: Global, line: &[u8]) -> Result<&'static str, Memory>
@@ -69,6 +69,7 @@ fn sign_reason(line: &[u8]) -> Option<&'static str>
         }
         b"as" => Some("an identity is wanted: as USER or as USER,GROUP,.."),
         b"load" => Some("a file is wanted: load FILE"),
+        b"manifests" => Some("a file or folder is wanted: manifests FILE"),
         _ => None,
     }
 }

@@ -22,6 +22,7 @@ use Rattle.kapi_replay.specs.declared.files.LoadedFile.{LoadedFile}
 use Rattle.kapi_transcript.specs.Requests.{number_line}
 use Rattle.kapi_transcript.specs.declared.case.Case.{Case}
 use Rattle.kapi_transcript.specs.declared.case.Loaded.{Loaded}
+use Rattle.kapi_transcript.specs.declared.case.Manifests.{Manifests}
 
 -- the texts of files, one file after the other
 abbrev pub all_texts : List LoadedFile → List Loaded → List (List ℕ)
@@ -82,17 +83,19 @@ abbrev pub FailsBehind : List LoadedFile → Case → List Loaded → Prepared �
 FailsBehind loads c files p [] failures = FailsAlone loads c files p (machine_alone 0 p.text.items) failures
 FailsBehind loads c files p (f ∷ fs) failures = IsFaultAt loads files f.origin (length fs) failures
 
--- what is loaded of the texts, and the failures of the case that begins with it
-pub record FailsTexts (loads : List LoadedFile) (c : Case) (files : List Loaded) (failures : List Failure) : Type 0 where
-  pub prepared : Prepared
-  pub is_prepared : Loads All [] false false (all_texts loads files) prepared
-  pub faults : length prepared.faults.items ≡ faults_in_all All [] (all_texts loads files)
-  pub fails : FailsBehind loads c files prepared prepared.faults.items failures
+-- what is loaded of the files, and how many faults they have
+pub record IsRead (loads : List LoadedFile) (m : Manifests) (p : Prepared) : Type 0 where
+  pub loaded : Loads All [] m.defaults false (all_texts loads m.files) p
+  pub faults : length p.faults.items ≡ faults_in_all All [] (all_texts loads m.files)
 
--- the failures of a case that begins with manifests, the first of which is not there, or all of which are
-abbrev pub FailsWithout : List LoadedFile → Case → List Loaded → Option Loaded → List Failure → Type 0
-FailsWithout loads c files None failures = FailsTexts loads c files failures
-FailsWithout loads c files (Some f) failures = failures ≡ failure.NoFile f.number ∷ []
+-- the failures of a case that begins with what is loaded of the files
+abbrev pub FailsTexts : List LoadedFile → Case → Manifests → List Failure → Type 0
+FailsTexts loads c m failures = (p : Prepared) × IsRead loads m p × FailsBehind loads c m.files p p.faults.items failures
 
-abbrev pub FailsManifests : List LoadedFile → Case → List Loaded → List Failure → Type 0
-FailsManifests loads c files failures = FailsWithout loads c files (first_missing loads files) failures
+-- the failures of a case that begins with manifests, the first of whose files is not there, or all of which are
+abbrev pub FailsWithout : List LoadedFile → Case → Manifests → Option Loaded → List Failure → Type 0
+FailsWithout loads c m None failures = FailsTexts loads c m failures
+FailsWithout loads c m (Some f) failures = failures ≡ failure.NoFile f.number ∷ []
+
+abbrev pub FailsManifests : List LoadedFile → Case → Manifests → List Failure → Type 0
+FailsManifests loads c m failures = FailsWithout loads c m (first_missing loads m.files) failures

@@ -27,7 +27,7 @@ FailsLines loads c file failures = FailsWith c file (only_text (texts_named load
 abbrev pub FailsFrom : List LoadedFile → Case → Beginning → List Failure → Type 0
 FailsFrom loads c beginning.Opening failures = FailsOn (with_rechecks c.rechecks start) c failures
 FailsFrom loads c (beginning.Lines file) failures = FailsLines loads c file failures
-FailsFrom loads c (beginning.Manifests files) failures = FailsManifests loads c files failures
+FailsFrom loads c (beginning.Manifests m) failures = FailsManifests loads c m failures
 
 abbrev pub Fails : List LoadedFile → Case → List Failure → Type 0
 Fails loads c failures = FailsFrom loads c c.begins failures

@@ -39,6 +39,6 @@ pub fn play_case<R: Wait>(
     match &case.begins {
         Beginning::Opening => play_begun(alloc, case),
         Beginning::Lines(file) => play_lines(alloc, rt, loads, case, file),
-        Beginning::Manifests(files) => { play_manifests(alloc, rt, loads, case, files.as_slice()) }
+        Beginning::Manifests(manifests) => play_manifests(alloc, rt, loads, case, manifests),
     }
 }

@@ -9,7 +9,7 @@ ghost use Rattle.kapi_replay.specs.Failures as fails;
 ghost use Rattle.kapi_replay.specs.declared.failure.Failure.TheVariants as Told;
 ghost use Rattle.kapi_replay.specs.Failures.{script_text as script_text_of};
 
-use crate::failure::Failure;
+use crate::failure::{Difference, Failure};
 use kapi_core::{Core, program_table};
 use kapi_index::IndexedPolicy;
 use kapi_lines::{copy_of, nth, split_lines};
@@ -22,7 +22,7 @@ use std::alloc::{AllocError, Global};
 use std::sync::Wait;
 
 /// The lines of a script as one text.
-fn script_text(alloc: Global, script: &[Event]) -> Result<Vec<u8>, Memory>
+pub fn script_text(alloc: Global, script: &[Event]) -> Result<Vec<u8>, Memory>
     ensures { IfOk result (λ v. v.items ≡ script_text_of script.now) }
 {
     let mut text = Vec::new(alloc);
@@ -51,7 +51,7 @@ fn answer_at(answers: &[Sequence<u8>], number: usize) -> &[u8]
 }
 
 /// The transcript's line of the event of this number; 0 where there is none.
-fn number_at(script: &[Event], number: usize) -> usize
+pub fn number_at(script: &[Event], number: usize) -> usize
     ensures { result ≡ fails.number_at script.now number }
 {
     match nth(script, number) {
@@ -75,7 +75,13 @@ fn check_want(
         return Ok(());
     }
     let asked = number_at(script, want.events);
-    failures.push(Failure::Differs(want.number, asked, copy_of(alloc, answer)?))?;
+    failures.push(Failure::Differs(Difference {
+        number: want.number,
+        asked,
+        events: want.events,
+        answer: copy_of(alloc, answer)?,
+        reason: Text::copy_of(alloc, "")?,
+    }))?;
     Ok(())
 }
 

@@ -10,6 +10,7 @@ use Rattle.kapi_transcript.specs.declared.case.Beginning.TheVariants as beginnin
 use Rattle.kapi_transcript.specs.declared.case.Case.{Case}
 use Rattle.kapi_transcript.specs.declared.case.Event.{Event}
 use Rattle.kapi_transcript.specs.declared.case.Loaded.{Loaded}
+use Rattle.kapi_transcript.specs.declared.case.Manifests.{Manifests}
 use Rattle.kapi_transcript.specs.declared.case.Want.{Want}
 use Rattle.kapi_transcript.specs.declared.draft.Draft.{Draft}
 use Rattle.kapi_transcript.specs.declared.form.Form.{Form}
@@ -122,31 +123,38 @@ drafted d l f later = raw d l.number l.text
 
 -- files of manifests
 abbrev pub are_manifests : Beginning → Bool
-are_manifests (beginning.Manifests files) = true
+are_manifests (beginning.Manifests m) = true
 are_manifests begins = false
 
--- files of manifests, and one more
-abbrev pub with_manifests : Beginning → Loaded → Beginning
-with_manifests (beginning.Manifests files) file = beginning.Manifests (files ++ file ∷ [])
-with_manifests begins file = beginning.Manifests (file ∷ [])
+-- the manifests of a beginning; none of another
+abbrev pub manifests_in : Beginning → Manifests
+manifests_in (beginning.Manifests m) = m
+manifests_in begins = record { files = []; defaults = false }
+
+-- the manifests of a beginning, with what a line adds: a file, or the default roles
+abbrev pub with_manifests : Beginning → ℕ → Source → Beginning
+with_manifests begins n (source.Manifests name) =
+    beginning.Manifests (record { files = (manifests_in begins).files ++ record { number = n; name = name } ∷ []; defaults = (manifests_in begins).defaults })
+with_manifests begins n source.Defaults = beginning.Manifests (record { files = (manifests_in begins).files; defaults = true })
+with_manifests begins n (source.Lines name) = beginning.Manifests (manifests_in begins)
 
 -- the case begins with manifests, and has no other line yet
 abbrev pub takes_manifests : PlainDraft → Bool
 takes_manifests d = are_manifests d.begins && (length d.script == 0 && (length d.wants == 0 && not d.rechecks))
 
--- what a case begins with that goes on with a file of manifests, or begins with it
-abbrev pub begun_with : PlainDraft → Loaded → Beginning
-begun_with d file = with_manifests (if takes_manifests d then d.begins else beginning.Opening) file
+-- what a case begins with that goes on with manifests, or begins with them
+abbrev pub begun_with : PlainDraft → ℕ → Source → Beginning
+begun_with d n s = with_manifests (if takes_manifests d then d.begins else beginning.Opening) n s
 
--- the case that ends before a line that names a file, if one does
+-- the case that ends before a line that names what a case begins with, if one does
 abbrev pub ended_at : PlainDraft → Source → List Case
 ended_at d (source.Lines name) = case_of d ∷ []
-ended_at d (source.Manifests name) = if takes_manifests d then [] else case_of d ∷ []
+ended_at d s = if takes_manifests d then [] else case_of d ∷ []
 
--- what a case begins with after a line that names a file
+-- what a case begins with after such a line
 abbrev pub begins_at : PlainDraft → ℕ → Source → Beginning
 begins_at d n (source.Lines name) = beginning.Lines (record { number = n; name = name })
-begins_at d n (source.Manifests name) = begun_with d (record { number = n; name = name })
+begins_at d n s = begun_with d n s
 
 -- the case that ends before a line of that form, if one does
 abbrev pub ended : PlainDraft → Form → List Case

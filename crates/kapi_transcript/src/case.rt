@@ -8,6 +8,14 @@ pub struct Loaded {
     pub name: Sequence<u8>,
 }
 
+/// Files of manifests that are read as one policy.
+#[derive(Drop)]
+pub struct Manifests {
+    pub files: Sequence<Loaded>,
+    /// Kubernetes' user-facing cluster roles are beneath the files.
+    pub defaults: bool,
+}
+
 /// What the machine of a case begins with.
 #[derive(Drop)]
 pub enum Beginning {
@@ -15,8 +23,8 @@ pub enum Beginning {
     Opening,
     /// The opening objects and those of a file, which has one a line.
     Lines(Loaded),
-    /// The objects of files of manifests, read as one policy.
-    Manifests(Sequence<Loaded>),
+    /// The objects of manifests alone.
+    Manifests(Manifests),
 }
 
 /// A line of a case's script, and the line of the transcript that it is made from.

@@ -4,7 +4,7 @@ ghost use Rattle.kapi_lines.specs.Lines.{line_of};
 ghost use Rattle.kapi_transcript.specs.Cases as cased;
 ghost use Rattle.kapi_transcript.specs.Cases.{case_of, cases_from, draft_of, drafted, fresh};
 
-use crate::case::{Beginning, Case, Event, Loaded, Want};
+use crate::case::{Beginning, Case, Event, Loaded, Manifests, Want};
 use crate::form::{Form, Source, parse_form};
 use crate::request::{Request, feed_line, request_bytes, word_line};
 use crate::wanted::Wanted;
@@ -233,7 +233,7 @@ fn begin(
     Ok(())
 }
 
-/// Reads a line of this number that names a file.
+/// Reads a line of this number that names what a case begins with.
 fn read_source(
     alloc: Global,
     cases: &mut Vec<Case>,
@@ -244,48 +244,53 @@ fn read_source(
     ensures ended { OnOk result (cases.new.items ≡ cases.old.items ++ cased.ended_at (draft_of draft.old) source) }
     ensures begun { OnOk result (draft_of draft.new ≡ fresh (cased.begins_at (draft_of draft.old) number source)) }
 {
-    match source {
-        Source::Lines(name) => {
-            begin(
-                alloc,
-                cases,
-                draft,
-                Beginning::Lines(Loaded { number, name }),
-            )
-        }
-        Source::Manifests(name) => read_manifests(alloc, cases, draft, Loaded { number, name }),
+    if let Source::Lines(name) = source {
+        let file = Loaded { number, name };
+        return begin(alloc, cases, draft, Beginning::Lines(file));
     }
-}
-
-/// Reads a line that names a file of manifests: the case that is being read goes on with it, or another begins.
-fn read_manifests(
-    alloc: Global,
-    cases: &mut Vec<Case>,
-    draft: &mut Draft,
-    file: Loaded,
-) -> Result<(), Memory>
-    ensures ended { OnOk result (cases.new.items ≡ cases.old.items ++ (if cased.takes_manifests (draft_of draft.old) then [] else case_of (draft_of draft.old) ∷ [])) }
-    ensures begun { OnOk result (draft_of draft.new ≡ fresh (cased.begun_with (draft_of draft.old) file)) }
-{
     if !draft.takes_manifests() {
-        let begins = with_manifests(alloc, Beginning::Opening, file)?;
+        let begins = with_manifests(alloc, Beginning::Opening, number, source)?;
         return begin(alloc, cases, draft, begins);
     }
     let before = mem::replace(draft, Draft::new(alloc, Beginning::Opening));
-    draft.begins = with_manifests(alloc, before.begins, file)?;
+    draft.begins = with_manifests(alloc, before.begins, number, source)?;
     Ok(())
 }
 
-/// Files of manifests, and one more.
-fn with_manifests(alloc: Global, begins: Beginning, file: Loaded) -> Result<Beginning, Memory>
-    ensures { IfOk result (λ b. b ≡ cased.with_manifests begins file) }
+/// The manifests of a beginning; none of another.
+fn manifests_in(alloc: Global, begins: Beginning) -> Manifests
+    ensures { result ≡ cased.manifests_in begins }
 {
-    let mut files = match begins {
-        Beginning::Manifests(files) => files.into_vec(),
-        _ => Vec::new(alloc),
+    match begins {
+        Beginning::Manifests(manifests) => manifests,
+        _ => Manifests {
+            files: Sequence::new(Vec::new(alloc)),
+            defaults: false,
+        },
+    }
+}
+
+/// The manifests of a beginning, with what a line of this number adds.
+fn with_manifests(
+    alloc: Global,
+    begins: Beginning,
+    number: usize,
+    source: Source,
+) -> Result<Beginning, Memory>
+    ensures { IfOk result (λ b. b ≡ cased.with_manifests begins number source) }
+{
+    let Manifests { files, defaults } = manifests_in(alloc, begins);
+    let mut files = files.into_vec();
+    let defaults = match source {
+        Source::Manifests(name) => {
+            files.push(Loaded { number, name })?;
+            defaults
+        }
+        Source::Defaults => true,
+        Source::Lines(_name) => defaults,
     };
-    files.push(file)?;
-    Ok(Beginning::Manifests(Sequence::new(files)))
+    let files = Sequence::new(files);
+    Ok(Beginning::Manifests(Manifests { files, defaults }))
 }
 
 /// Reads a line of that form, before the lines that follow.

@@ -11,13 +11,15 @@ use kapi_lines::copy_of;
 use kapi_text::{Memory, Sequence};
 use std::alloc::Global;
 
-/// The file that a line names.
+/// What a line names that a case begins with.
 #[derive(Drop)]
 pub enum Source {
     /// `load FILE`: a file of objects, one a line.
     Lines(Sequence<u8>),
     /// `manifests FILE`: a file of manifests, or a folder of such files.
     Manifests(Sequence<u8>),
+    /// `load defaults`: Kubernetes' user-facing cluster roles, beneath files of manifests.
+    Defaults,
 }
 
 /// The form of a line.
@@ -25,7 +27,7 @@ pub enum Source {
 pub enum Form {
     /// `begin`: a new machine.
     Begin,
-    /// A new machine, with the objects of a file.
+    /// A new machine, with objects.
     Load(Source),
     /// `as USER` or `as USER,GROUP,..`: the connection of that identity. No name is empty, or begins or ends with white
     /// space.
@@ -57,6 +59,9 @@ pub fn parse_form(alloc: Global, line: &[u8]) -> Result<Form, Memory>
     }
     if line == b"recheck".as_slice() {
         return Ok(Form::Recheck);
+    }
+    if line == b"load defaults".as_slice() {
+        return Ok(Form::Load(Source::Defaults));
     }
     if line.starts_with(b"load ") {
         return Ok(Form::Load(Source::Lines(copy_of(alloc, &line[5..])?)));

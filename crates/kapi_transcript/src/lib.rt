@@ -11,7 +11,7 @@ mod request;
 mod sent;
 mod wanted;
 
-pub use case::{Beginning, Case, Event, Loaded, Want};
+pub use case::{Beginning, Case, Event, Loaded, Manifests, Want};
 pub use correction::{corrected, exactly};
 pub use draft::{Draft, cases};
 pub use form::{Form, Source, parse_form};

@@ -7,9 +7,9 @@ use Rattle.kapi_audit.proofs.audit.audit_run.Goals as goal
 pub returns : goal.returns
 returns g c =
     let started = c.in_ok-started.started in
-    audited_files (λ v. v.items) c.answer_started.result c.args.policy.now c.args.questions.now _
+    audited_files (λ v. v.items) c.answer_seated.result c.args.policy.now c.args.questions.now _
     (ap (map line_of) c.as_slice.ensures.value ∙ c.in_ok-asked.ensures)
-    (audited (λ v. v.items) started.core started.desk (machine_of c.args.policy.now) _ c.answer_started.result c.in_ok-started.ensures.machine c.answer_started.ensures)
+    (audited (λ v. v.items) started.core started.desk (machine_of c.args.policy.now) _ c.answer_seated.result c.in_ok-started.ensures.machine c.answer_seated.ensures)
 
 pub returns-in_err-started : goal.returns-in_err-started
 returns-in_err-started g c =

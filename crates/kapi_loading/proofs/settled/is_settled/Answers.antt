@@ -1,7 +1,7 @@
 use Rattle.std.proofs.Common.{ap, sym, ◌∙◌}
 use Rattle.kapi_core.specs.Refines.{turned_if}
-use Rattle.kapi.specs.Policies.{is_nothing}
-use Rattle.kapi.proofs.policies.is_settled.Goals as goal
+use Rattle.kapi_loading.specs.Settled.{is_nothing}
+use Rattle.kapi_loading.proofs.settled.is_settled.Goals as goal
 
 pub returns-in-Some : goal.returns-in-Some
 returns-in-Some c = λ m stands. ap (λ o. is_nothing (turned_if o)) (sym c.in-Some.is) ∙ ap is_nothing (c.in_ok-turned.ensures m stands).0
