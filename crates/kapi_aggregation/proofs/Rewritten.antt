@@ -9,12 +9,12 @@ use Rattle.serde_json.specs.Data.{Data, array, Items, Members}
 use Rattle.serde_json.specs.Find.{get}
 use Rattle.kapi_text.specs.Gives.{◌>>=◌}
 use Rattle.kapi_model.specs.declared.policy_rule.PolicyRule.{PolicyRule}
-use Rattle.kapi_tree.proofs.Closed.{Closed, items_hold, members_hold, rule_tree_holds}
-use Rattle.kapi_tree.proofs.Metadata.{in_object}
-use Rattle.kapi_tree.proofs.Puts.{list_round, put_other}
-use Rattle.kapi_tree.specs.Contents.{aggregation_of, items_if, read_items, rule_of, rule_tree, rules_of, write_items}
-use Rattle.kapi_tree.specs.Given.{given_of}
-use Rattle.kapi_tree.specs.Tree.{in_metadata, members_or_none, unless_null}
+use Rattle.kapi_object.proofs.Closed.{Closed, items_hold, members_hold, rule_tree_holds}
+use Rattle.kapi_object.proofs.Metadata.{in_object}
+use Rattle.kapi_object.proofs.Puts.{list_round, put_other}
+use Rattle.kapi_object.specs.Contents.{aggregation_of, items_if, read_items, rule_of, rule_tree, rules_of, write_items}
+use Rattle.kapi_object.specs.Given.{given_of}
+use Rattle.kapi_object.specs.Tree.{in_metadata, members_or_none, unless_null}
 use Rattle.kapi_rbac_types.proofs.RoundTrips.{rule_round}
 use Rattle.kapi_rbac_types.proofs.Stamped.{cluster_role_stamped, labels_stamped}
 use Rattle.kapi_rbac_types.specs.Trees.{cluster_role_of}

@@ -4,8 +4,8 @@ use Rattle.std.specs.Map.{lookup}
 use Rattle.serde_json.specs.Data.{Data, array, object, put}
 use Rattle.kapi_model.specs.Kinds.{rbac_group}
 use Rattle.kapi_model.specs.declared.policy_rule.PolicyRule.{PolicyRule}
-use Rattle.kapi_tree.specs.Contents.{rule_tree, write_items}
-use Rattle.kapi_tree.specs.Tree.{members_or_none}
+use Rattle.kapi_object.specs.Contents.{rule_tree, write_items}
+use Rattle.kapi_object.specs.Tree.{members_or_none}
 use Rattle.kapi_rbac_types.specs.Trees.{cluster_role_of}
 use Rattle.kapi_store.specs.Faults.{Missing, StoreFault}
 use Rattle.kapi_store.specs.Keys.{is_key}

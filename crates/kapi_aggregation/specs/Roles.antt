@@ -10,7 +10,7 @@ use Rattle.kapi_model.specs.Kinds.{rbac_group}
 use Rattle.kapi_model.specs.Selector.{matches}
 use Rattle.kapi_model.specs.declared.aggregation_rule.AggregationRule.{AggregationRule}
 use Rattle.kapi_model.specs.declared.selector.Selector.{Selector}
-use Rattle.kapi_tree.specs.Tree.{in_metadata}
+use Rattle.kapi_object.specs.Tree.{in_metadata}
 use Rattle.kapi_rbac_types.specs.Trees.{cluster_role_of}
 use Rattle.kapi_model.specs.declared.role.ClusterRole.{ClusterRole}
 use Rattle.kapi_store.specs.declared.key.Key.{Key}

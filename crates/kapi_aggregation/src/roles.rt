@@ -14,9 +14,9 @@ ghost use Rattle.kapi_aggregation.specs.Roles.{IsInNameOrder, is_aggregated as i
 ghost use Rattle.kapi_aggregation.specs.Views.{labelled};
 
 use kapi_model::{PolicyRule, RBAC_GROUP, ResourceRow, Schema, Selector};
+use kapi_object::rules_form::read_rules;
 use kapi_store::{Key, Listed, Store, StoredObject};
 use kapi_text::{Memory, Sequence, Text, TryCopy};
-use kapi_tree::rules_form::read_rules;
 use std::alloc::Global;
 use std::collections::BTreeSet;
 

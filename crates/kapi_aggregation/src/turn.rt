@@ -1,7 +1,7 @@
 //! The rewriting of an aggregated cluster role.
 ghost use Rattle.std.specs.Prelude.{◌≡◌, map, IfOk};
 ghost use Rattle.serde_json.specs.View.{view};
-ghost use Rattle.kapi_tree.specs.Object.{tree_of};
+ghost use Rattle.kapi_object.specs.Object.{tree_of};
 ghost use Rattle.kapi_store.specs.Stored.{stored_tree};
 ghost use Rattle.kapi_store.specs.Faults.{fault_of};
 ghost use Rattle.kapi_store.specs.Plain.{plain_change, plain_of};
@@ -16,11 +16,11 @@ use crate::roles::{NamedRole, role_key};
 use crate::same::same_rules;
 use crate::union::{union_for, union_in};
 use kapi_model::PolicyRule;
+use kapi_object::Object;
+use kapi_object::tree::into_members;
+use kapi_object::tree_form::write_items;
 use kapi_store::{Ready, Store, StoreError, StoredObject};
 use kapi_text::{Memory, Sequence, Text, TryCopy};
-use kapi_tree::Object;
-use kapi_tree::tree::into_members;
-use kapi_tree::tree_form::write_items;
 use serde_json::{Value, put};
 use std::alloc::Global;
 

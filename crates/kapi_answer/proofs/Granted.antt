@@ -21,11 +21,11 @@ use Rattle.kapi_request_info.specs.Impersonation.{Misuse, bad_headers, impersona
 use Rattle.kapi_request_info.specs.declared.impersonated.Impersonation.{Impersonation}
 use Rattle.kapi_rules.specs.declared.point.Point.{Point}
 use Rattle.kapi_request_info.specs.declared.attributes.Attributes.{Attributes}
-use Rattle.kapi_route.specs.Headers.{media_typed}
-use Rattle.kapi_route.specs.Query.{queried}
-use Rattle.kapi_route.specs.Route.{ResourceRouted, Routed, health, resource, routed}
-use Rattle.kapi_route.specs.declared.route.Action.{Action}
-use Rattle.kapi_route.specs.declared.route.Action.TheVariants as action
+use Rattle.kapi_answer.specs.Headers.{media_typed}
+use Rattle.kapi_answer.specs.Query.{queried}
+use Rattle.kapi_answer.specs.Route.{ResourceRouted, Routed, health, resource, routed}
+use Rattle.kapi_answer.specs.declared.route.Action.{Action}
+use Rattle.kapi_answer.specs.declared.route.Action.TheVariants as action
 use Rattle.kapi_store.specs.Faults.{StoreFault, Missing}
 use Rattle.kapi_store.specs.Keys.{is_key}
 use Rattle.kapi_store.specs.Plain.{Plain, PlainChange, creation_at, creation_in_place, removable, removal, removals, replaced, replacement_in_place, replacement_at, revisions_left}

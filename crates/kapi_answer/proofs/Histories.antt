@@ -5,17 +5,17 @@ use Rattle.std.specs.Map.{lookup}
 use Rattle.std.specs.Prelude.{IfOk, ok_or}
 use Rattle.serde_json.specs.Data.{Data}
 use Rattle.kapi_text.specs.Gives.{◌>>=◌}
-use Rattle.kapi_admission.specs.Admission.{BodyFault, float, object_of, invalid, not_json, read_as, wrong_kind, wrong_version}
+use Rattle.kapi_object.specs.Admission.{BodyFault, float, object_of, invalid, not_json, read_as, wrong_kind, wrong_version}
 use Rattle.kapi_http.specs.declared.message.HttpRequest.{HttpRequest}
 use Rattle.kapi_model.specs.Names.{is_name_on}
 use Rattle.kapi_model.specs.declared.fault.FieldFault.{FieldFault}
 use Rattle.kapi_model.specs.declared.row.ResourceRow.{ResourceRow}
-use Rattle.kapi_tree.specs.Given.{given_of}
-use Rattle.kapi_tree.specs.Tree.{json_object}
-use Rattle.kapi_tree.specs.declared.given.Given.{Given}
-use Rattle.kapi_tree.specs.declared.given.GivenText.{GivenText}
-use Rattle.kapi_tree.specs.declared.given.GivenText.TheVariants as given
-use Rattle.kapi_patch.specs.Merge.{merged}
+use Rattle.kapi_object.specs.Given.{given_of}
+use Rattle.kapi_object.specs.Tree.{json_object}
+use Rattle.kapi_object.specs.declared.given.Given.{Given}
+use Rattle.kapi_object.specs.declared.given.GivenText.{GivenText}
+use Rattle.kapi_object.specs.declared.given.GivenText.TheVariants as given
+use Rattle.kapi_object.specs.Merge.{merged}
 use Rattle.kapi_policy.specs.Objects.{PolicyObjects}
 use Rattle.kapi_model.specs.declared.identity.Identity.{Identity}
 use Rattle.kapi_reply.specs.declared.refusal.Refused.{Refused}
@@ -23,13 +23,13 @@ use Rattle.kapi_request_info.specs.Attributes.{info}
 use Rattle.kapi_request_info.specs.Faults.{TargetFault}
 use Rattle.kapi_request_info.specs.declared.attributes.Attributes.{Attributes}
 use Rattle.kapi_reviews.specs.declared.kind.ReviewKind.{ReviewKind}
-use Rattle.kapi_route.specs.Headers.{media_typed}
-use Rattle.kapi_route.specs.Query.{queried}
-use Rattle.kapi_route.specs.Route.{ResourceRouted, Routed, health, resource, routed}
-use Rattle.kapi_route.specs.declared.query.Filter.{Filter}
-use Rattle.kapi_route.specs.declared.route.Action.{Action}
-use Rattle.kapi_route.specs.declared.route.Action.TheVariants as action
-use Rattle.kapi_route.specs.declared.route.Part.{Part}
+use Rattle.kapi_answer.specs.Headers.{media_typed}
+use Rattle.kapi_answer.specs.Query.{queried}
+use Rattle.kapi_answer.specs.Route.{ResourceRouted, Routed, health, resource, routed}
+use Rattle.kapi_answer.specs.declared.query.Filter.{Filter}
+use Rattle.kapi_answer.specs.declared.route.Action.{Action}
+use Rattle.kapi_answer.specs.declared.route.Action.TheVariants as action
+use Rattle.kapi_answer.specs.declared.route.Part.{Part}
 use Rattle.kapi_store.proofs.Keys.{filter_distinct, one_distinct}
 use Rattle.kapi_store.specs.Faults.{StoreFault, Conflict}
 use Rattle.kapi_store.specs.Keys.{is_key}

@@ -1,3 +1,5 @@
+mod Semicolons
+mod Rows
 pub mod Stored
 pub mod Merged
 pub mod Listed

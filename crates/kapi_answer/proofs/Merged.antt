@@ -7,10 +7,10 @@ use Rattle.std.specs.Ordering.{nat_cmp, is_lt, match_ordering}
 use Rattle.std.specs.declared.cmp.Ordering.TheVariants.{Less, Equal, Greater}
 use Rattle.serde_json.specs.Data.{Data, null, boolean, number, string, array, object, Members, no_members, member, depth, members_depth}
 use Rattle.serde_json.specs.Find.{get_member}
-use Rattle.kapi_tree.proofs.Depths.{no_deeper}
-use Rattle.kapi_tree.proofs.Ordered.{keys_in_order}
-use Rattle.kapi_tree.specs.Order.{is_ordered, in_order, precedes}
-use Rattle.kapi_patch.specs.Merge.{all_merged, changed, members_or_none, merged, value_at, without}
+use Rattle.kapi_object.proofs.Depths.{no_deeper}
+use Rattle.kapi_object.proofs.Ordered.{keys_in_order}
+use Rattle.kapi_object.specs.Order.{is_ordered, in_order, precedes}
+use Rattle.kapi_object.specs.Merge.{all_merged, changed, members_or_none, merged, value_at, without}
 
 precedes_rest : (key name : List ℕ) (ms : Members) → precedes key ms ≡ true → precedes key (without name ms) ≡ true
 precedes_rest key name no_members h = refl

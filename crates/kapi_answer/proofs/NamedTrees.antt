@@ -5,16 +5,16 @@ use Rattle.serde_json.proofs.Views.{get_member-put}
 use Rattle.serde_json.specs.Data.{Data, null, boolean, number, string, array, object, put}
 use Rattle.serde_json.specs.Find.{as_str, get}
 use Rattle.kapi_model.specs.declared.row.ResourceRow.{ResourceRow}
-use Rattle.kapi_tree.proofs.Puts.{put_if_other}
-use Rattle.kapi_tree.specs.Given.{given_of, text_given}
-use Rattle.kapi_tree.specs.Tree.{in_metadata, members_or_none, metadata_of, unless_null, with_member_of, with_text, without, without_member}
-use Rattle.kapi_tree.specs.declared.given.GivenText.TheVariants as given
+use Rattle.kapi_object.proofs.Puts.{put_if_other}
+use Rattle.kapi_object.specs.Given.{given_of, text_given}
+use Rattle.kapi_object.specs.Tree.{in_metadata, members_or_none, metadata_of, unless_null, with_member_of, with_text, without, without_member}
+use Rattle.kapi_object.specs.declared.given.GivenText.TheVariants as given
 use Rattle.kapi_stored_policy.proofs.Admitted.{without_other}
-use Rattle.kapi_route.specs.declared.route.Part.{Part}
-use Rattle.kapi_route.specs.declared.route.Part.TheVariants as part
+use Rattle.kapi_answer.specs.declared.route.Part.{Part}
+use Rattle.kapi_answer.specs.declared.route.Part.TheVariants as part
 use Rattle.kapi_store.specs.Stamps.{metadata_text}
 use Rattle.kapi_store.specs.declared.key.Key.{Key}
-use Rattle.kapi_tree.proofs.Metadata.{in_object, in_text}
+use Rattle.kapi_object.proofs.Metadata.{in_object, in_text}
 use Rattle.kapi_watch.specs.Histories.{IsNamedBy}
 use Rattle.kapi_answer.specs.Create.{with_namespace_on, in_namespace, in_place, key_of, without_status}
 use Rattle.kapi_answer.specs.Update.{keeping_status, replacing}

@@ -3,7 +3,7 @@ use Rattle.std.proofs.Common.{◌≡◌, Bool, true, false, not, ◌&&◌, List,
 use Rattle.std.specs.List.{find}
 use Rattle.serde_json.specs.Data.{Data}
 use Rattle.serde_json.specs.Find.{get}
-use Rattle.kapi_admission.specs.Admission.{version_of}
+use Rattle.kapi_object.specs.Admission.{version_of}
 use Rattle.kapi_answer.specs.Load.{is_kept_kind, is_text}
 use Rattle.kapi_answer.specs.Review.{review_kind}
 use Rattle.kapi_model.specs.declared.row.ResourceRow.{ResourceRow}

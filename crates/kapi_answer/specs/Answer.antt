@@ -19,13 +19,13 @@ use Rattle.kapi_reply.specs.declared.refusal.BadWord.TheVariants as word
 use Rattle.kapi_reply.specs.declared.refusal.Refused.{Refused}
 use Rattle.kapi_reply.specs.declared.reply.WrittenReply.{WrittenReply}
 use Rattle.kapi_reviews.specs.declared.kind.ReviewKind.{ReviewKind}
-use Rattle.kapi_route.specs.Headers.{media_typed}
-use Rattle.kapi_route.specs.Query.{queried}
-use Rattle.kapi_route.specs.Route.{ResourceRouted, Routed, health, resource, routed}
-use Rattle.kapi_route.specs.declared.route.Action.{Action}
-use Rattle.kapi_route.specs.declared.route.Action.TheVariants as action
+use Rattle.kapi_answer.specs.Headers.{media_typed}
+use Rattle.kapi_answer.specs.Query.{queried}
+use Rattle.kapi_answer.specs.Route.{ResourceRouted, Routed, health, resource, routed}
+use Rattle.kapi_answer.specs.declared.route.Action.{Action}
+use Rattle.kapi_answer.specs.declared.route.Action.TheVariants as action
 use Rattle.kapi_store.specs.Plain.{Plain, PlainChange}
-use Rattle.kapi_route.specs.declared.query.Filter.{Filter}
+use Rattle.kapi_answer.specs.declared.query.Filter.{Filter}
 use Rattle.kapi_store.specs.Keys.{is_key}
 use Rattle.kapi_store.specs.declared.key.Key.{Key}
 use Rattle.kapi_answer.specs.Authorization.{authorized}

@@ -7,7 +7,7 @@ use Rattle.kapi_answer.specs.List.{list_tree}
 use Rattle.kapi_http.specs.declared.message.StatusCode.TheVariants as status
 use Rattle.kapi_model.specs.declared.row.ResourceRow.{ResourceRow}
 use Rattle.kapi_reply.specs.declared.refusal.Refused.{Refused}
-use Rattle.kapi_route.specs.declared.query.Filter.{Filter}
+use Rattle.kapi_answer.specs.declared.query.Filter.{Filter}
 use Rattle.kapi_store.specs.Listing.{listed_trees}
 use Rattle.kapi_store.specs.Plain.{Plain, revisions_left}
 use Rattle.kapi_store.specs.declared.key.Key.{Key}

@@ -5,16 +5,16 @@ use Rattle.serde_json.specs.Data.{Data}
 use Rattle.serde_json.specs.Written.{compact_text}
 use Rattle.kapi_text.specs.Gives.{◌>>=◌}
 use Rattle.kapi_http.specs.declared.message.StatusCode.TheVariants as status
-use Rattle.kapi_admission.specs.Admission.{BodyFault, float, invalid, not_json, object_of, wrong_kind, wrong_version}
-use Rattle.kapi_tree.specs.Given.{given_of}
+use Rattle.kapi_object.specs.Admission.{BodyFault, float, invalid, not_json, object_of, wrong_kind, wrong_version}
+use Rattle.kapi_object.specs.Given.{given_of}
 use Rattle.kapi_model.specs.Names.{is_name_on}
-use Rattle.kapi_tree.specs.Tree.{with_text, without_member}
+use Rattle.kapi_object.specs.Tree.{with_text, without_member}
 use Rattle.kapi_model.specs.declared.fault.FaultKind.{FaultKind}
 use Rattle.kapi_model.specs.declared.fault.FaultKind.TheVariants as cause
 use Rattle.kapi_model.specs.declared.fault.FieldFault.{FieldFault}
-use Rattle.kapi_tree.specs.declared.given.Given.{Given}
-use Rattle.kapi_tree.specs.declared.given.GivenText.{GivenText}
-use Rattle.kapi_tree.specs.declared.given.GivenText.TheVariants as given
+use Rattle.kapi_object.specs.declared.given.Given.{Given}
+use Rattle.kapi_object.specs.declared.given.GivenText.{GivenText}
+use Rattle.kapi_object.specs.declared.given.GivenText.TheVariants as given
 use Rattle.kapi_model.specs.declared.row.ResourceRow.{ResourceRow}
 use Rattle.kapi_reply.specs.Refusals.{asked_for, named}
 use Rattle.kapi_reply.specs.declared.reply.Content.TheVariants as content

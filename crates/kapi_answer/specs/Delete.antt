@@ -6,7 +6,7 @@ use Rattle.serde_json.specs.Data.{Data, string, array, object}
 use Rattle.serde_json.specs.Written.{compact_text}
 use Rattle.kapi_text.specs.Gives.{◌>>=◌}
 use Rattle.kapi_http.specs.declared.message.StatusCode.TheVariants as status
-use Rattle.kapi_tree.specs.Tree.{is_empty, is_empty_object, json_object, member_of}
+use Rattle.kapi_object.specs.Tree.{is_empty, is_empty_object, json_object, member_of}
 use Rattle.kapi_reply.specs.Refusals.{asked_for}
 use Rattle.kapi_reply.specs.Status.{Subject, deleted_status}
 use Rattle.kapi_reply.specs.declared.reply.Content.TheVariants as content

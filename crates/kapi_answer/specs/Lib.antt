@@ -1,3 +1,7 @@
+pub mod Headers
+pub mod Route
+pub mod Routes
+pub mod Query
 pub mod Authorization
 pub mod Escalation
 pub mod Impersonation

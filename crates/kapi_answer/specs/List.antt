@@ -3,7 +3,7 @@ use Rattle.std.specs.Prelude.{ℕ, List, ◌++◌, codes, decimal}
 use Rattle.serde_json.specs.Data.{Data, array, member, no_members, object, string}
 use Rattle.serde_json.specs.View.{items_of}
 use Rattle.kapi_model.specs.declared.row.ResourceRow.{ResourceRow}
-use Rattle.kapi_admission.specs.Admission.{version_of}
+use Rattle.kapi_object.specs.Admission.{version_of}
 
 -- the list of some objects at a revision:
 -- {"apiVersion":V,"items":[..],"kind":KINDList,"metadata":{"resourceVersion":R}}

@@ -6,11 +6,11 @@ use Rattle.serde_json.specs.Data.{Data, string}
 use Rattle.serde_json.specs.Find.{get}
 use Rattle.kapi_text.specs.Gives.{◌>>=◌}
 use Rattle.kapi_model.specs.declared.row.ResourceRow.{ResourceRow}
-use Rattle.kapi_tree.specs.Given.{given_of}
-use Rattle.kapi_tree.specs.Tree.{json_object}
-use Rattle.kapi_tree.specs.declared.given.GivenText.{GivenText}
-use Rattle.kapi_tree.specs.declared.given.GivenText.TheVariants as given
-use Rattle.kapi_admission.specs.Admission.{read_as, version_of}
+use Rattle.kapi_object.specs.Given.{given_of}
+use Rattle.kapi_object.specs.Tree.{json_object}
+use Rattle.kapi_object.specs.declared.given.GivenText.{GivenText}
+use Rattle.kapi_object.specs.declared.given.GivenText.TheVariants as given
+use Rattle.kapi_object.specs.Admission.{read_as, version_of}
 use Rattle.kapi_reply.specs.declared.refusal.Refusal.{Refusal}
 use Rattle.kapi_reply.specs.declared.refusal.Refusal.TheVariants as refusal
 use Rattle.kapi_reply.specs.declared.refusal.Refused.{Refused}

@@ -3,10 +3,10 @@ use Rattle.std.specs.Prelude.{◌≡◌, List, [], map, Option, None, Some, Resu
 use Rattle.std.specs.List.{IsDistinct}
 use Rattle.std.specs.Map.{lookup}
 use Rattle.serde_json.specs.Data.{Data}
-use Rattle.kapi_tree.specs.Object.{tree_of}
+use Rattle.kapi_object.specs.Object.{tree_of}
 use Rattle.kapi_store.specs.Stored.{stored_tree}
 use Rattle.kapi_model.specs.declared.fault.FieldFault.{FieldFault}
-use Rattle.kapi_tree.specs.declared.object.Object.{Object}
+use Rattle.kapi_object.specs.declared.object.Object.{Object}
 use Rattle.kapi_policy.specs.Objects.{PolicyObjects}
 use Rattle.kapi_store.specs.Keys.{is_key}
 use Rattle.kapi_store.specs.Plain.{Plain, PlainChange, free_place, plain_change}

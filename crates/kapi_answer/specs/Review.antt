@@ -3,14 +3,14 @@ use Rattle.std.specs.Prelude.{ℕ, if◌then◌else◌, List, [], Option, None, 
 use Rattle.kapi_text.specs.Gives.{◌>>=◌}
 use Rattle.kapi_http.specs.declared.message.StatusCode.TheVariants as status
 use Rattle.kapi_model.specs.declared.row.ResourceRow.{ResourceRow}
-use Rattle.kapi_tree.specs.declared.given.GivenText.{GivenText}
+use Rattle.kapi_object.specs.declared.given.GivenText.{GivenText}
 use Rattle.kapi_policy.specs.Objects.{PolicyObjects}
 use Rattle.kapi_model.specs.declared.identity.Identity.{Identity}
 use Rattle.kapi_reply.specs.declared.refusal.Refused.{Refused}
 use Rattle.kapi_reviews.specs.Kinds.{kind_of}
 use Rattle.kapi_reviews.specs.Reviews.{reviewed}
 use Rattle.kapi_reviews.specs.declared.kind.ReviewKind.{ReviewKind}
-use Rattle.kapi_route.specs.Route.{is_of_reviews}
+use Rattle.kapi_answer.specs.Route.{is_of_reviews}
 use Rattle.kapi_answer.specs.Create.{Admitted, admitted, with_namespace_on, in_namespace, valid}
 use Rattle.kapi_answer.specs.Outcome.{Outcome, told}
 

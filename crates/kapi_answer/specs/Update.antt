@@ -4,19 +4,19 @@ use Rattle.std.specs.Prelude.{ℕ, if◌then◌else◌, List, codes, Option, Som
 use Rattle.std.specs.Map.{lookup}
 use Rattle.serde_json.specs.Data.{Data}
 use Rattle.kapi_text.specs.Gives.{◌>>=◌}
-use Rattle.kapi_admission.specs.Admission.{read_as}
+use Rattle.kapi_object.specs.Admission.{read_as}
 use Rattle.kapi_http.specs.declared.message.StatusCode.TheVariants as status
 use Rattle.kapi_model.specs.declared.row.ResourceRow.{ResourceRow}
-use Rattle.kapi_tree.specs.Tree.{json_object, with_member_of, with_text}
-use Rattle.kapi_tree.specs.declared.given.GivenText.{GivenText}
-use Rattle.kapi_patch.specs.Merge.{merged}
+use Rattle.kapi_object.specs.Tree.{json_object, with_member_of, with_text}
+use Rattle.kapi_object.specs.declared.given.GivenText.{GivenText}
+use Rattle.kapi_object.specs.Merge.{merged}
 use Rattle.kapi_reply.specs.Refusals.{asked_for, named}
 use Rattle.kapi_reply.specs.declared.reply.Content.TheVariants as content
 use Rattle.kapi_reply.specs.declared.refusal.BadWord.TheVariants as word
 use Rattle.kapi_reply.specs.declared.refusal.Refusal.TheVariants as refusal
 use Rattle.kapi_reply.specs.declared.refusal.Refused.{Refused}
-use Rattle.kapi_route.specs.declared.route.Part.{Part}
-use Rattle.kapi_route.specs.declared.route.Part.TheVariants as part
+use Rattle.kapi_answer.specs.declared.route.Part.{Part}
+use Rattle.kapi_answer.specs.declared.route.Part.TheVariants as part
 use Rattle.kapi_store.specs.Keys.{is_key}
 use Rattle.kapi_store.specs.Plain.{Plain, PlainChange, replaceable, replacement_in_place}
 use Rattle.kapi_store.specs.declared.key.Key.{Key}

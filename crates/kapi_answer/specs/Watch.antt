@@ -14,7 +14,7 @@ use Rattle.kapi_reply.specs.Status.{Subject, status_of}
 use Rattle.kapi_reply.specs.declared.refusal.Refusal.TheVariants as refusal
 use Rattle.kapi_reply.specs.declared.refusal.Refused.{Refused as RefusedBy}
 use Rattle.kapi_request_info.specs.declared.attributes.Attributes.{Attributes}
-use Rattle.kapi_route.specs.declared.query.Filter.{Filter}
+use Rattle.kapi_answer.specs.declared.query.Filter.{Filter}
 use Rattle.kapi_store.specs.Plain.{Plain, PlainChange, window_start}
 use Rattle.kapi_watch.specs.Running.{RefinesWatch, watch_data}
 use Rattle.kapi_watch.specs.Shown.{Shown, Added, Deleted, Expired, Modified, Refused}

@@ -5,9 +5,9 @@ ghost use Rattle.kapi_text.specs.Gives.{Gives, ◌>>=◌ as and_then};
 ghost use Rattle.serde_json.specs.Data.{depth};
 ghost use Rattle.serde_json.specs.Read.{max_depth};
 ghost use Rattle.serde_json.specs.View.{view};
-ghost use Rattle.kapi_admission.specs.Admission.{read_as};
-ghost use Rattle.kapi_tree.specs.Object.{tree_of};
-ghost use Rattle.kapi_tree.specs.Order.{is_ordered};
+ghost use Rattle.kapi_object.specs.Admission.{read_as};
+ghost use Rattle.kapi_object.specs.Object.{tree_of};
+ghost use Rattle.kapi_object.specs.Order.{is_ordered};
 ghost use Rattle.kapi_reply.specs.Refusals as table;
 ghost use Rattle.kapi_reply.specs.Refusals.{asked_for, refused_by};
 ghost use Rattle.kapi_store.specs.Plain.{free_place, plain_change, plain_of};
@@ -19,13 +19,12 @@ ghost use Rattle.kapi_answer.specs.Create.{admitted, admitted_from, creates, giv
 ghost use Rattle.kapi_answer.specs.Outcomes.{admitted_data, new_data, object_data, outcome_data};
 
 use crate::outcome::{NewObject, Outcome};
-use kapi_admission::{ObjectError, admit_tree, read_tree};
 use kapi_http::StatusCode;
 use kapi_model::{FaultKind, FieldFault, ResourceRow, check_name};
+use kapi_object::{Given, GivenText, Object, ObjectError, admit_tree, read_tree};
 use kapi_reply::{BadWord, CheckError, Content, Refusal, Refused, Sought};
 use kapi_store::{Change, Key, Shared, Store, StoreError, StoredObject};
 use kapi_text::{Memory, Sequence, Text, TryCopy};
-use kapi_tree::{Given, GivenText, Object};
 use serde_json::Value;
 use std::alloc::Global;
 
@@ -167,7 +166,7 @@ fn object_text(alloc: Global, object: Option<&StoredObject>) -> Result<Vec<u8>, 
 }
 
 /// Reads a body; a body that is no JSON object of the resource type's kind and version is a bad request.
-#[tactic(auto, unfolding(crate::specs::Create::admitted_from, kapi_admission::specs::Admission::read_as))]
+#[tactic(auto, unfolding(crate::specs::Create::admitted_from, kapi_object::specs::Admission::read_as))]
 pub fn read_body(alloc: Global, row: &ResourceRow, body: &[u8]) -> Result<Admitted, CheckError>
     ensures { Gives refused_by admitted_data result (admitted row.now body.now) }
 {

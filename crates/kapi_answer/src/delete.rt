@@ -14,14 +14,13 @@ ghost use Rattle.kapi_answer.specs.Outcomes.{deletion_data, outcome_data};
 
 use crate::create::{bad_request, refused_by_store};
 use crate::outcome::{Deletion, Outcome};
-use kapi_admission::{ObjectError, read_tree};
 use kapi_http::StatusCode;
+use kapi_object::tree::has_no_members;
+use kapi_object::tree_form::is_empty;
+use kapi_object::{ObjectError, member, read_tree};
 use kapi_reply::{BadWord, CheckError, Content, Refusal, Refused, Sought, Subject, deletion_text};
 use kapi_store::{Key, Store, StoredObject};
 use kapi_text::{Memory, TryCopy};
-use kapi_tree::member;
-use kapi_tree::tree::has_no_members;
-use kapi_tree::tree_form::is_empty;
 use serde_json::Value;
 use std::alloc::Global;
 

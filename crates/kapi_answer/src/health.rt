@@ -5,10 +5,10 @@ ghost use Rattle.kapi_reply.specs.Refusals.{refused_by};
 ghost use Rattle.kapi_answer.specs.Answer.{told_well};
 ghost use Rattle.kapi_answer.specs.Outcomes.{outcome_data};
 
+use crate::headers::check_media_type;
 use crate::outcome::Outcome;
 use kapi_http::{HttpRequest, StatusCode};
 use kapi_reply::{CheckError, Content};
-use kapi_route::check_media_type;
 use std::alloc::Global;
 
 /// Answers a health check; authorization has passed.

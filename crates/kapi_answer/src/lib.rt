@@ -1,4 +1,5 @@
-//! What requests answer or change: a file for each kind of action, and the writes of the answers.
+//! From a request to its answer: as whom it is made, its route, the checks in their order, a file for each kind of action, and
+//! the writes of the answers.
 #![tactic(auto)]
 
 mod authorization;
@@ -8,6 +9,7 @@ pub mod delete;
 mod escalation;
 mod escalation_refusal;
 mod get;
+pub mod headers;
 pub mod health;
 mod impersonation;
 mod kept_watch;
@@ -20,12 +22,16 @@ pub mod old_object;
 pub mod outcome;
 mod plan;
 mod prepared;
+pub mod query;
+mod respond;
 mod review;
+pub mod route;
 pub mod task;
 mod update;
 pub mod watch;
 
 pub use authorization::authorize;
+pub use headers::check_media_type;
 pub use impersonation::impersonate;
 pub use kapi_reply::WrittenReply;
 pub use kept_watch::KeptWatch;
@@ -33,5 +39,8 @@ pub use loading::{LoadError, load};
 pub use outcome::{Outcome, Passed, Plan};
 pub use plan::plan_for;
 pub use prepared::Prepared;
+pub use query::{Filter, check_query};
+pub use respond::answer;
+pub use route::{Action, Part, ResourceRoute, Route, find_route, is_of_reviews};
 pub use update::replace;
 pub use watch::{After, EventReply, Watching, event_reply, recheck};

@@ -4,9 +4,9 @@ ghost use Rattle.json.specs.Print.{quoted};
 ghost use Rattle.kapi_store.specs.Stored.{stored_tree};
 ghost use Rattle.serde_json.specs.Written.{comma_if, compact_text};
 
+use kapi_object::tree_form::quote;
 use kapi_store::StoredObject;
 use kapi_text::Memory;
-use kapi_tree::tree_form::quote;
 use std::alloc::Global;
 
 /// Writes a member whose value is a text behind the text so far: the key, a colon and the value.

@@ -1,7 +1,7 @@
 //! Lists of objects as JSON texts.
 ghost use Rattle.std.specs.Prelude.{◌≡◌, ◌++◌, IfOk, OnOk, codes, map, string_bytes};
 ghost use Rattle.kapi_store.specs.Stored.{stored_tree};
-ghost use Rattle.kapi_admission.specs.Admission.{version_of};
+ghost use Rattle.kapi_object.specs.Admission.{version_of};
 ghost use Rattle.kapi_answer.specs.List.{list_tree};
 ghost use Rattle.serde_json.specs.Data.{array};
 ghost use Rattle.serde_json.specs.View.{items_of};

@@ -1,10 +1,10 @@
 ghost use Rattle.std.specs.Prelude.{◌≡◌, IfSome};
-ghost use Rattle.kapi_tree.specs.Object.{tree_of};
+ghost use Rattle.kapi_object.specs.Object.{tree_of};
 ghost use Rattle.kapi_store.specs.Stored.{stored_tree};
 
+use kapi_object::Object;
 use kapi_store::Shared;
 use kapi_text::Memory;
-use kapi_tree::Object;
 use std::alloc::Global;
 use std::marker::Model;
 
@@ -18,7 +18,7 @@ pub struct OldObject {
 
 impl Model for OldObject {
     ghost use Rattle.std.specs.Prelude.{◌≡◌, IfSome};
-    ghost use Rattle.kapi_tree.specs.Object.{tree_of};
+    ghost use Rattle.kapi_object.specs.Object.{tree_of};
     ghost use Rattle.kapi_store.specs.Stored.{stored_tree};
     ghost use Rattle.kapi_store.specs.declared.stored.StoredObject.{StoredObject};
 

@@ -1,9 +1,9 @@
 use crate::old_object::OldObject;
 use kapi_http::StatusCode;
+use kapi_object::Object;
 use kapi_reply::Content;
 use kapi_store::{Key, Ready};
 use kapi_text::Text;
-use kapi_tree::Object;
 use kapi_watch::Watch;
 
 /// What a request that passed every check gets.

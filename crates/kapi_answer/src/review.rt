@@ -2,7 +2,7 @@
 ghost use Rattle.std.specs.Prelude.{◌≡◌, [], None, Ok, IfOk};
 ghost use Rattle.kapi_http.specs.declared.message.StatusCode.TheVariants as status;
 ghost use Rattle.kapi_text.specs.Gives.{Gives, ◌>>=◌ as and_then};
-ghost use Rattle.kapi_tree.specs.Object.{tree_of};
+ghost use Rattle.kapi_object.specs.Object.{tree_of};
 ghost use Rattle.kapi_reply.specs.Refusals.{refused_by};
 ghost use Rattle.kapi_reviews.specs.Reviews.{reviewed};
 ghost use Rattle.kapi_answer.specs.Create.{valid};
@@ -15,15 +15,15 @@ use crate::create::{
     Admitted, check_namespace, check_validity, read_body, refused, with_namespace,
 };
 use crate::outcome::Outcome;
+use crate::route::is_of_reviews;
 use crate::task::Task;
 use kapi_http::StatusCode;
 use kapi_model::{Identity, ResourceRow};
+use kapi_object::{GivenText, Object};
 use kapi_policy::Policy;
 use kapi_reply::{CheckError, Content, Refusal};
 use kapi_reviews::{ReviewError, ReviewKind, review};
-use kapi_route::is_of_reviews;
 use kapi_text::Text;
-use kapi_tree::{GivenText, Object};
 use std::alloc::Global;
 
 /// The kind of the reviews that a resource type takes, if any.

@@ -1,5 +1,5 @@
+use crate::query::Filter;
 use kapi_model::{Identity, ResourceRow};
-use kapi_route::Filter;
 
 /// A resource request: the identity, the resource type, the namespace and the name of the path, the filter and the body.
 #[derive(Clone, Copy)]

@@ -13,6 +13,7 @@ ghost use Rattle.kapi_answer.specs.Watch as watches;
 ghost use Rattle.kapi_answer.specs.Watch.{PlainWatching, RefinesWatching, event_reply_of, ending_of, expired_status, rechecked, refused_status, since_served, watch_of};
 
 use crate::authorization::is_authorized;
+use crate::query::Filter;
 use kapi_http::{Method, write_chunk, write_end};
 use kapi_model::{Identity, ResourceRow};
 use kapi_policy::Policy;
@@ -21,7 +22,6 @@ use kapi_reply::{
     refusal_text,
 };
 use kapi_request_info::Attributes;
-use kapi_route::Filter;
 use kapi_store::Store;
 use kapi_text::{Memory, Sequence};
 use kapi_watch::{Event, Scope, Watch, WatchError, event_text};

@@ -2,9 +2,9 @@
 -- SubjectAccessReview).
 use Rattle.std.specs.Prelude.{ℕ, ◌==◌, Bool, if◌then◌else◌, List, [], length, Option, None, Some, Result, Ok, Err, codes, option_and_then}
 use Rattle.serde_json.specs.Data.{Data, no_members, object, put}
-use Rattle.kapi_admission.specs.Admission.{BodyFault, read_as}
+use Rattle.kapi_object.specs.Admission.{BodyFault, read_as}
 use Rattle.kapi_model.specs.declared.row.ResourceRow.{ResourceRow}
-use Rattle.kapi_tree.specs.Tree.{json_object}
+use Rattle.kapi_object.specs.Tree.{json_object}
 use Rattle.kapi_model.specs.declared.identity.Identity.{Identity}
 use Rattle.kapi_reviews.specs.Faults.{review_faults}
 use Rattle.kapi_reviews.specs.Questions.{at, question}

@@ -4,7 +4,7 @@ use Rattle.std.specs.List.{fold}
 use Rattle.std.specs.List.Sorted.{IsStrictlySortedBy}
 use Rattle.serde_json.specs.Data.{Data}
 use Rattle.kapi_model.specs.declared.row.ResourceRow.{ResourceRow}
-use Rattle.kapi_admission.specs.Admission.{BodyFault, object_of}
+use Rattle.kapi_object.specs.Admission.{BodyFault, object_of}
 use Rattle.kapi_model.specs.declared.identity.Identity.{Identity}
 use Rattle.kapi_http.specs.Cut.{first}
 use Rattle.kapi_policy.specs.Objects.{PolicyObjects}

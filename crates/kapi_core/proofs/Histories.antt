@@ -7,8 +7,8 @@ use Rattle.std.specs.Option.{option_and_then, unwrap_or}
 use Rattle.std.specs.Str.{chars}
 use Rattle.serde_json.specs.Data.{Data, array}
 use Rattle.serde_json.specs.Find.{as_str, get}
-use Rattle.kapi_admission.proofs.OnLiterals.{admission_on_literals}
-use Rattle.kapi_admission.specs.Admission.{BodyFault, object_of}
+use Rattle.kapi_object.proofs.OnLiterals.{admission_on_literals}
+use Rattle.kapi_object.specs.Admission.{BodyFault, object_of}
 use Rattle.kapi_aggregation.specs.Rewriting.{rewriting, rewriting_of, role_key, with_rules}
 use Rattle.kapi_answer.proofs.Histories.{answers_write, loads_create}
 use Rattle.kapi_answer.specs.Histories.{AreNamed, IsWrite}
@@ -17,9 +17,9 @@ use Rattle.kapi_answer.specs.Load.{LoadFault, loads}
 use Rattle.kapi_http.specs.Cut.{first}
 use Rattle.kapi_model.specs.declared.policy_rule.PolicyRule.{PolicyRule}
 use Rattle.kapi_model.specs.declared.row.ResourceRow.{ResourceRow}
-use Rattle.kapi_tree.proofs.Puts.{put_other}
-use Rattle.kapi_tree.specs.Contents.{rule_tree, write_items}
-use Rattle.kapi_tree.specs.Tree.{members_or_none}
+use Rattle.kapi_object.proofs.Puts.{put_other}
+use Rattle.kapi_object.specs.Contents.{rule_tree, write_items}
+use Rattle.kapi_object.specs.Tree.{members_or_none}
 use Rattle.kapi_store.proofs.Places.{replacement_is_in_place}
 use Rattle.kapi_store.proofs.Writes.{placed_all_append}
 use Rattle.kapi_store.specs.Changes.{placed_all}
@@ -29,7 +29,7 @@ use Rattle.kapi_store.specs.Plain.{Plain, PlainChange, creation, trees_left_by, 
 use Rattle.kapi_store.specs.declared.key.Key.{Key}
 use Rattle.kapi_watch.proofs.Histories.{AreNext, counted_goes_on, creation_is_next, next_none, no_change, removal_is_next, replacement_is_next}
 use Rattle.kapi_watch.proofs.Lists.{Keeps, history_keeps, standing_is_named}
-use Rattle.kapi_tree.proofs.Metadata.{in_object}
+use Rattle.kapi_object.proofs.Metadata.{in_object}
 use Rattle.kapi_watch.specs.Histories.{IsHistory, IsNamedBy, IsReplacement}
 use Rattle.kapi_watch.specs.Lists.{objects_after}
 use Rattle.kapi_core.proofs.Effects.{FaultKind, Effect, effect}

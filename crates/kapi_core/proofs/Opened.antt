@@ -5,8 +5,8 @@ use Rattle.std.specs.List.{list_all}
 use Rattle.std.specs.Map.{keys_of}
 use Rattle.std.specs.Str.{chars}
 use Rattle.serde_json.specs.Data.{Data, null}
-use Rattle.kapi_admission.specs.Admission.{BodyFault, object_of}
-use Rattle.kapi_admission.proofs.OnLiterals.{admission_on_literals}
+use Rattle.kapi_object.specs.Admission.{BodyFault, object_of}
+use Rattle.kapi_object.proofs.OnLiterals.{admission_on_literals}
 use Rattle.kapi_model.specs.declared.row.ResourceRow.{ResourceRow}
 use Rattle.kapi_store.specs.Changes.{placed, placed_all}
 use Rattle.kapi_store.specs.Plain.{creation_at, free_place, has_namespace, has_object, is_namespaced, revisions_left}

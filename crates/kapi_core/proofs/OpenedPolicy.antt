@@ -5,7 +5,7 @@ use Rattle.std.specs.List.{flat_map, list_any}
 use Rattle.std.specs.Option.{unwrap_or}
 use Rattle.std.specs.Str.{chars}
 use Rattle.serde_json.specs.Data.{Data}
-use Rattle.kapi_admission.proofs.OnLiterals.{admission_on_literals}
+use Rattle.kapi_object.proofs.OnLiterals.{admission_on_literals}
 use Rattle.kapi_model.specs.declared.row.ResourceRow.{ResourceRow}
 use Rattle.kapi_model.specs.Identities.{is_in, is_master}
 use Rattle.kapi_rbac_types.specs.Trees.{cluster_role_binding_of, cluster_role_of}

@@ -2,7 +2,7 @@
 use Rattle.std.proofs.Common.{◌≡◌, ℕ, List, [], ◌∷◌, Result, Ok, Err, refl, ◌∙◌}
 use Rattle.std.specs.List.{fold}
 use Rattle.serde_json.specs.Data.{Data}
-use Rattle.kapi_admission.specs.Admission.{BodyFault, object_of}
+use Rattle.kapi_object.specs.Admission.{BodyFault, object_of}
 use Rattle.kapi_store.specs.Faults.{StoreFault}
 use Rattle.kapi_store.specs.Plain.{PlainChange, creation}
 use Rattle.kapi_store.specs.declared.key.Key.{Key}

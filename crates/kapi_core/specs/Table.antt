@@ -7,7 +7,7 @@ use Rattle.kapi_model.specs.Kinds.{rbac_group}
 use Rattle.kapi_model.specs.declared.row.ResourceRow.{ResourceRow}
 use Rattle.kapi_model.specs.declared.row.Schema.{Schema}
 use Rattle.kapi_model.specs.declared.row.Schema.TheVariants as schema
-use Rattle.kapi_route.specs.Route.{is_of_reviews}
+use Rattle.kapi_answer.specs.Route.{is_of_reviews}
 use Rattle.kapi_core.specs.declared.resource.Resource.{Resource}
 
 -- a resource as a resource type of a table: all are of version v1

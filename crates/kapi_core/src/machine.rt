@@ -20,11 +20,10 @@ use crate::links::{advance_watch, close_at, feed_at, finish_request};
 use crate::opening::open_objects;
 use crate::write::{load_object, make_turn, make_write};
 use kapi_aggregation::Tracker;
-use kapi_answer::{After, LoadError, Prepared, event_reply, recheck};
+use kapi_answer::{After, LoadError, Prepared, answer, event_reply, recheck};
 use kapi_http::{FeedError, Inbox};
 use kapi_model::{Identity, ResourceRow};
 use kapi_policy::{Policy, PolicyStep};
-use kapi_respond::answer;
 use kapi_store::Store;
 use kapi_text::{Memory, Sequence};
 use kapi_watch::Next;
@@ -68,7 +67,7 @@ impl<P: Policy + Drop> Drop for Core<P> {
 
 impl<P: Policy + Drop> Model for Core<P> {
     ghost use Rattle.std.specs.Coded.{codes};
-    ghost use Rattle.kapi_tree.specs.contracts.object.Object as held;
+    ghost use Rattle.kapi_object.specs.contracts.object.Object as held;
     ghost use Rattle.kapi_store.specs.contracts.change.Change as changed;
     ghost use Rattle.kapi_core.specs.Running.{Running};
 

@@ -1,6 +1,6 @@
 ghost use Rattle.std.specs.Prelude.{◌≡◌, ◌≤◌, IfOk, OnOk, map as map_of};
 ghost use Rattle.std.specs.List.{fold};
-ghost use Rattle.kapi_tree.specs.Object.{tree_of};
+ghost use Rattle.kapi_object.specs.Object.{tree_of};
 ghost use Rattle.kapi_policy.specs.Objects.{no_objects};
 ghost use Rattle.kapi_store.specs.Plain.{creation};
 ghost use Rattle.kapi_core.specs.Machine.{Machine};
@@ -12,13 +12,12 @@ ghost use Rattle.kapi_core.specs.Table.{row_of};
 
 use crate::resource::{Resource, cluster_role_bindings, cluster_roles, namespaces};
 use crate::write::make_write;
-use kapi_admission::{ObjectError, read_object};
 use kapi_aggregation::Tracker;
 use kapi_model::ResourceRow;
+use kapi_object::{Object, ObjectError, read_object};
 use kapi_policy::Policy;
 use kapi_store::{Key, Store, StoreError};
 use kapi_text::{Memory, Sequence, Text};
-use kapi_tree::Object;
 use std::alloc::{AllocError, Global};
 
 /// The largest revision at which a machine may begin, so that the opening objects still find revisions.

@@ -4,8 +4,8 @@ ghost use Rattle.kapi_core.specs.Table as tables;
 ghost use Rattle.kapi_core.specs.Table.{fits, required_rows, row_of};
 
 use crate::resource::{Resource, required_resources};
+use kapi_answer::is_of_reviews;
 use kapi_model::{ResourceRow, Schema};
-use kapi_route::is_of_reviews;
 
 /// Whether a table of resources can be served: it has the resource types of `namespaces`, of the four kinds of the
 /// policy and of the four kinds of reviews as Kubernetes has them, every further one is open and in another group than

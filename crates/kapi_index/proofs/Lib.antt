@@ -1,3 +1,5 @@
+pub mod Places
+pub mod Exact
 pub mod Looks
 pub mod Finds
 pub mod Ordered

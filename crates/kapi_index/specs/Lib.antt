@@ -1,3 +1,7 @@
+pub mod Marks
+pub mod Compiled
+pub mod Asked
+pub mod Points
 pub mod Listed
 pub mod Prepared
 pub mod Scopes

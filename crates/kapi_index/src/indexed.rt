@@ -9,12 +9,12 @@ ghost use Rattle.kapi_index.specs.Contents.{binding_at};
 
 use crate::all::{cluster_bindings, push_spaces};
 use crate::roles::{PreparedClusterRole, PreparedRole};
+use crate::rules::CompiledRules;
 use crate::scope::Scope;
 use crate::spaces::{
     Spaces, copy_spaces, put_binding, put_role, rules_at, scope_in, take_binding, take_role,
 };
 use crate::walk;
-use kapi_compiled_rules::CompiledRules;
 use kapi_model::{Identity, PolicyRule, RoleBinding, RoleRef};
 use kapi_policy::{
     Binding, BindingKind, Decision, Policy, PolicyChange, PolicyKey, PolicyPut, copy_map,

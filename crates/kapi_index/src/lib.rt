@@ -1,16 +1,25 @@
-//! A policy whose decisions do not grow with the number of bindings: they are found by user, group and service account.
+//! A policy whose decisions do not grow with the number of bindings: they are found by user, group and service account. Its
+//! rules are prepared, so that a long role is checked fast.
 #![tactic(auto)]
 
 mod all;
+mod asked;
+mod compiled_rule;
 mod indexed;
 mod key_list;
 mod keys;
+mod marks;
 mod name_tree;
 mod names;
 mod roles;
+mod rules;
 mod scope;
 mod sets;
 mod spaces;
+mod urls;
 mod walk;
+mod words;
 
+pub use asked::{Asked, ask};
 pub use indexed::IndexedPolicy;
+pub use rules::CompiledRules;

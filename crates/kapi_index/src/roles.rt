@@ -1,5 +1,5 @@
 //! Roles with the entries of their rules prepared.
-use kapi_compiled_rules::CompiledRules;
+use crate::rules::CompiledRules;
 use kapi_model::{AggregationRule, ClusterRole, Role};
 use kapi_text::{Memory, TryCopy};
 use std::alloc::Global;

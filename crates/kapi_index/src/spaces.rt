@@ -7,8 +7,8 @@ ghost use Rattle.kapi_policy.specs.Objects.{name_cmp, place_cmp};
 ghost use Rattle.kapi_index.specs.Contents.{AreSpread, binding_at, bindings_in, by_text, in_all, part, parts, roles_in};
 
 use crate::roles::PreparedRole;
+use crate::rules::CompiledRules;
 use crate::scope::Scope;
-use kapi_compiled_rules::CompiledRules;
 use kapi_model::RoleBinding;
 use kapi_policy::{BindingKind, NamespacedName, copy_map};
 use kapi_text::{Memory, Text, TryCopy};

@@ -6,12 +6,13 @@ ghost use Rattle.kapi_policy.specs.Decided.{bindings_of, cluster_binding, decide
 ghost use Rattle.kapi_policy.specs.Views.{binding_of, decision_of, granted_if};
 ghost use Rattle.kapi_model.specs.Subjects.{subject_matches as matches_of};
 ghost use Rattle.kapi_rules.specs.Rules.{allows as rule_allows};
-ghost use Rattle.kapi_compiled_rules.specs.Points.{point_of};
+ghost use Rattle.kapi_index.specs.Points.{point_of};
 ghost use Rattle.kapi_index.specs.Contents.{binding_at, grant_of};
 
+use crate::asked::{Asked, ask};
 use crate::indexed::IndexedPolicy;
+use crate::rules::CompiledRules;
 use crate::scope::Scope;
-use kapi_compiled_rules::{Asked, CompiledRules, ask};
 use kapi_model::{Identity, PolicyRule, RoleBinding, RoleKind, RoleRef, subject_matches};
 use kapi_policy::{Binding, BindingKind, Decision, Grant, push_rules};
 use kapi_rules::Point;

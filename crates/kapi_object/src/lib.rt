@@ -1,12 +1,30 @@
-//! Objects as callers see them: resource types, names, labels and selectors, bodies that are read and objects that are
-//! rendered, and merge patches.
+//! Declared objects: which bodies are objects of a resource type, their trees and their parts, and merge patches.
 #![tactic(auto)]
 
-pub use kapi_admission::{ObjectError, read_object};
-pub use kapi_model::{
-    FaultKind, FieldFault, Label, Labels, ResourceRow, Schema, Selector, SelectorError,
-    check_label_key, check_label_value, check_name, check_namespace_name, check_object_name,
-    check_rbac_name,
-};
-pub use kapi_patch::merge_patch;
-pub use kapi_tree::{Given, GivenText, Object};
+mod admission;
+pub mod contents;
+mod float;
+pub mod given;
+mod merge;
+mod metadata;
+pub mod object;
+pub mod object_error;
+mod path;
+pub mod rules_form;
+pub mod selector_form;
+pub mod subjects_form;
+pub mod table;
+pub mod table_faults;
+pub mod text_rule;
+pub mod tree;
+pub mod tree_form;
+pub mod typed_list;
+pub mod word;
+
+pub use admission::{admit_tree, admitted_tree, collect_faults, read_object, read_tree};
+pub use given::{Given, GivenText};
+pub use merge::merge_patch;
+pub use metadata::push_fault;
+pub use object::Object;
+pub use object_error::ObjectError;
+pub use tree::member;

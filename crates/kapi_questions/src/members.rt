@@ -10,10 +10,10 @@ ghost use Rattle.kapi_questions.specs.Members as members;
 
 use crate::cells::{binding_kind, subject_kind, subject_name};
 use kapi_access::{Gain, Grantee, Way};
+use kapi_object::tree_form::put_string;
 use kapi_policy::Binding;
 use kapi_reply::atom_list;
 use kapi_text::Memory;
-use kapi_tree::tree_form::put_string;
 use serde_json::{Map, Value, put};
 use std::alloc::Global;
 

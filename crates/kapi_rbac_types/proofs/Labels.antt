@@ -6,7 +6,7 @@ use Rattle.std.specs.Ordering.{nat_cmp, match_ordering, ordering_reverse}
 use Rattle.std.specs.declared.cmp.Ordering.{Ordering}
 use Rattle.std.specs.declared.cmp.Ordering.TheVariants.{Less, Equal, Greater}
 use Rattle.serde_json.specs.Data.{Data, string, Members, no_members, member, put}
-use Rattle.kapi_tree.specs.Contents.{labels_in, put_labels}
+use Rattle.kapi_object.specs.Contents.{labels_in, put_labels}
 use Rattle.kapi_model.specs.declared.selector.Label.{Label}
 use Rattle.kapi_rbac_types.specs.Laws.{Precedes, IsInOrder}
 

@@ -9,10 +9,10 @@ use Rattle.kapi_model.specs.declared.role_ref.RoleRef.{RoleRef}
 use Rattle.kapi_model.specs.declared.row.Schema.TheVariants as schema
 use Rattle.kapi_model.specs.declared.selector.Selector.{Selector}
 use Rattle.kapi_model.specs.declared.subject.Subject.{Subject}
-use Rattle.kapi_tree.specs.Contents.{items_if, list_value, read_items, write_items, content_of, rule_of, rule_tree, rules_of, role_content, aggregation_of, aggregation_tree, aggregation_in, cluster_role_content, subject_of, subject_tree, subjects_of, role_ref_if, role_ref_of, role_ref_tree, binding_content}
-use Rattle.kapi_tree.specs.Tree.{put_if, with_content, with_metadata, unless_null}
-use Rattle.kapi_tree.proofs.Puts.{put_if_other, put_items_same, list_round}
-use Rattle.kapi_admission.specs.Admission.{version_of}
+use Rattle.kapi_object.specs.Contents.{items_if, list_value, read_items, write_items, content_of, rule_of, rule_tree, rules_of, role_content, aggregation_of, aggregation_tree, aggregation_in, cluster_role_content, subject_of, subject_tree, subjects_of, role_ref_if, role_ref_of, role_ref_tree, binding_content}
+use Rattle.kapi_object.specs.Tree.{put_if, with_content, with_metadata, unless_null}
+use Rattle.kapi_object.proofs.Puts.{put_if_other, put_items_same, list_round}
+use Rattle.kapi_object.specs.Admission.{version_of}
 use Rattle.kapi_rbac_types.proofs.RoundTrips.{rule_round, subject_round, role_ref_round}
 use Rattle.kapi_rbac_types.proofs.Selectors.{selectors_round, selectors_stable}
 use Rattle.kapi_rbac_types.specs.Laws.{IsKept, IsOrdered}

@@ -7,10 +7,10 @@ use Rattle.kapi_model.specs.declared.policy_rule.PolicyRule.{PolicyRule}
 use Rattle.kapi_model.specs.declared.role_ref.RoleRef.{RoleRef}
 use Rattle.kapi_model.specs.declared.subject.Subject.{Subject}
 use Rattle.kapi_model.specs.declared.subject.Subject.TheVariants.{User, Group, ServiceAccount}
-use Rattle.kapi_tree.specs.Contents.{text_of, items_if, read_items, rule_of, rule_tree, subject_of, subject_tree, role_ref_if, role_ref_tree}
-use Rattle.kapi_tree.specs.Tree.{member_of}
-use Rattle.kapi_tree.proofs.Puts.{listed_round, texts_round}
-use Rattle.kapi_tree.proofs.Fields.{verbs_at, groups_at, resources_at, names_at, urls_at}
+use Rattle.kapi_object.specs.Contents.{text_of, items_if, read_items, rule_of, rule_tree, subject_of, subject_tree, role_ref_if, role_ref_tree}
+use Rattle.kapi_object.specs.Tree.{member_of}
+use Rattle.kapi_object.proofs.Puts.{listed_round, texts_round}
+use Rattle.kapi_object.proofs.Fields.{verbs_at, groups_at, resources_at, names_at, urls_at}
 
 pub rule_round : (r : PolicyRule) → rule_of (rule_tree r) ≡ r
 rule_round r =

@@ -2,16 +2,16 @@
 use Rattle.std.proofs.Common.{◌≡◌, ◌∙◌, List, [], ◌∷◌, refl, ap, codes}
 use Rattle.std.specs.Option.{unwrap_or}
 use Rattle.serde_json.specs.Data.{Members, no_members, member}
-use Rattle.kapi_tree.specs.Contents.{text_if, text_at, texts_at, items_if, items_at, read_items, write_items, members_value, put_labels, labels_in, operator_at, requirement_of, requirement_tree, selector_of, selector_tree}
+use Rattle.kapi_object.specs.Contents.{text_if, text_at, texts_at, items_if, items_at, read_items, write_items, members_value, put_labels, labels_in, operator_at, requirement_of, requirement_tree, selector_of, selector_tree}
 use Rattle.kapi_model.specs.Kinds.{operator_of}
-use Rattle.kapi_tree.specs.Tree.{members_or_none}
-use Rattle.kapi_tree.specs.Tree.{member_of}
+use Rattle.kapi_object.specs.Tree.{members_or_none}
+use Rattle.kapi_object.specs.Tree.{member_of}
 use Rattle.kapi_model.specs.declared.selector.Operator.TheVariants.{In}
 use Rattle.kapi_model.specs.declared.selector.Requirement.{Requirement}
 use Rattle.kapi_model.specs.declared.selector.Selector.{Selector}
 use Rattle.kapi_rbac_types.proofs.Labels.{labels_round, labels_stable}
-use Rattle.kapi_tree.proofs.Fields.{key_at, operator_here, operator_known, values_at, labels_at, expressions_at}
-use Rattle.kapi_tree.proofs.Puts.{items_listed, list_round, listed_round}
+use Rattle.kapi_object.proofs.Fields.{key_at, operator_here, operator_known, values_at, labels_at, expressions_at}
+use Rattle.kapi_object.proofs.Puts.{items_listed, list_round, listed_round}
 use Rattle.kapi_rbac_types.specs.Laws.{IsInOrder, AreInOrder}
 
 -- ---- requirements

@@ -8,8 +8,8 @@ use Rattle.kapi_model.specs.declared.row.ResourceRow.{ResourceRow}
 use Rattle.kapi_model.specs.declared.row.Schema.{Schema}
 use Rattle.kapi_model.specs.declared.selector.Label.{Label}
 use Rattle.kapi_model.specs.declared.selector.Selector.{Selector}
-use Rattle.kapi_admission.specs.Admission.{filled}
-use Rattle.kapi_tree.specs.Tree.{with_metadata}
+use Rattle.kapi_object.specs.Admission.{filled}
+use Rattle.kapi_object.specs.Tree.{with_metadata}
 use Rattle.kapi_model.specs.declared.aggregation_rule.AggregationRule.{AggregationRule}
 
 -- the tree is what a resource type with this schema keeps of a body, with any metadata

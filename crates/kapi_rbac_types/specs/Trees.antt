@@ -3,8 +3,8 @@ use Rattle.std.specs.Prelude.{List, length, ◌==◌, if◌then◌else◌, Optio
 use Rattle.serde_json.specs.Data.{Data}
 use Rattle.kapi_model.specs.declared.fault.FieldFault.{FieldFault}
 use Rattle.kapi_model.specs.declared.row.Schema.{Schema}
-use Rattle.kapi_tree.specs.Contents.{aggregation_in, role_ref_of, rules_of, subjects_of}
-use Rattle.kapi_admission.specs.Admission.{faults_on}
+use Rattle.kapi_object.specs.Contents.{aggregation_in, role_ref_of, rules_of, subjects_of}
+use Rattle.kapi_object.specs.Admission.{faults_on}
 use Rattle.kapi_model.specs.declared.binding.ClusterRoleBinding.{ClusterRoleBinding}
 use Rattle.kapi_model.specs.declared.binding.RoleBinding.{RoleBinding}
 use Rattle.kapi_rbac_types.specs.declared.read_fault.ReadFault.{ReadFault}

@@ -2,19 +2,19 @@ ghost use Rattle.std.specs.Prelude.{◌≡◌, length, Ok, IfOk};
 ghost use Rattle.serde_json.specs.View.{view};
 ghost use Rattle.kapi_text.specs.Gives.{Gives};
 ghost use Rattle.kapi_model.specs.declared.row.Schema.TheVariants as schema;
-ghost use Rattle.kapi_tree.specs.Contents as form;
-ghost use Rattle.kapi_tree.specs.Object.{tree_of};
-ghost use Rattle.kapi_tree.specs.Tree.{with_content};
-ghost use Rattle.kapi_admission.specs.Admission.{faults_on};
+ghost use Rattle.kapi_object.specs.Contents as form;
+ghost use Rattle.kapi_object.specs.Object.{tree_of};
+ghost use Rattle.kapi_object.specs.Tree.{with_content};
+ghost use Rattle.kapi_object.specs.Admission.{faults_on};
 ghost use Rattle.kapi_rbac_types.specs.Laws.{IsKept};
 ghost use Rattle.kapi_rbac_types.specs.Trees.{told, read_as, role_binding_of, cluster_role_binding_of};
 
 use crate::read_fault::{ReadFault, check};
 use kapi_model::{ClusterRoleBinding, RoleBinding, Schema};
+use kapi_object::Object;
+use kapi_object::contents::binding_content;
+use kapi_object::subjects_form::{read_role_ref, read_subjects};
 use kapi_text::Memory;
-use kapi_tree::Object;
-use kapi_tree::contents::binding_content;
-use kapi_tree::subjects_form::{read_role_ref, read_subjects};
 use serde_json::Value;
 use std::alloc::Global;
 
@@ -72,7 +72,7 @@ pub fn admitted_role_binding(alloc: Global, object: &Object) -> Result<RoleBindi
 }
 
 /// The role binding as an object with the version, the kind and the metadata of another.
-#[tactic(auto, unfolding(crate::specs::Trees::read_as), using(kapi_tree::proofs::Written::binding_has_no_float, kapi_tree::proofs::Written::binding_in_order, kapi_tree::proofs::Written::binding_is_shallow, crate::proofs::Laws::role_binding_reads_back))]
+#[tactic(auto, unfolding(crate::specs::Trees::read_as), using(kapi_object::proofs::Written::binding_has_no_float, kapi_object::proofs::Written::binding_in_order, kapi_object::proofs::Written::binding_is_shallow, crate::proofs::Laws::role_binding_reads_back))]
 pub fn role_binding_object(
     alloc: Global,
     value: &RoleBinding,
@@ -102,7 +102,7 @@ pub fn admitted_cluster_role_binding(
 }
 
 /// The cluster role binding as an object with the version, the kind and the metadata of another.
-#[tactic(auto, unfolding(crate::specs::Trees::read_as), using(kapi_tree::proofs::Written::binding_has_no_float, kapi_tree::proofs::Written::binding_in_order, kapi_tree::proofs::Written::binding_is_shallow, crate::proofs::Laws::cluster_role_binding_reads_back))]
+#[tactic(auto, unfolding(crate::specs::Trees::read_as), using(kapi_object::proofs::Written::binding_has_no_float, kapi_object::proofs::Written::binding_in_order, kapi_object::proofs::Written::binding_is_shallow, crate::proofs::Laws::cluster_role_binding_reads_back))]
 pub fn cluster_role_binding_object(
     alloc: Global,
     value: &ClusterRoleBinding,

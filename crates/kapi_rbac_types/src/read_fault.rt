@@ -1,12 +1,11 @@
 ghost use Rattle.std.specs.Prelude.{◌≡◌};
 ghost use Rattle.kapi_text.specs.Gives.{Gives};
-ghost use Rattle.kapi_tree.specs.Object.{tree_of};
+ghost use Rattle.kapi_object.specs.Object.{tree_of};
 ghost use Rattle.kapi_rbac_types.specs.Trees.{read_as, told};
 
-use kapi_admission::collect_faults;
 use kapi_model::{FieldFault, Schema};
+use kapi_object::{Object, collect_faults};
 use kapi_text::Sequence;
-use kapi_tree::Object;
 use std::alloc::{AllocError, Global};
 use thiserror::Error;
 

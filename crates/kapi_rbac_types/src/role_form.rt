@@ -2,20 +2,20 @@ ghost use Rattle.std.specs.Prelude.{◌≡◌, length, Ok, IfOk};
 ghost use Rattle.serde_json.specs.View.{view};
 ghost use Rattle.kapi_text.specs.Gives.{Gives};
 ghost use Rattle.kapi_model.specs.declared.row.Schema.TheVariants as schema;
-ghost use Rattle.kapi_tree.specs.Contents as form;
-ghost use Rattle.kapi_tree.specs.Object.{tree_of};
-ghost use Rattle.kapi_tree.specs.Tree.{with_content};
-ghost use Rattle.kapi_admission.specs.Admission.{faults_on};
+ghost use Rattle.kapi_object.specs.Contents as form;
+ghost use Rattle.kapi_object.specs.Object.{tree_of};
+ghost use Rattle.kapi_object.specs.Tree.{with_content};
+ghost use Rattle.kapi_object.specs.Admission.{faults_on};
 ghost use Rattle.kapi_rbac_types.specs.Laws.{IsKept, IsOrdered};
 ghost use Rattle.kapi_rbac_types.specs.Trees.{told, read_as, role_of, cluster_role_of};
 
 use crate::read_fault::{ReadFault, check};
 use kapi_model::{ClusterRole, Role, Schema};
+use kapi_object::Object;
+use kapi_object::contents::{cluster_role_content, role_content};
+use kapi_object::rules_form::read_rules;
+use kapi_object::selector_form::read_aggregation;
 use kapi_text::Memory;
-use kapi_tree::Object;
-use kapi_tree::contents::{cluster_role_content, role_content};
-use kapi_tree::rules_form::read_rules;
-use kapi_tree::selector_form::read_aggregation;
 use serde_json::Value;
 use std::alloc::Global;
 
@@ -72,7 +72,7 @@ pub fn admitted_role(alloc: Global, object: &Object) -> Result<Role, Memory>
 }
 
 /// The role as an object with the version, the kind and the metadata of another.
-#[tactic(auto, unfolding(crate::specs::Trees::read_as), using(kapi_tree::proofs::Written::role_has_no_float, kapi_tree::proofs::Written::role_in_order, kapi_tree::proofs::Written::role_is_shallow, crate::proofs::Laws::role_reads_back))]
+#[tactic(auto, unfolding(crate::specs::Trees::read_as), using(kapi_object::proofs::Written::role_has_no_float, kapi_object::proofs::Written::role_in_order, kapi_object::proofs::Written::role_is_shallow, crate::proofs::Laws::role_reads_back))]
 pub fn role_object(alloc: Global, value: &Role, of: &Object) -> Result<Object, Memory>
     ensures written { IfOk result (λ o. tree_of o ≡ with_content (form.role_content value.now.rules) (tree_of of.now)) }
 
@@ -91,7 +91,7 @@ pub fn admitted_cluster_role(alloc: Global, object: &Object) -> Result<ClusterRo
 }
 
 /// The cluster role as an object with the version, the kind and the metadata of another.
-#[tactic(auto, unfolding(crate::specs::Trees::read_as), using(kapi_tree::proofs::Written::cluster_role_has_no_float, kapi_tree::proofs::Written::cluster_role_in_order, kapi_tree::proofs::Written::cluster_role_is_shallow, crate::proofs::Laws::cluster_role_reads_back))]
+#[tactic(auto, unfolding(crate::specs::Trees::read_as), using(kapi_object::proofs::Written::cluster_role_has_no_float, kapi_object::proofs::Written::cluster_role_in_order, kapi_object::proofs::Written::cluster_role_is_shallow, crate::proofs::Laws::cluster_role_reads_back))]
 pub fn cluster_role_object(
     alloc: Global,
     value: &ClusterRole,

@@ -4,13 +4,11 @@
 
 mod asking;
 mod events;
-mod forms;
 mod objects;
 mod questions;
 mod shown;
 mod words;
 
-pub use events::script_reason;
-pub use forms::form_reason;
+pub use events::{event_reason, names_reason, script_reason};
 pub use objects::{LineReason, line_reasons, object_reason};
 pub use questions::question_reason;

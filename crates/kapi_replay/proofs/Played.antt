@@ -14,8 +14,8 @@ use Rattle.kapi_replay.specs.declared.files.LoadedFile.{LoadedFile}
 use Rattle.kapi_replay.specs.declared.files.Transcript.{Transcript}
 use Rattle.kapi_script.specs.Scripts.{IsAnsweredBy, first_bad, lines, said}
 use Rattle.kapi_loading.specs.Faults.{FileFault, bad_line}
-use Rattle.kapi_transcript.specs.declared.case.Case.{Case}
-use Rattle.kapi_transcript.specs.declared.case.Loaded.{Loaded}
+use Rattle.kapi_replay.specs.declared.case.Case.{Case}
+use Rattle.kapi_replay.specs.declared.case.Loaded.{Loaded}
 
 some_is : (xs ys : List ℕ) → Some xs ≡ Some ys → xs ≡ ys
 some_is xs ys e = cc

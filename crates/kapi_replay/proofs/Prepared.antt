@@ -10,8 +10,8 @@ use Rattle.kapi_replay.specs.Failures.{FailsOn}
 use Rattle.kapi_replay.specs.Manifests.{FailsAlone, FailsBehind, FailsTexts, IsFaultAt, IsRefused, all_texts, origin_at}
 use Rattle.kapi_replay.specs.declared.failure.Failure.{Failure}
 use Rattle.kapi_replay.specs.declared.files.LoadedFile.{LoadedFile}
-use Rattle.kapi_transcript.specs.declared.case.Case.{Case}
-use Rattle.kapi_transcript.specs.declared.case.Loaded.{Loaded}
+use Rattle.kapi_replay.specs.declared.case.Case.{Case}
+use Rattle.kapi_replay.specs.declared.case.Loaded.{Loaded}
 
 -- the machine is the one that lines make alone
 pub alone : {V E : Type 0} (items : V → List Failure) (r : Result V E) (m : Machine) (loads : List LoadedFile) (c : Case) (files : List Loaded) (p : Prepared) (given : Result Machine FileFault)

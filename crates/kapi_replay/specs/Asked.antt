@@ -11,18 +11,18 @@ use Rattle.kapi_replay.specs.declared.failure.Doubt.{Doubt}
 use Rattle.kapi_request_info.specs.Attributes.{info}
 use Rattle.kapi_request_info.specs.Faults.{TargetFault}
 use Rattle.kapi_request_info.specs.declared.attributes.Attributes.{Attributes}
-use Rattle.kapi_route.specs.Route.{is_row_of}
+use Rattle.kapi_answer.specs.Route.{is_row_of}
 use Rattle.kapi_rules.specs.declared.point.Point.{Point}
 use Rattle.kapi_rules.specs.declared.point.Point.TheVariants as point
-use Rattle.kapi_transcript.specs.Forms.{form_of}
-use Rattle.kapi_transcript.specs.declared.case.Case.{Case}
-use Rattle.kapi_transcript.specs.declared.case.Event.{Event}
-use Rattle.kapi_transcript.specs.declared.case.Want.{Want}
-use Rattle.kapi_transcript.specs.declared.form.Form.{Form}
-use Rattle.kapi_transcript.specs.declared.form.Form.TheVariants as form
-use Rattle.kapi_transcript.specs.declared.request.Request.{Request}
-use Rattle.kapi_transcript.specs.declared.wanted.Wanted.{Wanted}
-use Rattle.kapi_transcript.specs.declared.wanted.Wanted.TheVariants as wants
+use Rattle.kapi_replay.specs.Forms.{form_of}
+use Rattle.kapi_replay.specs.declared.case.Case.{Case}
+use Rattle.kapi_replay.specs.declared.case.Event.{Event}
+use Rattle.kapi_replay.specs.declared.case.Want.{Want}
+use Rattle.kapi_replay.specs.declared.form.Form.{Form}
+use Rattle.kapi_replay.specs.declared.form.Form.TheVariants as form
+use Rattle.kapi_replay.specs.declared.request.Request.{Request}
+use Rattle.kapi_replay.specs.declared.wanted.Wanted.{Wanted}
+use Rattle.kapi_replay.specs.declared.wanted.Wanted.TheVariants as wants
 
 -- ---- the request
 

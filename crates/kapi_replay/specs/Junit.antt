@@ -3,7 +3,7 @@ use Rattle.std.specs.Prelude.{ℕ, ◌+◌, ◌==◌, nat_lt, nat_le, Bool, fals
 use Rattle.std.specs.List.{find, flat_map, list_all}
 use Rattle.std.specs.Str.{is_utf8}
 use Rattle.kapi_lines.specs.Lines.{parts_of}
-use Rattle.kapi_transcript.specs.Requests.{number_line}
+use Rattle.kapi_replay.specs.Requests.{number_line}
 use Rattle.kapi_replay.specs.Reports.{failure_text, is_difference, line_at, number_of}
 use Rattle.kapi_replay.specs.declared.failure.Check.{Check}
 use Rattle.kapi_replay.specs.declared.failure.Failure.{Failure}

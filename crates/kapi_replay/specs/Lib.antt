@@ -1,3 +1,11 @@
+pub mod Fields
+pub mod Requests
+pub mod Sent
+pub mod Wants
+pub mod Corrections
+pub mod Names
+pub mod Forms
+pub mod Cases
 pub mod Reports
 pub mod Failures
 pub mod Files

@@ -19,10 +19,10 @@ use Rattle.kapi_replay.specs.Reports.{place_text}
 use Rattle.kapi_replay.specs.declared.failure.Failure.{Failure}
 use Rattle.kapi_replay.specs.declared.failure.Failure.TheVariants as failure
 use Rattle.kapi_replay.specs.declared.files.LoadedFile.{LoadedFile}
-use Rattle.kapi_transcript.specs.Requests.{number_line}
-use Rattle.kapi_transcript.specs.declared.case.Case.{Case}
-use Rattle.kapi_transcript.specs.declared.case.Loaded.{Loaded}
-use Rattle.kapi_transcript.specs.declared.case.Manifests.{Manifests}
+use Rattle.kapi_replay.specs.Requests.{number_line}
+use Rattle.kapi_replay.specs.declared.case.Case.{Case}
+use Rattle.kapi_replay.specs.declared.case.Loaded.{Loaded}
+use Rattle.kapi_replay.specs.declared.case.Manifests.{Manifests}
 
 -- the texts of files, one file after the other
 abbrev pub all_texts : List LoadedFile → List Loaded → List (List ℕ)

@@ -3,10 +3,10 @@ use Rattle.std.specs.Prelude.{◌≡◌, ℕ, Bool, List, [], ◌∷◌, ◌++�
 use Rattle.std.specs.List.{flat_map, list_all}
 use Rattle.std.specs.Io.KnownBytes.{Appends}
 use Rattle.kapi_lines.specs.Lines.{lines_of, parts_of}
-use Rattle.kapi_transcript.specs.Cases.{cases_of}
-use Rattle.kapi_transcript.specs.declared.case.Beginning.{Beginning}
-use Rattle.kapi_transcript.specs.declared.case.Beginning.TheVariants as beginning
-use Rattle.kapi_transcript.specs.declared.case.Case.{Case}
+use Rattle.kapi_replay.specs.Cases.{cases_of}
+use Rattle.kapi_replay.specs.declared.case.Beginning.{Beginning}
+use Rattle.kapi_replay.specs.declared.case.Beginning.TheVariants as beginning
+use Rattle.kapi_replay.specs.declared.case.Case.{Case}
 use Rattle.kapi_replay.specs.Asked.{doubts_of}
 use Rattle.kapi_replay.specs.Failures.{bare}
 use Rattle.kapi_replay.specs.Playing.{Fails}

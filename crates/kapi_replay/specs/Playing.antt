@@ -8,10 +8,10 @@ use Rattle.kapi_replay.specs.declared.failure.Failure.{Failure}
 use Rattle.kapi_replay.specs.declared.failure.Failure.TheVariants as failure
 use Rattle.kapi_replay.specs.declared.files.LoadedFile.{LoadedFile}
 use Rattle.kapi_script.specs.Scripts.{start}
-use Rattle.kapi_transcript.specs.declared.case.Beginning.{Beginning}
-use Rattle.kapi_transcript.specs.declared.case.Beginning.TheVariants as beginning
-use Rattle.kapi_transcript.specs.declared.case.Case.{Case}
-use Rattle.kapi_transcript.specs.declared.case.Loaded.{Loaded}
+use Rattle.kapi_replay.specs.declared.case.Beginning.{Beginning}
+use Rattle.kapi_replay.specs.declared.case.Beginning.TheVariants as beginning
+use Rattle.kapi_replay.specs.declared.case.Case.{Case}
+use Rattle.kapi_replay.specs.declared.case.Loaded.{Loaded}
 
 -- the failures where a file of objects is there or not
 abbrev pub FailsWith : Case → Loaded → Option (List ℕ) → List Failure → Type 0

@@ -4,10 +4,10 @@ use Rattle.std.specs.List.{flat_map}
 use Rattle.std.specs.Option.{option_or, unwrap_or}
 use Rattle.kapi_lines.specs.Lines.{parts_of}
 use Rattle.kapi_lines.specs.Words.{nth}
-use Rattle.kapi_transcript.specs.Corrections.{corrected, exactly}
-use Rattle.kapi_transcript.specs.Requests.{number_line}
-use Rattle.kapi_transcript.specs.Wants.{wanted_of}
-use Rattle.kapi_transcript.specs.declared.wanted.Wanted.{Wanted}
+use Rattle.kapi_replay.specs.Corrections.{corrected, exactly}
+use Rattle.kapi_replay.specs.Requests.{number_line}
+use Rattle.kapi_replay.specs.Wants.{wanted_of}
+use Rattle.kapi_replay.specs.declared.wanted.Wanted.{Wanted}
 use Rattle.kapi_replay.specs.declared.failure.Difference.{Difference}
 use Rattle.kapi_replay.specs.declared.failure.Failure.{Failure}
 use Rattle.kapi_replay.specs.declared.failure.Failure.TheVariants as failure

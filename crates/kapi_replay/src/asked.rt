@@ -3,11 +3,12 @@ ghost use Rattle.std.specs.Prelude.{◌≡◌, IfOk, option_map};
 ghost use Rattle.kapi_replay.specs.Asked as asks;
 ghost use Rattle.kapi_replay.specs.Asked.{attributes_of as attributes_of_line};
 
+use crate::form::{Form, parse_form};
+use crate::request::Request;
 use kapi_http::Method;
 use kapi_lines::as_text;
 use kapi_request_info::{Attributes, InfoError, info};
 use kapi_text::Memory;
-use kapi_transcript::{Form, Request, parse_form};
 use std::alloc::{AllocError, Global};
 
 /// The method of this name; GET for any other than the five.

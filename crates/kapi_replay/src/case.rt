@@ -1,44 +1,53 @@
-//! A case, by what it begins with.
-ghost use Rattle.std.specs.Prelude.{◌≡◌, IfOk};
-ghost use Rattle.kapi_replay.specs.Playing.{Fails, FailsLines};
+use crate::wanted::Wanted;
+use kapi_text::Sequence;
 
-use crate::failure::Failure;
-use crate::files::{LoadedFile, only_text, texts_named};
-use crate::manifests::play_manifests;
-use crate::play::{only, play_begun, play_loaded};
-use kapi_text::Memory;
-use kapi_transcript::{Beginning, Case, Loaded};
-use std::alloc::Global;
-use std::sync::Wait;
-
-/// Plays a case that begins with a file of objects.
-fn play_lines<R: Wait>(
-    alloc: Global,
-    rt: &R,
-    loads: &[LoadedFile],
-    case: &Case,
-    file: &Loaded,
-) -> Result<Vec<Failure>, Memory>
-    ensures { IfOk result (λ v. FailsLines loads.now case.now file.now v.items) }
-{
-    match only_text(texts_named(loads, file.name.as_slice())) {
-        Some(objects) => play_loaded(alloc, rt, case, file, objects),
-        None => only(alloc, Failure::NoFile(file.number)),
-    }
+/// A file whose objects a machine begins with, and the line that names it.
+#[derive(Drop)]
+pub struct Loaded {
+    pub number: usize,
+    pub name: Sequence<u8>,
 }
 
-/// The failures of a case. `loads` are what the case may load.
-pub fn play_case<R: Wait>(
-    alloc: Global,
-    rt: &R,
-    loads: &[LoadedFile],
-    case: &Case,
-) -> Result<Vec<Failure>, Memory>
-    ensures { IfOk result (λ v. Fails loads.now case.now v.items) }
-{
-    match &case.begins {
-        Beginning::Opening => play_begun(alloc, case),
-        Beginning::Lines(file) => play_lines(alloc, rt, loads, case, file),
-        Beginning::Manifests(manifests) => play_manifests(alloc, rt, loads, case, manifests),
-    }
+/// Files of manifests that are read as one policy.
+#[derive(Drop)]
+pub struct Manifests {
+    pub files: Sequence<Loaded>,
+    /// Kubernetes' user-facing cluster roles are beneath the files.
+    pub defaults: bool,
+}
+
+/// What the machine of a case begins with.
+#[derive(Drop)]
+pub enum Beginning {
+    /// The opening objects alone.
+    Opening,
+    /// The opening objects and those of a file, which has one a line.
+    Lines(Loaded),
+    /// The objects of manifests alone.
+    Manifests(Manifests),
+}
+
+/// A line of a case's script, and the line of the transcript that it is made from.
+#[derive(Drop)]
+pub struct Event {
+    pub number: usize,
+    pub text: Sequence<u8>,
+}
+
+/// What a line of the transcript wants of the answer to the last of so many events.
+#[derive(Drop)]
+pub struct Want {
+    pub number: usize,
+    pub events: usize,
+    pub wanted: Wanted,
+}
+
+/// A case of a transcript: a script on a machine of its own, and what is wanted of its answers.
+#[derive(Drop)]
+pub struct Case {
+    pub begins: Beginning,
+    /// The rights of watches are rechecked at each of their events.
+    pub rechecks: bool,
+    pub script: Sequence<Event>,
+    pub wants: Sequence<Want>,
 }

@@ -4,17 +4,18 @@ ghost use Rattle.std.specs.List.{flat_map, list_any};
 ghost use Rattle.kapi_core.specs.ProgramTable.{program_rows};
 ghost use Rattle.kapi_replay.specs.Asked as asks;
 ghost use Rattle.kapi_replay.specs.Asked.{doubts_of as doubts_of_cases, wants_refusal as wants_refusal_of};
-ghost use Rattle.kapi_route.specs.Route.{is_row_of as is_row_of_point};
+ghost use Rattle.kapi_answer.specs.Route.{is_row_of as is_row_of_point};
 
 use crate::asked::attributes_of;
+use crate::case::{Case, Event, Want};
 use crate::failure::Doubt;
 use crate::play::number_at;
 use crate::report::line_at;
+use crate::wanted::Wanted;
 use kapi_model::ResourceRow;
 use kapi_request_info::Attributes;
 use kapi_rules::{Point, ResourcePoint};
 use kapi_text::{Memory, Sequence, Text};
-use kapi_transcript::{Case, Event, Want, Wanted};
 use std::alloc::Global;
 
 /// Whether the resource type is that of the point and the version.

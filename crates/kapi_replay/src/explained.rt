@@ -4,8 +4,10 @@ ghost use Rattle.std.specs.Prelude.{◌≡◌, [], IfOk, IfSome, map};
 ghost use Rattle.kapi_replay.specs.Failures.{bare};
 
 use crate::asked::attributes_of;
+use crate::case::{Beginning, Case};
 use crate::failure::{Difference, Failure};
 use crate::files::{LoadedFile, only_text, texts_named};
+use crate::form::{Form, parse_form};
 use crate::manifests::read_manifests;
 use crate::play::script_text;
 use crate::report::line_at;
@@ -19,7 +21,6 @@ use kapi_reviews::reason;
 use kapi_rules::Point;
 use kapi_script::play_script;
 use kapi_text::{Memory, Sequence, Text};
-use kapi_transcript::{Beginning, Case, Form, parse_form};
 use std::alloc::{AllocError, Global};
 use std::sync::Wait;
 

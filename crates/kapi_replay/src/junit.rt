@@ -8,9 +8,9 @@ ghost use Rattle.kapi_replay.specs.Reports.{failure_text as failure_text_of};
 use crate::failure::{Check, Failure, Outcome};
 use crate::files::Transcript;
 use crate::report::{is_difference, line_at, number_of, push_failure};
+use crate::request::push_number;
 use kapi_lines::{as_text, split_lines};
 use kapi_text::{Memory, Sequence, Text};
-use kapi_transcript::push_number;
 use std::alloc::Global;
 
 // ---- texts in XML

@@ -9,15 +9,17 @@ ghost use Rattle.kapi_replay.specs.Failures as fails;
 ghost use Rattle.kapi_replay.specs.declared.failure.Failure.TheVariants as Told;
 ghost use Rattle.kapi_replay.specs.Failures.{script_text as script_text_of};
 
+use crate::case::{Case, Event, Loaded, Want};
 use crate::failure::{Difference, Failure};
+use crate::forms::form_reason;
+use crate::wanted::is_met;
 use kapi_core::{Core, program_table};
 use kapi_index::IndexedPolicy;
 use kapi_lines::{copy_of, nth, split_lines};
 use kapi_loading::{StartError, Started, start};
-use kapi_reasons::{form_reason, object_reason};
+use kapi_reasons::object_reason;
 use kapi_script::{ScriptFault, play_script};
 use kapi_text::{Memory, Sequence, Text};
-use kapi_transcript::{Case, Event, Loaded, Want, is_met};
 use std::alloc::{AllocError, Global};
 use std::sync::Wait;
 

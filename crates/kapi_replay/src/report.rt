@@ -1,13 +1,15 @@
 //! The report of a transcript.
 ghost use Rattle.std.specs.Prelude.{◌≡◌, ◌++◌, IfOk, OnOk, option_map};
-ghost use Rattle.kapi_transcript.specs.Wants.{wanted_of};
+ghost use Rattle.kapi_replay.specs.Wants.{wanted_of};
 ghost use Rattle.kapi_replay.specs.Reports as reports;
 ghost use Rattle.kapi_replay.specs.Reports.{came_for as came_for_of, failures_text, report_text, rewritten, rewritten_line};
 
+use crate::correction::{corrected, exactly};
 use crate::failure::{Difference, Failure, Outcome};
+use crate::request::push_number;
+use crate::wanted::parse_wanted;
 use kapi_lines::{nth, split_lines};
 use kapi_text::{Memory, Sequence, Text};
-use kapi_transcript::{corrected, exactly, parse_wanted, push_number};
 use std::alloc::Global;
 
 /// The line of this number, from 1; nothing where there is none.

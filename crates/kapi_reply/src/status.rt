@@ -10,9 +10,9 @@ use crate::tokens::{text_of, write_texts};
 use json::Writer;
 use kapi_http::{Method, StatusCode};
 use kapi_model::FieldFault;
+use kapi_object::tree_form::text_value;
 use kapi_rules::{Atom, Names, Point, ResourceAtom};
 use kapi_text::Memory;
-use kapi_tree::tree_form::text_value;
 use serde_json::Value;
 use std::alloc::Global;
 

@@ -4,9 +4,9 @@ use Rattle.std.proofs.Math.Dec.{eqb-suc-zero}
 use Rattle.std.specs.Option.{option_and_then}
 use Rattle.serde_json.specs.Data.{Data, string, object, Members, no_members, put}
 use Rattle.serde_json.specs.Find.{get_member}
-use Rattle.kapi_tree.proofs.Puts.{put_if_here, put_if_other, put_other, text_there, text_round, list_there, listed_round}
-use Rattle.kapi_tree.specs.Contents.{list_value, put_text, put_texts, text_at, text_if, text_value, texts_at, write_items}
-use Rattle.kapi_tree.specs.Tree.{unless_null}
+use Rattle.kapi_object.proofs.Puts.{put_if_here, put_if_other, put_other, text_there, text_round, list_there, listed_round}
+use Rattle.kapi_object.specs.Contents.{list_value, put_text, put_texts, text_at, text_if, text_value, texts_at, write_items}
+use Rattle.kapi_object.specs.Tree.{unless_null}
 use Rattle.kapi_model.specs.declared.identity.Identity.{Identity}
 use Rattle.kapi_rules.specs.declared.point.ResourcePoint.{ResourcePoint}
 use Rattle.kapi_rules.specs.declared.point.UrlPoint.{UrlPoint}

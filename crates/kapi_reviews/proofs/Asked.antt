@@ -4,9 +4,9 @@ use Rattle.std.specs.Option.{option_and_then, unwrap_or}
 use Rattle.serde_json.proofs.Views.{get_member-put}
 use Rattle.serde_json.specs.Data.{Data, null, object, string, Members, no_members, put}
 use Rattle.serde_json.specs.Find.{get, get_member}
-use Rattle.kapi_tree.proofs.Puts.{put_other}
-use Rattle.kapi_tree.specs.Contents.{text_at, text_if}
-use Rattle.kapi_tree.specs.Tree.{unless_null}
+use Rattle.kapi_object.proofs.Puts.{put_other}
+use Rattle.kapi_object.specs.Contents.{text_at, text_if}
+use Rattle.kapi_object.specs.Tree.{unless_null}
 use Rattle.kapi_policy.specs.Objects.{PolicyObjects}
 use Rattle.kapi_model.specs.declared.identity.Identity.{Identity}
 use Rattle.kapi_rules.specs.declared.point.ResourcePoint.{ResourcePoint}

@@ -5,7 +5,7 @@ use Rattle.serde_json.proofs.Views.{get_member-put}
 use Rattle.serde_json.specs.Data.{Data, boolean, string, object, Members, no_members, put}
 use Rattle.serde_json.specs.Find.{get}
 use Rattle.kapi_model.specs.declared.fault.FieldFault.{FieldFault}
-use Rattle.kapi_tree.proofs.Puts.{put_if_other}
+use Rattle.kapi_object.proofs.Puts.{put_if_other}
 use Rattle.kapi_policy.proofs.Decisions.{allowed_where_held}
 use Rattle.kapi_policy.specs.Decided.{Decided, decided}
 use Rattle.kapi_policy.specs.Laws.{is_allowed}

@@ -5,7 +5,7 @@ use Rattle.std.proofs.Math.ListN.{drop_of_length-le}
 use Rattle.std.specs.List.{list_any, position_or_len}
 use Rattle.std.specs.Prelude.{codes, if◌then◌else◌}
 use Rattle.serde_json.specs.Data.{Data}
-use Rattle.kapi_tree.specs.Contents.{text_at}
+use Rattle.kapi_object.specs.Contents.{text_at}
 use Rattle.kapi_model.specs.declared.identity.Identity.{Identity}
 use Rattle.kapi_rules.specs.Points.{HasPlainResource}
 use Rattle.kapi_reviews.specs.declared.kind.ReviewKind.{ReviewKind}

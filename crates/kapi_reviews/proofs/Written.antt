@@ -5,13 +5,13 @@ use Rattle.serde_json.specs.Data.{Data, boolean, depth, string, array, Items, Me
 use Rattle.serde_json.specs.Read.{max_depth}
 use Rattle.serde_json.specs.Written.{has_float}
 use Rattle.kapi_model.specs.declared.policy_rule.PolicyRule.{PolicyRule}
-use Rattle.kapi_tree.proofs.Closed.{Closed, IfThere, put_if_holds, unless_holds, items_hold}
-use Rattle.kapi_tree.proofs.Depths.{no_deeper}
-use Rattle.kapi_tree.proofs.NoFloats.{no_floats}
-use Rattle.kapi_tree.proofs.Ordered.{keys_in_order}
-use Rattle.kapi_tree.specs.Contents.{put_text, put_texts, text_at, text_value, list_value, write_items}
-use Rattle.kapi_tree.specs.Order.{is_ordered}
-use Rattle.kapi_tree.specs.Tree.{is_empty}
+use Rattle.kapi_object.proofs.Closed.{Closed, IfThere, put_if_holds, unless_holds, items_hold}
+use Rattle.kapi_object.proofs.Depths.{no_deeper}
+use Rattle.kapi_object.proofs.NoFloats.{no_floats}
+use Rattle.kapi_object.proofs.Ordered.{keys_in_order}
+use Rattle.kapi_object.specs.Contents.{put_text, put_texts, text_at, text_value, list_value, write_items}
+use Rattle.kapi_object.specs.Order.{is_ordered}
+use Rattle.kapi_object.specs.Tree.{is_empty}
 use Rattle.kapi_policy.specs.Decided.{Decided, held}
 use Rattle.kapi_policy.specs.Laws.{is_allowed}
 use Rattle.kapi_policy.specs.Objects.{PolicyObjects}

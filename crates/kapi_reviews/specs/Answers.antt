@@ -4,8 +4,8 @@ use Rattle.std.specs.List.{filter}
 use Rattle.serde_json.specs.Data.{Data, boolean, string, array, object, Members, no_members, put}
 use Rattle.kapi_model.specs.declared.policy_rule.PolicyRule.{PolicyRule}
 use Rattle.kapi_model.specs.Kinds.{role_kind_text}
-use Rattle.kapi_tree.specs.Contents.{put_text, put_texts, write_items}
-use Rattle.kapi_tree.specs.Tree.{put_if}
+use Rattle.kapi_object.specs.Contents.{put_text, put_texts, write_items}
+use Rattle.kapi_object.specs.Tree.{put_if}
 use Rattle.kapi_policy.specs.declared.decision.BindingKind.{BindingKind}
 use Rattle.kapi_policy.specs.declared.decision.BindingKind.TheVariants as binding
 use Rattle.kapi_policy.specs.Decided.{Decided, allowed, masters, denied, Granted}

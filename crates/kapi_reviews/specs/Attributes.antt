@@ -3,8 +3,8 @@ use Rattle.std.specs.Prelude.{ℕ, List, length, Bool, true, false, not, ◌&&�
 use Rattle.std.specs.List.{list_any, before_first, after_first}
 use Rattle.std.specs.Str.{bytes_eq}
 use Rattle.serde_json.specs.Data.{Data, string}
-use Rattle.kapi_tree.specs.Contents.{text_at}
-use Rattle.kapi_tree.specs.Tree.{member_of}
+use Rattle.kapi_object.specs.Contents.{text_at}
+use Rattle.kapi_object.specs.Tree.{member_of}
 use Rattle.kapi_reviews.specs.declared.kind.ReviewKind.{ReviewKind}
 use Rattle.kapi_reviews.specs.Kinds.{is_local}
 

@@ -5,13 +5,13 @@ use Rattle.kapi_model.specs.declared.fault.FieldFault.{FieldFault}
 use Rattle.kapi_model.specs.declared.fault.FaultKind.TheVariants.{Required, NotAllowedHere, WrongType, BadValue}
 use Rattle.kapi_model.specs.declared.row.Schema.TheVariants as schema
 use Rattle.kapi_model.specs.FaultKind.{fault}
-use Rattle.kapi_tree.specs.Tree.{member_of, metadata_member}
-use Rattle.kapi_tree.specs.Contents.{text_if}
-use Rattle.kapi_admission.specs.declared.text_rule.TextRule.{TextRule}
-use Rattle.kapi_admission.specs.declared.text_rule.TextRule.TheVariants as rule
-use Rattle.kapi_admission.specs.declared.typed_list.Need.TheVariants as need
-use Rattle.kapi_admission.specs.Admission.{faults_on}
-use Rattle.kapi_admission.specs.Typed.{is_given, list_faults_at, text_faults_at, text_item_faults}
+use Rattle.kapi_object.specs.Tree.{member_of, metadata_member}
+use Rattle.kapi_object.specs.Contents.{text_if}
+use Rattle.kapi_object.specs.declared.text_rule.TextRule.{TextRule}
+use Rattle.kapi_object.specs.declared.text_rule.TextRule.TheVariants as rule
+use Rattle.kapi_object.specs.declared.typed_list.Need.TheVariants as need
+use Rattle.kapi_object.specs.Admission.{faults_on}
+use Rattle.kapi_object.specs.Typed.{is_given, list_faults_at, text_faults_at, text_item_faults}
 use Rattle.kapi_reviews.specs.declared.kind.ReviewKind.{ReviewKind}
 use Rattle.kapi_reviews.specs.Attributes.{has, is_right_namespace, is_right_resource, is_right_subresource}
 use Rattle.kapi_reviews.specs.Kinds.{asks_rules, is_local, tells_subject}

@@ -1,8 +1,8 @@
 -- What a review of access asks: about which identity, in which namespace, and which point.
 use Rattle.std.specs.Prelude.{ℕ, List, [], if◌then◌else◌, codes, unwrap_or}
 use Rattle.serde_json.specs.Data.{Data, null}
-use Rattle.kapi_tree.specs.Contents.{text_at, texts_at}
-use Rattle.kapi_tree.specs.Tree.{member_of}
+use Rattle.kapi_object.specs.Contents.{text_at, texts_at}
+use Rattle.kapi_object.specs.Tree.{member_of}
 use Rattle.kapi_model.specs.declared.identity.Identity.{Identity}
 use Rattle.kapi_rules.specs.declared.point.Point.{Point}
 use Rattle.kapi_rules.specs.declared.point.Point.TheVariants as point

@@ -2,7 +2,7 @@
 use Rattle.std.specs.Prelude.{ℕ, List, length, ◌==◌, if◌then◌else◌, Option, Some, None, Result, Ok, Err, codes}
 use Rattle.serde_json.specs.Data.{Data, object, no_members}
 use Rattle.kapi_model.specs.declared.fault.FieldFault.{FieldFault}
-use Rattle.kapi_tree.specs.Contents.{text_at, put_text}
+use Rattle.kapi_object.specs.Contents.{text_at, put_text}
 use Rattle.kapi_policy.specs.Decided.{decided, held}
 use Rattle.kapi_policy.specs.Objects.{PolicyObjects}
 use Rattle.kapi_model.specs.declared.identity.Identity.{Identity}

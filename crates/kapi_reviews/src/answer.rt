@@ -2,7 +2,7 @@
 ghost use Rattle.std.specs.Prelude.{◌≡◌, IfOk, OnOk, codes};
 ghost use Rattle.serde_json.specs.Data.{string, object, no_members, put as with_member};
 ghost use Rattle.serde_json.specs.View.{view, members_view};
-ghost use Rattle.kapi_tree.specs.Contents as tree;
+ghost use Rattle.kapi_object.specs.Contents as tree;
 ghost use Rattle.kapi_policy.specs.Views.{decision_of};
 ghost use Rattle.kapi_reviews.specs.Answers as written;
 ghost use Rattle.kapi_reviews.specs.Kinds.{kind_text};
@@ -11,10 +11,10 @@ use crate::kind::ReviewKind;
 use crate::question::Question;
 use crate::reasons::reason;
 use kapi_model::Identity;
+use kapi_object::tree_form::{put_string, put_text, put_texts};
 use kapi_policy::Decision;
 use kapi_rules::{Point, ResourcePoint, UrlPoint};
 use kapi_text::Memory;
-use kapi_tree::tree_form::{put_string, put_text, put_texts};
 use serde_json::{Map, Value, put};
 use std::alloc::Global;
 

@@ -1,12 +1,12 @@
 //! What the attributes of a review specify.
 ghost use Rattle.std.specs.Prelude.{◌≡◌};
 ghost use Rattle.serde_json.specs.View.{view};
-ghost use Rattle.kapi_tree.specs.Tree.{member_of};
+ghost use Rattle.kapi_object.specs.Tree.{member_of};
 ghost use Rattle.kapi_reviews.specs.Attributes as told;
 
 use crate::kind::ReviewKind;
-use kapi_admission::table_faults::text_in;
-use kapi_tree::member;
+use kapi_object::member;
+use kapi_object::table_faults::text_in;
 use serde_json::Value;
 
 /// Whether a key has a value.

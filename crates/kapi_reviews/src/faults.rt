@@ -1,18 +1,17 @@
 //! What is wrong with a review, in the order of its members.
 ghost use Rattle.std.specs.Prelude.{◌≡◌, ◌++◌, codes, IfOk, OnOk};
 ghost use Rattle.serde_json.specs.View.{view};
-ghost use Rattle.kapi_tree.specs.Tree.{member_of};
+ghost use Rattle.kapi_object.specs.Tree.{member_of};
 ghost use Rattle.kapi_reviews.specs.Faults as wrong;
 
 use crate::attributes::{has, is_right_namespace, is_right_resource, is_right_subresource};
 use crate::kind::ReviewKind;
-use kapi_admission::text_rule::{TextRule, push_text_faults_at};
-use kapi_admission::typed_list::{Need, is_given, push_list_faults_at};
-use kapi_admission::{collect_faults, push_fault};
 use kapi_model::{FaultKind, FieldFault, Schema};
+use kapi_object::text_rule::{TextRule, push_text_faults_at};
+use kapi_object::tree::member_of_metadata;
+use kapi_object::typed_list::{Need, is_given, push_list_faults_at};
+use kapi_object::{collect_faults, member, push_fault};
 use kapi_text::Memory;
-use kapi_tree::member;
-use kapi_tree::tree::member_of_metadata;
 use serde_json::Value;
 use std::alloc::Global;
 

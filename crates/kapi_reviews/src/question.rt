@@ -6,12 +6,12 @@ ghost use Rattle.kapi_reviews.specs.Questions as asks;
 
 use crate::attributes::resource_and_subresource;
 use crate::kind::ReviewKind;
-use kapi_admission::table_faults::text_in;
 use kapi_model::Identity;
+use kapi_object::member;
+use kapi_object::table_faults::text_in;
+use kapi_object::tree_form::{read_list, read_text};
 use kapi_rules::{Point, ResourcePoint, UrlPoint};
 use kapi_text::{Memory, Text, TryCopy};
-use kapi_tree::member;
-use kapi_tree::tree_form::{read_list, read_text};
 use serde_json::Value;
 use std::alloc::Global;
 

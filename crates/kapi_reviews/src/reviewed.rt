@@ -1,10 +1,10 @@
 //! Reviews and their answers.
 ghost use Rattle.std.specs.Prelude.{◌≡◌, IfOk, codes};
 ghost use Rattle.serde_json.specs.Data.{object, no_members};
-ghost use Rattle.kapi_tree.specs.Contents.{put_text, text_at};
+ghost use Rattle.kapi_object.specs.Contents.{put_text, text_at};
 ghost use Rattle.serde_json.specs.View.{view};
 ghost use Rattle.kapi_text.specs.Gives.{Gives};
-ghost use Rattle.kapi_tree.specs.Object.{tree_of};
+ghost use Rattle.kapi_object.specs.Object.{tree_of};
 ghost use Rattle.kapi_policy.specs.Views.{decision_of};
 ghost use Rattle.kapi_reviews.specs.Answers as written;
 ghost use Rattle.kapi_reviews.specs.Questions as asks;
@@ -17,12 +17,12 @@ use crate::kind::ReviewKind;
 use crate::question::{Question, read_question};
 use crate::review_error::ReviewError;
 use crate::rules::rules_tree;
-use kapi_admission::table_faults::text_in;
 use kapi_model::Identity;
+use kapi_object::table_faults::text_in;
+use kapi_object::tree_form::put_text;
+use kapi_object::{Object, member};
 use kapi_policy::{Decision, Policy};
 use kapi_text::{Memory, Sequence};
-use kapi_tree::tree_form::put_text;
-use kapi_tree::{Object, member};
 use serde_json::{Map, Value};
 use std::alloc::Global;
 

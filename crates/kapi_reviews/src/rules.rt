@@ -2,12 +2,12 @@
 ghost use Rattle.std.specs.Prelude.{◌≡◌, not, IfOk, OnOk};
 ghost use Rattle.std.specs.List.{filter};
 ghost use Rattle.serde_json.specs.View.{view, items_view, members_view};
-ghost use Rattle.kapi_tree.specs.Contents.{write_items};
+ghost use Rattle.kapi_object.specs.Contents.{write_items};
 ghost use Rattle.kapi_reviews.specs.Answers as written;
 
 use kapi_model::PolicyRule;
+use kapi_object::tree_form::{put_texts, write_items};
 use kapi_text::{Memory, Text};
-use kapi_tree::tree_form::{put_texts, write_items};
 use serde_json::{Map, Value, put};
 use std::alloc::Global;
 

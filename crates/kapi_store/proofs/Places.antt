@@ -3,9 +3,9 @@ use Rattle.std.proofs.Common.{◌≡◌, Bool, true, false, List, Option, None, 
 use Rattle.std.specs.Map.{lookup}
 use Rattle.serde_json.specs.Data.{Data}
 use Rattle.kapi_text.specs.Gives.{◌>>=◌}
-use Rattle.kapi_tree.specs.Given.{given_of}
+use Rattle.kapi_object.specs.Given.{given_of}
 use Rattle.kapi_store.specs.Stored.{stored_tree}
-use Rattle.kapi_tree.specs.declared.given.GivenText.{GivenText}
+use Rattle.kapi_object.specs.declared.given.GivenText.{GivenText}
 use Rattle.kapi_store.specs.declared.stored.StoredObject.{StoredObject}
 use Rattle.kapi_store.specs.Faults.{StoreFault, Exists, Missing, NoNamespace, Conflict}
 use Rattle.kapi_store.specs.Keys.{is_key}

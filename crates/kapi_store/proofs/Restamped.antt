@@ -8,12 +8,12 @@ use Rattle.std.specs.declared.cmp.Ordering.TheVariants.{Less, Equal, Greater}
 use Rattle.serde_json.proofs.Views.{get_member-put}
 use Rattle.serde_json.specs.Data.{Data, string, object, Members, no_members, member, put}
 use Rattle.serde_json.specs.Find.{get_member}
-use Rattle.kapi_tree.proofs.Closed.{with_text_holds}
-use Rattle.kapi_tree.proofs.Metadata.{text_set_again}
-use Rattle.kapi_tree.proofs.Ordered.{keys_in_order}
-use Rattle.kapi_tree.specs.Object.{stamped_tree}
-use Rattle.kapi_tree.specs.Order.{is_ordered}
-use Rattle.kapi_tree.specs.Tree.{in_metadata, members_or_none, metadata_of, with_text}
+use Rattle.kapi_object.proofs.Closed.{with_text_holds}
+use Rattle.kapi_object.proofs.Metadata.{text_set_again}
+use Rattle.kapi_object.proofs.Ordered.{keys_in_order}
+use Rattle.kapi_object.specs.Object.{stamped_tree}
+use Rattle.kapi_object.specs.Order.{is_ordered}
+use Rattle.kapi_object.specs.Tree.{in_metadata, members_or_none, metadata_of, with_text}
 use Rattle.kapi_store.proofs.Stamped.{uid_there}
 use Rattle.kapi_store.proofs.Versions.{text_there}
 use Rattle.kapi_store.specs.Stamps.{uid_in, version_in, with_stamps_of, replaced_tree}

@@ -7,8 +7,8 @@ use Rattle.std.specs.Option.{is_some, option_and_then}
 use Rattle.serde_json.specs.Find.{as_str}
 use Rattle.serde_json.specs.Read.{read}
 use Rattle.serde_json.specs.Written.{compact_text, has_float}
-use Rattle.kapi_tree.specs.Contents.{aggregation_in}
-use Rattle.kapi_tree.specs.Tree.{in_metadata}
+use Rattle.kapi_object.specs.Contents.{aggregation_in}
+use Rattle.kapi_object.specs.Tree.{in_metadata}
 use Rattle.kapi_store.specs.Stamps.{uid_of}
 use Rattle.kapi_store.specs.Told.{labels_of, told_by}
 use Rattle.kapi_store.specs.declared.stored.StoredObject.{StoredObject}

@@ -1,8 +1,8 @@
 -- What changes make of a map of objects, and how a list of changes is numbered.
 use Rattle.std.specs.Prelude.{◌≡◌, ℕ, ◌+◌, ◌-◌, List, [], ◌∷◌, Option, None, Some, map, length, drop, option_map}
 use Rattle.serde_json.specs.Data.{Data}
-use Rattle.kapi_tree.specs.Object.{tree_of}
-use Rattle.kapi_tree.specs.declared.object.Object.{Object}
+use Rattle.kapi_object.specs.Object.{tree_of}
+use Rattle.kapi_object.specs.declared.object.Object.{Object}
 use Rattle.kapi_store.specs.Stored.{stored_tree}
 use Rattle.std.specs.Map.{remove_entry}
 use Rattle.std.specs.BTreeMap.{insert_entry}

@@ -3,8 +3,8 @@ use Rattle.std.specs.Prelude.{ℕ, zero, suc, ◌/◌, ◌%◌, false, List, [],
 use Rattle.std.specs.Fmt.{digit_glyph, decimal}
 use Rattle.serde_json.specs.Data.{Data}
 use Rattle.serde_json.specs.Find.{as_str}
-use Rattle.kapi_tree.specs.Object.{stamped_tree}
-use Rattle.kapi_tree.specs.Tree.{in_metadata}
+use Rattle.kapi_object.specs.Object.{stamped_tree}
+use Rattle.kapi_object.specs.Tree.{in_metadata}
 
 -- the last hexadecimal digits of a number, so many, in lower case
 unfoldable pub hex_digits : ℕ → ℕ → List ℕ

@@ -3,7 +3,7 @@ use Rattle.std.specs.Prelude.{ℕ, List, [], ◌∷◌, ◌++◌, codes, unwrap_
 use Rattle.serde_json.specs.Data.{Data, null, string, Members, no_members, member}
 use Rattle.serde_json.specs.Read.{read}
 use Rattle.kapi_model.specs.declared.selector.Label.{Label}
-use Rattle.kapi_tree.specs.Tree.{in_metadata, members_or_none}
+use Rattle.kapi_object.specs.Tree.{in_metadata, members_or_none}
 
 -- the tree that the text is read as
 abbrev pub told_by : List ℕ → Data

@@ -6,8 +6,8 @@ ghost use Rattle.kapi_store.specs.Private.Alike.{same_label, same_labels};
 ghost use Rattle.kapi_store.specs.Told.{label_of, labels_among, labels_of as labels_of_tree};
 
 use kapi_model::Label;
+use kapi_object::tree::in_metadata;
 use kapi_text::{Memory, Sequence, Text};
-use kapi_tree::tree::in_metadata;
 use serde_json::{Map, Value};
 use std::alloc::Global;
 

@@ -2,8 +2,8 @@ use crate::change::{Change, Shared};
 use crate::key::Key;
 use crate::slots::{Hidden, share_at};
 use crate::written::Written;
+use kapi_object::Object;
 use kapi_text::{Memory, TryCopy};
-use kapi_tree::Object;
 use std::alloc::Global;
 use std::collections::BTreeMap;
 use std::marker::Model;
@@ -42,7 +42,7 @@ impl Ready {
     ghost use Rattle.std.specs.Map.{keys_of};
     ghost use Rattle.kapi_store.specs.declared.store.TheConstants.{LAST_REVISION};
     ghost use Rattle.kapi_store.specs.Keys.{key_cmp};
-    ghost use Rattle.kapi_tree.specs.Object.{tree_of};
+    ghost use Rattle.kapi_object.specs.Object.{tree_of};
     ghost use Rattle.kapi_store.specs.Stored.{stored_tree};
     ghost use Rattle.kapi_store.specs.Changes.{IsLeft, IsOne, IsStep, IsWrite, AreRemovals, Follow, revision_of};
     ghost use Rattle.kapi_store.specs.Private.Hidden.{visible};

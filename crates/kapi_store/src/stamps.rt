@@ -5,7 +5,7 @@ ghost use Rattle.serde_json.specs.Read.{read};
 ghost use Rattle.serde_json.specs.Written.{compact_text};
 ghost use Rattle.std.specs.Bool.{Decides};
 ghost use Rattle.std.specs.Fmt.{decimal};
-ghost use Rattle.kapi_tree.specs.Object.{tree_of};
+ghost use Rattle.kapi_object.specs.Object.{tree_of};
 ghost use Rattle.kapi_store.specs.Stamps.{uid_of, created_tree, replaced_tree};
 ghost use Rattle.kapi_store.specs.Plain.{admits as admits_of, admitted as admitted_of};
 ghost use Rattle.kapi_text.specs.Gives.{Gives};
@@ -18,8 +18,8 @@ use crate::change::Shared;
 use crate::cut::is_near;
 use crate::error::StoreError;
 use crate::written::Written;
+use kapi_object::{GivenText, Object};
 use kapi_text::{Memory, Text};
-use kapi_tree::{GivenText, Object};
 use std::alloc::Global;
 
 /// The unique id of the object that a revision created, in the form of a UUID (RFC 9562).

@@ -3,8 +3,8 @@ ghost use Rattle.std.specs.Fmt.{decimal};
 ghost use Rattle.serde_json.specs.Find.{as_str};
 ghost use Rattle.serde_json.specs.Read.{read};
 ghost use Rattle.serde_json.specs.Written.{compact_text, has_float};
-ghost use Rattle.kapi_tree.specs.Contents.{aggregation_in};
-ghost use Rattle.kapi_tree.specs.Tree.{in_metadata};
+ghost use Rattle.kapi_object.specs.Contents.{aggregation_in};
+ghost use Rattle.kapi_object.specs.Tree.{in_metadata};
 ghost use Rattle.kapi_store.specs.Stamps.{uid_of};
 ghost use Rattle.kapi_store.specs.Told.{labels_of as labels_of_tree, told_by};
 
@@ -12,9 +12,9 @@ use crate::cut::{around, joined, version_text};
 use crate::labels::{are_same, labels_of};
 use crate::stamps::{text_of, uid, version};
 use kapi_model::{AggregationRule, Label, Labels, Selector};
+use kapi_object::Object;
+use kapi_object::selector_form::read_aggregation;
 use kapi_text::{Memory, Sequence, Text};
-use kapi_tree::Object;
-use kapi_tree::selector_form::read_aggregation;
 use serde_json::Value;
 use std::alloc::{AllocError, Global};
 
@@ -48,10 +48,10 @@ impl StoredObject {
     ghost use Rattle.serde_json.specs.Read.{max_depth};
     ghost use Rattle.serde_json.specs.Written.{compact_text, has_float};
     ghost use Rattle.kapi_model.specs.Selector.{label_in, matches, values_of};
-    ghost use Rattle.kapi_tree.specs.Object.{tree_of};
-    ghost use Rattle.kapi_tree.specs.Contents.{aggregation_in};
-    ghost use Rattle.kapi_tree.specs.Order.{is_ordered};
-    ghost use Rattle.kapi_tree.specs.Tree.{in_metadata};
+    ghost use Rattle.kapi_object.specs.Object.{tree_of};
+    ghost use Rattle.kapi_object.specs.Contents.{aggregation_in};
+    ghost use Rattle.kapi_object.specs.Order.{is_ordered};
+    ghost use Rattle.kapi_object.specs.Tree.{in_metadata};
     ghost use Rattle.kapi_store.specs.Gone.{at_version};
     ghost use Rattle.kapi_store.specs.Stamps.{uid_of, uid_in, version_in};
     ghost use Rattle.kapi_store.specs.Stored.{stored_tree};

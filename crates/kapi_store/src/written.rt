@@ -2,8 +2,8 @@
 
 use crate::stamps::{uid, version};
 use crate::stored::StoredObject;
+use kapi_object::Object;
 use kapi_text::Memory;
-use kapi_tree::Object;
 use std::alloc::Global;
 
 /// An object as a write leaves it, as a tree and as it is kept.
@@ -17,8 +17,8 @@ impl Written {
     ghost use Rattle.std.specs.Prelude.{◌≡◌, ◌<◌, ◌^◌, Some, codes, option_and_then, IfOk};
     ghost use Rattle.std.specs.Fmt.{decimal};
     ghost use Rattle.serde_json.specs.Find.{as_str};
-    ghost use Rattle.kapi_tree.specs.Object.{tree_of, stamped_tree};
-    ghost use Rattle.kapi_tree.specs.Tree.{in_metadata};
+    ghost use Rattle.kapi_object.specs.Object.{tree_of, stamped_tree};
+    ghost use Rattle.kapi_object.specs.Tree.{in_metadata};
     ghost use Rattle.kapi_store.specs.Stamps.{uid_of};
     ghost use Rattle.kapi_store.specs.Stored.{stored_tree};
 

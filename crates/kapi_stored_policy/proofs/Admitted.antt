@@ -13,28 +13,28 @@ use Rattle.serde_json.specs.Find.{get, get_member}
 use Rattle.kapi_model.specs.declared.row.ResourceRow.{ResourceRow}
 use Rattle.kapi_model.specs.declared.row.Schema.{Schema}
 use Rattle.kapi_model.specs.declared.row.Schema.TheVariants as schema
-use Rattle.kapi_tree.proofs.Puts.{put_other}
-use Rattle.kapi_tree.specs.Contents.{content_of, text_if}
-use Rattle.kapi_tree.specs.Object.{stamped_tree}
-use Rattle.kapi_tree.specs.Tree.{in_metadata, member_of, members_or_none, metadata_of, unless_null, with_text, without, without_member}
-use Rattle.kapi_admission.proofs.Clean.{kept_tree_has_no_fault}
-use Rattle.kapi_admission.proofs.CleanLists.{parts, both}
-use Rattle.kapi_admission.specs.Admission.{faults_on, kept_metadata, kept_tree, version_of}
-use Rattle.kapi_admission.specs.Faults.{entries_faults, faults_in, faults_of, field_of, key_of, metadata_faults}
-use Rattle.kapi_admission.specs.Shapes.{Says, chosen, part_faults, passes, row_faults, rows_faults, table_faults, typed_faults}
-use Rattle.kapi_admission.specs.Tables.{rows_of, word_text}
-use Rattle.kapi_admission.specs.Typed.{is_given, is_right, member_path}
-use Rattle.kapi_admission.specs.declared.metadata.Entries.{Entries}
-use Rattle.kapi_admission.specs.declared.metadata.Entries.TheVariants.{Labels, Annotations}
-use Rattle.kapi_admission.specs.declared.table.Choice.{Choice}
-use Rattle.kapi_admission.specs.declared.table.Choice.TheVariants.{One, Two, Three}
-use Rattle.kapi_admission.specs.declared.table.Row.{Row}
-use Rattle.kapi_admission.specs.declared.table.Table.TheVariants as table
-use Rattle.kapi_admission.specs.declared.table.When.{When}
-use Rattle.kapi_admission.specs.declared.table.When.TheVariants as when
-use Rattle.kapi_admission.specs.declared.word.Word.{Word}
-use Rattle.kapi_admission.specs.declared.word.Word.TheVariants as word
-use Rattle.kapi_tree.proofs.Metadata.{beside_metadata, in_text}
+use Rattle.kapi_object.proofs.Puts.{put_other}
+use Rattle.kapi_object.specs.Contents.{content_of, text_if}
+use Rattle.kapi_object.specs.Object.{stamped_tree}
+use Rattle.kapi_object.specs.Tree.{in_metadata, member_of, members_or_none, metadata_of, unless_null, with_text, without, without_member}
+use Rattle.kapi_object.proofs.Clean.{kept_tree_has_no_fault}
+use Rattle.kapi_object.proofs.CleanLists.{parts, both}
+use Rattle.kapi_object.specs.Admission.{faults_on, kept_metadata, kept_tree, version_of}
+use Rattle.kapi_object.specs.Faults.{entries_faults, faults_in, faults_of, field_of, key_of, metadata_faults}
+use Rattle.kapi_object.specs.Shapes.{Says, chosen, part_faults, passes, row_faults, rows_faults, table_faults, typed_faults}
+use Rattle.kapi_object.specs.Tables.{rows_of, word_text}
+use Rattle.kapi_object.specs.Typed.{is_given, is_right, member_path}
+use Rattle.kapi_object.specs.declared.metadata.Entries.{Entries}
+use Rattle.kapi_object.specs.declared.metadata.Entries.TheVariants.{Labels, Annotations}
+use Rattle.kapi_object.specs.declared.table.Choice.{Choice}
+use Rattle.kapi_object.specs.declared.table.Choice.TheVariants.{One, Two, Three}
+use Rattle.kapi_object.specs.declared.table.Row.{Row}
+use Rattle.kapi_object.specs.declared.table.Table.TheVariants as table
+use Rattle.kapi_object.specs.declared.table.When.{When}
+use Rattle.kapi_object.specs.declared.table.When.TheVariants as when
+use Rattle.kapi_object.specs.declared.word.Word.{Word}
+use Rattle.kapi_object.specs.declared.word.Word.TheVariants as word
+use Rattle.kapi_object.proofs.Metadata.{beside_metadata, in_text}
 use Rattle.kapi_stored_policy.specs.Admitted.{IsObjectOf}
 
 -- ---- trees that have the same members of all words have the same faults

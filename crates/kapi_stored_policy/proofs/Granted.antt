@@ -1,7 +1,7 @@
 -- What is stored of a granted write is granted, and a deletion is.
 use Rattle.std.proofs.Common.{◌≡◌, ◌∙◌, ℕ, List, Option, None, Some, refl, sym, ap}
 use Rattle.serde_json.specs.Data.{Data}
-use Rattle.kapi_tree.specs.Object.{stamped_tree}
+use Rattle.kapi_object.specs.Object.{stamped_tree}
 use Rattle.kapi_rbac_types.proofs.Stamped.{cluster_role_binding_stamped, cluster_role_stamped, role_binding_stamped, role_stamped}
 use Rattle.kapi_model.specs.declared.identity.Identity.{Identity}
 use Rattle.kapi_policy.specs.Objects.{PolicyObjects}

@@ -8,9 +8,9 @@ use Rattle.std.specs.declared.cmp.Ordering.TheVariants.{Less, Equal, Greater}
 use Rattle.serde_json.specs.Data.{Data}
 use Rattle.kapi_text.specs.Gives.{◌>>=◌}
 use Rattle.kapi_model.specs.declared.row.ResourceRow.{ResourceRow}
-use Rattle.kapi_tree.specs.Object.{stamped_tree}
-use Rattle.kapi_tree.specs.Given.{given_of}
-use Rattle.kapi_admission.specs.Admission.{faults_on}
+use Rattle.kapi_object.specs.Object.{stamped_tree}
+use Rattle.kapi_object.specs.Given.{given_of}
+use Rattle.kapi_object.specs.Admission.{faults_on}
 use Rattle.kapi_rbac_types.specs.Trees.{read_as}
 use Rattle.kapi_store.proofs.Keys.{key_same}
 use Rattle.kapi_store.specs.Changes.{placed, placed_all}

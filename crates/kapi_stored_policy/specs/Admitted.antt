@@ -5,7 +5,7 @@ use Rattle.serde_json.specs.Find.{get}
 use Rattle.kapi_model.specs.declared.row.ResourceRow.{ResourceRow}
 use Rattle.kapi_model.specs.declared.row.Schema.{Schema}
 use Rattle.kapi_model.specs.declared.row.Schema.TheVariants as schema
-use Rattle.kapi_admission.specs.Admission.{faults_on, version_of}
+use Rattle.kapi_object.specs.Admission.{faults_on, version_of}
 use Rattle.kapi_store.specs.declared.key.Key.{Key}
 use Rattle.kapi_stored_policy.specs.Kind.{policy_kind}
 use Rattle.kapi_stored_policy.specs.declared.kind.PolicyKind.{PolicyKind}

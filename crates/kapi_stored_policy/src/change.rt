@@ -1,5 +1,5 @@
 ghost use Rattle.std.specs.Prelude.{◌≡◌, ◌++◌, [], ◌∷◌, IfOk, OnOk, map, option_copied, option_map};
-ghost use Rattle.kapi_tree.specs.Object.{tree_of};
+ghost use Rattle.kapi_object.specs.Object.{tree_of};
 ghost use Rattle.kapi_store.specs.Changes.{IsLeft};
 ghost use Rattle.kapi_store.specs.Plain.{plain_change};
 ghost use Rattle.kapi_store.specs.Stored.{stored_tree};
@@ -8,13 +8,13 @@ ghost use Rattle.kapi_stored_policy.specs.Reading as reading;
 
 use crate::kind::{PolicyKind, place_of, policy_kind};
 use kapi_model::{ClusterRole, ClusterRoleBinding, Role, RoleBinding};
+use kapi_object::Object;
 use kapi_policy::{PolicyChange, PolicyKey, PolicyPut, PolicyStep};
 use kapi_rbac_types::{
     admitted_cluster_role, admitted_cluster_role_binding, admitted_role, admitted_role_binding,
 };
 use kapi_store::{Change, Key, Ready};
 use kapi_text::{Memory, TryCopy};
-use kapi_tree::Object;
 use std::alloc::Global;
 
 /// The changes of the policy by a write, in their order: a put for each role and binding that is written, a deletion for

@@ -1,6 +1,6 @@
 ghost use Rattle.std.specs.Prelude.{◌≡◌, IfOk};
 ghost use Rattle.std.specs.Option.{option_map};
-ghost use Rattle.kapi_tree.specs.Object.{tree_of};
+ghost use Rattle.kapi_object.specs.Object.{tree_of};
 ghost use Rattle.kapi_rbac_types.specs.Trees.{cluster_role_binding_of, cluster_role_of, role_binding_of, role_of};
 ghost use Rattle.kapi_stored_policy.specs.declared.kind.PolicyKind.TheVariants as of_kind;
 ghost use Rattle.kapi_stored_policy.specs.Written as stored;
@@ -9,12 +9,12 @@ ghost use Rattle.kapi_stored_policy.specs.Written.{versions_of};
 use crate::kind::{PolicyKind, place_of};
 use kapi_guard::{Versions, WrittenObject};
 use kapi_model::{ClusterRole, ClusterRoleBinding, Role, RoleBinding};
+use kapi_object::Object;
 use kapi_rbac_types::{
     admitted_cluster_role, admitted_cluster_role_binding, admitted_role, admitted_role_binding,
 };
 use kapi_store::Key;
 use kapi_text::{Memory, TryCopy};
-use kapi_tree::Object;
 use std::alloc::Global;
 
 /// A role or binding that is written at a key: the old version, if there is one, and the new one, both admitted.

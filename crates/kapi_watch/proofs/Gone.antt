@@ -3,7 +3,7 @@ use Rattle.std.proofs.Common.{◌≡◌, ◌∙◌, ◌&&◌, List, Bool, true, 
 use Rattle.serde_json.specs.Data.{Data}
 use Rattle.kapi_model.specs.Selector.{label_in, matches_values, value_in}
 use Rattle.kapi_model.specs.declared.selector.Label.{Label}
-use Rattle.kapi_tree.specs.Tree.{in_metadata}
+use Rattle.kapi_object.specs.Tree.{in_metadata}
 use Rattle.kapi_store.proofs.Labelled.{told_ordered, values_kept}
 use Rattle.kapi_store.specs.Listing.{is_listed, is_within}
 use Rattle.kapi_store.specs.Stored.{stored_tree}

@@ -10,9 +10,9 @@ use Rattle.std.proofs.lemmas.Slice.Eq.{bytes_eq-Decides}
 use Rattle.serde_json.specs.Data.{Data, string, object, Members, no_members, member}
 use Rattle.serde_json.specs.Find.{as_str, get, get_member}
 use Rattle.kapi_model.specs.Selector.{matches}
-use Rattle.kapi_tree.proofs.Metadata.{in_text}
-use Rattle.kapi_tree.specs.Object.{stamped_tree}
-use Rattle.kapi_tree.specs.Tree.{in_metadata, with_text}
+use Rattle.kapi_object.proofs.Metadata.{in_text}
+use Rattle.kapi_object.specs.Object.{stamped_tree}
+use Rattle.kapi_object.specs.Tree.{in_metadata, with_text}
 use Rattle.kapi_store.specs.Gone.{at_version, changed_at, with_changed}
 use Rattle.kapi_store.specs.Listing.{is_asked, is_listed, is_within}
 use Rattle.kapi_store.specs.Stamps.{created_tree, metadata_text, replaced_tree, uid_in, uid_of, version_in, with_stamps_of}

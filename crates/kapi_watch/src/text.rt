@@ -8,8 +8,8 @@ ghost use Rattle.kapi_watch.specs.Shown.{event_of};
 ghost use Rattle.kapi_watch.specs.Text.{type_of, object_text_of, event_tree};
 
 use crate::event::{Event, Removed};
+use kapi_object::tree_form::quote;
 use kapi_text::Memory;
-use kapi_tree::tree_form::quote;
 use std::alloc::Global;
 
 /// A copy of the text of an object that goes.

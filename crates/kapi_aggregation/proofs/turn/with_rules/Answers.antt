@@ -1,9 +1,9 @@
 use Rattle.std.proofs.Common.{◌≤◌, subst}
 use Rattle.serde_json.specs.Data.{Data, depth}
 use Rattle.serde_json.specs.Read.{max_depth}
-use Rattle.kapi_tree.proofs.Depths.{no_deeper}
-use Rattle.kapi_tree.proofs.NoFloats.{no_floats}
-use Rattle.kapi_tree.proofs.Ordered.{keys_in_order}
+use Rattle.kapi_object.proofs.Depths.{no_deeper}
+use Rattle.kapi_object.proofs.NoFloats.{no_floats}
+use Rattle.kapi_object.proofs.Ordered.{keys_in_order}
 use Rattle.kapi_store.specs.Stored.{stored_tree}
 use Rattle.kapi_aggregation.proofs.Rewritten.{with_rules_holds}
 use Rattle.kapi_aggregation.proofs.turn.with_rules.Goals as goal

@@ -1,6 +1,6 @@
 use Rattle.std.proofs.Common.{◌++◌, codes, decimal, map}
 use Rattle.serde_json.specs.View.{items_of}
-use Rattle.kapi_admission.specs.Admission.{version_of}
+use Rattle.kapi_object.specs.Admission.{version_of}
 use Rattle.kapi_store.specs.Stored.{stored_tree}
 use Rattle.kapi_answer.specs.List.{list_tree}
 use Rattle.kapi_answer.proofs.Joined.{list_joined}

@@ -1,6 +1,6 @@
 use Rattle.std.proofs.Common.{◌≡◌}
 use Rattle.std.specs.Prelude.{map}
-use Rattle.kapi_compiled_rules.specs.Points.{point_of}
+use Rattle.kapi_index.specs.Points.{point_of}
 use Rattle.kapi_policy.specs.Decided.{first_some, granted_by}
 use Rattle.kapi_index.specs.Contents.{binding_at}
 use Rattle.kapi_index.specs.Scopes.{bare}

@@ -1,5 +1,5 @@
 use Rattle.std.proofs.Common.{ap, sym, ◌∙◌}
-use Rattle.kapi_compiled_rules.specs.Points.{point_of}
+use Rattle.kapi_index.specs.Points.{point_of}
 use Rattle.kapi_index.proofs.Walks.{first_meant, first_step, none_granted, some_granted}
 use Rattle.kapi_index.specs.Contents.{grant_of}
 use Rattle.kapi_index.proofs.walk.grant_of_many.Goals as goal

@@ -1,5 +1,5 @@
 use Rattle.std.proofs.Common.{◌≡◌, length, map}
-use Rattle.kapi_compiled_rules.specs.Points.{point_of}
+use Rattle.kapi_index.specs.Points.{point_of}
 use Rattle.std.specs.Range.Bound.{bound_map}
 use Rattle.kapi_policy.specs.Decided.{first_some, granted_by}
 use Rattle.kapi_index.specs.Contents.{binding_at}

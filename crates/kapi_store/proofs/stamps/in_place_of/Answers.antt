@@ -1,6 +1,6 @@
 use Rattle.std.proofs.Common.{◌∙◌, ap}
 use Rattle.std.specs.Fmt.{decimal}
-use Rattle.kapi_tree.specs.Object.{stamped_tree, tree_of}
+use Rattle.kapi_object.specs.Object.{stamped_tree, tree_of}
 use Rattle.kapi_store.specs.Stamps.{uid_in}
 use Rattle.kapi_store.specs.Stored.{stored_tree}
 use Rattle.kapi_store.proofs.Restamped.{replaced_once}

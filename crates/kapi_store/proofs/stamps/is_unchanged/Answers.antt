@@ -1,6 +1,6 @@
 use Rattle.std.proofs.Common.{◌≡◌, rules}
 use Rattle.std.specs.Bool.{Decides}
-use Rattle.kapi_tree.specs.Object.{tree_of}
+use Rattle.kapi_object.specs.Object.{tree_of}
 use Rattle.kapi_store.specs.Stored.{stored_tree}
 use Rattle.kapi_store.proofs.Equality.{decided_alike, same_decides}
 use Rattle.kapi_store.proofs.stamps.is_unchanged.Goals as goal

@@ -1,9 +1,9 @@
 use Rattle.std.proofs.Common.{◌≡◌, ℕ, ◌∙◌, true, sym, ap}
 use Rattle.serde_json.specs.Data.{Data}
 use Rattle.serde_json.specs.Written.{compact_text}
-use Rattle.kapi_tree.specs.Object.{tree_of}
-use Rattle.kapi_tree.specs.Order.{is_ordered}
-use Rattle.kapi_tree.specs.declared.object.Object.{Object}
+use Rattle.kapi_object.specs.Object.{tree_of}
+use Rattle.kapi_object.specs.Order.{is_ordered}
+use Rattle.kapi_object.specs.declared.object.Object.{Object}
 use Rattle.kapi_store.specs.declared.written.Written.{Written}
 use Rattle.kapi_store.specs.Private.Cut.{is_near}
 use Rattle.kapi_store.specs.Stamps.{replaced_tree, with_stamps_of}

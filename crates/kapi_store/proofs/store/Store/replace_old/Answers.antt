@@ -1,6 +1,6 @@
 use Rattle.std.proofs.Common.{◌≡◌, ◌+◌, ◌≤◌, Ok, true, false, Option, Some, IsSome, IfSome, ap, sym, subst, refl, arith, rules}
 use Rattle.std.specs.Map.{lookup}
-use Rattle.kapi_tree.specs.Object.{tree_of}
+use Rattle.kapi_object.specs.Object.{tree_of}
 use Rattle.kapi_store.specs.Limits.{last_revision}
 use Rattle.kapi_store.specs.Keys.{is_key}
 use Rattle.kapi_store.specs.Stored.{stored_tree}

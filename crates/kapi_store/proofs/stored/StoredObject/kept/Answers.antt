@@ -3,9 +3,9 @@ use Rattle.std.specs.Option.{option_and_then, unwrap_or}
 use Rattle.serde_json.specs.Data.{Data, null}
 use Rattle.serde_json.specs.Find.{as_str}
 use Rattle.serde_json.specs.Written.{compact_text, has_float}
-use Rattle.kapi_tree.specs.Object.{tree_of}
-use Rattle.kapi_tree.specs.Contents.{aggregation_in}
-use Rattle.kapi_tree.specs.Tree.{in_metadata}
+use Rattle.kapi_object.specs.Object.{tree_of}
+use Rattle.kapi_object.specs.Contents.{aggregation_in}
+use Rattle.kapi_object.specs.Tree.{in_metadata}
 use Rattle.kapi_store.specs.Told.{labels_of, told_by}
 use Rattle.kapi_store.proofs.stored.StoredObject.kept.Goals as goal
 

@@ -2,8 +2,8 @@ use Rattle.std.proofs.Common.{◌∙◌, Some, codes, string_bytes, ap}
 use Rattle.std.specs.Option.{option_and_then}
 use Rattle.serde_json.specs.Data.{Data}
 use Rattle.serde_json.specs.Find.{as_str}
-use Rattle.kapi_tree.specs.Object.{tree_of}
-use Rattle.kapi_tree.specs.Tree.{in_metadata, with_text}
+use Rattle.kapi_object.specs.Object.{tree_of}
+use Rattle.kapi_object.specs.Tree.{in_metadata, with_text}
 use Rattle.kapi_store.proofs.Stamped.{version_there}
 use Rattle.kapi_store.proofs.written.Written.stamped.Goals as goal
 

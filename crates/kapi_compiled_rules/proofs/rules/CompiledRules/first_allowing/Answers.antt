@@ -1,7 +1,0 @@
-use Rattle.std.proofs.Common.{◌∙◌}
-use Rattle.kapi_compiled_rules.proofs.Exact.{first_exact}
-use Rattle.kapi_compiled_rules.proofs.rules.CompiledRules.first_allowing.Goals as goal
-
-pub returns : goal.returns
-returns c =
-    rw (← c.self.view_is) (c.first_of.ensures ∙ first_exact c.self.inside.rules _ _ (c.as_slice.ensures ∙ c.self.invariant))

@@ -1,4 +1,0 @@
-pub mod Marks
-pub mod Compiled
-pub mod Asked
-pub mod Points

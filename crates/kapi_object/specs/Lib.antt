@@ -1,0 +1,12 @@
+pub mod Tree
+pub mod Order
+pub mod Given
+pub mod Object
+pub mod Contents
+pub mod Merge
+pub mod Faults
+pub mod Typed
+pub mod Tables
+pub mod Shapes
+pub mod Admission
+pub mod Private

@@ -1,0 +1,37 @@
+ghost use Rattle.std.specs.Prelude.{◌≡◌};
+
+use crate::given::Given;
+use kapi_model::FieldFault;
+use kapi_text::Sequence;
+use std::alloc::AllocError;
+use thiserror::Error;
+
+/// Why a body is no object of its resource type: the first of these that holds.
+#[derive(Debug, Drop, Error)]
+pub enum ObjectError {
+    /// The bytes are no JSON object (RFC 8259).
+    #[error("the body is no JSON object")]
+    NotJson,
+    /// A number in the body reads as a float.
+    #[error("the body has a float")]
+    Float,
+    #[error("the body has another kind")]
+    WrongKind,
+    #[error("the body has another apiVersion")]
+    WrongVersion,
+    /// Members of the body are at fault: what the body specifies all the same, and each fault in order.
+    #[error("the body is invalid")]
+    Invalid(Given, Sequence<FieldFault>),
+    #[error("out of memory")]
+    Memory,
+}
+
+impl From<AllocError> for ObjectError {
+    ghost use Rattle.kapi_object.specs.declared.object_error.ObjectError.TheVariants.{Memory as WantOfMemory};
+
+    ghost from_gives = { λ _ e. e ≡ WantOfMemory };
+
+    fn from(_error: AllocError) -> ObjectError {
+        ObjectError::Memory
+    }
+}

@@ -1,5 +1,0 @@
-use Rattle.kapi_patch.proofs.Changes.{members_view_removed}
-use Rattle.kapi_patch.proofs.merge.remove.Goals as goal
-
-pub returns : goal.returns
-returns c = rw c.remove.ensures.entries (members_view_removed c.args.name.now c.args.members.now.entries)

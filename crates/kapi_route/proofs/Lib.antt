@@ -1,2 +1,0 @@
-mod Semicolons
-mod Rows

@@ -1,4 +1,0 @@
-pub mod Headers
-pub mod Route
-pub mod Routes
-pub mod Query
