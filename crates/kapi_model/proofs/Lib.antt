@@ -2,3 +2,4 @@ pub mod Slashes
 pub mod Tokens
 pub mod Pieces
 pub mod Values
+pub mod Ordered

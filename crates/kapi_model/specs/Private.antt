@@ -1,2 +1,3 @@
 -- What contracts inside this crate alone cite: a caller need not read it.
 pub mod SelectorSteps
+pub mod Lookup

@@ -5,7 +5,7 @@ use crate::selector::Label;
 /// The labels of an object that are texts, borrowed from a list of them.
 #[derive(Clone, Copy)]
 pub struct Labels<'a> {
-    list: &'a [Label],
+    pub(crate) list: &'a [Label],
 }
 
 impl<'a> Labels<'a> {

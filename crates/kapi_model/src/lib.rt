@@ -8,6 +8,7 @@ pub mod fault;
 pub mod identity;
 pub mod kinds;
 pub mod labels;
+mod lookup;
 mod matching;
 pub mod names;
 pub mod policy_rule;

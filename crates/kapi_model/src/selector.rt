@@ -4,6 +4,7 @@ ghost use Rattle.kapi_model.specs.Selector as meaning;
 ghost use Rattle.kapi_model.specs.Selector.{values_of};
 
 use crate::labels::Labels;
+use crate::lookup::Lookup;
 use kapi_text::{Sequence, Text, TryCopy};
 use std::alloc::{AllocError, Global};
 
@@ -110,10 +111,10 @@ fn is_listed(values: &[Text], value: &str) -> bool
 }
 
 /// Whether the labels meet the requirement.
-fn is_met(requirement: &Requirement, labels: &Labels<'_>) -> bool
-    ensures { result ≡ meaning.holds requirement.now.operator requirement.now.values (values_of labels.now requirement.now.key) }
+fn is_met(requirement: &Requirement, labels: &Lookup<'_>) -> bool
+    ensures { result ≡ meaning.holds requirement.now.operator requirement.now.values (values_of labels.now.labels requirement.now.key) }
 {
-    match (requirement.operator, labels.get(requirement.key.as_str())) {
+    match (requirement.operator, labels.get(&requirement.key)) {
         (Operator::In, Some(value)) => is_listed(requirement.values.as_slice(), value),
         (Operator::In, None) => false,
         (Operator::NotIn, Some(value)) => !is_listed(requirement.values.as_slice(), value),
@@ -124,41 +125,51 @@ fn is_met(requirement: &Requirement, labels: &Labels<'_>) -> bool
 }
 
 /// Whether the labels have the label with its value.
-fn has_label(label: &Label, labels: &Labels<'_>) -> bool
-    ensures { result ≡ meaning.is_text (values_of labels.now label.now.key) label.now.value }
+fn has_label(label: &Label, labels: &Lookup<'_>) -> bool
+    ensures { result ≡ meaning.is_text (values_of labels.now.labels label.now.key) label.now.value }
 {
-    match labels.get(label.key.as_str()) {
+    match labels.get(&label.key) {
         Some(value) => value == label.value.as_str(),
         None => false,
     }
 }
 
 /// Whether the labels have each wanted label.
-fn has_labels(wanted: &[Label], labels: &Labels<'_>) -> bool
-    ensures { result ≡ list_all (λ l. meaning.is_text (values_of labels.now l.key) l.value) wanted.now }
+fn has_labels(wanted: &[Label], labels: &Lookup<'_>) -> bool
+    ensures { result ≡ list_all (λ l. meaning.is_text (values_of labels.now.labels l.key) l.value) wanted.now }
 {
     wanted.iter().all(|label| has_label(label, labels))
 }
 
 /// Whether the labels meet each requirement.
-fn meets(requirements: &[Requirement], labels: &Labels<'_>) -> bool
-    ensures { result ≡ list_all (λ r. meaning.holds r.operator r.values (values_of labels.now r.key)) requirements.now }
+fn meets(requirements: &[Requirement], labels: &Lookup<'_>) -> bool
+    ensures { result ≡ list_all (λ r. meaning.holds r.operator r.values (values_of labels.now.labels r.key)) requirements.now }
 {
     requirements
         .iter()
         .all(|requirement| is_met(requirement, labels))
 }
 
+/// From so many labels or requirements on it pays to see first whether an object's labels are in order.
+const MANY: usize = 4;
+
 impl Selector {
     ghost use Rattle.std.specs.Prelude.{◌≡◌};
     ghost use Rattle.kapi_model.specs.Selector.{values_of};
     ghost use Rattle.kapi_model.specs.Selector as meaning;
 
+    /// Whether the selector names so many keys that labels in order are searched for them.
+    fn has_many(&self) -> bool {
+        self.match_labels.as_slice().len() >= MANY
+            || self.match_expressions.as_slice().len() >= MANY
+    }
+
     /// Whether the selector matches the labels (Kubernetes, 'Labels and Selectors'). Allocates nothing.
     pub fn matches(&self, labels: &Labels<'_>) -> bool
         ensures { result ≡ meaning.matches_values self.now (values_of labels.now) }
     {
-        has_labels(self.match_labels.as_slice(), labels)
-            && meets(self.match_expressions.as_slice(), labels)
+        let lookup = Lookup::of(labels, self.has_many());
+        has_labels(self.match_labels.as_slice(), &lookup)
+            && meets(self.match_expressions.as_slice(), &lookup)
     }
 }
