@@ -141,7 +141,7 @@ def refused(user):
 
 
 ROOT, BINDING, SOME = "A=root,system:masters", "/apis/rbac.authorization.k8s.io/v1/namespaces/default/rolebindings/ms", re.compile("20[01] .*")
-CLOCK = re.compile(f'200 .*"resourceVersion":"({"|".join(str(int(time.time()) + it) for it in range(200))})00005".*')
+CLOCK = re.compile(f'200 .*"resourceVersion":"({"|".join(str(int(time.time()) + it) for it in range(200))})[0-9]{{3}}05".*')
 ASKS, TOLD, OTHER = f'?{question("ann", "get", "configmaps", "default")}', "4 allowed RoleBinding ms, Role m, rule 0\n", question("bob", "get", "configmaps", "default")
 LOST = [("B", f"GET {MAPS}?watch=1", "200 "), ("A", f"DELETE {BINDING}", SOME), ("A", f"POST {MAPS} {MAP['a']}", SOME)]
 GROUPS = [(client, f"GET {MAPS.replace('configmaps', it)}", SOME if it in may else refused(user)) for it in ("configmaps", "secrets")

@@ -318,7 +318,7 @@ SERVERS = [
     Case("serve --answer 60001 60001=a", 3, "cannot listen 60001: the port is in use"),
 ]
 # With these words a server's list of namespaces is at a revision of this form.
-REVISIONS = {"": "5", "--first-revision 41": "46", "--first-revision 281474976710650": "281474976710655", "--first-revision clock": "1[0-9]{9}00005"}
+REVISIONS = {"": "5", "--first-revision 41": "46", "--first-revision 281474976710650": "281474976710655", "--first-revision clock": "1[0-9]{12}05"}
 
 
 def at_another_revision(program):

@@ -13,8 +13,8 @@ use Rattle.kapi_loading.specs.declared.starting.Started.{Started}
 
 -- the revision after which a server's begin: the one that was specified, else the clock's
 abbrev pub first_given : Option ℕ → ℕ → Option ℕ
-first_given (Some first) seconds = Some first
-first_given None seconds = clock_revision seconds
+first_given (Some first) milliseconds = Some first
+first_given None milliseconds = clock_revision milliseconds
 
 -- the machine that objects make beside those that every server begins with, or in their place
 abbrev pub machine_with : ℕ → Objects → Result Machine FileFault

@@ -27,6 +27,6 @@ readers_of s = number_of 2 1 16 s
 abbrev pub revision_of : List ℕ → Option ℕ
 revision_of s = number_of 15 0 281474976710650 s
 
--- the first revision by the clock: 100,000 for each second since the start of 1970, where that is such a revision
+-- the first revision by the clock: 100 for each millisecond since the start of 1970, where that is such a revision
 abbrev pub clock_revision : ℕ → Option ℕ
-clock_revision seconds = if nat_le (seconds * 100000) 281474976710650 then Some (seconds * 100000) else None
+clock_revision milliseconds = if nat_le (milliseconds * 100) 281474976710650 then Some (milliseconds * 100) else None

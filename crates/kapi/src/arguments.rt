@@ -152,7 +152,7 @@ FILE has one JSON object a line, namespaces first; empty lines and lines that be
 With --recheck-watches a watch ends with a 403 once the roles and bindings do not allow it any more; else its rights are looked at when
 it starts, and then no more.
 
-With --first-revision N the revisions begin after N, at most 281474976710650; with 'clock' after 100000 for each second since 1970, which
+With --first-revision N the revisions begin after N, at most 281474976710650; with 'clock' after 100 for each millisecond since 1970, which
 is above every revision of an earlier start, so clients that watched before a restart list anew instead of waiting or missing changes.
 
 With --answer, N threads answer questions while the server goes on, those of one client after the other: each line the spec of a

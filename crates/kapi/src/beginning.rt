@@ -19,14 +19,14 @@ pub enum BeginError {
 }
 
 /// The revision after which a server's begin: the one that was specified, else the clock's.
-pub fn first_of(first: Option<u64>, seconds: u64) -> Option<u64>
+pub fn first_of(first: Option<u64>, milliseconds: u64) -> Option<u64>
     requires first { IfSome first (λ n. n ≤ 281474976710650) }
-    ensures told { result ≡ first_given first seconds }
+    ensures told { result ≡ first_given first milliseconds }
     ensures small { IfSome result (λ n. n ≤ 281474976710650) }
 {
     match first {
         Some(first) => Some(first),
-        None => clock_revision(seconds),
+        None => clock_revision(milliseconds),
     }
 }
 
@@ -40,22 +40,22 @@ pub enum Objects<'a> {
 }
 
 /// The machine that objects make, whose revisions begin after `first`, or after the one that the clock gives so many
-/// seconds after the start of 1970.
+/// milliseconds after the start of 1970.
 pub fn begin<R: Wait>(
     alloc: Global,
     rt: &R,
     objects: Objects<'_>,
     first: Option<u64>,
-    seconds: u64,
+    milliseconds: u64,
     seats: usize,
 ) -> Result<Started, BeginError>
     requires first { IfSome first (λ n. n ≤ 281474976710650) }
     requires seats { (1 ≤ seats) × (seats ≤ 16) }
-    ensures machine { Begins result (first_given first seconds) (λ n. machine_with n objects.entry) }
+    ensures machine { Begins result (first_given first milliseconds) (λ n. machine_with n objects.entry) }
     ensures unopened { IfOk result (λ s. s.core.next_id ≡ 0) }
     ensures waiting { IfOk result (λ s. s.desk.waiting ≡ []) }
 {
-    let Some(first) = first_of(first, seconds) else {
+    let Some(first) = first_of(first, milliseconds) else {
         return Err(BeginError::Clock);
     };
     match start_with(alloc, rt, objects, first, seats) {

@@ -62,13 +62,13 @@ pub fn first_revision(digits: &str) -> Option<u64>
     number_within(digits, 15, 0, 281_474_976_710_650)
 }
 
-/// The revision after which those of a server begin that takes it from the clock, so many seconds after the start of
-/// 1970; none from the year 2059 on.
-pub fn clock_revision(seconds: u64) -> Option<u64>
-    ensures { result ≡ revision_of_clock seconds }
+/// The revision after which those of a server begin that takes it from the clock, so many milliseconds after the start
+/// of 1970; none from the year 2059 on.
+pub fn clock_revision(milliseconds: u64) -> Option<u64>
+    ensures { result ≡ revision_of_clock milliseconds }
 {
-    if seconds > 2_814_749_767 {
+    if milliseconds > 2_814_749_767_106 {
         return None;
     }
-    Some(seconds * 100_000)
+    Some(milliseconds * 100)
 }

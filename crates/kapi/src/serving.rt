@@ -66,17 +66,17 @@ pub fn run_serve<
         None => 1,
     };
     let first = options.first_revision;
-    let seconds = match first {
+    let milliseconds = match first {
         Some(_told) => 0,
-        None => rt.since_1970()?.as_secs(),
+        None => u64::try_from(rt.since_1970()?.as_millis()).unwrap_or(u64::MAX),
     };
-    match begin(rt.alloc(), rt, objects_of(&opening), first, seconds, seats) {
+    match begin(rt.alloc(), rt, objects_of(&opening), first, milliseconds, seats) {
         Ok(started) => {
             // The text of the file is not kept beside what was made of it.
             drop(opening);
             serve_ports(rt, started, options)
         }
-        Err(fault) => refuse_begin(rt, fault, first_of(first, seconds), &opening),
+        Err(fault) => refuse_begin(rt, fault, first_of(first, milliseconds), &opening),
     }
 }
 
