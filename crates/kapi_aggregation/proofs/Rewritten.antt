@@ -10,7 +10,7 @@ use Rattle.serde_json.specs.Find.{get}
 use Rattle.kapi_text.specs.Gives.{◌>>=◌}
 use Rattle.kapi_model.specs.declared.policy_rule.PolicyRule.{PolicyRule}
 use Rattle.kapi_object.proofs.Closed.{Closed, items_hold, members_hold, rule_tree_holds}
-use Rattle.kapi_object.proofs.Metadata.{in_object}
+use Rattle.kapi_object.proofs.SetTexts.{in_object}
 use Rattle.kapi_object.proofs.Puts.{list_round, put_other}
 use Rattle.kapi_object.specs.Contents.{aggregation_of, items_if, read_items, rule_of, rule_tree, rules_of, write_items}
 use Rattle.kapi_object.specs.Given.{given_of}

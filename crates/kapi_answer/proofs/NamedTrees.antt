@@ -14,7 +14,7 @@ use Rattle.kapi_answer.specs.declared.route.Part.{Part}
 use Rattle.kapi_answer.specs.declared.route.Part.TheVariants as part
 use Rattle.kapi_store.specs.Stamps.{metadata_text}
 use Rattle.kapi_store.specs.declared.key.Key.{Key}
-use Rattle.kapi_object.proofs.Metadata.{in_object, in_text}
+use Rattle.kapi_object.proofs.SetTexts.{in_object, in_text}
 use Rattle.kapi_watch.specs.Histories.{IsNamedBy}
 use Rattle.kapi_answer.specs.Create.{with_namespace_on, in_namespace, in_place, key_of, without_status}
 use Rattle.kapi_answer.specs.Update.{keeping_status, replacing}

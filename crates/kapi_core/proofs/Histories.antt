@@ -29,7 +29,7 @@ use Rattle.kapi_store.specs.Plain.{Plain, PlainChange, creation, trees_left_by, 
 use Rattle.kapi_store.specs.declared.key.Key.{Key}
 use Rattle.kapi_watch.proofs.Histories.{AreNext, counted_goes_on, creation_is_next, next_none, no_change, removal_is_next, replacement_is_next}
 use Rattle.kapi_watch.proofs.Lists.{Keeps, history_keeps, standing_is_named}
-use Rattle.kapi_object.proofs.Metadata.{in_object}
+use Rattle.kapi_object.proofs.SetTexts.{in_object}
 use Rattle.kapi_watch.specs.Histories.{IsHistory, IsNamedBy, IsReplacement}
 use Rattle.kapi_watch.specs.Lists.{objects_after}
 use Rattle.kapi_core.proofs.Effects.{FaultKind, Effect, effect}

@@ -15,7 +15,7 @@ use Rattle.serde_json.specs.View.{view, members_view}
 use Rattle.serde_json.specs.declared.value.Value.{Value}
 use Rattle.kapi_model.specs.declared.row.ResourceRow.{ResourceRow}
 use Rattle.kapi_object.proofs.Closed.{metadata_hold}
-use Rattle.kapi_object.proofs.Metadata.{in_members}
+use Rattle.kapi_object.proofs.SetTexts.{in_members}
 use Rattle.kapi_object.proofs.Ordered.{key_first, keys_in_order, none_found, others_in_order, precedes_too}
 use Rattle.kapi_object.specs.Order.{in_order, is_ordered, precedes}
 use Rattle.kapi_object.specs.Tree.{in_metadata, is_empty_object, metadata_member, metadata_of, unless_null}

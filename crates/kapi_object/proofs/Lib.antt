@@ -5,7 +5,7 @@ pub mod Ordered
 pub mod Bodies
 pub mod Lists
 pub mod Puts
-pub mod Metadata
+pub mod SetTexts
 pub mod Removal
 pub mod Written
 pub mod Fields

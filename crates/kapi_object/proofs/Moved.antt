@@ -5,7 +5,7 @@ use Rattle.serde_json.specs.Data.{Data, string, object, Members, put}
 use Rattle.serde_json.specs.Find.{get_member}
 use Rattle.kapi_model.specs.declared.row.Schema.{Schema}
 use Rattle.kapi_model.specs.declared.row.Schema.TheVariants.{Open, Role, ClusterRole, RoleBinding, ClusterRoleBinding}
-use Rattle.kapi_object.proofs.Metadata.{in_object}
+use Rattle.kapi_object.proofs.SetTexts.{in_object}
 use Rattle.kapi_object.proofs.Ordered.{keys_in_order}
 use Rattle.kapi_object.proofs.Removal.{get_without, members_are_in_order, put_back, put_without}
 use Rattle.kapi_object.specs.Contents.{aggregation_of, binding_content, cluster_role_content, content_of, items_if, read_items, role_content, role_ref_if, role_ref_of, rule_of, subject_of, subjects_of}

@@ -3,7 +3,7 @@ use Rattle.std.proofs.Common.{◌≡◌, ◌∙◌, ℕ, List, false, bytes_eq, 
 use Rattle.std.specs.Option.{option_and_then, option_map}
 use Rattle.serde_json.specs.Data.{Data, object}
 use Rattle.serde_json.specs.Find.{get}
-use Rattle.kapi_object.proofs.Metadata.{beside_metadata, in_text}
+use Rattle.kapi_object.proofs.SetTexts.{beside_metadata, in_text}
 use Rattle.kapi_object.specs.Contents.{aggregation_in, aggregation_of, items_if, read_items, role_ref_if, role_ref_of, rule_of, rules_of, subject_of, subjects_of}
 use Rattle.kapi_object.specs.Object.{stamped_tree}
 use Rattle.kapi_object.specs.Tree.{in_metadata, unless_null, with_text}

@@ -11,7 +11,7 @@ use Rattle.serde_json.specs.Data.{Data, null, boolean, number, string, array, ob
 use Rattle.serde_json.specs.Find.{as_str, get_member}
 use Rattle.kapi_model.specs.Selector.{label_in, value_in}
 use Rattle.kapi_object.proofs.Closed.{found_hold, in_metadata_holds}
-use Rattle.kapi_object.proofs.Metadata.{in_members}
+use Rattle.kapi_object.proofs.SetTexts.{in_members}
 use Rattle.kapi_object.proofs.Ordered.{key_first, keys_in_order, none_found, others_in_order, was_read_ordered}
 use Rattle.kapi_object.specs.Order.{in_order, is_ordered, precedes}
 use Rattle.kapi_object.specs.Tree.{in_metadata, members_or_none}

@@ -9,7 +9,7 @@ use Rattle.serde_json.proofs.Views.{get_member-put}
 use Rattle.serde_json.specs.Data.{Data, string, object, Members, no_members, member, put}
 use Rattle.serde_json.specs.Find.{get_member}
 use Rattle.kapi_object.proofs.Closed.{with_text_holds}
-use Rattle.kapi_object.proofs.Metadata.{text_set_again}
+use Rattle.kapi_object.proofs.SetTexts.{text_set_again}
 use Rattle.kapi_object.proofs.Ordered.{keys_in_order}
 use Rattle.kapi_object.specs.Object.{stamped_tree}
 use Rattle.kapi_object.specs.Order.{is_ordered}

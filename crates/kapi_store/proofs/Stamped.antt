@@ -3,7 +3,7 @@ use Rattle.std.proofs.Common.{◌≡◌, ◌∙◌, ℕ, List, Some, refl, ap, c
 use Rattle.std.specs.Option.{option_and_then}
 use Rattle.serde_json.specs.Data.{Data}
 use Rattle.serde_json.specs.Find.{as_str}
-use Rattle.kapi_object.proofs.Metadata.{in_text, text_set}
+use Rattle.kapi_object.proofs.SetTexts.{in_text, text_set}
 use Rattle.kapi_object.specs.Object.{stamped_tree}
 use Rattle.kapi_object.specs.Tree.{in_metadata, with_text}
 use Rattle.kapi_store.specs.Stamps.{uid_in, version_in, with_stamps_of}

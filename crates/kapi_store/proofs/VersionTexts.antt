@@ -11,7 +11,7 @@ use Rattle.json.specs.Print.{escape_byte, quoted}
 use Rattle.serde_json.specs.Data.{Data, null, boolean, number, string, array, object, Members, no_members, member}
 use Rattle.serde_json.specs.Find.{as_str, get_member}
 use Rattle.serde_json.specs.Written.{comma_if, compact_text, members_text}
-use Rattle.kapi_object.proofs.Metadata.{text_set_again}
+use Rattle.kapi_object.proofs.SetTexts.{text_set_again}
 use Rattle.kapi_object.proofs.Ordered.{key_first, none_found, others_in_order, precedes_too}
 use Rattle.kapi_object.specs.Order.{in_order, is_ordered, precedes}
 use Rattle.kapi_object.specs.Tree.{in_metadata}

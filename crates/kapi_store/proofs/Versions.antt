@@ -10,7 +10,7 @@ use Rattle.std.specs.Ordering.{nat_cmp, match_ordering, is_eq, is_lt}
 use Rattle.std.specs.declared.cmp.Ordering.TheVariants.{Less, Equal, Greater}
 use Rattle.serde_json.specs.Data.{Data, null, boolean, number, string, array, object, Members, no_members, member, put}
 use Rattle.serde_json.specs.Find.{as_str, get, get_member}
-use Rattle.kapi_object.proofs.Metadata.{text_set_again}
+use Rattle.kapi_object.proofs.SetTexts.{text_set_again}
 use Rattle.kapi_object.proofs.Ordered.{is_less, key_first, none_found, others_in_order, precedes_too}
 use Rattle.kapi_object.specs.Object.{stamped_tree}
 use Rattle.kapi_object.specs.Order.{in_order, is_ordered, precedes}

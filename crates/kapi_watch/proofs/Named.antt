@@ -10,7 +10,7 @@ use Rattle.std.proofs.lemmas.Slice.Eq.{bytes_eq-Decides}
 use Rattle.serde_json.specs.Data.{Data, string, object, Members, no_members, member}
 use Rattle.serde_json.specs.Find.{as_str, get, get_member}
 use Rattle.kapi_model.specs.Selector.{matches}
-use Rattle.kapi_object.proofs.Metadata.{in_text}
+use Rattle.kapi_object.proofs.SetTexts.{in_text}
 use Rattle.kapi_object.specs.Object.{stamped_tree}
 use Rattle.kapi_object.specs.Tree.{in_metadata, with_text}
 use Rattle.kapi_store.specs.Gone.{at_version, changed_at, with_changed}

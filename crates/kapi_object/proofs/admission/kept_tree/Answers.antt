@@ -8,7 +8,7 @@ use Rattle.kapi_object.proofs.KeptMembers.{members_kept}
 use Rattle.kapi_object.proofs.Moved.{content_beside}
 use Rattle.kapi_object.specs.Admission.{filled, kept_metadata, kept_tree, version_of}
 use Rattle.kapi_object.specs.Private.Kept.{kept_members}
-use Rattle.kapi_object.proofs.Metadata.{in_object}
+use Rattle.kapi_object.proofs.SetTexts.{in_object}
 use Rattle.kapi_object.specs.Contents.{content_of}
 use Rattle.kapi_object.specs.Tree.{members_or_none, metadata_of, without}
 use Rattle.kapi_object.proofs.admission.kept_tree.Goals as goal

@@ -6,7 +6,7 @@ use Rattle.serde_json.specs.View.{view, members_view}
 use Rattle.serde_json.specs.declared.value.Value.{the_lemmas}
 use Rattle.serde_json.specs.declared.value.Value.TheVariants.{Null}
 use Rattle.kapi_object.proofs.Closed.{metadata_hold}
-use Rattle.kapi_object.proofs.Metadata.{in_object}
+use Rattle.kapi_object.proofs.SetTexts.{in_object}
 use Rattle.kapi_object.proofs.Ordered.{keys_in_order}
 use Rattle.kapi_object.proofs.Puts.{members_view_set, place_found}
 use Rattle.kapi_object.proofs.Removal.{members_are_in_order}

@@ -1,7 +1,7 @@
 use Rattle.std.proofs.Common.{◌≡◌, Some, rules, sym}
 use Rattle.serde_json.specs.Data.{Data, string}
 use Rattle.serde_json.specs.View.{view}
-use Rattle.kapi_object.proofs.Metadata.{text_set_again}
+use Rattle.kapi_object.proofs.SetTexts.{text_set_again}
 use Rattle.kapi_object.specs.Tree.{in_metadata}
 use Rattle.kapi_object.proofs.object.Object.with_copied_text.Goals as goal
 
