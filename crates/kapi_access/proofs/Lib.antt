@@ -9,3 +9,8 @@ pub mod Reported
 pub mod Alike
 pub mod Unprivileged
 pub mod Walks
+pub mod Ties
+pub mod Rights
+pub mod Idle
+pub mod Joined
+pub mod Lists

@@ -1,7 +1,7 @@
--- Who is unprivileged is who is not listed.
-use Rattle.std.proofs.Common.{◌≡◌, ◌⊎◌, inl, inr, ℕ, Bool, true, false, ◌&&◌, ◌||◌, List, [], ◌∷◌, length, refl, sym, subst, codes, ◌∙◌}
+-- Who may do nothing risky is who is not listed.
+use Rattle.std.proofs.Common.{◌≡◌, ◌⊎◌, inl, inr, ℕ, Bool, true, false, ◌&&◌, ◌||◌, ◌==◌, if◌then◌else◌, List, [], ◌∷◌, ◌++◌, length, refl, sym, ap, subst, codes, ◌∙◌}
 use Rattle.std.proofs.Math.Dec.{eqb-suc-zero}
-use Rattle.std.proofs.lemmas.Bool.{and_parts, or_cases, or_left, or_right, or_parts, false_from_ne_true, and_from}
+use Rattle.std.proofs.lemmas.Bool.{and_parts, or_cases, or_left, or_right, or_parts, eqb-true, false_from_ne_true, and_from}
 use Rattle.std.specs.List.{list_any}
 use Rattle.std.specs.Option.{unwrap_or}
 use Rattle.std.specs.Str.{bytes_eq}
@@ -12,9 +12,10 @@ use Rattle.kapi_model.specs.declared.policy_rule.PolicyRule.{PolicyRule}
 use Rattle.kapi_model.specs.declared.role_ref.RoleRef.{RoleRef}
 use Rattle.kapi_model.specs.Identities.{is_master}
 use Rattle.kapi_model.specs.declared.identity.Identity.{Identity}
-use Rattle.kapi_rules.proofs.Covers.{itself}
+use Rattle.kapi_rules.proofs.Covers.{itself, same}
+use Rattle.kapi_rules.proofs.Law.{any_weaker}
 use Rattle.kapi_rules.proofs.Parts.{any_flat_map}
-use Rattle.kapi_rules.specs.Entries.{names_match, resource_matches, star, url_matches, word_matches}
+use Rattle.kapi_rules.specs.Entries.{names_match, resource_matches, star, word_matches}
 use Rattle.kapi_rules.specs.Rules.{allows}
 use Rattle.kapi_rules.specs.declared.point.Point.{Point}
 use Rattle.kapi_rules.specs.declared.point.Point.TheVariants as point
@@ -26,31 +27,86 @@ use Rattle.kapi_access.proofs.Held.{may_by, rule_of_may}
 use Rattle.kapi_gains.proofs.Elements.{has_part, part_of, passing}
 use Rattle.kapi_aggregation.proofs.Lists.{some_at}
 use Rattle.kapi_access.specs.Grantees.{matches}
-use Rattle.kapi_access.specs.Risks.{has_some, has_word, is_risky, lets_impersonate, lets_on_roles, risks}
-use Rattle.kapi_gains.proofs.Law.{nobody_gains}
-use Rattle.kapi_gains.specs.Access.{GivesNothing, IsUnprivileged, may, verb_of}
-use Rattle.kapi_gains.specs.States.{IsSettled, PolicyState}
-use Rattle.kapi_gains.specs.Steps.{AreBy, PolicyStep, Runs}
-use Rattle.kapi_policy.specs.Laws.{IsInOrder}
+use Rattle.kapi_access.specs.Risks.{authentication_group, goes_on_after, has_word, impersonating_detail, is_about_details, is_about_users, is_risky, IsImpersonation, IsWithoutRisk, lets_impersonate, lets_on_roles, matches_extra, risks}
+use Rattle.kapi_gains.specs.Access.{IsUnprivileged, may, verb_of}
 use Rattle.kapi_guard.specs.Exempt.{binding, escalating, role_point}
+use Rattle.kapi_guard.specs.Impersonation.{impersonating}
 use Rattle.kapi_aggregation.specs.Members.{Has}
 use Rattle.kapi_access.specs.Who.{Way, is_named, ways, ways_of}
 use Rattle.kapi_access.proofs.First.{first_named}
 
--- what nobody unprivileged may do
+-- what is risky
 pub data Danger : Point → Type 0 where
   escalates : (kind : RoleKind) (name : List ℕ) → Danger (escalating kind name)
   binds : (role : RoleRef) → Danger (binding role)
-  impersonates : (p : Point) → verb_of p ≡ codes "impersonate" → Danger p
+  impersonates : (p : Point) → IsImpersonation p → Danger p
 
 -- ---- a risky rule allows something dangerous
 
-some_entry : (entries : List (List ℕ)) → has_some entries ≡ true → (e : List ℕ) × Has entries e
-some_entry [] h = absurd (cc h)
-some_entry (e ∷ entries) h = (e, inl refl)
+-- what goes on after a text has it in front, and more
+longer : (start text : List ℕ) → goes_on_after start text ≡ true → (b : ℕ) × ((more : List ℕ) × (text ≡ start ++ b ∷ more))
+longer [] [] h = absurd (cc h)
+longer [] (b ∷ text) h = (b, (text, refl))
+longer (a ∷ start) [] h = absurd (cc h)
+longer (a ∷ start) (b ∷ text) h =
+    let parts = and_parts (a == b) (goes_on_after start text) h in
+    let rest = longer start text parts.1 in
+    (rest.0, (rest.1.0, ap (λ (c : ℕ). c ∷ text) (sym (eqb-true a b parts.0)) ∙ ap (λ (t : List ℕ). a ∷ t) rest.1.1))
 
-has_itself : (entries : List (List ℕ)) (e : List ℕ) → Has entries e → list_any (λ x. word_matches x e) entries ≡ true
-has_itself entries e has = some_at (λ x. word_matches x e) entries e has (or_right (bytes_eq e star) (bytes_eq e e) (itself e))
+-- an entry that matches an extra field
+abbrev own_field : List ℕ → Bool
+own_field entry = goes_on_after (codes "userextras/") entry
+
+abbrev any_field : List ℕ → Bool
+any_field entry = goes_on_after (codes "*/") entry
+
+extra_field : (entry : List ℕ) → matches_extra entry ≡ true → (field : List ℕ) × (resource_matches entry (codes "userextras") field ≡ true)
+extra_field entry h = by_case (or_cases (word_matches entry (codes "userextras")) (own_field entry || any_field entry) h)
+  where
+    sub : (b : ℕ) (more : List ℕ) → (word_matches entry (codes "userextras/" ++ b ∷ more) || bytes_eq entry (codes "*/" ++ b ∷ more)) ≡ true
+        → resource_matches entry (codes "userextras") (b ∷ more) ≡ true
+    sub b more k = rw (eqb-suc-zero (length more)) k
+
+    by_start : (goes_on_after (codes "userextras/") entry ≡ true) ⊎ (goes_on_after (codes "*/") entry ≡ true) → (field : List ℕ) × (resource_matches entry (codes "userextras") field ≡ true)
+    by_start (inl own) =
+        let rest = longer (codes "userextras/") entry own in
+        let whole : List ℕ = codes "userextras/" ++ rest.0 ∷ rest.1.0 in (
+          rest.0 ∷ rest.1.0,
+          sub rest.0 rest.1.0 (or_left (word_matches entry whole) (bytes_eq entry (codes "*/" ++ rest.0 ∷ rest.1.0)) (or_right (bytes_eq entry star) (bytes_eq entry whole) (subst (λ (e : List ℕ). bytes_eq e whole ≡ true) (sym rest.1.1) (itself whole)))),
+        )
+    by_start (inr any) =
+        let rest = longer (codes "*/") entry any in
+        let whole : List ℕ = codes "*/" ++ rest.0 ∷ rest.1.0 in (
+          rest.0 ∷ rest.1.0,
+          sub rest.0 rest.1.0 (or_right (word_matches entry (codes "userextras/" ++ rest.0 ∷ rest.1.0)) (bytes_eq entry whole) (subst (λ (e : List ℕ). bytes_eq e whole ≡ true) (sym rest.1.1) (itself whole))),
+        )
+
+    by_case : (word_matches entry (codes "userextras") ≡ true) ⊎ ((goes_on_after (codes "userextras/") entry || goes_on_after (codes "*/") entry) ≡ true)
+        → (field : List ℕ) × (resource_matches entry (codes "userextras") field ≡ true)
+    by_case (inl word) = ([], word)
+    by_case (inr starts) = by_start (or_cases (goes_on_after (codes "userextras/") entry) (goes_on_after (codes "*/") entry) starts)
+
+field_extra : (field entry : List ℕ) → resource_matches entry (codes "userextras") field ≡ true → matches_extra entry ≡ true
+field_extra [] entry h = or_left (word_matches entry (codes "userextras")) (own_field entry || any_field entry) h
+field_extra (b ∷ more) entry h =
+    by_case (or_cases (word_matches entry own) (bytes_eq entry any) (subst (λ (t : Bool). (if t then word_matches entry (codes "userextras") else word_matches entry own || bytes_eq entry any) ≡ true) (eqb-suc-zero (length more)) h))
+  where
+    own : List ℕ
+    own = codes "userextras/" ++ b ∷ more
+
+    any : List ℕ
+    any = codes "*/" ++ b ∷ more
+
+    by_word : (bytes_eq entry star ≡ true) ⊎ (bytes_eq entry own ≡ true) → matches_extra entry ≡ true
+    by_word (inl all) =
+        or_left (word_matches entry (codes "userextras")) (own_field entry || any_field entry) (or_left (bytes_eq entry star) (bytes_eq entry (codes "userextras")) all)
+    by_word (inr is) =
+        or_right (word_matches entry (codes "userextras")) (own_field entry || any_field entry) (or_left (own_field entry) (any_field entry) (subst (λ (e : List ℕ). goes_on_after (codes "userextras/") e ≡ true) (sym (same entry own is)) refl))
+
+    by_case : (word_matches entry own ≡ true) ⊎ (bytes_eq entry any ≡ true) → matches_extra entry ≡ true
+    by_case (inl word) = by_word (or_cases (bytes_eq entry star) (bytes_eq entry own) word)
+    by_case (inr is) =
+        or_right (word_matches entry (codes "userextras")) (own_field entry || any_field entry) (or_right (own_field entry) (any_field entry) (subst (λ (e : List ℕ). goes_on_after (codes "*/") e ≡ true) (sym (same entry any is)) refl))
 
 some_name : (listed : List (List ℕ)) → (name : List ℕ) × (names_match listed name ≡ true)
 some_name [] = ([], refl)
@@ -59,25 +115,51 @@ some_name (n ∷ listed) = (n, or_right _ _ (or_left (bytes_eq n n) _ (itself n)
 DangerBy : PolicyRule → Type 0
 DangerBy rule = (p : Point) × (Danger p × (allows rule p ≡ true))
 
-impersonating : (rule : PolicyRule) → lets_impersonate rule ≡ true → DangerBy rule
-unfolding DangerBy
-impersonating rule h = by_lists (or_cases (has_some rule.api_groups && has_some rule.resources) (has_some rule.non_resource_urls) parts.1)
-  where
-    parts : (has_word rule.verbs (codes "impersonate") ≡ true) × (((has_some rule.api_groups && has_some rule.resources) || has_some rule.non_resource_urls) ≡ true)
-    parts = and_parts _ _ h
+-- a rule with that resource, in a group that it lists
+on_resource : (rule : PolicyRule) (group resource : List ℕ) → has_word rule.verbs (codes "impersonate") ≡ true → has_word rule.api_groups group ≡ true → has_word rule.resources resource ≡ true
+    → allows rule (point.Resource (record { verb = codes "impersonate"; group = group; resource = resource; subresource = []; name = (some_name rule.resource_names).0 })) ≡ true
+on_resource rule group resource verb there is = and_from _ _ verb (and_from _ _ there (and_from _ _ is (some_name rule.resource_names).1))
 
-    by_lists : ((has_some rule.api_groups && has_some rule.resources) ≡ true) ⊎ (has_some rule.non_resource_urls ≡ true) → (p : Point) × (Danger p × (allows rule p ≡ true))
-    by_lists (inl lists) =
-        let two = and_parts _ _ lists in
-        let group = some_entry rule.api_groups two.0 in
-        let resource = some_entry rule.resources two.1 in
-        let name = some_name rule.resource_names in
-        let p : Point = point.Resource (record { verb = codes "impersonate"; group = group.0; resource = resource.0; subresource = []; name = name.0 }) in
-        (p, (Danger.impersonates p refl, and_from _ _ parts.0 (and_from _ _ (has_itself rule.api_groups group.0 group.1) (and_from _ _ (has_itself rule.resources resource.0 resource.1) name.1))))
-    by_lists (inr some) =
-        let url = some_entry rule.non_resource_urls some in
-        let p : Point = point.Url (record { verb = codes "impersonate"; path = url.0 }) in
-        (p, (Danger.impersonates p refl, and_from _ _ parts.0 (some_at (λ x. url_matches x url.0) rule.non_resource_urls url.0 url.1 (or_left (bytes_eq url.0 url.0) _ (itself url.0)))))
+acting : (rule : PolicyRule) → lets_impersonate rule ≡ true → DangerBy rule
+unfolding DangerBy
+acting rule h = by_group (or_cases (is_about_users rule) (is_about_details rule) parts.1)
+  where
+    parts : (has_word rule.verbs (codes "impersonate") ≡ true) × ((is_about_users rule || is_about_details rule) ≡ true)
+    parts = and_parts (has_word rule.verbs (codes "impersonate")) (is_about_users rule || is_about_details rule) h
+
+    name : (name : List ℕ) × (names_match rule.resource_names name ≡ true)
+    name = some_name rule.resource_names
+
+    of_core : has_word rule.api_groups [] ≡ true → (has_word rule.resources (codes "users") ≡ true) ⊎ ((has_word rule.resources (codes "groups") || has_word rule.resources (codes "serviceaccounts")) ≡ true)
+        → (p : Point) × (Danger p × (allows rule p ≡ true))
+    of_core group (inl users) = (impersonating (codes "users") name.0, (Danger.impersonates _ (IsImpersonation.of_user name.0), on_resource rule [] (codes "users") parts.0 group users))
+    of_core group (inr more) = by_resource (or_cases (has_word rule.resources (codes "groups")) (has_word rule.resources (codes "serviceaccounts")) more)
+      where
+        by_resource : (has_word rule.resources (codes "groups") ≡ true) ⊎ (has_word rule.resources (codes "serviceaccounts") ≡ true) → (p : Point) × (Danger p × (allows rule p ≡ true))
+        by_resource (inl groups) = (impersonating (codes "groups") name.0, (Danger.impersonates _ (IsImpersonation.of_group name.0), on_resource rule [] (codes "groups") parts.0 group groups))
+        by_resource (inr accounts) =
+            (impersonating (codes "serviceaccounts") name.0, (Danger.impersonates _ (IsImpersonation.of_account name.0), on_resource rule [] (codes "serviceaccounts") parts.0 group accounts))
+
+    of_details : has_word rule.api_groups authentication_group ≡ true → (has_word rule.resources (codes "uids") ≡ true) ⊎ (list_any matches_extra rule.resources ≡ true) → (p : Point) × (Danger p × (allows rule p ≡ true))
+    of_details group (inl uids) =
+        (impersonating_detail (codes "uids") [] name.0, (Danger.impersonates _ (IsImpersonation.of_uid name.0), on_resource rule authentication_group (codes "uids") parts.0 group uids))
+    of_details group (inr extras) =
+        let entry = passing matches_extra rule.resources extras in
+        let field = extra_field entry.0 entry.1.1 in (
+          impersonating_detail (codes "userextras") field.0 name.0,
+          (
+            Danger.impersonates _ (IsImpersonation.of_extra field.0 name.0),
+            and_from _ _ parts.0 (and_from _ _ group (and_from _ _ (some_at (λ e. resource_matches e (codes "userextras") field.0) rule.resources entry.0 entry.1.0 field.1) name.1)),
+          ),
+        )
+
+    by_group : (is_about_users rule ≡ true) ⊎ (is_about_details rule ≡ true) → (p : Point) × (Danger p × (allows rule p ≡ true))
+    by_group (inl users) =
+        let others : Bool = has_word rule.resources (codes "groups") || has_word rule.resources (codes "serviceaccounts") in
+        let two = and_parts (has_word rule.api_groups []) (has_word rule.resources (codes "users") || others) users in of_core two.0 (or_cases (has_word rule.resources (codes "users")) others two.1)
+    by_group (inr details) =
+        let two = and_parts (has_word rule.api_groups authentication_group) (has_word rule.resources (codes "uids") || list_any matches_extra rule.resources) details in
+        of_details two.0 (or_cases (has_word rule.resources (codes "uids")) (list_any matches_extra rule.resources) two.1)
 
 on_roles : (verb : List ℕ) (rule : PolicyRule) → lets_on_roles verb rule ≡ true → (kind : RoleKind) × ((name : List ℕ) × (allows rule (role_point verb kind name) ≡ true))
 on_roles verb rule h = by_kind (or_cases (has_word rule.resources (codes "roles")) (has_word rule.resources (codes "clusterroles")) more.1)
@@ -106,14 +188,10 @@ risky_allows rule h = by_first (or_cases (lets_impersonate rule) (lets_on_roles 
         let role : RoleRef = record { kind = at.0; name = at.1.0 } in (binding role, (Danger.binds role, at.1.1))
 
     by_first : (lets_impersonate rule ≡ true) ⊎ ((lets_on_roles (codes "escalate") rule || lets_on_roles (codes "bind") rule) ≡ true) → (p : Point) × (Danger p × (allows rule p ≡ true))
-    by_first (inl impersonate) = impersonating rule impersonate
+    by_first (inl impersonate) = acting rule impersonate
     by_first (inr others) = by_verb (or_cases (lets_on_roles (codes "escalate") rule) (lets_on_roles (codes "bind") rule) others)
 
 -- ---- a rule that allows something dangerous is risky
-
-some_of : (test : List ℕ → Bool) (entries : List (List ℕ)) → list_any test entries ≡ true → has_some entries ≡ true
-some_of test [] h = absurd (cc h)
-some_of test (e ∷ entries) h = rw (eqb-suc-zero (length entries)) refl
 
 lets_role : (verb : List ℕ) (kind : RoleKind) (name : List ℕ) (rule : PolicyRule) → allows rule (role_point verb kind name) ≡ true → lets_on_roles verb rule ≡ true
 lets_role verb role_kind.Role name rule h =
@@ -127,18 +205,47 @@ lets_role verb role_kind.ClusterRole name rule h =
     let three = and_parts _ _ two.1 in
     and_from _ _ one.0 (and_from _ _ two.0 (or_right (has_word rule.resources (codes "roles")) (has_word rule.resources (codes "clusterroles")) three.0))
 
-lets_act : (p : Point) (rule : PolicyRule) → verb_of p ≡ codes "impersonate" → allows rule p ≡ true → lets_impersonate rule ≡ true
-lets_act (point.Resource p) rule verb h =
-    let one = and_parts _ _ h in
-    let two = and_parts _ _ one.1 in
-    let three = and_parts _ _ two.1 in
-    and_from _ _ (subst (λ v. list_any (λ e. word_matches e v) rule.verbs ≡ true) verb one.0)
-    (or_left (has_some rule.api_groups && has_some rule.resources) (has_some rule.non_resource_urls)
-    (and_from _ _ (some_of (λ e. word_matches e p.group) rule.api_groups two.0) (some_of (λ e. resource_matches e p.resource p.subresource) rule.resources three.0)))
-lets_act (point.Url p) rule verb h =
-    let one = and_parts _ _ h in
-    and_from _ _ (subst (λ v. list_any (λ e. word_matches e v) rule.verbs ≡ true) verb one.0)
-    (or_right (has_some rule.api_groups && has_some rule.resources) (has_some rule.non_resource_urls) (some_of (λ e. url_matches e p.path) rule.non_resource_urls one.1))
+module _ (rule : PolicyRule) where
+  abbrev has_users : Bool
+  has_users = has_word rule.resources (codes "users")
+
+  abbrev has_groups : Bool
+  has_groups = has_word rule.resources (codes "groups")
+
+  abbrev has_accounts : Bool
+  has_accounts = has_word rule.resources (codes "serviceaccounts")
+
+  abbrev has_uids : Bool
+  has_uids = has_word rule.resources (codes "uids")
+
+  abbrev has_extras : Bool
+  has_extras = list_any matches_extra rule.resources
+
+  about_users : (resource name : List ℕ) → (has_word rule.resources resource ≡ true → (has_users || (has_groups || has_accounts)) ≡ true) → allows rule (impersonating resource name) ≡ true → lets_impersonate rule ≡ true
+  about_users resource name is h =
+      let one = and_parts _ _ h in
+      let two = and_parts _ _ one.1 in
+      let three = and_parts _ _ two.1 in
+      and_from (has_word rule.verbs (codes "impersonate")) (is_about_users rule || is_about_details rule) one.0
+      (or_left (is_about_users rule) (is_about_details rule) (and_from (has_word rule.api_groups []) (has_users || (has_groups || has_accounts)) two.0 (is three.0)))
+
+  about_details : (resource field value : List ℕ) → (list_any (λ e. resource_matches e resource field) rule.resources ≡ true → (has_uids || has_extras) ≡ true)
+      → allows rule (impersonating_detail resource field value) ≡ true → lets_impersonate rule ≡ true
+  about_details resource field value is h =
+      let one = and_parts _ _ h in
+      let two = and_parts _ _ one.1 in
+      let three = and_parts _ _ two.1 in
+      and_from (has_word rule.verbs (codes "impersonate")) (is_about_users rule || is_about_details rule) one.0
+      (or_right (is_about_users rule) (is_about_details rule) (and_from (has_word rule.api_groups authentication_group) (has_uids || has_extras) two.0 (is three.0)))
+
+  lets_act : (p : Point) → IsImpersonation p → allows rule p ≡ true → lets_impersonate rule ≡ true
+  lets_act p (IsImpersonation.of_user name) h = about_users (codes "users") name (λ is. or_left has_users (has_groups || has_accounts) is) h
+  lets_act p (IsImpersonation.of_group name) h = about_users (codes "groups") name (λ is. or_right has_users (has_groups || has_accounts) (or_left has_groups has_accounts is)) h
+  lets_act p (IsImpersonation.of_account name) h = about_users (codes "serviceaccounts") name (λ is. or_right has_users (has_groups || has_accounts) (or_right has_groups has_accounts is)) h
+  lets_act p (IsImpersonation.of_uid name) h = about_details (codes "uids") [] name (λ is. or_left has_uids has_extras is) h
+  lets_act p (IsImpersonation.of_extra field value) h =
+      about_details (codes "userextras") field value
+      (λ is. or_right has_uids has_extras (any_weaker (λ e. resource_matches e (codes "userextras") field) matches_extra rule.resources (field_extra field) is)) h
 
 allowing_is_risky : (p : Point) (rule : PolicyRule) → Danger p → allows rule p ≡ true → is_risky rule ≡ true
 unfolding is_risky
@@ -146,15 +253,15 @@ allowing_is_risky p rule (Danger.escalates kind name) h =
     or_right (lets_impersonate rule) _ (or_left (lets_on_roles (codes "escalate") rule) (lets_on_roles (codes "bind") rule) (lets_role (codes "escalate") kind name rule h))
 allowing_is_risky p rule (Danger.binds role) h =
     or_right (lets_impersonate rule) _ (or_right (lets_on_roles (codes "escalate") rule) (lets_on_roles (codes "bind") rule) (lets_role (codes "bind") role.kind role.name rule h))
-allowing_is_risky p rule (Danger.impersonates q verb) h = or_left (lets_impersonate rule) _ (lets_act p rule verb h)
+allowing_is_risky p rule (Danger.impersonates q asked) h = or_left (lets_impersonate rule) _ (lets_act rule p asked h)
 
 -- ---- who is listed
 
 module _ (objects : PolicyObjects) (identity : Identity) where
-  never : IsUnprivileged objects identity → (namespace : List ℕ) (p : Point) → Danger p → may objects identity namespace p ≡ false
-  never unprivileged namespace p (Danger.escalates kind name) = unprivileged.no_escalate namespace kind name
-  never unprivileged namespace p (Danger.binds role) = unprivileged.no_bind namespace role
-  never unprivileged namespace p (Danger.impersonates q verb) = unprivileged.no_impersonate namespace p verb
+  never : IsWithoutRisk objects identity → (namespace : List ℕ) (p : Point) → Danger p → may objects identity namespace p ≡ false
+  never riskless namespace p (Danger.escalates kind name) = riskless.no_escalate namespace kind name
+  never riskless namespace p (Danger.binds role) = riskless.no_bind namespace role
+  never riskless namespace p (Danger.impersonates q asked) = riskless.no_impersonate namespace p asked
 
   abbrev named_at : Binding → Bool
   named_at b = is_named (ways_of objects is_risky b) identity
@@ -188,15 +295,15 @@ module _ (objects : PolicyObjects) (identity : Identity) where
       listed_at ∙ some_at named_at (all_bindings objects) b.0 (counted objects namespace b.0 b.1.0)
       (sym (given_named objects identity is_risky b.0) ∙ some_at is_risky (unwrap_or (given objects identity b.0) []) rule.0 b.1.1 (allowing_is_risky p rule.0 danger rule.1.1))
 
-  pub unprivileged_is_unlisted : IsUnprivileged objects identity → (is_master identity || is_named (risks objects) identity) ≡ false
-  unprivileged_is_unlisted unprivileged =
-      rw unprivileged.no_master (false_from_ne_true _ (λ named.
+  pub riskless_is_unlisted : IsWithoutRisk objects identity → (is_master identity || is_named (risks objects) identity) ≡ false
+  riskless_is_unlisted riskless =
+      rw riskless.no_master (false_from_ne_true _ (λ named.
       let b = passing named_at (all_bindings objects) (sym listed_at ∙ named) in
       let danger = named_may b.0 b.1.0 b.1.1 in
-      absurd (let not_so = never unprivileged b.0.namespace danger.0 danger.1.0 in let so = danger.1.1 in cc)))
+      absurd (let not_so = never riskless b.0.namespace danger.0 danger.1.0 in let so = danger.1.1 in cc)))
 
-  pub unlisted_is_unprivileged : (is_master identity || is_named (risks objects) identity) ≡ false → IsUnprivileged objects identity
-  unlisted_is_unprivileged unlisted =
+  pub unlisted_is_riskless : (is_master identity || is_named (risks objects) identity) ≡ false → IsWithoutRisk objects identity
+  unlisted_is_riskless unlisted =
       let parts = or_parts (is_master identity) (is_named (risks objects) identity) unlisted in
       let none : (namespace : List ℕ) (p : Point) → Danger p → may objects identity namespace p ≡ false =
       (λ namespace p danger. false_from_ne_true _ (λ allowed. absurd (let named = may_named namespace p parts.0 danger allowed in let not_so = parts.1 in cc))) in
@@ -204,12 +311,22 @@ module _ (objects : PolicyObjects) (identity : Identity) where
         no_master = parts.0;
         no_escalate = λ namespace kind name. none namespace (escalating kind name) (Danger.escalates kind name);
         no_bind = λ namespace role. none namespace (binding role) (Danger.binds role);
-        no_impersonate = λ namespace p verb. none namespace p (Danger.impersonates p verb);
+        no_impersonate = λ namespace p asked. none namespace p (Danger.impersonates p asked);
       }
 
--- who is not listed gains nothing with others who are not
-pub no_risk_acts : (acting : List Identity) (start now : PolicyState) (steps : List PolicyStep) → IsInOrder start.objects → IsSettled start
-    → ((who : Identity) → Has acting who → (is_master who || is_named (risks start.objects) who) ≡ false)
-    → AreBy acting steps → Runs start steps now → GivesNothing acting start.objects now.objects
-no_risk_acts acting start now steps order settled unlisted by runs =
-    nobody_gains acting start now steps (record { order = order; settled = settled; unprivileged = λ who acts. unlisted_is_unprivileged start.objects who (unlisted who acts) }) by runs
+  verb_asked : (p : Point) → IsImpersonation p → verb_of p ≡ codes "impersonate"
+  verb_asked p (IsImpersonation.of_user name) = refl
+  verb_asked p (IsImpersonation.of_group name) = refl
+  verb_asked p (IsImpersonation.of_account name) = refl
+  verb_asked p (IsImpersonation.of_uid name) = refl
+  verb_asked p (IsImpersonation.of_extra field value) = refl
+
+  -- who is unprivileged may impersonate nothing at all
+  pub unprivileged_is_unlisted : IsUnprivileged objects identity → (is_master identity || is_named (risks objects) identity) ≡ false
+  unprivileged_is_unlisted unprivileged =
+      riskless_is_unlisted (record {
+        no_master = unprivileged.no_master;
+        no_escalate = unprivileged.no_escalate;
+        no_bind = unprivileged.no_bind;
+        no_impersonate = λ namespace p asked. unprivileged.no_impersonate namespace p (verb_asked p asked);
+      })

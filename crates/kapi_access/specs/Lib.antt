@@ -6,3 +6,7 @@ pub mod Risks
 pub mod Gained
 pub mod Views
 pub mod Stood
+pub mod Scoped
+pub mod Given
+pub mod Dangling
+pub mod Together

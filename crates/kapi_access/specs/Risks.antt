@@ -1,25 +1,56 @@
 -- Who may gain more than a policy gives (Kubernetes, 'Role Based Access Control Good Practices', 'Privilege escalation risks').
-use Rattle.std.specs.Prelude.{◌==◌, ℕ, List, length, Bool, not, ◌&&◌, ◌||◌, codes}
+use Rattle.std.specs.Prelude.{◌≡◌, ◌==◌, ℕ, List, [], ◌∷◌, Bool, true, false, ◌&&◌, ◌||◌, codes}
 use Rattle.std.specs.List.{list_any}
+use Rattle.kapi_model.specs.Identities.{is_master}
 use Rattle.kapi_model.specs.Kinds.{rbac_group}
+use Rattle.kapi_model.specs.declared.identity.Identity.{Identity}
+use Rattle.kapi_model.specs.declared.kinds.RoleKind.{RoleKind}
 use Rattle.kapi_model.specs.declared.policy_rule.PolicyRule.{PolicyRule}
+use Rattle.kapi_model.specs.declared.role_ref.RoleRef.{RoleRef}
 use Rattle.kapi_rules.specs.Entries.{word_matches}
+use Rattle.kapi_rules.specs.declared.point.Point.{Point}
+use Rattle.kapi_rules.specs.declared.point.Point.TheVariants as point
 use Rattle.kapi_policy.specs.All.{all_bindings}
 use Rattle.kapi_policy.specs.Objects.{PolicyObjects}
+use Rattle.kapi_guard.specs.Exempt.{binding, escalating}
+use Rattle.kapi_guard.specs.Impersonation.{impersonating}
+use Rattle.kapi_gains.specs.Access.{may}
 use Rattle.kapi_access.specs.Who.{Way, first_ways, ways}
 
 -- some entry is `*` or the word
 abbrev pub has_word : List (List ℕ) → List ℕ → Bool
 has_word entries word = list_any (λ e. word_matches e word) entries
 
--- the list is not empty
-abbrev pub has_some : List (List ℕ) → Bool
-has_some entries = not (length entries == 0)
+-- the group of the uids and extra fields of users ('Authenticating', 'User impersonation')
+abbrev pub authentication_group : List ℕ
+authentication_group = codes "authentication.k8s.io"
 
--- the rule lets one act as somebody else ('Authenticating', 'User impersonation')
+-- the text begins so, and does not end there
+abbrev pub goes_on_after : List ℕ → List ℕ → Bool
+goes_on_after [] [] = false
+goes_on_after [] (b ∷ text) = true
+goes_on_after (a ∷ start) [] = false
+goes_on_after (a ∷ start) (b ∷ text) = a == b && goes_on_after start text
+
+-- the resource entry matches some extra field: the field is asked for as the subresource `userextras/FIELD`
+abbrev pub matches_extra : List ℕ → Bool
+matches_extra entry =
+    word_matches entry (codes "userextras") || (goes_on_after (codes "userextras/") entry || goes_on_after (codes "*/") entry)
+
+-- the rule's resources are users, groups or service accounts
+abbrev pub is_about_users : PolicyRule → Bool
+is_about_users rule =
+    has_word rule.api_groups []
+    && (has_word rule.resources (codes "users") || (has_word rule.resources (codes "groups") || has_word rule.resources (codes "serviceaccounts")))
+
+-- the rule's resources are uids or extra fields
+abbrev pub is_about_details : PolicyRule → Bool
+is_about_details rule =
+    has_word rule.api_groups authentication_group && (has_word rule.resources (codes "uids") || list_any matches_extra rule.resources)
+
+-- the rule lets one act as somebody else
 abbrev pub lets_impersonate : PolicyRule → Bool
-lets_impersonate rule =
-    has_word rule.verbs (codes "impersonate") && ((has_some rule.api_groups && has_some rule.resources) || has_some rule.non_resource_urls)
+lets_impersonate rule = has_word rule.verbs (codes "impersonate") && (is_about_users rule || is_about_details rule)
 
 -- the rule has the verb on roles or cluster roles
 abbrev pub lets_on_roles : List ℕ → PolicyRule → Bool
@@ -34,3 +65,26 @@ is_risky rule = lets_impersonate rule || (lets_on_roles (codes "escalate") rule 
 -- to whom such a rule is given anywhere, members of `system:masters` apart
 unfoldable pub risks : PolicyObjects → List Way
 risks objects = first_ways (ways objects is_risky (all_bindings objects))
+
+-- ---- what is risky
+
+-- to impersonate a uid, or with an extra field's value
+abbrev pub impersonating_detail : List ℕ → List ℕ → List ℕ → Point
+impersonating_detail resource field value =
+    point.Resource (record { verb = codes "impersonate"; group = authentication_group; resource = resource; subresource = field; name = value })
+
+-- what impersonation asks for: a user, group or service account, a uid, or a value of an extra field
+pub data IsImpersonation : Point → Type 0 where
+  of_user : (name : List ℕ) → IsImpersonation (impersonating (codes "users") name)
+  of_group : (name : List ℕ) → IsImpersonation (impersonating (codes "groups") name)
+  of_account : (name : List ℕ) → IsImpersonation (impersonating (codes "serviceaccounts") name)
+  of_uid : (name : List ℕ) → IsImpersonation (impersonating_detail (codes "uids") [] name)
+  of_extra : (field value : List ℕ) → IsImpersonation (impersonating_detail (codes "userextras") field value)
+
+-- the identity is no master, and may in no namespace, nor cluster-wide, write or bind a role whose rules it does not hold, nor
+-- impersonate anybody
+pub record IsWithoutRisk (objects : PolicyObjects) (identity : Identity) : Type 0 where
+  pub no_master : is_master identity ≡ false
+  pub no_escalate : (namespace : List ℕ) (kind : RoleKind) (name : List ℕ) → may objects identity namespace (escalating kind name) ≡ false
+  pub no_bind : (namespace : List ℕ) (role : RoleRef) → may objects identity namespace (binding role) ≡ false
+  pub no_impersonate : (namespace : List ℕ) (p : Point) → IsImpersonation p → may objects identity namespace p ≡ false

@@ -25,6 +25,10 @@ abbrev pub usual_groups : List ℕ → List (List ℕ)
 usual_groups user =
     if bytes_eq user anonymous_user then unauthenticated ∷ [] else own_groups (service_account user) ++ authenticated ∷ []
 
+-- the user in those groups and the ones that it has by itself
+abbrev pub asked_as : List ℕ → List (List ℕ) → Identity
+asked_as user groups = record { user = user; groups = groups ++ usual_groups user }
+
 -- the identity of requests without credentials
 abbrev pub anonymous : Identity
 anonymous = record { user = anonymous_user; groups = unauthenticated ∷ [] }

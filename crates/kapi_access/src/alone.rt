@@ -4,7 +4,7 @@ ghost use Rattle.std.specs.List.{flat_map};
 ghost use Rattle.kapi_policy.specs.All.{all_bindings};
 ghost use Rattle.kapi_policy.specs.Views.{binding_of};
 ghost use Rattle.kapi_access.specs.Grantees.{alone as alone_of, stranger as stranger_of, user_in, usual_member as usual_member_of};
-ghost use Rattle.kapi_access.specs.Usual.{usual_groups as usual_groups_of};
+ghost use Rattle.kapi_access.specs.Usual.{asked_as as asked_as_of, usual_groups as usual_groups_of};
 ghost use Rattle.kapi_access.specs.declared.identities.Identities.TheVariants as identities;
 
 use crate::grantee::Grantee;
@@ -95,6 +95,21 @@ fn usual_groups(alloc: Global, user: &str) -> Result<Sequence<Text>, Memory>
     let mut groups = own_groups(alloc, user)?.into_vec();
     groups.push(Text::copy_of(alloc, "system:authenticated")?)?;
     Ok(Sequence::new(groups))
+}
+
+/// The identity that a question about a user in some groups is about: it has besides the groups that the user has by itself.
+pub fn asked_as(alloc: Global, user: &str, groups: &[Text]) -> Result<Identity, Memory>
+    ensures { IfOk result (λ i. i ≡ asked_as_of user.now groups.now) }
+{
+    let mut all = Vec::new(alloc);
+    for group in groups {
+        all.push(group.copy(alloc)?)?;
+    }
+    all.append(&mut usual_groups(alloc, user)?.into_vec())?;
+    Ok(Identity {
+        user: Text::copy_of(alloc, user)?,
+        groups: Sequence::new(all),
+    })
 }
 
 fn usual_user(alloc: Global, user: &str) -> Result<Identity, Memory>

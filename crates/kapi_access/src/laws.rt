@@ -1,5 +1,6 @@
 //! Laws of the answers, each the clause of a function that does nothing. They hold of the objects of every policy.
-ghost use Rattle.std.specs.Prelude.{◌≡◌, ◌||◌, ℕ, List, [], true, false};
+ghost use Rattle.std.specs.Prelude.{◌≡◌, ◌||◌, ℕ, List, [], None, Some, true, false};
+ghost use Rattle.std.specs.List.{enumerate_from, list_any};
 ghost use Rattle.kapi_model.specs.declared.policy_rule.PolicyRule.{PolicyRule};
 ghost use Rattle.kapi_model.specs.Identities.{is_master};
 ghost use Rattle.kapi_model.specs.declared.identity.Identity.{Identity};
@@ -13,10 +14,13 @@ ghost use Rattle.kapi_policy.specs.Objects.{PolicyObjects};
 ghost use Rattle.kapi_gains.specs.Access.{GivesNothing, IsUnprivileged, may};
 ghost use Rattle.kapi_gains.specs.States.{IsSettled, PolicyState};
 ghost use Rattle.kapi_gains.specs.Steps.{AreBy, PolicyStep, Runs};
+ghost use Rattle.kapi_access.specs.declared.dangling.Covered.{Covered};
 ghost use Rattle.kapi_access.specs.declared.grantee.Grantee.{Grantee};
+ghost use Rattle.kapi_access.specs.Dangling.{IsCovered, covered, stands_for};
 ghost use Rattle.kapi_access.specs.Gained.{Gained, GivesNothingTo, IsGained, IsReported, gained, gained_from, new_atoms};
+ghost use Rattle.kapi_access.specs.Given.{allows_at, lines_within, what, what_lines};
 ghost use Rattle.kapi_access.specs.Grantees.{alone, grantees, role_of, stranger};
-ghost use Rattle.kapi_access.specs.Risks.{risks};
+ghost use Rattle.kapi_access.specs.Risks.{IsWithoutRisk, risks};
 ghost use Rattle.kapi_access.specs.Usual.{IsMeant};
 ghost use Rattle.kapi_access.specs.declared.identities.Identities.{Identities};
 ghost use Rattle.kapi_access.specs.Who.{IsEachOnce, is_named, who_may};
@@ -27,12 +31,15 @@ pub fn who_may_is_who_is_listed()
         → may objects identity namespace p ≡ (is_master identity || is_named (who_may objects namespace p) identity) }
 {}
 
-/// An identity is unprivileged just where it is not in `system:masters` and no line of the risks names it.
-pub fn unprivileged_is_who_is_not_listed()
+/// An identity may do nothing risky just where it is not in `system:masters` and no line of the risks names it. Who is unprivileged,
+/// and so has the verb `impersonate` on no resource at all, is not listed either.
+pub fn risks_are_who_is_listed()
     ensures unlisted { (objects : PolicyObjects) (identity : Identity)
-        → IsUnprivileged objects identity → (is_master identity || is_named (risks objects) identity) ≡ false }
+        → IsWithoutRisk objects identity → (is_master identity || is_named (risks objects) identity) ≡ false }
+    ensures riskless { (objects : PolicyObjects) (identity : Identity)
+        → (is_master identity || is_named (risks objects) identity) ≡ false → IsWithoutRisk objects identity }
     ensures unprivileged { (objects : PolicyObjects) (identity : Identity)
-        → (is_master identity || is_named (risks objects) identity) ≡ false → IsUnprivileged objects identity }
+        → IsUnprivileged objects identity → (is_master identity || is_named (risks objects) identity) ≡ false }
 {}
 
 /// No user and no group is listed twice, neither among those who may nor among the risks.
@@ -41,10 +48,12 @@ pub fn each_is_listed_once()
     ensures risks { (objects : PolicyObjects) → IsEachOnce (risks objects) }
 {}
 
-/// Where the policy is settled and nobody who writes is listed among its risks, nobody gains what no actor held.
-pub fn nobody_gains_where_no_risk_acts()
+/// Where the policy is settled and everybody who writes is unprivileged, nobody gains what no actor held. It says nothing of a
+/// writer who is not listed among the risks and has the verb `impersonate` on something that impersonation never asks for, as
+/// `configmaps`: the steps of a policy let such a writer act as anybody, although no server does.
+pub fn nobody_gains_where_the_unprivileged_write()
     ensures { (acting : List Identity) (start now : PolicyState) (steps : List PolicyStep) → IsInOrder start.objects → IsSettled start
-        → ((who : Identity) → Has acting who → (is_master who || is_named (risks start.objects) who) ≡ false)
+        → ((who : Identity) → Has acting who → IsUnprivileged start.objects who)
         → AreBy acting steps → Runs start steps now → GivesNothing acting start.objects now.objects }
 {}
 
@@ -76,4 +85,23 @@ pub fn what_stood_stays_out()
         → Has (all_bindings before) b → role_of after b ≡ role_of before b → gained_from who before after b ≡ [] }
     ensures alike { (who : Identities) (before after : PolicyObjects) (s b : Binding) → Has (all_bindings before) s
         → s.namespace ≡ b.namespace → s.subjects ≡ b.subjects → role_of before s ≡ role_of after b → gained_from who before after b ≡ [] }
+{}
+
+/// A request is allowed to an identity just where it is in `system:masters` or some rule that it has allows it, where the rule
+/// counts: rule by rule, in all lines, and in those that count in the namespace.
+pub fn what_one_has_is_what_one_may()
+    ensures rules { (objects : PolicyObjects) (identity : Identity) (namespace : List ℕ) (p : Point)
+        → may objects identity namespace p ≡ (is_master identity || list_any (λ g. allows_at namespace p g.at) (what objects identity)) }
+    ensures lines { (objects : PolicyObjects) (identity : Identity) (namespace : List ℕ) (p : Point)
+        → may objects identity namespace p ≡ (is_master identity || list_any (λ l. allows_at namespace p l.0) (lines_within None (what_lines objects identity))) }
+    ensures within { (objects : PolicyObjects) (identity : Identity) (namespace : List ℕ) (p : Point)
+        → may objects identity namespace p ≡ (is_master identity || list_any (λ l. allows_at namespace p l.0) (lines_within (Some namespace) (what_lines objects identity))) }
+{}
+
+/// A rule that is listed as covered allows nothing that the other does not; and each rule that an earlier one covers, or a later one
+/// that it does not cover itself, is listed.
+pub fn covered_rules_can_go()
+    ensures covered { (rules : List PolicyRule) (c : Covered) → Has (covered rules) c → IsCovered rules c }
+    ensures listed { (rules : List PolicyRule) (i j : ℕ) (rule other : PolicyRule) → Has (enumerate_from 0 rules) (i, rule) → Has (enumerate_from 0 rules) (j, other)
+        → stands_for j other i rule ≡ true → (by : ℕ) × Has (covered rules) (record { rule = i; by = by }) }
 {}

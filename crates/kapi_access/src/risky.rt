@@ -1,10 +1,10 @@
 //! Who may gain more than a policy gives.
 ghost use Rattle.std.specs.Prelude.{◌≡◌, ◌||◌, codes, map, IfOk, OnOk};
-ghost use Rattle.std.specs.List.{flat_map, fold, position};
+ghost use Rattle.std.specs.List.{flat_map, fold, list_any, position};
 ghost use Rattle.kapi_rules.specs.Entries.{word_matches};
 ghost use Rattle.kapi_policy.specs.All.{all_bindings};
 ghost use Rattle.kapi_policy.specs.Views.{binding_of};
-ghost use Rattle.kapi_access.specs.Risks.{has_word as has_word_of, is_risky as is_risky_rule, lets_impersonate as lets_act, lets_on_roles as lets_role, risks as risks_of};
+ghost use Rattle.kapi_access.specs.Risks.{goes_on_after as goes_on, has_word as has_word_of, is_about_details as details_in_rule, is_about_users as users_in_rule, is_risky as is_risky_rule, lets_impersonate as lets_act, lets_on_roles as lets_role, matches_extra as matches_field, risks as risks_of};
 ghost use Rattle.kapi_access.specs.Views.{way_of};
 ghost use Rattle.kapi_access.specs.Who.{first_ways, ways_of, with_way};
 
@@ -27,12 +27,61 @@ fn has_word(entries: &[Text], word: &str) -> bool
     entries.iter().any(|entry| is_word(entry.as_str(), word))
 }
 
+fn goes_on_after(start: &[u8], text: &[u8]) -> bool
+    ensures { result ≡ goes_on start.now text.now }
+{
+    let mut left = start;
+    let mut rest = text;
+    while let [first, more @ ..] = left {
+        let [byte, after @ ..] = rest else {
+            return false;
+        };
+        if first != byte {
+            return false;
+        }
+        left = more;
+        rest = after;
+    }
+    !rest.is_empty()
+}
+
+/// Whether the resource entry matches some extra field.
+fn matches_extra(entry: &str) -> bool
+    ensures { result ≡ matches_field entry.now }
+{
+    is_word(entry, "userextras")
+        || (goes_on_after(b"userextras/", entry.as_bytes())
+            || goes_on_after(b"*/", entry.as_bytes()))
+}
+
+fn has_extra(entries: &[Text]) -> bool
+    ensures { result ≡ list_any matches_field entries.now }
+{
+    entries.iter().any(|entry| matches_extra(entry.as_str()))
+}
+
+fn is_about_users(rule: &PolicyRule) -> bool
+    ensures { result ≡ users_in_rule rule.now }
+{
+    let resources = rule.resources.as_slice();
+    has_word(rule.api_groups.as_slice(), "")
+        && (has_word(resources, "users")
+            || (has_word(resources, "groups") || has_word(resources, "serviceaccounts")))
+}
+
+fn is_about_details(rule: &PolicyRule) -> bool
+    ensures { result ≡ details_in_rule rule.now }
+{
+    let resources = rule.resources.as_slice();
+    has_word(rule.api_groups.as_slice(), "authentication.k8s.io")
+        && (has_word(resources, "uids") || has_extra(resources))
+}
+
 fn lets_impersonate(rule: &PolicyRule) -> bool
     ensures { result ≡ lets_act rule.now }
 {
     has_word(rule.verbs.as_slice(), "impersonate")
-        && ((!rule.api_groups.as_slice().is_empty() && !rule.resources.as_slice().is_empty())
-            || !rule.non_resource_urls.as_slice().is_empty())
+        && (is_about_users(rule) || is_about_details(rule))
 }
 
 fn has_roles(resources: &[Text]) -> bool

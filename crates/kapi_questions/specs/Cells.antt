@@ -44,9 +44,13 @@ binding_text b = joined (binding_kind b.kind) b.name
 abbrev pub rule_text : RoleRef → ℕ → List ℕ
 rule_text role rule = (joined (role_kind_text role.kind) role.name ++ codes ", rule ") ++ decimal rule
 
+-- a rule of the role of a binding of that kind and name
+abbrev pub text_of_grant : BindingKind → List ℕ → RoleRef → ℕ → List ℕ
+text_of_grant kind name role rule = (joined (binding_kind kind) name ++ codes ", ") ++ rule_text role rule
+
 -- a rule of the role of a binding
 abbrev pub by_text : Binding → ℕ → List ℕ
-by_text b rule = (binding_text b ++ codes ", ") ++ rule_text b.role rule
+by_text b rule = text_of_grant b.kind b.name b.role rule
 
 -- ---- the cells
 
@@ -67,29 +71,31 @@ atom_cell a = escaped (compact_text (atom_list a))
 -- what a subject gains where, and by what
 abbrev pub gain_row : Gained → Row
 gain_row g = record {
-  subject = subject_cell g.to;
-  namespace = namespace_cell g.binding.namespace;
-  what = atom_cell g.gain;
-  by = escaped (by_text g.binding g.rule);
+  first = subject_cell g.to;
+  second = namespace_cell g.binding.namespace;
+  third = atom_cell g.gain;
+  fourth = [];
+  last = escaped (by_text g.binding g.rule);
 }
 
 -- by what a subject may do something where
 abbrev pub way_row : Way → Row
 way_row w = record {
-  subject = subject_cell w.to;
-  namespace = namespace_cell w.binding.namespace;
-  what = escaped (binding_text w.binding);
-  by = escaped (rule_text w.binding.role w.rule);
+  first = subject_cell w.to;
+  second = namespace_cell w.binding.namespace;
+  third = escaped (binding_text w.binding);
+  fourth = [];
+  last = escaped (rule_text w.binding.role w.rule);
 }
 
 -- the heads of columns of gains
 abbrev pub gains_head : Row
-gains_head = record { subject = codes "SUBJECT"; namespace = codes "NAMESPACE"; what = codes "GAINS"; by = codes "BY" }
+gains_head = record { first = codes "SUBJECT"; second = codes "NAMESPACE"; third = codes "GAINS"; fourth = []; last = codes "BY" }
 
 -- the heads of columns of ways
 abbrev pub ways_head : Row
-ways_head = record { subject = codes "SUBJECT"; namespace = codes "NAMESPACE"; what = codes "BINDING"; by = codes "RULE" }
+ways_head = record { first = codes "SUBJECT"; second = codes "NAMESPACE"; third = codes "BINDING"; fourth = []; last = codes "RULE" }
 
 -- members of this group may do everything, without a binding
 abbrev pub masters_row : Row
-masters_row = record { subject = codes "Group system:masters"; namespace = codes "*"; what = codes "-"; by = codes "everything" }
+masters_row = record { first = codes "Group system:masters"; second = codes "*"; third = codes "-"; fourth = []; last = codes "everything" }

@@ -4,3 +4,4 @@ pub mod Members
 pub mod Questions
 pub mod Answers
 pub mod Lines
+pub mod Rights

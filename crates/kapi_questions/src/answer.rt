@@ -124,7 +124,7 @@ fn push_ways(alloc: Global, text: &mut Vec<u8>, ways: &[Way<'_>]) -> Result<(), 
 }
 
 /// The line of the group whose members may do everything.
-const MASTERS_LINE: &[u8] = b"{\"subject\":\"system:masters\",\"subjectKind\":\"Group\"}\n";
+pub const MASTERS_LINE: &[u8] = b"{\"subject\":\"system:masters\",\"subjectKind\":\"Group\"}\n";
 
 fn ways_text(alloc: Global, form: Form, ways: &[Way<'_>]) -> Result<Vec<u8>, Memory>
     ensures { IfOk result (λ v. v.items ≡ answers.ways_text form (map way_of ways.now)) }
@@ -184,7 +184,7 @@ pub fn settled_line(form: Form, settled: bool) -> &'static [u8]
 {
     match (form, settled) {
         (Form::Table, true) =>
-            b"Nothing that all others write lets anybody do what neither that one nor any of them was allowed.\n",
+            b"Through roles and bindings, nothing that all others write lets anybody do what neither that one nor any of them was allowed. kapi paths lists other ways.\n",
         (Form::Table, false) =>
             b"The roles are not settled after 64 turns, so that nothing is said of all others.\n",
         (Form::Json, true) => b"{\"settled\":true}\n",

@@ -15,7 +15,8 @@ use kapi_rules::Atom;
 use kapi_text::{Memory, Sequence};
 use std::alloc::{AllocError, Global};
 
-fn escape(alloc: Global, bytes: &[u8]) -> Result<Sequence<u8>, Memory>
+/// The bytes in printable ASCII.
+pub fn escape(alloc: Global, bytes: &[u8]) -> Result<Sequence<u8>, Memory>
     ensures { IfOk result (λ s. s ≡ escaped bytes.now) }
 {
     let mut text = Vec::new(alloc);
@@ -71,7 +72,8 @@ fn subject_cell(alloc: Global, to: &Grantee) -> Result<Sequence<u8>, Memory>
     escape(alloc, text.as_bytes())
 }
 
-fn namespace_cell(alloc: Global, namespace: &str) -> Result<Sequence<u8>, Memory>
+/// A namespace, or `*` for all of them.
+pub fn namespace_cell(alloc: Global, namespace: &str) -> Result<Sequence<u8>, Memory>
     ensures { IfOk result (λ s. s ≡ cells.namespace_cell namespace.now) }
 {
     if namespace.is_empty() {
@@ -96,11 +98,18 @@ fn rule_text(alloc: Global, role: &RoleRef, rule: usize) -> Result<String, Memor
     Ok(text)
 }
 
-fn by_text(alloc: Global, binding: &Binding<'_>, rule: usize) -> Result<String, Memory>
-    ensures { IfOk result (λ s. string_bytes s ≡ cells.by_text (binding_of binding.now) rule) }
+/// A rule of the role of a binding of that kind and name.
+pub fn text_of_grant(
+    alloc: Global,
+    kind: BindingKind,
+    name: &str,
+    role: &RoleRef,
+    rule: usize,
+) -> Result<String, Memory>
+    ensures { IfOk result (λ s. string_bytes s ≡ cells.text_of_grant kind name.now role.now rule) }
 {
-    let role = rule_text(alloc, binding.role, rule)?;
-    let mut text = binding_text(alloc, binding)?;
+    let role = rule_text(alloc, role, rule)?;
+    let mut text = joined(alloc, binding_kind(kind), name)?;
     text.push_str(", ")?;
     text.push_str(role.as_str())?;
     Ok(text)
@@ -126,7 +135,7 @@ fn rule_cell(alloc: Global, role: &RoleRef, rule: usize) -> Result<Sequence<u8>,
 fn by_cell(alloc: Global, binding: &Binding<'_>, rule: usize) -> Result<Sequence<u8>, Memory>
     ensures { IfOk result (λ s. s ≡ escaped (cells.by_text (binding_of binding.now) rule)) }
 {
-    let text = by_text(alloc, binding, rule)?;
+    let text = text_of_grant(alloc, binding.kind, binding.name, binding.role, rule)?;
     escape(alloc, text.as_bytes())
 }
 
@@ -142,10 +151,11 @@ pub fn gain_row(alloc: Global, gain: &Gain<'_>) -> Result<Row, Memory>
     ensures { IfOk result (λ r. r ≡ cells.gain_row (gain_of gain.now)) }
 {
     Ok(Row {
-        subject: subject_cell(alloc, &gain.to)?,
-        namespace: namespace_cell(alloc, gain.binding.namespace)?,
-        what: atom_cell(alloc, &gain.gain)?,
-        by: by_cell(alloc, &gain.binding, gain.rule)?,
+        first: subject_cell(alloc, &gain.to)?,
+        second: namespace_cell(alloc, gain.binding.namespace)?,
+        third: atom_cell(alloc, &gain.gain)?,
+        fourth: Sequence::new(Vec::new(alloc)),
+        last: by_cell(alloc, &gain.binding, gain.rule)?,
     })
 }
 
@@ -154,27 +164,31 @@ pub fn way_row(alloc: Global, way: &Way<'_>) -> Result<Row, Memory>
     ensures { IfOk result (λ r. r ≡ cells.way_row (way_of way.now)) }
 {
     Ok(Row {
-        subject: subject_cell(alloc, &way.to)?,
-        namespace: namespace_cell(alloc, way.binding.namespace)?,
-        what: binding_cell(alloc, &way.binding)?,
-        by: rule_cell(alloc, way.binding.role, way.rule)?,
+        first: subject_cell(alloc, &way.to)?,
+        second: namespace_cell(alloc, way.binding.namespace)?,
+        third: binding_cell(alloc, &way.binding)?,
+        fourth: Sequence::new(Vec::new(alloc)),
+        last: rule_cell(alloc, way.binding.role, way.rule)?,
     })
 }
 
-fn words(
+/// A row of these words.
+pub fn words(
     alloc: Global,
-    subject: &[u8],
-    namespace: &[u8],
-    what: &[u8],
-    by: &[u8],
+    first: &[u8],
+    second: &[u8],
+    third: &[u8],
+    fourth: &[u8],
+    last: &[u8],
 ) -> Result<Row, Memory>
-    ensures { IfOk result (λ r. r ≡ record { subject = subject.now; namespace = namespace.now; what = what.now; by = by.now }) }
+    ensures { IfOk result (λ r. r ≡ record { first = first.now; second = second.now; third = third.now; fourth = fourth.now; last = last.now }) }
 {
     Ok(Row {
-        subject: copy_of(alloc, subject)?,
-        namespace: copy_of(alloc, namespace)?,
-        what: copy_of(alloc, what)?,
-        by: copy_of(alloc, by)?,
+        first: copy_of(alloc, first)?,
+        second: copy_of(alloc, second)?,
+        third: copy_of(alloc, third)?,
+        fourth: copy_of(alloc, fourth)?,
+        last: copy_of(alloc, last)?,
     })
 }
 
@@ -182,19 +196,26 @@ fn words(
 pub fn gains_head(alloc: Global) -> Result<Row, Memory>
     ensures { IfOk result (λ r. r ≡ cells.gains_head) }
 {
-    words(alloc, b"SUBJECT", b"NAMESPACE", b"GAINS", b"BY")
+    words(alloc, b"SUBJECT", b"NAMESPACE", b"GAINS", b"", b"BY")
 }
 
 /// The heads of the columns of ways.
 pub fn ways_head(alloc: Global) -> Result<Row, Memory>
     ensures { IfOk result (λ r. r ≡ cells.ways_head) }
 {
-    words(alloc, b"SUBJECT", b"NAMESPACE", b"BINDING", b"RULE")
+    words(alloc, b"SUBJECT", b"NAMESPACE", b"BINDING", b"", b"RULE")
 }
 
 /// The cells of the group whose members may do everything.
 pub fn masters_row(alloc: Global) -> Result<Row, Memory>
     ensures { IfOk result (λ r. r ≡ cells.masters_row) }
 {
-    words(alloc, b"Group system:masters", b"*", b"-", b"everything")
+    words(
+        alloc,
+        b"Group system:masters",
+        b"*",
+        b"-",
+        b"",
+        b"everything",
+    )
 }

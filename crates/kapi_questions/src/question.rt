@@ -17,7 +17,7 @@ pub struct Wanted {
 
 /// What stands before the first slash, and what after it.
 #[tactic(auto, using(crate::proofs::Parted::all_before, crate::proofs::Parted::none_after))]
-fn split_at_slash(text: &str) -> (&str, &str)
+pub fn split_at_slash(text: &str) -> (&str, &str)
     ensures first { result.0.now ≡ before 47 text.now }
     ensures rest { result.1.now ≡ after 47 text.now }
 {

@@ -6,30 +6,33 @@ ghost use Rattle.kapi_questions.specs.Tables.{padded, row_line, widths_of};
 use kapi_text::{Memory, Sequence};
 use std::alloc::Global;
 
-/// The cells of a line.
+/// The cells of a line. A column in which no row has text is left out.
 #[derive(Drop)]
 pub struct Row {
-    pub subject: Sequence<u8>,
-    pub namespace: Sequence<u8>,
-    pub what: Sequence<u8>,
-    pub by: Sequence<u8>,
+    pub first: Sequence<u8>,
+    pub second: Sequence<u8>,
+    pub third: Sequence<u8>,
+    pub fourth: Sequence<u8>,
+    pub last: Sequence<u8>,
 }
 
 /// The widths of the columns but the last, in bytes.
 #[derive(Clone, Copy)]
 struct Widths {
-    subject: usize,
-    namespace: usize,
-    what: usize,
+    first: usize,
+    second: usize,
+    third: usize,
+    fourth: usize,
 }
 
 fn wider(widths: Widths, row: &Row) -> Widths
     ensures { result ≡ tables.wider widths row.now }
 {
     Widths {
-        subject: widths.subject.max(row.subject.as_slice().len()),
-        namespace: widths.namespace.max(row.namespace.as_slice().len()),
-        what: widths.what.max(row.what.as_slice().len()),
+        first: widths.first.max(row.first.as_slice().len()),
+        second: widths.second.max(row.second.as_slice().len()),
+        third: widths.third.max(row.third.as_slice().len()),
+        fourth: widths.fourth.max(row.fourth.as_slice().len()),
     }
 }
 
@@ -37,9 +40,10 @@ fn column_widths(rows: &[Row]) -> Widths
     ensures { result ≡ widths_of rows.now }
 {
     let mut widths = Widths {
-        subject: 0,
-        namespace: 0,
-        what: 0,
+        first: 0,
+        second: 0,
+        third: 0,
+        fourth: 0,
     };
     for row in rows {
         widths = wider(widths, row);
@@ -59,6 +63,9 @@ fn push_spaces(text: &mut Vec<u8>, count: usize) -> Result<(), Memory>
 fn push_padded(text: &mut Vec<u8>, width: usize, cell: &[u8]) -> Result<(), Memory>
     ensures { OnOk result (text.new.items ≡ text.old.items ++ padded width cell.now) }
 {
+    if width == 0 {
+        return Ok(());
+    }
     text.extend_from_slice(cell)?;
     push_spaces(text, width.saturating_sub(cell.len()))?;
     text.extend_from_slice(b"  ")
@@ -67,10 +74,11 @@ fn push_padded(text: &mut Vec<u8>, width: usize, cell: &[u8]) -> Result<(), Memo
 fn push_row(text: &mut Vec<u8>, widths: Widths, row: &Row) -> Result<(), Memory>
     ensures { OnOk result (text.new.items ≡ text.old.items ++ row_line widths row.now) }
 {
-    push_padded(text, widths.subject, row.subject.as_slice())?;
-    push_padded(text, widths.namespace, row.namespace.as_slice())?;
-    push_padded(text, widths.what, row.what.as_slice())?;
-    text.extend_from_slice(row.by.as_slice())?;
+    push_padded(text, widths.first, row.first.as_slice())?;
+    push_padded(text, widths.second, row.second.as_slice())?;
+    push_padded(text, widths.third, row.third.as_slice())?;
+    push_padded(text, widths.fourth, row.fourth.as_slice())?;
+    text.extend_from_slice(row.last.as_slice())?;
     text.extend_from_slice(b"\n")
 }
 

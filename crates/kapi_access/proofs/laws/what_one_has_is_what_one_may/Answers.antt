@@ -1,0 +1,11 @@
+use Rattle.kapi_access.proofs.Rights.{lines_everywhere, lines_of_namespace, what_is_exact}
+use Rattle.kapi_access.proofs.laws.what_one_has_is_what_one_may.Goals as goal
+
+pub returns-clause-rules : goal.returns-clause-rules
+returns-clause-rules c = λ objects identity namespace p. what_is_exact namespace p objects identity
+
+pub returns-clause-lines : goal.returns-clause-lines
+returns-clause-lines c = lines_everywhere
+
+pub returns-clause-within : goal.returns-clause-within
+returns-clause-within c = lines_of_namespace
