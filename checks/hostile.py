@@ -1,6 +1,7 @@
 """Attacks a server on 127.0.0.1 as a client without rights may, and prints what each attack costs the others.
 
 usage: python3 -m checks.hostile PROGRAM [ATTACK..]     all attacks if none is named: greedy flood silent stalled spin line
+selector groups repeats
 
 Each attack starts a server of its own and is bounded in count and time. The exit status is 1 where one is above its bound.
 """
@@ -23,6 +24,9 @@ SILENT_CLIENTS, SILENT_SECONDS = 450, 75
 STALLED_CLIENTS, STALLED_REQUESTS, GETS = 240, 320, 20_000
 SPIN_SECONDS = 2
 LINE_BYTES = 64_000_000
+LABELS, REQUIREMENTS, PATCHES = 2_000, 5_000, 200
+GROUPS, REPEATS, BINDINGS = 16_000, 1_000, 2_000
+MAPS = "/api/v1/namespaces/default/configmaps"
 
 
 def create(client, name, letters):
@@ -208,7 +212,53 @@ def line(program):
     return judge(f"a line of {LINE_BYTES:,} bytes", [("million bytes more resident", grown, 8), ("sent, millions", sent / 1e6, None), ("others refused", answered, 0)])
 
 
-ATTACKS = {"greedy": greedy, "flood": flood, "silent": silent, "stalled": stalled, "spin": spin, "line": line}
+def selector(program):
+    """A watch of thousands of requirements beside an object of thousands of labels, which is patched."""
+    labels = {f"l{number:05}": "" for number in range(LABELS)}
+    asked = ",".join(["!z"] * REQUIREMENTS)
+    with Server(program) as server:
+        root, watch = connect(ROOT), connect(ROOT)
+        ask(root, "POST", MAPS, {"metadata": {"name": "a", "labels": labels}})
+        ask(watch, "GET", f"{MAPS}?watch=1&labelSelector={asked}")
+        before = server.precise()
+        for number in range(PATCHES):
+            ask(root, "PATCH", f"{MAPS}/a", {"data": {"k": str(number)}})
+        used = server.precise() - before
+        watch.close()
+    return judge(f"{PATCHES} patches beside a watch of {REQUIREMENTS:,} requirements", [("seconds of processor time", used, 0.6)])
+
+
+def review_cost(program, bound, asked):
+    """Seconds of the server's processor time for a review of an identity of so many groups, beside bindings of groups."""
+    rbac = "rbac.authorization.k8s.io"
+    reference = {"apiGroup": rbac, "kind": "ClusterRole", "name": "reader"}
+    rules = [{"apiGroups": [""], "resources": ["pods"], "verbs": ["get"]}]
+    role = {"apiVersion": f"{rbac}/v1", "kind": "ClusterRole", "metadata": {"name": "reader"}, "rules": rules}
+    bindings = [{"apiVersion": f"{rbac}/v1", "kind": "ClusterRoleBinding", "metadata": {"name": f"b{number:05}"}, "roleRef": reference, "subjects": [{"apiGroup": rbac, "kind": "Group", "name": group}]} for number, group in enumerate(bound)]
+    point = {"verb": "list", "resource": "secrets", "namespace": "default"}
+    review = {"apiVersion": "authorization.k8s.io/v1", "kind": "SubjectAccessReview", "spec": {"user": "u", "groups": asked, "resourceAttributes": point}}
+    with Server(program, objects=[role, *bindings]) as server:
+        root, before = connect(ROOT), server.precise()
+        answer = ask(root, "POST", "/apis/authorization.k8s.io/v1/subjectaccessreviews", review)
+        used = server.precise() - before
+        root.close()
+    return used if b'"allowed":false' in answer else 1_000
+
+
+def groups(program):
+    """A review of an identity of thousands of groups, beside thousands of bindings of groups that do not grant it."""
+    names = [f"g{number:05}" for number in range(GROUPS)]
+    used = review_cost(program, names[:BINDINGS], names)
+    return judge(f"a review of {GROUPS:,} groups", [("seconds of processor time", used, 0.1)])
+
+
+def repeats(program):
+    """A review of an identity whose one group is listed again and again, beside thousands of bindings of it."""
+    used = review_cost(program, ["g"] * BINDINGS, ["g"] * REPEATS)
+    return judge(f"a review of a group {REPEATS:,} times", [("seconds of processor time", used, 0.1)])
+
+
+ATTACKS = {"greedy": greedy, "flood": flood, "silent": silent, "stalled": stalled, "spin": spin, "line": line, "selector": selector, "groups": groups, "repeats": repeats}
 
 
 def main(program, *names):

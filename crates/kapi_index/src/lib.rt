@@ -4,6 +4,7 @@
 
 mod all;
 mod asked;
+mod asker;
 mod compiled_rule;
 mod indexed;
 mod key_list;

@@ -10,10 +10,11 @@ ghost use Rattle.kapi_index.specs.Points.{point_of};
 ghost use Rattle.kapi_index.specs.Contents.{binding_at, grant_of};
 
 use crate::asked::{Asked, ask};
+use crate::asker::Asker;
 use crate::indexed::IndexedPolicy;
 use crate::rules::CompiledRules;
 use crate::scope::Scope;
-use kapi_model::{Identity, PolicyRule, RoleBinding, RoleKind, RoleRef, subject_matches};
+use kapi_model::{Identity, PolicyRule, RoleBinding, RoleKind, RoleRef};
 use kapi_policy::{Binding, BindingKind, Decision, Grant, push_rules};
 use kapi_rules::Point;
 use kapi_text::{Memory, Text};
@@ -85,10 +86,13 @@ fn binding_in<'a>(
     }
 }
 
-fn is_bound(binding: &Binding<'_>, identity: &Identity) -> bool
-    ensures { result ≡ list_any (λ s. matches_of s (binding_of binding.now).namespace identity.now) (binding_of binding.now).subjects }
+fn is_bound(binding: &Binding<'_>, asker: &Asker<'_>) -> bool
+    ensures { result ≡ list_any (λ s. matches_of s (binding_of binding.now).namespace asker.now.identity.now) (binding_of binding.now).subjects }
 {
-    binding.subjects.iter().any(|subject| subject_matches(subject, binding.namespace, identity))
+    binding
+        .subjects
+        .iter()
+        .any(|subject| asker.is_meant(subject, binding.namespace))
 }
 
 // The grant of a binding by the first of some rules that allows the point.
@@ -145,32 +149,32 @@ fn push_of(
 #[tactic(auto, unfolding(kapi_policy::specs::Decided::granted_by, kapi_policy::specs::Decided::given))]
 fn grant_to<'a>(
     policy: &'a IndexedPolicy,
-    identity: &Identity,
+    asker: &Asker<'_>,
     binding: &Binding<'a>,
     asked: &Asked<'_>,
 ) -> Option<Grant<'a>>
-    ensures { granted_if result ≡ granted_by policy.now identity.now (point_of asked.now) (binding_of binding.now) }
+    ensures { granted_if result ≡ granted_by policy.now asker.now.identity.now (point_of asked.now) (binding_of binding.now) }
 {
-    if is_bound(binding, identity) {
+    if is_bound(binding, asker) {
         grant_by(policy, binding, asked)
     } else {
         None
     }
 }
 
-// The first grant among few bindings: each is checked.
-fn grant_of_few<'a>(
+// The first grant among all bindings: each is checked.
+fn grant_of_each<'a>(
     policy: &'a IndexedPolicy,
     kind: BindingKind,
     scope: &'a Scope,
-    identity: &Identity,
+    asker: &Asker<'_>,
     asked: &Asked<'_>,
 ) -> Option<Grant<'a>>
-    ensures { granted_if result ≡ first_some (granted_by policy.now identity.now (point_of asked.now)) (map (binding_at kind scope.now.namespace) scope.now.bindings) }
+    ensures { granted_if result ≡ first_some (granted_by policy.now asker.now.identity.now (point_of asked.now)) (map (binding_at kind scope.now.namespace) scope.now.bindings) }
 {
     for (name, bound) in scope.bindings() {
         let binding = binding_in(kind, scope, name, &bound.binding);
-        let found = grant_to(policy, identity, &binding, asked);
+        let found = grant_to(policy, asker, &binding, asked);
         if found.is_some() {
             return found;
         }
@@ -178,7 +182,8 @@ fn grant_of_few<'a>(
     None
 }
 
-// The first grant among many bindings: those that match the identity are looked up.
+// The first grant among many bindings: those that match the identity are looked up. All are checked once so many have
+// matched that looking up all groups for each takes longer.
 fn grant_of_many<'a>(
     policy: &'a IndexedPolicy,
     kind: BindingKind,
@@ -188,12 +193,18 @@ fn grant_of_many<'a>(
 ) -> Option<Grant<'a>>
     ensures { granted_if result ≡ first_some (granted_by policy.now identity.now (point_of asked.now)) (map (binding_at kind scope.now.namespace) scope.now.bindings) }
 {
+    let asker = Asker::of_many_looks(identity);
+    let mut look_ups = asker.look_ups(scope.bindings().len());
     let mut start = Bound::Unbounded;
     while let Some((name, binding)) = scope.next(identity, start) {
         let found = grant_by(policy, &binding_in(kind, scope, name, binding), asked);
         if found.is_some() {
             return found;
         }
+        if look_ups == 0 {
+            return grant_of_each(policy, kind, scope, &asker, asked);
+        }
+        look_ups -= 1;
         start = Bound::Excluded(name);
     }
     None
@@ -209,7 +220,7 @@ fn scope_grant<'a>(
     ensures { granted_if result ≡ first_some (granted_by policy.now identity.now (point_of asked.now)) (map (binding_at kind scope.now.namespace) scope.now.bindings) }
 {
     if scope.has_few() {
-        grant_of_few(policy, kind, scope, identity, asked)
+        grant_of_each(policy, kind, scope, &Asker::of_few_looks(identity), asked)
     } else {
         grant_of_many(policy, kind, scope, identity, asked)
     }

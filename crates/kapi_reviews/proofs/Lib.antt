@@ -3,3 +3,4 @@ pub mod Written
 pub mod Said
 pub mod Again
 pub mod Asked
+pub mod Members

@@ -1,12 +1,13 @@
 //! Reviews and their answers.
-ghost use Rattle.std.specs.Prelude.{◌≡◌, IfOk, codes};
+ghost use Rattle.std.specs.Prelude.{◌≡◌, ℕ, List, IfOk, codes};
 ghost use Rattle.serde_json.specs.Data.{object, no_members};
 ghost use Rattle.kapi_object.specs.Contents.{put_text, text_at};
 ghost use Rattle.serde_json.specs.View.{view};
 ghost use Rattle.kapi_text.specs.Gives.{Gives};
 ghost use Rattle.kapi_object.specs.Object.{tree_of};
-ghost use Rattle.kapi_policy.specs.Views.{decision_of};
-ghost use Rattle.kapi_reviews.specs.Answers as written;
+ghost use Rattle.kapi_policy.specs.Decided.{decided};
+ghost use Rattle.kapi_policy.specs.Objects.{PolicyObjects};
+ghost use Rattle.kapi_rules.specs.declared.point.Point.{Point};
 ghost use Rattle.kapi_reviews.specs.Questions as asks;
 ghost use Rattle.kapi_reviews.specs.Reviews as answers;
 ghost use Rattle.kapi_reviews.specs.Reviews.{reviewed, told};
@@ -14,32 +15,30 @@ ghost use Rattle.kapi_reviews.specs.Reviews.{reviewed, told};
 use crate::answer::{decision_tree, question_tree, review_tree};
 use crate::faults::{collect_review_faults, namespace_of};
 use crate::kind::ReviewKind;
-use crate::question::{Question, read_question};
+use crate::question::read_question;
 use crate::review_error::ReviewError;
 use crate::rules::rules_tree;
 use kapi_model::Identity;
 use kapi_object::table_faults::text_in;
 use kapi_object::tree_form::put_text;
 use kapi_object::{Object, member};
-use kapi_policy::{Decision, Policy};
+use kapi_policy::Policy;
 use kapi_text::{Memory, Sequence};
 use serde_json::{Map, Value};
 use std::alloc::Global;
 
-/// The answer to a question of which the decision is known.
-fn decided_answer(
-    alloc: Global,
-    kind: ReviewKind,
-    namespace: &str,
-    question: &Question,
-    decision: &Decision<'_>,
-) -> Result<Value, Memory>
-    ensures { IfOk result (λ v. view v ≡ written.review_tree kind namespace.now
-        (written.question_tree kind question.now) (written.decision_tree (decision_of decision.now))) }
+/// The identity with its groups in the order of their bytes, in which a policy finds each of them without a walk: what is
+/// decided depends on which groups there are, and not on how they are listed.
+fn in_order(identity: Identity) -> Identity
+    ensures { (objects : PolicyObjects) (namespace : List ℕ) (point : Point) → decided objects result namespace point ≡ decided objects identity namespace point }
 {
-    let status = decision_tree(alloc, decision)?;
-    let spec = question_tree(alloc, kind, question)?;
-    review_tree(alloc, kind, namespace, spec, status)
+    let Identity { user, groups } = identity;
+    let mut groups = groups.into_vec();
+    groups.sort_unstable();
+    Identity {
+        user,
+        groups: Sequence::new(groups),
+    }
 }
 
 /// The answer to a review of access: what it asks, and the decision.
@@ -55,12 +54,11 @@ fn access_answer<P: Policy>(
     ensures { IfOk result (λ v. view v ≡ answers.access_answer (P.content policy.now) kind namespace.now (asks.question kind namespace.now caller.now (view spec.now))) }
 {
     let question = read_question(alloc, kind, namespace, caller, spec)?;
-    let decision = policy.decide(
-        &question.identity,
-        question.namespace.as_str(),
-        &question.point,
-    );
-    decided_answer(alloc, kind, namespace, &question, &decision)
+    let asked = question_tree(alloc, kind, &question)?;
+    let asker = in_order(question.identity);
+    let decision = policy.decide(&asker, question.namespace.as_str(), &question.point);
+    let status = decision_tree(alloc, &decision)?;
+    review_tree(alloc, kind, namespace, asked, status)
 }
 
 /// The `spec` of a review of rules.
