@@ -12,12 +12,12 @@ use Rattle.kapi_lines.specs.Lines.{NumberedLine}
 use Rattle.kapi_policy.specs.Objects.{PolicyObjects}
 use Rattle.kapi_access.specs.Gained.{gained}
 use Rattle.kapi_access.specs.declared.identities.Identities.{Identities}
-use Rattle.kapi_questions.specs.Answers.{gains_text}
-use Rattle.kapi_questions.specs.Lines as lined
-use Rattle.kapi_questions.specs.Lines.{LineError, answered_lines}
-use Rattle.kapi_questions.specs.declared.answer.Form.{Form}
-use Rattle.kapi_questions.specs.declared.lines.LineFault.{LineFault}
-use Rattle.kapi_questions.specs.declared.lines.LineFault.TheVariants as line_fault
+use Rattle.kapi_access.specs.Answers.{gains_text}
+use Rattle.kapi_access.specs.Lines as lined
+use Rattle.kapi_access.specs.Lines.{LineError, answered_lines}
+use Rattle.kapi_access.specs.declared.answer.Form.{Form}
+use Rattle.kapi_access.specs.declared.lines.LineFault.{LineFault}
+use Rattle.kapi_access.specs.declared.lines.LineFault.TheVariants as line_fault
 use Rattle.kapi_loading.specs.Settled.{is_settled}
 use Rattle.kapi.specs.Policies.{FilesError, Holds, IsLoaded, IsPolicyOf, Reply, as_first, as_question, as_second, comparison, fault_told, first_fault, lines_on, question_fault, second_fault}
 use Rattle.kapi.specs.declared.policies.FilesFault.{FilesFault}

@@ -11,10 +11,10 @@ use Rattle.kapi_loading.specs.Settled.{is_settled}
 use Rattle.kapi_access.specs.Gained.{gained}
 use Rattle.kapi_access.specs.declared.identities.Identities.{Identities}
 use Rattle.kapi_access.specs.Risks.{risks}
-use Rattle.kapi_questions.specs.Answers.{gains_text, settled_line, ways_text, who_text}
-use Rattle.kapi_questions.specs.Lines.{LineError, answered_lines, no_question}
-use Rattle.kapi_questions.specs.declared.answer.Form.{Form}
-use Rattle.kapi_questions.specs.declared.question.Wanted.{Wanted}
+use Rattle.kapi_access.specs.Answers.{gains_text, settled_line, ways_text, who_text}
+use Rattle.kapi_access.specs.Lines.{LineError, answered_lines, no_question}
+use Rattle.kapi_access.specs.declared.answer.Form.{Form}
+use Rattle.kapi_access.specs.declared.question.Wanted.{Wanted}
 use Rattle.kapi.specs.declared.policies.Answered.{Answered}
 use Rattle.kapi.specs.declared.policies.Compared.{Compared}
 use Rattle.kapi.specs.declared.policies.FilesFault.{FilesFault}
@@ -22,8 +22,8 @@ use Rattle.kapi.specs.declared.policies.LoadedPolicy.{LoadedPolicy}
 use Rattle.kapi.specs.declared.policies.FilesFault.TheVariants as fault
 use Rattle.kapi_loading.specs.declared.fault.StartError.{StartError}
 use Rattle.kapi_loading.specs.declared.fault.StartError.TheVariants as start
-use Rattle.kapi_questions.specs.declared.lines.LineFault.{LineFault}
-use Rattle.kapi_questions.specs.declared.lines.LineFault.TheVariants as lined
+use Rattle.kapi_access.specs.declared.lines.LineFault.{LineFault}
+use Rattle.kapi_access.specs.declared.lines.LineFault.TheVariants as lined
 
 -- the line at fault: of the first policy, of the second, or of the questions
 pub data FilesError : Type 0 where

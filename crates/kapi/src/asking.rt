@@ -7,8 +7,7 @@ use crate::policies::{
 };
 use crate::program::{CompareFiles, RisksFile, WhoQuestion, WhoWanted, WhoWords};
 use crate::telling::{print, read_file};
-use kapi_access::Identities;
-use kapi_questions::{Form, question_of};
+use kapi_access::{Form, Identities, question_of};
 use std::fs::Files;
 use std::io;
 use std::sync::Wait;

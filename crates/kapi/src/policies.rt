@@ -8,20 +8,20 @@ ghost use Rattle.kapi_loading.specs.Faults as loading;
 ghost use Rattle.kapi_loading.specs.Faults.{FileFault};
 ghost use Rattle.kapi_loading.specs.Loading.{machine_alone};
 ghost use Rattle.kapi_access.specs.Risks.{risks};
-ghost use Rattle.kapi_questions.specs.Answers.{ways_text, who_text};
-ghost use Rattle.kapi_questions.specs.Lines as lined;
-ghost use Rattle.kapi_questions.specs.Lines.{answered_lines};
+ghost use Rattle.kapi_access.specs.Answers.{ways_text, who_text};
+ghost use Rattle.kapi_access.specs.Lines as lined;
+ghost use Rattle.kapi_access.specs.Lines.{answered_lines};
 ghost use Rattle.kapi.specs.Policies as files;
 ghost use Rattle.kapi.specs.Policies.{Holds, IsLoaded, IsPolicyOf, answered_told, as_first, compared_to, compared_told, comparison, fault_told, lines_on, risks_on, who_on};
 
-use kapi_access::Identities;
+use kapi_access::{
+    Form, Identities, LineFault, Wanted, answer_compare, answer_lines, answer_risks, answer_who,
+    settled_line,
+};
 use kapi_core::Core;
 use kapi_index::IndexedPolicy;
 use kapi_lines::{Line, numbered_lines};
 use kapi_loading::{StartError, Started, is_settled, start_without_objects};
-use kapi_questions::{
-    Form, LineFault, Wanted, answer_compare, answer_lines, answer_risks, answer_who, settled_line,
-};
 use kapi_text::Memory;
 use std::alloc::Global;
 use std::sync::Wait;

@@ -70,7 +70,14 @@ pub fn run_serve<
         Some(_told) => 0,
         None => u64::try_from(rt.since_1970()?.as_millis()).unwrap_or(u64::MAX),
     };
-    match begin(rt.alloc(), rt, objects_of(&opening), first, milliseconds, seats) {
+    match begin(
+        rt.alloc(),
+        rt,
+        objects_of(&opening),
+        first,
+        milliseconds,
+        seats,
+    ) {
         Ok(started) => {
             // The text of the file is not kept beside what was made of it.
             drop(opening);

@@ -10,7 +10,10 @@ pub mod Alike
 pub mod Unprivileged
 pub mod Walks
 pub mod Ties
-pub mod Rights
+pub mod ShownRights
 pub mod Idle
 pub mod Joined
 pub mod Lists
+pub mod Parted
+pub mod Behind
+pub mod Walked

@@ -10,3 +10,10 @@ pub mod Scoped
 pub mod Given
 pub mod Dangling
 pub mod Together
+pub mod Tables
+pub mod Cells
+pub mod Members
+pub mod Questions
+pub mod Answers
+pub mod Lines
+pub mod Rights

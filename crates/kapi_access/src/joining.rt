@@ -1,5 +1,5 @@
 //! Atoms put together to rules.
-ghost use Rattle.std.specs.Prelude.{◌≡◌, ◌<◌, ◌++◌, ◌∷◌, [], length, map, IfOk, OnOk};
+ghost use Rattle.std.specs.Prelude.{◌≡◌, ◌<◌, ◌&&◌, ◌++◌, ◌∷◌, [], length, map, IfOk, OnOk};
 ghost use Rattle.std.specs.List.{list_any};
 ghost use Rattle.kapi_rules.specs.Atoms.{atom_allows, only_names, rule_of as rule_of_atom};
 ghost use Rattle.kapi_rules.specs.Rules.{allows as rule_allows};
@@ -26,6 +26,13 @@ fn lists_names(rule: &PolicyRule) -> bool
     !rule.resource_names.as_slice().is_empty()
 }
 
+fn same_names_and_urls(a: &PolicyRule, b: &PolicyRule) -> bool
+    ensures { result ≡ (put.same_texts a.now.resource_names b.now.resource_names && put.same_texts a.now.non_resource_urls b.now.non_resource_urls) }
+{
+    same_texts(&a.resource_names, &b.resource_names)
+        && same_texts(&a.non_resource_urls, &b.non_resource_urls)
+}
+
 /// Whether the rules have all lists but one in common.
 fn are_alike(part: Part, a: &PolicyRule, b: &PolicyRule) -> bool
     ensures { result ≡ put.are_alike part a.now b.now }
@@ -40,21 +47,15 @@ fn are_alike(part: Part, a: &PolicyRule, b: &PolicyRule) -> bool
         }
         Part::Verbs => {
             same_texts(&a.api_groups, &b.api_groups)
-                && (same_texts(&a.resources, &b.resources)
-                    && (same_texts(&a.resource_names, &b.resource_names)
-                        && same_texts(&a.non_resource_urls, &b.non_resource_urls)))
+                && (same_texts(&a.resources, &b.resources) && same_names_and_urls(a, b))
         }
         Part::Resources => {
             same_texts(&a.verbs, &b.verbs)
-                && (same_texts(&a.api_groups, &b.api_groups)
-                    && (same_texts(&a.resource_names, &b.resource_names)
-                        && same_texts(&a.non_resource_urls, &b.non_resource_urls)))
+                && (same_texts(&a.api_groups, &b.api_groups) && same_names_and_urls(a, b))
         }
         Part::Groups => {
             same_texts(&a.verbs, &b.verbs)
-                && (same_texts(&a.resources, &b.resources)
-                    && (same_texts(&a.resource_names, &b.resource_names)
-                        && same_texts(&a.non_resource_urls, &b.non_resource_urls)))
+                && (same_texts(&a.resources, &b.resources) && same_names_and_urls(a, b))
         }
         Part::Urls => {
             same_texts(&a.verbs, &b.verbs)

@@ -1,6 +1,6 @@
 use Rattle.std.proofs.Common.{ap, ap₂, ◌++◌, ◌∙◌}
 use Rattle.kapi_access.specs.Risks.{risks}
-use Rattle.kapi_questions.specs.Answers.{settled_line, ways_text}
+use Rattle.kapi_access.specs.Answers.{settled_line, ways_text}
 use Rattle.kapi.proofs.Held.{replied}
 use Rattle.kapi.proofs.policies.risks_machine.Goals as goal
 

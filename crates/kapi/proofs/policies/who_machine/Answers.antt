@@ -1,5 +1,5 @@
 use Rattle.std.proofs.Common.{ap, ◌∙◌}
-use Rattle.kapi_questions.specs.Answers.{who_text}
+use Rattle.kapi_access.specs.Answers.{who_text}
 use Rattle.kapi.proofs.Held.{replied}
 use Rattle.kapi.proofs.policies.who_machine.Goals as goal
 

@@ -1,4 +1,4 @@
-use Rattle.kapi_access.proofs.Rights.{lines_everywhere, lines_of_namespace, what_is_exact}
+use Rattle.kapi_access.proofs.ShownRights.{lines_everywhere, lines_of_namespace, what_is_exact}
 use Rattle.kapi_access.proofs.laws.what_one_has_is_what_one_may.Goals as goal
 
 pub returns-clause-rules : goal.returns-clause-rules

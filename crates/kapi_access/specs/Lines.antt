@@ -1,0 +1,47 @@
+-- The answers to questions of a file, a question a line.
+use Rattle.std.specs.Prelude.{ℕ, List, [], ◌∷◌, ◌++◌, codes, decimal, Option, Some, None, Result, Ok, Err}
+use Rattle.serde_json.specs.Data.{Data, number, object, unsigned, no_members, member}
+use Rattle.serde_json.specs.Written.{compact_text}
+use Rattle.kapi_text.specs.Gives.{◌>>=◌}
+use Rattle.kapi_lines.specs.Escapes.{escaped}
+use Rattle.kapi_lines.specs.Lines.{NumberedLine}
+use Rattle.kapi_policy.specs.Objects.{PolicyObjects}
+use Rattle.kapi_access.specs.Answers.{who_text}
+use Rattle.kapi_access.specs.Questions.{question_in}
+use Rattle.kapi_access.specs.declared.answer.Form.{Form}
+use Rattle.kapi_access.specs.declared.answer.Form.TheVariants as form
+use Rattle.kapi_access.specs.declared.lines.LineFault.{LineFault}
+use Rattle.kapi_access.specs.declared.lines.LineFault.TheVariants as fault
+use Rattle.kapi_access.specs.declared.question.Wanted.{Wanted}
+
+-- the line that is no question
+pub data LineError : Type 0 where
+  no_question : ℕ → LineError
+
+-- the line that a fault tells: none where an allocation failed
+abbrev pub fault_told : LineFault → Option LineError
+fault_told (fault.Question n) = Some (no_question n)
+fault_told fault.Memory = None
+
+-- the number of a line
+abbrev pub head_tree : NumberedLine → Data
+head_tree l = object (member (codes "line") (number (unsigned l.number)) no_members)
+
+-- the line that tells which question is answered below it
+abbrev pub head : Form → NumberedLine → List ℕ
+head form.Table l = codes "line " ++ (decimal l.number ++ (codes ": " ++ (escaped l.text ++ 10 ∷ [])))
+head form.Json l = compact_text (head_tree l) ++ 10 ∷ []
+
+-- the answer to a line that is that question
+abbrev pub answered_by : Form → PolicyObjects → NumberedLine → Option Wanted → Result (List ℕ) LineError
+answered_by f objects l (Some w) = Ok (head f l ++ who_text f objects w)
+answered_by f objects l None = Err (no_question l.number)
+
+-- the answer to a line
+abbrev pub answered : Form → PolicyObjects → NumberedLine → Result (List ℕ) LineError
+answered f objects l = answered_by f objects l (question_in l.text)
+
+-- the answers to lines, one behind the other, or the first line that is no question
+unfoldable pub answered_lines : Form → PolicyObjects → List NumberedLine → Result (List ℕ) LineError
+answered_lines f objects [] = Ok []
+answered_lines f objects (l ∷ ls) = answered f objects l >>= λ text. (answered_lines f objects ls >>= λ rest. Ok (text ++ rest))

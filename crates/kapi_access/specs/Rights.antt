@@ -1,0 +1,119 @@
+-- What an identity has, as it is printed.
+use Rattle.std.specs.Prelude.{ℕ, ◌==◌, Bool, true, false, ◌||◌, if◌then◌else◌, List, [], ◌∷◌, ◌++◌, length, drop, codes, map, Option, Some, None}
+use Rattle.std.specs.List.{filter, flat_map, list_any}
+use Rattle.serde_json.specs.Data.{Data, array, number, string, object, unsigned, no_members, member}
+use Rattle.serde_json.specs.View.{items_of}
+use Rattle.serde_json.specs.Written.{compact_text}
+use Rattle.kapi_model.specs.Identities.{is_master}
+use Rattle.kapi_model.specs.Kinds.{role_kind_text}
+use Rattle.kapi_model.specs.declared.policy_rule.PolicyRule.{PolicyRule}
+use Rattle.kapi_object.specs.Contents.{rule_tree}
+use Rattle.kapi_lines.specs.Escapes.{escaped}
+use Rattle.kapi_policy.specs.Objects.{PolicyObjects}
+use Rattle.kapi_access.specs.Given.{lines_within, what_lines}
+use Rattle.kapi_access.specs.declared.given.GivenBy.{GivenBy}
+use Rattle.kapi_access.specs.declared.scoped.ScopedRule.{ScopedRule}
+use Rattle.kapi_access.specs.Answers.{masters_line}
+use Rattle.kapi_access.specs.Cells.{binding_kind, namespace_cell, text_of_grant}
+use Rattle.kapi_access.specs.Questions.{after, before}
+use Rattle.kapi_access.specs.Tables.{table}
+use Rattle.kapi_access.specs.declared.answer.Form.{Form}
+use Rattle.kapi_access.specs.declared.answer.Form.TheVariants as form
+use Rattle.kapi_access.specs.declared.rights.Holder.{Holder}
+use Rattle.kapi_access.specs.declared.table.Row.{Row}
+
+-- ---- cells
+
+-- each text behind a comma
+abbrev pub behind_commas : List (List ℕ) → List ℕ
+behind_commas texts = flat_map (λ t. 44 ∷ t) texts
+
+-- a list without the comma in front of its first text; `-` where it is empty
+abbrev pub without_comma : List ℕ → List ℕ
+without_comma [] = codes "-"
+without_comma (b ∷ text) = text
+
+-- a resource of a group as kubectl prints it: `deployments.apps/scale`
+abbrev pub in_group : List ℕ → List ℕ → List ℕ
+in_group group resource =
+    if length group == 0 then resource
+    else before 47 resource ++ (46 ∷ (group ++ (if list_any (λ b. b == 47) resource then 47 ∷ after 47 resource else [])))
+
+-- the resources of a group
+abbrev pub resources_of : List (List ℕ) → List ℕ → List ℕ
+resources_of resources group = flat_map (λ r. 44 ∷ in_group group r) resources
+
+-- the resources of a rule in each of its groups, and its URLs
+abbrev pub targets : PolicyRule → List ℕ
+targets rule = flat_map (resources_of rule.resources) rule.api_groups ++ behind_commas rule.non_resource_urls
+
+-- by what a rule is given
+abbrev pub given_text : GivenBy → List ℕ
+given_text by = text_of_grant by.kind by.binding by.role by.rule
+
+-- all by what a rule is given, with semicolons between
+abbrev pub all_given : List GivenBy → List ℕ
+all_given list = drop 2 (flat_map (λ by. 59 ∷ 32 ∷ given_text by) list)
+
+-- ---- lines
+
+-- a rule, its scope, and by what it is given
+abbrev pub right_row : ScopedRule × List GivenBy → Row
+right_row line = record {
+  first = escaped (without_comma (behind_commas line.0.rule.verbs));
+  second = escaped (without_comma (targets line.0.rule));
+  third = escaped (without_comma (behind_commas line.0.rule.resource_names));
+  fourth = namespace_cell line.0.namespace;
+  last = escaped (all_given line.1);
+}
+
+-- the heads of the columns
+abbrev pub rights_head : Row
+rights_head = record { first = codes "VERBS"; second = codes "RESOURCES"; third = codes "NAMES"; fourth = codes "SCOPE"; last = codes "BY" }
+
+-- members of `system:masters` may do everything, without a binding
+abbrev pub everything_row : Row
+everything_row = record { first = codes "*"; second = codes "*"; third = codes "-"; fourth = codes "*"; last = codes "Group system:masters" }
+
+-- the lines of a table below their heads
+abbrev pub rights_table : List Row → List ℕ
+rights_table rows = if length rows == 0 then codes "Nothing is allowed.\n" else table (rights_head ∷ rows)
+
+-- a binding and the index of its role's rule
+abbrev pub given_tree : GivenBy → Data
+given_tree by =
+    object (member (codes "binding") (string by.binding)
+    (member (codes "bindingKind") (string (binding_kind by.kind))
+    (member (codes "role") (string by.role.name)
+    (member (codes "roleKind") (string (role_kind_text by.role.kind))
+    (member (codes "rule") (number (unsigned by.rule)) no_members)))))
+
+-- a rule as objects write it, its namespace, empty where it counts everywhere, and by what it is given
+abbrev pub right_tree : ScopedRule × List GivenBy → Data
+right_tree line =
+    object (member (codes "by") (array (items_of (map given_tree line.1)))
+    (member (codes "namespace") (string line.0.namespace)
+    (member (codes "rule") (rule_tree line.0.rule) no_members)))
+
+-- the same as a line
+abbrev pub right_line : ScopedRule × List GivenBy → List ℕ
+right_line line = compact_text (right_tree line) ++ 10 ∷ []
+
+-- ---- the answer
+
+-- the first row for a member of `system:masters`
+abbrev pub first_rows : Bool → List Row
+first_rows master = if master then everything_row ∷ [] else []
+
+-- the first line for a member of `system:masters`
+abbrev pub first_line : Bool → List ℕ
+first_line master = if master then masters_line else []
+
+-- what is printed of lines, and whether of a member of `system:masters`
+abbrev pub rights_text : Form → Bool → List (ScopedRule × List GivenBy) → List ℕ
+rights_text form.Table master lines = rights_table (first_rows master ++ map right_row lines)
+rights_text form.Json master lines = first_line master ++ flat_map right_line lines
+
+-- what a user has
+abbrev pub what_text : Form → PolicyObjects → Holder → List ℕ
+what_text f objects h = rights_text f (is_master h.identity) (lines_within h.within (what_lines objects h.identity))

@@ -1,0 +1,197 @@
+//! The answers as they are printed.
+ghost use Rattle.std.specs.Prelude.{◌≡◌, ◌++◌, ◌==◌, ◌∷◌, length, map, not, IfOk, OnOk};
+ghost use Rattle.std.specs.List.{flat_map};
+ghost use Rattle.kapi_access.specs.Gained.{gained};
+ghost use Rattle.kapi_access.specs.Risks.{risks as risks_of};
+ghost use Rattle.kapi_access.specs.Views.{gain_of, way_of};
+ghost use Rattle.kapi_policy.specs.All.{all_bindings};
+ghost use Rattle.kapi_policy.specs.Views.{binding_of};
+ghost use Rattle.kapi_access.specs.Answers as answers;
+ghost use Rattle.kapi_access.specs.Cells as cells;
+ghost use Rattle.kapi_access.specs.Members as members;
+
+use crate::allowed::who;
+use crate::cells::{gain_row, gains_head, masters_row, way_row, ways_head};
+use crate::gain::{Gain, compare};
+use crate::identities::Identities;
+use crate::members::{push_gain, push_way};
+use crate::question::Wanted;
+use crate::risky::risks;
+use crate::table::{Row, push_table};
+use crate::way::Way;
+use kapi_policy::{Binding, Policy};
+use kapi_text::Memory;
+use std::alloc::Global;
+
+/// How an answer is printed.
+#[derive(Clone, Copy, Debug, PartialEq, Eq)]
+pub enum Form {
+    /// Columns for people.
+    Table,
+    /// A JSON object a line.
+    Json,
+}
+
+// ---- gains
+
+fn gain_rows(alloc: Global, gains: &[Gain<'_>]) -> Result<Vec<Row>, Memory>
+    ensures { IfOk result (λ v. v.items ≡ cells.gains_head ∷ map cells.gain_row (map gain_of gains.now)) }
+{
+    let mut rows = Vec::new(alloc);
+    rows.push(gains_head(alloc)?)?;
+    for gain in gains {
+        rows.push(gain_row(alloc, gain)?)?;
+    }
+    Ok(rows)
+}
+
+fn push_gains(alloc: Global, text: &mut Vec<u8>, gains: &[Gain<'_>]) -> Result<(), Memory>
+    ensures { OnOk result (text.new.items ≡ text.old.items ++ flat_map members.gain_line (map gain_of gains.now)) }
+{
+    for gain in gains {
+        push_gain(alloc, text, gain)?;
+    }
+    Ok(())
+}
+
+fn push_gains_table(alloc: Global, text: &mut Vec<u8>, gains: &[Gain<'_>]) -> Result<(), Memory>
+    ensures { OnOk result (text.new.items ≡ text.old.items ++ answers.gains_table (map gain_of gains.now)) }
+{
+    if gains.is_empty() {
+        return text.extend_from_slice(b"Nobody gains.\n");
+    }
+    let rows = gain_rows(alloc, gains)?;
+    push_table(text, rows.as_slice())
+}
+
+fn gains_text(alloc: Global, form: Form, gains: &[Gain<'_>]) -> Result<Vec<u8>, Memory>
+    ensures { IfOk result (λ v. v.items ≡ answers.gains_text form (map gain_of gains.now)) }
+{
+    let mut text = Vec::new(alloc);
+    match form {
+        Form::Table => push_gains_table(alloc, &mut text, gains)?,
+        Form::Json => push_gains(alloc, &mut text, gains)?,
+    }
+    Ok(text)
+}
+
+/// What is printed of a comparison, and whether anybody gains.
+#[derive(Drop)]
+pub struct Compared {
+    pub text: Vec<u8>,
+    pub gains: bool,
+}
+
+/// What the policy after grants those identities that the policy before did not, given all bindings of both.
+pub fn answer_compare<P: Policy, Q: Policy>(
+    alloc: Global,
+    form: Form,
+    identities: Identities,
+    before: &P,
+    stood: &[Binding<'_>],
+    after: &Q,
+    bindings: &[Binding<'_>],
+) -> Result<Compared, Memory>
+    requires before { map binding_of stood.now ≡ all_bindings (P.content before.now) }
+    requires after { map binding_of bindings.now ≡ all_bindings (Q.content after.now) }
+    ensures text { IfOk result (λ c. c.text.items ≡ answers.gains_text form (gained identities (P.content before.now) (Q.content after.now))) }
+    ensures gains { IfOk result (λ c. c.gains ≡ not (length (gained identities (P.content before.now) (Q.content after.now)) == 0)) }
+{
+    let list = compare(alloc, identities, before, stood, after, bindings)?;
+    Ok(Compared {
+        text: gains_text(alloc, form, list.as_slice())?,
+        gains: !list.is_empty(),
+    })
+}
+
+// ---- ways
+
+fn way_rows(alloc: Global, ways: &[Way<'_>]) -> Result<Vec<Row>, Memory>
+    ensures { IfOk result (λ v. v.items ≡ cells.ways_head ∷ cells.masters_row ∷ map cells.way_row (map way_of ways.now)) }
+{
+    let mut rows = Vec::new(alloc);
+    rows.push(ways_head(alloc)?)?;
+    rows.push(masters_row(alloc)?)?;
+    for way in ways {
+        rows.push(way_row(alloc, way)?)?;
+    }
+    Ok(rows)
+}
+
+fn push_ways(alloc: Global, text: &mut Vec<u8>, ways: &[Way<'_>]) -> Result<(), Memory>
+    ensures { OnOk result (text.new.items ≡ text.old.items ++ flat_map members.way_line (map way_of ways.now)) }
+{
+    for way in ways {
+        push_way(alloc, text, way)?;
+    }
+    Ok(())
+}
+
+/// The line of the group whose members may do everything.
+pub const MASTERS_LINE: &[u8] = b"{\"subject\":\"system:masters\",\"subjectKind\":\"Group\"}\n";
+
+fn ways_text(alloc: Global, form: Form, ways: &[Way<'_>]) -> Result<Vec<u8>, Memory>
+    ensures { IfOk result (λ v. v.items ≡ answers.ways_text form (map way_of ways.now)) }
+{
+    let mut text = Vec::new(alloc);
+    match form {
+        Form::Table => {
+            let rows = way_rows(alloc, ways)?;
+            push_table(&mut text, rows.as_slice())?;
+        }
+        Form::Json => {
+            text.extend_from_slice(MASTERS_LINE)?;
+            push_ways(alloc, &mut text, ways)?;
+        }
+    }
+    Ok(text)
+}
+
+/// Who may do what is asked, given all bindings of the policy: a line for each user and group and each binding by which it may.
+pub fn answer_who<P: Policy>(
+    alloc: Global,
+    form: Form,
+    policy: &P,
+    bindings: &[Binding<'_>],
+    wanted: &Wanted,
+) -> Result<Vec<u8>, Memory>
+    requires { map binding_of bindings.now ≡ all_bindings (P.content policy.now) }
+    ensures { IfOk result (λ v. v.items ≡ answers.who_text form (P.content policy.now) wanted.now) }
+{
+    let list = who(
+        alloc,
+        policy,
+        bindings,
+        wanted.namespace.as_str(),
+        &wanted.point,
+    )?;
+    ways_text(alloc, form, list.as_slice())
+}
+
+/// Who may gain more than the policy gives, given all its bindings: a line for each user and group and each binding by which it may.
+pub fn answer_risks<P: Policy>(
+    alloc: Global,
+    form: Form,
+    policy: &P,
+    bindings: &[Binding<'_>],
+) -> Result<Vec<u8>, Memory>
+    requires { map binding_of bindings.now ≡ all_bindings (P.content policy.now) }
+    ensures { IfOk result (λ v. v.items ≡ answers.ways_text form (risks_of (P.content policy.now))) }
+{
+    let list = risks(alloc, policy, bindings)?;
+    ways_text(alloc, form, list.as_slice())
+}
+
+/// The last line of risks: what holds of all who are not listed, where the roles are settled.
+pub fn settled_line(form: Form, settled: bool) -> &'static [u8]
+    ensures { result.now ≡ answers.settled_line form settled }
+{
+    match (form, settled) {
+        (Form::Table, true) =>
+            b"Through roles and bindings, nothing that all others write lets anybody do what neither that one nor any of them was allowed. kapi paths lists other ways.\n",
+        (Form::Table, false) =>
+            b"The roles are not settled after 64 turns, so that nothing is said of all others.\n",
+        (Form::Json, true) => b"{\"settled\":true}\n",
+        (Form::Json, false) => b"{\"settled\":false}\n",
+    }
+}

@@ -1,0 +1,223 @@
+//! The cells of a line, in printable ASCII.
+ghost use Rattle.std.specs.Prelude.{◌≡◌, IfOk, string_bytes};
+ghost use Rattle.kapi_access.specs.Views.{gain_of, way_of};
+ghost use Rattle.kapi_lines.specs.Escapes.{escaped};
+ghost use Rattle.kapi_policy.specs.Views.{binding_of};
+ghost use Rattle.kapi_access.specs.Cells as cells;
+
+use crate::gain::Gain;
+use crate::grantee::Grantee;
+use crate::table::Row;
+use crate::way::Way;
+use kapi_lines::{copy_of, write_escaped};
+use kapi_model::RoleRef;
+use kapi_policy::{Binding, BindingKind};
+use kapi_reply::atom_list;
+use kapi_rules::Atom;
+use kapi_text::{Memory, Sequence};
+use std::alloc::{AllocError, Global};
+
+/// The bytes in printable ASCII.
+pub fn escape(alloc: Global, bytes: &[u8]) -> Result<Sequence<u8>, Memory>
+    ensures { IfOk result (λ s. s ≡ escaped bytes.now) }
+{
+    let mut text = Vec::new(alloc);
+    match write_escaped(&mut text, bytes) {
+        Ok(()) => Ok(Sequence::new(text)),
+        Err(_refused) => Err(AllocError),
+    }
+}
+
+/// `User` or `Group`.
+pub fn subject_kind(to: &Grantee) -> &'static str
+    ensures { result.now ≡ cells.subject_kind to.now }
+{
+    match to {
+        Grantee::User(_) => "User",
+        Grantee::Group(_) => "Group",
+    }
+}
+
+/// The name of the user or group.
+pub fn subject_name(to: &Grantee) -> &str
+    ensures { result.now ≡ cells.subject_name to.now }
+{
+    match to {
+        Grantee::User(name) => name.as_str(),
+        Grantee::Group(name) => name.as_str(),
+    }
+}
+
+/// The kind of a binding as objects tell it.
+pub fn binding_kind(kind: BindingKind) -> &'static str
+    ensures { result.now ≡ cells.binding_kind kind }
+{
+    match kind {
+        BindingKind::RoleBinding => "RoleBinding",
+        BindingKind::ClusterRoleBinding => "ClusterRoleBinding",
+    }
+}
+
+fn joined(alloc: Global, kind: &str, name: &str) -> Result<String, Memory>
+    ensures { IfOk result (λ s. string_bytes s ≡ cells.joined kind.now name.now) }
+{
+    let mut text = String::from_str(alloc, kind)?;
+    text.push_str(" ")?;
+    text.push_str(name)?;
+    Ok(text)
+}
+
+fn subject_cell(alloc: Global, to: &Grantee) -> Result<Sequence<u8>, Memory>
+    ensures { IfOk result (λ s. s ≡ cells.subject_cell to.now) }
+{
+    let text = joined(alloc, subject_kind(to), subject_name(to))?;
+    escape(alloc, text.as_bytes())
+}
+
+/// A namespace, or `*` for all of them.
+pub fn namespace_cell(alloc: Global, namespace: &str) -> Result<Sequence<u8>, Memory>
+    ensures { IfOk result (λ s. s ≡ cells.namespace_cell namespace.now) }
+{
+    if namespace.is_empty() {
+        return escape(alloc, b"*");
+    }
+    escape(alloc, namespace.as_bytes())
+}
+
+fn binding_text(alloc: Global, binding: &Binding<'_>) -> Result<String, Memory>
+    ensures { IfOk result (λ s. string_bytes s ≡ cells.binding_text (binding_of binding.now)) }
+{
+    joined(alloc, binding_kind(binding.kind), binding.name)
+}
+
+fn rule_text(alloc: Global, role: &RoleRef, rule: usize) -> Result<String, Memory>
+    ensures { IfOk result (λ s. string_bytes s ≡ cells.rule_text role.now rule) }
+{
+    let number = format!(in alloc; "{rule}")?;
+    let mut text = joined(alloc, role.kind.as_str(), role.name.as_str())?;
+    text.push_str(", rule ")?;
+    text.push_str(number.as_str())?;
+    Ok(text)
+}
+
+/// A rule of the role of a binding of that kind and name.
+pub fn text_of_grant(
+    alloc: Global,
+    kind: BindingKind,
+    name: &str,
+    role: &RoleRef,
+    rule: usize,
+) -> Result<String, Memory>
+    ensures { IfOk result (λ s. string_bytes s ≡ cells.text_of_grant kind name.now role.now rule) }
+{
+    let role = rule_text(alloc, role, rule)?;
+    let mut text = joined(alloc, binding_kind(kind), name)?;
+    text.push_str(", ")?;
+    text.push_str(role.as_str())?;
+    Ok(text)
+}
+
+/// A binding as a cell.
+fn binding_cell(alloc: Global, binding: &Binding<'_>) -> Result<Sequence<u8>, Memory>
+    ensures { IfOk result (λ s. s ≡ escaped (cells.binding_text (binding_of binding.now))) }
+{
+    let text = binding_text(alloc, binding)?;
+    escape(alloc, text.as_bytes())
+}
+
+/// A rule of a role as a cell.
+fn rule_cell(alloc: Global, role: &RoleRef, rule: usize) -> Result<Sequence<u8>, Memory>
+    ensures { IfOk result (λ s. s ≡ escaped (cells.rule_text role.now rule)) }
+{
+    let text = rule_text(alloc, role, rule)?;
+    escape(alloc, text.as_bytes())
+}
+
+/// A rule of the role of a binding as a cell.
+fn by_cell(alloc: Global, binding: &Binding<'_>, rule: usize) -> Result<Sequence<u8>, Memory>
+    ensures { IfOk result (λ s. s ≡ escaped (cells.by_text (binding_of binding.now) rule)) }
+{
+    let text = text_of_grant(alloc, binding.kind, binding.name, binding.role, rule)?;
+    escape(alloc, text.as_bytes())
+}
+
+fn atom_cell(alloc: Global, atom: &Atom) -> Result<Sequence<u8>, Memory>
+    ensures { IfOk result (λ s. s ≡ cells.atom_cell atom.now) }
+{
+    let text = atom_list(alloc, atom)?.to_string(alloc)?;
+    escape(alloc, text.as_bytes())
+}
+
+/// The cells of a gain.
+pub fn gain_row(alloc: Global, gain: &Gain<'_>) -> Result<Row, Memory>
+    ensures { IfOk result (λ r. r ≡ cells.gain_row (gain_of gain.now)) }
+{
+    Ok(Row {
+        first: subject_cell(alloc, &gain.to)?,
+        second: namespace_cell(alloc, gain.binding.namespace)?,
+        third: atom_cell(alloc, &gain.gain)?,
+        fourth: Sequence::new(Vec::new(alloc)),
+        last: by_cell(alloc, &gain.binding, gain.rule)?,
+    })
+}
+
+/// The cells of a way.
+pub fn way_row(alloc: Global, way: &Way<'_>) -> Result<Row, Memory>
+    ensures { IfOk result (λ r. r ≡ cells.way_row (way_of way.now)) }
+{
+    Ok(Row {
+        first: subject_cell(alloc, &way.to)?,
+        second: namespace_cell(alloc, way.binding.namespace)?,
+        third: binding_cell(alloc, &way.binding)?,
+        fourth: Sequence::new(Vec::new(alloc)),
+        last: rule_cell(alloc, way.binding.role, way.rule)?,
+    })
+}
+
+/// A row of these words.
+pub fn words(
+    alloc: Global,
+    first: &[u8],
+    second: &[u8],
+    third: &[u8],
+    fourth: &[u8],
+    last: &[u8],
+) -> Result<Row, Memory>
+    ensures { IfOk result (λ r. r ≡ record { first = first.now; second = second.now; third = third.now; fourth = fourth.now; last = last.now }) }
+{
+    Ok(Row {
+        first: copy_of(alloc, first)?,
+        second: copy_of(alloc, second)?,
+        third: copy_of(alloc, third)?,
+        fourth: copy_of(alloc, fourth)?,
+        last: copy_of(alloc, last)?,
+    })
+}
+
+/// The heads of the columns of gains.
+pub fn gains_head(alloc: Global) -> Result<Row, Memory>
+    ensures { IfOk result (λ r. r ≡ cells.gains_head) }
+{
+    words(alloc, b"SUBJECT", b"NAMESPACE", b"GAINS", b"", b"BY")
+}
+
+/// The heads of the columns of ways.
+pub fn ways_head(alloc: Global) -> Result<Row, Memory>
+    ensures { IfOk result (λ r. r ≡ cells.ways_head) }
+{
+    words(alloc, b"SUBJECT", b"NAMESPACE", b"BINDING", b"", b"RULE")
+}
+
+/// The cells of the group whose members may do everything.
+pub fn masters_row(alloc: Global) -> Result<Row, Memory>
+    ensures { IfOk result (λ r. r ≡ cells.masters_row) }
+{
+    words(
+        alloc,
+        b"Group system:masters",
+        b"*",
+        b"-",
+        b"",
+        b"everything",
+    )
+}

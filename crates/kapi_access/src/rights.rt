@@ -1,0 +1,363 @@
+//! What an identity has, as it is printed.
+ghost use Rattle.std.specs.Prelude.{◌≡◌, ◌++◌, ◌∷◌, ◌==◌, drop, map, IfOk, OnOk};
+ghost use Rattle.std.specs.List.{flat_map, list_any};
+ghost use Rattle.serde_json.specs.View.{items_of, items_view, view};
+ghost use Rattle.kapi_access.specs.Given.{is_within as is_within_of, lines_within};
+ghost use Rattle.kapi_lines.specs.Escapes.{escaped};
+ghost use Rattle.kapi_model.specs.Identities.{is_master};
+ghost use Rattle.kapi_policy.specs.All.{all_bindings};
+ghost use Rattle.kapi_policy.specs.Views.{binding_of};
+ghost use Rattle.kapi_access.specs.Rights as printed;
+
+use crate::answer::{Form, MASTERS_LINE};
+use crate::cells::{binding_kind, escape, namespace_cell, text_of_grant, words};
+use crate::given::{GivenBy, given_lines, what};
+use crate::question::split_at_slash;
+use crate::scoped::ScopedRule;
+use crate::table::{Row, push_table};
+use kapi_model::{Identity, PolicyRule};
+use kapi_object::tree_form::{ToTree, put_string};
+use kapi_policy::{Binding, Policy};
+use kapi_text::{Memory, Sequence, Text};
+use serde_json::{Map, Value, put};
+use std::alloc::Global;
+use std::collections::BTreeMap;
+
+/// Of whom it is asked what they have, in a namespace or, without one, everywhere.
+#[derive(Debug, Drop)]
+pub struct Holder {
+    pub identity: Identity,
+    pub within: Option<Text>,
+}
+
+// ---- cells
+
+fn push_behind(text: &mut Vec<u8>, byte: u8, rest: &[u8]) -> Result<(), Memory>
+    ensures { OnOk result (text.new.items ≡ text.old.items ++ byte ∷ rest.now) }
+{
+    text.push(byte)?;
+    text.extend_from_slice(rest)
+}
+
+fn push_texts(text: &mut Vec<u8>, texts: &[Text]) -> Result<(), Memory>
+    ensures { OnOk result (text.new.items ≡ text.old.items ++ printed.behind_commas texts.now) }
+{
+    for entry in texts {
+        push_behind(text, b',', entry.as_str().as_bytes())?;
+    }
+    Ok(())
+}
+
+fn has_slash(text: &str) -> bool
+    ensures { result ≡ list_any (λ b. b == 47) text.now }
+{
+    text.as_bytes().iter().any(|byte| *byte == b'/')
+}
+
+fn push_in_group(text: &mut Vec<u8>, group: &str, resource: &str) -> Result<(), Memory>
+    ensures { OnOk result (text.new.items ≡ text.old.items ++ printed.in_group group.now resource.now) }
+{
+    if group.is_empty() {
+        return text.extend_from_slice(resource.as_bytes());
+    }
+    let (kind, subresource) = split_at_slash(resource);
+    text.extend_from_slice(kind.as_bytes())?;
+    push_behind(text, b'.', group.as_bytes())?;
+    if has_slash(resource) {
+        return push_behind(text, b'/', subresource.as_bytes());
+    }
+    Ok(())
+}
+
+fn push_resource(text: &mut Vec<u8>, group: &str, resource: &str) -> Result<(), Memory>
+    ensures { OnOk result (text.new.items ≡ text.old.items ++ 44 ∷ printed.in_group group.now resource.now) }
+{
+    text.push(b',')?;
+    push_in_group(text, group, resource)
+}
+
+fn push_resources(text: &mut Vec<u8>, resources: &[Text], group: &str) -> Result<(), Memory>
+    ensures { OnOk result (text.new.items ≡ text.old.items ++ printed.resources_of resources.now group.now) }
+{
+    for resource in resources {
+        push_resource(text, group, resource.as_str())?;
+    }
+    Ok(())
+}
+
+fn push_groups(text: &mut Vec<u8>, resources: &[Text], groups: &[Text]) -> Result<(), Memory>
+    ensures { OnOk result (text.new.items ≡ text.old.items ++ flat_map (printed.resources_of resources.now) groups.now) }
+{
+    for group in groups {
+        push_resources(text, resources, group.as_str())?;
+    }
+    Ok(())
+}
+
+fn list_cell(alloc: Global, text: &[u8]) -> Result<Sequence<u8>, Memory>
+    ensures { IfOk result (λ s. s ≡ escaped (printed.without_comma text.now)) }
+{
+    match text {
+        [_comma, rest @ ..] => escape(alloc, rest),
+        [] => escape(alloc, b"-"),
+    }
+}
+
+fn texts_cell(alloc: Global, texts: &[Text]) -> Result<Sequence<u8>, Memory>
+    ensures { IfOk result (λ s. s ≡ escaped (printed.without_comma (printed.behind_commas texts.now))) }
+{
+    let mut text = Vec::new(alloc);
+    push_texts(&mut text, texts)?;
+    list_cell(alloc, text.as_slice())
+}
+
+fn targets_cell(alloc: Global, rule: &PolicyRule) -> Result<Sequence<u8>, Memory>
+    ensures { IfOk result (λ s. s ≡ escaped (printed.without_comma (printed.targets rule.now))) }
+{
+    let mut text = Vec::new(alloc);
+    push_groups(
+        &mut text,
+        rule.resources.as_slice(),
+        rule.api_groups.as_slice(),
+    )?;
+    push_texts(&mut text, rule.non_resource_urls.as_slice())?;
+    list_cell(alloc, text.as_slice())
+}
+
+fn push_given(alloc: Global, text: &mut Vec<u8>, by: &GivenBy) -> Result<(), Memory>
+    ensures { OnOk result (text.new.items ≡ text.old.items ++ 59 ∷ 32 ∷ printed.given_text by.now) }
+{
+    let written = text_of_grant(alloc, by.kind, by.binding.as_str(), &by.role, by.rule)?;
+    text.extend_from_slice(b"; ")?;
+    text.extend_from_slice(written.as_bytes())
+}
+
+fn push_all_given(alloc: Global, text: &mut Vec<u8>, list: &[GivenBy]) -> Result<(), Memory>
+    ensures { OnOk result (text.new.items ≡ text.old.items ++ flat_map (λ by. 59 ∷ 32 ∷ printed.given_text by) list.now) }
+{
+    for by in list {
+        push_given(alloc, text, by)?;
+    }
+    Ok(())
+}
+
+fn behind_two(text: &[u8]) -> &[u8]
+    ensures { result.now ≡ drop 2 text.now }
+{
+    match text {
+        [_first, _second, rest @ ..] => rest,
+        _ => &[],
+    }
+}
+
+fn given_cell(alloc: Global, list: &[GivenBy]) -> Result<Sequence<u8>, Memory>
+    ensures { IfOk result (λ s. s ≡ escaped (printed.all_given list.now)) }
+{
+    let mut text = Vec::new(alloc);
+    push_all_given(alloc, &mut text, list)?;
+    escape(alloc, behind_two(text.as_slice()))
+}
+
+fn right_row(alloc: Global, at: &ScopedRule, by: &[GivenBy]) -> Result<Row, Memory>
+    ensures { IfOk result (λ r. r ≡ printed.right_row (at.now, by.now)) }
+{
+    Ok(Row {
+        first: texts_cell(alloc, at.rule.verbs.as_slice())?,
+        second: targets_cell(alloc, &at.rule)?,
+        third: texts_cell(alloc, at.rule.resource_names.as_slice())?,
+        fourth: namespace_cell(alloc, at.namespace.as_str())?,
+        last: given_cell(alloc, by)?,
+    })
+}
+
+// ---- JSON
+
+fn given_tree(alloc: Global, by: &GivenBy) -> Result<Value, Memory>
+    ensures { IfOk result (λ v. view v ≡ printed.given_tree by.now) }
+{
+    let mut members = Map::new(alloc);
+    put_string(alloc, &mut members, "binding", by.binding.as_str())?;
+    put_string(alloc, &mut members, "bindingKind", binding_kind(by.kind))?;
+    put_string(alloc, &mut members, "role", by.role.name.as_str())?;
+    put_string(alloc, &mut members, "roleKind", by.role.kind.as_str())?;
+    put(&mut members, alloc, "rule", Value::from(by.rule as u64))?;
+    Ok(Value::Object(members))
+}
+
+fn given_items(alloc: Global, list: &[GivenBy]) -> Result<Vec<Value>, Memory>
+    ensures { IfOk result (λ v. items_view v.items ≡ items_of (map printed.given_tree list.now)) }
+{
+    let mut items = Vec::new(alloc);
+    for by in list {
+        items.push(given_tree(alloc, by)?)?;
+    }
+    Ok(items)
+}
+
+fn right_tree(alloc: Global, at: &ScopedRule, by: &[GivenBy]) -> Result<Value, Memory>
+    ensures { IfOk result (λ v. view v ≡ printed.right_tree (at.now, by.now)) }
+{
+    let mut members = Map::new(alloc);
+    put(
+        &mut members,
+        alloc,
+        "by",
+        Value::Array(given_items(alloc, by)?),
+    )?;
+    put_string(alloc, &mut members, "namespace", at.namespace.as_str())?;
+    put(&mut members, alloc, "rule", at.rule.to_tree(alloc)?)?;
+    Ok(Value::Object(members))
+}
+
+fn push_right(
+    alloc: Global,
+    text: &mut Vec<u8>,
+    at: &ScopedRule,
+    by: &[GivenBy],
+) -> Result<(), Memory>
+    ensures { OnOk result (text.new.items ≡ text.old.items ++ printed.right_line (at.now, by.now)) }
+{
+    let written = right_tree(alloc, at, by)?.to_vec(alloc)?;
+    text.extend_from_slice(written.as_slice())?;
+    text.extend_from_slice(b"\n")
+}
+
+// ---- lines
+
+/// Whether a rule that counts in the namespace, or everywhere where that is empty, is asked for.
+fn is_within(within: &Option<Text>, namespace: &str) -> bool
+    ensures { result ≡ is_within_of within.now namespace.now }
+{
+    match within {
+        Some(asked) => namespace.is_empty() || namespace == asked.as_str(),
+        None => true,
+    }
+}
+
+fn push_rows(
+    alloc: Global,
+    rows: &mut Vec<Row>,
+    within: &Option<Text>,
+    lines: &BTreeMap<ScopedRule, Sequence<GivenBy>>,
+) -> Result<(), Memory>
+    ensures { OnOk result (rows.new.items ≡ rows.old.items ++ map printed.right_row (lines_within within.now lines.now.entries)) }
+{
+    for (at, by) in lines {
+        if is_within(within, at.namespace.as_str()) {
+            rows.push(right_row(alloc, at, by.as_slice())?)?;
+        }
+    }
+    Ok(())
+}
+
+fn push_rights(
+    alloc: Global,
+    text: &mut Vec<u8>,
+    within: &Option<Text>,
+    lines: &BTreeMap<ScopedRule, Sequence<GivenBy>>,
+) -> Result<(), Memory>
+    ensures { OnOk result (text.new.items ≡ text.old.items ++ flat_map printed.right_line (lines_within within.now lines.now.entries)) }
+{
+    for (at, by) in lines {
+        if is_within(within, at.namespace.as_str()) {
+            push_right(alloc, text, at, by.as_slice())?;
+        }
+    }
+    Ok(())
+}
+
+fn rights_head(alloc: Global) -> Result<Row, Memory>
+    ensures { IfOk result (λ r. r ≡ printed.rights_head) }
+{
+    words(alloc, b"VERBS", b"RESOURCES", b"NAMES", b"SCOPE", b"BY")
+}
+
+fn everything_row(alloc: Global) -> Result<Row, Memory>
+    ensures { IfOk result (λ r. r ≡ printed.everything_row) }
+{
+    words(alloc, b"*", b"*", b"-", b"*", b"Group system:masters")
+}
+
+// ---- the answer
+
+fn push_rights_table(alloc: Global, text: &mut Vec<u8>, rows: Vec<Row>) -> Result<(), Memory>
+    ensures { OnOk result (text.new.items ≡ text.old.items ++ printed.rights_table rows.items) }
+{
+    if rows.is_empty() {
+        return text.extend_from_slice(b"Nothing is allowed.\n");
+    }
+    let mut rows = rows;
+    let mut all = Vec::new(alloc);
+    all.push(rights_head(alloc)?)?;
+    all.append(&mut rows)?;
+    push_table(text, all.as_slice())
+}
+
+fn rights_rows(
+    alloc: Global,
+    master: bool,
+    within: &Option<Text>,
+    lines: &BTreeMap<ScopedRule, Sequence<GivenBy>>,
+) -> Result<Vec<Row>, Memory>
+    ensures { IfOk result (λ v. v.items ≡ printed.first_rows master ++ map printed.right_row (lines_within within.now lines.now.entries)) }
+{
+    let mut rows = Vec::new(alloc);
+    if master {
+        rows.push(everything_row(alloc)?)?;
+    }
+    push_rows(alloc, &mut rows, within, lines)?;
+    Ok(rows)
+}
+
+fn rights_lines(
+    alloc: Global,
+    master: bool,
+    within: &Option<Text>,
+    lines: &BTreeMap<ScopedRule, Sequence<GivenBy>>,
+) -> Result<Vec<u8>, Memory>
+    ensures { IfOk result (λ v. v.items ≡ printed.first_line master ++ flat_map printed.right_line (lines_within within.now lines.now.entries)) }
+{
+    let mut text = Vec::new(alloc);
+    if master {
+        text.extend_from_slice(MASTERS_LINE)?;
+    }
+    push_rights(alloc, &mut text, within, lines)?;
+    Ok(text)
+}
+
+fn rights_text(
+    alloc: Global,
+    form: Form,
+    master: bool,
+    within: &Option<Text>,
+    lines: &BTreeMap<ScopedRule, Sequence<GivenBy>>,
+) -> Result<Vec<u8>, Memory>
+    ensures { IfOk result (λ v. v.items ≡ printed.rights_text form master (lines_within within.now lines.now.entries)) }
+{
+    match form {
+        Form::Table => {
+            let mut text = Vec::new(alloc);
+            let rows = rights_rows(alloc, master, within, lines)?;
+            push_rights_table(alloc, &mut text, rows)?;
+            Ok(text)
+        }
+        Form::Json => rights_lines(alloc, master, within, lines),
+    }
+}
+
+/// What a user has, given all bindings of the policy: a line for each rule and scope, with all bindings by which it is given.
+pub fn answer_what<P: Policy>(
+    alloc: Global,
+    form: Form,
+    policy: &P,
+    bindings: &[Binding<'_>],
+    holder: &Holder,
+) -> Result<Vec<u8>, Memory>
+    requires { map binding_of bindings.now ≡ all_bindings (P.content policy.now) }
+    ensures { IfOk result (λ v. v.items ≡ printed.what_text form (P.content policy.now) holder.now) }
+{
+    let given = what(alloc, policy, bindings, &holder.identity)?;
+    let lines = given_lines(alloc, given)?;
+    let master = holder.identity.is_master();
+    rights_text(alloc, form, master, &holder.within, &lines)
+}

@@ -1,3 +1,0 @@
-pub mod Parted
-pub mod Behind
-pub mod Walked
