@@ -15,6 +15,7 @@ CHECKS = {
     "rechecks": Module(words=()),
     "missing": Module(words=("500",)),
     "compare-random": Module(words=("100",)),
+    "what-random": Module(words=("100",)),
     "hostile": Module(),
     "crafted": Module(),
     "growths": Module("cc"),

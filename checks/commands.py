@@ -56,6 +56,10 @@ MAPS, MAP = "/api/v1/namespaces/default/configmaps", {it: item("ConfigMap", f"de
 FILES = {
     "before": BEFORE, "after": AFTER, "questions": QUESTIONS, "asked": "list pods shop\nget pods shop", "others": "get nodes *\n",
     "doubtful": AFTER + bound("RoleBinding", "shop/viewers", "ClusterRole view", "User ann"),
+    "tills": BEFORE + bound("ClusterRoleBinding", "accounts", "ClusterRole seer", "Group system:serviceaccounts:shop") + bound("RoleBinding", "shop/more", "Role reader", "User bob"),
+    "owned": role("ClusterRole", "owner", "*", "configmaps") + bound("ClusterRoleBinding", "owners", "ClusterRole owner", "User ann")
+    + role("ClusterRole", "scopes", "impersonate", "userextras/scopes").replace('apiGroups":[""]', 'apiGroups":["authentication.k8s.io"]')
+    + bound("ClusterRoleBinding", "scoped", "ClusterRole scopes", "User bob"),
     "homeless": ACTORS, "more": ACTORS + bound("RoleBinding", "others", "Role actor", "User eve"),
     "named": role("Role", "shop/reader", "get", "pods", "a") + READERS.rstrip(), "map": MAP["b"], "maps": MAP["a"] + MAP["b"].rstrip(),
     "folder/1.json": text_of({"kind": "List", "items": [json.loads(it) for it in SEER.splitlines()]}),
@@ -78,8 +82,12 @@ def table(*rows):
 
 
 gains = functools.partial(table, "SUBJECT | NAMESPACE | GAINS | BY")
+rights = functools.partial(table, "VERBS | RESOURCES | NAMES | SCOPE | BY")
 ways = functools.partial(table, "SUBJECT | NAMESPACE | BINDING | RULE", "Group system:masters | * | - | everything",
                          "Group system:masters | * | ClusterRoleBinding cluster-admin | ClusterRole cluster-admin, rule 0")
+SEEN, READ = "get | nodes | - | * | ClusterRoleBinding seers, ClusterRole seer, rule 0", "get,delete | pods | - | shop | RoleBinding readers, Role reader, rule 0"
+OWNED = "get | nodes | - | * | ClusterRoleBinding accounts, ClusterRole seer, rule 0; ClusterRoleBinding seers, ClusterRole seer, rule 0"
+MASTER = "* | * | - | * | Group system:masters"
 LIST, DELETE = (f'User ann | shop | ["{verb}","","pods"] | RoleBinding readers, Role reader, rule 0' for verb in ("list", "delete"))
 OLGA = 'User olga | * | ["get","","nodes"] | ClusterRoleBinding olga-sees, ClusterRole seer, rule 0'
 EVE = 'User eve | {} | ["impersonate","","users"] | RoleBinding others, Role actor, rule 0'
@@ -89,7 +97,11 @@ BY = '"binding":"readers","bindingKind":"RoleBinding","namespace":"shop","role":
 BY_OLGA = '"binding":"olga-sees","bindingKind":"ClusterRoleBinding","namespace":"","role":"seer","roleKind":"ClusterRole","rule":0,"subject":"olga","subjectKind":"User"}\n'
 JSON = '{"subject":"system:masters","subjectKind":"Group"}\n{"binding":"cluster-admin","bindingKind":"ClusterRoleBinding","namespace":"",' \
     '"role":"cluster-admin","roleKind":"ClusterRole","rule":0,"subject":"system:masters","subjectKind":"Group"}\n'
-NOTHING = "Nothing that all others write lets anybody do what neither that one nor any of them was allowed.\n"
+WHAT_JSON = '{"by":[{"binding":"seers","bindingKind":"ClusterRoleBinding","role":"seer","roleKind":"ClusterRole","rule":0}],"namespace":"",' \
+    '"rule":{"apiGroups":[""],"resources":["nodes"],"verbs":["get"]}}\n' \
+    '{"by":[{"binding":"readers","bindingKind":"RoleBinding","role":"reader","roleKind":"Role","rule":0}],"namespace":"shop",' \
+    '"rule":{"apiGroups":[""],"resources":["pods"],"verbs":["get","delete"]}}\n'
+NOTHING = "Through roles and bindings, nothing that all others write lets anybody do what neither that one nor any of them was allowed. kapi paths lists other ways.\n"
 ALLOWED = "allowed RoleBinding readers, Role reader, rule 0\n"
 HEALTHY = r"out HTTP/1.1 200 OK\r\nContent-Type: text/plain\r\nContent-Length: 2\r\n\r\nok"
 ONE, TWO = (f"{place}\n  asked  GET /healthz\n  wanted {wanted}\n  got    {HEALTHY}\n{place[:3]}: {answers} checks, 1 not as wanted\n"
@@ -119,9 +131,15 @@ CASES = [
     Case("who before --questions /dev/stdin --json", f'{{"line":1}}\n{JSON}{{{BY}', input="get pods shop"),
     Case("who - get pods --namespace shop", ways(ANN), input=BEFORE.rstrip()),
     Case("who folder delete pods --namespace shop", ways(ANN)),
+    *[Case(f"what {it}", rights(SEEN, READ)) for it in ("before ann", "before ann dev", "before ann --namespace shop", "folder ann --strict")],
+    *[Case(f"what before {it}", rights(SEEN)) for it in ("bob", "ann --namespace web", "bob dev --namespace shop")],
+    Case("what before system:anonymous", "Nothing is allowed.\n"), Case("what - ann", rights(SEEN, READ), input=BEFORE.rstrip()),
+    *[Case(f"what tills system:serviceaccount:{it}", rights(told)) for it, told in (("shop:till", OWNED), ("web:till", SEEN))],
+    Case("what before ann --namespace shop --json", WHAT_JSON), Case("what doubtful ann --strict", rights(SEEN, READ.replace("delete", "list")), 1),
     *[Case(f"risks homeless --namespace {it}", ways(BOB.format(it)) + NOTHING) for it in ("shop", "web")],
     Case("risks homeless --namespace shop --json", JSON + "{" + BY.replace("reader", "actor").replace("ann", "bob") + '{"settled":true}\n'),
     *[Case(f"risks {it}", ways() + NOTHING, it == "doubtful --strict") for it in ("doubtful", "doubtful --strict", "after --strict", "folder")],
+    Case("risks owned", ways("User bob | * | ClusterRoleBinding scoped | ClusterRole scopes, rule 0") + NOTHING),
     Case("risks - --namespace shop", ways(BOB.format("shop")) + NOTHING, input=ACTORS.rstrip()),
     *[Case(f"replay {words}", told, 1) for words, told in (("one", ONE), ("one two", ONE + TWO), ("two one", TWO + ONE))],
     Case("replay /dev/stdin", "/dev/stdin: 2 checks\n", input=FILES["two"].partition("GET /healthz")[0].rstrip()),

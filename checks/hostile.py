@@ -1,7 +1,6 @@
 """Attacks a server on 127.0.0.1 as a client without rights may, and prints what each attack costs the others.
 
-usage: python3 -m checks.hostile PROGRAM [ATTACK..]     all attacks if none is named: greedy flood silent stalled spin line
-selector groups repeats
+usage: python3 -m checks.hostile PROGRAM [ATTACK..]     all attacks if none is named: greedy flood silent stalled spin line selector groups repeats
 
 Each attack starts a server of its own and is bounded in count and time. The exit status is 1 where one is above its bound.
 """

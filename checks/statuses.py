@@ -83,7 +83,7 @@ SCRIPTS = [
 ]
 
 # Words that name no command: what is wrong with them, and the usage that is told.
-COMMANDS = ("script", "audit", "serve", "replay", "compare", "who", "risks")
+COMMANDS = ("script", "audit", "serve", "replay", "compare", "who", "what", "risks")
 REQUIRED = "the following required arguments were not provided:\n  "
 MISUSED = (
     ("", f"'kapi' requires a subcommand but one was not provided\n  [subcommands: {', '.join(COMMANDS)}, help]", "kapi <COMMAND>"),
@@ -109,7 +109,7 @@ REFUSED = (
 UNASKED = (
     "compare", "compare a", "compare a b c", "compare --json a", "compare --table a b", "who", "who a", "who a get", "who a get pods b",
     "who a get pods --questions b", "who a --questions b --namespace c", "who a --questions b --name c", "who a get pods --namespace",
-    "who --questions b", "risks", "risks a b", "risks --json",
+    "who --questions b", "what", "what a", "what a b --namespace", "risks", "risks a b", "risks --json",
 )
 FULL = "kapi: what it prints cannot be written, as the disk is full"
 WORDS = [
@@ -342,7 +342,7 @@ def part(text, head):
 
 def other_examples(program, room):
     """The example of each command's help prints what stands below it there, and so do the commands of docs/COMPARE.md."""
-    for command in ("script", "audit", "replay", "compare", "who", "risks"):
+    for command in ("script", "audit", "replay", "compare", "who", "what", "risks"):
         text = subprocess.run([program, command, "--help"], capture_output=True, text=True).stdout
         told = shell(program, part(text, "Example:"), room)
         if told != part(text, "It prints"):

@@ -15,6 +15,7 @@ use Rattle.kapi.specs.declared.program.Command.TheVariants as command
 use Rattle.kapi.specs.declared.program.CommandFault.{CommandFault}
 use Rattle.kapi.specs.declared.program.CompareFiles.{CompareFiles}
 use Rattle.kapi.specs.declared.program.RisksFile.{RisksFile}
+use Rattle.kapi.specs.declared.program.WhatWords.{WhatWords}
 use Rattle.kapi.specs.declared.program.WhoQuestion.{WhoQuestion}
 use Rattle.kapi.specs.declared.program.WhoQuestion.TheVariants as who_question
 use Rattle.kapi.specs.declared.program.WhoWanted.{WhoWanted}
@@ -88,6 +89,14 @@ pub record Who : Type 0 where
   pub reading : Manifests
   pub json : Bool
 
+-- the user of whom it is asked what they have, in those groups, by the policy of a file, and whether JSON is printed
+pub record What : Type 0 where
+  pub policy : Text
+  pub user : Text
+  pub groups : List Text
+  pub reading : Manifests
+  pub json : Bool
+
 -- the policy that is asked who may gain more than it grants, by the name of its file, and whether JSON is printed
 pub record Risks : Type 0 where
   pub policy : Text
@@ -102,6 +111,7 @@ pub data Asked : Type 0 where
   Replay : Transcripts → Asked
   Compare : Policies → Asked
   AskWho : Who → Asked
+  AskWhat : What → Asked
   AskRisks : Risks → Asked
   Show : ErrorKind → Asked
 
@@ -230,6 +240,19 @@ risks_in rows = do
   policy ← first_of (codes "POLICY") rows
   Some (record { policy = policy; reading = reading_by (codes "with") rows; json = is_true (first_of (codes "json") rows) })
 
+-- the user of whom parsed rows ask what they have
+abbrev pub what_in : List Row → Option What
+what_in rows = do
+  policy ← first_of (codes "POLICY") rows
+  user ← first_of (codes "USER") rows
+  Some (record {
+    policy = policy;
+    user = user;
+    groups = unwrap_or (all_of (codes "GROUP") rows) [];
+    reading = reading_by (codes "with") rows;
+    json = is_true (first_of (codes "json") rows);
+  })
+
 -- the question that parsed rows specify in words
 abbrev pub wanted_in : List Row → Option QuestionWords
 wanted_in rows = do
@@ -275,7 +298,8 @@ asked_by name rows =
     else (if bytes_eq name (codes "replay") then option_map Replay (transcripts_in rows)
     else (if bytes_eq name (codes "compare") then option_map Compare (compare_in rows)
     else (if bytes_eq name (codes "who") then option_map AskWho (who_in rows)
-    else (if bytes_eq name (codes "risks") then option_map AskRisks (risks_in rows) else None))))))
+    else (if bytes_eq name (codes "what") then option_map AskWhat (what_in rows)
+    else (if bytes_eq name (codes "risks") then option_map AskRisks (risks_in rows) else None)))))))
 
 -- ---- of the words
 
@@ -340,6 +364,16 @@ compare_told f = record {
 abbrev pub risks_told : RisksFile → Risks
 risks_told f = record { policy = string_bytes f.policy; reading = reading_told f.reading; json = f.json }
 
+-- the user of whom it is asked, as data
+abbrev pub what_told : WhatWords → What
+what_told w = record {
+  policy = string_bytes w.policy;
+  user = string_bytes w.user;
+  groups = map string_bytes w.groups.items;
+  reading = reading_told w.reading;
+  json = w.json;
+}
+
 -- the words of a question, as data
 abbrev pub wanted_told : WhoWanted → QuestionWords
 wanted_told w = record {
@@ -366,6 +400,7 @@ told (command.Serve options) = Serve (options_told options)
 told (command.Replay options) = Replay (transcripts_told options)
 told (command.Compare files) = Compare (compare_told files)
 told (command.Who words) = AskWho (who_told words)
+told (command.What words) = AskWhat (what_told words)
 told (command.Risks file) = AskRisks (risks_told file)
 told (command.Show text) = Show (kind_of text)
 

@@ -114,6 +114,14 @@ who_options = with_rule (with_rule (asking (codes "who")) (option (codes "name")
 abbrev pub who : App
 who = with_rule (with_rule (with_rule who_options (file (codes "POLICY"))) (word (codes "VERB"))) (word (codes "RESOURCE"))
 
+-- words that may be left out
+abbrev pub words : Text → Rule
+words name = record (new_rule name) { range = Some (record { start_inclusive = 1; end_inclusive = 18446744073709551615 }) }
+
+-- `kapi what`, its words behind its file
+abbrev pub what : App
+what = with_rule (with_rule (with_rule (asking (codes "what")) (file (codes "POLICY"))) (file (codes "USER"))) (words (codes "GROUP"))
+
 -- `kapi risks`, its options before its file
 abbrev pub risks : App
 risks = with_rule (asking (codes "risks")) (file (codes "POLICY"))
@@ -123,6 +131,6 @@ abbrev pub machines : App
 machines =
     with_subcommand (with_subcommand (with_subcommand (with_subcommand (on_top (λ s. record s { has_version = true; subcommand_required = true }) (new_app (codes "kapi"))) script.top) audit.top) serve.top) replay.top
 
--- `kapi`, which has a version and needs one of its seven subcommands
+-- `kapi`, which has a version and needs one of its eight subcommands
 abbrev pub kapi : App
-kapi = with_subcommand (with_subcommand (with_subcommand machines compare.top) who.top) risks.top
+kapi = with_subcommand (with_subcommand (with_subcommand (with_subcommand machines compare.top) who.top) what.top) risks.top

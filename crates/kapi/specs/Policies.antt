@@ -13,8 +13,10 @@ use Rattle.kapi_access.specs.declared.identities.Identities.{Identities}
 use Rattle.kapi_access.specs.Risks.{risks}
 use Rattle.kapi_access.specs.Answers.{gains_text, settled_line, ways_text, who_text}
 use Rattle.kapi_access.specs.Lines.{LineError, answered_lines, no_question}
+use Rattle.kapi_access.specs.Rights.{what_text}
 use Rattle.kapi_access.specs.declared.answer.Form.{Form}
 use Rattle.kapi_access.specs.declared.question.Wanted.{Wanted}
+use Rattle.kapi_access.specs.declared.rights.Holder.{Holder}
 use Rattle.kapi.specs.declared.policies.Answered.{Answered}
 use Rattle.kapi.specs.declared.policies.Compared.{Compared}
 use Rattle.kapi.specs.declared.policies.FilesFault.{FilesFault}
@@ -144,6 +146,14 @@ lines_on f lines m = as_question (answered_lines f (policy_of m) lines) >>= λ t
 -- who may do what each line of a file asks, by the policy that another file is
 unfoldable pub who_file : Form → List ℕ → List ℕ → Result Reply FilesError
 who_file f objects questions = as_first (machine_alone 0 objects) >>= λ m. lines_on f (lines_of questions) m
+
+-- what a user has by the policy of a machine
+abbrev pub what_on : Form → Holder → Machine → Reply
+what_on f h m = record { text = what_text f (policy_of m) h; settled = is_settled m }
+
+-- what a user has by the policy that a file is
+unfoldable pub what_file : Form → List ℕ → Holder → Result Reply FilesError
+what_file f objects h = as_first (machine_alone 0 objects) >>= λ m. Ok (what_on f h m)
 
 -- who may gain more than a policy grants, and what holds of all others
 abbrev pub risks_on : Form → Machine → Reply

@@ -2,7 +2,7 @@ ghost use Rattle.std.specs.Prelude.{◌≡◌, IfOk, codes, false};
 ghost use Rattle.clap.specs.Simple.{app_of, new_app};
 ghost use Rattle.clap.specs.Walk.{rule_of};
 ghost use Rattle.clap.specs.declared.builder.command.Command.TheViews.{out-Command};
-ghost use Rattle.kapi.specs.CommandLine.{kapi, asking as asking_app, audit as audit_app, audited as audited_app, beside as beside_app, compare as compare_app, compare_options as compare_options_app, opened as opened_app, reading as reading_app, replay as replay_app, risks as risks_app, serve as serve_app, served as served_app, script as script_app, who as who_app, who_options as who_options_app, word as word_rule, file as file_rule, files as files_rule, json as json_rule, strict as strict_rule, machines as machines_app, option as option_rule, readers as readers_rule, listen as listen_rule, transcripts as transcripts_rule, flag as flag_rule};
+ghost use Rattle.kapi.specs.CommandLine.{kapi, asking as asking_app, audit as audit_app, audited as audited_app, beside as beside_app, compare as compare_app, compare_options as compare_options_app, opened as opened_app, reading as reading_app, replay as replay_app, risks as risks_app, serve as serve_app, served as served_app, script as script_app, who as who_app, what as what_app, who_options as who_options_app, word as word_rule, words as words_rule, file as file_rule, files as files_rule, json as json_rule, strict as strict_rule, machines as machines_app, option as option_rule, readers as readers_rule, listen as listen_rule, transcripts as transcripts_rule, flag as flag_rule};
 
 use crate::command_line::PORTS;
 use clap::{Arg, ArgAction, Command};
@@ -19,6 +19,7 @@ pub fn program<'a>(alloc: Global) -> Result<Command<'a>, Memory>
     machines(alloc)?
         .subcommand(compare(alloc)?)?
         .subcommand(who(alloc)?)?
+        .subcommand(what(alloc)?)?
         .subcommand(risks(alloc)?)
 }
 
@@ -338,7 +339,7 @@ fn home<'a>(alloc: Global) -> Arg<'a>
         alloc,
         "namespace",
         "NS",
-        "The namespace of objects that live in one and name none; the one that kapi who asks about",
+        "The namespace of objects that live in one and name none; the one that kapi who and kapi what ask about",
     )
 }
 
@@ -396,6 +397,37 @@ fn who_options<'a>(alloc: Global) -> Result<Command<'a>, Memory>
         ))
 }
 
+/// What `kapi what --help` shows below the arguments.
+const WHAT_FORMS: &str =
+    r#"POLICY: objects as 'kubectl get -o json' prints them, or JSON objects one after the other, in any order. A folder is its files
+*.json and *.jsonl, and - is standard input. Objects that say nothing about policy are counted and passed over.
+
+USER is asked about in the groups that are named and in those that authentication gives it: system:authenticated, and a service account's
+own two; the anonymous user has system:unauthenticated alone.
+
+Each line tells a rule, its scope (* is the whole cluster), and the bindings and roles that give it. With --namespace NS there are the lines
+that count in that namespace alone.
+
+Example:
+  printf '%s\n' \
+    '{"apiVersion":"rbac.authorization.k8s.io/v1","kind":"Role","metadata":{"name":"reader","namespace":"default"},"rules":[{"apiGroups":["","apps"],"resources":["deployments"],"verbs":["get","list"]}]}' \
+    '{"apiVersion":"rbac.authorization.k8s.io/v1","kind":"RoleBinding","metadata":{"name":"readers","namespace":"default"},"roleRef":{"kind":"Role","name":"reader"},"subjects":[{"kind":"Group","name":"dev"}]}' > policy.jsonl
+  kapi what policy.jsonl ann dev
+
+It prints
+  VERBS     RESOURCES                     NAMES  SCOPE    BY
+  get,list  deployments,deployments.apps  -      default  RoleBinding readers, Role reader, rule 0"#;
+
+fn what<'a>(alloc: Global) -> Result<Command<'a>, Memory>
+    ensures { IfOk result (λ c. (app_of c ≡ what_app) × ((out-Command c).has_globals ≡ false)) }
+{
+    let about = "Tells what a user has by a policy, and by what";
+    asking(alloc, "what", about, WHAT_FORMS)?
+        .arg(file(alloc, "POLICY", "The objects of the policy"))?
+        .arg(file(alloc, "USER", "The user that is asked about"))?
+        .arg(some_words(alloc, "GROUP", "Groups that the user is in besides its own"))
+}
+
 /// What `kapi risks --help` shows below the arguments.
 const RISKS_FORMS: &str =
     r#"POLICY: objects as 'kubectl get -o json' prints them, or JSON objects one after the other, in any order. A folder is its files
@@ -413,7 +445,7 @@ It prints
   Group system:masters  *          -                                 everything
   User olga             *          ClusterRoleBinding admins         ClusterRole cluster-admin, rule 0
   Group system:masters  *          ClusterRoleBinding cluster-admin  ClusterRole cluster-admin, rule 0
-  Nothing that all others write lets anybody do what neither that one nor any of them was allowed."#;
+  Through roles and bindings, nothing that all others write lets anybody do what neither that one nor any of them was allowed. kapi paths lists other ways."#;
 
 fn risks<'a>(alloc: Global) -> Result<Command<'a>, Memory>
     ensures { IfOk result (λ c. (app_of c ≡ risks_app) × ((out-Command c).has_globals ≡ false)) }
@@ -462,6 +494,13 @@ fn word<'a>(alloc: Global, name: &'a str, help: &'a str) -> Arg<'a>
     ensures local { result.global ≡ false }
 {
     Arg::new(alloc, name).help(help)
+}
+
+fn some_words<'a>(alloc: Global, name: &'a str, help: &'a str) -> Arg<'a>
+    ensures rule { rule_of result ≡ words_rule name.entry.now }
+    ensures local { result.global ≡ false }
+{
+    Arg::new(alloc, name).help(help).num_args(1..)
 }
 
 fn flag<'a>(alloc: Global, name: &'a str, help: &'a str) -> Arg<'a>

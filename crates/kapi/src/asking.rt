@@ -3,11 +3,13 @@ use crate::doubts::{Doubts, EMPTY};
 use crate::ending::Ending;
 use crate::manifests::{ReadPolicy, read_policy, tell_refused};
 use crate::policies::{
-    Answered, Compared, FilesFault, compare_files, risks_file, who_file, who_wanted,
+    Answered, Compared, FilesFault, compare_files, risks_file, what_file, who_file, who_wanted,
 };
-use crate::program::{CompareFiles, RisksFile, WhoQuestion, WhoWanted, WhoWords};
+use crate::program::{CompareFiles, RisksFile, WhatWords, WhoQuestion, WhoWanted, WhoWords};
 use crate::telling::{print, read_file};
-use kapi_access::{Form, Identities, question_of};
+use kapi_access::{Form, Holder, Identities, asked_as, question_of};
+use kapi_text::{Memory, Text};
+use std::alloc::Global;
 use std::fs::Files;
 use std::io;
 use std::sync::Wait;
@@ -171,6 +173,45 @@ fn tell_who_doubts<R: Eprint + AllocGlobal>(
         WhoQuestion::File(_name) => doubts.tell_lines(rt, named, questions.bytes)?,
     }
     Ok(Ending::Done.or_doubted(words.reading.strict && doubts.are_some()))
+}
+
+/// Prints what a user has: status 0, 4 if the roles are not settled, or 1 after a line on standard error.
+pub fn run_what<R: Files + Input + Print + Eprint + AllocGlobal + Wait + Clone + Drop>(
+    rt: &R,
+    words: &WhatWords,
+) -> io::Result<Ending> {
+    let Some(policy) = read_policy(rt, words.policy.as_str(), &words.reading)? else {
+        return Ok(Ending::Stopped);
+    };
+    let holder = holder_of(rt.alloc(), words)?;
+    match what_file(rt.alloc(), rt, form(words.json), policy.lines(), &holder) {
+        Ok(answered) => {
+            print(rt, answered.text.as_slice())?;
+            tell_unsettled(rt, words.policy.as_str(), answered.settled)?;
+            let doubts = doubts_of(rt, words.policy.as_str(), &policy)?;
+            let ending = Ending::Done.or_doubted(words.reading.strict && doubts.are_some());
+            Ok(ending.or_unsettled(answered.settled))
+        }
+        Err(fault) => refuse(rt, fault, &policy, &file_of("", b"".as_slice())),
+    }
+}
+
+/// The user that the words name, in the groups that it has by itself besides theirs.
+fn holder_of(alloc: Global, words: &WhatWords) -> Result<Holder, Memory> {
+    let mut groups = Vec::new(alloc);
+    for group in words.groups.iter() {
+        groups.push(Text::copy_of(alloc, group.as_str())?)?;
+    }
+    let namespace = words.reading.namespace.as_str();
+    let within = if namespace.is_empty() {
+        None
+    } else {
+        Some(Text::copy_of(alloc, namespace)?)
+    };
+    Ok(Holder {
+        identity: asked_as(alloc, words.user.as_str(), groups.as_slice())?,
+        within,
+    })
 }
 
 /// Prints who may gain more than a policy grants: status 0, 4 if the roles are not settled, or 1 after a line on

@@ -2,14 +2,14 @@ ghost use Rattle.std.specs.Prelude.{◌≡◌, ◌≤◌, ℕ, List, [], Some, I
 ghost use Rattle.clap.specs.Matches.{found_of};
 ghost use Rattle.clap.specs.Simple.{subcommand_rows_of};
 ghost use Rattle.clap.specs.Walk.{all_of, first_of, rows_of};
-ghost use Rattle.kapi.specs.Asked.{AreWrong, Names, Reads, answer_of, are_idle, asked_by, audited_in, has_manifests, has_reading, reading_by, reading_told, served_in, compare_in, compare_told, file_alone, has_words, question_in, question_told, risks_in, risks_told, wanted_in, wanted_told, who_in, who_told, files_in, files_told, first_of_word, is_true, listens_in, options_in, options_told, readers_in, told, transcripts_in, transcripts_told};
+ghost use Rattle.kapi.specs.Asked.{AreWrong, Names, Reads, answer_of, are_idle, asked_by, audited_in, has_manifests, has_reading, reading_by, reading_told, served_in, compare_in, compare_told, file_alone, has_words, question_in, question_told, risks_in, risks_told, wanted_in, wanted_told, what_in, what_told, who_in, who_told, files_in, files_told, first_of_word, is_true, listens_in, options_in, options_told, readers_in, told, transcripts_in, transcripts_told};
 ghost use Rattle.kapi.specs.Listens.{listen_of, listens_of, parted as parted_of};
 
 use crate::arguments::program;
 use crate::numbers::{first_revision, listening_port, number_of_readers, port};
 use crate::program::{
     AuditFiles, Command, CommandFault, CompareFiles, Listen, Reading, ReplayOptions, RisksFile,
-    ServeOptions, WhoQuestion, WhoWanted, WhoWords,
+    ServeOptions, WhatWords, WhoQuestion, WhoWanted, WhoWords,
 };
 use clap::ArgMatches;
 use clap::error::ErrorKind;
@@ -54,6 +54,7 @@ fn named(alloc: Global, name: &str, words: &ArgMatches<'_>) -> Result<Command, C
         "replay" => Ok(Command::Replay(replay_options(alloc, words)?)),
         "compare" => Ok(Command::Compare(compare_files(alloc, words)?)),
         "who" => Ok(Command::Who(who_words(alloc, words)?)),
+        "what" => Ok(Command::What(what_words(alloc, words)?)),
         "risks" => Ok(Command::Risks(risks_file(alloc, words)?)),
         _ => Err(CommandFault::Words),
     }
@@ -164,6 +165,23 @@ fn compare_files(alloc: Global, words: &ArgMatches<'_>) -> Result<CompareFiles, 
         after,
         reading,
         usual_groups: is_given(words, "usual-groups"),
+        json: is_given(words, "json"),
+    })
+}
+
+/// The user of whom the words behind `what` ask, and the policy.
+fn what_words(alloc: Global, words: &ArgMatches<'_>) -> Result<WhatWords, CommandFault>
+    ensures { Reads what_told result (what_in (rows_of (found_of words.now))) }
+{
+    let policy = needed(alloc, words, "POLICY")?;
+    let user = needed(alloc, words, "USER")?;
+    let groups = each_copied(alloc, words, "GROUP")?;
+    let reading = reading(alloc, words, "with")?;
+    Ok(WhatWords {
+        policy,
+        user,
+        groups,
+        reading,
         json: is_given(words, "json"),
     })
 }

@@ -9,14 +9,15 @@ ghost use Rattle.kapi_loading.specs.Faults.{FileFault};
 ghost use Rattle.kapi_loading.specs.Loading.{machine_alone};
 ghost use Rattle.kapi_access.specs.Risks.{risks};
 ghost use Rattle.kapi_access.specs.Answers.{ways_text, who_text};
+ghost use Rattle.kapi_access.specs.Rights.{what_text};
 ghost use Rattle.kapi_access.specs.Lines as lined;
 ghost use Rattle.kapi_access.specs.Lines.{answered_lines};
 ghost use Rattle.kapi.specs.Policies as files;
-ghost use Rattle.kapi.specs.Policies.{Holds, IsLoaded, IsPolicyOf, answered_told, as_first, compared_to, compared_told, comparison, fault_told, lines_on, risks_on, who_on};
+ghost use Rattle.kapi.specs.Policies.{Holds, IsLoaded, IsPolicyOf, answered_told, as_first, compared_to, compared_told, comparison, fault_told, lines_on, risks_on, what_on, who_on};
 
 use kapi_access::{
-    Form, Identities, LineFault, Wanted, answer_compare, answer_lines, answer_risks, answer_who,
-    settled_line,
+    Form, Holder, Identities, LineFault, Wanted, answer_compare, answer_lines, answer_risks,
+    answer_what, answer_who, settled_line,
 };
 use kapi_core::Core;
 use kapi_index::IndexedPolicy;
@@ -346,6 +347,55 @@ pub fn who_file<R: Wait>(
         Ok(core) => {
             let mut core = core;
             lines_machine(alloc, form, &mut core, lines.as_slice())
+        }
+        Err(fault) => Err(fault),
+    }
+}
+
+// ---- what a user has
+
+fn what_core(
+    alloc: Global,
+    form: Form,
+    core: &Core<IndexedPolicy>,
+    holder: &Holder,
+) -> Result<Vec<u8>, Memory>
+    ensures { IfOk result (λ v. v.items ≡ what_text form core.now.policy holder.now) }
+{
+    let bindings = core.policy().bindings()?;
+    answer_what(alloc, form, core.policy(), bindings.as_slice(), holder)
+}
+
+fn what_machine(
+    alloc: Global,
+    form: Form,
+    core: &mut Core<IndexedPolicy>,
+    holder: &Holder,
+) -> Result<Answered, Memory>
+    ensures { (m : Machine) → Refines core.old m → IfOk result (λ a. answered_told a ≡ what_on form holder.now m) }
+{
+    let text = what_core(alloc, form, core, holder)?;
+    let settled = is_settled(core)?;
+    Ok(Answered { text, settled })
+}
+
+/// What a user has by the policy that a file is.
+///
+/// # Errors
+/// `First` at the first line that is not loaded, `Memory` where an allocation fails.
+pub fn what_file<R: Wait>(
+    alloc: Global,
+    rt: &R,
+    form: Form,
+    objects: &[u8],
+    holder: &Holder,
+) -> Result<Answered, FilesFault>
+    ensures { Gives fault_told answered_told result (files.what_file form objects.now holder.now) }
+{
+    match loaded_first(alloc, rt, objects) {
+        Ok(core) => {
+            let mut core = core;
+            Ok(what_machine(alloc, form, &mut core, holder)?)
         }
         Err(fault) => Err(fault),
     }

@@ -23,6 +23,8 @@ pub enum Command {
     Compare(CompareFiles),
     /// `kapi who`: who may do something by a policy.
     Who(WhoWords),
+    /// `kapi what`: what a user has by a policy.
+    What(WhatWords),
     /// `kapi risks`: who may gain more than a policy grants.
     Risks(RisksFile),
     /// `--help`, `help` or `--version`: the text that is asked for.
@@ -76,6 +78,17 @@ pub struct WhoWanted {
 pub struct WhoWords {
     pub policy: String,
     pub question: WhoQuestion,
+    pub reading: Reading,
+    /// Whether JSON is printed.
+    pub json: bool,
+}
+
+/// The user of whom it is asked what they have, in some groups, by the policy of a file.
+#[derive(Debug, Drop)]
+pub struct WhatWords {
+    pub policy: String,
+    pub user: String,
+    pub groups: Vec<String>,
     pub reading: Reading,
     /// Whether JSON is printed.
     pub json: bool,

@@ -2,7 +2,7 @@
 use Rattle.std.proofs.Common.{ap, ap₂, ◌≡◌, ◌∙◌}
 use Rattle.std.proofs.lemmas.Result.{IfOk-weaker}
 use Rattle.clap.specs.Simple.{App, app_of, with_subcommand}
-use Rattle.kapi.specs.CommandLine.{compare, machines, who}
+use Rattle.kapi.specs.CommandLine.{compare, machines, what, who}
 use Rattle.kapi.proofs.arguments.program.Goals as goal
 
 pub returns : goal.returns
@@ -11,5 +11,7 @@ returns c =
     c.in_ok-subcommand.ensures.shape c.in_ok-compare.ensures.1 ∙ ap₂ with_subcommand c.in_ok-machines.ensures (ap (λ (a : App). a.top) c.in_ok-compare.ensures.0) in
     let second : app_of c.in_ok-subcommand-2.field-0 ≡ with_subcommand (with_subcommand machines compare.top) who.top =
     c.in_ok-subcommand-2.ensures.shape c.in_ok-who.ensures.1 ∙ ap₂ with_subcommand first (ap (λ (a : App). a.top) c.in_ok-who.ensures.0) in
-    IfOk-weaker c.subcommand-3.result _ _ (λ m h.
-    h.shape c.in_ok-risks.ensures.1 ∙ ap₂ with_subcommand second (ap (λ (a : App). a.top) c.in_ok-risks.ensures.0)) c.subcommand-3.ensures
+    let third : app_of c.in_ok-subcommand-3.field-0 ≡ with_subcommand (with_subcommand (with_subcommand machines compare.top) who.top) what.top =
+    c.in_ok-subcommand-3.ensures.shape c.in_ok-what.ensures.1 ∙ ap₂ with_subcommand second (ap (λ (a : App). a.top) c.in_ok-what.ensures.0) in
+    IfOk-weaker c.subcommand-4.result _ _ (λ m h.
+    h.shape c.in_ok-risks.ensures.1 ∙ ap₂ with_subcommand third (ap (λ (a : App). a.top) c.in_ok-risks.ensures.0)) c.subcommand-4.ensures
