@@ -101,7 +101,7 @@ WHAT_JSON = '{"by":[{"binding":"seers","bindingKind":"ClusterRoleBinding","role"
     '"rule":{"apiGroups":[""],"resources":["nodes"],"verbs":["get"]}}\n' \
     '{"by":[{"binding":"readers","bindingKind":"RoleBinding","role":"reader","roleKind":"Role","rule":0}],"namespace":"shop",' \
     '"rule":{"apiGroups":[""],"resources":["pods"],"verbs":["get","delete"]}}\n'
-NOTHING = "Through roles and bindings, nothing that all others write lets anybody do what neither that one nor any of them was allowed. kapi paths lists other ways.\n"
+NOTHING = "Through roles and bindings, nothing that others without the verb impersonate write lets anybody do what neither that one nor any of them was allowed. kapi paths lists other ways.\n"
 ALLOWED = "allowed RoleBinding readers, Role reader, rule 0\n"
 HEALTHY = r"out HTTP/1.1 200 OK\r\nContent-Type: text/plain\r\nContent-Length: 2\r\n\r\nok"
 ONE, TWO = (f"{place}\n  asked  GET /healthz\n  wanted {wanted}\n  got    {HEALTHY}\n{place[:3]}: {answers} checks, 1 not as wanted\n"

@@ -445,7 +445,7 @@ It prints
   Group system:masters  *          -                                 everything
   User olga             *          ClusterRoleBinding admins         ClusterRole cluster-admin, rule 0
   Group system:masters  *          ClusterRoleBinding cluster-admin  ClusterRole cluster-admin, rule 0
-  Through roles and bindings, nothing that all others write lets anybody do what neither that one nor any of them was allowed. kapi paths lists other ways."#;
+  Through roles and bindings, nothing that others without the verb impersonate write lets anybody do what neither that one nor any of them was allowed. kapi paths lists other ways."#;
 
 fn risks<'a>(alloc: Global) -> Result<Command<'a>, Memory>
     ensures { IfOk result (λ c. (app_of c ≡ risks_app) × ((out-Command c).has_globals ≡ false)) }

@@ -37,7 +37,7 @@ who_text f objects w = ways_text f (who_may objects w.namespace w.point)
 -- what holds of all who are not listed among the risks
 abbrev pub settled_line : Form → Bool → List ℕ
 settled_line form.Table true =
-    codes "Through roles and bindings, nothing that all others write lets anybody do what neither that one nor any of them was allowed. kapi paths lists other ways.\n"
+    codes "Through roles and bindings, nothing that others without the verb impersonate write lets anybody do what neither that one nor any of them was allowed. kapi paths lists other ways.\n"
 settled_line form.Table false = codes "The roles are not settled after 64 turns, so that nothing is said of all others.\n"
 settled_line form.Json true = codes "{\"settled\":true}\n"
 settled_line form.Json false = codes "{\"settled\":false}\n"

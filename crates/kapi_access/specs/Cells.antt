@@ -1,5 +1,5 @@
 -- The cells of a line: bytes that are no printable ASCII are escaped.
-use Rattle.std.specs.Prelude.{ℕ, ◌==◌, if◌then◌else◌, List, ◌++◌, length, codes, decimal}
+use Rattle.std.specs.Prelude.{ℕ, ◌==◌, if◌then◌else◌, List, [], ◌++◌, length, codes, decimal}
 use Rattle.serde_json.specs.Written.{compact_text}
 use Rattle.kapi_model.specs.Kinds.{role_kind_text}
 use Rattle.kapi_model.specs.declared.role_ref.RoleRef.{RoleRef}

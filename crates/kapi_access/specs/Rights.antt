@@ -89,7 +89,7 @@ given_tree by =
     (member (codes "rule") (number (unsigned by.rule)) no_members)))))
 
 -- a rule as objects write it, its namespace, empty where it counts everywhere, and by what it is given
-abbrev pub right_tree : ScopedRule × List GivenBy → Data
+unfoldable pub right_tree : ScopedRule × List GivenBy → Data
 right_tree line =
     object (member (codes "by") (array (items_of (map given_tree line.1)))
     (member (codes "namespace") (string line.0.namespace)

@@ -188,7 +188,7 @@ pub fn settled_line(form: Form, settled: bool) -> &'static [u8]
 {
     match (form, settled) {
         (Form::Table, true) =>
-            b"Through roles and bindings, nothing that all others write lets anybody do what neither that one nor any of them was allowed. kapi paths lists other ways.\n",
+            b"Through roles and bindings, nothing that others without the verb impersonate write lets anybody do what neither that one nor any of them was allowed. kapi paths lists other ways.\n",
         (Form::Table, false) =>
             b"The roles are not settled after 64 turns, so that nothing is said of all others.\n",
         (Form::Json, true) => b"{\"settled\":true}\n",

@@ -194,6 +194,7 @@ fn given_items(alloc: Global, list: &[GivenBy]) -> Result<Vec<Value>, Memory>
     Ok(items)
 }
 
+#[tactic(auto, unfolding(crate::specs::Rights::right_tree))]
 fn right_tree(alloc: Global, at: &ScopedRule, by: &[GivenBy]) -> Result<Value, Memory>
     ensures { IfOk result (λ v. view v ≡ printed.right_tree (at.now, by.now)) }
 {
