@@ -16,6 +16,7 @@ CHECKS = {
     "missing": Module(words=("500",)),
     "compare-random": Module(words=("100",)),
     "what-random": Module(words=("100",)),
+    "paths": Module(words=("300",)),
     "hostile": Module(),
     "crafted": Module(),
     "growths": Module("cc"),

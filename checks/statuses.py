@@ -83,7 +83,7 @@ SCRIPTS = [
 ]
 
 # Words that name no command: what is wrong with them, and the usage that is told.
-COMMANDS = ("script", "audit", "serve", "replay", "compare", "who", "what", "risks")
+COMMANDS = ("script", "audit", "serve", "replay", "compare", "who", "what", "risks", "paths")
 REQUIRED = "the following required arguments were not provided:\n  "
 MISUSED = (
     ("", f"'kapi' requires a subcommand but one was not provided\n  [subcommands: {', '.join(COMMANDS)}, help]", "kapi <COMMAND>"),
@@ -110,6 +110,7 @@ UNASKED = (
     "compare", "compare a", "compare a b c", "compare --json a", "compare --table a b", "who", "who a", "who a get", "who a get pods b",
     "who a get pods --questions b", "who a --questions b --namespace c", "who a --questions b --name c", "who a get pods --namespace",
     "who --questions b", "what", "what a", "what a b --namespace", "risks", "risks a b", "risks --json",
+    "paths", "paths a b", "paths a --to",
 )
 FULL = "kapi: what it prints cannot be written, as the disk is full"
 WORDS = [

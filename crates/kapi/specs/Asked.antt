@@ -14,6 +14,7 @@ use Rattle.kapi.specs.declared.program.Command.{Command}
 use Rattle.kapi.specs.declared.program.Command.TheVariants as command
 use Rattle.kapi.specs.declared.program.CommandFault.{CommandFault}
 use Rattle.kapi.specs.declared.program.CompareFiles.{CompareFiles}
+use Rattle.kapi.specs.declared.program.PathsWords.{PathsWords}
 use Rattle.kapi.specs.declared.program.RisksFile.{RisksFile}
 use Rattle.kapi.specs.declared.program.WhatWords.{WhatWords}
 use Rattle.kapi.specs.declared.program.WhoQuestion.{WhoQuestion}
@@ -103,6 +104,14 @@ pub record Risks : Type 0 where
   pub reading : Manifests
   pub json : Bool
 
+-- the policy that is asked who can become whom, by the name of its file, to whom, and the kinds of rights that are left out
+pub record Paths : Type 0 where
+  pub policy : Text
+  pub reading : Manifests
+  pub to : Text
+  pub without : List Text
+  pub json : Bool
+
 -- one of the programs with its arguments, or a text of that kind
 pub data Asked : Type 0 where
   Script : Asked
@@ -113,6 +122,7 @@ pub data Asked : Type 0 where
   AskWho : Who → Asked
   AskWhat : What → Asked
   AskRisks : Risks → Asked
+  AskPaths : Paths → Asked
   Show : ErrorKind → Asked
 
 -- ---- of the matches behind a subcommand
@@ -253,6 +263,18 @@ what_in rows = do
     json = is_true (first_of (codes "json") rows);
   })
 
+-- the paths that parsed rows ask for
+abbrev pub paths_in : List Row → Option Paths
+paths_in rows = do
+  policy ← first_of (codes "POLICY") rows
+  Some (record {
+    policy = policy;
+    reading = reading_by (codes "with") rows;
+    to = unwrap_or (first_of (codes "to") rows) [];
+    without = unwrap_or (all_of (codes "without") rows) [];
+    json = is_true (first_of (codes "json") rows);
+  })
+
 -- the question that parsed rows specify in words
 abbrev pub wanted_in : List Row → Option QuestionWords
 wanted_in rows = do
@@ -299,7 +321,8 @@ asked_by name rows =
     else (if bytes_eq name (codes "compare") then option_map Compare (compare_in rows)
     else (if bytes_eq name (codes "who") then option_map AskWho (who_in rows)
     else (if bytes_eq name (codes "what") then option_map AskWhat (what_in rows)
-    else (if bytes_eq name (codes "risks") then option_map AskRisks (risks_in rows) else None)))))))
+    else (if bytes_eq name (codes "risks") then option_map AskRisks (risks_in rows)
+    else (if bytes_eq name (codes "paths") then option_map AskPaths (paths_in rows) else None))))))))
 
 -- ---- of the words
 
@@ -374,6 +397,16 @@ what_told w = record {
   json = w.json;
 }
 
+-- the policy whose paths are asked for, as data
+abbrev pub paths_told : PathsWords → Paths
+paths_told w = record {
+  policy = string_bytes w.policy;
+  reading = reading_told w.reading;
+  to = string_bytes w.to;
+  without = map string_bytes w.without.items;
+  json = w.json;
+}
+
 -- the words of a question, as data
 abbrev pub wanted_told : WhoWanted → QuestionWords
 wanted_told w = record {
@@ -402,6 +435,7 @@ told (command.Compare files) = Compare (compare_told files)
 told (command.Who words) = AskWho (who_told words)
 told (command.What words) = AskWhat (what_told words)
 told (command.Risks file) = AskRisks (risks_told file)
+told (command.Paths words) = AskPaths (paths_told words)
 told (command.Show text) = Show (kind_of text)
 
 -- the words ask for that command

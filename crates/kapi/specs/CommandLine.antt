@@ -126,11 +126,20 @@ what = with_rule (with_rule (with_rule (asking (codes "what")) (file (codes "POL
 abbrev pub risks : App
 risks = with_rule (asking (codes "risks")) (file (codes "POLICY"))
 
+-- the options of `kapi paths`
+abbrev pub paths_options : App
+paths_options = with_rule (with_rule (asking (codes "paths")) (option (codes "to"))) (files (codes "without"))
+
+-- `kapi paths`, its options before its file
+abbrev pub paths : App
+paths = with_rule paths_options (file (codes "POLICY"))
+
 -- the subcommands that run a machine
 abbrev pub machines : App
 machines =
     with_subcommand (with_subcommand (with_subcommand (with_subcommand (on_top (λ s. record s { has_version = true; subcommand_required = true }) (new_app (codes "kapi"))) script.top) audit.top) serve.top) replay.top
 
--- `kapi`, which has a version and needs one of its eight subcommands
+-- `kapi`, which has a version and needs one of its nine subcommands
 abbrev pub kapi : App
-kapi = with_subcommand (with_subcommand (with_subcommand (with_subcommand machines compare.top) who.top) what.top) risks.top
+kapi =
+    with_subcommand (with_subcommand (with_subcommand (with_subcommand (with_subcommand machines compare.top) who.top) what.top) risks.top) paths.top

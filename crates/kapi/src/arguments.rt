@@ -2,7 +2,7 @@ ghost use Rattle.std.specs.Prelude.{◌≡◌, IfOk, codes, false};
 ghost use Rattle.clap.specs.Simple.{app_of, new_app};
 ghost use Rattle.clap.specs.Walk.{rule_of};
 ghost use Rattle.clap.specs.declared.builder.command.Command.TheViews.{out-Command};
-ghost use Rattle.kapi.specs.CommandLine.{kapi, asking as asking_app, audit as audit_app, audited as audited_app, beside as beside_app, compare as compare_app, compare_options as compare_options_app, opened as opened_app, reading as reading_app, replay as replay_app, risks as risks_app, serve as serve_app, served as served_app, script as script_app, who as who_app, what as what_app, who_options as who_options_app, word as word_rule, words as words_rule, file as file_rule, files as files_rule, json as json_rule, strict as strict_rule, machines as machines_app, option as option_rule, readers as readers_rule, listen as listen_rule, transcripts as transcripts_rule, flag as flag_rule};
+ghost use Rattle.kapi.specs.CommandLine.{kapi, asking as asking_app, audit as audit_app, audited as audited_app, beside as beside_app, compare as compare_app, compare_options as compare_options_app, opened as opened_app, paths as paths_app, paths_options as paths_options_app, reading as reading_app, replay as replay_app, risks as risks_app, serve as serve_app, served as served_app, script as script_app, who as who_app, what as what_app, who_options as who_options_app, word as word_rule, words as words_rule, file as file_rule, files as files_rule, json as json_rule, strict as strict_rule, machines as machines_app, option as option_rule, readers as readers_rule, listen as listen_rule, transcripts as transcripts_rule, flag as flag_rule};
 
 use crate::command_line::PORTS;
 use clap::{Arg, ArgAction, Command};
@@ -20,7 +20,8 @@ pub fn program<'a>(alloc: Global) -> Result<Command<'a>, Memory>
         .subcommand(compare(alloc)?)?
         .subcommand(who(alloc)?)?
         .subcommand(what(alloc)?)?
-        .subcommand(risks(alloc)?)
+        .subcommand(risks(alloc)?)?
+        .subcommand(paths(alloc)?)
 }
 
 /// The program with the subcommands that run a machine.
@@ -456,6 +457,48 @@ fn risks<'a>(alloc: Global) -> Result<Command<'a>, Memory>
         "POLICY",
         "The objects of the policy",
     ))
+}
+
+/// What `kapi paths --help` shows below the arguments.
+const PATHS_FORMS: &str =
+    r#"POLICY: objects as 'kubectl get -o json' prints them, or JSON objects one after the other, in any order. A folder is its files
+*.json and *.jsonl, and - is standard input. Objects that say nothing about policy are counted and passed over.
+
+Each line tells a subject of a binding and whom it can become: everything, or else each user, group, account or namespace that it
+reaches. Below it stands a shortest path, a right a line. Each step takes one right, also where the cluster asks for two.
+
+--to WHOM: only paths to WHOM, as it is printed, and to everything.
+--without KIND: leaves the rights of a kind out, as the cluster guards them otherwise: star, secrets, workloads, changes, exec, volumes,
+nodes, escalate, bind, impersonate, tokens, signers, webhooks or namespaces.
+
+Example:
+  printf '%s\n' '{"apiVersion":"rbac.authorization.k8s.io/v1","kind":"ClusterRoleBinding","metadata":{"name":"admins"},"roleRef":{"kind":"ClusterRole","name":"cluster-admin"},"subjects":[{"kind":"User","name":"olga"}]}' > policy.jsonl
+  kapi paths policy.jsonl
+
+It prints
+  User olga -> everything
+    * * cluster-wide (ClusterRoleBinding admins, ClusterRole cluster-admin, rule 0) -> everything"#;
+
+fn paths<'a>(alloc: Global) -> Result<Command<'a>, Memory>
+    ensures { IfOk result (λ c. (app_of c ≡ paths_app) × ((out-Command c).has_globals ≡ false)) }
+{
+    paths_options(alloc)?.arg(file(alloc, "POLICY", "The objects of the policy"))
+}
+
+/// `kapi paths` without its file.
+fn paths_options<'a>(alloc: Global) -> Result<Command<'a>, Memory>
+    ensures { IfOk result (λ c. (app_of c ≡ paths_options_app) × ((out-Command c).has_globals ≡ false)) }
+{
+    let about = "Tells who can become whom in a cluster with a policy";
+    asking(alloc, "paths", about, PATHS_FORMS)?
+        .arg(option(alloc, "to", "WHOM", "Whom the paths lead to"))?
+        .arg(option(
+            alloc,
+            "without",
+            "KIND",
+            "A kind of rights that is left out, once or more",
+        )
+        .action(ArgAction::Append))
 }
 
 /// `--with-defaults`, of programs that read manifests.

@@ -3,11 +3,15 @@ use crate::doubts::{Doubts, EMPTY};
 use crate::ending::Ending;
 use crate::manifests::{ReadPolicy, read_policy, tell_refused};
 use crate::policies::{
-    Answered, Compared, FilesFault, compare_files, risks_file, what_file, who_file, who_wanted,
+    Answered, Compared, FilesFault, compare_files, paths_file, risks_file, what_file, who_file,
+    who_wanted,
 };
-use crate::program::{CompareFiles, RisksFile, WhatWords, WhoQuestion, WhoWanted, WhoWords};
+use crate::program::{
+    CompareFiles, PathsWords, RisksFile, WhatWords, WhoQuestion, WhoWanted, WhoWords,
+};
 use crate::telling::{print, read_file};
 use kapi_access::{Form, Holder, Identities, asked_as, question_of};
+use kapi_paths::is_kind;
 use kapi_text::{Memory, Text};
 use std::alloc::Global;
 use std::fs::Files;
@@ -228,6 +232,32 @@ pub fn run_risks<R: Files + Input + Print + Eprint + AllocGlobal + Wait + Clone 
             print(rt, answered.text.as_slice())?;
             let doubts = doubts_of(rt, file.policy.as_str(), &policy)?;
             let ending = Ending::Done.or_doubted(file.reading.strict && doubts.are_some());
+            Ok(ending.or_unsettled(answered.settled))
+        }
+        Err(fault) => refuse(rt, fault, &policy, &file_of("", b"".as_slice())),
+    }
+}
+
+/// Prints who can become whom by a policy: status 0, 4 if the roles are not settled, or 1 after a line on standard error.
+pub fn run_paths<R: Files + Input + Print + Eprint + AllocGlobal + Wait + Clone + Drop>(
+    rt: &R,
+    words: &PathsWords,
+) -> io::Result<Ending> {
+    for kind in &words.without {
+        if !is_kind(kind.as_str()) {
+            eprintln!(rt; "--without {kind}: there is no such kind; kapi paths --help names them")?;
+            return Ok(Ending::Misused);
+        }
+    }
+    let Some(policy) = read_policy(rt, words.policy.as_str(), &words.reading)? else {
+        return Ok(Ending::Stopped);
+    };
+    match paths_file(rt.alloc(), rt, words, policy.lines()) {
+        Ok(answered) => {
+            print(rt, answered.text.as_slice())?;
+            tell_unsettled(rt, words.policy.as_str(), answered.settled)?;
+            let doubts = doubts_of(rt, words.policy.as_str(), &policy)?;
+            let ending = Ending::Done.or_doubted(words.reading.strict && doubts.are_some());
             Ok(ending.or_unsettled(answered.settled))
         }
         Err(fault) => refuse(rt, fault, &policy, &file_of("", b"".as_slice())),

@@ -2,14 +2,14 @@ ghost use Rattle.std.specs.Prelude.{◌≡◌, ◌≤◌, ℕ, List, [], Some, I
 ghost use Rattle.clap.specs.Matches.{found_of};
 ghost use Rattle.clap.specs.Simple.{subcommand_rows_of};
 ghost use Rattle.clap.specs.Walk.{all_of, first_of, rows_of};
-ghost use Rattle.kapi.specs.Asked.{AreWrong, Names, Reads, answer_of, are_idle, asked_by, audited_in, has_manifests, has_reading, reading_by, reading_told, served_in, compare_in, compare_told, file_alone, has_words, question_in, question_told, risks_in, risks_told, wanted_in, wanted_told, what_in, what_told, who_in, who_told, files_in, files_told, first_of_word, is_true, listens_in, options_in, options_told, readers_in, told, transcripts_in, transcripts_told};
+ghost use Rattle.kapi.specs.Asked.{AreWrong, Names, Reads, answer_of, are_idle, asked_by, audited_in, has_manifests, has_reading, reading_by, reading_told, served_in, compare_in, compare_told, file_alone, has_words, question_in, question_told, paths_in, paths_told, risks_in, risks_told, wanted_in, wanted_told, what_in, what_told, who_in, who_told, files_in, files_told, first_of_word, is_true, listens_in, options_in, options_told, readers_in, told, transcripts_in, transcripts_told};
 ghost use Rattle.kapi.specs.Listens.{listen_of, listens_of, parted as parted_of};
 
 use crate::arguments::program;
 use crate::numbers::{first_revision, listening_port, number_of_readers, port};
 use crate::program::{
-    AuditFiles, Command, CommandFault, CompareFiles, Listen, Reading, ReplayOptions, RisksFile,
-    ServeOptions, WhatWords, WhoQuestion, WhoWanted, WhoWords,
+    AuditFiles, Command, CommandFault, CompareFiles, Listen, PathsWords, Reading, ReplayOptions,
+    RisksFile, ServeOptions, WhatWords, WhoQuestion, WhoWanted, WhoWords,
 };
 use clap::ArgMatches;
 use clap::error::ErrorKind;
@@ -56,6 +56,7 @@ fn named(alloc: Global, name: &str, words: &ArgMatches<'_>) -> Result<Command, C
         "who" => Ok(Command::Who(who_words(alloc, words)?)),
         "what" => Ok(Command::What(what_words(alloc, words)?)),
         "risks" => Ok(Command::Risks(risks_file(alloc, words)?)),
+        "paths" => Ok(Command::Paths(paths_words(alloc, words)?)),
         _ => Err(CommandFault::Words),
     }
 }
@@ -195,6 +196,23 @@ fn risks_file(alloc: Global, words: &ArgMatches<'_>) -> Result<RisksFile, Comman
     Ok(RisksFile {
         policy,
         reading,
+        json: is_given(words, "json"),
+    })
+}
+
+/// The file and the options that the words behind `paths` specify.
+fn paths_words(alloc: Global, words: &ArgMatches<'_>) -> Result<PathsWords, CommandFault>
+    ensures { Reads paths_told result (paths_in (rows_of (found_of words.now))) }
+{
+    let policy = needed(alloc, words, "POLICY")?;
+    let reading = reading(alloc, words, "with")?;
+    let to = text_or_empty(alloc, words, "to")?;
+    let without = each_copied(alloc, words, "without")?;
+    Ok(PathsWords {
+        policy,
+        reading,
+        to,
+        without,
         json: is_given(words, "json"),
     })
 }

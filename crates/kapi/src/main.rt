@@ -1,6 +1,6 @@
 //! The programs of Kapi. `kapi script` plays events from standard input and prints the answers; `kapi audit` answers
 //! questions by the policy of a file; `kapi serve` serves requests on ports of this machine; `kapi replay` plays
-//! transcripts; `kapi compare`, `kapi who`, `kapi what` and `kapi risks` answer questions about the policies of files.
+//! transcripts; `kapi compare`, `kapi who`, `kapi what`, `kapi risks` and `kapi paths` answer questions about policies.
 #![tactic(auto)]
 
 mod answering;
@@ -23,7 +23,7 @@ mod system_reason;
 mod telling;
 mod wrong_words;
 
-use asking::{run_compare, run_risks, run_what, run_who};
+use asking::{run_compare, run_paths, run_risks, run_what, run_who};
 use auditing::run_audit;
 use clap::Error;
 use command_line::command;
@@ -85,6 +85,7 @@ fn run<
         Command::Who(words) => run_who(rt, words),
         Command::What(words) => run_what(rt, words),
         Command::Risks(file) => run_risks(rt, file),
+        Command::Paths(words) => run_paths(rt, words),
         Command::Show(text) => show(rt, text),
     }
 }

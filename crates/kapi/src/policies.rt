@@ -15,6 +15,7 @@ ghost use Rattle.kapi_access.specs.Lines.{answered_lines};
 ghost use Rattle.kapi.specs.Policies as files;
 ghost use Rattle.kapi.specs.Policies.{Holds, IsLoaded, IsPolicyOf, answered_told, as_first, compared_to, compared_told, comparison, fault_told, lines_on, risks_on, what_on, who_on};
 
+use crate::program::PathsWords;
 use kapi_access::{
     Form, Holder, Identities, LineFault, Wanted, answer_compare, answer_lines, answer_risks,
     answer_what, answer_who, settled_line,
@@ -23,7 +24,8 @@ use kapi_core::Core;
 use kapi_index::IndexedPolicy;
 use kapi_lines::{Line, numbered_lines};
 use kapi_loading::{StartError, Started, is_settled, start_without_objects};
-use kapi_text::Memory;
+use kapi_paths::answer_paths;
+use kapi_text::{Memory, Text};
 use std::alloc::Global;
 use std::sync::Wait;
 use std::thread;
@@ -442,4 +444,50 @@ pub fn risks_file<R: Wait>(
         }
         Err(fault) => Err(fault),
     }
+}
+
+// ---- paths
+
+fn texts_of(alloc: Global, texts: &[String]) -> Result<Vec<Text>, Memory> {
+    let mut list = Vec::new(alloc);
+    for text in texts {
+        list.push(Text::copy_of(alloc, text.as_str())?)?;
+    }
+    Ok(list)
+}
+
+fn paths_core(
+    alloc: Global,
+    words: &PathsWords,
+    core: &Core<IndexedPolicy>,
+) -> Result<Vec<u8>, Memory> {
+    let bindings = core.policy().bindings()?;
+    let without = texts_of(alloc, words.without.as_slice())?;
+    answer_paths(
+        alloc,
+        words.json,
+        core.policy(),
+        bindings.as_slice(),
+        words.to.as_str(),
+        without.as_slice(),
+    )
+}
+
+/// Who can become whom by the policy of a file.
+///
+/// # Errors
+/// `First` at the first line that is not loaded, `Memory` where an allocation fails.
+pub fn paths_file<R: Wait>(
+    alloc: Global,
+    rt: &R,
+    words: &PathsWords,
+    objects: &[u8],
+) -> Result<Answered, FilesFault> {
+    let mut core = loaded_first(alloc, rt, objects)?;
+    let mut text = paths_core(alloc, words, &core)?;
+    let settled = is_settled(&mut core)?;
+    if words.json {
+        text.extend_from_slice(settled_line(Form::Json, settled))?;
+    }
+    Ok(Answered { text, settled })
 }

@@ -27,6 +27,8 @@ pub enum Command {
     What(WhatWords),
     /// `kapi risks`: who may gain more than a policy grants.
     Risks(RisksFile),
+    /// `kapi paths`: who can become whom.
+    Paths(PathsWords),
     /// `--help`, `help` or `--version`: the text that is asked for.
     Show(Shown),
 }
@@ -99,6 +101,19 @@ pub struct WhatWords {
 pub struct RisksFile {
     pub policy: String,
     pub reading: Reading,
+    /// Whether JSON is printed.
+    pub json: bool,
+}
+
+/// The policy that is asked who can become whom, by the name of its file.
+#[derive(Debug, Drop)]
+pub struct PathsWords {
+    pub policy: String,
+    pub reading: Reading,
+    /// Whom the paths lead to that are printed; empty where all are.
+    pub to: String,
+    /// The kinds of rights that are left out.
+    pub without: Vec<String>,
     /// Whether JSON is printed.
     pub json: bool,
 }

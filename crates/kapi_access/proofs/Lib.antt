@@ -17,3 +17,4 @@ pub mod Lists
 pub mod Parted
 pub mod Behind
 pub mod Walked
+pub mod Floatless

@@ -210,6 +210,7 @@ fn right_tree(alloc: Global, at: &ScopedRule, by: &[GivenBy]) -> Result<Value, M
     Ok(Value::Object(members))
 }
 
+#[tactic(auto, using(crate::proofs::Floatless::right_has_no_float))]
 fn push_right(
     alloc: Global,
     text: &mut Vec<u8>,

@@ -2,5 +2,5 @@ pub mod Shares
 pub mod Shared
 pub mod Joined
 pub mod Seats
-pub mod Audited
+pub mod ByPolicy
 pub mod Telling

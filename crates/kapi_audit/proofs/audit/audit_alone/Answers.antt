@@ -1,5 +1,5 @@
 use Rattle.std.proofs.Common.{◌∙◌, ap, map, refl}
-use Rattle.kapi_audit.proofs.Audited.{audited, audited_objects, unanswered}
+use Rattle.kapi_audit.proofs.ByPolicy.{audited, audited_objects, unanswered}
 use Rattle.kapi_lines.specs.Lines.{line_of, lines_of}
 use Rattle.kapi_loading.specs.Loading.{machine_alone}
 use Rattle.kapi_audit.proofs.audit.audit_alone.Goals as goal

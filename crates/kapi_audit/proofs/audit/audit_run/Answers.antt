@@ -1,5 +1,5 @@
 use Rattle.std.proofs.Common.{◌∙◌, ap, map, refl}
-use Rattle.kapi_audit.proofs.Audited.{audited, audited_files, unanswered}
+use Rattle.kapi_audit.proofs.ByPolicy.{audited, audited_files, unanswered}
 use Rattle.kapi_lines.specs.Lines.{line_of, lines_of}
 use Rattle.kapi_loading.specs.Loading.{machine_of}
 use Rattle.kapi_audit.proofs.audit.audit_run.Goals as goal

@@ -1,0 +1,4 @@
+pub mod Lists
+pub mod Grown
+pub mod Levelled
+pub mod Graphing

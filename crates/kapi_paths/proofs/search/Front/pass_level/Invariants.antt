@@ -1,0 +1,7 @@
+use Rattle.std.proofs.Common.{◌≡◌, take}
+use Rattle.std.specs.List.{fold}
+use Rattle.kapi_paths.specs.Levels.{passed}
+use Rattle.kapi_paths.proofs.search.Front.pass_level.Given as goal
+
+abbrev pub invariant-loop-node : goal.invariant-loop-node
+invariant-loop-node l = l.self ≡ fold (passed l.graph l.steps) l.initial.self (take l.node-index l.level)

@@ -1,0 +1,67 @@
+-- The graph of who can become whom, and its paths.
+use Rattle.std.specs.Prelude.{◌≡◌, ◌⊎◌, ℕ, ◌≤◌, Bool, true, false, List, [], ◌∷◌, ◌++◌, length, Some}
+use Rattle.std.specs.List.{slice_get}
+use Rattle.kapi_policy.specs.Decided.{Binding}
+use Rattle.kapi_policy.specs.Objects.{PolicyObjects}
+use Rattle.kapi_paths.specs.Chains.{Has, IsChain, row}
+use Rattle.kapi_paths.specs.Rights.{Row}
+use Rattle.kapi_paths.specs.Steps.{next}
+use Rattle.kapi_paths.specs.declared.node.Node.{Node}
+use Rattle.kapi_paths.specs.declared.node.NodeKind.{NodeKind}
+use Rattle.kapi_paths.specs.declared.node.NodeKind.TheVariants as kind
+use Rattle.kapi_paths.specs.declared.path.Path.{Path}
+use Rattle.kapi_paths.specs.declared.steps.Known.{Known}
+
+-- whom one can become in a step
+abbrev pub next_of : PolicyObjects → List Binding → Known → List Row → Node → List Node
+next_of objects bindings known rows n = next objects bindings known rows n.kind n.place n.name
+
+-- steps lead from the first over the nodes of the path, in order, the last of which is the second
+abbrev pub IsWalk : (Node → List Node) → Node → List Node → Node → Type 0
+IsWalk step from [] to = from ≡ to
+IsWalk step from (n ∷ path) to = Has (step from) n × IsWalk step n path to
+
+-- ---- numbers
+
+-- the nodes at the numbers are those
+abbrev pub AreAt : List Node → List ℕ → List Node → Type 0
+AreAt nodes [] [] = Unit
+AreAt nodes [] (x ∷ xs) = ⊥
+AreAt nodes (n ∷ ns) [] = ⊥
+AreAt nodes (n ∷ ns) (x ∷ xs) = (slice_get nodes n ≡ Some x) × AreAt nodes ns xs
+
+-- the list begins with the other
+abbrev pub Begins : List Node → List Node → Type 0
+Begins front list = (more : List Node) × (list ≡ front ++ more)
+
+-- each node has a row of the numbers of whom it can become
+pub record IsGraph (step : Node → List Node) (nodes : List Node) (rows : List (List ℕ)) : Type 0 where
+  pub size : length rows ≡ length nodes
+  pub next : (n : ℕ) (x : Node) → slice_get nodes n ≡ Some x → AreAt nodes (row rows n) (step x)
+
+-- ---- paths
+
+-- who is listed where not everything is reached: all but those who hold a role
+abbrev pub is_listed : NodeKind → Bool
+is_listed kind.Role = false
+is_listed kind.ClusterRole = false
+is_listed other = true
+
+-- the path is that of a shortest chain between the numbers
+pub record IsDrawn (nodes : List Node) (rows : List (List ℕ)) (from to : ℕ) (p : Path) : Type 0 where
+  pub numbers : List ℕ
+  pub at_from : slice_get nodes from ≡ Some p.from
+  pub at_to : slice_get nodes to ≡ Some p.to
+  pub at_path : AreAt nodes numbers p.nodes
+  pub chain : IsChain rows from numbers to
+  pub shortest : (path : List ℕ) → IsChain rows from path to → length numbers ≤ length path
+
+-- the path is one between numbers
+pub record IsSomewhere (nodes : List Node) (rows : List (List ℕ)) (p : Path) : Type 0 where
+  pub from : ℕ
+  pub to : ℕ
+  pub drawn : IsDrawn nodes rows from to p
+
+-- what came to the list are such paths
+abbrev pub AddsPaths : List Node → List (List ℕ) → List Path → List Path → Type 0
+AddsPaths nodes rows old new = (p : Path) → Has new p → Has old p ⊎ IsSomewhere nodes rows p

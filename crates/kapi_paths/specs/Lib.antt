@@ -1,0 +1,6 @@
+pub mod Chains
+pub mod Levels
+pub mod Rights
+pub mod Steps
+pub mod Sources
+pub mod Graphs

@@ -1,0 +1,140 @@
+//! The graph of who can become whom, its nodes numbered.
+ghost use Rattle.std.specs.Prelude.{◌≡◌, ◌<◌, [], length, map, true, IfOk, IfSome, OnOk};
+ghost use Rattle.std.specs.List.{slice_get};
+ghost use Rattle.kapi_policy.specs.Views.{binding_of};
+ghost use Rattle.kapi_paths.specs.Graphs.{AreAt, Begins, IsGraph, next_of};
+ghost use Rattle.kapi_paths.specs.Rights.{row_of};
+
+use crate::node::{Node, NodeKind};
+use crate::steps::{Question, next};
+use kapi_policy::Policy;
+use kapi_text::{Memory, Sequence, TryCopy};
+use std::alloc::Global;
+use std::collections::BTreeMap;
+use std::marker::Model;
+
+/// Nodes, each at its number.
+#[derive(Drop)]
+pub struct Numbered {
+    nodes: Vec<Node>,
+    numbers: BTreeMap<Node, usize>,
+}
+
+impl Model for Numbered {
+    ghost use Rattle.std.specs.Prelude.{List};
+    ghost use Rattle.kapi_paths.specs.declared.node.Node.{Node as Who};
+
+    ghost Value = { List Who };
+
+    ghost view = { λ n. n.nodes.items };
+}
+
+impl Numbered {
+    /// No node.
+    pub fn new(alloc: Global) -> Numbered
+        ensures { result ≡ [] }
+    {
+        Numbered {
+            nodes: Vec::new(alloc),
+            numbers: BTreeMap::new(alloc),
+        }
+    }
+
+    fn len(&self) -> usize
+        ensures { result ≡ length self.now }
+    {
+        self.nodes.len()
+    }
+
+    fn node(&self, number: usize) -> &Node
+        requires { number < length self.now }
+        ensures { slice_get self.now number ≡ Some result.now }
+    {
+        &self.nodes[number]
+    }
+
+    /// The nodes in the order of their numbers.
+    pub fn nodes(&self) -> &[Node]
+        ensures { result.now ≡ self.now }
+    {
+        self.nodes.as_slice()
+    }
+
+    // The number is looked at once more, so that it is never another node's.
+    fn known(&self, node: &Node) -> Option<usize>
+        ensures { IfSome result (λ n. slice_get self.now n ≡ Some node.now) }
+    {
+        let number = *self.numbers.get(node)?;
+        if is_at(self.nodes(), number, node) {
+            Some(number)
+        } else {
+            None
+        }
+    }
+
+    fn number(&mut self, alloc: Global, node: Node) -> Result<usize, Memory>
+        ensures at { IfOk result (λ n. slice_get self.new n ≡ Some node) }
+        ensures more { OnOk result (Begins self.old self.new) }
+    {
+        if let Some(number) = self.known(&node) {
+            return Ok(number);
+        }
+        let number = self.nodes.len();
+        self.nodes.reserve(1)?;
+        self.numbers.insert(node.copy(alloc)?, number)?;
+        self.nodes.push_reserved(node);
+        Ok(number)
+    }
+
+    /// The numbers of nodes.
+    pub fn row(&mut self, alloc: Global, nodes: Vec<Node>) -> Result<Vec<usize>, Memory>
+        ensures at { IfOk result (λ row. AreAt self.new row.items nodes.items) }
+        ensures more { OnOk result (Begins self.old self.new) }
+    {
+        let mut row = Vec::new(alloc);
+        for node in nodes {
+            row.push(self.number(alloc, node)?)?;
+        }
+        Ok(row)
+    }
+}
+
+fn is_same_kind(a: NodeKind, b: NodeKind) -> bool
+    ensures { result ≡ true → a ≡ b }
+{
+    a == b
+}
+
+#[tactic(auto, using(crate::proofs::Graphing::same_node))]
+fn is_same(a: &Node, b: &Node) -> bool
+    ensures { result ≡ true → a.now ≡ b.now }
+{
+    is_same_kind(a.kind, b.kind) && (a.place == b.place && a.name == b.name)
+}
+
+fn is_at(nodes: &[Node], number: usize, node: &Node) -> bool
+    ensures { result ≡ true → slice_get nodes.now number ≡ Some node.now }
+{
+    match nodes.get(number) {
+        Some(other) => is_same(other, node),
+        None => false,
+    }
+}
+
+/// The rows of the graph that those nodes begin, and numbers of all its nodes.
+pub fn rows<P: Policy>(
+    alloc: Global,
+    asked: &Question<'_, P>,
+    numbered: &mut Numbered,
+) -> Result<Vec<Sequence<usize>>, Memory>
+    ensures rows { IfOk result (λ rows. IsGraph (next_of (P.content asked.now.policy.now) (map binding_of asked.now.bindings.now) asked.now.known.now (map row_of asked.now.rights.now)) numbered.new rows.items) }
+    ensures more { OnOk result (Begins numbered.old numbered.new) }
+{
+    let mut rows = Vec::new(alloc);
+    'rows: while rows.len() < numbered.len() {
+        let nodes = next(alloc, asked, numbered.node(rows.len()))?;
+        let row = numbered.row(alloc, nodes)?;
+        rows.push(Sequence::new(row))?;
+    }
+    Ok(rows)
+}

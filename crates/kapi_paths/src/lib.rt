@@ -1,0 +1,19 @@
+//! Who can become whom under a policy (Kubernetes, 'Role Based Access Control Good Practices', 'Privilege escalation risks').
+#![tactic(auto)]
+
+mod gathered;
+mod graph;
+mod node;
+mod path;
+mod right;
+mod search;
+mod steps;
+mod told;
+
+pub use gathered::known_of;
+pub use node::{Node, NodeKind};
+pub use path::{Path, paths};
+pub use right::{Leads, Names, Right, is_kind, rights_without};
+pub use search::Search;
+pub use steps::{Known, Question, next};
+pub use told::answer_paths;

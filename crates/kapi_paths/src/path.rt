@@ -1,0 +1,193 @@
+//! Who can become whom, and by which steps.
+ghost use Rattle.std.specs.Prelude.{◌≡◌, ℕ, ◌<◌, Some, length, map, IfOk, OnOk};
+ghost use Rattle.std.specs.List.{slice_get};
+ghost use Rattle.kapi_policy.specs.Views.{binding_of};
+ghost use Rattle.kapi_paths.specs.Chains.{Has, IsInside};
+ghost use Rattle.kapi_paths.specs.Graphs as graphs;
+ghost use Rattle.kapi_paths.specs.Graphs.{AddsPaths, AreAt, IsWalk, next_of};
+ghost use Rattle.kapi_paths.specs.Rights.{row_of};
+ghost use Rattle.kapi_paths.specs.declared.path.Path.{Path as Told};
+
+use crate::gathered::sources;
+use crate::graph::{Numbered, rows};
+use crate::node::{Node, NodeKind, push_node};
+use crate::search::Search;
+use crate::steps::Question;
+use kapi_policy::Policy;
+use kapi_text::{Memory, Sequence, TryCopy};
+use std::alloc::Global;
+
+/// A path from a node to another: the nodes after the first, of which the last is the other.
+#[derive(Drop)]
+pub struct Path {
+    pub from: Node,
+    pub to: Node,
+    pub nodes: Sequence<Node>,
+}
+
+fn is_listed(kind: NodeKind) -> bool
+    ensures { result ≡ graphs.is_listed kind }
+{
+    match kind {
+        NodeKind::Role => false,
+        NodeKind::ClusterRole => false,
+        _ => true,
+    }
+}
+
+fn node_at(nodes: &[Node], number: usize) -> &Node
+    requires { number < length nodes.now }
+    ensures { slice_get nodes.now number ≡ Some result.now }
+{
+    &nodes[number]
+}
+
+// The nodes of numbers.
+fn nodes_at(alloc: Global, nodes: &[Node], numbers: &[usize]) -> Result<Vec<Node>, Memory>
+    requires { (n : ℕ) → Has numbers.now n → n < length nodes.now }
+    ensures { IfOk result (λ v. AreAt nodes.now numbers.now v.items) }
+{
+    let mut list = Vec::new(alloc);
+    for number in numbers {
+        list.push(node_at(nodes, *number).copy(alloc)?)?;
+    }
+    Ok(list)
+}
+
+// The path over the nodes of numbers.
+fn drawn(
+    alloc: Global,
+    nodes: &[Node],
+    from: usize,
+    to: usize,
+    numbers: &[usize],
+) -> Result<Path, Memory>
+    requires from { from < length nodes.now }
+    requires to { to < length nodes.now }
+    requires numbers { (n : ℕ) → Has numbers.now n → n < length nodes.now }
+    ensures from { IfOk result (λ p. slice_get nodes.now from ≡ Some p.from) }
+    ensures to { IfOk result (λ p. slice_get nodes.now to ≡ Some p.to) }
+    ensures path { IfOk result (λ p. AreAt nodes.now numbers.now p.nodes) }
+{
+    Ok(Path {
+        from: node_at(nodes, from).copy(alloc)?,
+        to: node_at(nodes, to).copy(alloc)?,
+        nodes: Sequence::new(nodes_at(alloc, nodes, numbers)?),
+    })
+}
+
+// Puts a shortest path to the node of that number at the end of a list, if chains lead there. Answers whether they do.
+fn push_path(
+    alloc: Global,
+    list: &mut Vec<Path>,
+    nodes: &[Node],
+    search: &Search<'_>,
+    to: usize,
+) -> Result<bool, Memory>
+    requires inside { IsInside search.now.graph }
+    requires nodes { length search.now.graph ≡ length nodes.now }
+    requires from { search.now.start < length nodes.now }
+    requires to { to < length nodes.now }
+    ensures { OnOk result (AddsPaths nodes.now search.now.graph list.old.items list.new.items) }
+{
+    match search.path_to(alloc, to)? {
+        Some(numbers) => {
+            let path = drawn(alloc, nodes, search.start(), to, numbers.as_slice())?;
+            list.push(path)?;
+            Ok(true)
+        }
+        None => Ok(false),
+    }
+}
+
+// The same, if that node is another, and is listed.
+fn push_listed(
+    alloc: Global,
+    list: &mut Vec<Path>,
+    nodes: &[Node],
+    search: &Search<'_>,
+    to: usize,
+) -> Result<(), Memory>
+    requires inside { IsInside search.now.graph }
+    requires nodes { length search.now.graph ≡ length nodes.now }
+    requires from { search.now.start < length nodes.now }
+    requires to { to < length nodes.now }
+    ensures { OnOk result (AddsPaths nodes.now search.now.graph list.old.items list.new.items) }
+{
+    if to == search.start() || !is_listed(node_at(nodes, to).kind) {
+        return Ok(());
+    }
+    push_path(alloc, list, nodes, search, to)?;
+    Ok(())
+}
+
+fn push_each(
+    alloc: Global,
+    list: &mut Vec<Path>,
+    nodes: &[Node],
+    search: &Search<'_>,
+) -> Result<(), Memory>
+    requires inside { IsInside search.now.graph }
+    requires nodes { length search.now.graph ≡ length nodes.now }
+    requires from { search.now.start < length nodes.now }
+    ensures { OnOk result (AddsPaths nodes.now search.now.graph list.old.items list.new.items) }
+{
+    for to in 1..nodes.len() {
+        push_listed(alloc, list, nodes, search, to)?;
+    }
+    Ok(())
+}
+
+// The paths of a search: to everything, or else to each node that is listed.
+fn push_found(
+    alloc: Global,
+    list: &mut Vec<Path>,
+    nodes: &[Node],
+    search: &Search<'_>,
+) -> Result<(), Memory>
+    requires inside { IsInside search.now.graph }
+    requires nodes { length search.now.graph ≡ length nodes.now }
+    requires from { search.now.start < length nodes.now }
+    ensures { OnOk result (AddsPaths nodes.now search.now.graph list.old.items list.new.items) }
+{
+    if push_path(alloc, list, nodes, search, 0)? {
+        return Ok(());
+    }
+    push_each(alloc, list, nodes, search)?;
+    Ok(())
+}
+
+fn push_paths(
+    alloc: Global,
+    list: &mut Vec<Path>,
+    nodes: &[Node],
+    rows: &[Sequence<usize>],
+    from: usize,
+) -> Result<(), Memory>
+    requires inside { IsInside rows.now }
+    requires nodes { length rows.now ≡ length nodes.now }
+    requires from { from < length nodes.now }
+    ensures { OnOk result (AddsPaths nodes.now rows.now list.old.items list.new.items) }
+{
+    let search = Search::new(alloc, rows, from)?;
+    push_found(alloc, list, nodes, &search)?;
+    Ok(())
+}
+
+/// The paths of each subject of the bindings: to everything, or else to each node that it reaches, besides those who hold a role.
+pub fn paths<P: Policy>(alloc: Global, asked: &Question<'_, P>) -> Result<Vec<Path>, Memory>
+    ensures { IfOk result (λ v. (p : Told) → Has v.items p → IsWalk (next_of (P.content asked.now.policy.now) (map binding_of asked.now.bindings.now) asked.now.known.now (map row_of asked.now.rights.now)) p.from p.nodes p.to) }
+{
+    let mut numbered = Numbered::new(alloc);
+    let mut first = Vec::new(alloc);
+    push_node(alloc, &mut first, NodeKind::Everything, "", "")?;
+    drop(numbered.row(alloc, first)?);
+    drop(numbered.row(alloc, sources(alloc, asked.bindings)?)?);
+    let count = numbered.nodes().len();
+    let rows = rows(alloc, asked, &mut numbered)?;
+    let mut list = Vec::new(alloc);
+    for from in 1..count {
+        push_paths(alloc, &mut list, numbered.nodes(), rows.as_slice(), from)?;
+    }
+    Ok(list)
+}
