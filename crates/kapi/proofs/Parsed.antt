@@ -77,6 +77,7 @@ names_of words m (Ok (command.Replay o)) e h = e ∙ h
 names_of words m (Ok (command.Compare o)) e h = e ∙ h
 names_of words m (Ok (command.Paths o)) e h = e ∙ h
 names_of words m (Ok (command.Who o)) e h = e ∙ h
+names_of words m (Ok (command.What o)) e h = e ∙ h
 names_of words m (Ok (command.Risks o)) e h = e ∙ h
 names_of words m (Ok (command.Show x)) e h = absurd (never_shown (subcommand_rows_of m) _ h)
 names_of words m (Err x) e h = tt

@@ -55,12 +55,10 @@ pub record Options : Type 0 where
   pub readers : ℕ
   pub idle_readers : Bool
 
--- the transcripts that are played, by their names, whether they are written, whether a doubt fails, and the file that the outcomes
--- are written to
+-- the transcripts that are played, by their names, whether they are written, and the file that the outcomes are written to
 pub record Transcripts : Type 0 where
   pub files : List Text
   pub write : Bool
-  pub strict : Bool
   pub junit : Option Text
 
 -- the policies that are compared, by the names of their files, whether for identities with their usual groups, and whether JSON is printed
@@ -224,12 +222,7 @@ options_in rows = do
 abbrev pub transcripts_in : List Row → Option Transcripts
 transcripts_in rows = do
   files ← all_of (codes "FILE") rows
-  Some (record {
-    files = files;
-    write = is_true (first_of (codes "write") rows);
-    strict = is_true (first_of (codes "strict") rows);
-    junit = first_of (codes "junit") rows;
-  })
+  Some (record { files = files; write = is_true (first_of (codes "write") rows); junit = first_of (codes "junit") rows })
 
 -- the comparison that parsed rows ask for
 abbrev pub compare_in : List Row → Option Policies
@@ -371,7 +364,7 @@ options_told o = record {
 
 -- a replay's transcripts, as data
 abbrev pub transcripts_told : ReplayOptions → Transcripts
-transcripts_told o = record { files = map string_bytes o.files.items; write = o.write; strict = o.strict; junit = option_map (λ s. string_bytes s) o.junit }
+transcripts_told o = record { files = map string_bytes o.files.items; write = o.write; junit = option_map (λ s. string_bytes s) o.junit }
 
 -- a comparison's policies, as data
 abbrev pub compare_told : CompareFiles → Policies

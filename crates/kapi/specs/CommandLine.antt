@@ -84,7 +84,7 @@ transcripts = record (new_rule (codes "FILE")) {
 
 -- `kapi replay`, its options before its files
 abbrev pub replay : App
-replay = with_rule (with_rule (with_rule (with_rule (new_app (codes "replay")) (flag (codes "write"))) strict) (option (codes "junit"))) transcripts
+replay = with_rule (with_rule (with_rule (new_app (codes "replay")) (flag (codes "write"))) (option (codes "junit"))) transcripts
 
 -- a word that may be left out
 abbrev pub word : Text → Rule

@@ -263,11 +263,6 @@ fn replay<'a>(alloc: Global) -> Result<Command<'a>, Memory>
             "write",
             "Prints the transcripts with the answers that came where others are wanted",
         ))?
-        .arg(flag(
-            alloc,
-            "strict",
-            "Ends with status 1 where 403 is wanted of a resource that is not served",
-        ))?
         .arg(option(
             alloc,
             "junit",

@@ -292,7 +292,7 @@ fn identities(usual: bool) -> Identities {
     }
 }
 
-pub fn tell_unsettled(rt: &impl Eprint, file: &str, settled: bool) -> io::Result<()> {
+fn tell_unsettled(rt: &impl Eprint, file: &str, settled: bool) -> io::Result<()> {
     if !settled {
         eprintln!(rt; "{file}: the roles are not settled after 64 turns")?;
     }

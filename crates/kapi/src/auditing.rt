@@ -1,12 +1,12 @@
 //! Questions of a file, answered by a policy.
 ghost use Rattle.std.specs.Prelude.{◌≤◌};
 
-use crate::asking::{doubts_of, tell_unsettled};
+use crate::asking::doubts_of;
 use crate::ending::Ending;
 use crate::manifests::{ReadPolicy, read_policy, tell_refused};
 use crate::program::{AuditFiles, Reading};
 use crate::telling::{print, read_file, tell_reason};
-use kapi_audit::{AuditFault, Audited, NoGate, audit_alone, audit_run};
+use kapi_audit::{AuditFault, NoGate, audit_alone, audit_run};
 use kapi_reasons::{object_reason, question_reason};
 use std::fs::Files;
 use std::io;
@@ -63,13 +63,11 @@ fn audit_manifests<
     };
     let questions = questions.as_slice();
     match audit_objects(rt, &policy, questions, files.readers) {
-        Ok(audited) => {
-            print(rt, audited.text.as_slice())?;
-            tell_unsettled(rt, files.policy.as_str(), audited.settled)?;
+        Ok(answers) => {
+            print(rt, answers.as_slice())?;
             let mut doubts = doubts_of(rt, files.policy.as_str(), &policy)?;
             doubts.tell_reviews(rt, &policy.prepared.words, questions)?;
-            let ending = Ending::Done.or_doubted(reading.strict && doubts.are_some());
-            Ok(ending.or_unsettled(audited.settled))
+            Ok(Ending::Done.or_doubted(reading.strict && doubts.are_some()))
         }
         Err(AuditFault::PolicyLine(_line)) => {
             tell_refused(rt, &policy)?;
@@ -108,7 +106,7 @@ fn audit_objects<R: AllocGlobal + Threads + Wait + Sync>(
     policy: &ReadPolicy,
     questions: &[u8],
     readers: usize,
-) -> Result<Audited, AuditFault>
+) -> Result<Vec<u8>, AuditFault>
     requires { (1 ≤ readers) × (readers ≤ 16) }
 {
     audit_alone(rt.alloc(), rt, policy.lines(), questions, readers, &NoGate)

@@ -134,7 +134,6 @@ fn replay_options(alloc: Global, words: &ArgMatches<'_>) -> Result<ReplayOptions
     Ok(ReplayOptions {
         files,
         write: is_given(words, "write"),
-        strict: is_given(words, "strict"),
         junit,
     })
 }

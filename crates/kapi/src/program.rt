@@ -136,8 +136,6 @@ pub struct ReplayOptions {
     /// The names of the transcripts, one or more, in the order of the words.
     pub files: Vec<String>,
     pub write: bool,
-    /// A line that wants 403 of a resource that is not served fails.
-    pub strict: bool,
     /// The file that the outcomes are written to as JUnit has them, by its name.
     pub junit: Option<String>,
 }

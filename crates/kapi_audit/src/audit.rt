@@ -1,7 +1,4 @@
-ghost use Rattle.std.specs.Prelude.{◌≡◌, ◌≤◌, [], All, IfOk, Ok, map, length};
-ghost use Rattle.kapi_core.specs.Machine.{Machine};
-ghost use Rattle.kapi_loading.specs.Loading.{machine_alone};
-ghost use Rattle.kapi_loading.specs.Settled.{is_settled as is_settled_machine};
+ghost use Rattle.std.specs.Prelude.{◌≡◌, ◌≤◌, [], All, IfOk, map, length};
 ghost use Rattle.kapi_text.specs.Gives.{Gives};
 ghost use Rattle.kapi_core.specs.Table.{access_reviews_row};
 ghost use Rattle.kapi_desk.specs.Boards.{Chair, fresh, informed};
@@ -19,7 +16,7 @@ use crate::reader::Reader;
 use crate::threads::answer_in_threads;
 use kapi_desk::{Desk, Seat};
 use kapi_lines::{Line, numbered_lines};
-use kapi_loading::{Started, is_settled, start, start_without_objects};
+use kapi_loading::{Started, start, start_without_objects};
 use kapi_text::Memory;
 use std::alloc::Global;
 use std::sync::Wait;
@@ -153,13 +150,6 @@ pub fn audit_run<R: Threads + Wait + Sync, G: Gate + Sync>(
     answer_seated(alloc, rt, desk, seats, asked.as_slice(), gate)
 }
 
-/// The answers of an audit, and whether the roles of its policy are settled.
-#[derive(Drop)]
-pub struct Audited {
-    pub text: Vec<u8>,
-    pub settled: bool,
-}
-
 /// Answers a file of questions by the policy of objects alone, without those that every other machine begins with; the
 /// rest, errors too, is as of `audit_run`.
 pub fn audit_alone<R: Threads + Wait + Sync, G: Gate + Sync>(
@@ -169,19 +159,16 @@ pub fn audit_alone<R: Threads + Wait + Sync, G: Gate + Sync>(
     questions: &[u8],
     readers: usize,
     gate: &G,
-) -> Result<Audited, AuditFault>
+) -> Result<Vec<u8>, AuditFault>
     requires { (1 ≤ readers) × (readers ≤ 16) }
-    ensures text { Gives fault_told (λ a. a.text.items) result (answers_alone policy.now questions.now) }
-    ensures settled { (m : Machine) → machine_alone 0 policy.now ≡ Ok m → IfOk result (λ a. a.settled ≡ is_settled_machine m) }
+    ensures { Gives fault_told (λ v. v.items) result (answers_alone policy.now questions.now) }
 {
     let asked = numbered_lines(alloc, questions)?;
     let started = start_without_objects(alloc, rt, policy, 0, readers)?;
     let Started {
-        mut core,
+        core: _core,
         desk,
         seats,
     } = started;
-    let text = answer_seated(alloc, rt, desk, seats, asked.as_slice(), gate)?;
-    let settled = is_settled(&mut core)?;
-    Ok(Audited { text, settled })
+    answer_seated(alloc, rt, desk, seats, asked.as_slice(), gate)
 }

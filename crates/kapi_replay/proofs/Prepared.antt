@@ -1,5 +1,5 @@
 -- What became of a case that begins with manifests.
-use Rattle.std.proofs.Common.{◌≡◌, ℕ, [], List, false, Result, Ok, Err, IfOk, length, sym, subst}
+use Rattle.std.proofs.Common.{◌≡◌, ℕ, [], List, Bool, false, Result, Ok, Err, IfOk, length, sym, subst}
 use Rattle.kapi_core.specs.Machine.{Machine, with_rechecks}
 use Rattle.kapi_loading.specs.Faults.{FileFault, bad_line}
 use Rattle.kapi_manifests.specs.Written.{Loads, faults_in_all}
@@ -30,14 +30,14 @@ is_refused items (Ok v) loads files p n more o is h = (more, subst (λ x. IsFaul
 is_refused items (Err x) loads files p n more o is h = tt
 
 -- what is loaded of texts
-pub texts_fail : {V E : Type 0} (items : V → List Failure) (r : Result V E) (loads : List LoadedFile) (c : Case) (files : List Loaded) (p : Prepared) (texts : List (List ℕ)) → texts ≡ all_texts loads files
-    → Loads All [] false false texts p → length p.faults.items ≡ faults_in_all All [] texts
-    → IfOk r (λ v. FailsBehind loads c files p p.faults.items (items v)) → IfOk r (λ v. FailsTexts loads c files (items v))
-texts_fail items (Ok v) loads c files p texts is load count h =
+pub texts_fail : {V E : Type 0} (items : V → List Failure) (r : Result V E) (loads : List LoadedFile) (c : Case) (files : List Loaded) (defaults : Bool) (p : Prepared) (texts : List (List ℕ)) → texts ≡ all_texts loads files
+    → Loads All [] defaults false texts p → length p.faults.items ≡ faults_in_all All [] texts
+    → IfOk r (λ v. FailsBehind loads c files p p.faults.items (items v)) → IfOk r (λ v. FailsTexts loads c files defaults (items v))
+texts_fail items (Ok v) loads c files defaults p texts is load count h =
     record {
       prepared = p;
-      is_prepared = subst (λ ts. Loads All [] false false ts p) is load;
+      is_prepared = subst (λ ts. Loads All [] defaults false ts p) is load;
       faults = subst (λ ts. length p.faults.items ≡ faults_in_all All [] ts) is count;
       fails = h;
     }
-texts_fail items (Err x) loads c files p texts is load count h = tt
+texts_fail items (Err x) loads c files defaults p texts is load count h = tt
