@@ -9,7 +9,7 @@ import tempfile
 import xml.etree.ElementTree
 
 FOLDER = pathlib.Path(__file__).parent / "reports"
-NAMES = ["corrected", "checks-nothing", "names-of-groups", "manifests-faults"]
+NAMES = ["corrected", "checks-nothing", "names-of-groups", "manifests-faults", "reasons"]
 
 
 def ran(program, *words, folder=FOLDER):
@@ -34,6 +34,12 @@ def faults(program, room):
         yield "JUnit has other suites"
     if ran(program, str(FOLDER / "names-of-groups.txt"), "--junit", str(room / "none" / "junit.xml"), folder=room)[2] != 1:
         yield "a file that cannot be written is not said"
+    # 403 of a resource that is not served is said, and fails with --strict
+    said = (FOLDER / "unserved.report").read_text()
+    for words, status, wanted in ((["unserved.txt"], 0, said), (["--strict", "unserved.txt"], 1, said), (["--strict", "../../examples/replay/support.txt"], 0, "")):
+        _text, error, got = ran(program, *words)
+        if (error, got) != (wanted, status):
+            yield f"{words}: status {got}: {error}"
     # a file is named from the transcript's folder, wherever kapi runs
     text, _error, status = ran(program, str(FOLDER / "corrected.txt"), folder=room)
     if "cannot be read" in text or status != 1:

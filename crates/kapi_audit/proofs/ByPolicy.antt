@@ -1,10 +1,11 @@
 -- The answers by a policy that was published.
-use Rattle.std.proofs.Common.{◌≡◌, ℕ, List, Result, Ok, Err, IsErrAnd, sym, ap, ◌∙◌, subst}
+use Rattle.std.proofs.Common.{◌≡◌, ℕ, Bool, List, Result, Ok, Err, IfOk, IsErrAnd, sym, ap, ◌∙◌, subst}
 use Rattle.kapi_text.specs.Gives.{Fails, Gives}
 use Rattle.kapi_audit.specs.Answers.{answer_of, answered_by, answers, answers_alone, answers_on}
 use Rattle.kapi_audit.specs.Faults.{AuditError, fault_told, unloaded}
 use Rattle.kapi_audit.specs.declared.fault.AuditFault.{AuditFault}
 use Rattle.kapi_core.specs.Machine.{Machine}
+use Rattle.kapi_core.specs.Refines.{Refines}
 use Rattle.kapi_core.specs.Running.{Running}
 use Rattle.kapi_core.specs.Table.{access_reviews_row}
 use Rattle.kapi_desk.specs.Boards.{Board}
@@ -13,6 +14,7 @@ use Rattle.kapi_loading.specs.Faults as loading
 use Rattle.kapi_loading.specs.Faults.{FileFault}
 use Rattle.kapi_lines.specs.Lines.{NumberedLine, lines_of}
 use Rattle.kapi_loading.specs.Loading.{Publishes, machine_alone, machine_of}
+use Rattle.kapi_loading.specs.Settled.{is_settled}
 use Rattle.kapi_loading.specs.declared.fault.StartError.{StartError}
 use Rattle.kapi_loading.specs.declared.fault.StartError.TheVariants as start
 use Rattle.kapi_policy.specs.Objects.{PolicyObjects}
@@ -44,3 +46,11 @@ pub audited_objects : {X : Type 0} (items : X → List ℕ) (result : Result X A
     → Gives fault_told items result (answers_on (machine_alone 0 policy) asked) → Gives fault_told items result (answers_alone policy questions)
 unfolding answers_alone
 audited_objects items result policy questions asked is h = subst (λ ls. Gives fault_told items result (answers_on (machine_alone 0 policy) ls)) is h
+
+-- the machine that the objects make is settled where that of the core is
+pub settled_as : {X E : Type 0} (result : Result X E) (told : X → Bool) (core : Running) (desk : Board) (given : Result Machine FileFault)
+    → (m : Machine) × (given ≡ Ok m) × Publishes core desk m → ((m : Machine) → Refines core m → IfOk result (λ x. told x ≡ is_settled m))
+    → (m : Machine) → given ≡ Ok m → IfOk result (λ x. told x ≡ is_settled m)
+settled_as result told core desk given (m, is, (stands, shown)) h other same =
+    let one : m ≡ other = cc (sym is ∙ same) in
+    subst (λ k. IfOk result (λ x. told x ≡ is_settled k)) one (h m stands)

@@ -1,5 +1,5 @@
 -- Why an audit has no answer.
-use Rattle.std.specs.Prelude.{ℕ, Option, None, Some}
+use Rattle.std.specs.Prelude.{ℕ, List, Option, None, Some, Result}
 use Rattle.kapi_desk.specs.declared.seat.SeatError.{SeatError}
 use Rattle.kapi_desk.specs.declared.seat.SeatError.TheVariants as seat
 use Rattle.kapi_loading.specs.declared.fault.StartError.{StartError}
@@ -11,6 +11,10 @@ use Rattle.kapi_audit.specs.declared.fault.AuditFault.TheVariants as fault
 pub data AuditError : Type 0 where
   policy_line : ℕ → AuditError
   question_line : ℕ → AuditError
+
+-- the answers, or the line at fault
+abbrev pub Answered : Type 0
+Answered = Result (List ℕ) AuditError
 
 -- what a fault reports of the files: nothing where it is out of memory, or a reader was refused
 abbrev pub fault_told : AuditFault → Option AuditError

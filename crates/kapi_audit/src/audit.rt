@@ -1,10 +1,14 @@
-ghost use Rattle.std.specs.Prelude.{◌≡◌, ◌≤◌, [], All, IfOk, map, length};
+ghost use Rattle.std.specs.Prelude.{◌≡◌, ◌≤◌, [], All, IfOk, Ok, map, length};
+ghost use Rattle.kapi_core.specs.Machine.{Machine};
+ghost use Rattle.kapi_core.specs.Refines.{Refines};
+ghost use Rattle.kapi_loading.specs.Loading.{machine_alone};
+ghost use Rattle.kapi_loading.specs.Settled.{is_settled as is_settled_machine};
 ghost use Rattle.kapi_text.specs.Gives.{Gives};
 ghost use Rattle.kapi_core.specs.Table.{access_reviews_row};
 ghost use Rattle.kapi_desk.specs.Boards.{Chair, fresh, informed};
 ghost use Rattle.kapi_desk.specs.Steps.{after};
 ghost use Rattle.kapi_audit.specs.Answers.{answer_of, answered_by, answers, answers_alone};
-ghost use Rattle.kapi_audit.specs.Faults.{fault_told};
+ghost use Rattle.kapi_audit.specs.Faults.{Answered, fault_told};
 ghost use Rattle.kapi_lines.specs.Lines.{line_of};
 ghost use Rattle.kapi_audit.specs.Private.Readers.{AreReaders};
 
@@ -14,9 +18,11 @@ use crate::gathering::gather;
 use crate::question::access_reviews;
 use crate::reader::Reader;
 use crate::threads::answer_in_threads;
+use kapi_core::Core;
 use kapi_desk::{Desk, Seat};
+use kapi_index::IndexedPolicy;
 use kapi_lines::{Line, numbered_lines};
-use kapi_loading::{Started, start, start_without_objects};
+use kapi_loading::{Started, is_settled, start, start_without_objects};
 use kapi_text::Memory;
 use std::alloc::Global;
 use std::sync::Wait;
@@ -150,6 +156,13 @@ pub fn audit_run<R: Threads + Wait + Sync, G: Gate + Sync>(
     answer_seated(alloc, rt, desk, seats, asked.as_slice(), gate)
 }
 
+/// The answers of an audit, and whether the roles of its policy are settled.
+#[derive(Drop)]
+pub struct Audited {
+    pub text: Vec<u8>,
+    pub settled: bool,
+}
+
 /// Answers a file of questions by the policy of objects alone, without those that every other machine begins with; the
 /// rest, errors too, is as of `audit_run`.
 pub fn audit_alone<R: Threads + Wait + Sync, G: Gate + Sync>(
@@ -159,16 +172,35 @@ pub fn audit_alone<R: Threads + Wait + Sync, G: Gate + Sync>(
     questions: &[u8],
     readers: usize,
     gate: &G,
-) -> Result<Vec<u8>, AuditFault>
+) -> Result<Audited, AuditFault>
     requires { (1 ≤ readers) × (readers ≤ 16) }
-    ensures { Gives fault_told (λ v. v.items) result (answers_alone policy.now questions.now) }
+    ensures text { Gives fault_told (λ a. a.text.items) result (answers_alone policy.now questions.now) }
+    ensures settled { (m : Machine) → machine_alone 0 policy.now ≡ Ok m → IfOk result (λ a. a.settled ≡ is_settled_machine m) }
 {
     let asked = numbered_lines(alloc, questions)?;
     let started = start_without_objects(alloc, rt, policy, 0, readers)?;
     let Started {
-        core: _core,
+        mut core,
         desk,
         seats,
     } = started;
-    answer_seated(alloc, rt, desk, seats, asked.as_slice(), gate)
+    let answered = answer_seated(alloc, rt, desk, seats, asked.as_slice(), gate);
+    with_settled(&mut core, answered)
+}
+
+/// The answers, and whether the roles of the policy are settled.
+fn with_settled(
+    core: &mut Core<IndexedPolicy>,
+    answered: Result<Vec<u8>, AuditFault>,
+) -> Result<Audited, AuditFault>
+    ensures text { (given : Answered) → Gives fault_told (λ v. v.items) answered given → Gives fault_told (λ a. a.text.items) result given }
+    ensures settled { (m : Machine) → Refines core.old m → IfOk result (λ a. a.settled ≡ is_settled_machine m) }
+{
+    match answered {
+        Ok(text) => {
+            let settled = is_settled(core)?;
+            Ok(Audited { text, settled })
+        }
+        Err(fault) => Err(fault),
+    }
 }

@@ -14,6 +14,7 @@ mod report;
 mod threads;
 
 pub use answering::answer_run;
-pub use audit::{READERS, audit_alone, audit_run};
+pub use audit::{Audited, READERS, audit_alone, audit_run};
 pub use fault::{AnswerFault, AuditFault};
 pub use gate::{Gate, NoGate};
+pub use question::{access_reviews, question_of};

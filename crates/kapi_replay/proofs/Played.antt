@@ -3,7 +3,7 @@ use Rattle.std.proofs.Common.{◌≡◌, ℕ, Bool, true, List, [], ◌∷◌, �
 use Rattle.kapi_core.specs.Machine.{Machine, with_rechecks}
 use Rattle.kapi_lines.proofs.Appending.{appends_nothing}
 use Rattle.kapi_replay.specs.Failures.{FailsAs, FailsBy, FailsOn, IsBadLine, IsNotLoaded, differences, event_text, is_reason_of, number_at, script_text}
-use Rattle.kapi_replay.specs.Outcomes.{ArePlayed, IsReplayed, IsReported, checks_in}
+use Rattle.kapi_replay.specs.Outcomes.{AreAlike, ArePlayed, IsReplayed, IsReported, checks_in}
 use Rattle.kapi_replay.specs.Playing.{Fails}
 use Rattle.kapi_reasons.specs.Reasons.{is_reason}
 use Rattle.kapi_replay.specs.declared.failure.Check.{Check}
@@ -65,14 +65,14 @@ none_left [] h = refl
 none_left (x ∷ xs) h = absurd (cc h)
 
 -- a case more
-pub more_played : (loads : List LoadedFile) (all rest later : List Case) (c : Case) (done next : List Check) (old first given new : List Failure)
+pub more_played : (loads : List LoadedFile) (all rest later : List Case) (c : Case) (done next : List Check) (old found first given new : List Failure)
     → ((others : List Check) (more : List Failure) → ArePlayed loads rest others more → ArePlayed loads all (done ++ others) (old ++ more)) → rest ≡ c ∷ later
-    → Fails loads c first → given ≡ first → next ≡ done ++ checks_in c given → new ≡ old ++ first
+    → Fails loads c found → AreAlike first found → given ≡ first → next ≡ done ++ checks_in c given → new ≡ old ++ first
     → (others : List Check) (more : List Failure) → ArePlayed loads later others more → ArePlayed loads all (next ++ others) (new ++ more)
-more_played loads all rest later c done next old first given new before is fails same checks failures others more h =
+more_played loads all rest later c done next old found first given new before is fails alike same checks failures others more h =
     let told : next ≡ done ++ checks_in c first = rw (← same) checks in
     rw (told, failures, append_assoc done (checks_in c first) others, append_assoc old first more)
-    (before (checks_in c first ++ others) (first ++ more) (rw is (others, first, more, refl, refl, fails, h)))
+    (before (checks_in c first ++ others) (first ++ more) (rw is (others, found, first, more, refl, refl, fails, alike, h)))
 
 -- no case is left
 pub all_played : (loads : List LoadedFile) (all rest : List Case) (done : List Check) (old : List Failure)

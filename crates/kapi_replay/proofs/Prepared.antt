@@ -1,17 +1,16 @@
 -- What became of a case that begins with manifests.
-use Rattle.std.proofs.Common.{◌≡◌, ℕ, [], List, Bool, false, Result, Ok, Err, IfOk, length, sym, subst}
+use Rattle.std.proofs.Common.{◌≡◌, ℕ, List, Result, Ok, Err, IfOk, sym, subst}
 use Rattle.kapi_core.specs.Machine.{Machine, with_rechecks}
 use Rattle.kapi_loading.specs.Faults.{FileFault, bad_line}
-use Rattle.kapi_manifests.specs.Written.{Loads, faults_in_all}
 use Rattle.kapi_manifests.specs.declared.fault.Origin.{Origin}
 use Rattle.kapi_manifests.specs.declared.prepared.Prepared.{Prepared}
-use Rattle.kapi_manifests.specs.declared.sorted.Scope.TheVariants.{All}
 use Rattle.kapi_replay.specs.Failures.{FailsOn}
-use Rattle.kapi_replay.specs.Manifests.{FailsAlone, FailsBehind, FailsTexts, IsFaultAt, IsRefused, all_texts, origin_at}
+use Rattle.kapi_replay.specs.Manifests.{FailsAlone, FailsBehind, FailsTexts, IsFaultAt, IsRead, IsRefused, origin_at}
 use Rattle.kapi_replay.specs.declared.failure.Failure.{Failure}
 use Rattle.kapi_replay.specs.declared.files.LoadedFile.{LoadedFile}
 use Rattle.kapi_replay.specs.declared.case.Case.{Case}
 use Rattle.kapi_replay.specs.declared.case.Loaded.{Loaded}
+use Rattle.kapi_replay.specs.declared.case.Manifests.{Manifests}
 
 -- the machine is the one that lines make alone
 pub alone : {V E : Type 0} (items : V → List Failure) (r : Result V E) (m : Machine) (loads : List LoadedFile) (c : Case) (files : List Loaded) (p : Prepared) (given : Result Machine FileFault)
@@ -30,14 +29,7 @@ is_refused items (Ok v) loads files p n more o is h = (more, subst (λ x. IsFaul
 is_refused items (Err x) loads files p n more o is h = tt
 
 -- what is loaded of texts
-pub texts_fail : {V E : Type 0} (items : V → List Failure) (r : Result V E) (loads : List LoadedFile) (c : Case) (files : List Loaded) (defaults : Bool) (p : Prepared) (texts : List (List ℕ)) → texts ≡ all_texts loads files
-    → Loads All [] defaults false texts p → length p.faults.items ≡ faults_in_all All [] texts
-    → IfOk r (λ v. FailsBehind loads c files p p.faults.items (items v)) → IfOk r (λ v. FailsTexts loads c files defaults (items v))
-texts_fail items (Ok v) loads c files defaults p texts is load count h =
-    record {
-      prepared = p;
-      is_prepared = subst (λ ts. Loads All [] defaults false ts p) is load;
-      faults = subst (λ ts. length p.faults.items ≡ faults_in_all All [] ts) is count;
-      fails = h;
-    }
-texts_fail items (Err x) loads c files defaults p texts is load count h = tt
+pub texts_fail : {V E : Type 0} (items : V → List Failure) (r : Result V E) (loads : List LoadedFile) (c : Case) (m : Manifests) (p : Prepared) (files : List Loaded) → files ≡ m.files
+    → IsRead loads m p → IfOk r (λ v. FailsBehind loads c files p p.faults.items (items v)) → IfOk r (λ v. FailsTexts loads c m (items v))
+texts_fail items (Ok v) loads c m p files same read h = (p, read, subst (λ fs. FailsBehind loads c fs p p.faults.items (items v)) same h)
+texts_fail items (Err x) loads c m p files same read h = tt

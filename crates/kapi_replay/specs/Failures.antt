@@ -40,7 +40,12 @@ number_at script n = number_or (nth script n)
 abbrev pub unmet : List Event → List (List ℕ) → Want → List Failure
 unmet script answers w =
     if is_met w.wanted (line_at answers w.events) then []
-    else failure.Differs w.number (number_at script w.events) (line_at answers w.events) ∷ []
+    else failure.Differs (record { number = w.number; asked = number_at script w.events; events = w.events; answer = line_at answers w.events; reason = [] }) ∷ []
+
+-- a failure without its reason
+abbrev pub bare : Failure → Failure
+bare (failure.Differs d) = failure.Differs (record d { reason = [] })
+bare f = f
 
 -- the failures of a case that is answered by this text, a line an event
 abbrev pub differences : Case → List ℕ → List Failure

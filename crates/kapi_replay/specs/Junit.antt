@@ -65,7 +65,7 @@ unfailed compared = if compared then codes "\"/>\n" else codes "\"><skipped/></t
 
 -- the failure is the difference at that line
 abbrev pub differs_at : ℕ → Failure → Bool
-differs_at n (failure.Differs line asked answer) = line == n
+differs_at n (failure.Differs d) = d.number == n
 differs_at n f = false
 
 -- how the case of a check ends, which fails or not

@@ -8,6 +8,7 @@ pub mod Forms
 pub mod Cases
 pub mod Reports
 pub mod Failures
+pub mod Asked
 pub mod Files
 pub mod Manifests
 pub mod Playing

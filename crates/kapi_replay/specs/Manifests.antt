@@ -1,5 +1,5 @@
 -- The failures of a case that begins with manifests.
-use Rattle.std.specs.Prelude.{◌≡◌, ℕ, ◌+◌, ◌-◌, ◌==◌, nat_lt, Bool, true, false, if◌then◌else◌, List, [], ◌∷◌, ◌++◌, length, codes, Option, Some, None, Result, Ok, Err}
+use Rattle.std.specs.Prelude.{◌≡◌, ℕ, ◌+◌, ◌-◌, ◌==◌, nat_lt, true, false, if◌then◌else◌, List, [], ◌∷◌, ◌++◌, length, codes, Option, Some, None, Result, Ok, Err}
 use Rattle.std.specs.List.{find, flat_map, list_all}
 use Rattle.std.specs.Option.{unwrap_or}
 use Rattle.kapi_core.specs.Machine.{Machine, with_rechecks}
@@ -83,16 +83,18 @@ abbrev pub FailsBehind : List LoadedFile → Case → List Loaded → Prepared �
 FailsBehind loads c files p [] failures = FailsAlone loads c files p (machine_alone 0 p.text.items) failures
 FailsBehind loads c files p (f ∷ fs) failures = IsFaultAt loads files f.origin (length fs) failures
 
--- what is loaded of the texts, with the default roles or without, and the failures of the case that begins with it
-pub record FailsTexts (loads : List LoadedFile) (c : Case) (files : List Loaded) (defaults : Bool) (failures : List Failure) : Type 0 where
-  pub prepared : Prepared
-  pub is_prepared : Loads All [] defaults false (all_texts loads files) prepared
-  pub faults : length prepared.faults.items ≡ faults_in_all All [] (all_texts loads files)
-  pub fails : FailsBehind loads c files prepared prepared.faults.items failures
+-- what is loaded of the files, and how many faults they have
+pub record IsRead (loads : List LoadedFile) (m : Manifests) (p : Prepared) : Type 0 where
+  pub loaded : Loads All [] m.defaults false (all_texts loads m.files) p
+  pub faults : length p.faults.items ≡ faults_in_all All [] (all_texts loads m.files)
+
+-- the failures of a case that begins with what is loaded of the files
+abbrev pub FailsTexts : List LoadedFile → Case → Manifests → List Failure → Type 0
+FailsTexts loads c m failures = (p : Prepared) × IsRead loads m p × FailsBehind loads c m.files p p.faults.items failures
 
 -- the failures of a case that begins with manifests, the first of whose files is not there, or all of which are
 abbrev pub FailsWithout : List LoadedFile → Case → Manifests → Option Loaded → List Failure → Type 0
-FailsWithout loads c m None failures = FailsTexts loads c m.files m.defaults failures
+FailsWithout loads c m None failures = FailsTexts loads c m failures
 FailsWithout loads c m (Some f) failures = failures ≡ failure.NoFile f.number ∷ []
 
 abbrev pub FailsManifests : List LoadedFile → Case → Manifests → List Failure → Type 0

@@ -2,11 +2,13 @@
 use Rattle.std.specs.Prelude.{◌≡◌, ℕ, Bool, List, [], ◌∷◌, ◌++◌, map, Option}
 use Rattle.std.specs.List.{flat_map, list_all}
 use Rattle.std.specs.Io.KnownBytes.{Appends}
-use Rattle.kapi_lines.specs.Lines.{lines_of}
+use Rattle.kapi_lines.specs.Lines.{lines_of, parts_of}
 use Rattle.kapi_replay.specs.Cases.{cases_of}
 use Rattle.kapi_replay.specs.declared.case.Beginning.{Beginning}
 use Rattle.kapi_replay.specs.declared.case.Beginning.TheVariants as beginning
 use Rattle.kapi_replay.specs.declared.case.Case.{Case}
+use Rattle.kapi_replay.specs.Asked.{doubts_of}
+use Rattle.kapi_replay.specs.Failures.{bare}
 use Rattle.kapi_replay.specs.Playing.{Fails}
 use Rattle.kapi_replay.specs.Reports.{is_difference, written}
 use Rattle.kapi_replay.specs.declared.failure.Check.{Check}
@@ -23,17 +25,22 @@ cases_in transcript = cases_of (lines_of transcript)
 abbrev pub checks_in : Case → List Failure → List Check
 checks_in c failures = map (λ w. record { number = w.number; compared = list_all is_difference failures }) c.wants
 
+-- failures that are the same but for their reasons
+abbrev pub AreAlike : List Failure → List Failure → Type 0
+AreAlike some others = map bare some ≡ map bare others
+
 -- the checks and the failures of all cases, one case after the other
 abbrev pub ArePlayed : List LoadedFile → List Case → List Check → List Failure → Type 0
 ArePlayed loads [] checks failures = (checks ≡ []) × (failures ≡ [])
 ArePlayed loads (c ∷ cs) checks failures =
-    (others : List Check) × (first : List Failure) × (rest : List Failure) × (checks ≡ checks_in c first ++ others)
-    × (failures ≡ first ++ rest) × Fails loads c first × ArePlayed loads cs others rest
+    (others : List Check) × (found : List Failure) × (first : List Failure) × (rest : List Failure) × (checks ≡ checks_in c first ++ others)
+    × (failures ≡ first ++ rest) × Fails loads c found × AreAlike first found × ArePlayed loads cs others rest
 
--- what became of a transcript: its name, its checks, and its failures
+-- what became of a transcript: its name, its checks, its failures, and its doubts
 pub record IsOutcome (t : Transcript) (o : Outcome) : Type 0 where
   pub name : o.name ≡ t.file.name
   pub played : ArePlayed t.loads (cases_in t.file.bytes) o.checks o.failures
+  pub doubts : o.doubts ≡ doubts_of (parts_of t.file.bytes) (cases_in t.file.bytes)
 
 -- what became of a transcript, and its report is written
 abbrev pub IsReported : Bool → Transcript → Option (List ℕ) → Option (List ℕ) → Outcome → Type 0

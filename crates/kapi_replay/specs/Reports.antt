@@ -8,6 +8,7 @@ use Rattle.kapi_replay.specs.Corrections.{corrected, exactly}
 use Rattle.kapi_replay.specs.Requests.{number_line}
 use Rattle.kapi_replay.specs.Wants.{wanted_of}
 use Rattle.kapi_replay.specs.declared.wanted.Wanted.{Wanted}
+use Rattle.kapi_replay.specs.declared.failure.Difference.{Difference}
 use Rattle.kapi_replay.specs.declared.failure.Failure.{Failure}
 use Rattle.kapi_replay.specs.declared.failure.Failure.TheVariants as failure
 use Rattle.kapi_replay.specs.declared.failure.Outcome.{Outcome}
@@ -22,7 +23,7 @@ place_text name n = name ++ number_line (codes ":") n
 
 -- the line of the transcript at which something is not as wanted
 abbrev pub number_of : Failure → ℕ
-number_of (failure.Differs n asked answer) = n
+number_of (failure.Differs d) = d.number
 number_of (failure.NoForm n reason) = n
 number_of (failure.NoFile n) = n
 number_of (failure.NotLoaded n line reason) = n
@@ -30,7 +31,7 @@ number_of (failure.BadManifests n reason) = n
 
 -- the failure is an answer that differs
 abbrev pub is_difference : Failure → Bool
-is_difference (failure.Differs n asked answer) = true
+is_difference (failure.Differs d) = true
 is_difference f = false
 
 -- the event that was answered, if one was
@@ -45,10 +46,18 @@ reason_text reason = codes "\n  " ++ reason
 abbrev pub manifests_text : List ℕ → List ℕ
 manifests_text reason = codes ": the manifests are not loaded\n  " ++ reason
 
--- what is not as wanted: the event that was answered, what is wanted and what came; or why nothing came
+-- why a request was allowed or not, if that is known
+abbrev pub why_text : List ℕ → List ℕ
+why_text reason = if length reason == 0 then [] else codes "\n  why    " ++ reason
+
+-- the event that was answered, what is wanted, what came, and why
+abbrev pub difference_text : List (List ℕ) → Difference → List ℕ
+difference_text lines d =
+    codes "\n  asked  " ++ asked_text lines d.asked ++ codes "\n  wanted " ++ line_at lines d.number ++ codes "\n  got    " ++ d.answer ++ why_text d.reason
+
+-- what is not as wanted, or why nothing came
 abbrev pub what_text : List (List ℕ) → Failure → List ℕ
-what_text lines (failure.Differs n asked answer) =
-    codes "\n  asked  " ++ asked_text lines asked ++ codes "\n  wanted " ++ line_at lines n ++ codes "\n  got    " ++ answer
+what_text lines (failure.Differs d) = difference_text lines d
 what_text lines (failure.NoForm n reason) = codes ": no known form" ++ reason_text reason
 what_text lines (failure.NoFile n) = codes ": the file cannot be read"
 what_text lines (failure.NotLoaded n line reason) = number_line (codes ": load line ") line ++ reason_text reason
@@ -80,7 +89,7 @@ report_text lines o =
 
 -- the answer that came in place of the one that this line wants, if another came
 abbrev pub answer_for : ℕ → Failure → Option (List ℕ)
-answer_for n (failure.Differs line asked answer) = if line == n then Some answer else None
+answer_for n (failure.Differs d) = if d.number == n then Some d.answer else None
 answer_for n f = None
 
 -- the first answer that came in place of the one that this line wants
@@ -118,3 +127,7 @@ written rewrites text o = if rewrites then rewritten (parts_of text) o.failures 
 -- something is checked, and everything is as wanted
 abbrev pub is_well : Outcome → Bool
 is_well o = not (length o.checks == 0) && length o.failures == 0
+
+-- no line wants 403 of a resource that is not served
+abbrev pub is_sure : Outcome → Bool
+is_sure o = length o.doubts == 0

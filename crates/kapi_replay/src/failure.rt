@@ -1,10 +1,24 @@
 use kapi_text::{Sequence, Text};
 
+/// An answer that is not as wanted.
+#[derive(Drop)]
+pub struct Difference {
+    /// The line that wants another answer.
+    pub number: usize,
+    /// The line of the answered event; 0 if there is none.
+    pub asked: usize,
+    /// How many events of the case come before the line.
+    pub events: usize,
+    pub answer: Sequence<u8>,
+    /// Which rule allows the request, or which permission is missing; empty if that is not known.
+    pub reason: Text,
+}
+
 /// A difference from what a transcript wants.
 #[derive(Drop)]
 pub enum Failure {
-    /// An answer is not as wanted: the line, the line of the answered event (0 where there is none), and the answer.
-    Differs(usize, usize, Sequence<u8>),
+    /// An answer is not as wanted.
+    Differs(Difference),
     /// This line has no known form, for this reason.
     NoForm(usize, Text),
     /// The file that this line names is not there.
@@ -23,10 +37,18 @@ pub struct Check {
     pub compared: bool,
 }
 
+/// A line that wants 403 of a resource that the server does not have: every identity that no rule of `*` serves gets it.
+#[derive(Drop)]
+pub struct Doubt {
+    pub number: usize,
+    pub resource: Text,
+}
+
 /// The outcome of a transcript.
 #[derive(Drop)]
 pub struct Outcome {
     pub name: Text,
     pub checks: Sequence<Check>,
     pub failures: Sequence<Failure>,
+    pub doubts: Sequence<Doubt>,
 }

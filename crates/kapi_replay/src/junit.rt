@@ -142,7 +142,7 @@ fn differs_at(number: usize, failure: &Failure) -> bool
     ensures { result ≡ junit.differs_at number failure.now }
 {
     match failure {
-        Failure::Differs(line, _asked, _answer) => *line == number,
+        Failure::Differs(difference) => difference.number == number,
         _ => false,
     }
 }

@@ -2,9 +2,12 @@
 //! as wanted.
 #![tactic(auto)]
 
+mod asked;
 mod case;
 mod correction;
+mod doubts;
 mod draft;
+mod explained;
 mod failure;
 mod field;
 mod files;
@@ -24,10 +27,10 @@ mod wanted;
 pub use case::{Beginning, Case, Event, Loaded, Manifests, Want};
 pub use correction::{corrected, exactly};
 pub use draft::{Draft, cases};
-pub use failure::{Check, Failure, Outcome};
+pub use failure::{Check, Difference, Doubt, Failure, Outcome};
 pub use files::{LoadedFile, NamedFile, Transcript};
 pub use form::{Form, Source, parse_form};
 pub use junit::junit_text;
-pub use replay::{ReplayFault, are_well, loaded_names, replay_run};
+pub use replay::{ReplayFault, are_sure, are_well, loaded_names, replay_run};
 pub use request::{Request, push_number};
 pub use wanted::{Wanted, is_met, parse_wanted};

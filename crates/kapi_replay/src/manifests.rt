@@ -4,7 +4,7 @@ ghost use Rattle.std.specs.List.{find, list_all};
 ghost use Rattle.kapi_loading.specs.Loading.{machine_alone};
 ghost use Rattle.kapi_reasons.specs.Reasons.{is_shown};
 ghost use Rattle.kapi_replay.specs.Manifests as manifests;
-ghost use Rattle.kapi_replay.specs.Manifests.{FailsAlone, FailsBehind, FailsManifests, FailsTexts, IsFaultAt, IsRefused};
+ghost use Rattle.kapi_replay.specs.Manifests.{FailsAlone, FailsBehind, FailsManifests, FailsTexts, IsFaultAt, IsRead, IsRefused};
 
 use crate::case::{Case, Loaded, Manifests};
 use crate::failure::Failure;
@@ -271,26 +271,44 @@ fn play_prepared<R: Wait>(
     }
 }
 
-/// Plays a case that begins with the manifests that are there, and the default roles if they are wanted.
+/// What the files of manifests are, with the default roles if they are wanted.
+pub fn read_manifests(
+    alloc: Global,
+    loads: &[LoadedFile],
+    manifests: &Manifests,
+) -> Result<Prepared, Memory>
+    ensures { IfOk result (λ p. IsRead loads.now manifests.now p) }
+{
+    let texts = all_texts(alloc, loads, manifests.files.as_slice())?;
+    let options = Options {
+        scope: Scope::All,
+        namespace: "",
+        defaults: manifests.defaults,
+        words: false,
+    };
+    let prepared = prepare(alloc, options, texts.as_slice())?;
+    Ok(prepared)
+}
+
+/// Plays a case that begins with the manifests that are there.
 fn play_texts<R: Wait>(
     alloc: Global,
     rt: &R,
     loads: &[LoadedFile],
     case: &Case,
-    files: &[Loaded],
-    defaults: bool,
+    manifests: &Manifests,
 ) -> Result<Vec<Failure>, Memory>
-    ensures { IfOk result (λ v. FailsTexts loads.now case.now files.now defaults v.items) }
+    ensures { IfOk result (λ v. FailsTexts loads.now case.now manifests.now v.items) }
 {
-    let texts = all_texts(alloc, loads, files)?;
-    let options = Options {
-        scope: Scope::All,
-        namespace: "",
-        defaults,
-        words: false,
-    };
-    let prepared = prepare(alloc, options, texts.as_slice())?;
-    play_prepared(alloc, rt, loads, case, files, &prepared)
+    let prepared = read_manifests(alloc, loads, manifests)?;
+    play_prepared(
+        alloc,
+        rt,
+        loads,
+        case,
+        manifests.files.as_slice(),
+        &prepared,
+    )
 }
 
 /// Plays a case that begins with manifests.
@@ -305,9 +323,6 @@ pub fn play_manifests<R: Wait>(
 {
     match first_missing(loads, manifests.files.as_slice()) {
         Some(file) => only(alloc, Failure::NoFile(file.number)),
-        None => {
-            let files = manifests.files.as_slice();
-            play_texts(alloc, rt, loads, case, files, manifests.defaults)
-        }
+        None => play_texts(alloc, rt, loads, case, manifests),
     }
 }

@@ -10,7 +10,7 @@ ghost use Rattle.kapi_replay.specs.declared.failure.Failure.TheVariants as Told;
 ghost use Rattle.kapi_replay.specs.Failures.{script_text as script_text_of};
 
 use crate::case::{Case, Event, Loaded, Want};
-use crate::failure::Failure;
+use crate::failure::{Difference, Failure};
 use crate::forms::form_reason;
 use crate::wanted::is_met;
 use kapi_core::{Core, program_table};
@@ -24,7 +24,7 @@ use std::alloc::{AllocError, Global};
 use std::sync::Wait;
 
 /// The lines of a script as one text.
-fn script_text(alloc: Global, script: &[Event]) -> Result<Vec<u8>, Memory>
+pub fn script_text(alloc: Global, script: &[Event]) -> Result<Vec<u8>, Memory>
     ensures { IfOk result (λ v. v.items ≡ script_text_of script.now) }
 {
     let mut text = Vec::new(alloc);
@@ -53,7 +53,7 @@ fn answer_at(answers: &[Sequence<u8>], number: usize) -> &[u8]
 }
 
 /// The transcript's line of the event of this number; 0 where there is none.
-fn number_at(script: &[Event], number: usize) -> usize
+pub fn number_at(script: &[Event], number: usize) -> usize
     ensures { result ≡ fails.number_at script.now number }
 {
     match nth(script, number) {
@@ -77,7 +77,13 @@ fn check_want(
         return Ok(());
     }
     let asked = number_at(script, want.events);
-    failures.push(Failure::Differs(want.number, asked, copy_of(alloc, answer)?))?;
+    failures.push(Failure::Differs(Difference {
+        number: want.number,
+        asked,
+        events: want.events,
+        answer: copy_of(alloc, answer)?,
+        reason: Text::copy_of(alloc, "")?,
+    }))?;
     Ok(())
 }
 

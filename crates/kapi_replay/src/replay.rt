@@ -2,16 +2,20 @@
 ghost use Rattle.std.specs.Prelude.{◌≡◌, ◌++◌, ◌∷◌, [], IfOk, OnOk, map};
 ghost use Rattle.kapi_replay.specs.Outcomes as comes;
 ghost use Rattle.std.specs.List.{list_all};
+ghost use Rattle.kapi_replay.specs.Asked.{doubts_of as doubts_of_cases};
 ghost use Rattle.kapi_replay.specs.Outcomes.{ArePlayed, IsOutcome, IsReplayed};
-ghost use Rattle.kapi_replay.specs.Reports.{is_difference as is_difference_of, is_well as is_well_of};
+ghost use Rattle.kapi_replay.specs.Reports.{is_difference as is_difference_of, is_sure as is_sure_of, is_well as is_well_of};
 
 use crate::case::{Beginning, Case, Loaded};
+use crate::doubts::doubts_of;
 use crate::draft::cases;
-use crate::failure::{Check, Failure, Outcome};
+use crate::explained::explained;
+use crate::failure::{Check, Doubt, Failure, Outcome};
 use crate::files::{LoadedFile, Transcript};
 use crate::played_case::play_case;
 use crate::report::{is_difference, outcome_text};
-use kapi_lines::numbered_lines;
+use kapi_core::program_table;
+use kapi_lines::{numbered_lines, split_lines};
 use kapi_text::{Memory, Sequence, TryCopy};
 use std::alloc::Global;
 use std::io::{self, Write};
@@ -64,6 +68,7 @@ fn play_cases<R: Wait>(
     alloc: Global,
     rt: &R,
     loads: &[LoadedFile],
+    lines: &[Sequence<u8>],
     cases: &[Case],
 ) -> Result<Played, Memory>
     ensures { IfOk result (λ p. ArePlayed loads.now cases.now p.checks.items p.failures.items) }
@@ -72,7 +77,8 @@ fn play_cases<R: Wait>(
     let mut failures = Vec::new(alloc);
     let mut rest = cases;
     while let Some((case, later)) = rest.split_first() {
-        let mut more = play_case(alloc, rt, loads, case)?;
+        let found = play_case(alloc, rt, loads, case)?;
+        let mut more = explained(alloc, rt, loads, lines, case, found)?;
         push_checks(&mut checks, case, more.as_slice())?;
         failures.append(&mut more)?;
         rest = later;
@@ -80,22 +86,43 @@ fn play_cases<R: Wait>(
     Ok(Played { checks, failures })
 }
 
+/// The cases of a transcript.
+fn cases_in(alloc: Global, transcript: &[u8]) -> Result<Vec<Case>, Memory>
+    ensures { IfOk result (λ v. v.items ≡ comes.cases_in transcript.now) }
+{
+    let lines = numbered_lines(alloc, transcript)?;
+    let cases = cases(alloc, lines.as_slice())?;
+    Ok(cases)
+}
+
+/// The doubts about the cases of a transcript with these lines.
+fn doubts(alloc: Global, lines: &[Sequence<u8>], cases: &[Case]) -> Result<Vec<Doubt>, Memory>
+    ensures { IfOk result (λ v. v.items ≡ doubts_of_cases lines.now cases.now) }
+{
+    let table = program_table(alloc)?;
+    let doubts = doubts_of(alloc, table.as_slice(), lines, cases)?;
+    Ok(doubts)
+}
+
 /// Plays a transcript.
 fn play<R: Wait>(alloc: Global, rt: &R, transcript: &Transcript) -> Result<Outcome, Memory>
     ensures { IfOk result (IsOutcome transcript.now) }
 {
-    let lines = numbered_lines(alloc, transcript.file.bytes.as_slice())?;
-    let cases = cases(alloc, lines.as_slice())?;
+    let bytes = transcript.file.bytes.as_slice();
+    let cases = cases_in(alloc, bytes)?;
+    let lines = split_lines(alloc, bytes)?;
     let Played { checks, failures } = play_cases(
         alloc,
         rt,
         transcript.loads.as_slice(),
+        lines.as_slice(),
         cases.as_slice(),
     )?;
     Ok(Outcome {
         name: transcript.file.name.copy(alloc)?,
         checks: Sequence::new(checks),
         failures: Sequence::new(failures),
+        doubts: Sequence::new(doubts(alloc, lines.as_slice(), cases.as_slice())?),
     })
 }
 
@@ -111,6 +138,19 @@ pub fn are_well(outcomes: &[Outcome]) -> bool
     ensures { result ≡ list_all (λ o. is_well_of o) outcomes.now }
 {
     outcomes.iter().all(|outcome| is_well(outcome))
+}
+
+/// Whether no transcript wants 403 of a resource that is not served.
+pub fn are_sure(outcomes: &[Outcome]) -> bool
+    ensures { result ≡ list_all (λ o. is_sure_of o) outcomes.now }
+{
+    outcomes.iter().all(|outcome| is_sure(outcome))
+}
+
+fn is_sure(outcome: &Outcome) -> bool
+    ensures { result ≡ is_sure_of outcome.now }
+{
+    outcome.doubts.as_slice().is_empty()
 }
 
 /// Plays a transcript and writes its report.
@@ -167,10 +207,8 @@ pub fn replay_run<R: Wait, W: Write>(
 pub fn loaded_names(alloc: Global, transcript: &[u8]) -> Result<Vec<Sequence<u8>>, Memory>
     ensures { IfOk result (λ v. v.items ≡ comes.loaded_names transcript.now) }
 {
-    let lines = numbered_lines(alloc, transcript)?;
-    let cases = cases(alloc, lines.as_slice())?;
     let mut names = Vec::new(alloc);
-    for case in cases.as_slice() {
+    for case in cases_in(alloc, transcript)?.as_slice() {
         push_names(alloc, &mut names, &case.begins)?;
     }
     Ok(names)

@@ -5,7 +5,7 @@ ghost use Rattle.kapi_replay.specs.Reports as reports;
 ghost use Rattle.kapi_replay.specs.Reports.{came_for as came_for_of, failures_text, report_text, rewritten, rewritten_line};
 
 use crate::correction::{corrected, exactly};
-use crate::failure::{Failure, Outcome};
+use crate::failure::{Difference, Failure, Outcome};
 use crate::request::push_number;
 use crate::wanted::parse_wanted;
 use kapi_lines::{nth, split_lines};
@@ -50,16 +50,29 @@ fn push_place(text: &mut Vec<u8>, name: &str, number: usize) -> Result<(), Memor
     push_number(text, b":", number)
 }
 
+/// Appends an answer that is not as wanted, and why the request was allowed or not.
+fn push_difference(
+    text: &mut Vec<u8>,
+    lines: &[Sequence<u8>],
+    difference: &Difference,
+) -> Result<(), Memory>
+    ensures { OnOk result (text.new.items ≡ text.old.items ++ reports.difference_text lines.now difference.now) }
+{
+    push_part(text, b"\n  asked  ", asked_line(lines, difference.asked))?;
+    push_part(text, b"\n  wanted ", line_at(lines, difference.number))?;
+    push_part(text, b"\n  got    ", difference.answer.as_slice())?;
+    if difference.reason.as_str().is_empty() {
+        return Ok(());
+    }
+    push_part(text, b"\n  why    ", difference.reason.as_str().as_bytes())
+}
+
 /// Appends what is not as wanted.
 fn push_what(text: &mut Vec<u8>, lines: &[Sequence<u8>], failure: &Failure) -> Result<(), Memory>
     ensures { OnOk result (text.new.items ≡ text.old.items ++ reports.what_text lines.now failure.now) }
 {
     match failure {
-        Failure::Differs(number, asked, answer) => {
-            push_part(text, b"\n  asked  ", asked_line(lines, *asked))?;
-            push_part(text, b"\n  wanted ", line_at(lines, *number))?;
-            push_part(text, b"\n  got    ", answer.as_slice())
-        }
+        Failure::Differs(difference) => push_difference(text, lines, difference),
         Failure::NoForm(_number, reason) => {
             text.extend_from_slice(b": no known form")?;
             push_reason(text, reason)
@@ -105,7 +118,7 @@ pub fn number_of(failure: &Failure) -> usize
     ensures { result ≡ reports.number_of failure.now }
 {
     match failure {
-        Failure::Differs(number, _asked, _answer) => *number,
+        Failure::Differs(difference) => difference.number,
         Failure::NoForm(number, _reason) => *number,
         Failure::NoFile(number) => *number,
         Failure::NotLoaded(number, _line, _reason) => *number,
@@ -117,7 +130,7 @@ pub fn number_of(failure: &Failure) -> usize
 pub fn is_difference(failure: &Failure) -> bool
     ensures { result ≡ reports.is_difference failure.now }
 {
-    matches!(failure, Failure::Differs(_, _, _))
+    matches!(failure, Failure::Differs(_))
 }
 
 /// Appends a failure, and where it is.
@@ -193,9 +206,9 @@ fn answer_for(number: usize, failure: &Failure) -> Option<&[u8]>
     ensures { option_map (λ s. s.now) result ≡ reports.answer_for number failure.now }
 {
     match failure {
-        Failure::Differs(line, _asked, answer) => {
-            if *line == number {
-                Some(answer.as_slice())
+        Failure::Differs(difference) => {
+            if difference.number == number {
+                Some(difference.answer.as_slice())
             } else {
                 None
             }

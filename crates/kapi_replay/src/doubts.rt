@@ -1,0 +1,136 @@
+//! Lines that want 403 of a resource that is not served.
+ghost use Rattle.std.specs.Prelude.{◌≡◌, ◌++◌, IfOk, OnOk, option_map};
+ghost use Rattle.std.specs.List.{flat_map, list_any};
+ghost use Rattle.kapi_core.specs.ProgramTable.{program_rows};
+ghost use Rattle.kapi_replay.specs.Asked as asks;
+ghost use Rattle.kapi_replay.specs.Asked.{doubts_of as doubts_of_cases, wants_refusal as wants_refusal_of};
+ghost use Rattle.kapi_answer.specs.Route.{is_row_of as is_row_of_point};
+
+use crate::asked::attributes_of;
+use crate::case::{Case, Event, Want};
+use crate::failure::Doubt;
+use crate::play::number_at;
+use crate::report::line_at;
+use crate::wanted::Wanted;
+use kapi_model::ResourceRow;
+use kapi_request_info::Attributes;
+use kapi_rules::{Point, ResourcePoint};
+use kapi_text::{Memory, Sequence, Text};
+use std::alloc::Global;
+
+/// Whether the resource type is that of the point and the version.
+fn is_row_of(row: &ResourceRow, version: &str, point: &ResourcePoint) -> bool
+    ensures { result ≡ is_row_of_point version.now point.now row.now }
+{
+    row.group.as_str() == point.group.as_str()
+        && row.version.as_str() == version
+        && row.plural.as_str() == point.resource.as_str()
+}
+
+fn is_served(table: &[ResourceRow], version: &str, point: &ResourcePoint) -> bool
+    ensures { result ≡ list_any (is_row_of_point version.now point.now) table.now }
+{
+    table.iter().any(|row| is_row_of(row, version, point))
+}
+
+/// The resource that the attributes are about, if it is not served.
+fn unserved<'a>(table: &[ResourceRow], attributes: &'a Attributes) -> Option<&'a str>
+    requires { table.now ≡ program_rows }
+    ensures { option_map (λ s. s.now) result ≡ asks.unserved_point attributes.now.version attributes.now.point }
+{
+    match &attributes.point {
+        Point::Url(_point) => None,
+        Point::Resource(point) => {
+            if is_served(table, attributes.version.as_str(), point) {
+                None
+            } else {
+                Some(point.resource.as_str())
+            }
+        }
+    }
+}
+
+/// Whether a reply of code 403 is wanted.
+fn wants_refusal(wanted: &Wanted) -> bool
+    ensures { result ≡ wants_refusal_of wanted.now }
+{
+    match wanted {
+        Wanted::Reply(code, _text) => code.as_slice() == b"403".as_slice(),
+        _ => false,
+    }
+}
+
+/// Adds the doubt about a line that wants 403 of the request with these attributes, if there is one.
+fn push_doubt(
+    alloc: Global,
+    doubts: &mut Vec<Doubt>,
+    table: &[ResourceRow],
+    number: usize,
+    attributes: Option<&Attributes>,
+) -> Result<(), Memory>
+    requires { table.now ≡ program_rows }
+    ensures { OnOk result (doubts.new.items ≡ doubts.old.items ++ asks.doubt_about number (asks.unserved (option_map (λ a. a.now) attributes.entry))) }
+{
+    let Some(attributes) = attributes else {
+        return Ok(());
+    };
+    if let Some(resource) = unserved(table, attributes) {
+        let resource = Text::copy_of(alloc, resource)?;
+        doubts.push(Doubt { number, resource })?;
+    }
+    Ok(())
+}
+
+/// Adds the doubt about what is wanted, if there is one.
+fn check_want(
+    alloc: Global,
+    doubts: &mut Vec<Doubt>,
+    table: &[ResourceRow],
+    lines: &[Sequence<u8>],
+    script: &[Event],
+    want: &Want,
+) -> Result<(), Memory>
+    requires { table.now ≡ program_rows }
+    ensures { OnOk result (doubts.new.items ≡ doubts.old.items ++ asks.doubt lines.now script.now want.now) }
+{
+    if !wants_refusal(&want.wanted) {
+        return Ok(());
+    }
+    let line = line_at(lines, number_at(script, want.events));
+    let attributes = attributes_of(alloc, line)?;
+    push_doubt(alloc, doubts, table, want.number, attributes.as_ref())
+}
+
+/// Adds the doubts about a case.
+fn check_case(
+    alloc: Global,
+    doubts: &mut Vec<Doubt>,
+    table: &[ResourceRow],
+    lines: &[Sequence<u8>],
+    case: &Case,
+) -> Result<(), Memory>
+    requires { table.now ≡ program_rows }
+    ensures { OnOk result (doubts.new.items ≡ doubts.old.items ++ flat_map (asks.doubt lines.now case.now.script) case.now.wants) }
+{
+    for want in case.wants.as_slice() {
+        check_want(alloc, doubts, table, lines, case.script.as_slice(), want)?;
+    }
+    Ok(())
+}
+
+/// The doubts about the cases of a transcript with these lines.
+pub fn doubts_of(
+    alloc: Global,
+    table: &[ResourceRow],
+    lines: &[Sequence<u8>],
+    cases: &[Case],
+) -> Result<Vec<Doubt>, Memory>
+    requires { table.now ≡ program_rows }
+    ensures { IfOk result (λ v. v.items ≡ doubts_of_cases lines.now cases.now) }
+{
+    let mut doubts = Vec::new(alloc);
+    for case in cases {
+        check_case(alloc, &mut doubts, table, lines, case)?;
+    }
+    Ok(doubts)
+}
