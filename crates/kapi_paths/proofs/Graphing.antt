@@ -1,12 +1,17 @@
 -- The numbers of nodes, and what a graph of numbers says of the nodes.
-use Rattle.std.proofs.Common.{◌≡◌, ◌≤◌, ◌<◌, ◌++◌, ℕ, suc, zero, List, [], ◌∷◌, length, get_or, Some, refl, sym, ap, subst, ◌∙◌, inl, inr, ⊎_elim, arith, append_assoc, append-nil}
+use Rattle.std.proofs.Common.{◌≡◌, ◌≤◌, ◌<◌, ◌++◌, ℕ, true, suc, zero, List, [], ◌∷◌, length, get_or, Some, refl, sym, ap, subst, ◌∙◌, inl, inr, ⊎_elim, arith, append_assoc, append-nil}
 use Rattle.std.specs.List.{slice_get}
 use Rattle.std.proofs.lemmas.List.{get_or_append_left, get_or_past, get_or_push, length-append, length_push}
 use Rattle.std.proofs.lemmas.Option.{same_Some, slice_get_within}
 use Rattle.std.proofs.lemmas.Bool.{cases_lt}
 use Rattle.kapi_paths.specs.Chains.{Has, IsChain, IsInside, row}
-use Rattle.kapi_paths.specs.Graphs.{AddsPaths, AreAt, Begins, IsDrawn, IsGraph, IsWalk}
-use Rattle.kapi_paths.proofs.Grown.{has_push}
+use Rattle.kapi_paths.specs.Graphs.{AddsPaths, AreAt, Begins, HasPath, IsCovered, IsDrawn, IsGraph, IsSomewhere, IsThere, IsWalk, is_listed, next_of}
+use Rattle.kapi_paths.proofs.Grown.{has_left, has_push}
+use Rattle.kapi_paths.specs.Rights.{Row}
+use Rattle.kapi_paths.specs.Steps.{everything, next}
+use Rattle.kapi_paths.specs.declared.steps.Known.{Known}
+use Rattle.kapi_policy.specs.Decided.{Binding}
+use Rattle.kapi_policy.specs.Objects.{PolicyObjects}
 use Rattle.kapi_paths.specs.declared.node.Node.{Node}
 use Rattle.kapi_paths.specs.declared.path.Path.{Path}
 
@@ -41,6 +46,12 @@ are_pushed nodes [] [] n z h e = (e, tt)
 are_pushed nodes [] (y ∷ zs) n z h e = absurd h
 are_pushed nodes (m ∷ ns) [] n z h e = absurd h
 are_pushed nodes (m ∷ ns) (y ∷ zs) n z h e = (h.0, are_pushed nodes ns zs n z h.1 e)
+
+pub are_length : (nodes : List Node) (ns : List ℕ) (zs : List Node) → AreAt nodes ns zs → length ns ≡ length zs
+are_length nodes [] [] h = refl
+are_length nodes [] (z ∷ zs) h = absurd h
+are_length nodes (n ∷ ns) [] h = absurd h
+are_length nodes (n ∷ ns) (z ∷ zs) h = ap suc (are_length nodes ns zs h.1)
 
 -- a number of a row has its node among those of the row
 pub has_node : (nodes : List Node) (ns : List ℕ) (zs : List Node) (n : ℕ) → AreAt nodes ns zs → Has ns n → (z : Node) × (slice_get nodes n ≡ Some z) × Has zs z
@@ -130,14 +141,68 @@ has_at [] n d h = absurd (omega arith)
 has_at (a ∷ xs) zero d h = inl refl
 has_at (a ∷ xs) (suc n) d h = inr (has_at xs n d (omega arith))
 
+-- ---- walks are chains
+
+-- a node of the list has a number of the row
+pub has_number : (nodes : List Node) (ns : List ℕ) (zs : List Node) (z : Node) → AreAt nodes ns zs → Has zs z → (n : ℕ) × Has ns n × (slice_get nodes n ≡ Some z)
+has_number nodes [] [] z h k = absurd k
+has_number nodes [] (y ∷ zs) z h k = absurd h
+has_number nodes (m ∷ ns) [] z h k = absurd h
+has_number nodes (m ∷ ns) (y ∷ zs) z h (inl e) = (m, inl refl, subst (λ w. slice_get nodes m ≡ Some w) e h.0)
+has_number nodes (m ∷ ns) (y ∷ zs) z h (inr k) = let p = has_number nodes ns zs z h.1 k in (p.0, inr p.1, p.2)
+
+-- a walk is a chain of as many numbers
+pub walk_chains : (step : Node → List Node) (nodes : List Node) (rows : List (List ℕ)) → IsGraph step nodes rows → (zs : List Node) (i : ℕ) (x y : Node)
+    → slice_get nodes i ≡ Some x → IsWalk step x zs y → (j : ℕ) × (slice_get nodes j ≡ Some y) × (ns : List ℕ) × IsChain rows i ns j × (length ns ≡ length zs)
+walk_chains step nodes rows a [] i x y from w = (i, subst (λ z. slice_get nodes i ≡ Some z) w from, [], refl, refl)
+walk_chains step nodes rows a (z ∷ zs) i x y from (leads, rest) =
+    let p = has_number nodes (row rows i) (step x) z (a.next i x from) leads in
+    let q = walk_chains step nodes rows a zs p.0 z y p.2 rest in
+    (q.0, q.1, p.0 ∷ q.2, (p.1, q.3), ap suc q.4)
+
 -- ---- lists of paths
 
 pub adds_none : (nodes : List Node) (rows : List (List ℕ)) (list : List Path) → AddsPaths nodes rows list list
-adds_none nodes rows list p h = inl h
+adds_none nodes rows list = record { kept = λ p h. h; came = λ p h. inl h }
 
 pub adds_then : (nodes : List Node) (rows : List (List ℕ)) (a b c : List Path) → AddsPaths nodes rows a b → AddsPaths nodes rows b c → AddsPaths nodes rows a c
-adds_then nodes rows a b c x y p h = ⊎_elim (λ k. x p k) (λ k. inr k) (y p h)
+adds_then nodes rows a b c x y = record {
+  kept = λ p h. y.kept p (x.kept p h);
+  came = λ p h. ⊎_elim (λ k. x.came p k) (λ k. inr k) (y.came p h);
+}
 
-pub adds_one : (nodes : List Node) (rows : List (List ℕ)) (a : List Path) (path : Path) (i j : ℕ) → IsDrawn nodes rows i j path → AddsPaths nodes rows a (a ++ path ∷ [])
-adds_one nodes rows a path i j d p h =
-    ⊎_elim (λ k. inl k) (λ e. inr (record { from = i; to = j; drawn = subst (λ q. IsDrawn nodes rows i j q) e d })) (has_push a path p h)
+pub adds_one : (nodes : List Node) (rows : List (List ℕ)) (a : List Path) (path : Path) → IsSomewhere nodes rows path → AddsPaths nodes rows a (a ++ path ∷ [])
+adds_one nodes rows a path s = record {
+  kept = λ p h. has_left a (path ∷ []) p h;
+  came = λ p h. ⊎_elim (λ k. inl k) (λ e. inr (subst (λ q. IsSomewhere nodes rows q) e s)) (has_push a path p h);
+}
+
+pub there_kept : (nodes : List Node) (rows : List (List ℕ)) (a b : List Path) → AddsPaths nodes rows a b → (i j : ℕ) → IsThere nodes rows a i j → IsThere nodes rows b i j
+there_kept nodes rows a b x i j t = record { path = t.path; there = x.kept t.path t.there; at_from = t.at_from; at_to = t.at_to; shortest = t.shortest }
+
+pub covered_kept : (nodes : List Node) (rows : List (List ℕ)) (a b : List Path) → AddsPaths nodes rows a b → (i j : ℕ) → IsCovered nodes rows a i j → IsCovered nodes rows b i j
+covered_kept nodes rows a b x i j h = λ path z chain at listed other.
+    ⊎_elim (λ t. inl (there_kept nodes rows a b x i j t)) (λ t. inr (there_kept nodes rows a b x i 0 t)) (h path z chain at listed other)
+
+-- what is listed of numbers is listed of their nodes
+pub covered_has : (step : Node → List Node) (nodes : List Node) (rows : List (List ℕ)) (list : List Path) → IsGraph step nodes rows → slice_get nodes 0 ≡ Some everything
+    → (i : ℕ) → ((j : ℕ) → IsCovered nodes rows list i j) → (from to : Node) (zs : List Node) → slice_get nodes i ≡ Some from → IsWalk step from zs to
+    → is_listed to.kind ≡ true → (from ≡ to → ⊥) → HasPath list from to (length zs)
+covered_has step nodes rows list a first i covered from to zs at walk listed other =
+    let q = walk_chains step nodes rows a zs i from to at walk in
+    let apart : i ≡ q.0 → ⊥ = λ e. other (same_Some from to (sym at ∙ (ap (slice_get nodes) e ∙ q.1))) in
+    ⊎_elim
+    (λ (t : IsThere nodes rows list i q.0).
+    record { path = t.path; there = t.there; from_is = same_Some t.path.from from (sym t.at_from ∙ at); to_is = inl (same_Some t.path.to to (sym t.at_to ∙ q.1), subst (λ k. length t.path.nodes ≤ k) q.4 (t.shortest q.2 q.3)) })
+    (λ (t : IsThere nodes rows list i 0).
+    record { path = t.path; there = t.there; from_is = same_Some t.path.from from (sym t.at_from ∙ at); to_is = inr (same_Some t.path.to everything (sym t.at_to ∙ first)) })
+    (covered q.0 q.2 to q.3 q.1 listed apart)
+
+-- a walk from everything leads nowhere
+pub stays : (step : Node → List Node) → step everything ≡ [] → (from to : Node) (zs : List Node) → from ≡ everything → IsWalk step from zs to → from ≡ to
+stays step none from to [] e w = w
+stays step none from to (z ∷ zs) e (leads, rest) = absurd (subst (λ (l : List Node). Has l z) (ap step e ∙ none) leads)
+
+pub leads_nowhere : (objects : PolicyObjects) (bindings : List Binding) (known : Known) (rights : List Row) → next_of objects bindings known rights everything ≡ []
+unfolding next
+leads_nowhere objects bindings known rights = refl

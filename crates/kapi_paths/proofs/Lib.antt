@@ -1,4 +1,3 @@
-pub mod Lists
 pub mod Grown
 pub mod Levelled
 pub mod Graphing

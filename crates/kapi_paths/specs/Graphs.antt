@@ -5,7 +5,7 @@ use Rattle.kapi_policy.specs.Decided.{Binding}
 use Rattle.kapi_policy.specs.Objects.{PolicyObjects}
 use Rattle.kapi_paths.specs.Chains.{Has, IsChain, row}
 use Rattle.kapi_paths.specs.Rights.{Row}
-use Rattle.kapi_paths.specs.Steps.{next}
+use Rattle.kapi_paths.specs.Steps.{everything, next}
 use Rattle.kapi_paths.specs.declared.node.Node.{Node}
 use Rattle.kapi_paths.specs.declared.node.NodeKind.{NodeKind}
 use Rattle.kapi_paths.specs.declared.node.NodeKind.TheVariants as kind
@@ -56,12 +56,40 @@ pub record IsDrawn (nodes : List Node) (rows : List (List ℕ)) (from to : ℕ) 
   pub chain : IsChain rows from numbers to
   pub shortest : (path : List ℕ) → IsChain rows from path to → length numbers ≤ length path
 
--- the path is one between numbers
+-- the path is one between numbers, and to everything if that is reached
 pub record IsSomewhere (nodes : List Node) (rows : List (List ℕ)) (p : Path) : Type 0 where
   pub from : ℕ
   pub to : ℕ
   pub drawn : IsDrawn nodes rows from to p
+  pub alone : (path : List ℕ) → IsChain rows from path 0 → to ≡ 0
 
--- what came to the list are such paths
-abbrev pub AddsPaths : List Node → List (List ℕ) → List Path → List Path → Type 0
-AddsPaths nodes rows old new = (p : Path) → Has new p → Has old p ⊎ IsSomewhere nodes rows p
+-- the list keeps what it had, and what came are such paths
+pub record AddsPaths (nodes : List Node) (rows : List (List ℕ)) (old new : List Path) : Type 0 where
+  pub kept : (p : Path) → Has old p → Has new p
+  pub came : (p : Path) → Has new p → Has old p ⊎ IsSomewhere nodes rows p
+
+-- the list has a path between the nodes of the numbers, and no chain is shorter
+pub record IsThere (nodes : List Node) (rows : List (List ℕ)) (list : List Path) (from to : ℕ) : Type 0 where
+  pub path : Path
+  pub there : Has list path
+  pub at_from : slice_get nodes from ≡ Some path.from
+  pub at_to : slice_get nodes to ≡ Some path.to
+  pub shortest : (ns : List ℕ) → IsChain rows from ns to → length path.nodes ≤ length ns
+
+-- if chains lead from the number to another, whose node is listed, the list has a path there, or to everything
+abbrev pub IsCovered : List Node → List (List ℕ) → List Path → ℕ → ℕ → Type 0
+IsCovered nodes rows list from to =
+    (path : List ℕ) (x : Node) → IsChain rows from path to → slice_get nodes to ≡ Some x → is_listed x.kind ≡ true → (from ≡ to → ⊥)
+    → IsThere nodes rows list from to ⊎ IsThere nodes rows list from 0
+
+-- the list has a path from the node to the other in no more steps, or to everything
+pub record HasPath (list : List Path) (from to : Node) (steps : ℕ) : Type 0 where
+  pub path : Path
+  pub there : Has list path
+  pub from_is : path.from ≡ from
+  pub to_is : ((path.to ≡ to) × (length path.nodes ≤ steps)) ⊎ (path.to ≡ everything)
+
+-- if a walk leads from one of the sources to another node that is listed, the list has a path there that is no longer, or to everything
+abbrev pub HasAll : (Node → List Node) → List Node → List Path → Type 0
+HasAll step sources list =
+    (from to : Node) (nodes : List Node) → Has sources from → IsWalk step from nodes to → is_listed to.kind ≡ true → (from ≡ to → ⊥) → HasPath list from to (length nodes)

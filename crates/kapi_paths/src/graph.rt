@@ -1,11 +1,12 @@
 //! The graph of who can become whom, its nodes numbered.
-ghost use Rattle.std.specs.Prelude.{◌≡◌, ◌<◌, [], length, map, true, IfOk, IfSome, OnOk};
+ghost use Rattle.std.specs.Prelude.{◌≡◌, ◌<◌, ◌∷◌, [], length, map, true, IfOk, IfSome, OnOk};
 ghost use Rattle.std.specs.List.{slice_get};
 ghost use Rattle.kapi_policy.specs.Views.{binding_of};
 ghost use Rattle.kapi_paths.specs.Graphs.{AreAt, Begins, IsGraph, next_of};
 ghost use Rattle.kapi_paths.specs.Rights.{row_of};
+ghost use Rattle.kapi_paths.specs.Steps.{everything};
 
-use crate::node::{Node, NodeKind};
+use crate::node::{Node, NodeKind, push_node};
 use crate::steps::{Question, next};
 use kapi_policy::Policy;
 use kapi_text::{Memory, Sequence, TryCopy};
@@ -30,14 +31,15 @@ impl Model for Numbered {
 }
 
 impl Numbered {
-    /// No node.
-    pub fn new(alloc: Global) -> Numbered
-        ensures { result ≡ [] }
+    /// Everything alone, at number 0.
+    pub fn of_everything(alloc: Global) -> Result<Numbered, Memory>
+        ensures { IfOk result (λ n. n ≡ everything ∷ []) }
     {
-        Numbered {
-            nodes: Vec::new(alloc),
-            numbers: BTreeMap::new(alloc),
-        }
+        let mut nodes = Vec::new(alloc);
+        push_node(alloc, &mut nodes, NodeKind::Everything, "", "")?;
+        let mut numbers = BTreeMap::new(alloc);
+        numbers.insert(nodes[0].copy(alloc)?, 0)?;
+        Ok(Numbered { nodes, numbers })
     }
 
     fn len(&self) -> usize

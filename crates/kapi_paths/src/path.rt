@@ -1,16 +1,17 @@
 //! Who can become whom, and by which steps.
-ghost use Rattle.std.specs.Prelude.{◌≡◌, ℕ, ◌<◌, Some, length, map, IfOk, OnOk};
+ghost use Rattle.std.specs.Prelude.{◌≡◌, ℕ, ◌<◌, List, Some, false, length, map, true, IfOk, OnOk};
 ghost use Rattle.std.specs.List.{slice_get};
 ghost use Rattle.kapi_policy.specs.Views.{binding_of};
-ghost use Rattle.kapi_paths.specs.Chains.{Has, IsInside};
+ghost use Rattle.kapi_paths.specs.Chains.{Has, IsChain, IsInside};
 ghost use Rattle.kapi_paths.specs.Graphs as graphs;
-ghost use Rattle.kapi_paths.specs.Graphs.{AddsPaths, AreAt, IsWalk, next_of};
+ghost use Rattle.kapi_paths.specs.Graphs.{AddsPaths, AreAt, HasAll, IsCovered, IsThere, IsWalk, next_of};
 ghost use Rattle.kapi_paths.specs.Rights.{row_of};
+ghost use Rattle.kapi_paths.specs.Sources.{sources as sources_of};
 ghost use Rattle.kapi_paths.specs.declared.path.Path.{Path as Told};
 
 use crate::gathered::sources;
 use crate::graph::{Numbered, rows};
-use crate::node::{Node, NodeKind, push_node};
+use crate::node::{Node, NodeKind};
 use crate::search::Search;
 use crate::steps::Question;
 use kapi_policy::Policy;
@@ -88,7 +89,10 @@ fn push_path(
     requires nodes { length search.now.graph ≡ length nodes.now }
     requires from { search.now.start < length nodes.now }
     requires to { to < length nodes.now }
-    ensures { OnOk result (AddsPaths nodes.now search.now.graph list.old.items list.new.items) }
+    requires alone { (path : List ℕ) → IsChain search.now.graph search.now.start path 0 → to ≡ 0 }
+    ensures added { OnOk result (AddsPaths nodes.now search.now.graph list.old.items list.new.items) }
+    ensures there { IfOk result (λ reached. reached ≡ true → IsThere nodes.now search.now.graph list.new.items search.now.start to) }
+    ensures unreached { IfOk result (λ reached. reached ≡ false → (path : List ℕ) → IsChain search.now.graph search.now.start path to → ⊥) }
 {
     match search.path_to(alloc, to)? {
         Some(numbers) => {
@@ -112,9 +116,14 @@ fn push_listed(
     requires nodes { length search.now.graph ≡ length nodes.now }
     requires from { search.now.start < length nodes.now }
     requires to { to < length nodes.now }
-    ensures { OnOk result (AddsPaths nodes.now search.now.graph list.old.items list.new.items) }
+    requires alone { (path : List ℕ) → IsChain search.now.graph search.now.start path 0 → to ≡ 0 }
+    ensures added { OnOk result (AddsPaths nodes.now search.now.graph list.old.items list.new.items) }
+    ensures covered { OnOk result (IsCovered nodes.now search.now.graph list.new.items search.now.start to) }
 {
-    if to == search.start() || !is_listed(node_at(nodes, to).kind) {
+    if to == search.start() {
+        return Ok(());
+    }
+    if !is_listed(node_at(nodes, to).kind) {
         return Ok(());
     }
     push_path(alloc, list, nodes, search, to)?;
@@ -130,7 +139,9 @@ fn push_each(
     requires inside { IsInside search.now.graph }
     requires nodes { length search.now.graph ≡ length nodes.now }
     requires from { search.now.start < length nodes.now }
-    ensures { OnOk result (AddsPaths nodes.now search.now.graph list.old.items list.new.items) }
+    requires other { (path : List ℕ) → IsChain search.now.graph search.now.start path 0 → ⊥ }
+    ensures added { OnOk result (AddsPaths nodes.now search.now.graph list.old.items list.new.items) }
+    ensures covered { OnOk result ((to : ℕ) → 0 < to → to < length nodes.now → IsCovered nodes.now search.now.graph list.new.items search.now.start to) }
 {
     for to in 1..nodes.len() {
         push_listed(alloc, list, nodes, search, to)?;
@@ -148,7 +159,8 @@ fn push_found(
     requires inside { IsInside search.now.graph }
     requires nodes { length search.now.graph ≡ length nodes.now }
     requires from { search.now.start < length nodes.now }
-    ensures { OnOk result (AddsPaths nodes.now search.now.graph list.old.items list.new.items) }
+    ensures added { OnOk result (AddsPaths nodes.now search.now.graph list.old.items list.new.items) }
+    ensures covered { OnOk result ((to : ℕ) → IsCovered nodes.now search.now.graph list.new.items search.now.start to) }
 {
     if push_path(alloc, list, nodes, search, 0)? {
         return Ok(());
@@ -167,7 +179,8 @@ fn push_paths(
     requires inside { IsInside rows.now }
     requires nodes { length rows.now ≡ length nodes.now }
     requires from { from < length nodes.now }
-    ensures { OnOk result (AddsPaths nodes.now rows.now list.old.items list.new.items) }
+    ensures added { OnOk result (AddsPaths nodes.now rows.now list.old.items list.new.items) }
+    ensures covered { OnOk result ((to : ℕ) → IsCovered nodes.now rows.now list.new.items from to) }
 {
     let search = Search::new(alloc, rows, from)?;
     push_found(alloc, list, nodes, &search)?;
@@ -176,12 +189,10 @@ fn push_paths(
 
 /// The paths of each subject of the bindings: to everything, or else to each node that it reaches, besides those who hold a role.
 pub fn paths<P: Policy>(alloc: Global, asked: &Question<'_, P>) -> Result<Vec<Path>, Memory>
-    ensures { IfOk result (λ v. (p : Told) → Has v.items p → IsWalk (next_of (P.content asked.now.policy.now) (map binding_of asked.now.bindings.now) asked.now.known.now (map row_of asked.now.rights.now)) p.from p.nodes p.to) }
+    ensures walks { IfOk result (λ v. (p : Told) → Has v.items p → IsWalk (next_of (P.content asked.now.policy.now) (map binding_of asked.now.bindings.now) asked.now.known.now (map row_of asked.now.rights.now)) p.from p.nodes p.to) }
+    ensures listed { IfOk result (λ v. HasAll (next_of (P.content asked.now.policy.now) (map binding_of asked.now.bindings.now) asked.now.known.now (map row_of asked.now.rights.now)) (sources_of (map binding_of asked.now.bindings.now)) v.items) }
 {
-    let mut numbered = Numbered::new(alloc);
-    let mut first = Vec::new(alloc);
-    push_node(alloc, &mut first, NodeKind::Everything, "", "")?;
-    drop(numbered.row(alloc, first)?);
+    let mut numbered = Numbered::of_everything(alloc)?;
     drop(numbered.row(alloc, sources(alloc, asked.bindings)?)?);
     let count = numbered.nodes().len();
     let rows = rows(alloc, asked, &mut numbered)?;

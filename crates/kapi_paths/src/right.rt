@@ -1,9 +1,9 @@
 //! The table of rights by which one becomes somebody else.
 ghost use Rattle.std.specs.Prelude.{◌≡◌, ◌++◌, map, IfOk, OnOk};
-ghost use Rattle.std.specs.List.{filter, list_any};
+ghost use Rattle.std.specs.List.{filter, flat_map, list_any};
 ghost use Rattle.std.specs.Str.{bytes_eq};
 ghost use Rattle.kapi_paths.specs.Rights as table;
-ghost use Rattle.kapi_paths.specs.Rights.{row_of};
+ghost use Rattle.kapi_paths.specs.Rights.{group_of, resource_of, row_of};
 
 use kapi_text::{Memory, Text};
 use std::alloc::Global;
@@ -56,577 +56,222 @@ pub struct Right(
     pub Leads,
 );
 
-#[tactic(auto, unfolding(crate::specs::Rights::star_rights))]
-fn star_rights() -> [Right; 2]
-    ensures { map row_of result ≡ table.star_rights }
+/// A resource of a group, with its subresource.
+#[derive(Clone, Copy)]
+struct Resource(&'static str, &'static str, &'static str);
+
+/// Rights of a kind: each of the verbs on each of the resources.
+#[derive(Clone, Copy)]
+struct Group {
+    kind: &'static str,
+    verbs: &'static [&'static str],
+    resources: &'static [Resource],
+    names: Names,
+    leads: Leads,
+}
+
+// What makes pods.
+fn workloads() -> &'static [Resource]
+    ensures { map resource_of result.now ≡ table.workloads }
+{
+    &[
+        Resource("", "pods", ""),
+        Resource("", "replicationcontrollers", ""),
+        Resource("apps", "deployments", ""),
+        Resource("apps", "replicasets", ""),
+        Resource("apps", "statefulsets", ""),
+        Resource("apps", "daemonsets", ""),
+        Resource("batch", "jobs", ""),
+        Resource("batch", "cronjobs", ""),
+    ]
+}
+
+#[tactic(auto, unfolding(crate::specs::Rights::cluster_groups))]
+fn cluster_groups() -> [Group; 8]
+    ensures { map group_of result ≡ table.cluster_groups }
 {
     [
         // Whoever may do everything is everybody: the rule of `cluster-admin` ('User-facing roles').
-        Right("star", "*", "*", "*", "", Names::Unnamed, Leads::All),
-        Right("star", "*", "*", "*", "", Names::Unnamed, Leads::Everything),
+        Group {
+            kind: "star",
+            verbs: &["*"],
+            resources: &[Resource("*", "*", "")],
+            names: Names::Unnamed,
+            leads: Leads::All,
+        },
+        Group {
+            kind: "star",
+            verbs: &["*"],
+            resources: &[Resource("*", "*", "")],
+            names: Names::Unnamed,
+            leads: Leads::Everything,
+        },
+        // 'Persistent volume creation': it "includes the creation of hostPath volumes", and so the files of every node.
+        Group {
+            kind: "volumes",
+            verbs: &["create"],
+            resources: &[Resource("", "persistentvolumes", "")],
+            names: Names::Unnamed,
+            leads: Leads::Everything,
+        },
+        // 'Access to proxy subresource of Nodes': it allows "command execution on every pod on the node(s)".
+        Group {
+            kind: "nodes",
+            verbs: &["create", "get"],
+            resources: &[Resource("", "nodes", "proxy")],
+            names: Names::Any,
+            leads: Leads::Everything,
+        },
+        // 'Escalate verb': who has it "can effectively escalate their privileges".
+        Group {
+            kind: "escalate",
+            verbs: &["escalate"],
+            resources: &[Resource("rbac.authorization.k8s.io", "clusterroles", "")],
+            names: Names::Any,
+            leads: Leads::Everything,
+        },
+        Group {
+            kind: "escalate",
+            verbs: &["escalate"],
+            resources: &[Resource("rbac.authorization.k8s.io", "roles", "")],
+            names: Names::Any,
+            leads: Leads::All,
+        },
+        // 'Bind verb': it lets a user "create bindings to roles with rights they do not already have".
+        Group {
+            kind: "bind",
+            verbs: &["bind"],
+            resources: &[Resource("rbac.authorization.k8s.io", "clusterroles", "")],
+            names: Names::Any,
+            leads: Leads::NamedClusterRoles,
+        },
+        Group {
+            kind: "bind",
+            verbs: &["bind"],
+            resources: &[Resource("rbac.authorization.k8s.io", "roles", "")],
+            names: Names::Any,
+            leads: Leads::NamedRoles,
+        },
     ]
 }
 
-#[tactic(auto, unfolding(crate::specs::Rights::secrets_rights))]
-fn secrets_rights() -> [Right; 3]
-    ensures { map row_of result ≡ table.secrets_rights }
+#[tactic(auto, unfolding(crate::specs::Rights::account_groups))]
+fn account_groups() -> [Group; 5]
+    ensures { map group_of result ≡ table.account_groups }
 {
     [
         // 'Listing secrets': `get`, `list` and `watch` let a user "reveal the Secret contents", the tokens of accounts among them.
-        Right(
-            "secrets",
-            "get",
-            "",
-            "secrets",
-            "",
-            Names::Unnamed,
-            Leads::Accounts,
-        ),
-        Right(
-            "secrets",
-            "list",
-            "",
-            "secrets",
-            "",
-            Names::Unnamed,
-            Leads::Accounts,
-        ),
-        Right(
-            "secrets",
-            "watch",
-            "",
-            "secrets",
-            "",
-            Names::Unnamed,
-            Leads::Accounts,
-        ),
-    ]
-}
-
-#[tactic(auto, unfolding(crate::specs::Rights::workloads_rights))]
-fn workloads_rights() -> [Right; 8]
-    ensures { map row_of result ≡ table.workloads_rights }
-{
-    [
+        Group {
+            kind: "secrets",
+            verbs: &["get", "list", "watch"],
+            resources: &[Resource("", "secrets", "")],
+            names: Names::Unnamed,
+            leads: Leads::Accounts,
+        },
         // 'Workload creation': it "grants the API access levels of any service account in that namespace".
-        Right(
-            "workloads",
-            "create",
-            "",
-            "pods",
-            "",
-            Names::Unnamed,
-            Leads::Accounts,
-        ),
-        Right(
-            "workloads",
-            "create",
-            "",
-            "replicationcontrollers",
-            "",
-            Names::Unnamed,
-            Leads::Accounts,
-        ),
-        Right(
-            "workloads",
-            "create",
-            "apps",
-            "deployments",
-            "",
-            Names::Unnamed,
-            Leads::Accounts,
-        ),
-        Right(
-            "workloads",
-            "create",
-            "apps",
-            "replicasets",
-            "",
-            Names::Unnamed,
-            Leads::Accounts,
-        ),
-        Right(
-            "workloads",
-            "create",
-            "apps",
-            "statefulsets",
-            "",
-            Names::Unnamed,
-            Leads::Accounts,
-        ),
-        Right(
-            "workloads",
-            "create",
-            "apps",
-            "daemonsets",
-            "",
-            Names::Unnamed,
-            Leads::Accounts,
-        ),
-        Right(
-            "workloads",
-            "create",
-            "batch",
-            "jobs",
-            "",
-            Names::Unnamed,
-            Leads::Accounts,
-        ),
-        Right(
-            "workloads",
-            "create",
-            "batch",
-            "cronjobs",
-            "",
-            Names::Unnamed,
-            Leads::Accounts,
-        ),
-    ]
-}
-
-#[tactic(auto, unfolding(crate::specs::Rights::changes_rights))]
-fn changes_rights() -> [Right; 16]
-    ensures { map row_of result ≡ table.changes_rights }
-{
-    [
+        Group {
+            kind: "workloads",
+            verbs: &["create"],
+            resources: workloads(),
+            names: Names::Unnamed,
+            leads: Leads::Accounts,
+        },
         // The same of a workload that is there: another account is put into its pods' template.
-        Right(
-            "changes",
-            "update",
-            "",
-            "pods",
-            "",
-            Names::Any,
-            Leads::Accounts,
-        ),
-        Right(
-            "changes",
-            "patch",
-            "",
-            "pods",
-            "",
-            Names::Any,
-            Leads::Accounts,
-        ),
-        Right(
-            "changes",
-            "update",
-            "",
-            "replicationcontrollers",
-            "",
-            Names::Any,
-            Leads::Accounts,
-        ),
-        Right(
-            "changes",
-            "patch",
-            "",
-            "replicationcontrollers",
-            "",
-            Names::Any,
-            Leads::Accounts,
-        ),
-        Right(
-            "changes",
-            "update",
-            "apps",
-            "deployments",
-            "",
-            Names::Any,
-            Leads::Accounts,
-        ),
-        Right(
-            "changes",
-            "patch",
-            "apps",
-            "deployments",
-            "",
-            Names::Any,
-            Leads::Accounts,
-        ),
-        Right(
-            "changes",
-            "update",
-            "apps",
-            "replicasets",
-            "",
-            Names::Any,
-            Leads::Accounts,
-        ),
-        Right(
-            "changes",
-            "patch",
-            "apps",
-            "replicasets",
-            "",
-            Names::Any,
-            Leads::Accounts,
-        ),
-        Right(
-            "changes",
-            "update",
-            "apps",
-            "statefulsets",
-            "",
-            Names::Any,
-            Leads::Accounts,
-        ),
-        Right(
-            "changes",
-            "patch",
-            "apps",
-            "statefulsets",
-            "",
-            Names::Any,
-            Leads::Accounts,
-        ),
-        Right(
-            "changes",
-            "update",
-            "apps",
-            "daemonsets",
-            "",
-            Names::Any,
-            Leads::Accounts,
-        ),
-        Right(
-            "changes",
-            "patch",
-            "apps",
-            "daemonsets",
-            "",
-            Names::Any,
-            Leads::Accounts,
-        ),
-        Right(
-            "changes",
-            "update",
-            "batch",
-            "jobs",
-            "",
-            Names::Any,
-            Leads::Accounts,
-        ),
-        Right(
-            "changes",
-            "patch",
-            "batch",
-            "jobs",
-            "",
-            Names::Any,
-            Leads::Accounts,
-        ),
-        Right(
-            "changes",
-            "update",
-            "batch",
-            "cronjobs",
-            "",
-            Names::Any,
-            Leads::Accounts,
-        ),
-        Right(
-            "changes",
-            "patch",
-            "batch",
-            "cronjobs",
-            "",
-            Names::Any,
-            Leads::Accounts,
-        ),
-    ]
-}
-
-#[tactic(auto, unfolding(crate::specs::Rights::exec_rights))]
-fn exec_rights() -> [Right; 6]
-    ensures { map row_of result ≡ table.exec_rights }
-{
-    [
+        Group {
+            kind: "changes",
+            verbs: &["update", "patch"],
+            resources: workloads(),
+            names: Names::Any,
+            leads: Leads::Accounts,
+        },
         // A command in a pod that runs has the token of its account.
-        Right(
-            "exec",
-            "create",
-            "",
-            "pods",
-            "exec",
-            Names::Any,
-            Leads::Accounts,
-        ),
-        Right(
-            "exec",
-            "get",
-            "",
-            "pods",
-            "exec",
-            Names::Any,
-            Leads::Accounts,
-        ),
-        Right(
-            "exec",
-            "create",
-            "",
-            "pods",
-            "attach",
-            Names::Any,
-            Leads::Accounts,
-        ),
-        Right(
-            "exec",
-            "get",
-            "",
-            "pods",
-            "attach",
-            Names::Any,
-            Leads::Accounts,
-        ),
-        Right(
-            "exec",
-            "update",
-            "",
-            "pods",
-            "ephemeralcontainers",
-            Names::Any,
-            Leads::Accounts,
-        ),
-        Right(
-            "exec",
-            "patch",
-            "",
-            "pods",
-            "ephemeralcontainers",
-            Names::Any,
-            Leads::Accounts,
-        ),
+        Group {
+            kind: "exec",
+            verbs: &["create", "get"],
+            resources: &[Resource("", "pods", "exec"), Resource("", "pods", "attach")],
+            names: Names::Any,
+            leads: Leads::Accounts,
+        },
+        Group {
+            kind: "exec",
+            verbs: &["update", "patch"],
+            resources: &[Resource("", "pods", "ephemeralcontainers")],
+            names: Names::Any,
+            leads: Leads::Accounts,
+        },
     ]
 }
 
-#[tactic(auto, unfolding(crate::specs::Rights::hosts_rights))]
-fn hosts_rights() -> [Right; 3]
-    ensures { map row_of result ≡ table.hosts_rights }
-{
-    [
-        // 'Persistent volume creation': it "includes the creation of hostPath volumes", and so the files of every node.
-        Right(
-            "volumes",
-            "create",
-            "",
-            "persistentvolumes",
-            "",
-            Names::Unnamed,
-            Leads::Everything,
-        ),
-        // 'Access to proxy subresource of Nodes': it allows "command execution on every pod on the node(s)".
-        Right(
-            "nodes",
-            "create",
-            "",
-            "nodes",
-            "proxy",
-            Names::Any,
-            Leads::Everything,
-        ),
-        Right(
-            "nodes",
-            "get",
-            "",
-            "nodes",
-            "proxy",
-            Names::Any,
-            Leads::Everything,
-        ),
-    ]
-}
-
-#[tactic(auto, unfolding(crate::specs::Rights::roles_rights))]
-fn roles_rights() -> [Right; 4]
-    ensures { map row_of result ≡ table.roles_rights }
-{
-    [
-        // 'Escalate verb': who has it "can effectively escalate their privileges".
-        Right(
-            "escalate",
-            "escalate",
-            "rbac.authorization.k8s.io",
-            "clusterroles",
-            "",
-            Names::Any,
-            Leads::Everything,
-        ),
-        Right(
-            "escalate",
-            "escalate",
-            "rbac.authorization.k8s.io",
-            "roles",
-            "",
-            Names::Any,
-            Leads::All,
-        ),
-        // 'Bind verb': it lets a user "create bindings to roles with rights they do not already have".
-        Right(
-            "bind",
-            "bind",
-            "rbac.authorization.k8s.io",
-            "clusterroles",
-            "",
-            Names::Any,
-            Leads::NamedClusterRoles,
-        ),
-        Right(
-            "bind",
-            "bind",
-            "rbac.authorization.k8s.io",
-            "roles",
-            "",
-            Names::Any,
-            Leads::NamedRoles,
-        ),
-    ]
-}
-
-#[tactic(auto, unfolding(crate::specs::Rights::others_rights))]
-fn others_rights() -> [Right; 4]
-    ensures { map row_of result ≡ table.others_rights }
+#[tactic(auto, unfolding(crate::specs::Rights::person_groups))]
+fn person_groups() -> [Group; 7]
+    ensures { map group_of result ≡ table.person_groups }
 {
     [
         // 'Impersonate verb': it lets a user "gain the rights of other users in the cluster".
-        Right(
-            "impersonate",
-            "impersonate",
-            "",
-            "users",
-            "",
-            Names::Any,
-            Leads::NamedUsers,
-        ),
-        Right(
-            "impersonate",
-            "impersonate",
-            "",
-            "groups",
-            "",
-            Names::Any,
-            Leads::NamedGroups,
-        ),
-        Right(
-            "impersonate",
-            "impersonate",
-            "",
-            "serviceaccounts",
-            "",
-            Names::Any,
-            Leads::NamedAccounts,
-        ),
+        Group {
+            kind: "impersonate",
+            verbs: &["impersonate"],
+            resources: &[Resource("", "users", "")],
+            names: Names::Any,
+            leads: Leads::NamedUsers,
+        },
+        Group {
+            kind: "impersonate",
+            verbs: &["impersonate"],
+            resources: &[Resource("", "groups", "")],
+            names: Names::Any,
+            leads: Leads::NamedGroups,
+        },
+        Group {
+            kind: "impersonate",
+            verbs: &["impersonate"],
+            resources: &[Resource("", "serviceaccounts", "")],
+            names: Names::Any,
+            leads: Leads::NamedAccounts,
+        },
         // 'Token request': `create` on it lets a user "create TokenRequests to issue tokens for existing service accounts".
-        Right(
-            "tokens",
-            "create",
-            "",
-            "serviceaccounts",
-            "token",
-            Names::Any,
-            Leads::NamedAccounts,
-        ),
-    ]
-}
-
-#[tactic(auto, unfolding(crate::specs::Rights::signing_rights))]
-fn signing_rights() -> [Right; 10]
-    ensures { map row_of result ≡ table.signing_rights }
-{
-    [
+        Group {
+            kind: "tokens",
+            verbs: &["create"],
+            resources: &[Resource("", "serviceaccounts", "token")],
+            names: Names::Any,
+            leads: Leads::NamedAccounts,
+        },
         // 'CSRs and certificate issuing': it allows to "create new client certificates which allow users to authenticate to the cluster".
-        Right(
-            "signers",
-            "approve",
-            "certificates.k8s.io",
-            "signers",
-            "",
-            Names::Signer,
-            Leads::Everything,
-        ),
-        Right(
-            "signers",
-            "sign",
-            "certificates.k8s.io",
-            "signers",
-            "",
-            Names::Signer,
-            Leads::Everything,
-        ),
+        Group {
+            kind: "signers",
+            verbs: &["approve", "sign"],
+            resources: &[Resource("certificates.k8s.io", "signers", "")],
+            names: Names::Signer,
+            leads: Leads::Everything,
+        },
         // 'Control admission webhooks': they "can read any object admitted to the cluster", and change it.
-        Right(
-            "webhooks",
-            "create",
-            "admissionregistration.k8s.io",
-            "validatingwebhookconfigurations",
-            "",
-            Names::Any,
-            Leads::Everything,
-        ),
-        Right(
-            "webhooks",
-            "update",
-            "admissionregistration.k8s.io",
-            "validatingwebhookconfigurations",
-            "",
-            Names::Any,
-            Leads::Everything,
-        ),
-        Right(
-            "webhooks",
-            "patch",
-            "admissionregistration.k8s.io",
-            "validatingwebhookconfigurations",
-            "",
-            Names::Any,
-            Leads::Everything,
-        ),
-        Right(
-            "webhooks",
-            "create",
-            "admissionregistration.k8s.io",
-            "mutatingwebhookconfigurations",
-            "",
-            Names::Any,
-            Leads::Everything,
-        ),
-        Right(
-            "webhooks",
-            "update",
-            "admissionregistration.k8s.io",
-            "mutatingwebhookconfigurations",
-            "",
-            Names::Any,
-            Leads::Everything,
-        ),
-        Right(
-            "webhooks",
-            "patch",
-            "admissionregistration.k8s.io",
-            "mutatingwebhookconfigurations",
-            "",
-            Names::Any,
-            Leads::Everything,
-        ),
+        Group {
+            kind: "webhooks",
+            verbs: &["create", "update", "patch"],
+            resources: &[
+                Resource(
+                    "admissionregistration.k8s.io",
+                    "validatingwebhookconfigurations",
+                    "",
+                ),
+                Resource(
+                    "admissionregistration.k8s.io",
+                    "mutatingwebhookconfigurations",
+                    "",
+                ),
+            ],
+            names: Names::Any,
+            leads: Leads::Everything,
+        },
         // 'Namespace modification': its labels may allow "a more permissive policy than intended by the administrators".
-        Right(
-            "namespaces",
-            "update",
-            "",
-            "namespaces",
-            "",
-            Names::Own,
-            Leads::Limits,
-        ),
-        Right(
-            "namespaces",
-            "patch",
-            "",
-            "namespaces",
-            "",
-            Names::Own,
-            Leads::Limits,
-        ),
+        Group {
+            kind: "namespaces",
+            verbs: &["update", "patch"],
+            resources: &[Resource("", "namespaces", "")],
+            names: Names::Own,
+            leads: Leads::Limits,
+        },
     ]
 }
 
@@ -636,57 +281,44 @@ fn is_left_out(without: &[Text], kind: &str) -> bool
     without.iter().any(|word| word.as_str() == kind)
 }
 
-fn push_kept(list: &mut Vec<Right>, rights: &[Right], without: &[Text]) -> Result<(), Memory>
-    ensures { OnOk result (map row_of list.new.items ≡ map row_of list.old.items ++ filter (table.is_kept without.now) (map row_of rights.now)) }
+fn push_verbs(list: &mut Vec<Right>, group: &Group, on: &Resource) -> Result<(), Memory>
+    ensures { OnOk result (map row_of list.new.items ≡ map row_of list.old.items ++ table.rows_on (group_of group.now) (resource_of on.now)) }
 {
-    for right in rights {
-        if !is_left_out(without, right.0) {
-            list.push(*right)?;
+    for verb in group.verbs {
+        list.push(Right(group.kind, verb, on.0, on.1, on.2, group.names, group.leads))?;
+    }
+    Ok(())
+}
+
+fn push_group(list: &mut Vec<Right>, group: &Group) -> Result<(), Memory>
+    ensures { OnOk result (map row_of list.new.items ≡ map row_of list.old.items ++ table.rows_of (group_of group.now)) }
+{
+    for on in group.resources {
+        push_verbs(list, group, on)?;
+    }
+    Ok(())
+}
+
+fn push_kept(list: &mut Vec<Right>, groups: &[Group], without: &[Text]) -> Result<(), Memory>
+    ensures { OnOk result (map row_of list.new.items ≡ map row_of list.old.items ++ flat_map table.rows_of (filter (table.is_kept without.now) (map group_of groups.now))) }
+{
+    for group in groups {
+        if !is_left_out(without, group.kind) {
+            push_group(list, group)?;
         }
     }
     Ok(())
 }
 
-#[tactic(auto, unfolding(crate::specs::Rights::cluster_rights))]
-fn push_cluster_rights(list: &mut Vec<Right>, without: &[Text]) -> Result<(), Memory>
-    ensures { OnOk result (map row_of list.new.items ≡ map row_of list.old.items ++ filter (table.is_kept without.now) table.cluster_rights) }
-{
-    push_kept(list, &star_rights(), without)?;
-    push_kept(list, &hosts_rights(), without)?;
-    push_kept(list, &roles_rights(), without)?;
-    Ok(())
-}
-
-#[tactic(auto, unfolding(crate::specs::Rights::account_rights))]
-fn push_account_rights(list: &mut Vec<Right>, without: &[Text]) -> Result<(), Memory>
-    ensures { OnOk result (map row_of list.new.items ≡ map row_of list.old.items ++ filter (table.is_kept without.now) table.account_rights) }
-{
-    push_kept(list, &secrets_rights(), without)?;
-    push_kept(list, &workloads_rights(), without)?;
-    push_kept(list, &changes_rights(), without)?;
-    push_kept(list, &exec_rights(), without)?;
-    Ok(())
-}
-
-#[tactic(auto, unfolding(crate::specs::Rights::person_rights))]
-fn push_person_rights(list: &mut Vec<Right>, without: &[Text]) -> Result<(), Memory>
-    ensures { OnOk result (map row_of list.new.items ≡ map row_of list.old.items ++ filter (table.is_kept without.now) table.person_rights) }
-{
-    push_kept(list, &others_rights(), without)?;
-    push_kept(list, &signing_rights(), without)?;
-    Ok(())
-}
-
 /// The rights by which one becomes somebody else, but those of the kinds left out (Kubernetes, 'Role Based Access Control Good
 /// Practices', 'Privilege escalation risks').
-#[tactic(auto, unfolding(crate::specs::Rights::rights))]
 pub fn rights_without(alloc: Global, without: &[Text]) -> Result<Vec<Right>, Memory>
-    ensures { IfOk result (λ v. map row_of v.items ≡ filter (table.is_kept without.now) table.rights) }
+    ensures { IfOk result (λ v. map row_of v.items ≡ table.rights_without without.now) }
 {
     let mut list = Vec::new(alloc);
-    push_cluster_rights(&mut list, without)?;
-    push_account_rights(&mut list, without)?;
-    push_person_rights(&mut list, without)?;
+    push_kept(&mut list, &cluster_groups(), without)?;
+    push_kept(&mut list, &account_groups(), without)?;
+    push_kept(&mut list, &person_groups(), without)?;
     Ok(list)
 }
 

@@ -1,7 +1,11 @@
+use Rattle.std.proofs.Common.{◌<◌, ℕ}
 use Rattle.kapi_paths.specs.Chains.{Has}
-use Rattle.kapi_paths.specs.Graphs.{IsSomewhere}
+use Rattle.kapi_paths.specs.Graphs.{IsCovered, IsSomewhere}
 use Rattle.kapi_paths.specs.declared.path.Path.{Path}
 use Rattle.kapi_paths.proofs.path.paths.Given as goal
 
 abbrev pub invariant-loop-from : goal.invariant-loop-from
-invariant-loop-from g l = (p : Path) → Has l.list.items p → IsSomewhere l.numbered l.rows.items p
+invariant-loop-from g l = record {
+  came : (p : Path) → Has l.list.items p → IsSomewhere l.numbered l.rows.items p;
+  covered : (from : ℕ) → 0 < from → from < l.from → (to : ℕ) → IsCovered l.numbered l.rows.items l.list.items from to;
+}
