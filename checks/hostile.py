@@ -1,9 +1,14 @@
-"""Attacks a server on 127.0.0.1 as a client without rights may, and prints what each attack costs the others.
+"""Attacks a server on 127.0.0.1 as a client with few rights may, and prints what each attack costs the others.
 
-usage: python3 -m checks.hostile PROGRAM [ATTACK..]     all attacks if none is named: greedy flood silent stalled spin line selector groups repeats
+usage: python3 -m checks.hostile PROGRAM [ATTACK..]     all attacks if none is named
 
-Each attack starts a server of its own and is bounded in count and time. The exit status is 1 where one is above its bound.
+Without any right: greedy flood silent stalled idle spin line readers. With the right to read: list selector window. To
+create roles: memory missing rules. To create cluster roles: labels. To create reviews: groups repeats.
+Each attack starts a server of its own on free ports, and is bounded in count and time. The exit status is 1 where one is
+above its bound.
 """
+import itertools
+import json
 import multiprocessing
 import resource
 import select
@@ -13,10 +18,11 @@ import sys
 import threading
 import time
 
-from tools.server import ANN, ANSWER, ROOT, Server, ask, connect
+from tools import server as ports
+from tools.server import Server, ask, connect, free, request, whole_answer
 
-ANSWERS = ("--answer", str(ANSWER), "--readers", "2")
 GET = b"GET /api/v1/namespaces/default/configmaps HTTP/1.1\r\nHost: a\r\n\r\n"
+RBAC = "rbac.authorization.k8s.io"
 GREEDY_CLIENTS, GREEDY_SECONDS = 8, 20
 CONNECTS, FLOODERS, FLOOD_SECONDS = 100_000, 4, 10
 SILENT_CLIENTS, SILENT_SECONDS = 450, 75
@@ -26,6 +32,38 @@ LINE_BYTES = 64_000_000
 LABELS, REQUIREMENTS, PATCHES = 2_000, 5_000, 200
 GROUPS, REPEATS, BINDINGS = 16_000, 1_000, 2_000
 MAPS = "/api/v1/namespaces/default/configmaps"
+ROLES = f"/apis/{RBAC}/v1/namespaces/default/roles"
+STARVED_CLIENTS, STARVED_SECONDS, LONG = 50, 20, 320
+IDLE_CLIENTS, LISTED, WIDE, CHECKED, LABELLED = 320, 100_000, 56, 1_000, 5_000
+QUIET, REMOVED = 100, 1_000
+
+
+def take_ports():
+    """Free ports for the next attack."""
+    ports.ROOT, ports.ANN, ports.ANSWER, ports.OTHER = itertools.islice(free(), 4)
+
+
+def answers():
+    """The options of a server with a port for questions."""
+    return "--answer", str(ports.ANSWER), "--readers", "2"
+
+
+def grant(kind, *verbs, group="", resource="configmaps"):
+    """Objects by which ann may do something, in the namespace default or, for a ClusterRole, everywhere."""
+    place = {} if kind == "ClusterRole" else {"namespace": "default"}
+    rules = [{"apiGroups": [group], "resources": [resource], "verbs": list(verbs)}]
+    role = {"apiVersion": f"{RBAC}/v1", "kind": kind, "metadata": {"name": "granted", **place}, "rules": rules}
+    binding = {"apiVersion": f"{RBAC}/v1", "kind": f"{kind}Binding", "metadata": {"name": "granted", **place}, "roleRef": {"apiGroup": RBAC, "kind": kind, "name": "granted"}, "subjects": [{"apiGroup": RBAC, "kind": "User", "name": "ann"}]}
+    return [role, binding]
+
+
+def long_rule(count, prefix=""):
+    """A rule of four lists of so many entries."""
+    return {word: [f"{prefix}{word[0]}{number}" for number in range(count)] for word in ("apiGroups", "resources", "resourceNames", "verbs")}
+
+
+def role_of(name, *rules):
+    return {"metadata": {"name": name}, "rules": rules}
 
 
 def create(client, name, letters):
@@ -35,14 +73,14 @@ def create(client, name, letters):
 
 def waits(seconds, pause=0.02):
     """Milliseconds that each of root's gets waits for its answer, one after the other over one connection; the last one may have none."""
-    client, told, end = connect(ROOT), [], time.monotonic() + seconds
+    client, told, end = connect(ports.ROOT), [], time.monotonic() + seconds
     client.settimeout(seconds)
     while time.monotonic() < end:
         begin = time.monotonic()
-        client.sendall(GET)
         try:
+            client.sendall(GET)
             answer = client.recv(65536)
-        except TimeoutError:
+        except OSError:
             answer = None
         told.append(1000 * (time.monotonic() - begin))
         if not answer:
@@ -62,7 +100,7 @@ def judge(name, figures):
 
 def demand():
     """A client without rights that sends without pause and reads its refusals, until it is killed or a minute has passed."""
-    client, requests, end = connect(ANN), GET * 64, time.monotonic() + 60
+    client, requests, end = connect(ports.ANN), GET * 64, time.monotonic() + 60
     client.setblocking(False)
     left = requests
     while time.monotonic() < end:
@@ -75,7 +113,7 @@ def demand():
 
 def greedy(program):
     """Clients that send without pause, in processes of their own, beside root's gets."""
-    with Server(program, *ANSWERS):
+    with Server(program, *answers()):
         clients = [multiprocessing.Process(target=demand) for _client in range(GREEDY_CLIENTS)]
         for client in clients:
             client.start()
@@ -96,12 +134,12 @@ def flood(program):
     def attack(number, is_over):
         while not is_over.is_set() and made[number] < CONNECTS // FLOODERS:
             try:
-                connect(ANN).close()
+                connect(ports.ANN).close()
             except OSError:
                 time.sleep(0.01)
             made[number] += 1
 
-    with Server(program, *ANSWERS):
+    with Server(program, *answers()):
         is_over, told = threading.Event(), []
         threads = [threading.Thread(target=attack, args=(number, is_over)) for number in range(FLOODERS)]
         asker = threading.Thread(target=lambda: told.extend(waits(FLOOD_SECONDS)))
@@ -118,8 +156,8 @@ def flood(program):
 def silent(program):
     """Clients that ask for a large answer and that their connection be closed, and read nothing."""
     request = GET.replace(b"\r\n\r\n", b"\r\nConnection: close\r\n\r\n")
-    with Server(program, *ANSWERS) as server:
-        root = connect(ROOT)
+    with Server(program, *answers()) as server:
+        root = connect(ports.ROOT)
         for name in ("a", "b", "c"):
             create(root, name, 900_000)
         root.close()
@@ -127,14 +165,14 @@ def silent(program):
         for _client in range(SILENT_CLIENTS):
             client = socket.socket()
             client.setsockopt(socket.SOL_SOCKET, socket.SO_RCVBUF, 4096)
-            client.connect(("127.0.0.1", ROOT))
+            client.connect(("127.0.0.1", ports.ROOT))
             client.sendall(request)
             clients.append(client)
             most = max(most, server.descriptors())
         time.sleep(3)
         most, resident = max(most, server.descriptors()), server.resident() / 1000
         time.sleep(SILENT_SECONDS)
-        begin, late = time.monotonic(), connect(ROOT)
+        begin, late = time.monotonic(), connect(ports.ROOT)
         late.settimeout(20)
         late.sendall(GET)
         answered = 0 if late.recv(16) else 1
@@ -144,7 +182,7 @@ def silent(program):
 
 def cost(server):
     """Microseconds of the server's processor time for each of root's gets, one after the other over one connection."""
-    client, before = connect(ROOT), server.seconds()
+    client, before = connect(ports.ROOT), server.seconds()
     for _get in range(GETS):
         client.sendall(GET)
         client.recv(65536)
@@ -152,23 +190,23 @@ def cost(server):
     return 1e6 * (server.seconds() - before) / GETS
 
 
-def rest(server):
-    """Waits until the server does nothing more."""
-    before = -1
-    while server.seconds() > before + 0.02:
+def rest(server, pause=1):
+    """Waits until the server does next to nothing more, for a minute at most."""
+    before, end = -1, time.monotonic() + 60
+    while server.seconds() > before + 0.02 and time.monotonic() < end:
         before = server.seconds()
-        time.sleep(1)
+        time.sleep(pause)
 
 
 def stalled(program):
     """Clients without rights that send requests and take none of their refusals, beside root's gets."""
     request = b"GET /api/v1/namespaces/default/configmaps/%s HTTP/1.1\r\nHost: a\r\n\r\n" % (b"a" * 8_000)
-    with Server(program, *ANSWERS) as server:
+    with Server(program, *answers()) as server:
         alone, clients = cost(server), []
         for _client in range(STALLED_CLIENTS):
             client = socket.socket()
             client.setsockopt(socket.SOL_SOCKET, socket.SO_RCVBUF, 4096)
-            client.connect(("127.0.0.1", ANN))
+            client.connect(("127.0.0.1", ports.ANN))
             clients.append(client)
         for _request in range(STALLED_REQUESTS // 16):
             for client in clients:
@@ -183,8 +221,8 @@ def stalled(program):
 
 def spin(program):
     """Clients of the port for questions beyond the descriptors that the server has."""
-    with Server(program, *ANSWERS, preexec_fn=lambda: resource.setrlimit(resource.RLIMIT_NOFILE, (24, 24))) as server:
-        clients = [connect(ANSWER) for _client in range(40)] + [connect(ANN) for _client in range(40)]
+    with Server(program, *answers(), preexec_fn=lambda: resource.setrlimit(resource.RLIMIT_NOFILE, (24, 24))) as server:
+        clients = [connect(ports.ANSWER) for _client in range(40)] + [connect(ports.ANN) for _client in range(40)]
         time.sleep(0.5)
         before = server.seconds()
         time.sleep(SPIN_SECONDS)
@@ -196,15 +234,15 @@ def spin(program):
 
 def line(program):
     """A line without end on the port for questions."""
-    with Server(program, *ANSWERS) as server:
-        before, sent, client = server.resident(), 0, connect(ANSWER)
+    with Server(program, *answers()) as server:
+        before, sent, client = server.resident(), 0, connect(ports.ANSWER)
         try:
             while sent < LINE_BYTES:
                 sent += client.send(b"a" * 65536)
         except OSError:
             pass
         grown = (server.resident() - before) / 1000
-        other = connect(ANSWER)
+        other = connect(ports.ANSWER)
         other.settimeout(10)
         other.sendall(b'{"user":"ann","resourceAttributes":{"verb":"get","resource":"pods"}}\n')
         answered = 0 if other.recv(64) == b"0 denied\n" else 1
@@ -216,7 +254,7 @@ def selector(program):
     labels = {f"l{number:05}": "" for number in range(LABELS)}
     asked = ",".join(["!z"] * REQUIREMENTS)
     with Server(program) as server:
-        root, watch = connect(ROOT), connect(ROOT)
+        root, watch = connect(ports.ROOT), connect(ports.ROOT)
         ask(root, "POST", MAPS, {"metadata": {"name": "a", "labels": labels}})
         ask(watch, "GET", f"{MAPS}?watch=1&labelSelector={asked}")
         before = server.precise()
@@ -229,15 +267,14 @@ def selector(program):
 
 def review_cost(program, bound, asked):
     """Seconds of the server's processor time for a review of an identity of so many groups, beside bindings of groups."""
-    rbac = "rbac.authorization.k8s.io"
-    reference = {"apiGroup": rbac, "kind": "ClusterRole", "name": "reader"}
+    reference = {"apiGroup": RBAC, "kind": "ClusterRole", "name": "reader"}
     rules = [{"apiGroups": [""], "resources": ["pods"], "verbs": ["get"]}]
-    role = {"apiVersion": f"{rbac}/v1", "kind": "ClusterRole", "metadata": {"name": "reader"}, "rules": rules}
-    bindings = [{"apiVersion": f"{rbac}/v1", "kind": "ClusterRoleBinding", "metadata": {"name": f"b{number:05}"}, "roleRef": reference, "subjects": [{"apiGroup": rbac, "kind": "Group", "name": group}]} for number, group in enumerate(bound)]
+    role = {"apiVersion": f"{RBAC}/v1", "kind": "ClusterRole", "metadata": {"name": "reader"}, "rules": rules}
+    bindings = [{"apiVersion": f"{RBAC}/v1", "kind": "ClusterRoleBinding", "metadata": {"name": f"b{number:05}"}, "roleRef": reference, "subjects": [{"apiGroup": RBAC, "kind": "Group", "name": group}]} for number, group in enumerate(bound)]
     point = {"verb": "list", "resource": "secrets", "namespace": "default"}
     review = {"apiVersion": "authorization.k8s.io/v1", "kind": "SubjectAccessReview", "spec": {"user": "u", "groups": asked, "resourceAttributes": point}}
     with Server(program, objects=[role, *bindings]) as server:
-        root, before = connect(ROOT), server.precise()
+        root, before = connect(ports.ROOT), server.precise()
         answer = ask(root, "POST", "/apis/authorization.k8s.io/v1/subjectaccessreviews", review)
         used = server.precise() - before
         root.close()
@@ -257,12 +294,161 @@ def repeats(program):
     return judge(f"a review of a group {REPEATS:,} times", [("seconds of processor time", used, 0.1)])
 
 
-ATTACKS = {"greedy": greedy, "flood": flood, "silent": silent, "stalled": stalled, "spin": spin, "line": line, "selector": selector, "groups": groups, "repeats": repeats}
+def starve(client):
+    """Sends a rule that lacks ten thousand million permissions, for whose list no memory suffices."""
+    client.sendall(request("POST", ROLES, json.dumps(role_of("long", long_rule(LONG)), separators=(",", ":"))))
+
+
+def memory(program):
+    """Clients that may only create roles, each with a request that there is no memory for, beside root's gets."""
+    with Server(program, objects=grant("Role", "create", group=RBAC, resource="roles")) as server:
+        clients = [connect(ports.ANN) for _client in range(STARVED_CLIENTS)]
+        for client in clients:
+            starve(client)
+        rest(server, 0.5)
+        before, told = server.seconds(), waits(STARVED_SECONDS)
+        used = (server.seconds() - before) / STARVED_SECONDS
+        left = sum(stays(client) for client in clients)
+    figures = [("root's get, ms in the median", statistics.median(told), 2), ("at the most", max(told), 20), ("processors", used, None), (f"clients left after {STARVED_SECONDS} s", left, None)]
+    return judge(f"{STARVED_CLIENTS} clients whose request has no memory", figures)
+
+
+def stays(client):
+    """Whether a client's connection is open; ends it."""
+    client.settimeout(0.01)
+    try:
+        return bool(client.recv(1))
+    except TimeoutError:
+        return True
+    except OSError:
+        return False
+    finally:
+        client.close()
+
+
+def idle(program):
+    """Clients that connect and send nothing."""
+    with Server(program, *answers()):
+        clients = [connect(ports.ANN) for _client in range(IDLE_CLIENTS)]
+        time.sleep(1)
+        locked = not is_served()
+        for client in clients:
+            client.close()
+        time.sleep(1)
+        figures = [("root locked out", locked, None), ("once they have left", not is_served(), 0)]
+    return judge(f"{IDLE_CLIENTS} clients that send nothing", figures)
+
+
+def is_served():
+    """Whether root is answered within two seconds."""
+    client = connect(ports.ROOT)
+    client.settimeout(2)
+    try:
+        client.sendall(GET)
+        return bool(client.recv(16))
+    except OSError:
+        return False
+    finally:
+        client.close()
+
+
+def readers(program):
+    """Clients of the port for questions that ask nothing, as many as it has readers."""
+    with Server(program, *answers()):
+        clients, other = [connect(ports.ANSWER) for _reader in range(2)], None
+        time.sleep(0.2)
+        other = connect(ports.ANSWER)
+        other.settimeout(2)
+        other.sendall(b'{"user":"ann","resourceAttributes":{"verb":"get","resource":"pods"}}\n')
+        locked = stays(other)
+        for client in clients:
+            client.close()
+    return judge("as many idle clients as readers", [("others locked out", locked, None)])
+
+
+def timed(client, *words):
+    """Milliseconds until the answer to a request has come, and the answer."""
+    begin = time.monotonic()
+    answer = ask(client, *words)
+    return 1000 * (time.monotonic() - begin), answer
+
+
+def long_list(program):
+    """A list of many objects, by one who may list them."""
+    made = [{"apiVersion": "v1", "kind": "ConfigMap", "metadata": {"name": f"m{number:06}", "namespace": "default"}, "data": {"k": "a" * 100}} for number in range(LISTED)]
+    with Server(program, objects=made + grant("Role", "list")) as server:
+        before, resident = server.precise(), server.resident()
+        took, answer = timed(connect(ports.ANN), "GET", MAPS)
+        figures = [("million bytes", len(answer) / 1e6, None), ("ms of processor time", 1000 * (server.precise() - before), 400), ("million bytes more resident", (server.resident() - resident) / 1000, None), ("ms until it has come", took, None)]
+    return judge(f"a list of {LISTED:,} objects", figures)
+
+
+def missing(program):
+    """A rule of long lists, by one who may only create roles: its refusal lists each missing permission."""
+    with Server(program, objects=grant("Role", "create", group=RBAC, resource="roles")) as server:
+        before = server.precise()
+        took, answer = timed(connect(ports.ANN), "POST", ROLES, role_of("wide", long_rule(WIDE)))
+        figures = [("seconds of processor time", server.precise() - before, None), ("million bytes of answer", len(answer) / 1e6, None), ("million bytes resident", server.resident() / 1000, None)]
+    return judge(f"a rule of four lists of {WIDE}", figures)
+
+
+def rules(program):
+    """A role of many rules, by one who may create roles and has all that they grant, in as many rules."""
+    short = [long_rule(12, f"r{number % 250}-") for number in range(CHECKED)]
+    role, binding = grant("Role", "create", group=RBAC, resource="roles")
+    role["rules"] += short
+    with Server(program, objects=[role, binding]) as server:
+        before, (_took, answer) = server.precise(), timed(connect(ports.ANN), "POST", ROLES, role_of("short", *short))
+        used = server.precise() - before
+    return judge(f"a role of {CHECKED:,} rules of four lists of 12", [("seconds of processor time", used, 0.6), ("refused", answer[9:12] != b"201", 0)])
+
+
+def labels(program):
+    """A cluster role by one who may create them, beside thousands of labelled ones from which another takes its rules."""
+    kind = {"apiVersion": f"{RBAC}/v1", "kind": "ClusterRole"}
+    rule = {"apiGroups": [""], "resources": ["pods"], "verbs": ["get"]}
+    taker = {**kind, "metadata": {"name": "taker"}, "aggregationRule": {"clusterRoleSelectors": [{"matchLabels": {"a": "b"}}]}, "rules": []}
+    made = [{**kind, "metadata": {"name": f"c{number:05}", "labels": {"a": "b"}}, "rules": [rule]} for number in range(LABELLED)]
+    with Server(program, objects=[taker, *made, *grant("ClusterRole", "create", group=RBAC, resource="clusterroles")]) as server:
+        rest(server, 0.5)
+        before, (_took, answer) = server.precise(), timed(connect(ports.ANN), "POST", f"/apis/{RBAC}/v1/clusterroles", {"metadata": {"name": "last", "labels": {"a": "b"}}, "rules": []})
+        rest(server, 0.5)
+        used = 1000 * (server.precise() - before)
+    return judge(f"a cluster role beside {LABELLED:,} labelled ones", [("ms of processor time", used, None), ("refused", answer[9:12] != b"201", 0)])
+
+
+def window(program):
+    """A watch that nothing concerns, beside the deletion of many objects at once behind other changes."""
+    made = [{"apiVersion": "v1", "kind": "ConfigMap", "metadata": {"name": f"m{number:06}", "namespace": "default"}} for number in range(REMOVED)]
+    with Server(program, objects=made) as server:
+        watch, root = connect(ports.ROOT), connect(ports.ROOT)
+        ask(watch, "GET", "/api/v1/namespaces/other/pods?watch=1")
+        for number in range(QUIET):
+            ask(root, "PATCH", f"{MAPS}/m{number:06}", {"data": {"k": str(number)}})
+        ask(root, "DELETE", MAPS)
+        rest(server, 0.2)
+        watch.settimeout(1)
+        try:
+            shown = watch.recv(65536)
+        except TimeoutError:
+            shown = b""
+    return judge(f"a deletion of {REMOVED:,} objects", [("bytes shown to a watch that it does not concern, 0 or a 410", len(shown), None)])
+
+
+ATTACKS = {it.__name__: it for it in (greedy, flood, silent, stalled, idle, spin, line, readers, selector, window, memory, missing, rules, labels, groups, repeats)}
+ATTACKS["list"] = long_list
+
+
+def attack(program, name):
+    """Makes an attack on free ports. Whether it stays within its bounds."""
+    take_ports()
+    print(f"{name} on {ports.ROOT}, {ports.ANN} and {ports.ANSWER}:", end=" ", flush=True)
+    return ATTACKS[name](program)
 
 
 def main(program, *names):
     resource.setrlimit(resource.RLIMIT_NOFILE, (min(4096, resource.getrlimit(resource.RLIMIT_NOFILE)[1]),) * 2)
-    return 0 if all([ATTACKS[name](program) for name in names or ATTACKS]) else 1
+    return 0 if all([attack(program, name) for name in names or ATTACKS]) else 1
 
 
 if __name__ == "__main__":

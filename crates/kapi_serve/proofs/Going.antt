@@ -264,7 +264,7 @@ goes_unturned m b o makes none = goes_quiet m b m.seats m.report (turns (turned_
 makes_sent : (a b : Running) (ev : Event) (o : Option Output) (out : Output) → Makes a b ev (sent_if o) → o ≡ Some out → Makes a b ev (answer.Sent out)
 makes_sent a b ev o out makes some = subst (λ x. Makes a b ev (sent_if x)) some makes
 
-makes_nothing : (a b : Running) (ev : Event) (o : Option Output) → Makes a b ev (sent_if o) → o ≡ None → Makes a b ev answer.Nothing
+pub makes_nothing : (a b : Running) (ev : Event) (o : Option Output) → Makes a b ev (sent_if o) → o ≡ None → Makes a b ev answer.Nothing
 makes_nothing a b ev o makes none = subst (λ x. Makes a b ev (sent_if x)) none makes
 
 -- a step of a client, whose changes are published

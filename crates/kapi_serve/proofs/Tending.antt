@@ -105,6 +105,12 @@ keeps_blocked c = record { id = refl; phase = refl; fed = refl; watching = refl;
 pub keeps_shown : (c : Client) (b : Bool) → Keeps c (record c { shown = b })
 keeps_shown c b = record { id = refl; phase = refl; fed = refl; watching = refl; counted = λ h. h }
 
+pub keeps_held : (c : Client) (n : ℕ) → Keeps c (record c { held = true; refused = n })
+keeps_held c n = record { id = refl; phase = refl; fed = refl; watching = refl; counted = λ h. h }
+
+pub waits_held : (c : Client) (n : ℕ) → Waits c (record c { held = true; refused = n })
+waits_held c n = record { seat = refl; phase = refl; blocked = refl; count = refl }
+
 pub waits_shown : (c : Client) (b : Bool) → Waits c (record c { shown = b })
 waits_shown c b = record { seat = refl; phase = refl; blocked = refl; count = refl }
 
@@ -447,6 +453,23 @@ stands_roused m cs aw bw i c below is awake more s =
       rise = rise_set cs i c e s.rise below (ap (λ x. x.id) is);
       asleep = each_put (λ x. IsAwakeOrQuiet bw x) cs i e (awake_more aw bw cs more s.asleep) (inl (subst (λ x. Has bw x.id.0) (sym is) awake));
     }
+
+-- a step of a client may be made that was held back, or is held back
+pub stands_held : (m : Machine) (cs : List Client) (aw : List ℕ) (i : ℕ) (c : Client) (b : Bool) → i < length cs → c ≡ get_or cs i c → AllSuit m cs aw → AllSuit m (set cs i (record c { held = b })) aw
+stands_held m cs aw i c b below is s =
+    let e : Client = record c { held = b } in
+    let own : Suits m c = subst (λ x. Suits m x) (sym is) (each_at (λ x. Suits m x) cs i c s.suit below) in
+    let asleep : IsAwakeOrQuiet aw c = subst (λ x. IsAwakeOrQuiet aw x) (sym is) (each_at (λ x. IsAwakeOrQuiet aw x) cs i c s.asleep below) in
+    record {
+      numbered = s.numbered;
+      suit = each_put (λ x. Suits m x) cs i e s.suit (suits_kept m c e (record { id = refl; phase = refl; fed = refl; watching = refl; counted = λ h. h }) own);
+      rise = rise_set cs i c e s.rise below (ap (λ x. x.id) is);
+      asleep = each_put (λ x. IsAwakeOrQuiet aw x) cs i e s.asleep (by_case asleep);
+    }
+  where
+    by_case : IsAwakeOrQuiet aw c → IsAwakeOrQuiet aw (record c { held = b })
+    by_case (inl has) = inl has
+    by_case (inr quiet) = inr (record { phase = quiet.phase; fed = quiet.fed; shown = quiet.shown; owed = quiet.owed })
 
 -- one client more may have something to show
 called_next : (o : Option (List ℕ)) (cs : List Client) (n : ℕ) → HoldsAt (λ c. is_called o c.watching ≡ true → c.shown ≡ false) cs n → AreCalled o n cs → AreCalled o (suc n) cs

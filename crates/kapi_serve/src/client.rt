@@ -4,9 +4,13 @@ ghost use Rattle.kapi_serve.specs.Private.Clients.{seat_of};
 ghost use Rattle.kapi_serve.specs.Private.Moments.{GoesFor, Writes, stage};
 ghost use Rattle.kapi_serve.specs.Private.Pieces.{IsCounted, IsSent, owed};
 ghost use Rattle.kapi_core.specs.Concerns.{is_among};
+ghost use Rattle.kapi_core.specs.Refines.{Makes};
+ghost use Rattle.kapi_core.specs.declared.event.Answer.TheVariants as answer;
+ghost use Rattle.kapi_core.specs.declared.event.Event.TheVariants as event;
 ghost use Rattle.kapi_serve.specs.Private.Stands.{is_called as is_called_of};
 ghost use Rattle.kapi_serve.specs.Private.Stands.{AreMarked, Finishes, IsQuiet, IsServed, Keeps, Tends, Waits};
 ghost use Rattle.kapi_desk.specs.Steps.{step_of};
+ghost use Rattle.kapi_serve.specs.Ports.{Adds};
 ghost use Rattle.kapi_serve.specs.Shows.{Shows};
 ghost use Rattle.kapi_serve.specs.declared.client.Flushed.TheVariants as flush;
 ghost use Rattle.kapi_serve.specs.declared.client.Phase.TheVariants as phase;
@@ -58,6 +62,10 @@ pub struct Client {
     pub(crate) shown: bool,
     /// The slot takes no bytes until it reports that it does.
     pub(crate) blocked: bool,
+    /// A step found no memory, and is not made again before the ports let it.
+    pub(crate) held: bool,
+    /// How often in a row steps found no memory.
+    pub(crate) refused: u32,
     pub(crate) pending: Pending,
 }
 
@@ -183,14 +191,19 @@ impl Client {
         self.phase != Phase::Closed && !self.pending.is_full()
     }
 
-    /// Whether there is room for an answer, and all steps are published. If not, there was no memory for it.
+    /// Whether a step may be made: there is room for its answer, all steps are published, and it is not held back. If not,
+    /// there was no memory for it.
     fn is_ready(&mut self, publishing: &Publishing, desk: &Desk) -> bool
         ensures room { result ≡ true → deque_len self.new.pending.behind < deque_capacity self.new.pending.behind }
         ensures waiting { result ≡ true → desk.now.waiting ≡ [] }
         ensures kept { result ≡ true → publishing.now.kept ≡ None }
         ensures keeps { Keeps self.old self.new }
         ensures waits { Waits self.old self.new }
+        ensures shown { self.new.shown ≡ self.old.shown }
     {
+        if self.held {
+            return false;
+        }
         if self.pending.reserve().is_err() {
             return false;
         }
@@ -229,7 +242,7 @@ impl Client {
                 self.fed = false;
                 self.finish(core)
             }
-            Err(_refused) => Progress::Starved,
+            Err(_refused) => self.hold(),
         }
     }
 
@@ -244,6 +257,7 @@ impl Client {
         ensures goes { GoesFor (stage core.old desk.old publishing.old) (stage core.new desk.new publishing.new) self.old self.new }
         ensures tends { Tends core.old core.new self.old self.new }
         ensures still { result ≡ progress.Still → Waits self.old self.new × Keeps self.old self.new }
+        ensures shown { self.new.shown ≡ true → (self.old.shown ≡ true) ⊎ Makes core.old core.new (event.Pump self.new.id) answer.Nothing }
     {
         if self.watching.is_none() {
             return Progress::Still;
@@ -266,8 +280,31 @@ impl Client {
                 self.shown = true;
                 Progress::Still
             }
-            Err(_refused) => Progress::Starved,
+            Err(_starved) => self.hold(),
         }
+    }
+
+    /// Whether a step that is held back may be made: at once if none was refused, else as the ports say.
+    pub(crate) fn ask<Q: Ports>(&self, ports: &mut Q) -> Result<(), PortFault>
+        ensures { Adds (Q.report ports.old) (Q.report ports.new) [] }
+    {
+        if self.refused == 0 {
+            return Ok(());
+        }
+        ports.retry(self.slot, self.refused)
+    }
+
+    /// Holds the next step back, as this one found no memory.
+    fn hold(&mut self) -> Progress
+        ensures waits { Waits self.old self.new }
+        ensures keeps { Keeps self.old self.new }
+        ensures shown { self.new.shown ≡ self.old.shown }
+        ensures held { (self.new.held ≡ true) × (self.old.refused ≤ self.new.refused) }
+        ensures starved { result ≡ progress.Starved }
+    {
+        self.held = true;
+        self.refused = self.refused.saturating_add(1);
+        Progress::Starved
     }
 
     /// Puts the machine's answer to the pending bytes, and publishes what it changed in the policy.
@@ -288,6 +325,7 @@ impl Client {
         ensures phase { self.new.phase ≡ (if output.close then phase.Closed else self.old.phase) }
         ensures fed { self.new.fed ≡ self.old.fed }
         ensures watching { self.new.watching ≡ self.old.watching }
+        ensures shown { self.new.shown ≡ self.old.shown }
         ensures counted { IsCounted self.old.pending → IsCounted self.new.pending }
     {
         let Output {
@@ -296,6 +334,7 @@ impl Client {
             policy_changes,
         } = output;
         self.pending.push(bytes);
+        self.refused = 0;
         if close {
             self.phase = Phase::Closed;
         }

@@ -1,4 +1,4 @@
-ghost use Rattle.std.specs.Prelude.{◌≡◌, ◌⊎◌, ◌<◌, ◌≤◌, ◌+◌, ℕ, List, Option, [], ◌∷◌, ◌++◌, drop, true, None, IfSome, OnOk, ◌==◌, length, map, option_map, set, suc, vec_len, vec_capacity};
+ghost use Rattle.std.specs.Prelude.{◌≡◌, ◌⊎◌, ◌<◌, ◌≤◌, ◌+◌, ℕ, List, Option, [], ◌∷◌, ◌++◌, drop, true, None, IfSome, OnOk, ◌==◌, length, map, option_map, set, suc, false, vec_len, vec_capacity};
 ghost use Rattle.std.specs.List.{HoldsAt, position};
 ghost use Rattle.kapi_core.specs.Concerns.{concern_on, is_among, is_concerned};
 ghost use Rattle.kapi_core.specs.Machine.{Machine, link_at};
@@ -41,6 +41,8 @@ pub(crate) struct Clients {
     pub(crate) woken: u64,
     /// The revision when all connections with a watch last were.
     roused: u64,
+    /// The connection of which a step that found no memory was last made again.
+    tried: u64,
     /// The places at which connections were last found, by their slots modulo the number of these.
     places: [usize; PLACES],
 }
@@ -65,6 +67,7 @@ impl Clients {
             awake: Awake::new(alloc),
             woken: 0,
             roused: 0,
+            tried: 0,
             places: [0; PLACES],
         }
     }
@@ -143,6 +146,8 @@ impl Clients {
             watching: None,
             shown: false,
             blocked: false,
+            held: false,
+            refused: 0,
             pending: Pending::new(self.alloc),
         });
     }
@@ -213,6 +218,74 @@ impl Clients {
         let client = self.list.remove(index);
         core.close(client.id);
         ports.end(client.slot);
+    }
+
+    /// Lets steps that found no memory be made again, one connection after the other, as far as the ports let them.
+    pub(crate) fn retry<P: Policy + Drop, Q: Ports>(&mut self, core: &mut Core<P>, ports: &mut Q)
+        ensures moves { Moves core.old core.new self.old self.new (Q.report ports.old) (Q.report ports.new) }
+        ensures stands { StandsOn core.old core.new self.old self.new }
+    {
+        for _ in 0..self.awake.len() {
+            let Some(index) = self.next_held() else {
+                return;
+            };
+            if !self.retry_at(core, ports, index) {
+                return;
+            }
+        }
+    }
+
+    /// Lets the step of the connection at a place be made, unless it is too early; or ends the connection, as the ports say.
+    /// Whether the ports may be asked for another.
+    fn retry_at<P: Policy + Drop, Q: Ports>(
+        &mut self,
+        core: &mut Core<P>,
+        ports: &mut Q,
+        index: usize,
+    ) -> bool
+        requires { index < length self.old.list.items }
+        ensures moves { Moves core.old core.new self.old self.new (Q.report ports.old) (Q.report ports.new) }
+        ensures stands { StandsOn core.old core.new self.old self.new }
+    {
+        match self.list[index].ask(ports) {
+            Ok(()) => {
+                self.release(index);
+                true
+            }
+            Err(PortFault::WouldBlock) => false,
+            Err(PortFault::Failed) => {
+                self.end(core, ports, index);
+                true
+            }
+        }
+    }
+
+    /// The place of the next connection of which a step is held back: the first behind the one that was last tried, or
+    /// else the first of all.
+    fn next_held(&self) -> Option<usize>
+        ensures bound { IfSome result (λ i. i < length self.now.list.items) }
+        ensures held { IfSome result (λ i. HoldsAt (λ client. client.held ≡ true) self.now.list.items i) }
+    {
+        let tried = self.tried;
+        let behind = self
+            .list
+            .iter()
+            .position(|client| client.held && client.id.0 > tried);
+        match behind {
+            Some(index) => Some(index),
+            None => self.list.iter().position(|client| client.held),
+        }
+    }
+
+    /// Lets the step of the connection at a place be made.
+    fn release(&mut self, index: usize)
+        requires { index < length self.old.list.items }
+        ensures seats { seats_of self.new.list.items ≡ seats_of self.old.list.items }
+        ensures stands { (m : Machine) → Stands m self.old → Stands m self.new }
+        ensures released { HoldsAt (λ client. client.held ≡ false) self.new.list.items index }
+    {
+        self.tried = self.list[index].id.0;
+        self.list[index].held = false;
     }
 
     /// Notes that a slot takes bytes again, and wakes its connection.

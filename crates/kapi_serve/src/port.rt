@@ -69,6 +69,15 @@ pub trait Ports {
         ensures told { Adds (report self.old) (report self.new) (took slot bytes.now result) }
         ensures failed { result ≡ Err fault.Failed → failures self.old < failures self.new };
 
+    /// Whether a step of a slot that found no memory, so often in a row, may be made again: not yet where that would block,
+    /// and never where the slot is broken.
+    fn retry(&mut self, _slot: usize, _refused: u32) -> Result<(), PortFault>
+        ensures told { Adds (report self.old) (report self.new) [] }
+        ensures failed { result ≡ Err fault.Failed → failures self.old < failures self.new }
+    {
+        Ok(())
+    }
+
     /// Ends a slot.
     fn end(&mut self, slot: usize)
         ensures told { Adds (report self.old) (report self.new) (entry.Ended slot ∷ []) };

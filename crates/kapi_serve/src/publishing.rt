@@ -21,6 +21,8 @@ const TURNS: u32 = 64;
 pub struct Publishing {
     kept: Option<PolicyStep>,
     turns: u32,
+    /// A turn found no memory, and is not made again before the next event of the ports.
+    held: bool,
 }
 
 impl Publishing {
@@ -30,6 +32,7 @@ impl Publishing {
         Publishing {
             kept: None,
             turns: 0,
+            held: false,
         }
     }
 
@@ -78,11 +81,12 @@ impl Publishing {
         self.kept = refused(rt, desk, step);
     }
 
-    /// Tries again to publish a step that was refused.
+    /// Tries again to publish a step that was refused, and lets a turn be made again.
     #[tactic(auto, using(crate::proofs::Showing::shows_on_nothing, crate::proofs::Showing::shows_again))]
     pub(crate) fn retry<R: Wait>(&mut self, rt: &R, desk: &mut Desk)
         ensures { Shows desk.old desk.new self.old.kept self.new.kept [] }
     {
+        self.held = false;
         retry(rt, desk);
         if waits(desk) {
             return;
@@ -127,6 +131,9 @@ impl Publishing {
         if self.turns == 0 {
             return Progress::Still;
         }
+        if self.held {
+            return Progress::Starved;
+        }
         if !self.is_free(desk) {
             return Progress::Starved;
         }
@@ -140,7 +147,10 @@ impl Publishing {
                 self.turns = 0;
                 Progress::Still
             }
-            Err(_refused) => Progress::Starved,
+            Err(_refused) => {
+                self.held = true;
+                Progress::Starved
+            }
         }
     }
 }

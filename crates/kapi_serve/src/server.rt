@@ -69,6 +69,7 @@ impl Server {
     {
         self.publishing.retry(rt, desk);
         let _noted = self.take(rt, core, desk, ports, buffer, event);
+        self.clients.retry(core, ports);
         self.settle(rt, core, desk, ports)
     }
 

@@ -178,6 +178,14 @@ impl Slots {
         read
     }
 
+    /// Whether a slot has no stream, or one with no bytes that are yet to be read.
+    pub(crate) fn is_read(&self, slot: usize) -> bool {
+        match self.streams.get(slot) {
+            Some(Some(stream)) => stream.is_read(),
+            _ => true,
+        }
+    }
+
     /// Writes to the stream of a slot, if there is one, within its share.
     pub(crate) fn write(
         &mut self,

@@ -1,4 +1,4 @@
-ghost use Rattle.std.specs.Prelude.{◌≡◌, ◌<◌, ◌≤◌, ◌||◌, ◌++◌, ◌∷◌, [], All, HoldsAt, IfOk, IfSome, None, OnOk, Some, false, true, vec_len};
+ghost use Rattle.std.specs.Prelude.{◌≡◌, ◌<◌, ◌≤◌, ◌||◌, ◌++◌, ◌∷◌, [], All, Err, HoldsAt, IfOk, IfSome, None, OnOk, Some, false, true, vec_len};
 ghost use Rattle.mio.specs.Event.{event_token};
 ghost use Rattle.std.specs.IoError.{error_kind};
 ghost use Rattle.std.specs.List.{list_any};
@@ -28,6 +28,9 @@ const EVENTS: usize = 256;
 /// The longest wait, in milliseconds.
 const WAIT: u64 = 100;
 
+/// After so many refusals in a row for want of memory a client is ended.
+const MOST_REFUSED: u32 = 10;
+
 /// The number of clients that are accepted before the open ones have their turn again.
 const MOST_ACCEPTED: usize = 16;
 
@@ -42,6 +45,8 @@ pub struct Sockets<C: Clock + Drop> {
     slots: Slots,
     /// The time at which the round began.
     now: Duration,
+    /// The time since which no step was made again that found no memory; none in the round in which one was.
+    spared: Option<Duration>,
     failures: u64,
 }
 
@@ -58,6 +63,7 @@ impl<C: Clock + Drop> Sockets<C> {
             listeners: Vec::new(alloc),
             slots: Slots::new(alloc),
             now: Duration::ZERO,
+            spared: None,
             failures: 0,
         })
     }
@@ -171,6 +177,7 @@ impl<C: Clock + Drop> Sockets<C> {
         self.slots.begin();
         note_all(&mut self.listeners, &mut self.slots, &self.events);
         self.now = self.clock.monotonic().unwrap_or(self.now);
+        self.spared = self.spared.or(Some(self.now));
         Some(())
     }
 
@@ -181,6 +188,16 @@ impl<C: Clock + Drop> Sockets<C> {
         let share = MOST_ACCEPTED / self.listeners.len().max(1);
         for index in 0..self.listeners.len() {
             self.listeners[index].left = share.max(1);
+        }
+    }
+
+    /// Whether no step that found no memory was made again for as long as a wait takes.
+    fn is_spared(&self) -> bool
+        ensures { self.entry.now.spared ≡ None → result ≡ false }
+    {
+        match self.spared {
+            Some(since) => self.now.saturating_sub(since) >= Duration::from_millis(WAIT),
+            None => false,
         }
     }
 
@@ -269,6 +286,21 @@ impl<C: Clock + Drop> Ports for Sockets<C> {
             None => None,
         };
         Err(self.fault(error))
+    }
+
+    fn retry(&mut self, slot: usize, refused: u32) -> Result<(), PortFault>
+        ensures failed { result ≡ Err fault.Failed → self.old.failures < self.new.failures }
+        ensures waits { self.old.spared ≡ None → result ≡ Err fault.WouldBlock }
+        ensures once { OnOk result (self.new.spared ≡ None) }
+    {
+        if !self.is_spared() {
+            return Err(PortFault::WouldBlock);
+        }
+        if refused >= MOST_REFUSED && self.slots.is_read(slot) {
+            return Err(self.fault(None));
+        }
+        self.spared = None;
+        Ok(())
     }
 
     fn end(&mut self, slot: usize)

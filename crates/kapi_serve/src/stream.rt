@@ -1,4 +1,4 @@
-ghost use Rattle.std.specs.Prelude.{◌≡◌, ◌||◌, ◌+◌, ◌<◌, ◌≤◌, None, Some, true, false, IfOk, IsErr, length};
+ghost use Rattle.std.specs.Prelude.{not, ◌≡◌, ◌||◌, ◌+◌, ◌<◌, ◌≤◌, None, Some, true, false, IfOk, IsErr, length};
 ghost use Rattle.std.specs.declared.time.Duration.{Duration as ADuration};
 ghost use Rattle.mio.specs.Event.{is_error, is_read_closed, is_writable};
 ghost use Rattle.kapi_serve.specs.Private.Turns.{may_be_read, turn_of};
@@ -98,6 +98,13 @@ impl Stream {
         ensures { result ≡ (self.now.writable || self.now.readable) }
     {
         self.writable || self.readable
+    }
+
+    /// Whether no bytes are yet to be read.
+    pub(crate) fn is_read(&self) -> bool
+        ensures { result ≡ not self.now.readable }
+    {
+        !self.readable
     }
 
     /// Reads within the share. When it is used up, or writes wait for their turn, reading goes on at the next turn. A

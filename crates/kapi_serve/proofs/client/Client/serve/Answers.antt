@@ -1,7 +1,7 @@
 use Rattle.kapi_core.specs.declared.event.Event.TheVariants as event
 use Rattle.std.proofs.Common.{◌++◌, ◌∷◌, false, refl, sym, ap, ◌∙◌, inl}
 use Rattle.kapi_serve.specs.Private.Clients.{seat_of}
-use Rattle.kapi_serve.proofs.Tending.{finished_still, keeps_nothing, tends_nothing, tends_out, tends_served, tends_unserved, unopen_served, waits_nothing}
+use Rattle.kapi_serve.proofs.Tending.{finished_still, keeps_nothing, keeps_on, tends_nothing, tends_out, tends_served, tends_unserved, unopen_served, waits_nothing}
 use Rattle.kapi_serve.proofs.Going.{adds_nothing, goes_finished, goes_nothing, goes_on, goes_out, goes_served, goes_still, goes_unserved}
 use Rattle.kapi_serve.proofs.client.Client.serve.Goals as goal
 
@@ -21,7 +21,7 @@ returns-in-Ok-None-clause-goes g c = λ front back.
     (goes_finished _ _ _ front back (record c.is_ready.new.self { fed = false }) c.finish.new.self _ refl refl c.finish.ensures)
 
 pub returns-in-Err-clause-goes : goal.returns-in-Err-clause-goes
-returns-in-Err-clause-goes g c = λ front back. goes_out _ _ _ (event.Serve c.is_ready.new.self.id) c.in-Err.ensures (ap (λ z. front ++ z ∷ back) c.is_ready.ensures.waits.seat)
+returns-in-Err-clause-goes g c = λ front back. goes_out _ _ _ (event.Serve c.is_ready.new.self.id) c.in-Err.ensures (ap (λ z. front ++ z ∷ back) (c.hold.ensures.waits.seat ∙ c.is_ready.ensures.waits.seat))
 
 pub returns-then-not-self-clause-tends : goal.returns-then-not-self-clause-tends
 returns-then-not-self-clause-tends g c = tends_nothing _ _ _ (keeps_nothing _)
@@ -42,7 +42,7 @@ pub returns-then-not-is_ready-clause-tends : goal.returns-then-not-is_ready-clau
 returns-then-not-is_ready-clause-tends g c = tends_nothing _ _ _ c.is_ready.ensures.keeps
 
 pub returns-in-Err-clause-tends : goal.returns-in-Err-clause-tends
-returns-in-Err-clause-tends g c = tends_out _ _ _ _ (event.Serve c.is_ready.new.self.id) c.in-Err.ensures c.is_ready.ensures.keeps
+returns-in-Err-clause-tends g c = tends_out _ _ _ _ (event.Serve c.is_ready.new.self.id) c.in-Err.ensures (keeps_on _ _ _ c.is_ready.ensures.keeps c.hold.ensures.keeps)
 
 pub returns-in-Ok-Some-clause-tends : goal.returns-in-Ok-Some-clause-tends
 returns-in-Ok-Some-clause-tends g c =

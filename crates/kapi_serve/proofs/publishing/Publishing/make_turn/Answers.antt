@@ -7,6 +7,9 @@ use Rattle.kapi_serve.proofs.publishing.Publishing.make_turn.Goals as goal
 pub returns-then-self-eq0-clause-goes : goal.returns-then-self-eq0-clause-goes
 returns-then-self-eq0-clause-goes g c = λ s. goes_nothing _
 
+pub returns-then-self-clause-goes : goal.returns-then-self-clause-goes
+returns-then-self-clause-goes g c = λ s. goes_nothing _
+
 pub returns-then-not-is_free-clause-goes : goal.returns-then-not-is_free-clause-goes
 returns-then-not-is_free-clause-goes g c = λ s. goes_nothing _
 
@@ -21,6 +24,9 @@ returns-in-Err-clause-goes g c = λ s. goes_out _ _ _ event.Turn c.in-Err.ensure
 
 pub returns-then-self-eq0-clause-passes : goal.returns-then-self-eq0-clause-passes
 returns-then-self-eq0-clause-passes g c = passes_nothing _
+
+pub returns-then-self-clause-passes : goal.returns-then-self-clause-passes
+returns-then-self-clause-passes g c = passes_nothing _
 
 pub returns-then-not-is_free-clause-passes : goal.returns-then-not-is_free-clause-passes
 returns-then-not-is_free-clause-passes g c = passes_nothing _

@@ -1,0 +1,11 @@
+use Rattle.std.proofs.Common.{ap, false}
+use Rattle.kapi_serve.specs.Private.Clients.{seat_of}
+use Rattle.kapi_serve.proofs.Placing.{seats_same}
+use Rattle.kapi_serve.proofs.Tending.{stands_held}
+use Rattle.kapi_serve.proofs.clients.Clients.release.Goals as goal
+
+pub returns-clause-seats : goal.returns-clause-seats
+returns-clause-seats c = seats_same c.args.self.now.list.items c.args.index _ c.index_mut.result.now (ap seat_of c.index_mut.ensures.value)
+
+pub returns-clause-stands : goal.returns-clause-stands
+returns-clause-stands c = λ m s. stands_held m c.args.self.now.list.items c.args.self.now.awake.numbers.items c.args.index c.index_mut.result.now false c.requires c.index_mut.ensures.value s
