@@ -51,9 +51,23 @@ READER, READERS = role("Role", "shop/reader", "get,delete", "pods"), bound("Role
 BEFORE = item("Namespace", "shop") + SEER + READER + READERS
 AFTER = BEFORE.replace("delete", "list") + bound("ClusterRoleBinding", "olga-sees", "ClusterRole seer", "User olga")
 ACTORS = role("Role", "actor", "impersonate", "users") + bound("RoleBinding", "actors", "Role actor", "User bob")
+TWO = [{"apiGroups": [""], "resources": ["pods"], "verbs": it} for it in (["get"], ["get", "list"])]
+DANGLES = item("ServiceAccount", "shop/till") + role("Role", "shop/idle", "get", "pods") + item("Role", "shop/two", rules=TWO) + bound("RoleBinding", "shop/twos", "Role two", "ServiceAccount robot") \
+    + role("ClusterRole", "typo", "get", "podz") + bound("ClusterRoleBinding", "typos", "ClusterRole typo", "User ann")
 QUESTIONS = question("ann", "list", "pods") + question("ann", "delete", "pods") + question("bob", "get", "pods") + question("ann", "get", "pods").rstrip()
 MAPS, MAP = "/api/v1/namespaces/default/configmaps", {it: item("ConfigMap", f"default/{it}", data={"k": it}) for it in "ab"}
+
+
+def event(user, verb, decision, name="", resource="pods"):
+    """An event of an audit log."""
+    reference = {"resource": resource, "namespace": "shop", "name": name, "apiVersion": "v1"}
+    return text_of({"kind": "Event", "apiVersion": "audit.k8s.io/v1", "stage": "ResponseComplete", "verb": verb, "requestURI": "/", "user": {"username": user, "groups": ["system:authenticated"]},
+                    "objectRef": reference, "annotations": {"authorization.k8s.io/decision": decision}}) + "\n"
+
+
+LOG = event("ann", "list", "allow") + event("ann", "create", "allow", "made") + event("bob", "get", "forbid", "web") + event("ann", "get", "forbid", "web") + event("ann", "list", "allow").replace("Complete", "Started")
 FILES = {
+    "dangling": DANGLES, "logged": LOG,
     "before": BEFORE, "after": AFTER, "questions": QUESTIONS, "asked": "list pods shop\nget pods shop", "others": "get nodes *\n",
     "doubtful": AFTER + bound("RoleBinding", "shop/viewers", "ClusterRole view", "User ann"),
     "tills": BEFORE + bound("ClusterRoleBinding", "accounts", "ClusterRole seer", "Group system:serviceaccounts:shop") + bound("RoleBinding", "shop/more", "Role reader", "User bob"),
@@ -82,30 +96,52 @@ def table(*rows):
 
 
 gains = functools.partial(table, "SUBJECT | NAMESPACE | GAINS | BY")
-rights = functools.partial(table, "VERBS | RESOURCES | NAMES | SCOPE | BY")
+BASIC = "create | selfsubjectaccessreviews.authorization.k8s.io,selfsubjectrulesreviews.authorization.k8s.io | - | * | ClusterRoleBinding system:basic-user, ClusterRole system:basic-user, rule 0"
+rights = functools.partial(table, "VERBS | RESOURCES | NAMES | SCOPE | BY", BASIC)
 ways = functools.partial(table, "SUBJECT | NAMESPACE | BINDING | RULE", "Group system:masters | * | - | everything",
                          "Group system:masters | * | ClusterRoleBinding cluster-admin | ClusterRole cluster-admin, rule 0")
 SEEN, READ = "get | nodes | - | * | ClusterRoleBinding seers, ClusterRole seer, rule 0", "get,delete | pods | - | shop | RoleBinding readers, Role reader, rule 0"
 OWNED = "get | nodes | - | * | ClusterRoleBinding accounts, ClusterRole seer, rule 0; ClusterRoleBinding seers, ClusterRole seer, rule 0"
 MASTER = "* | * | - | * | Group system:masters"
-LIST, DELETE = (f'User ann | shop | ["{verb}","","pods"] | RoleBinding readers, Role reader, rule 0' for verb in ("list", "delete"))
-OLGA = 'User olga | * | ["get","","nodes"] | ClusterRoleBinding olga-sees, ClusterRole seer, rule 0'
-EVE = 'User eve | {} | ["impersonate","","users"] | RoleBinding others, Role actor, rule 0'
+LIST, DELETE = (f"User ann | shop | {verb} pods | RoleBinding readers, Role reader, rule 0" for verb in ("list", "delete"))
+OLGA = "User olga | * | get nodes | ClusterRoleBinding olga-sees, ClusterRole seer, rule 0"
+EVE = "User eve | {} | ! impersonate users | RoleBinding others, Role actor, rule 0"
+ATOMS = [it.replace("list pods", '["list","","pods"]').replace("get nodes", '["get","","nodes"]') for it in (OLGA, LIST)]
 ANN, BOB = "User ann | shop | RoleBinding readers | Role reader, rule 0", "User bob | {} | RoleBinding actors | Role actor, rule 0"
 SEES = "User olga | * | ClusterRoleBinding olga-sees | ClusterRole seer, rule 0", "Group system:authenticated | * | ClusterRoleBinding seers | ClusterRole seer, rule 0"
 BY = '"binding":"readers","bindingKind":"RoleBinding","namespace":"shop","role":"reader","roleKind":"Role","rule":0,"subject":"ann","subjectKind":"User"}\n'
 BY_OLGA = '"binding":"olga-sees","bindingKind":"ClusterRoleBinding","namespace":"","role":"seer","roleKind":"ClusterRole","rule":0,"subject":"olga","subjectKind":"User"}\n'
 JSON = '{"subject":"system:masters","subjectKind":"Group"}\n{"binding":"cluster-admin","bindingKind":"ClusterRoleBinding","namespace":"",' \
     '"role":"cluster-admin","roleKind":"ClusterRole","rule":0,"subject":"system:masters","subjectKind":"Group"}\n'
-WHAT_JSON = '{"by":[{"binding":"seers","bindingKind":"ClusterRoleBinding","role":"seer","roleKind":"ClusterRole","rule":0}],"namespace":"",' \
+WHAT_JSON = '{"by":[{"binding":"system:basic-user","bindingKind":"ClusterRoleBinding","role":"system:basic-user","roleKind":"ClusterRole","rule":0}],"namespace":"",' \
+    '"rule":{"apiGroups":["authorization.k8s.io"],"resources":["selfsubjectaccessreviews","selfsubjectrulesreviews"],"verbs":["create"]}}\n' \
+    '{"by":[{"binding":"seers","bindingKind":"ClusterRoleBinding","role":"seer","roleKind":"ClusterRole","rule":0}],"namespace":"",' \
     '"rule":{"apiGroups":[""],"resources":["nodes"],"verbs":["get"]}}\n' \
     '{"by":[{"binding":"readers","bindingKind":"RoleBinding","role":"reader","roleKind":"Role","rule":0}],"namespace":"shop",' \
     '"rule":{"apiGroups":[""],"resources":["pods"],"verbs":["get","delete"]}}\n'
 NOTHING = "Through roles and bindings, nothing that others without the verb impersonate write lets anybody do what neither that one nor any of them was allowed. kapi paths lists other ways.\n"
 ALLOWED = "allowed RoleBinding readers, Role reader, rule 0\n"
 HEALTHY = r"out HTTP/1.1 200 OK\r\nContent-Type: text/plain\r\nContent-Length: 2\r\n\r\nok"
-ONE, TWO = (f"{place}\n  asked  GET /healthz\n  wanted {wanted}\n  got    {HEALTHY}\n{place[:3]}: {answers} checks, 1 not as wanted\n"
+ONE, TWO = (f"{place}\n  asked  GET /healthz\n  wanted {wanted}\n  got    {HEALTHY}\n  why    allowed by group system:masters\n{place[:3]}: {answers} checks, 1 not as wanted\n"
             for place, wanted, answers in (("one:6", "> ?", 2), ("two:8", "= 403", 3)))
+DANGLING = "dangling:2: Role shop/idle: nothing binds it\ndangling:3: Role shop/two: rule 1 covers rule 0\n" \
+    "dangling:4: RoleBinding shop/twos: there is no ServiceAccount shop/robot\ndangling:5: ClusterRole typo: rule 0: no kind serves the resource podz\n"
+
+
+def suggested(*places):
+    """The objects that are suggested for rules of users in the namespace shop."""
+    text = ""
+    for number, (user, verbs) in enumerate(places, 1):
+        place = f"shop/suggested-{number}"
+        parts = [item("Role", place, rules=[{"apiGroups": [""], "resources": ["pods"], "verbs": verbs.split(",")}]), item("RoleBinding", place, roleRef=REFERENCE | {"name": f"suggested-{number}"}, subjects=[SUBJECT | {"name": user}])]
+        text += "".join(text_of(json.loads(it)) + "\n" for it in (json.dumps(json.loads(part), sort_keys=True) for part in parts))
+    return text
+
+
+REFERENCE, SUBJECT = {"apiGroup": "rbac.authorization.k8s.io", "kind": "Role"}, {"apiGroup": "rbac.authorization.k8s.io", "kind": "User"}
+SUGGESTED, SUGGESTED_AFTER, LOGGED = suggested(("ann", "list,delete,get"), ("bob", "get")), suggested(("ann", "list,get")), suggested(("ann", "list,create"))
+AUDITED = "line 2: the log allowed, the policy refuses: User ann: create pods in namespace shop\nline 4: the log refused, the policy allows: User ann: get pods named web in namespace shop\n" \
+    "refused 1 times: User ann: create pods in namespace shop\nrefused 1 times: User bob: get pods named web in namespace shop\n"
 CASES = [
     *[Case(it, "kapi 0.1.0\n") for it in ("--version", "-V")], Case("script"),
     Case("script", f"conn 0\nok\n{HEALTHY}\n", input="open root,system:masters\nfeed 0 GET /healthz HTTP/1.1\\r\\nHost: a\\r\\n\\r\\n\nserve 0"),
@@ -119,9 +155,14 @@ CASES = [
     *[Case(f"compare {it}", gains(OLGA, LIST), status) for it, status in (("before doubtful", 3), ("--strict before after", 3), ("--strict before doubtful", 1))],
     Case("compare --strict doubtful before", gains(DELETE), 1),
     Case("compare --strict after after", "Nobody gains.\n"),
+    Case("compare --atoms before after", gains(*ATOMS), 3), Case("compare --lost before after", gains(DELETE), 3),
+    Case("compare --lost --atoms after before", gains(*ATOMS), 3),
+    Case("compare --format markdown before after", "| SUBJECT | NAMESPACE | GAINS | BY |\n|---|---|---|---|\n" + "".join(f"| {it} |\n" for it in (OLGA, LIST)), 3),
+    Case("compare --format table before after", gains(OLGA, LIST), 3), Case("compare --format text before after", "", 2),
     *[Case(it, "", 1) for it in ("compare homeless more", "who homeless impersonate users", "risks homeless")],
     *[Case(f"compare homeless more --namespace {it}", gains(EVE.format(it)), 3) for it in ("shop", "web")],
-    *[Case(f"who after list pods {it}", ways(*[ANN] * ("shop" in it))) for it in ("", "--namespace shop", "--namespace web")],
+    *[Case(f"who after list pods {it}", ways(*[ANN] * (it in ("", "--namespace shop")))) for it in ("", "--namespace shop", "--namespace web", "--cluster")],
+    Case("who after list po --namespace shop", ways(ANN)), Case("who after list pods --namespace shop --cluster", "", 2),
     *[Case(f"who after list pods --namespace shop {it}", f"{JSON}{{{BY}") for it in ("--json", "--strict --json")],
     *[Case(f"who doubtful get nodes {it}", ways(*SEES), it == "--strict") for it in ("", "--strict")],
     *[Case(f"who homeless impersonate users --namespace {it}", ways(BOB.format(it))) for it in ("shop", "web")],
@@ -139,6 +180,14 @@ CASES = [
     *[Case(f"risks homeless --namespace {it}", ways(BOB.format(it)) + NOTHING) for it in ("shop", "web")],
     Case("risks homeless --namespace shop --json", JSON + "{" + BY.replace("reader", "actor").replace("ann", "bob") + '{"settled":true}\n'),
     *[Case(f"risks {it}", ways() + NOTHING, it == "doubtful --strict") for it in ("doubtful", "doubtful --strict", "after --strict", "folder")],
+    *[Case(f"check {it}", "", 0) for it in ("before", "folder")],
+    Case("check doubtful", "doubtful:7: RoleBinding shop/viewers: ClusterRole view is not in the policy: it gives nothing\n", 3),
+    Case("check dangling", DANGLING, 3),
+    Case("check --json doubtful", '{"file":"doubtful","finding":"RoleBinding shop/viewers: ClusterRole view is not in the policy: it gives nothing","line":7}\n', 3),
+    Case("suggest questions", SUGGESTED), Case("suggest --policy after questions", SUGGESTED_AFTER),
+    Case("suggest --log logged", LOGGED), Case("suggest before", "", 1),
+    *[Case(f"audit {it} after logged --log", AUDITED, 3) for it in ("", "--manifests")],
+    Case("audit --json before questions", '{"allowed":false}\n{"allowed":true,"reason":"RoleBinding readers, Role reader, rule 0"}\n' * 2),
     Case("risks owned", ways("User bob | * | ClusterRoleBinding scoped | ClusterRole scopes, rule 0") + NOTHING),
     Case("risks - --namespace shop", ways(BOB.format("shop")) + NOTHING, input=ACTORS.rstrip()),
     *[Case(f"replay {words}", told, 1) for words, told in (("one", ONE), ("one two", ONE + TWO), ("two one", TWO + ONE))],

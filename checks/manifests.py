@@ -91,7 +91,7 @@ FORMS = [
     who("\xef\xbb\xbf" + lines(*POLICY).replace("\n", "\r\n"), ADMIN, ANN),
     who(pretty(listed(*OTHERS, *POLICY)), ADMIN, ANN, error=SKIPPED),
     who(lines(thing("Role", "}{\"\\", "shop", rules=[]), *POLICY), ADMIN, ANN),
-    Case("risks - --namespace shop", 0, "", re.compile("SUBJECT.*\n(Group.*\n){2}Nothing.*\n"), input=BARE),
+    Case("risks - --namespace shop", 0, "", re.compile("SUBJECT.*\n(Group.*\n){2}Through roles.*\n"), input=BARE),
     who(BARE, ADMIN, ANN),
     refused(BARE, "policy:1: " + HOMELESS.format("Role", "reader"), "policy:2: " + HOMELESS.format("RoleBinding", "readers")),
 ]

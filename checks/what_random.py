@@ -20,6 +20,8 @@ ACCOUNT = "system:serviceaccount:"
 ACCOUNTS = [f"{ACCOUNT}{namespace}:bot" for namespace in NAMESPACES]
 OWN = {user: ["system:serviceaccounts", f"system:serviceaccounts:{user.split(':')[2]}"] for user in ACCOUNTS}
 SUBJECTS = [("User", user) for user in USERS + ACCOUNTS] + [("Group", group) for group in [*GROUPS, "system:serviceaccounts", "system:serviceaccounts:east", "system:authenticated"]]
+BASIC = ("", "system:basic-user")
+REVIEWS = {"apiGroups": ["authorization.k8s.io"], "resources": ["selfsubjectaccessreviews", "selfsubjectrulesreviews"], "verbs": ["create"]}
 LISTS = ["verbs", "resources", "apiGroups", "resourceNames", "nonResourceURLs"]
 
 
@@ -69,6 +71,8 @@ def asked(program, seed, number):
     lines = [json.loads(line) for line in ran.stdout.splitlines()]
     if ran.returncode != 0:
         return lines, [f"status {ran.returncode}, {ran.stderr!r}"]
+    # Every policy has the role by which users review their own access.
+    made = ({**made[0], BASIC: [REVIEWS]}, {**made[1], BASIC: (BASIC, [("Group", "system:authenticated")])})
     return lines, faults(made, (user, (*groups, *OWN.get(user, []), "system:authenticated")), within, lines)
 
 

@@ -16,6 +16,7 @@ use Rattle.kapi_access.specs.Answers.{gains_text}
 use Rattle.kapi_access.specs.Lines as lined
 use Rattle.kapi_access.specs.Lines.{LineError, answered_lines}
 use Rattle.kapi_access.specs.declared.answer.Form.{Form}
+use Rattle.kapi_access.specs.declared.answer.Shown.{Shown}
 use Rattle.kapi_access.specs.declared.lines.LineFault.{LineFault}
 use Rattle.kapi_access.specs.declared.lines.LineFault.TheVariants as line_fault
 use Rattle.kapi_loading.specs.Settled.{is_settled}
@@ -55,12 +56,12 @@ pub loaded_policy : (policy : PolicyObjects) (settled : Bool) (given : Result Ma
 loaded_policy policy settled given m is p e = (m, is, record { policy = p; settled = e })
 
 -- the policies of a comparison are those of the machines
-pub compared : (f : Form) (who : Identities) (before after : LoadedPolicy) (b a : Machine) (text : List ℕ) (gains : Bool) → IsPolicyOf before b → IsPolicyOf after a
-    → text ≡ gains_text f (gained who before.policy after.policy) → gains ≡ not (length (gained who before.policy after.policy) == 0)
-    → record { text = text; gains = gains; before_settled = before.settled; after_settled = after.settled } ≡ comparison f who b a
-compared f who before after b a text gains hb ha et eg =
+pub compared : (f : Form) (s : Shown) (who : Identities) (before after : LoadedPolicy) (b a : Machine) (text : List ℕ) (gains : Bool) → IsPolicyOf before b → IsPolicyOf after a
+    → text ≡ gains_text f s (gained who before.policy after.policy) → gains ≡ not (length (gained who before.policy after.policy) == 0)
+    → record { text = text; gains = gains; before_settled = before.settled; after_settled = after.settled } ≡ comparison f s who b a
+compared f s who before after b a text gains hb ha et eg =
     let both : gained who before.policy after.policy ≡ gained who (policy_of b) (policy_of a) = ap₂ (gained who) hb.policy ha.policy in
-    let te : text ≡ gains_text f (gained who (policy_of b) (policy_of a)) = et ∙ ap (gains_text f) both in
+    let te : text ≡ gains_text f s (gained who (policy_of b) (policy_of a)) = et ∙ ap (gains_text f s) both in
     let ge : gains ≡ not (length (gained who (policy_of b) (policy_of a)) == 0) = eg ∙ ap (λ l. not (length l == 0)) both in
     λ i. record { text = te i; gains = ge i; before_settled = hb.settled i; after_settled = ha.settled i }
 

@@ -13,8 +13,8 @@ use Rattle.clap.specs.declared.error.kind.ErrorKind.{ErrorKind}
 use Rattle.clap.specs.declared.error.kind.ErrorKind.TheVariants.{DisplayHelp, DisplayVersion, OutOfMemory}
 use Rattle.clap.specs.declared.parser.matches.ArgMatches.{ArgMatches}
 use Rattle.clap.proofs.OnLiterals.{clap_on_literals}
-use Rattle.kapi.specs.Asked.{AreWrong, Asked, Names, Reads, Risks, Shows, What, Who, asked, asked_by, compare_in, files_in, is_shown, options_in, paths_in, risks_in, told, transcripts_in, what_in, who_in}
-use Rattle.kapi.specs.Asked.{AskPaths, AskRisks, AskWhat, AskWho, Audit, Compare, Replay, Script, Serve, Show}
+use Rattle.kapi.specs.Asked.{AreWrong, Asked, Names, Reads, Shows, asked, asked_by, asking_in, compare_in, files_in, is_shown, options_in, paths_in, suggest_in, told, transcripts_in, what_in, who_in}
+use Rattle.kapi.specs.Asked.{AskPaths, AskRisks, AskWhat, AskWho, Audit, Check, Compare, Replay, Script, Serve, Show, Suggest}
 use Rattle.kapi.specs.CommandLine.{kapi}
 use Rattle.kapi.specs.declared.program.Command.{Command}
 use Rattle.kapi.specs.declared.program.Command.TheVariants as command
@@ -62,8 +62,10 @@ never_by name rows k =
     (one_of (bytes_eq name (codes "compare")) _ _ k (never_some Compare (λ x k e. cc e) (compare_in rows) k)
     (one_of (bytes_eq name (codes "who")) _ _ k (never_some AskWho (λ x k e. cc e) (who_in rows) k)
     (one_of (bytes_eq name (codes "what")) _ _ k (never_some AskWhat (λ x k e. cc e) (what_in rows) k)
-    (one_of (bytes_eq name (codes "risks")) _ _ k (never_some AskRisks (λ x k e. cc e) (risks_in rows) k)
-    (one_of (bytes_eq name (codes "paths")) _ _ k (never_some AskPaths (λ x k e. cc e) (paths_in rows) k) (λ e. cc e)))))))))
+    (one_of (bytes_eq name (codes "risks")) _ _ k (never_some AskRisks (λ x k e. cc e) (asking_in (codes "POLICY") rows) k)
+    (one_of (bytes_eq name (codes "paths")) _ _ k (never_some AskPaths (λ x k e. cc e) (paths_in rows) k)
+    (one_of (bytes_eq name (codes "check")) _ _ k (never_some Check (λ x k e. cc e) (asking_in (codes "POLICY") rows) k)
+    (one_of (bytes_eq name (codes "suggest")) _ _ k (never_some Suggest (λ x k e. cc e) (suggest_in rows) k) (λ e. cc e)))))))))))
 
 never_shown : (o : Option (Text × List Row)) (k : ErrorKind) → option_and_then (λ p. asked_by p.0 p.1) o ≡ Some (Show k) → ⊥
 never_shown None k e = cc
@@ -76,6 +78,8 @@ names_of words m (Ok (command.Serve o)) e h = e ∙ h
 names_of words m (Ok (command.Replay o)) e h = e ∙ h
 names_of words m (Ok (command.Compare o)) e h = e ∙ h
 names_of words m (Ok (command.Paths o)) e h = e ∙ h
+names_of words m (Ok (command.Check o)) e h = e ∙ h
+names_of words m (Ok (command.Suggest o)) e h = e ∙ h
 names_of words m (Ok (command.Who o)) e h = e ∙ h
 names_of words m (Ok (command.What o)) e h = e ∙ h
 names_of words m (Ok (command.Risks o)) e h = e ∙ h

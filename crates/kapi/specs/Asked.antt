@@ -9,13 +9,16 @@ use Rattle.clap.specs.declared.error.kind.ErrorKind.TheVariants.{DisplayHelp, Di
 use Rattle.kapi.specs.CommandLine.{kapi}
 use Rattle.kapi.specs.Listens.{◌>>=◌, few, listens_of}
 use Rattle.kapi.specs.Numbers.{port_of, readers_of, revision_of}
+use Rattle.kapi_access.specs.declared.answer.Form.{Form}
+use Rattle.kapi_access.specs.declared.answer.Form.TheVariants as form
+use Rattle.kapi.specs.declared.program.Asking.{Asking}
 use Rattle.kapi.specs.declared.program.AuditFiles.{AuditFiles}
 use Rattle.kapi.specs.declared.program.Command.{Command}
 use Rattle.kapi.specs.declared.program.Command.TheVariants as command
 use Rattle.kapi.specs.declared.program.CommandFault.{CommandFault}
-use Rattle.kapi.specs.declared.program.CompareFiles.{CompareFiles}
+use Rattle.kapi.specs.declared.program.CompareWords.{CompareWords}
 use Rattle.kapi.specs.declared.program.PathsWords.{PathsWords}
-use Rattle.kapi.specs.declared.program.RisksFile.{RisksFile}
+use Rattle.kapi.specs.declared.program.SuggestWords.{SuggestWords}
 use Rattle.kapi.specs.declared.program.WhatWords.{WhatWords}
 use Rattle.kapi.specs.declared.program.WhoQuestion.{WhoQuestion}
 use Rattle.kapi.specs.declared.program.WhoQuestion.TheVariants as who_question
@@ -35,10 +38,13 @@ pub record Manifests : Type 0 where
   pub namespace : Text
   pub strict : Bool
 
--- the files of an audit, by their names, how the policy is read where it is manifests, and how many threads answer
+-- the files of an audit, by their names, whether the questions are an audit log, whether JSON is printed, how the policy is read
+-- if it is manifests, and how many threads answer
 pub record Files : Type 0 where
   pub policy : Text
   pub questions : Text
+  pub log : Bool
+  pub json : Bool
   pub manifests : Option Manifests
   pub readers : ℕ
 
@@ -55,25 +61,35 @@ pub record Options : Type 0 where
   pub readers : ℕ
   pub idle_readers : Bool
 
--- the transcripts that are played, by their names, whether they are written, and the file that the outcomes are written to
+-- the transcripts that are played, by their names, whether they are written, whether a doubt fails, and the file that the outcomes
+-- are written to
 pub record Transcripts : Type 0 where
   pub files : List Text
   pub write : Bool
+  pub strict : Bool
   pub junit : Option Text
 
--- the policies that are compared, by the names of their files, whether for identities with their usual groups, and whether JSON is printed
+-- the policy that is asked about, by the name of its file, how it is read, and what is printed
+pub record Ask : Type 0 where
+  pub policy : Text
+  pub reading : Manifests
+  pub form : Form
+
+-- the policies that are compared: the earlier by the name of its file, whether for identities with their usual groups, whether
+-- by atoms, and whether the two change places
 pub record Policies : Type 0 where
   pub before : Text
-  pub after : Text
-  pub reading : Manifests
+  pub after : Ask
   pub usual_groups : Bool
-  pub json : Bool
+  pub atoms : Bool
+  pub lost : Bool
 
--- the words of a question; the namespace and the name are empty where they are left out
+-- the words of a question, and whether it is cluster-wide; the namespace and the name are empty if they are left out
 pub record QuestionWords : Type 0 where
   pub verb : Text
   pub resource : Text
   pub namespace : Text
+  pub cluster : Bool
   pub name : Text
 
 -- the words of a question, or the name of a file of questions
@@ -81,34 +97,31 @@ pub data Question : Type 0 where
   Words : QuestionWords → Question
   File : Text → Question
 
--- the policy that is asked who may do something, by the name of its file, the question, and whether JSON is printed
+-- the policy that is asked who may do something, and the question
 pub record Who : Type 0 where
-  pub policy : Text
+  pub ask : Ask
   pub question : Question
-  pub reading : Manifests
-  pub json : Bool
 
--- the user of whom it is asked what they have, in those groups, by the policy of a file, and whether JSON is printed
+-- the user of whom it is asked what they have, in those groups, by a policy
 pub record What : Type 0 where
-  pub policy : Text
+  pub ask : Ask
   pub user : Text
   pub groups : List Text
-  pub reading : Manifests
-  pub json : Bool
 
--- the policy that is asked who may gain more than it grants, by the name of its file, and whether JSON is printed
-pub record Risks : Type 0 where
-  pub policy : Text
-  pub reading : Manifests
-  pub json : Bool
-
--- the policy that is asked who can become whom, by the name of its file, to whom, and the kinds of rights that are left out
+-- the policy that is asked who can become whom, to whom, and the kinds of rights that are left out
 pub record Paths : Type 0 where
-  pub policy : Text
-  pub reading : Manifests
+  pub ask : Ask
   pub to : Text
   pub without : List Text
-  pub json : Bool
+
+-- the file of what was used, whether it is an audit log, the policy that may allow it, by the names of their files, how it is
+-- read, and what is printed
+pub record Uses : Type 0 where
+  pub uses : Text
+  pub log : Bool
+  pub policy : Text
+  pub reading : Manifests
+  pub form : Form
 
 -- one of the programs with its arguments, or a text of that kind
 pub data Asked : Type 0 where
@@ -119,8 +132,10 @@ pub data Asked : Type 0 where
   Compare : Policies → Asked
   AskWho : Who → Asked
   AskWhat : What → Asked
-  AskRisks : Risks → Asked
+  AskRisks : Ask → Asked
   AskPaths : Paths → Asked
+  Check : Ask → Asked
+  Suggest : Uses → Asked
   Show : ErrorKind → Asked
 
 -- ---- of the matches behind a subcommand
@@ -145,10 +160,11 @@ has_reading rows =
     is_some (first_of (codes "with") rows) || (is_true (first_of (codes "with-defaults") rows)
     || (is_some (first_of (codes "namespace") rows) || is_true (first_of (codes "strict") rows)))
 
--- how the manifests of an audit are read; none where its policy is lines, for which no word says how to read them
+-- how the manifests of an audit are read, as those of an audit log are; none if its policy is lines, for which no word says how to
+-- read them
 abbrev pub audited_in : List Row → Option (Option Manifests)
 audited_in rows =
-    if is_true (first_of (codes "manifests") rows) then Some (Some (reading_by (codes "with") rows))
+    if is_true (first_of (codes "manifests") rows) || is_true (first_of (codes "log") rows) then Some (Some (reading_by (codes "with") rows))
     else (if has_reading rows then None else Some None)
 
 -- a server begins with manifests, or with the default roles
@@ -180,7 +196,14 @@ files_in rows = do
   questions ← first_of (codes "QUESTIONS") rows
   readers ← readers_in rows
   manifests ← audited_in rows
-  Some (record { policy = policy; questions = questions; manifests = manifests; readers = readers })
+  Some (record {
+    policy = policy;
+    questions = questions;
+    log = is_true (first_of (codes "log") rows);
+    json = is_true (first_of (codes "json") rows);
+    manifests = manifests;
+    readers = readers;
+  })
 
 -- the port for questions, where one is named; nothing where the word is no port
 abbrev pub answer_of : Option Text → Option (Option ℕ)
@@ -222,67 +245,105 @@ options_in rows = do
 abbrev pub transcripts_in : List Row → Option Transcripts
 transcripts_in rows = do
   files ← all_of (codes "FILE") rows
-  Some (record { files = files; write = is_true (first_of (codes "write") rows); junit = first_of (codes "junit") rows })
+  Some (record {
+    files = files;
+    write = is_true (first_of (codes "write") rows);
+    strict = is_true (first_of (codes "strict") rows);
+    junit = first_of (codes "junit") rows;
+  })
+
+-- the form of that name
+abbrev pub form_named : Text → Option Form
+form_named name =
+    if bytes_eq name (codes "table") then Some form.Table
+    else (if bytes_eq name (codes "json") then Some form.Json else (if bytes_eq name (codes "markdown") then Some form.Markdown else None))
+
+-- the form that is named, else a table
+abbrev pub form_or_table : Option Text → Option Form
+form_or_table None = Some form.Table
+form_or_table (Some name) = form_named name
+
+-- what is printed
+abbrev pub form_in : List Row → Option Form
+form_in rows = if is_true (first_of (codes "json") rows) then Some form.Json else form_or_table (first_of (codes "format") rows)
+
+-- the policy of that name that parsed rows ask about
+abbrev pub asking_in : Text → List Row → Option Ask
+asking_in name rows = do
+  policy ← first_of name rows
+  printed ← form_in rows
+  Some (record { policy = policy; reading = reading_by (codes "with") rows; form = printed })
 
 -- the comparison that parsed rows ask for
 abbrev pub compare_in : List Row → Option Policies
 compare_in rows = do
   before ← first_of (codes "BEFORE") rows
-  after ← first_of (codes "AFTER") rows
+  after ← asking_in (codes "AFTER") rows
   Some (record {
     before = before;
     after = after;
-    reading = reading_by (codes "with") rows;
     usual_groups = is_true (first_of (codes "usual-groups") rows);
-    json = is_true (first_of (codes "json") rows);
+    atoms = is_true (first_of (codes "atoms") rows);
+    lost = is_true (first_of (codes "lost") rows);
   })
-
--- the risks that parsed rows ask for
-abbrev pub risks_in : List Row → Option Risks
-risks_in rows = do
-  policy ← first_of (codes "POLICY") rows
-  Some (record { policy = policy; reading = reading_by (codes "with") rows; json = is_true (first_of (codes "json") rows) })
 
 -- the user of whom parsed rows ask what they have
 abbrev pub what_in : List Row → Option What
 what_in rows = do
-  policy ← first_of (codes "POLICY") rows
+  ask ← asking_in (codes "POLICY") rows
   user ← first_of (codes "USER") rows
-  Some (record {
-    policy = policy;
-    user = user;
-    groups = unwrap_or (all_of (codes "GROUP") rows) [];
-    reading = reading_by (codes "with") rows;
-    json = is_true (first_of (codes "json") rows);
-  })
+  Some (record { ask = ask; user = user; groups = unwrap_or (all_of (codes "GROUP") rows) [] })
 
 -- the paths that parsed rows ask for
 abbrev pub paths_in : List Row → Option Paths
 paths_in rows = do
-  policy ← first_of (codes "POLICY") rows
+  ask ← asking_in (codes "POLICY") rows
   Some (record {
-    policy = policy;
-    reading = reading_by (codes "with") rows;
+    ask = ask;
     to = unwrap_or (first_of (codes "to") rows) [];
     without = unwrap_or (all_of (codes "without") rows) [];
-    json = is_true (first_of (codes "json") rows);
   })
+
+-- the uses whose roles parsed rows ask for
+abbrev pub suggest_in : List Row → Option Uses
+suggest_in rows = do
+  uses ← first_of (codes "USES") rows
+  printed ← form_in rows
+  Some (record {
+    uses = uses;
+    log = is_true (first_of (codes "log") rows);
+    policy = unwrap_or (first_of (codes "policy") rows) [];
+    reading = reading_by (codes "with") rows;
+    form = printed;
+  })
+
+-- a question is not about one namespace and cluster-wide at once
+abbrev pub has_two_scopes : List Row → Bool
+has_two_scopes rows = is_true (first_of (codes "cluster") rows) && is_some (first_of (codes "namespace") rows)
+
+-- the words, unless they contradict each other
+abbrev pub unless : Bool → QuestionWords → Option QuestionWords
+unless true words = None
+unless false words = Some words
 
 -- the question that parsed rows specify in words
 abbrev pub wanted_in : List Row → Option QuestionWords
 wanted_in rows = do
   verb ← first_of (codes "VERB") rows
   resource ← first_of (codes "RESOURCE") rows
-  Some (record {
+  unless (has_two_scopes rows) (record {
     verb = verb;
     resource = resource;
     namespace = unwrap_or (first_of (codes "namespace") rows) [];
+    cluster = is_true (first_of (codes "cluster") rows);
     name = unwrap_or (first_of (codes "name") rows) [];
   })
 
 -- some word of a question is there
 abbrev pub has_words : List Row → Bool
-has_words rows = is_some (first_of (codes "VERB") rows) || (is_some (first_of (codes "namespace") rows) || is_some (first_of (codes "name") rows))
+has_words rows =
+    is_some (first_of (codes "VERB") rows) || (is_some (first_of (codes "namespace") rows)
+    || (is_some (first_of (codes "name") rows) || is_true (first_of (codes "cluster") rows)))
 
 -- a file of questions, with no word of a question beside it
 abbrev pub file_alone : Text → List Row → Option Question
@@ -300,9 +361,9 @@ question_in rows = question_by (first_of (codes "questions") rows) rows
 -- the question of `kapi who` and its policy
 abbrev pub who_in : List Row → Option Who
 who_in rows = do
-  policy ← first_of (codes "POLICY") rows
+  ask ← asking_in (codes "POLICY") rows
   question ← question_in rows
-  Some (record { policy = policy; question = question; reading = reading_by (codes "with") rows; json = is_true (first_of (codes "json") rows) })
+  Some (record { ask = ask; question = question })
 
 -- what the subcommand of that name asks for
 abbrev pub asked_by : Text → List Row → Option Asked
@@ -314,8 +375,10 @@ asked_by name rows =
     else (if bytes_eq name (codes "compare") then option_map Compare (compare_in rows)
     else (if bytes_eq name (codes "who") then option_map AskWho (who_in rows)
     else (if bytes_eq name (codes "what") then option_map AskWhat (what_in rows)
-    else (if bytes_eq name (codes "risks") then option_map AskRisks (risks_in rows)
-    else (if bytes_eq name (codes "paths") then option_map AskPaths (paths_in rows) else None))))))))
+    else (if bytes_eq name (codes "risks") then option_map AskRisks (asking_in (codes "POLICY") rows)
+    else (if bytes_eq name (codes "paths") then option_map AskPaths (paths_in rows)
+    else (if bytes_eq name (codes "check") then option_map Check (asking_in (codes "POLICY") rows)
+    else (if bytes_eq name (codes "suggest") then option_map Suggest (suggest_in rows) else None))))))))))
 
 -- ---- of the words
 
@@ -347,7 +410,14 @@ reading_told r = record { with = map string_bytes r.with.items; defaults = r.def
 
 -- an audit's files and readers, as data
 abbrev pub files_told : AuditFiles → Files
-files_told f = record { policy = string_bytes f.policy; questions = string_bytes f.questions; manifests = option_map reading_told f.manifests; readers = f.readers }
+files_told f = record {
+  policy = string_bytes f.policy;
+  questions = string_bytes f.questions;
+  log = f.log;
+  json = f.json;
+  manifests = option_map reading_told f.manifests;
+  readers = f.readers;
+}
 
 -- a server's options, as data
 abbrev pub options_told : ServeOptions → Options
@@ -364,40 +434,38 @@ options_told o = record {
 
 -- a replay's transcripts, as data
 abbrev pub transcripts_told : ReplayOptions → Transcripts
-transcripts_told o = record { files = map string_bytes o.files.items; write = o.write; junit = option_map (λ s. string_bytes s) o.junit }
+transcripts_told o = record { files = map string_bytes o.files.items; write = o.write; strict = o.strict; junit = option_map (λ s. string_bytes s) o.junit }
+
+-- what is common to questions about a policy, as data
+abbrev pub asking_told : Asking → Ask
+asking_told a = record { policy = string_bytes a.policy; reading = reading_told a.reading; form = a.form }
 
 -- a comparison's policies, as data
-abbrev pub compare_told : CompareFiles → Policies
-compare_told f = record {
-  before = string_bytes f.before;
-  after = string_bytes f.after;
-  reading = reading_told f.reading;
-  usual_groups = f.usual_groups;
-  json = f.json;
+abbrev pub compare_told : CompareWords → Policies
+compare_told w = record {
+  before = string_bytes w.before;
+  after = asking_told w.after;
+  usual_groups = w.usual_groups;
+  atoms = w.atoms;
+  lost = w.lost;
 }
-
--- the policy whose risks are asked for, as data
-abbrev pub risks_told : RisksFile → Risks
-risks_told f = record { policy = string_bytes f.policy; reading = reading_told f.reading; json = f.json }
 
 -- the user of whom it is asked, as data
 abbrev pub what_told : WhatWords → What
-what_told w = record {
-  policy = string_bytes w.policy;
-  user = string_bytes w.user;
-  groups = map string_bytes w.groups.items;
-  reading = reading_told w.reading;
-  json = w.json;
-}
+what_told w = record { ask = asking_told w.asking; user = string_bytes w.user; groups = map string_bytes w.groups.items }
 
 -- the policy whose paths are asked for, as data
 abbrev pub paths_told : PathsWords → Paths
-paths_told w = record {
+paths_told w = record { ask = asking_told w.asking; to = string_bytes w.to; without = map string_bytes w.without.items }
+
+-- the uses whose roles are asked for, as data
+abbrev pub suggest_told : SuggestWords → Uses
+suggest_told w = record {
+  uses = string_bytes w.uses;
+  log = w.log;
   policy = string_bytes w.policy;
   reading = reading_told w.reading;
-  to = string_bytes w.to;
-  without = map string_bytes w.without.items;
-  json = w.json;
+  form = w.form;
 }
 
 -- the words of a question, as data
@@ -406,6 +474,7 @@ wanted_told w = record {
   verb = string_bytes w.verb;
   resource = string_bytes w.resource;
   namespace = string_bytes w.namespace;
+  cluster = w.cluster;
   name = string_bytes w.name;
 }
 
@@ -416,7 +485,7 @@ question_told (who_question.File f) = File (string_bytes f)
 
 -- a question and its policy, as data
 abbrev pub who_told : WhoWords → Who
-who_told w = record { policy = string_bytes w.policy; question = question_told w.question; reading = reading_told w.reading; json = w.json }
+who_told w = record { ask = asking_told w.asking; question = question_told w.question }
 
 -- a command, as data
 abbrev pub told : Command → Asked
@@ -424,11 +493,13 @@ told command.Script = Script
 told (command.Audit files) = Audit (files_told files)
 told (command.Serve options) = Serve (options_told options)
 told (command.Replay options) = Replay (transcripts_told options)
-told (command.Compare files) = Compare (compare_told files)
+told (command.Compare words) = Compare (compare_told words)
 told (command.Who words) = AskWho (who_told words)
 told (command.What words) = AskWhat (what_told words)
-told (command.Risks file) = AskRisks (risks_told file)
+told (command.Risks asking) = AskRisks (asking_told asking)
 told (command.Paths words) = AskPaths (paths_told words)
+told (command.Check asking) = Check (asking_told asking)
+told (command.Suggest words) = Suggest (suggest_told words)
 told (command.Show text) = Show (kind_of text)
 
 -- the words ask for that command

@@ -36,6 +36,10 @@ script = new_app (codes "script")
 abbrev pub flag : Text → Rule
 flag name = record (new_rule name) { long = Some name; action = Some SetTrue }
 
+-- `--json`
+abbrev pub json : Rule
+json = flag (codes "json")
+
 -- `--strict`
 abbrev pub strict : Rule
 strict = flag (codes "strict")
@@ -54,7 +58,7 @@ audited = with_rule (with_rule (reading (codes "audit")) (file (codes "POLICY"))
 
 -- `kapi audit`, its files before its options
 abbrev pub audit : App
-audit = with_rule (with_rule audited readers) (flag (codes "manifests"))
+audit = with_rule (with_rule (with_rule (with_rule audited readers) (flag (codes "manifests"))) (flag (codes "log"))) json
 
 -- `kapi serve` with the manifests that it begins with
 abbrev pub served : App
@@ -82,25 +86,29 @@ transcripts = record (new_rule (codes "FILE")) {
   range = Some (record { start_inclusive = 1; end_inclusive = 18446744073709551615 });
 }
 
+-- `kapi replay` with its flags
+abbrev pub played : App
+played = with_rule (with_rule (new_app (codes "replay")) (flag (codes "write"))) strict
+
 -- `kapi replay`, its options before its files
 abbrev pub replay : App
-replay = with_rule (with_rule (with_rule (new_app (codes "replay")) (flag (codes "write"))) (option (codes "junit"))) transcripts
+replay = with_rule (with_rule played (option (codes "junit"))) transcripts
 
 -- a word that may be left out
 abbrev pub word : Text → Rule
 word name = new_rule name
 
--- `--json`
-abbrev pub json : Rule
-json = flag (codes "json")
-
 -- a program that asks about policies
 abbrev pub asking : Text → App
 asking name = with_rule (reading name) json
 
+-- a program that asks about policies and prints what `--format` names
+abbrev pub formed : Text → App
+formed name = with_rule (asking name) (option (codes "format"))
+
 -- the options of `kapi compare`
 abbrev pub compare_options : App
-compare_options = with_rule (asking (codes "compare")) (flag (codes "usual-groups"))
+compare_options = with_rule (with_rule (with_rule (formed (codes "compare")) (flag (codes "usual-groups"))) (flag (codes "atoms"))) (flag (codes "lost"))
 
 -- `kapi compare`, its flags before its files
 abbrev pub compare : App
@@ -108,7 +116,7 @@ compare = with_rule (with_rule compare_options (file (codes "BEFORE"))) (file (c
 
 -- the options of `kapi who`
 abbrev pub who_options : App
-who_options = with_rule (with_rule (asking (codes "who")) (option (codes "name"))) (option (codes "questions"))
+who_options = with_rule (with_rule (with_rule (formed (codes "who")) (option (codes "name"))) (option (codes "questions"))) (flag (codes "cluster"))
 
 -- `kapi who`, its words behind its file
 abbrev pub who : App
@@ -120,11 +128,11 @@ words name = record (new_rule name) { range = Some (record { start_inclusive = 1
 
 -- `kapi what`, its words behind its file
 abbrev pub what : App
-what = with_rule (with_rule (with_rule (asking (codes "what")) (file (codes "POLICY"))) (file (codes "USER"))) (words (codes "GROUP"))
+what = with_rule (with_rule (with_rule (formed (codes "what")) (file (codes "POLICY"))) (file (codes "USER"))) (words (codes "GROUP"))
 
 -- `kapi risks`, its options before its file
 abbrev pub risks : App
-risks = with_rule (asking (codes "risks")) (file (codes "POLICY"))
+risks = with_rule (formed (codes "risks")) (file (codes "POLICY"))
 
 -- the options of `kapi paths`
 abbrev pub paths_options : App
@@ -134,12 +142,27 @@ paths_options = with_rule (with_rule (asking (codes "paths")) (option (codes "to
 abbrev pub paths : App
 paths = with_rule paths_options (file (codes "POLICY"))
 
+-- `kapi check`, its options before its file
+abbrev pub check : App
+check = with_rule (asking (codes "check")) (file (codes "POLICY"))
+
+-- the options of `kapi suggest`
+abbrev pub suggest_options : App
+suggest_options = with_rule (with_rule (formed (codes "suggest")) (flag (codes "log"))) (option (codes "policy"))
+
+-- `kapi suggest`, its options before its file
+abbrev pub suggest : App
+suggest = with_rule suggest_options (file (codes "USES"))
+
 -- the subcommands that run a machine
 abbrev pub machines : App
 machines =
     with_subcommand (with_subcommand (with_subcommand (with_subcommand (on_top (λ s. record s { has_version = true; subcommand_required = true }) (new_app (codes "kapi"))) script.top) audit.top) serve.top) replay.top
 
--- `kapi`, which has a version and needs one of its nine subcommands
+-- with those that ask about policies
+abbrev pub askers : App
+askers = with_subcommand (with_subcommand (with_subcommand (with_subcommand (with_subcommand machines compare.top) who.top) what.top) risks.top) paths.top
+
+-- `kapi`, which has a version and needs one of its eleven subcommands
 abbrev pub kapi : App
-kapi =
-    with_subcommand (with_subcommand (with_subcommand (with_subcommand (with_subcommand machines compare.top) who.top) what.top) risks.top) paths.top
+kapi = with_subcommand (with_subcommand askers check.top) suggest.top

@@ -11,6 +11,8 @@ status_of ending.Doubted = 1
 status_of ending.Unsettled = 4
 status_of ending.Misused = 2
 status_of ending.Gains = 3
+status_of ending.Dangles = 3
+status_of ending.Differing = 3
 status_of ending.Unheard = 3
 status_of ending.Adrift = 4
 

@@ -15,6 +15,7 @@ use Rattle.kapi_access.specs.Answers.{gains_text, settled_line, ways_text, who_t
 use Rattle.kapi_access.specs.Lines.{LineError, answered_lines, no_question}
 use Rattle.kapi_access.specs.Rights.{what_text}
 use Rattle.kapi_access.specs.declared.answer.Form.{Form}
+use Rattle.kapi_access.specs.declared.answer.Shown.{Shown}
 use Rattle.kapi_access.specs.declared.question.Wanted.{Wanted}
 use Rattle.kapi_access.specs.declared.rights.Holder.{Holder}
 use Rattle.kapi.specs.declared.policies.Answered.{Answered}
@@ -92,21 +93,21 @@ pub record Comparison : Type 0 where
   pub after_settled : Bool
 
 -- what the policy of one machine allows those identities that another's did not
-abbrev pub comparison : Form → Identities → Machine → Machine → Comparison
-comparison f who b a = record {
-  text = gains_text f (gained who (policy_of b) (policy_of a));
+abbrev pub comparison : Form → Shown → Identities → Machine → Machine → Comparison
+comparison f s who b a = record {
+  text = gains_text f s (gained who (policy_of b) (policy_of a));
   gains = not (length (gained who (policy_of b) (policy_of a)) == 0);
   before_settled = is_settled b;
   after_settled = is_settled a;
 }
 
 -- the comparison of a machine's policy with that of a second file
-abbrev pub compared_to : Form → Identities → Machine → Result Machine FileFault → Result Comparison FilesError
-compared_to f who b second = as_second second >>= λ a. Ok (comparison f who b a)
+abbrev pub compared_to : Form → Shown → Identities → Machine → Result Machine FileFault → Result Comparison FilesError
+compared_to f s who b second = as_second second >>= λ a. Ok (comparison f s who b a)
 
 -- the comparison of the policies that two files are
-unfoldable pub compare_files : Form → Identities → List ℕ → List ℕ → Result Comparison FilesError
-compare_files f who before after = as_first (machine_alone 0 before) >>= λ b. compared_to f who b (machine_alone 0 after)
+unfoldable pub compare_files : Form → Shown → Identities → List ℕ → List ℕ → Result Comparison FilesError
+compare_files f s who before after = as_first (machine_alone 0 before) >>= λ b. compared_to f s who b (machine_alone 0 after)
 
 -- a comparison, as data
 abbrev pub compared_told : Compared → Comparison

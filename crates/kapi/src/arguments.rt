@@ -2,7 +2,7 @@ ghost use Rattle.std.specs.Prelude.{◌≡◌, IfOk, codes, false};
 ghost use Rattle.clap.specs.Simple.{app_of, new_app};
 ghost use Rattle.clap.specs.Walk.{rule_of};
 ghost use Rattle.clap.specs.declared.builder.command.Command.TheViews.{out-Command};
-ghost use Rattle.kapi.specs.CommandLine.{kapi, asking as asking_app, audit as audit_app, audited as audited_app, beside as beside_app, compare as compare_app, compare_options as compare_options_app, opened as opened_app, paths as paths_app, paths_options as paths_options_app, reading as reading_app, replay as replay_app, risks as risks_app, serve as serve_app, served as served_app, script as script_app, who as who_app, what as what_app, who_options as who_options_app, word as word_rule, words as words_rule, file as file_rule, files as files_rule, json as json_rule, strict as strict_rule, machines as machines_app, option as option_rule, readers as readers_rule, listen as listen_rule, transcripts as transcripts_rule, flag as flag_rule};
+ghost use Rattle.kapi.specs.CommandLine.{kapi, askers as askers_app, asking as asking_app, check as check_app, formed as formed_app, suggest as suggest_app, suggest_options as suggest_options_app, audit as audit_app, audited as audited_app, beside as beside_app, compare as compare_app, compare_options as compare_options_app, opened as opened_app, paths as paths_app, paths_options as paths_options_app, played as played_app, reading as reading_app, replay as replay_app, risks as risks_app, serve as serve_app, served as served_app, script as script_app, who as who_app, what as what_app, who_options as who_options_app, word as word_rule, words as words_rule, file as file_rule, files as files_rule, json as json_rule, strict as strict_rule, machines as machines_app, option as option_rule, readers as readers_rule, listen as listen_rule, transcripts as transcripts_rule, flag as flag_rule};
 
 use crate::command_line::PORTS;
 use clap::{Arg, ArgAction, Command};
@@ -15,6 +15,15 @@ const VERSION: &str = "0.1.0";
 /// The command line that `kapi` takes.
 pub fn program<'a>(alloc: Global) -> Result<Command<'a>, Memory>
     ensures { IfOk result (λ c. app_of c ≡ kapi) }
+{
+    askers(alloc)?
+        .subcommand(check(alloc)?)?
+        .subcommand(suggest(alloc)?)
+}
+
+/// The program with the subcommands that run a machine, and with those that ask about policies.
+fn askers<'a>(alloc: Global) -> Result<Command<'a>, Memory>
+    ensures { IfOk result (λ c. app_of c ≡ askers_app) }
 {
     machines(alloc)?
         .subcommand(compare(alloc)?)?
@@ -40,27 +49,36 @@ fn machines<'a>(alloc: Global) -> Result<Command<'a>, Memory>
 
 /// What `kapi script --help` shows below the options.
 const SCRIPT_FORMS: &str =
-    r#"One event a line, and one line answers each; empty lines and lines that begin with # are skipped.
+    r#"One event a line, and one line answers each. Empty lines and lines that begin
+with # are skipped.
 
-  open ann,dev          opens a connection of the user ann in the group dev. Answer: conn 0, its number; the next is 1
-  feed 0 TEXT           bytes come in on connection 0. Answer: ok. In TEXT \r\n ends a line, and \\ is a backslash
-  serve 0               answers the next whole request of connection 0. Answer: out and the reply, or none
-  pump 0                shows the next event of the watch of connection 0. Answer: out and the event, or none
-  turn                  fills the next aggregated cluster role that waits for it. Answer: turn REVISION NAME, or none
-  close 0               closes connection 0. Answer: ok
+  open ann,dev  opens a connection of the user ann in the group dev.
+                Answer: conn 0, its number; the next is 1
+  feed 0 TEXT   bytes come in on connection 0. Answer: ok.
+                In TEXT \r\n ends a line, and \\ is a backslash
+  serve 0       answers the next whole request of connection 0.
+                Answer: out and the reply, or none
+  pump 0        shows the next event of the watch of connection 0.
+                Answer: out and the event, or none
+  turn          fills the next aggregated cluster role that waits for it.
+                Answer: turn REVISION NAME, or none
+  close 0       closes connection 0. Answer: ok
 
-'last' in place of 'out' tells that the connection has ended, 'error ..' that an event was refused.
+'last' in place of 'out' means that the connection has ended, 'error ..' that
+an event was refused.
 
 Example:
-  printf '%s\n' 'open root,system:masters' 'feed 0 GET /healthz HTTP/1.1\r\nHost: a\r\n\r\n' 'serve 0' | kapi script
+  printf '%s\n' 'open root,system:masters' \
+    'feed 0 GET /healthz HTTP/1.1\r\nHost: a\r\n\r\n' 'serve 0' |
+    kapi script | cut -c 1-72
 
 It prints
   conn 0
   ok
-  out HTTP/1.1 200 OK\r\nContent-Type: text/plain\r\nContent-Length: 2\r\n\r\nok
+  out HTTP/1.1 200 OK\r\nContent-Type: text/plain\r\nContent-Length: 2\r\n
 
-Status 0 at the end of the script, 1 at a line that is no event. docs/PROFILE.md has each rule of scripts; docs/REPLAY.md shows
-transcripts, in which the same is written more shortly."#;
+Status 0 at the end of the script, 1 at a line that is no event. docs/PROFILE.md
+has each rule of scripts. docs/REPLAY.md shows transcripts, a shorter form."#;
 
 fn script<'a>(alloc: Global) -> Command<'a>
     ensures app { app_of result ≡ script_app }
@@ -73,32 +91,49 @@ fn script<'a>(alloc: Global) -> Command<'a>
 
 /// What `kapi audit --help` shows below the arguments.
 const AUDIT_FORMS: &str =
-    r#"Each file has one JSON object a line; empty lines and lines that begin with # are skipped. The first line is 1.
+    r#"Each file has one JSON object a line. Empty lines and lines that begin with #
+are skipped. The first line is 1. With --manifests POLICY is a file, a folder
+or - of manifests, in any order.
 
-POLICY: objects as a cluster gives them, namespaces first. QUESTIONS: each the spec of a SubjectAccessReview.
+POLICY: objects as a cluster gives them, namespaces first.
+QUESTIONS: each the spec of a SubjectAccessReview; with --log the events of a
+cluster's audit log. Then only answers that differ from the log's are printed,
+and a table of what would be refused.
 
-One line answers each question: 'denied', 'allowed RoleBinding b, Role r, rule 0' or 'allowed group system:masters'.
+One line answers each question: 'denied', 'allowed group system:masters', or
+'allowed', a binding, a role and the index of its rule.
 
 Example:
-  printf '%s\n' \
-    '{"apiVersion":"rbac.authorization.k8s.io/v1","kind":"Role","metadata":{"name":"reader","namespace":"default"},"rules":[{"apiGroups":[""],"resources":["secrets"],"verbs":["get"]}]}' \
-    '{"apiVersion":"rbac.authorization.k8s.io/v1","kind":"RoleBinding","metadata":{"name":"readers","namespace":"default"},"roleRef":{"kind":"Role","name":"reader"},"subjects":[{"kind":"User","name":"ann"}]}' > policy.jsonl
-  printf '%s\n' '{"user":"ann","resourceAttributes":{"namespace":"default","verb":"get","resource":"secrets"}}' > questions.jsonl
-  kapi audit policy.jsonl questions.jsonl
+  cat > policy.json <<'END'
+  {"apiVersion":"rbac.authorization.k8s.io/v1","kind":"Role",
+   "metadata":{"name":"reader","namespace":"default"},
+   "rules":[{"apiGroups":[""],"resources":["secrets"],"verbs":["get"]}]}
+  {"apiVersion":"rbac.authorization.k8s.io/v1","kind":"RoleBinding",
+   "metadata":{"name":"readers","namespace":"default"},
+   "roleRef":{"kind":"Role","name":"reader"},
+   "subjects":[{"kind":"User","name":"ann"}]}
+  END
+  printf '%s%s\n' '{"user":"ann","resourceAttributes":{"verb":"get",' \
+    '"resource":"secrets","namespace":"default"}}' > questions.jsonl
+  kapi audit --manifests policy.json questions.jsonl
 
 It prints
   allowed RoleBinding readers, Role reader, rule 0
 
-docs/AUDIT.md tells how to take a policy out of a cluster."#;
+docs/AUDIT.md shows how to take a policy out of a cluster."#;
 
 fn audit<'a>(alloc: Global) -> Result<Command<'a>, Memory>
     ensures { IfOk result (λ c. (app_of c ≡ audit_app) × ((out-Command c).has_globals ≡ false)) }
 {
-    audited(alloc)?.arg(readers(alloc))?.arg(flag(
-        alloc,
-        "manifests",
-        "POLICY is manifests, in any order, and not lines",
-    ))
+    audited(alloc)?
+        .arg(readers(alloc))?
+        .arg(flag(
+            alloc,
+            "manifests",
+            "POLICY is manifests, in any order, and not lines",
+        ))?
+        .arg(flag(alloc, "log", "QUESTIONS is a cluster's audit log"))?
+        .arg(json(alloc))
 }
 
 /// `kapi audit` with its files.
@@ -126,7 +161,7 @@ fn beside<'a>(
         .arg(files(
             alloc,
             "with",
-            "A file or folder that is read as one with each policy; may be given again",
+            "A file or folder read as one with each policy, again and again",
         ))?
         .arg(defaults(alloc))
 }
@@ -147,27 +182,33 @@ fn reading<'a>(
 
 /// What `kapi serve --help` shows below the arguments.
 const SERVE_FORMS: &str =
-    r#"Each port stands on 127.0.0.1, and each of its clients is the user that its word names, in the groups behind it.
+    r#"Each port is on 127.0.0.1. Each of its clients is the user that its word names,
+in the groups behind it.
 
-FILE has one JSON object a line, namespaces first; empty lines and lines that begin with # are skipped. The first line is 1.
+--load FILE: one JSON object a line, namespaces first. Empty lines and lines
+that begin with # are skipped. The first line is 1.
 
-With --recheck-watches a watch ends with a 403 once the roles and bindings do not allow it any more; else its rights are looked at when
-it starts, and then no more.
+--recheck-watches: a watch ends with a 403 once the roles and bindings do not
+allow it any more. Else its rights are checked when it starts, and then no more.
 
-With --first-revision N the revisions begin after N, at most 281474976710650; with 'clock' after 100 for each millisecond since 1970, which
-is above every revision of an earlier start, so clients that watched before a restart list anew instead of waiting or missing changes.
+--first-revision N: revisions begin after N, at most 281474976710650. 'clock' is
+100 for each millisecond since 1970, above every revision of an earlier start,
+so clients that watched before a restart list anew instead of missing changes.
 
-With --answer, N threads answer questions while the server goes on, those of one client after the other: each line the spec of a
-SubjectAccessReview, as for kapi audit, and each answer behind the number of changes of the policy that it follows.
+--answer PORT: threads answer questions while the server goes on, each line the
+spec of a SubjectAccessReview, as for kapi audit. In front of each answer is the
+number of changes of the policy that it follows.
 
 Example:
-  kapi serve --first-revision clock 8001=root,system:masters 8002=ann,dev & sleep 1
-  curl -s 127.0.0.1:8001/api/v1/namespaces/default/configmaps -H 'Content-Type: application/json' \
-    -d '{"apiVersion":"v1","kind":"ConfigMap","metadata":{"name":"a"},"data":{"k":"v"}}'
+  kapi serve 8001=root,system:masters 8002=ann,dev & sleep 1
+  curl -s 127.0.0.1:8001/api/v1/namespaces/default/configmaps \
+    -H 'Content-Type: application/json' \
+    -d '{"metadata":{"name":"a"},"data":{"k":"v"}}'
   curl -s 127.0.0.1:8002/api/v1/namespaces/default/configmaps/a
   kill $!
 
-The server prints a line for each port that it listens on. The last answer is a refusal, as ann has no role. docs/USING.md leads through a server with roles."#;
+The server prints a line for each port. The last answer is a refusal, as ann has
+no role. docs/USING.md leads through a server with roles."#;
 
 /// `kapi serve` with the manifests that it begins with.
 fn served<'a>(alloc: Global) -> Result<Command<'a>, Memory>
@@ -179,7 +220,7 @@ fn served<'a>(alloc: Global) -> Result<Command<'a>, Memory>
         .arg(files(
             alloc,
             "manifests",
-            "Manifests of the objects that stand at first, a file or folder; may be given again",
+            "Manifests of the first objects, again and again",
         ))?
         .arg(defaults(alloc))
 }
@@ -191,7 +232,7 @@ fn opened<'a>(alloc: Global) -> Result<Command<'a>, Memory>
     served(alloc)?.arg(home(alloc))?.arg(flag(
         alloc,
         "free-ports",
-        "Takes a free port where PORT is 0, and prints it",
+        "Prints a free port if PORT is 0",
     ))
 }
 
@@ -199,17 +240,17 @@ fn serve<'a>(alloc: Global) -> Result<Command<'a>, Memory>
     ensures { IfOk result (λ c. (app_of c ≡ serve_app) × ((out-Command c).has_globals ≡ false)) }
 {
     opened(alloc)?
-        .arg(option(alloc, "load", "FILE", "The objects that stand at first"))?
+        .arg(option(alloc, "load", "FILE", "The first objects, one a line"))?
         .arg(option(
             alloc,
             "first-revision",
             "N|clock",
-            "The revision after which the server's begin; 0 where it is left out",
+            "Revisions begin after it; 0 if left out",
         ))?
         .arg(flag(
             alloc,
             "recheck-watches",
-            "Looks at the rights of a watch anew at each of its events",
+            "Checks rights of watches at each event",
         ))?
         .arg(option(
             alloc,
@@ -223,76 +264,120 @@ fn serve<'a>(alloc: Global) -> Result<Command<'a>, Memory>
 
 /// What `kapi replay --help` shows below the arguments.
 const REPLAY_FORMS: &str =
-    r#"A transcript has a request, an event or a wanted answer a line; empty lines and lines that begin with # are skipped.
+    r#"A transcript has a request, an event or a wanted answer a line. Empty lines and
+lines that begin with # are skipped.
 
-  as ann,visitors                        the connection of that user and groups
-  GET /api/v1/namespaces/default/pods    a request; POST, PUT and PATCH have a body behind the target, header fields stand below
-  = 403 ann may not do this              the reply has this code, and this text in it
-  == {"kind":"PodList", ..}              the reply has exactly this body
-  pump                                   the next event of the connection's watch
-  ~ "type":"ADDED"                       the answer has this text in it
-  turn                                   any line of kapi script
-  > turn 8 monitoring                    the answer is exactly this line
-  begin                                  a new machine; load FILE: one with the objects of a file, as of kapi serve --load
-  manifests FILE                         a new machine with the objects of manifests, as of kapi serve --manifests
-  load defaults                          beside manifests: with the roles view, edit, admin and their parts beneath them
-  recheck                                rights of watches are looked at anew in this case, as of kapi serve --recheck-watches
+  as ann,visitors     the connection of that user and groups
+  GET /api/v1/pods    a request; POST, PUT and PATCH have a body behind the
+                      target, header fields are the lines below
+  = 403 TEXT          the reply has this code, and this text in it
+  == {"kind":..}      the reply has exactly this body
+  pump                the next event of the connection's watch
+  ~ "type":"ADDED"    the answer has this text in it
+  turn                any line of kapi script
+  > turn 8 monitors   the answer is exactly this line
+  begin               a new machine
+  load FILE           a new machine with the objects of a file, as of
+                      kapi serve --load
+  manifests FILE      a new machine with manifests, as of kapi serve --manifests
+  load defaults       beside manifests: with the roles view, edit and admin
+  recheck             rights of watches are checked anew in this case
 
 Example:
-  printf '%s\n' \
-    '{"apiVersion":"rbac.authorization.k8s.io/v1","kind":"Role","metadata":{"name":"reader","namespace":"default"},"rules":[{"apiGroups":[""],"resources":["secrets"],"verbs":["get"]}]}' \
-    '{"apiVersion":"rbac.authorization.k8s.io/v1","kind":"RoleBinding","metadata":{"name":"readers","namespace":"default"},"roleRef":{"kind":"Role","name":"reader"},"subjects":[{"kind":"User","name":"ann"}]}' > policy.jsonl
-  printf '%s\n' 'load policy.jsonl' 'as ann' \
-    'GET /api/v1/namespaces/default/secrets/token' '= 404' \
-    'DELETE /api/v1/namespaces/default/secrets/token' '= 403 ["delete","","secrets","","token"]' > support.txt
+  cat > policy.json <<'END'
+  {"apiVersion":"rbac.authorization.k8s.io/v1","kind":"Role",
+   "metadata":{"name":"reader","namespace":"default"},
+   "rules":[{"apiGroups":[""],"resources":["secrets"],"verbs":["get"]}]}
+  {"apiVersion":"rbac.authorization.k8s.io/v1","kind":"RoleBinding",
+   "metadata":{"name":"readers","namespace":"default"},
+   "roleRef":{"kind":"Role","name":"reader"},
+   "subjects":[{"kind":"User","name":"ann"}]}
+  END
+  cat > support.txt <<'END'
+  manifests policy.json
+  as ann
+  GET /api/v1/namespaces/default/secrets/token
+  = 404
+  DELETE /api/v1/namespaces/default/secrets/token
+  = 403 ["delete","","secrets","","token"]
+  END
   kapi replay support.txt
 
 It prints
   support.txt: 2 checks
 
-Status 0 where every answer is as it is wanted and there is one, else 1. A FILE is named from the transcript's folder. docs/REPLAY.md has every line."#;
+Status 0 if there is an answer to check and each is as wanted, else 1. A FILE is
+relative to the transcript's folder. docs/REPLAY.md has every line."#;
 
 fn replay<'a>(alloc: Global) -> Result<Command<'a>, Memory>
     ensures { IfOk result (λ c. (app_of c ≡ replay_app) × ((out-Command c).has_globals ≡ false)) }
 {
-    Command::new(alloc, "replay")
-        .about("Plays transcripts and tells which answers are not as they are wanted")
-        .after_help(REPLAY_FORMS)
-        .arg(flag(
-            alloc,
-            "write",
-            "Prints the transcripts with the answers that came where others are wanted",
-        ))?
+    played(alloc)?
         .arg(option(
             alloc,
             "junit",
             "FILE",
-            "A file that the outcomes are written to as JUnit XML",
+            "A file for the outcomes as JUnit XML",
         ))?
         .arg(transcripts(alloc))
 }
 
+/// `kapi replay` with its flags.
+fn played<'a>(alloc: Global) -> Result<Command<'a>, Memory>
+    ensures { IfOk result (λ c. (app_of c ≡ played_app) × ((out-Command c).has_globals ≡ false)) }
+{
+    Command::new(alloc, "replay")
+        .about("Plays transcripts and prints which answers are not as wanted")
+        .after_help(REPLAY_FORMS)
+        .arg(flag(
+            alloc,
+            "write",
+            "Prints the transcripts with the answers that came",
+        ))?
+        .arg(flag(
+            alloc,
+            "strict",
+            "Status 1 if 403 is wanted of an unserved resource",
+        ))
+}
+
 /// What `kapi compare --help` shows below the arguments.
 const COMPARE_FORMS: &str =
-    r#"BEFORE, AFTER: objects as 'kubectl get -o json' prints them, or JSON objects one after the other, in any order. A folder is its files
-*.json and *.jsonl, and - is standard input. Objects that say nothing about policy are counted and passed over.
+    r#"BEFORE and AFTER are manifests in JSON, as 'kubectl get -o json' prints them:
+a file, a folder of *.json and *.jsonl, or -, standard input. Objects that say
+nothing about policy are counted and passed over.
 
-Each line tells a user or group that gains, the namespace (* is all of them), what it gains, and the binding, role and rule that give it.
-A user is looked at without groups, a group by another user in it alone. With --usual-groups all are in system:authenticated, service
-accounts in their two groups besides, and the anonymous user in system:unauthenticated alone.
+Each line names a user or group that gains, the namespace (* is all of them),
+what is gained, and the binding, role and rule that give it. Lines with ! come
+first: they give everything, roles, impersonation or Secrets.
+
+A user is looked at without groups, a group alone. With --usual-groups all are
+in system:authenticated, service accounts in their two groups besides, and the
+anonymous user in system:unauthenticated alone.
 
 Example:
-  echo '{"apiVersion":"rbac.authorization.k8s.io/v1","kind":"Role","metadata":{"name":"reader","namespace":"default"},"rules":[{"apiGroups":[""],"resources":["secrets"],"verbs":["get"]}]}' > before.json
+  cat > before.json <<'END'
+  {"apiVersion":"rbac.authorization.k8s.io/v1","kind":"Role",
+   "metadata":{"name":"reader","namespace":"default"},
+   "rules":[{"apiGroups":[""],"resources":["secrets"],"verbs":["get"]}]}
+  END
   cp before.json after.json
-  echo '{"apiVersion":"rbac.authorization.k8s.io/v1","kind":"RoleBinding","metadata":{"name":"readers","namespace":"default"},"roleRef":{"kind":"Role","name":"reader"},"subjects":[{"kind":"User","name":"ann"}]}' >> after.json
-  kapi compare before.json after.json
+  cat > more.json <<'END'
+  {"apiVersion":"rbac.authorization.k8s.io/v1","kind":"RoleBinding",
+   "metadata":{"name":"readers","namespace":"default"},
+   "roleRef":{"kind":"Role","name":"reader"},
+   "subjects":[{"kind":"User","name":"ann"}]}
+  END
+  cat more.json >> after.json
+  kapi compare before.json after.json | tr -s ' '
 
 It prints
-  SUBJECT   NAMESPACE  GAINS                 BY
-  User ann  default    ["get","","secrets"]  RoleBinding readers, Role reader, rule 0
+  SUBJECT NAMESPACE GAINS BY
+  User ann default ! get secrets RoleBinding readers, Role reader, rule 0
 
-Status 0 where nobody gains, 3 where somebody does, and 1 where a file is not loaded, has neither role nor
-binding, or, with --strict, where a binding's role is not in the policy."#;
+Status 0 if nobody gains, 3 if somebody does, 4 if aggregated roles of a policy
+still change, and 1 if a file is not loaded, has neither role nor binding, or,
+with --strict, if a binding's role is not in the policy."#;
 
 fn compare<'a>(alloc: Global) -> Result<Command<'a>, Memory>
     ensures { IfOk result (λ c. (app_of c ≡ compare_app) × ((out-Command c).has_globals ≡ false)) }
@@ -318,11 +403,39 @@ fn asking<'a>(
 fn compare_options<'a>(alloc: Global) -> Result<Command<'a>, Memory>
     ensures { IfOk result (λ c. (app_of c ≡ compare_options_app) × ((out-Command c).has_globals ≡ false)) }
 {
-    let about = "Tells what a policy allows to whom that another did not";
-    asking(alloc, "compare", about, COMPARE_FORMS)?.arg(flag(
+    let about = "Prints what a policy allows to whom that another did not";
+    formed(alloc, "compare", about, COMPARE_FORMS)?
+        .arg(flag(
+            alloc,
+            "usual-groups",
+            "Subjects have the groups of authentication",
+        ))?
+        .arg(flag(
+            alloc,
+            "atoms",
+            "A line for each permission, and not each rule",
+        ))?
+        .arg(flag(
+            alloc,
+            "lost",
+            "Prints what BEFORE allows that AFTER does not",
+        ))
+}
+
+/// A program that asks about policies and prints what `--format` names.
+fn formed<'a>(
+    alloc: Global,
+    name: &'a str,
+    about: &'a str,
+    forms: &'a str,
+) -> Result<Command<'a>, Memory>
+    ensures { IfOk result (λ c. (app_of c ≡ formed_app name.entry.now) × ((out-Command c).has_globals ≡ false)) }
+{
+    asking(alloc, name, about, forms)?.arg(option(
         alloc,
-        "usual-groups",
-        "Asks of each subject with the groups that authentication gives it",
+        "format",
+        "FORM",
+        "What is printed: table, markdown or json",
     ))
 }
 
@@ -335,30 +448,37 @@ fn home<'a>(alloc: Global) -> Arg<'a>
         alloc,
         "namespace",
         "NS",
-        "The namespace of objects that live in one and name none; the one that kapi who and kapi what ask about",
+        "Of objects that name none; of a question",
     )
 }
 
 /// What `kapi who --help` shows below the arguments.
 const WHO_FORMS: &str =
-    r#"POLICY: objects as 'kubectl get -o json' prints them, or JSON objects one after the other, in any order. A folder is its files
-*.json and *.jsonl, and - is standard input. Objects that say nothing about policy are counted and passed over.
+    r#"POLICY is manifests in JSON, as 'kubectl get -o json' prints them: a file, a
+folder of *.json and *.jsonl, or -, standard input. Objects that say nothing
+about policy are counted and passed over.
 
-RESOURCE: pods, pods/log, deployments.apps, or a path that begins with a slash, which is asked about cluster-wide.
+RESOURCE: pods, pods/log, deployments.apps, a short name as po or deploy, or a
+path that begins with a slash. Without --namespace and --cluster the question is
+about each namespace and the whole cluster: a line for each scope.
 
---questions: a file of questions, each a line VERB RESOURCE [NAMESPACE [NAME]], where the namespace * asks cluster-wide.
+--questions: a file of questions, each a line VERB RESOURCE [NAMESPACE [NAME]].
+The namespace * is the whole cluster, and so is none.
 
 Example:
-  printf '%s\n' \
-    '{"apiVersion":"rbac.authorization.k8s.io/v1","kind":"Role","metadata":{"name":"reader","namespace":"default"},"rules":[{"apiGroups":[""],"resources":["secrets"],"verbs":["get"]}]}' \
-    '{"apiVersion":"rbac.authorization.k8s.io/v1","kind":"RoleBinding","metadata":{"name":"readers","namespace":"default"},"roleRef":{"kind":"Role","name":"reader"},"subjects":[{"kind":"User","name":"ann"}]}' > policy.jsonl
-  kapi who policy.jsonl get secrets --namespace default
+  cat > policy.json <<'END'
+  {"apiVersion":"rbac.authorization.k8s.io/v1","kind":"Role",
+   "metadata":{"name":"reader","namespace":"default"},
+   "rules":[{"apiGroups":[""],"resources":["secrets"],"verbs":["get"]}]}
+  {"apiVersion":"rbac.authorization.k8s.io/v1","kind":"RoleBinding",
+   "metadata":{"name":"readers","namespace":"default"},
+   "roleRef":{"kind":"Role","name":"reader"},
+   "subjects":[{"kind":"User","name":"ann"}]}
+  END
+  kapi who policy.json get secrets | grep ann | tr -s ' '
 
 It prints
-  SUBJECT               NAMESPACE  BINDING                           RULE
-  Group system:masters  *          -                                 everything
-  Group system:masters  *          ClusterRoleBinding cluster-admin  ClusterRole cluster-admin, rule 0
-  User ann              default    RoleBinding readers               Role reader, rule 0"#;
+  User ann default RoleBinding readers Role reader, rule 0"#;
 
 fn who<'a>(alloc: Global) -> Result<Command<'a>, Memory>
     ensures { IfOk result (λ c. (app_of c ≡ who_app) × ((out-Command c).has_globals ≡ false)) }
@@ -377,8 +497,8 @@ fn who<'a>(alloc: Global) -> Result<Command<'a>, Memory>
 fn who_options<'a>(alloc: Global) -> Result<Command<'a>, Memory>
     ensures { IfOk result (λ c. (app_of c ≡ who_options_app) × ((out-Command c).has_globals ≡ false)) }
 {
-    let about = "Tells who may do something by a policy";
-    asking(alloc, "who", about, WHO_FORMS)?
+    let about = "Prints who may do something by a policy";
+    formed(alloc, "who", about, WHO_FORMS)?
         .arg(option(
             alloc,
             "name",
@@ -390,35 +510,43 @@ fn who_options<'a>(alloc: Global) -> Result<Command<'a>, Memory>
             "questions",
             "FILE",
             "Questions, in place of VERB and RESOURCE",
-        ))
+        ))?
+        .arg(flag(alloc, "cluster", "Asks about the whole cluster alone"))
 }
 
 /// What `kapi what --help` shows below the arguments.
 const WHAT_FORMS: &str =
-    r#"POLICY: objects as 'kubectl get -o json' prints them, or JSON objects one after the other, in any order. A folder is its files
-*.json and *.jsonl, and - is standard input. Objects that say nothing about policy are counted and passed over.
+    r#"POLICY is manifests in JSON, as 'kubectl get -o json' prints them: a file, a
+folder of *.json and *.jsonl, or -, standard input. Objects that say nothing
+about policy are counted and passed over.
 
-USER is asked about in the groups that are named and in those that authentication gives it: system:authenticated, and a service account's
-own two; the anonymous user has system:unauthenticated alone.
+USER is asked about in the groups that are named and in those of authentication:
+system:authenticated, and a service account's own two. The anonymous user has
+system:unauthenticated alone.
 
-Each line tells a rule, its scope (* is the whole cluster), and the bindings and roles that give it. With --namespace NS there are the lines
-that count in that namespace alone.
+Each line is a rule, its scope (* is the whole cluster), and the bindings and
+roles that give it. --namespace NS: only what counts in NS.
 
 Example:
-  printf '%s\n' \
-    '{"apiVersion":"rbac.authorization.k8s.io/v1","kind":"Role","metadata":{"name":"reader","namespace":"default"},"rules":[{"apiGroups":["","apps"],"resources":["deployments"],"verbs":["get","list"]}]}' \
-    '{"apiVersion":"rbac.authorization.k8s.io/v1","kind":"RoleBinding","metadata":{"name":"readers","namespace":"default"},"roleRef":{"kind":"Role","name":"reader"},"subjects":[{"kind":"Group","name":"dev"}]}' > policy.jsonl
-  kapi what policy.jsonl ann dev
+  cat > policy.json <<'END'
+  {"apiVersion":"rbac.authorization.k8s.io/v1","kind":"Role",
+   "metadata":{"name":"reader","namespace":"default"},
+   "rules":[{"apiGroups":[""],"resources":["secrets"],"verbs":["get"]}]}
+  {"apiVersion":"rbac.authorization.k8s.io/v1","kind":"RoleBinding",
+   "metadata":{"name":"readers","namespace":"default"},
+   "roleRef":{"kind":"Role","name":"reader"},
+   "subjects":[{"kind":"User","name":"ann"}]}
+  END
+  kapi what policy.json ann | tail -n 1 | tr -s ' '
 
 It prints
-  VERBS     RESOURCES                     NAMES  SCOPE    BY
-  get,list  deployments,deployments.apps  -      default  RoleBinding readers, Role reader, rule 0"#;
+  get secrets - default RoleBinding readers, Role reader, rule 0"#;
 
 fn what<'a>(alloc: Global) -> Result<Command<'a>, Memory>
     ensures { IfOk result (λ c. (app_of c ≡ what_app) × ((out-Command c).has_globals ≡ false)) }
 {
-    let about = "Tells what a user has by a policy, and by what";
-    asking(alloc, "what", about, WHAT_FORMS)?
+    let about = "Prints what a user has by a policy, and by what";
+    formed(alloc, "what", about, WHAT_FORMS)?
         .arg(file(alloc, "POLICY", "The objects of the policy"))?
         .arg(file(alloc, "USER", "The user that is asked about"))?
         .arg(some_words(alloc, "GROUP", "Groups that the user is in besides its own"))
@@ -426,28 +554,31 @@ fn what<'a>(alloc: Global) -> Result<Command<'a>, Memory>
 
 /// What `kapi risks --help` shows below the arguments.
 const RISKS_FORMS: &str =
-    r#"POLICY: objects as 'kubectl get -o json' prints them, or JSON objects one after the other, in any order. A folder is its files
-*.json and *.jsonl, and - is standard input. Objects that say nothing about policy are counted and passed over.
+    r#"POLICY is manifests in JSON, as 'kubectl get -o json' prints them: a file, a
+folder of *.json and *.jsonl, or -, standard input. Objects that say nothing
+about policy are counted and passed over.
 
-Each line tells a user or group that may escalate or bind roles or impersonate, the namespace (* is all of them), and the binding, role and
-rule that let it. The last line tells what holds of all others.
+Each line is a user or group that may escalate or bind roles or impersonate, the
+namespace (* is all of them), and the binding, role and rule that give it. The
+last line says what holds of all others.
 
 Example:
-  printf '%s\n' '{"apiVersion":"rbac.authorization.k8s.io/v1","kind":"ClusterRoleBinding","metadata":{"name":"admins"},"roleRef":{"kind":"ClusterRole","name":"cluster-admin"},"subjects":[{"kind":"User","name":"olga"}]}' > policy.jsonl
-  kapi risks policy.jsonl
+  cat > policy.json <<'END'
+  {"apiVersion":"rbac.authorization.k8s.io/v1","kind":"ClusterRoleBinding",
+   "metadata":{"name":"admins"},
+   "roleRef":{"kind":"ClusterRole","name":"cluster-admin"},
+   "subjects":[{"kind":"User","name":"olga"}]}
+  END
+  kapi risks policy.json | grep olga | tr -s ' '
 
 It prints
-  SUBJECT               NAMESPACE  BINDING                           RULE
-  Group system:masters  *          -                                 everything
-  User olga             *          ClusterRoleBinding admins         ClusterRole cluster-admin, rule 0
-  Group system:masters  *          ClusterRoleBinding cluster-admin  ClusterRole cluster-admin, rule 0
-  Through roles and bindings, nothing that others without the verb impersonate write lets anybody do what neither that one nor any of them was allowed. kapi paths lists other ways."#;
+  User olga * ClusterRoleBinding admins ClusterRole cluster-admin, rule 0"#;
 
 fn risks<'a>(alloc: Global) -> Result<Command<'a>, Memory>
     ensures { IfOk result (λ c. (app_of c ≡ risks_app) × ((out-Command c).has_globals ≡ false)) }
 {
-    let about = "Tells who may come to more than a policy gives";
-    asking(alloc, "risks", about, RISKS_FORMS)?.arg(file(
+    let about = "Prints who may come to more than a policy gives";
+    formed(alloc, "risks", about, RISKS_FORMS)?.arg(file(
         alloc,
         "POLICY",
         "The objects of the policy",
@@ -456,23 +587,30 @@ fn risks<'a>(alloc: Global) -> Result<Command<'a>, Memory>
 
 /// What `kapi paths --help` shows below the arguments.
 const PATHS_FORMS: &str =
-    r#"POLICY: objects as 'kubectl get -o json' prints them, or JSON objects one after the other, in any order. A folder is its files
-*.json and *.jsonl, and - is standard input. Objects that say nothing about policy are counted and passed over.
+    r#"POLICY is manifests in JSON, as 'kubectl get -o json' prints them: a file, a
+folder of *.json and *.jsonl, or -, standard input. Objects that say nothing
+about policy are counted and passed over.
 
-Each line tells a subject of a binding and whom it can become: everything, or else each user, group, account or namespace that it
-reaches. Below it stands a shortest path, a right a line. Each step takes one right, also where the cluster asks for two.
+Each line is a subject of a binding and whom it can become: everything, or else
+each user, group, account or namespace that it reaches. Below is a shortest
+path, a right a line. Each step takes one right, even if a cluster asks for two.
 
 --to WHOM: only paths to WHOM, as it is printed, and to everything.
---without KIND: leaves the rights of a kind out, as the cluster guards them otherwise: star, secrets, workloads, changes, exec, volumes,
-nodes, escalate, bind, impersonate, tokens, signers, webhooks or namespaces.
+--without KIND: leaves out rights of a kind, as clusters differ: star, secrets,
+workloads, changes, exec, volumes, nodes, escalate, bind, impersonate, tokens,
+signers, webhooks or namespaces.
 
 Example:
-  printf '%s\n' '{"apiVersion":"rbac.authorization.k8s.io/v1","kind":"ClusterRoleBinding","metadata":{"name":"admins"},"roleRef":{"kind":"ClusterRole","name":"cluster-admin"},"subjects":[{"kind":"User","name":"olga"}]}' > policy.jsonl
-  kapi paths policy.jsonl
+  cat > policy.json <<'END'
+  {"apiVersion":"rbac.authorization.k8s.io/v1","kind":"ClusterRoleBinding",
+   "metadata":{"name":"admins"},
+   "roleRef":{"kind":"ClusterRole","name":"cluster-admin"},
+   "subjects":[{"kind":"User","name":"olga"}]}
+  END
+  kapi paths policy.json | head -n 1
 
 It prints
-  User olga -> everything
-    * * cluster-wide (ClusterRoleBinding admins, ClusterRole cluster-admin, rule 0) -> everything"#;
+  User olga -> everything"#;
 
 fn paths<'a>(alloc: Global) -> Result<Command<'a>, Memory>
     ensures { IfOk result (λ c. (app_of c ≡ paths_app) × ((out-Command c).has_globals ≡ false)) }
@@ -484,16 +622,91 @@ fn paths<'a>(alloc: Global) -> Result<Command<'a>, Memory>
 fn paths_options<'a>(alloc: Global) -> Result<Command<'a>, Memory>
     ensures { IfOk result (λ c. (app_of c ≡ paths_options_app) × ((out-Command c).has_globals ≡ false)) }
 {
-    let about = "Tells who can become whom in a cluster with a policy";
+    let about = "Prints who can become whom in a cluster with a policy";
     asking(alloc, "paths", about, PATHS_FORMS)?
         .arg(option(alloc, "to", "WHOM", "Whom the paths lead to"))?
         .arg(option(
             alloc,
             "without",
             "KIND",
-            "A kind of rights that is left out, once or more",
+            "A kind of rights that is left out, again and again",
         )
         .action(ArgAction::Append))
+}
+
+/// What `kapi check --help` shows below the arguments.
+const CHECK_FORMS: &str =
+    r#"POLICY is manifests in JSON, as 'kubectl get -o json' prints them: a file, a
+folder of *.json and *.jsonl, or -, standard input. Objects that say nothing
+about policy are counted and passed over.
+
+Each line names a file, a line and what dangles there: a binding whose role is
+not there, a role that nothing binds, a service account that is not there (if
+the files have any), a rule that another of its role covers, or a resource that
+no kind of Kubernetes serves.
+
+Example:
+  cat > policy.json <<'END'
+  {"apiVersion":"rbac.authorization.k8s.io/v1","kind":"ClusterRoleBinding",
+   "metadata":{"name":"admins"},
+   "roleRef":{"kind":"ClusterRole","name":"admin"},
+   "subjects":[{"kind":"User","name":"olga"}]}
+  END
+  kapi check policy.json | cut -c 1-76
+
+It prints
+  policy.json:1: ClusterRoleBinding admins: ClusterRole admin is not in the po
+
+Status 0 if nothing dangles, 3 if something does."#;
+
+fn check<'a>(alloc: Global) -> Result<Command<'a>, Memory>
+    ensures { IfOk result (λ c. (app_of c ≡ check_app) × ((out-Command c).has_globals ≡ false)) }
+{
+    let about = "Prints what dangles in a policy";
+    asking(alloc, "check", about, CHECK_FORMS)?.arg(file(
+        alloc,
+        "POLICY",
+        "The objects of the policy",
+    ))
+}
+
+/// What `kapi suggest --help` shows below the arguments.
+const SUGGEST_FORMS: &str = r#"USES: questions as of kapi audit, each a line with the spec of a
+SubjectAccessReview; with --log the events of a cluster's audit log.
+It prints roles and bindings that allow each use to its user, and no more than
+any policy that does.
+
+With --policy POLICY, uses that POLICY denies are left out and counted, and the
+rules of it that no use needs are listed on standard error.
+
+Example:
+  printf '%s%s\n' '{"user":"ann","resourceAttributes":{"verb":"get",' \
+    '"resource":"pods","namespace":"shop"}}' > uses.jsonl
+  kapi suggest uses.jsonl --format table
+
+It prints
+  VERBS  RESOURCES  NAMES  SCOPE  BY
+  get    pods       -      shop   User ann"#;
+
+fn suggest<'a>(alloc: Global) -> Result<Command<'a>, Memory>
+    ensures { IfOk result (λ c. (app_of c ≡ suggest_app) × ((out-Command c).has_globals ≡ false)) }
+{
+    suggest_options(alloc)?.arg(file(alloc, "USES", "What was used"))
+}
+
+/// `kapi suggest` without its file.
+fn suggest_options<'a>(alloc: Global) -> Result<Command<'a>, Memory>
+    ensures { IfOk result (λ c. (app_of c ≡ suggest_options_app) × ((out-Command c).has_globals ≡ false)) }
+{
+    let about = "Prints the least roles for what was used";
+    formed(alloc, "suggest", about, SUGGEST_FORMS)?
+        .arg(flag(alloc, "log", "USES is a cluster's audit log"))?
+        .arg(option(
+            alloc,
+            "policy",
+            "POLICY",
+            "The policy that may allow the uses",
+        ))
 }
 
 /// `--with-defaults`, of programs that read manifests.
@@ -504,7 +717,7 @@ fn defaults<'a>(alloc: Global) -> Arg<'a>
     flag(
         alloc,
         "with-defaults",
-        "Puts Kubernetes' roles admin, edit and view beneath the files",
+        "Kubernetes' roles admin, edit, view beneath them",
     )
 }
 
@@ -516,7 +729,7 @@ fn strict<'a>(alloc: Global) -> Arg<'a>
     flag(
         alloc,
         "strict",
-        "Ends with status 1 where there is a doubt about a policy",
+        "Status 1 if there is a doubt about a policy",
     )
 }
 
@@ -594,7 +807,7 @@ fn readers<'a>(alloc: Global) -> Arg<'a>
         alloc,
         "readers",
         "N",
-        "How many threads answer, from 1 to 16; 2 if it is left out",
+        "Threads that answer, 1 to 16; 2 if left out",
     )
 }
 
@@ -604,7 +817,7 @@ fn ports<'a>(alloc: Global) -> Arg<'a>
 {
     Arg::new(alloc, "LISTEN")
         .value_name("PORT=USER[,GROUP..]")
-        .help("A port and who its clients are, 1 to 16 of them")
+        .help("A port and who its clients are, 1 to 16 times")
         .required(true)
         .num_args(1..=PORTS)
 }

@@ -7,10 +7,10 @@ use crate::policies::{
     who_wanted,
 };
 use crate::program::{
-    CompareFiles, PathsWords, RisksFile, WhatWords, WhoQuestion, WhoWanted, WhoWords,
+    Asking, CompareWords, PathsWords, WhatWords, WhoQuestion, WhoWanted, WhoWords,
 };
 use crate::telling::{print, read_file};
-use kapi_access::{Form, Holder, Identities, asked_as, question_of};
+use kapi_access::{Form, Holder, Identities, Scope, Shown, asked_as, question_of};
 use kapi_paths::is_kind;
 use kapi_text::{Memory, Text};
 use std::alloc::Global;
@@ -26,34 +26,51 @@ struct Source<'a> {
     bytes: &'a [u8],
 }
 
-/// Prints what a policy allows that another did not: status 0 if nobody gains, 3 if somebody does, 4 if the roles of a
-/// policy are not settled, or 1 after a line on standard error.
+/// Prints what a policy allows that another did not, or, with `--lost`, what the other allowed that it does not: status 0 if
+/// there is nothing, 3 if there is something, 4 if the roles of a policy are not settled, or 1 after a line on standard
+/// error.
 pub fn run_compare<
     R: Files + Input + Print + Eprint + AllocGlobal + Wait + Threads + Sync + Clone + Drop,
->(rt: &R, files: &CompareFiles) -> io::Result<Ending> {
-    let before = read_policy(rt, files.before.as_str(), &files.reading)?;
-    let after = read_policy(rt, files.after.as_str(), &files.reading)?;
+>(rt: &R, words: &CompareWords) -> io::Result<Ending> {
+    let asking = &words.after;
+    let before = read_policy(rt, words.before.as_str(), &asking.reading)?;
+    let after = read_policy(rt, asking.policy.as_str(), &asking.reading)?;
     let (Some(before), Some(after)) = (before, after) else {
         return Ok(Ending::Stopped);
     };
-    let before_counts = tell_counts(rt, files.before.as_str(), &before)?;
-    let after_counts = tell_counts(rt, files.after.as_str(), &after)?;
+    let before_counts = tell_counts(rt, words.before.as_str(), &before)?;
+    let after_counts = tell_counts(rt, asking.policy.as_str(), &after)?;
     if !before_counts || !after_counts {
         return Ok(Ending::Stopped);
     }
     let mut doubts = Doubts::new(rt.alloc());
     doubts.tell(rt, &after)?;
     doubts.tell(rt, &before)?;
+    let (old, new) = in_order(words.lost, &before, &after);
     let compared = compare_files(
         rt.alloc(),
         rt,
-        form(files.json),
-        identities(files.usual_groups),
-        before.lines(),
-        after.lines(),
+        asking.form,
+        shown(words.atoms),
+        identities(words.usual_groups),
+        old.lines(),
+        new.lines(),
     );
-    let ending = tell_compared(rt, files, &before, &after, compared)?;
-    Ok(ending.or_doubted(files.reading.strict && doubts.are_some()))
+    let ending = tell_compared(rt, words, old, new, compared)?;
+    Ok(ending.or_doubted(asking.reading.strict && doubts.are_some()))
+}
+
+/// The policies as they are compared: exchanged if what is lost is asked for.
+fn in_order<'a>(
+    lost: bool,
+    before: &'a ReadPolicy,
+    after: &'a ReadPolicy,
+) -> (&'a ReadPolicy, &'a ReadPolicy) {
+    if lost {
+        (after, before)
+    } else {
+        (before, after)
+    }
 }
 
 /// Reports how many roles and bindings a policy has, and whether it has any.
@@ -70,17 +87,19 @@ fn tell_counts(rt: &impl Eprint, name: &str, policy: &ReadPolicy) -> io::Result<
 
 fn tell_compared<R: Print + Eprint + AllocGlobal>(
     rt: &R,
-    files: &CompareFiles,
-    before: &ReadPolicy,
-    after: &ReadPolicy,
+    words: &CompareWords,
+    old: &ReadPolicy,
+    new: &ReadPolicy,
     compared: Result<Compared, FilesFault>,
 ) -> io::Result<Ending> {
     match compared {
         Ok(compared) => {
             print(rt, compared.text.as_slice())?;
-            tell_unsettled(rt, files.before.as_str(), compared.before_settled)?;
-            tell_unsettled(rt, files.after.as_str(), compared.after_settled)?;
             let settled = compared.before_settled && compared.after_settled;
+            if !settled {
+                tell_unsettled(rt, words.before.as_str(), compared.before_settled)?;
+                tell_unsettled(rt, words.after.policy.as_str(), compared.after_settled)?;
+            }
             Ok(Ending::of_comparison(compared.gains).or_unsettled(settled))
         }
         Err(FilesFault::Memory) => {
@@ -88,8 +107,8 @@ fn tell_compared<R: Print + Eprint + AllocGlobal>(
             Ok(Ending::Stopped)
         }
         Err(_refused) => {
-            tell_refused(rt, before)?;
-            tell_refused(rt, after)?;
+            tell_refused(rt, old)?;
+            tell_refused(rt, new)?;
             Ok(Ending::Stopped)
         }
     }
@@ -100,25 +119,23 @@ pub fn run_who<R: Files + Input + Print + Eprint + AllocGlobal + Wait + Clone + 
     rt: &R,
     words: &WhoWords,
 ) -> io::Result<Ending> {
+    let asking = &words.asking;
+    let Some(policy) = read_policy(rt, asking.policy.as_str(), &asking.reading)? else {
+        return Ok(Ending::Stopped);
+    };
     match &words.question {
         WhoQuestion::Words(wanted) => {
-            let Some(policy) = read_policy(rt, words.policy.as_str(), &words.reading)? else {
-                return Ok(Ending::Stopped);
-            };
-            let asked = ask_words(rt, form(words.json), policy.lines(), wanted);
-            tell_who(rt, words, &policy, &file_of("", b"".as_slice()), asked)
+            let asked = ask_words(rt, asking.form, policy.lines(), wanted);
+            let none = file_of("", b"".as_slice());
+            answer(rt, asking, &policy, &none, Some(wanted), asked)
         }
         WhoQuestion::File(file) => {
-            let Some(policy) = read_policy(rt, words.policy.as_str(), &words.reading)? else {
-                return Ok(Ending::Stopped);
-            };
             let Some(lines) = read_file(rt, file.as_str())? else {
                 return Ok(Ending::Stopped);
             };
-            let form = form(words.json);
             let questions = file_of(file.as_str(), lines.as_slice());
-            let asked = who_file(rt.alloc(), rt, form, policy.lines(), questions.bytes);
-            tell_who(rt, words, &policy, &questions, asked)
+            let asked = who_file(rt.alloc(), rt, asking.form, policy.lines(), questions.bytes);
+            answer(rt, asking, &policy, &questions, None, asked)
         }
     }
 }
@@ -129,54 +146,54 @@ fn ask_words<R: AllocGlobal + Wait>(
     objects: &[u8],
     wanted: &WhoWanted,
 ) -> Result<Answered, FilesFault> {
+    let namespace = wanted.namespace.as_str();
+    let scope = if wanted.cluster {
+        Scope::Cluster
+    } else if namespace.is_empty() {
+        Scope::Everywhere
+    } else {
+        Scope::Namespace(Text::copy_of(rt.alloc(), namespace)?)
+    };
     let wanted = question_of(
         rt.alloc(),
         wanted.verb.as_str(),
         wanted.resource.as_str(),
-        wanted.namespace.as_str(),
+        scope,
         wanted.name.as_str(),
     )?;
     who_wanted(rt.alloc(), rt, form, objects, &wanted)
 }
 
-fn tell_who<R: Print + Eprint + AllocGlobal>(
+/// Prints an answer about a policy and reports the doubts about it and about the questions: status 0, 4 if the roles are
+/// not settled, 1 after a fault, or for a doubt if the words are strict.
+fn answer<R: Print + Eprint + AllocGlobal>(
     rt: &R,
-    words: &WhoWords,
+    asking: &Asking,
     policy: &ReadPolicy,
     questions: &Source<'_>,
+    wanted: Option<&WhoWanted>,
     asked: Result<Answered, FilesFault>,
 ) -> io::Result<Ending> {
-    match asked {
-        Ok(answered) => {
-            print(rt, answered.text.as_slice())?;
-            tell_unsettled(rt, words.policy.as_str(), answered.settled)?;
-            let ending = tell_who_doubts(rt, words, policy, questions)?;
-            Ok(ending.or_unsettled(answered.settled))
-        }
-        Err(fault) => refuse(rt, fault, policy, questions),
-    }
-}
-
-/// Reports the doubts about a question and its policy: status 1 if there is one and the words are strict.
-fn tell_who_doubts<R: Eprint + AllocGlobal>(
-    rt: &R,
-    words: &WhoWords,
-    policy: &ReadPolicy,
-    questions: &Source<'_>,
-) -> io::Result<Ending> {
+    let answered = match asked {
+        Ok(answered) => answered,
+        Err(fault) => return refuse(rt, fault, policy, questions),
+    };
+    print(rt, answered.text.as_slice())?;
+    tell_unsettled(rt, asking.policy.as_str(), answered.settled)?;
     let named = &policy.prepared.words;
-    let mut doubts = doubts_of(rt, words.policy.as_str(), policy)?;
-    match &words.question {
-        WhoQuestion::Words(wanted) => doubts.tell_question(
+    let mut doubts = doubts_of(rt, asking.policy.as_str(), policy)?;
+    doubts.tell_lines(rt, named, questions.bytes)?;
+    if let Some(wanted) = wanted {
+        doubts.tell_question(
             rt,
             named,
             wanted.verb.as_str(),
             wanted.resource.as_str(),
             wanted.namespace.as_str(),
-        )?,
-        WhoQuestion::File(_name) => doubts.tell_lines(rt, named, questions.bytes)?,
+        )?;
     }
-    Ok(Ending::Done.or_doubted(words.reading.strict && doubts.are_some()))
+    let ending = Ending::Done.or_doubted(asking.reading.strict && doubts.are_some());
+    Ok(ending.or_unsettled(answered.settled))
 }
 
 /// Prints what a user has: status 0, 4 if the roles are not settled, or 1 after a line on standard error.
@@ -184,20 +201,20 @@ pub fn run_what<R: Files + Input + Print + Eprint + AllocGlobal + Wait + Clone +
     rt: &R,
     words: &WhatWords,
 ) -> io::Result<Ending> {
-    let Some(policy) = read_policy(rt, words.policy.as_str(), &words.reading)? else {
+    let asking = &words.asking;
+    let Some(policy) = read_policy(rt, asking.policy.as_str(), &asking.reading)? else {
         return Ok(Ending::Stopped);
     };
     let holder = holder_of(rt.alloc(), words)?;
-    match what_file(rt.alloc(), rt, form(words.json), policy.lines(), &holder) {
-        Ok(answered) => {
-            print(rt, answered.text.as_slice())?;
-            tell_unsettled(rt, words.policy.as_str(), answered.settled)?;
-            let doubts = doubts_of(rt, words.policy.as_str(), &policy)?;
-            let ending = Ending::Done.or_doubted(words.reading.strict && doubts.are_some());
-            Ok(ending.or_unsettled(answered.settled))
-        }
-        Err(fault) => refuse(rt, fault, &policy, &file_of("", b"".as_slice())),
-    }
+    let asked = what_file(rt.alloc(), rt, asking.form, policy.lines(), &holder);
+    answer(
+        rt,
+        asking,
+        &policy,
+        &file_of("", b"".as_slice()),
+        None,
+        asked,
+    )
 }
 
 /// The user that the words name, in the groups that it has by itself besides theirs.
@@ -206,7 +223,7 @@ fn holder_of(alloc: Global, words: &WhatWords) -> Result<Holder, Memory> {
     for group in words.groups.iter() {
         groups.push(Text::copy_of(alloc, group.as_str())?)?;
     }
-    let namespace = words.reading.namespace.as_str();
+    let namespace = words.asking.reading.namespace.as_str();
     let within = if namespace.is_empty() {
         None
     } else {
@@ -222,20 +239,20 @@ fn holder_of(alloc: Global, words: &WhatWords) -> Result<Holder, Memory> {
 /// standard error.
 pub fn run_risks<R: Files + Input + Print + Eprint + AllocGlobal + Wait + Clone + Drop>(
     rt: &R,
-    file: &RisksFile,
+    asking: &Asking,
 ) -> io::Result<Ending> {
-    let Some(policy) = read_policy(rt, file.policy.as_str(), &file.reading)? else {
+    let Some(policy) = read_policy(rt, asking.policy.as_str(), &asking.reading)? else {
         return Ok(Ending::Stopped);
     };
-    match risks_file(rt.alloc(), rt, form(file.json), policy.lines()) {
-        Ok(answered) => {
-            print(rt, answered.text.as_slice())?;
-            let doubts = doubts_of(rt, file.policy.as_str(), &policy)?;
-            let ending = Ending::Done.or_doubted(file.reading.strict && doubts.are_some());
-            Ok(ending.or_unsettled(answered.settled))
-        }
-        Err(fault) => refuse(rt, fault, &policy, &file_of("", b"".as_slice())),
-    }
+    let asked = risks_file(rt.alloc(), rt, asking.form, policy.lines());
+    answer(
+        rt,
+        asking,
+        &policy,
+        &file_of("", b"".as_slice()),
+        None,
+        asked,
+    )
 }
 
 /// Prints who can become whom by a policy: status 0, 4 if the roles are not settled, or 1 after a line on standard error.
@@ -249,19 +266,19 @@ pub fn run_paths<R: Files + Input + Print + Eprint + AllocGlobal + Wait + Clone 
             return Ok(Ending::Misused);
         }
     }
-    let Some(policy) = read_policy(rt, words.policy.as_str(), &words.reading)? else {
+    let asking = &words.asking;
+    let Some(policy) = read_policy(rt, asking.policy.as_str(), &asking.reading)? else {
         return Ok(Ending::Stopped);
     };
-    match paths_file(rt.alloc(), rt, words, policy.lines()) {
-        Ok(answered) => {
-            print(rt, answered.text.as_slice())?;
-            tell_unsettled(rt, words.policy.as_str(), answered.settled)?;
-            let doubts = doubts_of(rt, words.policy.as_str(), &policy)?;
-            let ending = Ending::Done.or_doubted(words.reading.strict && doubts.are_some());
-            Ok(ending.or_unsettled(answered.settled))
-        }
-        Err(fault) => refuse(rt, fault, &policy, &file_of("", b"".as_slice())),
-    }
+    let asked = paths_file(rt.alloc(), rt, words, policy.lines());
+    answer(
+        rt,
+        asking,
+        &policy,
+        &file_of("", b"".as_slice()),
+        None,
+        asked,
+    )
 }
 
 /// Reports the doubts about a policy of that name.
@@ -280,8 +297,8 @@ fn file_of<'a>(name: &'a str, bytes: &'a [u8]) -> Source<'a> {
     Source { name, bytes }
 }
 
-fn form(json: bool) -> Form {
-    if json { Form::Json } else { Form::Table }
+fn shown(atoms: bool) -> Shown {
+    if atoms { Shown::Atoms } else { Shown::Rules }
 }
 
 fn identities(usual: bool) -> Identities {
@@ -292,7 +309,7 @@ fn identities(usual: bool) -> Identities {
     }
 }
 
-fn tell_unsettled(rt: &impl Eprint, file: &str, settled: bool) -> io::Result<()> {
+pub fn tell_unsettled(rt: &impl Eprint, file: &str, settled: bool) -> io::Result<()> {
     if !settled {
         eprintln!(rt; "{file}: the roles are not settled after 64 turns")?;
     }

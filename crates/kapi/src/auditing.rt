@@ -1,13 +1,16 @@
 //! Questions of a file, answered by a policy.
 ghost use Rattle.std.specs.Prelude.{◌≤◌};
 
-use crate::asking::doubts_of;
+use crate::asking::{doubts_of, tell_unsettled};
 use crate::ending::Ending;
+use crate::logging::audit_log;
 use crate::manifests::{ReadPolicy, read_policy, tell_refused};
 use crate::program::{AuditFiles, Reading};
 use crate::telling::{print, read_file, tell_reason};
-use kapi_audit::{AuditFault, NoGate, audit_alone, audit_run};
+use kapi_audit::{AuditFault, Audited, NoGate, audit_alone, audit_run};
+use kapi_lines::{as_text, numbered_lines};
 use kapi_reasons::{object_reason, question_reason};
+use serde_json::Value;
 use std::fs::Files;
 use std::io;
 use std::sync::Wait;
@@ -18,6 +21,7 @@ pub fn run_audit<
     R: Files + Input + Print + Eprint + AllocGlobal + Threads + Wait + Sync + Clone + Drop,
 >(rt: &R, files: &AuditFiles) -> io::Result<Ending> {
     match &files.manifests {
+        Some(reading) if files.log => audit_log(rt, files, reading),
         Some(reading) => audit_manifests(rt, files, reading),
         None => audit_lines(rt, files),
     }
@@ -37,7 +41,7 @@ fn audit_lines<R: Files + Print + Eprint + AllocGlobal + Threads + Wait + Sync>(
     let (policy, questions) = (policy.as_slice(), questions.as_slice());
     match audit(rt, policy, questions, files.readers) {
         Ok(answers) => {
-            print(rt, answers.as_slice())?;
+            print_answers(rt, files.json, answers.as_slice())?;
             Ok(Ending::Done)
         }
         Err(fault) => {
@@ -63,11 +67,13 @@ fn audit_manifests<
     };
     let questions = questions.as_slice();
     match audit_objects(rt, &policy, questions, files.readers) {
-        Ok(answers) => {
-            print(rt, answers.as_slice())?;
+        Ok(audited) => {
+            print_answers(rt, files.json, audited.text.as_slice())?;
+            tell_unsettled(rt, files.policy.as_str(), audited.settled)?;
             let mut doubts = doubts_of(rt, files.policy.as_str(), &policy)?;
             doubts.tell_reviews(rt, &policy.prepared.words, questions)?;
-            Ok(Ending::Done.or_doubted(reading.strict && doubts.are_some()))
+            let ending = Ending::Done.or_doubted(reading.strict && doubts.are_some());
+            Ok(ending.or_unsettled(audited.settled))
         }
         Err(AuditFault::PolicyLine(_line)) => {
             tell_refused(rt, &policy)?;
@@ -75,6 +81,26 @@ fn audit_manifests<
         }
         Err(fault) => refuse(rt, fault, questions),
     }
+}
+
+/// Prints answers, as JSON an object a line.
+fn print_answers<R: Print + AllocGlobal>(rt: &R, json: bool, answers: &[u8]) -> io::Result<()> {
+    if !json {
+        return print(rt, answers);
+    }
+    let mut text = Vec::new(rt.alloc());
+    for line in numbered_lines(rt.alloc(), answers)?.iter() {
+        match line.text.strip_prefix(b"allowed ".as_slice()) {
+            Some(reason) => {
+                let reason = String::from_str(rt.alloc(), as_text(reason).unwrap_or(""))?;
+                let reason = Value::String(reason).to_string(rt.alloc())?;
+                let object = format!(in rt.alloc(); "{{\"allowed\":true,\"reason\":{reason}}}\n")?;
+                text.extend_from_slice(object.as_bytes())?;
+            }
+            None => text.extend_from_slice(b"{\"allowed\":false}\n")?,
+        }
+    }
+    print(rt, text.as_slice())
 }
 
 /// Reports why questions have no answers: status 1.
@@ -106,7 +132,7 @@ fn audit_objects<R: AllocGlobal + Threads + Wait + Sync>(
     policy: &ReadPolicy,
     questions: &[u8],
     readers: usize,
-) -> Result<Vec<u8>, AuditFault>
+) -> Result<Audited, AuditFault>
     requires { (1 ≤ readers) × (readers ≤ 16) }
 {
     audit_alone(rt.alloc(), rt, policy.lines(), questions, readers, &NoGate)

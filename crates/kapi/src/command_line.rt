@@ -2,17 +2,18 @@ ghost use Rattle.std.specs.Prelude.{◌≡◌, ◌≤◌, ℕ, List, [], Some, I
 ghost use Rattle.clap.specs.Matches.{found_of};
 ghost use Rattle.clap.specs.Simple.{subcommand_rows_of};
 ghost use Rattle.clap.specs.Walk.{all_of, first_of, rows_of};
-ghost use Rattle.kapi.specs.Asked.{AreWrong, Names, Reads, answer_of, are_idle, asked_by, audited_in, has_manifests, has_reading, reading_by, reading_told, served_in, compare_in, compare_told, file_alone, has_words, question_in, question_told, paths_in, paths_told, risks_in, risks_told, wanted_in, wanted_told, what_in, what_told, who_in, who_told, files_in, files_told, first_of_word, is_true, listens_in, options_in, options_told, readers_in, told, transcripts_in, transcripts_told};
+ghost use Rattle.kapi.specs.Asked.{AreWrong, Names, Reads, answer_of, are_idle, asked_by, asking_in, asking_told, audited_in, form_in, has_manifests, has_reading, reading_by, reading_told, served_in, compare_in, compare_told, file_alone, has_words, question_in, question_told, paths_in, paths_told, suggest_in, suggest_told, wanted_in, wanted_told, what_in, what_told, who_in, who_told, files_in, files_told, first_of_word, is_true, listens_in, options_in, options_told, readers_in, told, transcripts_in, transcripts_told};
 ghost use Rattle.kapi.specs.Listens.{listen_of, listens_of, parted as parted_of};
 
 use crate::arguments::program;
 use crate::numbers::{first_revision, listening_port, number_of_readers, port};
 use crate::program::{
-    AuditFiles, Command, CommandFault, CompareFiles, Listen, PathsWords, Reading, ReplayOptions,
-    RisksFile, ServeOptions, WhatWords, WhoQuestion, WhoWanted, WhoWords,
+    Asking, AuditFiles, Command, CommandFault, CompareWords, Listen, PathsWords, Reading,
+    ReplayOptions, ServeOptions, SuggestWords, WhatWords, WhoQuestion, WhoWanted, WhoWords,
 };
 use clap::ArgMatches;
 use clap::error::ErrorKind;
+use kapi_access::Form;
 use kapi_lines::read_identity;
 use kapi_text::Memory;
 use std::alloc::Global;
@@ -52,11 +53,13 @@ fn named(alloc: Global, name: &str, words: &ArgMatches<'_>) -> Result<Command, C
         "audit" => Ok(Command::Audit(audit_files(alloc, words)?)),
         "serve" => Ok(Command::Serve(serve_options(alloc, words)?)),
         "replay" => Ok(Command::Replay(replay_options(alloc, words)?)),
-        "compare" => Ok(Command::Compare(compare_files(alloc, words)?)),
+        "compare" => Ok(Command::Compare(compare_words(alloc, words)?)),
         "who" => Ok(Command::Who(who_words(alloc, words)?)),
         "what" => Ok(Command::What(what_words(alloc, words)?)),
-        "risks" => Ok(Command::Risks(risks_file(alloc, words)?)),
+        "risks" => Ok(Command::Risks(asking(alloc, words, "POLICY")?)),
         "paths" => Ok(Command::Paths(paths_words(alloc, words)?)),
+        "check" => Ok(Command::Check(asking(alloc, words, "POLICY")?)),
+        "suggest" => Ok(Command::Suggest(suggest_words(alloc, words)?)),
         _ => Err(CommandFault::Words),
     }
 }
@@ -72,16 +75,19 @@ fn audit_files(alloc: Global, words: &ArgMatches<'_>) -> Result<AuditFiles, Comm
     Ok(AuditFiles {
         policy: String::from_str(alloc, policy)?,
         questions: String::from_str(alloc, questions)?,
+        log: is_given(words, "log"),
+        json: is_given(words, "json"),
         manifests,
         readers,
     })
 }
 
-/// How the manifests of an audit are read; none if its policy is lines, for which no word says how to read them.
+/// How the manifests of an audit are read, as those of an audit log are; none if its policy is lines, for which no word says how
+/// to read them.
 fn audited_manifests(alloc: Global, words: &ArgMatches<'_>) -> Result<Option<Reading>, CommandFault>
     ensures { Reads (λ r. option_map reading_told r) result (audited_in (rows_of (found_of words.now))) }
 {
-    if is_given(words, "manifests") {
+    if is_given(words, "manifests") || is_given(words, "log") {
         return Ok(Some(reading(alloc, words, "with")?));
     }
     if says_how_to_read(words) {
@@ -134,6 +140,7 @@ fn replay_options(alloc: Global, words: &ArgMatches<'_>) -> Result<ReplayOptions
     Ok(ReplayOptions {
         files,
         write: is_given(words, "write"),
+        strict: is_given(words, "strict"),
         junit,
     })
 }
@@ -153,19 +160,47 @@ fn text_or_empty(alloc: Global, words: &ArgMatches<'_>, name: &str) -> Result<St
     Ok(String::from_str(alloc, value(words, name).unwrap_or(""))?)
 }
 
-/// The files that the words behind `compare` name.
-fn compare_files(alloc: Global, words: &ArgMatches<'_>) -> Result<CompareFiles, CommandFault>
+/// What is printed: as `--json` or `--format` says, else a table.
+fn form(words: &ArgMatches<'_>) -> Option<Form>
+    ensures { result ≡ form_in (rows_of (found_of words.now)) }
+{
+    if is_given(words, "json") {
+        return Some(Form::Json);
+    }
+    match value(words, "format") {
+        None => Some(Form::Table),
+        Some("table") => Some(Form::Table),
+        Some("json") => Some(Form::Json),
+        Some("markdown") => Some(Form::Markdown),
+        Some(_other) => None,
+    }
+}
+
+/// The policy of that name, how it is read, and what is printed.
+fn asking(alloc: Global, words: &ArgMatches<'_>, policy: &str) -> Result<Asking, CommandFault>
+    ensures { Reads asking_told result (asking_in policy.now (rows_of (found_of words.now))) }
+{
+    let policy = needed(alloc, words, policy)?;
+    let form = form(words).ok_or(CommandFault::Words)?;
+    Ok(Asking {
+        policy,
+        reading: reading(alloc, words, "with")?,
+        form,
+    })
+}
+
+/// The policies that the words behind `compare` name.
+fn compare_words(alloc: Global, words: &ArgMatches<'_>) -> Result<CompareWords, CommandFault>
     ensures { Reads compare_told result (compare_in (rows_of (found_of words.now))) }
 {
     let before = needed(alloc, words, "BEFORE")?;
-    let after = needed(alloc, words, "AFTER")?;
-    let reading = reading(alloc, words, "with")?;
-    Ok(CompareFiles {
+    let after = asking(alloc, words, "AFTER")?;
+    Ok(CompareWords {
         before,
         after,
-        reading,
         usual_groups: is_given(words, "usual-groups"),
-        json: is_given(words, "json"),
+        atoms: is_given(words, "atoms"),
+        lost: is_given(words, "lost"),
     })
 }
 
@@ -173,62 +208,53 @@ fn compare_files(alloc: Global, words: &ArgMatches<'_>) -> Result<CompareFiles, 
 fn what_words(alloc: Global, words: &ArgMatches<'_>) -> Result<WhatWords, CommandFault>
     ensures { Reads what_told result (what_in (rows_of (found_of words.now))) }
 {
-    let policy = needed(alloc, words, "POLICY")?;
+    let asking = asking(alloc, words, "POLICY")?;
     let user = needed(alloc, words, "USER")?;
     let groups = each_copied(alloc, words, "GROUP")?;
-    let reading = reading(alloc, words, "with")?;
     Ok(WhatWords {
-        policy,
+        asking,
         user,
         groups,
-        reading,
-        json: is_given(words, "json"),
     })
 }
 
-/// The file that the words behind `risks` name.
-fn risks_file(alloc: Global, words: &ArgMatches<'_>) -> Result<RisksFile, CommandFault>
-    ensures { Reads risks_told result (risks_in (rows_of (found_of words.now))) }
-{
-    let policy = needed(alloc, words, "POLICY")?;
-    let reading = reading(alloc, words, "with")?;
-    Ok(RisksFile {
-        policy,
-        reading,
-        json: is_given(words, "json"),
-    })
-}
-
-/// The file and the options that the words behind `paths` specify.
+/// The policy and the options that the words behind `paths` specify.
 fn paths_words(alloc: Global, words: &ArgMatches<'_>) -> Result<PathsWords, CommandFault>
     ensures { Reads paths_told result (paths_in (rows_of (found_of words.now))) }
 {
-    let policy = needed(alloc, words, "POLICY")?;
-    let reading = reading(alloc, words, "with")?;
+    let asking = asking(alloc, words, "POLICY")?;
     let to = text_or_empty(alloc, words, "to")?;
     let without = each_copied(alloc, words, "without")?;
     Ok(PathsWords {
-        policy,
-        reading,
+        asking,
         to,
         without,
-        json: is_given(words, "json"),
     })
 }
 
-/// The file and the question that the words behind `who` specify.
+/// The uses, the policy and the options that the words behind `suggest` specify.
+fn suggest_words(alloc: Global, words: &ArgMatches<'_>) -> Result<SuggestWords, CommandFault>
+    ensures { Reads suggest_told result (suggest_in (rows_of (found_of words.now))) }
+{
+    let uses = needed(alloc, words, "USES")?;
+    let form = form(words).ok_or(CommandFault::Words)?;
+    let policy = text_or_empty(alloc, words, "policy")?;
+    Ok(SuggestWords {
+        uses,
+        log: is_given(words, "log"),
+        policy,
+        reading: reading(alloc, words, "with")?,
+        form,
+    })
+}
+
+/// The policy and the question that the words behind `who` specify.
 fn who_words(alloc: Global, words: &ArgMatches<'_>) -> Result<WhoWords, CommandFault>
     ensures { Reads who_told result (who_in (rows_of (found_of words.now))) }
 {
-    let policy = needed(alloc, words, "POLICY")?;
+    let asking = asking(alloc, words, "POLICY")?;
     let question = who_question(alloc, words)?;
-    let reading = reading(alloc, words, "with")?;
-    Ok(WhoWords {
-        policy,
-        question,
-        reading,
-        json: is_given(words, "json"),
-    })
+    Ok(WhoWords { asking, question })
 }
 
 /// The question that the words behind `who` specify: a file of questions, or a verb and a resource, and not both.
@@ -258,20 +284,25 @@ fn has_question(words: &ArgMatches<'_>) -> bool
     value(words, "VERB").is_some()
         || value(words, "namespace").is_some()
         || value(words, "name").is_some()
+        || is_given(words, "cluster")
 }
 
-/// The words of a question.
+/// The words of a question, which is about a namespace, about the whole cluster, or about all scopes.
 fn who_wanted(alloc: Global, words: &ArgMatches<'_>) -> Result<WhoWanted, CommandFault>
     ensures { Reads wanted_told result (wanted_in (rows_of (found_of words.now))) }
 {
     let verb = needed(alloc, words, "VERB")?;
     let resource = needed(alloc, words, "RESOURCE")?;
+    if is_given(words, "cluster") && value(words, "namespace").is_some() {
+        return Err(CommandFault::Words);
+    }
     let namespace = text_or_empty(alloc, words, "namespace")?;
     let name = text_or_empty(alloc, words, "name")?;
     Ok(WhoWanted {
         verb,
         resource,
         namespace,
+        cluster: is_given(words, "cluster"),
         name,
     })
 }

@@ -23,6 +23,10 @@ pub enum Ending {
     Misused,
     /// Somebody gains by the other policy.
     Gains,
+    /// Something dangles in a policy.
+    Dangles,
+    /// A policy decides otherwise than an audit log.
+    Differing,
     /// A port cannot be listened on.
     Unheard,
     /// The server cannot wait for its clients any more.
@@ -67,7 +71,7 @@ impl Ending {
             Ending::Differs => ExitCode::from(1),
             Ending::Stopped | Ending::Doubted => ExitCode::from(1),
             Ending::Misused => ExitCode::from(2),
-            Ending::Gains => ExitCode::from(3),
+            Ending::Gains | Ending::Dangles | Ending::Differing => ExitCode::from(3),
             Ending::Unheard => ExitCode::from(3),
             Ending::Adrift | Ending::Unsettled => ExitCode::from(4),
         }

@@ -9,22 +9,26 @@ mod asking;
 mod auditing;
 mod beginning;
 mod bounded_lines;
+mod checking;
 mod command_line;
 mod doubts;
 mod ending;
 mod kept_lines;
+mod logging;
 mod manifests;
 mod numbers;
 mod policies;
 mod program;
 mod replaying;
 mod serving;
+mod suggesting;
 mod system_reason;
 mod telling;
 mod wrong_words;
 
 use asking::{run_compare, run_paths, run_risks, run_what, run_who};
 use auditing::run_audit;
+use checking::run_check;
 use clap::Error;
 use command_line::command;
 use ending::Ending;
@@ -43,6 +47,7 @@ use std::process::ExitCode;
 use std::sync::Wait;
 use std::thread::Threads;
 use std::time::Clock;
+use suggesting::run_suggest;
 use telling::{tell_reason, tell_stopped};
 use wrong_words::complaint;
 
@@ -81,11 +86,13 @@ fn run<
         Command::Audit(files) => run_audit(rt, files),
         Command::Serve(options) => run_serve(rt, options),
         Command::Replay(options) => run_replay(rt, options),
-        Command::Compare(files) => run_compare(rt, files),
+        Command::Compare(words) => run_compare(rt, words),
         Command::Who(words) => run_who(rt, words),
         Command::What(words) => run_what(rt, words),
-        Command::Risks(file) => run_risks(rt, file),
+        Command::Risks(asking) => run_risks(rt, asking),
         Command::Paths(words) => run_paths(rt, words),
+        Command::Check(asking) => run_check(rt, asking),
+        Command::Suggest(words) => run_suggest(rt, words),
         Command::Show(text) => show(rt, text),
     }
 }

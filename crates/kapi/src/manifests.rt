@@ -1,10 +1,15 @@
 //! Policies as people have them: files of manifests, read, and what is wrong with them told.
+use crate::checking::place_of;
 use crate::program::Reading;
 use crate::telling::tell_unread;
+use kapi_lines::numbered_lines;
 use kapi_manifests::{Options, Origin, Prepared, Scope, prepare};
+use kapi_policy::NamespacedName;
 use kapi_reasons::{LineReason, line_reasons};
-use kapi_text::{Memory, Sequence};
+use kapi_text::{Memory, Sequence, Text};
+use serde_json::Value;
 use std::alloc::Global;
+use std::collections::BTreeSet;
 use std::fs::{self, Files};
 use std::io::{self, Read};
 
@@ -236,11 +241,34 @@ fn tell_reason_of(rt: &impl Eprint, policy: &ReadPolicy, reason: &LineReason) ->
 
 impl ReadPolicy {
     /// The name of the file in which an object stands.
-    fn name_of(&self, origin: Origin) -> &str {
+    pub fn name_of(&self, origin: Origin) -> &str {
         match self.sources.get(origin.file) {
             Some(source) => source.name.as_str(),
             None => "",
         }
+    }
+
+    /// The service accounts among the objects of the files, which a policy passes over.
+    pub fn accounts(&self, alloc: Global) -> Result<BTreeSet<NamespacedName>, Memory> {
+        let reading = Reading {
+            with: Vec::new(alloc),
+            defaults: false,
+            namespace: String::from_str(alloc, "default")?,
+            strict: false,
+        };
+        let all = prepare_sources(alloc, self.sources.as_slice(), &reading, Scope::All)?;
+        let mut accounts = BTreeSet::new(alloc);
+        for line in numbered_lines(alloc, all.text.as_slice())?.iter() {
+            if let Ok(object) = Value::from_slice(alloc, line.text) {
+                let (kind, namespace, name) = place_of(&object);
+                if kind == "ServiceAccount" {
+                    let namespace = Text::copy_of(alloc, namespace)?;
+                    let name = Text::copy_of(alloc, name)?;
+                    drop(accounts.insert(NamespacedName { namespace, name })?);
+                }
+            }
+        }
+        Ok(accounts)
     }
 
     /// The lines of the policy.

@@ -17,7 +17,7 @@ ghost use Rattle.kapi.specs.Policies.{Holds, IsLoaded, IsPolicyOf, answered_told
 
 use crate::program::PathsWords;
 use kapi_access::{
-    Form, Holder, Identities, LineFault, Wanted, answer_compare, answer_lines, answer_risks,
+    Form, Holder, Identities, LineFault, Shown, Wanted, answer_compare, answer_lines, answer_risks,
     answer_what, answer_who, settled_line,
 };
 use kapi_core::Core;
@@ -115,7 +115,11 @@ fn second_fault(error: StartError) -> FilesFault
     }
 }
 
-fn loaded_first<R: Wait>(
+/// The machine that a first policy makes, with its turns.
+///
+/// # Errors
+/// `First` at the first line that is not loaded, `Memory` where an allocation fails.
+pub fn loaded_first<R: Wait>(
     alloc: Global,
     rt: &R,
     objects: &[u8],
@@ -178,18 +182,20 @@ fn load_both<R: Wait + Threads + Sync>(
 fn compare_policies(
     alloc: Global,
     form: Form,
+    shown: Shown,
     identities: Identities,
     before: &LoadedPolicy,
     after: &LoadedPolicy,
 ) -> Result<Compared, Memory>
     ensures { (b a : Machine) → IsPolicyOf before.now b → IsPolicyOf after.now a
-        → IfOk result (λ c. compared_told c ≡ comparison form identities b a) }
+        → IfOk result (λ c. compared_told c ≡ comparison form shown identities b a) }
 {
     let stood = before.policy.bindings()?;
     let bindings = after.policy.bindings()?;
     let compared = answer_compare(
         alloc,
         form,
+        shown,
         identities,
         &before.policy,
         stood.as_slice(),
@@ -208,15 +214,16 @@ fn compare_policies(
 fn compare_with(
     alloc: Global,
     form: Form,
+    shown: Shown,
     identities: Identities,
     before: &LoadedPolicy,
     after: Result<LoadedPolicy, StartError>,
 ) -> Result<Compared, FilesFault>
     ensures { (b : Machine) (given : Result Machine FileFault) → IsPolicyOf before.now b → IsLoaded loading.fault_told after given
-        → Gives fault_told compared_told result (compared_to form identities b given) }
+        → Gives fault_told compared_told result (compared_to form shown identities b given) }
 {
     match after {
-        Ok(after) => Ok(compare_policies(alloc, form, identities, before, &after)?),
+        Ok(after) => Ok(compare_policies(alloc, form, shown, identities, before, &after)?),
         Err(error) => Err(second_fault(error)),
     }
 }
@@ -229,15 +236,16 @@ pub fn compare_files<R: Wait + Threads + Sync>(
     alloc: Global,
     rt: &R,
     form: Form,
+    shown: Shown,
     identities: Identities,
     before: &[u8],
     after: &[u8],
 ) -> Result<Compared, FilesFault>
-    ensures { Gives fault_told compared_told result (files.compare_files form identities before.now after.now) }
+    ensures { Gives fault_told compared_told result (files.compare_files form shown identities before.now after.now) }
 {
     let (before, after) = load_both(alloc, rt, before, after);
     match before {
-        Ok(before) => compare_with(alloc, form, identities, &before, after),
+        Ok(before) => compare_with(alloc, form, shown, identities, &before, after),
         Err(error) => Err(first_fault(error)),
     }
 }
@@ -456,6 +464,13 @@ fn texts_of(alloc: Global, texts: &[String]) -> Result<Vec<Text>, Memory> {
     Ok(list)
 }
 
+fn is_json(form: Form) -> bool {
+    match form {
+        Form::Json => true,
+        Form::Table | Form::Markdown => false,
+    }
+}
+
 fn paths_core(
     alloc: Global,
     words: &PathsWords,
@@ -465,7 +480,7 @@ fn paths_core(
     let without = texts_of(alloc, words.without.as_slice())?;
     answer_paths(
         alloc,
-        words.json,
+        is_json(words.asking.form),
         core.policy(),
         bindings.as_slice(),
         words.to.as_str(),
@@ -486,7 +501,7 @@ pub fn paths_file<R: Wait>(
     let mut core = loaded_first(alloc, rt, objects)?;
     let mut text = paths_core(alloc, words, &core)?;
     let settled = is_settled(&mut core)?;
-    if words.json {
+    if is_json(words.asking.form) {
         text.extend_from_slice(settled_line(Form::Json, settled))?;
     }
     Ok(Answered { text, settled })

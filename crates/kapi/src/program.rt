@@ -3,6 +3,7 @@ ghost use Rattle.std.proofs.Props.{props};
 ghost use Rattle.kapi.specs.declared.program.CommandFault.TheVariants.{Memory as NoMemory};
 
 use clap::Error as Shown;
+use kapi_access::Form;
 use kapi_model::Identity;
 use std::alloc::{AllocError, AllocFailed};
 use std::io;
@@ -20,15 +21,19 @@ pub enum Command {
     /// `kapi replay`: transcripts, whose answers are compared with the wanted ones.
     Replay(ReplayOptions),
     /// `kapi compare`: what a policy allows that another did not.
-    Compare(CompareFiles),
+    Compare(CompareWords),
     /// `kapi who`: who may do something by a policy.
     Who(WhoWords),
     /// `kapi what`: what a user has by a policy.
     What(WhatWords),
     /// `kapi risks`: who may gain more than a policy grants.
-    Risks(RisksFile),
+    Risks(Asking),
     /// `kapi paths`: who can become whom.
     Paths(PathsWords),
+    /// `kapi check`: what dangles in a policy.
+    Check(Asking),
+    /// `kapi suggest`: the least roles for what was used.
+    Suggest(SuggestWords),
     /// `--help`, `help` or `--version`: the text that is asked for.
     Show(Shown),
 }
@@ -46,16 +51,28 @@ pub struct Reading {
     pub strict: bool,
 }
 
-/// The policies that are compared, by the names of their files.
+/// What is common to the programs that ask about a policy.
 #[derive(Debug, Drop)]
-pub struct CompareFiles {
-    pub before: String,
-    pub after: String,
+pub struct Asking {
+    /// The name of the policy's file.
+    pub policy: String,
     pub reading: Reading,
+    pub form: Form,
+}
+
+/// The policies that are compared.
+#[derive(Debug, Drop)]
+pub struct CompareWords {
+    /// The name of the earlier policy's file.
+    pub before: String,
+    /// The later policy.
+    pub after: Asking,
     /// Whether the question is about identities with the groups that authentication gives them.
     pub usual_groups: bool,
-    /// Whether JSON is printed.
-    pub json: bool,
+    /// Whether each missing permission has a line of its own, and not each rule.
+    pub atoms: bool,
+    /// Whether the two policies change places.
+    pub lost: bool,
 }
 
 /// What is asked of a policy.
@@ -66,56 +83,53 @@ pub enum WhoQuestion {
     File(String),
 }
 
-/// The words of a question; the namespace and the name are empty where they are left out.
+/// The words of a question; the namespace and the name are empty if they are left out.
 #[derive(Debug, Drop)]
 pub struct WhoWanted {
     pub verb: String,
     pub resource: String,
     pub namespace: String,
+    /// Whether the question is cluster-wide; without a namespace it is else about all scopes.
+    pub cluster: bool,
     pub name: String,
 }
 
-/// The policy that is asked who may do something, by the name of its file.
+/// The policy that is asked who may do something.
 #[derive(Debug, Drop)]
 pub struct WhoWords {
-    pub policy: String,
+    pub asking: Asking,
     pub question: WhoQuestion,
-    pub reading: Reading,
-    /// Whether JSON is printed.
-    pub json: bool,
 }
 
-/// The user of whom it is asked what they have, in some groups, by the policy of a file.
+/// The user of whom it is asked what they have, in some groups.
 #[derive(Debug, Drop)]
 pub struct WhatWords {
-    pub policy: String,
+    pub asking: Asking,
     pub user: String,
     pub groups: Vec<String>,
-    pub reading: Reading,
-    /// Whether JSON is printed.
-    pub json: bool,
 }
 
-/// The policy that is asked who may gain more than it grants, by the name of its file.
-#[derive(Debug, Drop)]
-pub struct RisksFile {
-    pub policy: String,
-    pub reading: Reading,
-    /// Whether JSON is printed.
-    pub json: bool,
-}
-
-/// The policy that is asked who can become whom, by the name of its file.
+/// The policy that is asked who can become whom.
 #[derive(Debug, Drop)]
 pub struct PathsWords {
-    pub policy: String,
-    pub reading: Reading,
-    /// Whom the paths lead to that are printed; empty where all are.
+    pub asking: Asking,
+    /// Whom the paths lead to that are printed; empty if all are.
     pub to: String,
     /// The kinds of rights that are left out.
     pub without: Vec<String>,
-    /// Whether JSON is printed.
-    pub json: bool,
+}
+
+/// What was used, and the policy that may allow it.
+#[derive(Debug, Drop)]
+pub struct SuggestWords {
+    /// The name of the file of uses.
+    pub uses: String,
+    /// Whether the uses are a cluster's audit log, and not questions.
+    pub log: bool,
+    /// The name of the policy's file, empty if there is none.
+    pub policy: String,
+    pub reading: Reading,
+    pub form: Form,
 }
 
 /// The files of an audit, by their names, and how many threads answer.
@@ -123,6 +137,10 @@ pub struct PathsWords {
 pub struct AuditFiles {
     pub policy: String,
     pub questions: String,
+    /// Whether the questions are a cluster's audit log.
+    pub log: bool,
+    /// Whether JSON is printed.
+    pub json: bool,
     /// How the policy is read if it is manifests; else it is lines.
     pub manifests: Option<Reading>,
     /// The number of threads, 1 to 16.
@@ -136,6 +154,8 @@ pub struct ReplayOptions {
     /// The names of the transcripts, one or more, in the order of the words.
     pub files: Vec<String>,
     pub write: bool,
+    /// A line that wants 403 of a resource that is not served fails.
+    pub strict: bool,
     /// The file that the outcomes are written to as JUnit has them, by its name.
     pub junit: Option<String>,
 }

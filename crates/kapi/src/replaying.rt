@@ -4,7 +4,8 @@ use crate::manifests::read_texts;
 use crate::program::ReplayOptions;
 use crate::telling::{read_file, tell_unread};
 use kapi_replay::{
-    LoadedFile, NamedFile, Outcome, Transcript, are_well, junit_text, loaded_names, replay_run,
+    LoadedFile, NamedFile, Outcome, Transcript, are_sure, are_well, junit_text, loaded_names,
+    replay_run,
 };
 use kapi_text::{Memory, Sequence, Text};
 use std::alloc::Global;
@@ -59,7 +60,23 @@ fn end<R: Files + Eprint + AllocGlobal>(
             return tell_unread(rt, file.as_str(), &error);
         }
     }
-    Ok(Ending::of_replay(are_well(outcomes)))
+    for outcome in outcomes {
+        tell_doubts(rt, outcome)?;
+    }
+    let doubted = options.strict && !are_sure(outcomes);
+    Ok(Ending::of_replay(are_well(outcomes)).or_doubted(doubted))
+}
+
+/// Reports the lines of a transcript that want 403 of a resource that is not served.
+fn tell_doubts(rt: &impl Eprint, outcome: &Outcome) -> io::Result<()> {
+    let name = outcome.name.as_str();
+    for doubt in outcome.doubts.as_slice() {
+        let (number, resource) = (doubt.number, doubt.resource.as_str());
+        eprintln!(rt;
+            "{name}:{number}: the resource {resource} is not served: this 403 says nothing about a rule"
+        )?;
+    }
+    Ok(())
 }
 
 /// A transcript and the files that it names, as far as they can be read.

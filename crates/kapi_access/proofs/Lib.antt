@@ -9,10 +9,13 @@ pub mod Reported
 pub mod Alike
 pub mod Unprivileged
 pub mod Walks
+pub mod Anywhere
 pub mod Ties
 pub mod ShownRights
 pub mod Idle
 pub mod Joined
+pub mod ByRule
+pub mod Runs
 pub mod Lists
 pub mod Parted
 pub mod Behind

@@ -24,7 +24,7 @@ use Rattle.kapi_policy.specs.Objects.{PolicyObjects}
 use Rattle.kapi_gains.specs.Access.{may}
 use Rattle.kapi_access.specs.Given.{allows_at, given_at, given_by, given_so_far, lines_within, what, what_lines, with_given}
 use Rattle.kapi_access.specs.Scoped.{scoped_cmp}
-use Rattle.kapi_access.specs.Views.{counts}
+use Rattle.kapi_access.specs.Who.{counts}
 use Rattle.kapi_access.specs.declared.given.Given.{Given}
 use Rattle.kapi_access.specs.declared.given.GivenBy.{GivenBy}
 use Rattle.kapi_access.specs.declared.scoped.ScopedRule.{ScopedRule}

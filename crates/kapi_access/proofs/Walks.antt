@@ -21,8 +21,11 @@ use Rattle.kapi_access.specs.declared.grantee.Grantee.{Grantee}
 use Rattle.kapi_access.specs.declared.identities.Identities.{Identities}
 use Rattle.kapi_access.specs.Gained.{Gained, can_match, gained, gained_from}
 use Rattle.kapi_access.specs.Given.{given_by, what}
-use Rattle.kapi_access.specs.Views.{counts, line_for, ways_there}
-use Rattle.kapi_access.specs.Who.{first_ways, ways_of, who_may}
+use Rattle.kapi_access.specs.Views.{line_for, ways_there}
+use Rattle.kapi_access.specs.Who.{counts, first_ways, listed_in, ways_of, who_anywhere, who_in, who_may}
+use Rattle.kapi_access.specs.declared.first_ways.Listed.TheVariants as listed
+use Rattle.kapi_access.specs.declared.question.Scope.{Scope}
+use Rattle.kapi_access.specs.declared.question.Scope.TheVariants as scope
 
 pub flat_map_map : {X Y Z : Type 0} (f : Y → List Z) (g : X → Y) (xs : List X) → flat_map (λ x. f (g x)) xs ≡ flat_map f (map g xs)
 flat_map_map f g [] = refl
@@ -72,18 +75,19 @@ module _ {Z : Type 0} (f : Binding → List Z) (objects : PolicyObjects) (namesp
       ∙ ap (λ l. flat_map f (map cluster_binding objects.cluster_role_bindings) ++ l) (spaces_count objects.role_bindings ∙ of_if (length namespace == 0) (bindings_of namespace objects.role_bindings))
       ∙ sym (flat_map-append f (map cluster_binding objects.cluster_role_bindings) (if length namespace == 0 then [] else bindings_of namespace objects.role_bindings))
 
-pub who_by_all : (objects : PolicyObjects) (namespace : List ℕ) (p : Point) (list : List BoundBy) → map binding_of list ≡ all_bindings objects
-    → first_ways (flat_map (λ b. ways_there objects (λ rule. allows rule p) namespace (binding_of b)) list) ≡ who_may objects namespace p
-unfolding who_may ways_there
-who_by_all objects namespace p list all =
-    ap first_ways
-    (flat_map_map (ways_there objects (λ rule. allows rule p) namespace) binding_of list
-    ∙ ap (λ l. flat_map (ways_there objects (λ rule. allows rule p) namespace) l) all
-    ∙ all_count (ways_of objects (λ rule. allows rule p)) objects namespace)
+module _ (objects : PolicyObjects) (p : Point) (list : List BoundBy) (all : map binding_of list ≡ all_bindings objects) where
+  walked : (there : Scope) → flat_map (λ b. ways_there objects (λ rule. allows rule p) there (binding_of b)) list ≡ flat_map (ways_there objects (λ rule. allows rule p) there) (all_bindings objects)
+  walked there = flat_map_map (ways_there objects (λ rule. allows rule p) there) binding_of list ∙ ap (λ l. flat_map (ways_there objects (λ rule. allows rule p) there) l) all
 
-pub risks_by_all : (objects : PolicyObjects) (list : List BoundBy) → map binding_of list ≡ all_bindings objects → first_ways (flat_map (λ b. ways_of objects is_risky (binding_of b)) list) ≡ risks objects
+  pub who_by_all : (there : Scope) → first_ways (listed_in there) (flat_map (λ b. ways_there objects (λ rule. allows rule p) there (binding_of b)) list) ≡ who_in objects there p
+  unfolding who_may who_anywhere ways_there
+  who_by_all (scope.Namespace n) = ap (first_ways listed.Once) (walked (scope.Namespace n) ∙ all_count (ways_of objects (λ rule. allows rule p)) objects n)
+  who_by_all scope.Cluster = ap (first_ways listed.Once) (walked scope.Cluster ∙ all_count (ways_of objects (λ rule. allows rule p)) objects [])
+  who_by_all scope.Everywhere = ap (first_ways listed.InEachScope) (walked scope.Everywhere)
+
+pub risks_by_all : (objects : PolicyObjects) (list : List BoundBy) → map binding_of list ≡ all_bindings objects → first_ways listed.Once (flat_map (λ b. ways_of objects is_risky (binding_of b)) list) ≡ risks objects
 unfolding risks
-risks_by_all objects list all = ap first_ways (flat_map_map (ways_of objects is_risky) binding_of list ∙ ap (λ l. flat_map (ways_of objects is_risky) l) all)
+risks_by_all objects list all = ap (first_ways listed.Once) (flat_map_map (ways_of objects is_risky) binding_of list ∙ ap (λ l. flat_map (ways_of objects is_risky) l) all)
 
 pub lines_alike : (to : Grantee) (b : Binding) (rule : ℕ) (list : List Atom) → flat_map (line_for to b rule) list ≡ map (λ a. record { to = to; binding = b; rule = rule; gain = a }) (filter can_match list)
 unfolding line_for

@@ -1,25 +1,33 @@
 -- The answers as they are printed.
-use Rattle.std.specs.Prelude.{ℕ, Bool, true, false, List, [], ◌∷◌, ◌++◌, codes, map}
-use Rattle.std.specs.List.{flat_map}
+use Rattle.std.specs.Prelude.{ℕ, Bool, true, false, not, List, ◌∷◌, ◌++◌, codes, map}
+use Rattle.std.specs.List.{filter, flat_map}
 use Rattle.kapi_policy.specs.Objects.{PolicyObjects}
-use Rattle.kapi_access.specs.Gained.{Gained}
-use Rattle.kapi_access.specs.Who.{Way, who_may}
-use Rattle.kapi_access.specs.Cells.{gain_row, gains_head, masters_row, way_row, ways_head}
+use Rattle.kapi_access.specs.Gained.{Gained, GainedRule, by_rule}
+use Rattle.kapi_access.specs.Risks.{is_grave}
+use Rattle.kapi_access.specs.Who.{Way, who_in}
+use Rattle.kapi_access.specs.Cells.{gain_row, gained_rule_row, gains_head, masters_row, way_row, ways_head}
 use Rattle.kapi_access.specs.Members.{gain_line, way_line}
-use Rattle.kapi_access.specs.Tables.{table}
+use Rattle.kapi_access.specs.Tables.{table_below, table_in}
 use Rattle.kapi_access.specs.declared.answer.Form.{Form}
 use Rattle.kapi_access.specs.declared.answer.Form.TheVariants as form
+use Rattle.kapi_access.specs.declared.answer.Shown.{Shown}
+use Rattle.kapi_access.specs.declared.answer.Shown.TheVariants as shown
 use Rattle.kapi_access.specs.declared.question.Wanted.{Wanted}
+use Rattle.kapi_access.specs.declared.table.Row.{Row}
 
--- a line for each gain below their heads
-abbrev pub gains_table : List Gained → List ℕ
-gains_table [] = codes "Nobody gains.\n"
-gains_table (g ∷ gs) = table (gains_head ∷ map gain_row (g ∷ gs))
+-- the rules that give much, and then the others, each in their order
+abbrev pub grave_first : List GainedRule → List GainedRule
+grave_first gains = filter (λ g. is_grave g.gain) gains ++ filter (λ g. not (is_grave g.gain)) gains
 
--- gains as they are printed
-abbrev pub gains_text : Form → List Gained → List ℕ
-gains_text form.Table gains = gains_table gains
-gains_text form.Json gains = flat_map gain_line gains
+-- a row for each gain
+abbrev pub gain_rows : Shown → List Gained → List Row
+gain_rows shown.Rules gains = map gained_rule_row (grave_first (by_rule gains))
+gain_rows shown.Atoms gains = map gain_row gains
+
+-- gains as they are printed; JSON has all atoms
+abbrev pub gains_text : Form → Shown → List Gained → List ℕ
+gains_text form.Json s gains = flat_map gain_line gains
+gains_text f s gains = table_below f (codes "Nobody gains.\n") gains_head (gain_rows s gains)
 
 -- the line of the group whose members may do everything
 abbrev pub masters_line : List ℕ
@@ -27,17 +35,22 @@ masters_line = codes "{\"subject\":\"system:masters\",\"subjectKind\":\"Group\"}
 
 -- ways as they are printed, behind the group whose members may do everything
 abbrev pub ways_text : Form → List Way → List ℕ
-ways_text form.Table ways = table (ways_head ∷ masters_row ∷ map way_row ways)
 ways_text form.Json ways = masters_line ++ flat_map way_line ways
+ways_text f ways = table_in f (ways_head ∷ masters_row ∷ map way_row ways)
 
 -- who may do what is asked
 abbrev pub who_text : Form → PolicyObjects → Wanted → List ℕ
-who_text f objects w = ways_text f (who_may objects w.namespace w.point)
+who_text f objects w = ways_text f (who_in objects w.scope w.point)
 
 -- what holds of all who are not listed among the risks
-abbrev pub settled_line : Form → Bool → List ℕ
-settled_line form.Table true =
+abbrev pub settled_words : Bool → List ℕ
+settled_words true =
     codes "Through roles and bindings, nothing that others without the verb impersonate write lets anybody do what neither that one nor any of them was allowed. kapi paths lists other ways.\n"
-settled_line form.Table false = codes "The roles are not settled after 64 turns, so that nothing is said of all others.\n"
+settled_words false = codes "The roles are not settled after 64 turns, so that nothing is said of all others.\n"
+
+-- the same in a form; behind a table in Markdown stands an empty line
+abbrev pub settled_line : Form → Bool → List ℕ
+settled_line form.Table s = settled_words s
+settled_line form.Markdown s = 10 ∷ settled_words s
 settled_line form.Json true = codes "{\"settled\":true}\n"
 settled_line form.Json false = codes "{\"settled\":false}\n"

@@ -1,13 +1,17 @@
 -- The cells of a line: bytes that are no printable ASCII are escaped.
-use Rattle.std.specs.Prelude.{ℕ, ◌==◌, if◌then◌else◌, List, [], ◌++◌, length, codes, decimal}
+use Rattle.std.specs.Prelude.{ℕ, ◌==◌, Bool, if◌then◌else◌, List, [], ◌∷◌, ◌++◌, length, codes, decimal}
+use Rattle.std.specs.List.{flat_map, list_any}
 use Rattle.serde_json.specs.Written.{compact_text}
 use Rattle.kapi_model.specs.Kinds.{role_kind_text}
+use Rattle.kapi_model.specs.declared.policy_rule.PolicyRule.{PolicyRule}
 use Rattle.kapi_model.specs.declared.role_ref.RoleRef.{RoleRef}
 use Rattle.kapi_rules.specs.declared.atom.Atom.{Atom}
 use Rattle.kapi_policy.specs.Decided.{Binding}
 use Rattle.kapi_policy.specs.declared.decision.BindingKind.{BindingKind}
 use Rattle.kapi_policy.specs.declared.decision.BindingKind.TheVariants as kind
-use Rattle.kapi_access.specs.Gained.{Gained}
+use Rattle.kapi_access.specs.Gained.{Gained, GainedRule}
+use Rattle.kapi_access.specs.Questions.{after, before}
+use Rattle.kapi_access.specs.Risks.{is_grave}
 use Rattle.kapi_access.specs.Who.{Way}
 use Rattle.kapi_access.specs.declared.grantee.Grantee.{Grantee}
 use Rattle.kapi_access.specs.declared.grantee.Grantee.TheVariants as grantee
@@ -52,6 +56,48 @@ text_of_grant kind name role rule = (joined (binding_kind kind) name ++ codes ",
 abbrev pub by_text : Binding → ℕ → List ℕ
 by_text b rule = text_of_grant b.kind b.name b.role rule
 
+-- ---- rules
+
+-- each text behind a comma
+abbrev pub behind_commas : List (List ℕ) → List ℕ
+behind_commas texts = flat_map (λ t. 44 ∷ t) texts
+
+-- a list without the comma in front of its first text; `-` if it is empty
+abbrev pub without_comma : List ℕ → List ℕ
+without_comma [] = codes "-"
+without_comma (b ∷ text) = text
+
+-- texts with commas between
+abbrev pub listed : List (List ℕ) → List ℕ
+listed texts = without_comma (behind_commas texts)
+
+-- a resource of a group as kubectl prints it: `deployments.apps/scale`
+abbrev pub in_group : List ℕ → List ℕ → List ℕ
+in_group group resource =
+    if length group == 0 then resource
+    else before 47 resource ++ (46 ∷ (group ++ (if list_any (λ b. b == 47) resource then 47 ∷ after 47 resource else [])))
+
+-- the resources of a group
+abbrev pub resources_of : List (List ℕ) → List ℕ → List ℕ
+resources_of resources group = flat_map (λ r. 44 ∷ in_group group r) resources
+
+-- the resources of a rule in each of its groups, and its URLs
+abbrev pub targets : PolicyRule → List ℕ
+targets rule = flat_map (resources_of rule.resources) rule.api_groups ++ behind_commas rule.non_resource_urls
+
+-- the names of resources, if a rule lists some
+abbrev pub named : List (List ℕ) → List ℕ
+named [] = []
+named (n ∷ names) = codes " names " ++ listed (n ∷ names)
+
+-- a rule: `get deployments.apps names web`
+abbrev pub words_of_rule : PolicyRule → List ℕ
+words_of_rule r = listed r.verbs ++ (32 ∷ (without_comma (targets r) ++ named r.resource_names))
+
+-- the mark of a rule that gives much
+abbrev pub mark : Bool → List ℕ
+mark grave = if grave then codes "! " else []
+
 -- ---- the cells
 
 -- a user or group
@@ -74,6 +120,16 @@ gain_row g = record {
   first = subject_cell g.to;
   second = namespace_cell g.binding.namespace;
   third = atom_cell g.gain;
+  fourth = [];
+  last = escaped (by_text g.binding g.rule);
+}
+
+-- what a subject gains by a rule where, and by what
+abbrev pub gained_rule_row : GainedRule → Row
+gained_rule_row g = record {
+  first = subject_cell g.to;
+  second = namespace_cell g.binding.namespace;
+  third = escaped (mark (is_grave g.gain) ++ words_of_rule g.gain);
   fourth = [];
   last = escaped (by_text g.binding g.rule);
 }

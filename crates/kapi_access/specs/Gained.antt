@@ -1,12 +1,14 @@
 -- What one policy gives that another did not.
-use Rattle.std.specs.Prelude.{◌≡◌, ◌⊎◌, ℕ, List, [], ◌∷◌, Bool, true, false, not, if◌then◌else◌, map, Option, Some, None}
-use Rattle.std.specs.List.{enumerate_from, filter, flat_map}
+use Rattle.std.specs.Prelude.{◌≡◌, ◌⊎◌, ◌==◌, ◌&&◌, ℕ, List, [], ◌∷◌, ◌++◌, Bool, true, false, not, if◌then◌else◌, map, Option, Some, None}
+use Rattle.std.specs.List.{enumerate_from, filter, flat_map, fold}
+use Rattle.std.specs.Str.{bytes_eq}
 use Rattle.kapi_model.specs.declared.policy_rule.PolicyRule.{PolicyRule}
 use Rattle.kapi_model.specs.declared.identity.Identity.{Identity}
 use Rattle.kapi_model.specs.Identities.{is_master}
 use Rattle.kapi_rules.specs.Atoms.{after_slash, atom_allows}
 use Rattle.kapi_rules.specs.Missing.{missing}
 use Rattle.kapi_rules.specs.Points.{HasPlainResource}
+use Rattle.kapi_rules.specs.Rules.{allows}
 use Rattle.kapi_rules.specs.declared.atom.Atom.{Atom}
 use Rattle.kapi_rules.specs.declared.atom.Atom.TheVariants as atom
 use Rattle.kapi_rules.specs.declared.point.Point.{Point}
@@ -19,7 +21,9 @@ use Rattle.kapi_access.specs.declared.grantee.Grantee.{Grantee}
 use Rattle.kapi_access.specs.declared.identities.Identities.{Identities}
 use Rattle.kapi_access.specs.declared.identities.Identities.TheVariants as identities
 use Rattle.kapi_access.specs.Grantees.{alone, grantees, matches, role_of, stranger}
+use Rattle.kapi_access.specs.Together.{together}
 use Rattle.kapi_access.specs.Usual.{IsMeant, IsUsual}
+use Rattle.kapi_access.specs.Who.{same_grantee}
 
 -- a user or group that gains an atom, with the binding and the index of its role's rule that give it
 pub record Gained : Type 0 where
@@ -94,3 +98,47 @@ GivesNothingTo identities.Any before after = GivesNothing [] before after
 GivesNothingTo identities.Usual before after =
     (identity : Identity) (namespace : List ℕ) (p : Point) → IsUsual identity → HasPlainResource p
     → may after identity namespace p ≡ true → may before identity namespace p ≡ true
+
+-- ---- by rules
+
+-- the atoms that a user or group gains by the rule of that index
+pub record GainedAtoms : Type 0 where
+  pub to : Grantee
+  pub binding : Binding
+  pub rule : ℕ
+  pub atoms : List Atom
+
+-- a user or group that gains what a rule allows, with the binding and the index of its role's rule that give it
+pub record GainedRule : Type 0 where
+  pub to : Grantee
+  pub binding : Binding
+  pub rule : ℕ
+  pub gain : PolicyRule
+
+-- the gain is the same grantee's, by the same binding and rule; a policy has one binding of a namespace and name
+abbrev pub is_alike : GainedAtoms → Gained → Bool
+is_alike l g = l.rule == g.rule && (same_grantee l.to g.to && (bytes_eq l.binding.namespace g.binding.namespace && bytes_eq l.binding.name g.binding.name))
+
+-- the lines with a gain more: in the last one if it is alike, else in a line of its own
+unfoldable pub with_gain : List GainedAtoms → Gained → List GainedAtoms
+with_gain [] g = record { to = g.to; binding = g.binding; rule = g.rule; atoms = g.gain ∷ [] } ∷ []
+with_gain (l ∷ []) g =
+    if is_alike l g then record l { atoms = l.atoms ++ g.gain ∷ [] } ∷ []
+    else l ∷ record { to = g.to; binding = g.binding; rule = g.rule; atoms = g.gain ∷ [] } ∷ []
+with_gain (l ∷ m ∷ lines) g = l ∷ with_gain (m ∷ lines) g
+
+-- the rules that the atoms of a line make together
+abbrev pub rules_gained : GainedAtoms → List GainedRule
+rules_gained l = map (λ r. record { to = l.to; binding = l.binding; rule = l.rule; gain = r }) (together l.atoms)
+
+-- gains in their order, those of one grantee by one binding and rule put together
+unfoldable pub by_rule : List Gained → List GainedRule
+by_rule gains = flat_map rules_gained (fold with_gain [] gains)
+
+-- a line of the report by rules covers the request
+pub record IsReportedByRule (list : List GainedRule) (identity : Identity) (namespace : List ℕ) (p : Point) : Type 0 where
+  pub line : GainedRule
+  pub listed : Has list line
+  pub meant : matches line.to identity ≡ true
+  pub there : (line.binding.namespace ≡ []) ⊎ (line.binding.namespace ≡ namespace)
+  pub allowed : allows line.gain p ≡ true

@@ -27,9 +27,14 @@ fault_told fault.Memory = None
 abbrev pub head_tree : NumberedLine → Data
 head_tree l = object (member (codes "line") (number (unsigned l.number)) no_members)
 
--- the line that tells which question is answered below it
+-- a line and its number
+abbrev pub head_words : NumberedLine → List ℕ
+head_words l = codes "line " ++ (decimal l.number ++ (codes ": " ++ (escaped l.text ++ 10 ∷ [])))
+
+-- the line that tells which question is answered below it; in Markdown empty lines stand around it
 abbrev pub head : Form → NumberedLine → List ℕ
-head form.Table l = codes "line " ++ (decimal l.number ++ (codes ": " ++ (escaped l.text ++ 10 ∷ [])))
+head form.Table l = head_words l
+head form.Markdown l = 10 ∷ (head_words l ++ 10 ∷ [])
 head form.Json l = compact_text (head_tree l) ++ 10 ∷ []
 
 -- the answer to a line that is that question

@@ -1,12 +1,11 @@
 -- What an identity has, as it is printed.
-use Rattle.std.specs.Prelude.{ℕ, ◌==◌, Bool, true, false, ◌||◌, if◌then◌else◌, List, [], ◌∷◌, ◌++◌, length, drop, codes, map, Option, Some, None}
-use Rattle.std.specs.List.{filter, flat_map, list_any}
+use Rattle.std.specs.Prelude.{ℕ, Bool, true, false, if◌then◌else◌, List, [], ◌∷◌, ◌++◌, drop, codes, map, Option}
+use Rattle.std.specs.List.{filter, flat_map}
 use Rattle.serde_json.specs.Data.{Data, array, number, string, object, unsigned, no_members, member}
 use Rattle.serde_json.specs.View.{items_of}
 use Rattle.serde_json.specs.Written.{compact_text}
 use Rattle.kapi_model.specs.Identities.{is_master}
 use Rattle.kapi_model.specs.Kinds.{role_kind_text}
-use Rattle.kapi_model.specs.declared.policy_rule.PolicyRule.{PolicyRule}
 use Rattle.kapi_object.specs.Contents.{rule_tree}
 use Rattle.kapi_lines.specs.Escapes.{escaped}
 use Rattle.kapi_policy.specs.Objects.{PolicyObjects}
@@ -14,38 +13,14 @@ use Rattle.kapi_access.specs.Given.{lines_within, what_lines}
 use Rattle.kapi_access.specs.declared.given.GivenBy.{GivenBy}
 use Rattle.kapi_access.specs.declared.scoped.ScopedRule.{ScopedRule}
 use Rattle.kapi_access.specs.Answers.{masters_line}
-use Rattle.kapi_access.specs.Cells.{binding_kind, namespace_cell, text_of_grant}
-use Rattle.kapi_access.specs.Questions.{after, before}
-use Rattle.kapi_access.specs.Tables.{table}
+use Rattle.kapi_access.specs.Cells.{binding_kind, listed, namespace_cell, targets, text_of_grant, without_comma}
+use Rattle.kapi_access.specs.Tables.{table_below}
 use Rattle.kapi_access.specs.declared.answer.Form.{Form}
 use Rattle.kapi_access.specs.declared.answer.Form.TheVariants as form
 use Rattle.kapi_access.specs.declared.rights.Holder.{Holder}
 use Rattle.kapi_access.specs.declared.table.Row.{Row}
 
 -- ---- cells
-
--- each text behind a comma
-abbrev pub behind_commas : List (List ℕ) → List ℕ
-behind_commas texts = flat_map (λ t. 44 ∷ t) texts
-
--- a list without the comma in front of its first text; `-` where it is empty
-abbrev pub without_comma : List ℕ → List ℕ
-without_comma [] = codes "-"
-without_comma (b ∷ text) = text
-
--- a resource of a group as kubectl prints it: `deployments.apps/scale`
-abbrev pub in_group : List ℕ → List ℕ → List ℕ
-in_group group resource =
-    if length group == 0 then resource
-    else before 47 resource ++ (46 ∷ (group ++ (if list_any (λ b. b == 47) resource then 47 ∷ after 47 resource else [])))
-
--- the resources of a group
-abbrev pub resources_of : List (List ℕ) → List ℕ → List ℕ
-resources_of resources group = flat_map (λ r. 44 ∷ in_group group r) resources
-
--- the resources of a rule in each of its groups, and its URLs
-abbrev pub targets : PolicyRule → List ℕ
-targets rule = flat_map (resources_of rule.resources) rule.api_groups ++ behind_commas rule.non_resource_urls
 
 -- by what a rule is given
 abbrev pub given_text : GivenBy → List ℕ
@@ -60,9 +35,9 @@ all_given list = drop 2 (flat_map (λ by. 59 ∷ 32 ∷ given_text by) list)
 -- a rule, its scope, and by what it is given
 abbrev pub right_row : ScopedRule × List GivenBy → Row
 right_row line = record {
-  first = escaped (without_comma (behind_commas line.0.rule.verbs));
+  first = escaped (listed line.0.rule.verbs);
   second = escaped (without_comma (targets line.0.rule));
-  third = escaped (without_comma (behind_commas line.0.rule.resource_names));
+  third = escaped (listed line.0.rule.resource_names);
   fourth = namespace_cell line.0.namespace;
   last = escaped (all_given line.1);
 }
@@ -74,10 +49,6 @@ rights_head = record { first = codes "VERBS"; second = codes "RESOURCES"; third 
 -- members of `system:masters` may do everything, without a binding
 abbrev pub everything_row : Row
 everything_row = record { first = codes "*"; second = codes "*"; third = codes "-"; fourth = codes "*"; last = codes "Group system:masters" }
-
--- the lines of a table below their heads
-abbrev pub rights_table : List Row → List ℕ
-rights_table rows = if length rows == 0 then codes "Nothing is allowed.\n" else table (rights_head ∷ rows)
 
 -- a binding and the index of its role's rule
 abbrev pub given_tree : GivenBy → Data
@@ -111,8 +82,8 @@ first_line master = if master then masters_line else []
 
 -- what is printed of lines, and whether of a member of `system:masters`
 abbrev pub rights_text : Form → Bool → List (ScopedRule × List GivenBy) → List ℕ
-rights_text form.Table master lines = rights_table (first_rows master ++ map right_row lines)
 rights_text form.Json master lines = first_line master ++ flat_map right_line lines
+rights_text f master lines = table_below f (codes "Nothing is allowed.\n") rights_head (first_rows master ++ map right_row lines)
 
 -- what a user has
 abbrev pub what_text : Form → PolicyObjects → Holder → List ℕ

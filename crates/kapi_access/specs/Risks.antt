@@ -15,6 +15,7 @@ use Rattle.kapi_policy.specs.Objects.{PolicyObjects}
 use Rattle.kapi_guard.specs.Exempt.{binding, escalating}
 use Rattle.kapi_guard.specs.Impersonation.{impersonating}
 use Rattle.kapi_gains.specs.Access.{may}
+use Rattle.kapi_access.specs.declared.first_ways.Listed.TheVariants as listed
 use Rattle.kapi_access.specs.Who.{Way, first_ways, ways}
 
 -- some entry is `*` or the word
@@ -64,7 +65,17 @@ is_risky rule = lets_impersonate rule || (lets_on_roles (codes "escalate") rule 
 
 -- to whom such a rule is given anywhere, members of `system:masters` apart
 unfoldable pub risks : PolicyObjects → List Way
-risks objects = first_ways (ways objects is_risky (all_bindings objects))
+risks objects = first_ways listed.Once (ways objects is_risky (all_bindings objects))
+
+-- some entry is `*` or one of the words
+abbrev pub has_one_of : List (List ℕ) → List ℕ → List ℕ → List ℕ → Bool
+has_one_of entries a b c = has_word entries a || (has_word entries b || has_word entries c)
+
+-- the rule has a verb that escalates on anything, or reads Secrets; `*` is each verb, and each resource
+abbrev pub is_grave : PolicyRule → Bool
+is_grave rule =
+    has_one_of rule.verbs (codes "escalate") (codes "bind") (codes "impersonate")
+    || (has_word rule.api_groups [] && (has_word rule.resources (codes "secrets") && has_one_of rule.verbs (codes "get") (codes "list") (codes "watch")))
 
 -- ---- what is risky
 

@@ -1,17 +1,17 @@
--- The sets beside a list of ways.
+-- The sets beside ways that were found.
 use Rattle.std.specs.Prelude.{◌≡◌, ℕ, List, Bool}
 use Rattle.std.specs.BTreeSet.{BTreeSet, contains}
-use Rattle.std.specs.Cmp.Lexicographic.{slice_cmp}
-use Rattle.std.specs.Ordering.{nat_cmp}
+use Rattle.kapi_policy.specs.Objects.{place_cmp}
+use Rattle.kapi_policy.specs.declared.change.NamespacedName.{NamespacedName}
 use Rattle.kapi_access.specs.declared.grantee.Grantee.{Grantee}
 use Rattle.kapi_access.specs.declared.grantee.Grantee.TheVariants as grantee
-use Rattle.kapi_access.specs.Who.{Way, is_told}
+use Rattle.kapi_access.specs.Who.{Found, is_told}
 
--- the sets of users and of groups have the grantee
-abbrev pub is_noted : BTreeSet (List ℕ) → BTreeSet (List ℕ) → Grantee → Bool
-is_noted users groups (grantee.User name) = contains (slice_cmp nat_cmp) users name
-is_noted users groups (grantee.Group name) = contains (slice_cmp nat_cmp) groups name
+-- the sets of users and of groups have the grantee there
+abbrev pub is_noted : BTreeSet NamespacedName → BTreeSet NamespacedName → List ℕ → Grantee → Bool
+is_noted users groups there (grantee.User name) = contains place_cmp users (record { namespace = there; name = name })
+is_noted users groups there (grantee.Group name) = contains place_cmp groups (record { namespace = there; name = name })
 
--- the sets have the grantees of the list and no others
-abbrev pub HaveThose : BTreeSet (List ℕ) → BTreeSet (List ℕ) → List Way → Type 0
-HaveThose users groups list = (to : Grantee) → is_noted users groups to ≡ is_told list to
+-- the sets have the grantees of what was found and no others
+abbrev pub HaveThose : BTreeSet NamespacedName → BTreeSet NamespacedName → Found → Type 0
+HaveThose users groups f = (there : List ℕ) (to : Grantee) → is_noted users groups there to ≡ is_told f there to

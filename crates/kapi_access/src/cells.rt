@@ -1,20 +1,25 @@
 //! The cells of a line, in printable ASCII.
-ghost use Rattle.std.specs.Prelude.{◌≡◌, IfOk, string_bytes};
-ghost use Rattle.kapi_access.specs.Views.{gain_of, way_of};
+ghost use Rattle.std.specs.Prelude.{◌≡◌, ◌++◌, ◌∷◌, ◌==◌, IfOk, OnOk, string_bytes};
+ghost use Rattle.std.specs.List.{flat_map, list_any};
+ghost use Rattle.kapi_access.specs.Risks.{is_grave as grave};
+ghost use Rattle.kapi_access.specs.Views.{gain_of, gained_rule_of, way_of};
 ghost use Rattle.kapi_lines.specs.Escapes.{escaped};
 ghost use Rattle.kapi_policy.specs.Views.{binding_of};
 ghost use Rattle.kapi_access.specs.Cells as cells;
 
 use crate::gain::Gain;
+use crate::gained_rules::GainedRule;
 use crate::grantee::Grantee;
-use crate::table::Row;
+use crate::question::split_at_slash;
+use crate::risky::is_grave;
+use crate::table::{Row, words};
 use crate::way::Way;
-use kapi_lines::{copy_of, write_escaped};
-use kapi_model::RoleRef;
+use kapi_lines::write_escaped;
+use kapi_model::{PolicyRule, RoleRef};
 use kapi_policy::{Binding, BindingKind};
 use kapi_reply::atom_list;
 use kapi_rules::Atom;
-use kapi_text::{Memory, Sequence};
+use kapi_text::{Memory, Sequence, Text};
 use std::alloc::{AllocError, Global};
 
 /// The bytes in printable ASCII.
@@ -148,6 +153,150 @@ fn atom_cell(alloc: Global, atom: &Atom) -> Result<Sequence<u8>, Memory>
     escape(alloc, text.as_bytes())
 }
 
+// ---- rules
+
+fn push_behind(text: &mut Vec<u8>, byte: u8, rest: &[u8]) -> Result<(), Memory>
+    ensures { OnOk result (text.new.items ≡ text.old.items ++ byte ∷ rest.now) }
+{
+    text.push(byte)?;
+    text.extend_from_slice(rest)
+}
+
+fn push_texts(text: &mut Vec<u8>, texts: &[Text]) -> Result<(), Memory>
+    ensures { OnOk result (text.new.items ≡ text.old.items ++ cells.behind_commas texts.now) }
+{
+    for entry in texts {
+        push_behind(text, b',', entry.as_str().as_bytes())?;
+    }
+    Ok(())
+}
+
+fn has_slash(text: &str) -> bool
+    ensures { result ≡ list_any (λ b. b == 47) text.now }
+{
+    text.as_bytes().iter().any(|byte| *byte == b'/')
+}
+
+fn push_in_group(text: &mut Vec<u8>, group: &str, resource: &str) -> Result<(), Memory>
+    ensures { OnOk result (text.new.items ≡ text.old.items ++ cells.in_group group.now resource.now) }
+{
+    if group.is_empty() {
+        return text.extend_from_slice(resource.as_bytes());
+    }
+    let (kind, subresource) = split_at_slash(resource);
+    text.extend_from_slice(kind.as_bytes())?;
+    push_behind(text, b'.', group.as_bytes())?;
+    if has_slash(resource) {
+        return push_behind(text, b'/', subresource.as_bytes());
+    }
+    Ok(())
+}
+
+fn push_resource(text: &mut Vec<u8>, group: &str, resource: &str) -> Result<(), Memory>
+    ensures { OnOk result (text.new.items ≡ text.old.items ++ 44 ∷ cells.in_group group.now resource.now) }
+{
+    text.push(b',')?;
+    push_in_group(text, group, resource)
+}
+
+fn push_resources(text: &mut Vec<u8>, resources: &[Text], group: &str) -> Result<(), Memory>
+    ensures { OnOk result (text.new.items ≡ text.old.items ++ cells.resources_of resources.now group.now) }
+{
+    for resource in resources {
+        push_resource(text, group, resource.as_str())?;
+    }
+    Ok(())
+}
+
+fn push_groups(text: &mut Vec<u8>, resources: &[Text], groups: &[Text]) -> Result<(), Memory>
+    ensures { OnOk result (text.new.items ≡ text.old.items ++ flat_map (cells.resources_of resources.now) groups.now) }
+{
+    for group in groups {
+        push_resources(text, resources, group.as_str())?;
+    }
+    Ok(())
+}
+
+fn without_comma(text: &[u8]) -> &[u8]
+    ensures { result.now ≡ cells.without_comma text.now }
+{
+    match text {
+        [_comma, rest @ ..] => rest,
+        [] => b"-",
+    }
+}
+
+fn push_listed(alloc: Global, text: &mut Vec<u8>, texts: &[Text]) -> Result<(), Memory>
+    ensures { OnOk result (text.new.items ≡ text.old.items ++ cells.listed texts.now) }
+{
+    let mut list = Vec::new(alloc);
+    push_texts(&mut list, texts)?;
+    text.extend_from_slice(without_comma(list.as_slice()))
+}
+
+fn push_targets(alloc: Global, text: &mut Vec<u8>, rule: &PolicyRule) -> Result<(), Memory>
+    ensures { OnOk result (text.new.items ≡ text.old.items ++ cells.without_comma (cells.targets rule.now)) }
+{
+    let mut list = Vec::new(alloc);
+    push_groups(
+        &mut list,
+        rule.resources.as_slice(),
+        rule.api_groups.as_slice(),
+    )?;
+    push_texts(&mut list, rule.non_resource_urls.as_slice())?;
+    text.extend_from_slice(without_comma(list.as_slice()))
+}
+
+/// Texts with commas between as a cell.
+pub fn texts_cell(alloc: Global, texts: &[Text]) -> Result<Sequence<u8>, Memory>
+    ensures { IfOk result (λ s. s ≡ escaped (cells.listed texts.now)) }
+{
+    let mut text = Vec::new(alloc);
+    push_listed(alloc, &mut text, texts)?;
+    escape(alloc, text.as_slice())
+}
+
+/// The resources and URLs of a rule as a cell.
+pub fn targets_cell(alloc: Global, rule: &PolicyRule) -> Result<Sequence<u8>, Memory>
+    ensures { IfOk result (λ s. s ≡ escaped (cells.without_comma (cells.targets rule.now))) }
+{
+    let mut text = Vec::new(alloc);
+    push_targets(alloc, &mut text, rule)?;
+    escape(alloc, text.as_slice())
+}
+
+fn push_named(alloc: Global, text: &mut Vec<u8>, names: &[Text]) -> Result<(), Memory>
+    ensures { OnOk result (text.new.items ≡ text.old.items ++ cells.named names.now) }
+{
+    if names.is_empty() {
+        return Ok(());
+    }
+    text.extend_from_slice(b" names ")?;
+    push_listed(alloc, text, names)
+}
+
+fn push_rule(alloc: Global, text: &mut Vec<u8>, rule: &PolicyRule) -> Result<(), Memory>
+    ensures { OnOk result (text.new.items ≡ text.old.items ++ cells.words_of_rule rule.now) }
+{
+    push_listed(alloc, text, rule.verbs.as_slice())?;
+    text.extend_from_slice(b" ")?;
+    push_targets(alloc, text, rule)?;
+    push_named(alloc, text, rule.resource_names.as_slice())
+}
+
+fn marked_cell(alloc: Global, rule: &PolicyRule) -> Result<Sequence<u8>, Memory>
+    ensures { IfOk result (λ s. s ≡ escaped (cells.mark (grave rule.now) ++ cells.words_of_rule rule.now)) }
+{
+    let mut text = Vec::new(alloc);
+    if is_grave(rule) {
+        text.extend_from_slice(b"! ")?;
+    }
+    push_rule(alloc, &mut text, rule)?;
+    escape(alloc, text.as_slice())
+}
+
+// ---- rows
+
 /// The cells of a gain.
 pub fn gain_row(alloc: Global, gain: &Gain<'_>) -> Result<Row, Memory>
     ensures { IfOk result (λ r. r ≡ cells.gain_row (gain_of gain.now)) }
@@ -156,6 +305,19 @@ pub fn gain_row(alloc: Global, gain: &Gain<'_>) -> Result<Row, Memory>
         first: subject_cell(alloc, &gain.to)?,
         second: namespace_cell(alloc, gain.binding.namespace)?,
         third: atom_cell(alloc, &gain.gain)?,
+        fourth: Sequence::new(Vec::new(alloc)),
+        last: by_cell(alloc, &gain.binding, gain.rule)?,
+    })
+}
+
+/// The cells of a gain by a rule.
+pub fn gained_rule_row(alloc: Global, gain: &GainedRule<'_>) -> Result<Row, Memory>
+    ensures { IfOk result (λ r. r ≡ cells.gained_rule_row (gained_rule_of gain.now)) }
+{
+    Ok(Row {
+        first: subject_cell(alloc, &gain.to)?,
+        second: namespace_cell(alloc, gain.binding.namespace)?,
+        third: marked_cell(alloc, &gain.gain)?,
         fourth: Sequence::new(Vec::new(alloc)),
         last: by_cell(alloc, &gain.binding, gain.rule)?,
     })
@@ -171,26 +333,6 @@ pub fn way_row(alloc: Global, way: &Way<'_>) -> Result<Row, Memory>
         third: binding_cell(alloc, &way.binding)?,
         fourth: Sequence::new(Vec::new(alloc)),
         last: rule_cell(alloc, way.binding.role, way.rule)?,
-    })
-}
-
-/// A row of these words.
-pub fn words(
-    alloc: Global,
-    first: &[u8],
-    second: &[u8],
-    third: &[u8],
-    fourth: &[u8],
-    last: &[u8],
-) -> Result<Row, Memory>
-    ensures { IfOk result (λ r. r ≡ record { first = first.now; second = second.now; third = third.now; fourth = fourth.now; last = last.now }) }
-{
-    Ok(Row {
-        first: copy_of(alloc, first)?,
-        second: copy_of(alloc, second)?,
-        third: copy_of(alloc, third)?,
-        fourth: copy_of(alloc, fourth)?,
-        last: copy_of(alloc, last)?,
     })
 }
 

@@ -23,7 +23,8 @@ pub fn dangles<P: Policy>(policy: &P, binding: &Binding<'_>) -> bool
     policy.role_rules(binding.role, binding.namespace).is_none()
 }
 
-fn place_at(alloc: Global, namespace: &str, name: &Text) -> Result<NamespacedName, Memory>
+/// The place of that name in the namespace.
+pub fn place_at(alloc: Global, namespace: &str, name: &Text) -> Result<NamespacedName, Memory>
     ensures { IfOk result (λ p. p ≡ record { namespace = namespace.now; name = name.now }) }
 {
     Ok(NamespacedName {

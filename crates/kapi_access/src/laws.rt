@@ -17,18 +17,27 @@ ghost use Rattle.kapi_gains.specs.Steps.{AreBy, PolicyStep, Runs};
 ghost use Rattle.kapi_access.specs.declared.dangling.Covered.{Covered};
 ghost use Rattle.kapi_access.specs.declared.grantee.Grantee.{Grantee};
 ghost use Rattle.kapi_access.specs.Dangling.{IsCovered, covered, stands_for};
-ghost use Rattle.kapi_access.specs.Gained.{Gained, GivesNothingTo, IsGained, IsReported, gained, gained_from, new_atoms};
+ghost use Rattle.kapi_access.specs.Answers.{grave_first};
+ghost use Rattle.kapi_access.specs.Gained.{Gained, GivesNothingTo, IsGained, IsReported, IsReportedByRule, by_rule, gained, gained_from, new_atoms};
 ghost use Rattle.kapi_access.specs.Given.{allows_at, lines_within, what, what_lines};
 ghost use Rattle.kapi_access.specs.Grantees.{alone, grantees, role_of, stranger};
 ghost use Rattle.kapi_access.specs.Risks.{IsWithoutRisk, risks};
 ghost use Rattle.kapi_access.specs.Usual.{IsMeant};
 ghost use Rattle.kapi_access.specs.declared.identities.Identities.{Identities};
-ghost use Rattle.kapi_access.specs.Who.{IsEachOnce, is_named, who_may};
+ghost use Rattle.kapi_access.specs.Who.{IsEachOnce, is_named, is_named_in, who_anywhere, who_may};
+ghost use Rattle.kapi_access.specs.declared.first_ways.Listed.TheVariants as Listed;
 
 /// A request is allowed to an identity just where it is in `system:masters` or some line of those who may names it.
 pub fn who_may_is_who_is_listed()
     ensures { (objects : PolicyObjects) (identity : Identity) (namespace : List ℕ) (p : Point)
         → may objects identity namespace p ≡ (is_master identity || is_named (who_may objects namespace p) identity) }
+{}
+
+/// A request is allowed to an identity in a namespace just where it is in `system:masters` or some line of those who may anywhere
+/// names it whose binding counts there; cluster-wide, which is the empty namespace, where some line with a cluster-wide binding does.
+pub fn who_may_is_who_is_listed_anywhere()
+    ensures { (objects : PolicyObjects) (identity : Identity) (namespace : List ℕ) (p : Point)
+        → may objects identity namespace p ≡ (is_master identity || is_named_in namespace (who_anywhere objects p) identity) }
 {}
 
 /// An identity may do nothing risky just where it is not in `system:masters` and no line of the risks names it. Who is unprivileged,
@@ -42,10 +51,12 @@ pub fn risks_are_who_is_listed()
         → IsUnprivileged objects identity → (is_master identity || is_named (risks objects) identity) ≡ false }
 {}
 
-/// No user and no group is listed twice, neither among those who may nor among the risks.
+/// No user and no group is listed twice, neither among those who may nor among the risks; of those who may anywhere, not in the same
+/// scope.
 pub fn each_is_listed_once()
-    ensures who { (objects : PolicyObjects) (namespace : List ℕ) (p : Point) → IsEachOnce (who_may objects namespace p) }
-    ensures risks { (objects : PolicyObjects) → IsEachOnce (risks objects) }
+    ensures who { (objects : PolicyObjects) (namespace : List ℕ) (p : Point) → IsEachOnce Listed.Once (who_may objects namespace p) }
+    ensures anywhere { (objects : PolicyObjects) (p : Point) → IsEachOnce Listed.InEachScope (who_anywhere objects p) }
+    ensures risks { (objects : PolicyObjects) → IsEachOnce Listed.Once (risks objects) }
 {}
 
 /// Where the policy is settled and everybody who writes is unprivileged, nobody gains what no actor held. It says nothing of a
@@ -67,6 +78,15 @@ pub fn every_gain_is_reported()
 /// Each line is a gain: an identity that is meant and that it names may make a request that its atom allows, and could not before.
 pub fn each_line_is_a_gain()
     ensures { (who : Identities) (before after : PolicyObjects) (line : Gained) → Has (gained who before after) line → IsGained who before after line }
+{}
+
+/// Gains by rules cover the requests that gains by atoms cover, and no others: a line of the one covers a request exactly if a line
+/// of the other does.
+pub fn rules_cover_what_atoms_cover()
+    ensures rules { (gains : List Gained) (identity : Identity) (namespace : List ℕ) (p : Point)
+        → IsReported gains identity namespace p → IsReportedByRule (grave_first (by_rule gains)) identity namespace p }
+    ensures atoms { (gains : List Gained) (identity : Identity) (namespace : List ℕ) (p : Point)
+        → IsReportedByRule (grave_first (by_rule gains)) identity namespace p → IsReported gains identity namespace p }
 {}
 
 /// Nothing is listed just where no identity that is meant gains.

@@ -47,7 +47,7 @@ fn push_escaped(text: &mut Vec<u8>, bytes: &[u8]) -> Result<(), Memory>
 }
 
 fn push_head_text(alloc: Global, text: &mut Vec<u8>, line: &Line<'_>) -> Result<(), Memory>
-    ensures { OnOk result (text.new.items ≡ text.old.items ++ told.head Form.Table (line_of line.now)) }
+    ensures { OnOk result (text.new.items ≡ text.old.items ++ told.head_words (line_of line.now)) }
 {
     let number = line.number;
     let number = format!(in alloc; "{number}")?;
@@ -78,6 +78,11 @@ fn push_head(alloc: Global, form: Form, text: &mut Vec<u8>, line: &Line<'_>) -> 
 {
     match form {
         Form::Table => push_head_text(alloc, text, line),
+        Form::Markdown => {
+            text.extend_from_slice(b"\n")?;
+            push_head_text(alloc, text, line)?;
+            text.extend_from_slice(b"\n")
+        }
         Form::Json => push_head_object(alloc, text, line),
     }
 }

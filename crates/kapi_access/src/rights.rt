@@ -1,6 +1,6 @@
 //! What an identity has, as it is printed.
-ghost use Rattle.std.specs.Prelude.{◌≡◌, ◌++◌, ◌∷◌, ◌==◌, drop, map, IfOk, OnOk};
-ghost use Rattle.std.specs.List.{flat_map, list_any};
+ghost use Rattle.std.specs.Prelude.{◌≡◌, ◌++◌, ◌∷◌, codes, drop, map, IfOk, OnOk};
+ghost use Rattle.std.specs.List.{flat_map};
 ghost use Rattle.serde_json.specs.View.{items_of, items_view, view};
 ghost use Rattle.kapi_access.specs.Given.{is_within as is_within_of, lines_within};
 ghost use Rattle.kapi_lines.specs.Escapes.{escaped};
@@ -8,14 +8,14 @@ ghost use Rattle.kapi_model.specs.Identities.{is_master};
 ghost use Rattle.kapi_policy.specs.All.{all_bindings};
 ghost use Rattle.kapi_policy.specs.Views.{binding_of};
 ghost use Rattle.kapi_access.specs.Rights as printed;
+ghost use Rattle.kapi_access.specs.Tables.{table_below};
 
 use crate::answer::{Form, MASTERS_LINE};
-use crate::cells::{binding_kind, escape, namespace_cell, text_of_grant, words};
+use crate::cells::{binding_kind, escape, namespace_cell, targets_cell, text_of_grant, texts_cell};
 use crate::given::{GivenBy, given_lines, what};
-use crate::question::split_at_slash;
 use crate::scoped::ScopedRule;
-use crate::table::{Row, push_table};
-use kapi_model::{Identity, PolicyRule};
+use crate::table::{Row, push_below, words};
+use kapi_model::Identity;
 use kapi_object::tree_form::{ToTree, put_string};
 use kapi_policy::{Binding, Policy};
 use kapi_text::{Memory, Sequence, Text};
@@ -31,98 +31,6 @@ pub struct Holder {
 }
 
 // ---- cells
-
-fn push_behind(text: &mut Vec<u8>, byte: u8, rest: &[u8]) -> Result<(), Memory>
-    ensures { OnOk result (text.new.items ≡ text.old.items ++ byte ∷ rest.now) }
-{
-    text.push(byte)?;
-    text.extend_from_slice(rest)
-}
-
-fn push_texts(text: &mut Vec<u8>, texts: &[Text]) -> Result<(), Memory>
-    ensures { OnOk result (text.new.items ≡ text.old.items ++ printed.behind_commas texts.now) }
-{
-    for entry in texts {
-        push_behind(text, b',', entry.as_str().as_bytes())?;
-    }
-    Ok(())
-}
-
-fn has_slash(text: &str) -> bool
-    ensures { result ≡ list_any (λ b. b == 47) text.now }
-{
-    text.as_bytes().iter().any(|byte| *byte == b'/')
-}
-
-fn push_in_group(text: &mut Vec<u8>, group: &str, resource: &str) -> Result<(), Memory>
-    ensures { OnOk result (text.new.items ≡ text.old.items ++ printed.in_group group.now resource.now) }
-{
-    if group.is_empty() {
-        return text.extend_from_slice(resource.as_bytes());
-    }
-    let (kind, subresource) = split_at_slash(resource);
-    text.extend_from_slice(kind.as_bytes())?;
-    push_behind(text, b'.', group.as_bytes())?;
-    if has_slash(resource) {
-        return push_behind(text, b'/', subresource.as_bytes());
-    }
-    Ok(())
-}
-
-fn push_resource(text: &mut Vec<u8>, group: &str, resource: &str) -> Result<(), Memory>
-    ensures { OnOk result (text.new.items ≡ text.old.items ++ 44 ∷ printed.in_group group.now resource.now) }
-{
-    text.push(b',')?;
-    push_in_group(text, group, resource)
-}
-
-fn push_resources(text: &mut Vec<u8>, resources: &[Text], group: &str) -> Result<(), Memory>
-    ensures { OnOk result (text.new.items ≡ text.old.items ++ printed.resources_of resources.now group.now) }
-{
-    for resource in resources {
-        push_resource(text, group, resource.as_str())?;
-    }
-    Ok(())
-}
-
-fn push_groups(text: &mut Vec<u8>, resources: &[Text], groups: &[Text]) -> Result<(), Memory>
-    ensures { OnOk result (text.new.items ≡ text.old.items ++ flat_map (printed.resources_of resources.now) groups.now) }
-{
-    for group in groups {
-        push_resources(text, resources, group.as_str())?;
-    }
-    Ok(())
-}
-
-fn list_cell(alloc: Global, text: &[u8]) -> Result<Sequence<u8>, Memory>
-    ensures { IfOk result (λ s. s ≡ escaped (printed.without_comma text.now)) }
-{
-    match text {
-        [_comma, rest @ ..] => escape(alloc, rest),
-        [] => escape(alloc, b"-"),
-    }
-}
-
-fn texts_cell(alloc: Global, texts: &[Text]) -> Result<Sequence<u8>, Memory>
-    ensures { IfOk result (λ s. s ≡ escaped (printed.without_comma (printed.behind_commas texts.now))) }
-{
-    let mut text = Vec::new(alloc);
-    push_texts(&mut text, texts)?;
-    list_cell(alloc, text.as_slice())
-}
-
-fn targets_cell(alloc: Global, rule: &PolicyRule) -> Result<Sequence<u8>, Memory>
-    ensures { IfOk result (λ s. s ≡ escaped (printed.without_comma (printed.targets rule.now))) }
-{
-    let mut text = Vec::new(alloc);
-    push_groups(
-        &mut text,
-        rule.resources.as_slice(),
-        rule.api_groups.as_slice(),
-    )?;
-    push_texts(&mut text, rule.non_resource_urls.as_slice())?;
-    list_cell(alloc, text.as_slice())
-}
 
 fn push_given(alloc: Global, text: &mut Vec<u8>, by: &GivenBy) -> Result<(), Memory>
     ensures { OnOk result (text.new.items ≡ text.old.items ++ 59 ∷ 32 ∷ printed.given_text by.now) }
@@ -282,19 +190,6 @@ fn everything_row(alloc: Global) -> Result<Row, Memory>
 
 // ---- the answer
 
-fn push_rights_table(alloc: Global, text: &mut Vec<u8>, rows: Vec<Row>) -> Result<(), Memory>
-    ensures { OnOk result (text.new.items ≡ text.old.items ++ printed.rights_table rows.items) }
-{
-    if rows.is_empty() {
-        return text.extend_from_slice(b"Nothing is allowed.\n");
-    }
-    let mut rows = rows;
-    let mut all = Vec::new(alloc);
-    all.push(rights_head(alloc)?)?;
-    all.append(&mut rows)?;
-    push_table(text, all.as_slice())
-}
-
 fn rights_rows(
     alloc: Global,
     master: bool,
@@ -327,6 +222,22 @@ fn rights_lines(
     Ok(text)
 }
 
+fn rights_table(
+    alloc: Global,
+    form: Form,
+    master: bool,
+    within: &Option<Text>,
+    lines: &BTreeMap<ScopedRule, Sequence<GivenBy>>,
+) -> Result<Vec<u8>, Memory>
+    ensures { IfOk result (λ v. v.items ≡ table_below form (codes "Nothing is allowed.\n") printed.rights_head (printed.first_rows master ++ map printed.right_row (lines_within within.now lines.now.entries))) }
+{
+    let mut text = Vec::new(alloc);
+    let rows = rights_rows(alloc, master, within, lines)?;
+    let head = rights_head(alloc)?;
+    push_below(alloc, form, &mut text, b"Nothing is allowed.\n", head, rows)?;
+    Ok(text)
+}
+
 fn rights_text(
     alloc: Global,
     form: Form,
@@ -337,12 +248,8 @@ fn rights_text(
     ensures { IfOk result (λ v. v.items ≡ printed.rights_text form master (lines_within within.now lines.now.entries)) }
 {
     match form {
-        Form::Table => {
-            let mut text = Vec::new(alloc);
-            let rows = rights_rows(alloc, master, within, lines)?;
-            push_rights_table(alloc, &mut text, rows)?;
-            Ok(text)
-        }
+        Form::Table => rights_table(alloc, Form::Table, master, within, lines),
+        Form::Markdown => rights_table(alloc, Form::Markdown, master, within, lines),
         Form::Json => rights_lines(alloc, master, within, lines),
     }
 }

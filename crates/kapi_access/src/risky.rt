@@ -4,11 +4,11 @@ ghost use Rattle.std.specs.List.{flat_map, fold, list_any, position};
 ghost use Rattle.kapi_rules.specs.Entries.{word_matches};
 ghost use Rattle.kapi_policy.specs.All.{all_bindings};
 ghost use Rattle.kapi_policy.specs.Views.{binding_of};
-ghost use Rattle.kapi_access.specs.Risks.{goes_on_after as goes_on, has_word as has_word_of, is_about_details as details_in_rule, is_about_users as users_in_rule, is_risky as is_risky_rule, lets_impersonate as lets_act, lets_on_roles as lets_role, matches_extra as matches_field, risks as risks_of};
+ghost use Rattle.kapi_access.specs.Risks.{goes_on_after as goes_on, has_one_of as has_some_of, has_word as has_word_of, is_about_details as details_in_rule, is_about_users as users_in_rule, is_grave as is_grave_rule, is_risky as is_risky_rule, lets_impersonate as lets_act, lets_on_roles as lets_role, matches_extra as matches_field, risks as risks_of};
 ghost use Rattle.kapi_access.specs.Views.{way_of};
 ghost use Rattle.kapi_access.specs.Who.{first_ways, ways_of, with_way};
 
-use crate::first_ways::FirstWays;
+use crate::first_ways::{FirstWays, Listed};
 use crate::way::{Way, push_ways, rules_by};
 use kapi_model::PolicyRule;
 use kapi_policy::{Binding, Policy};
@@ -106,6 +106,23 @@ fn is_risky(rule: &PolicyRule) -> bool
     lets_impersonate(rule) || lets_on_roles("escalate", rule) || lets_on_roles("bind", rule)
 }
 
+fn has_one_of(entries: &[Text], first: &str, second: &str, third: &str) -> bool
+    ensures { result ≡ has_some_of entries.now first.now second.now third.now }
+{
+    has_word(entries, first) || has_word(entries, second) || has_word(entries, third)
+}
+
+/// Whether the rule has a verb that escalates on anything, or reads Secrets.
+pub fn is_grave(rule: &PolicyRule) -> bool
+    ensures { result ≡ is_grave_rule rule.now }
+{
+    let verbs = rule.verbs.as_slice();
+    has_one_of(verbs, "escalate", "bind", "impersonate")
+        || has_word(rule.api_groups.as_slice(), "")
+            && has_word(rule.resources.as_slice(), "secrets")
+            && has_one_of(verbs, "get", "list", "watch")
+}
+
 // The index of the first rule that is risky.
 fn first_risky(rules: &[PolicyRule]) -> Option<usize>
     ensures { result ≡ position is_risky_rule rules.now }
@@ -134,9 +151,9 @@ fn ways<'a, P: Policy>(
     policy: &P,
     bindings: &[Binding<'a>],
 ) -> Result<Vec<Way<'a>>, Memory>
-    ensures { IfOk result (λ v. map way_of v.items ≡ first_ways (flat_map (λ b. ways_of (P.content policy.now) is_risky_rule (binding_of b)) bindings.now)) }
+    ensures { IfOk result (λ v. map way_of v.items ≡ first_ways Listed.Once (flat_map (λ b. ways_of (P.content policy.now) is_risky_rule (binding_of b)) bindings.now)) }
 {
-    let mut found = FirstWays::new(alloc);
+    let mut found = FirstWays::new(alloc, Listed::Once);
     for binding in bindings {
         push_risks(alloc, &mut found, policy, binding)?;
     }

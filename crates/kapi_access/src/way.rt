@@ -3,8 +3,7 @@ ghost use Rattle.std.specs.Prelude.{◌≡◌, ◌||◌, map, OnOk};
 ghost use Rattle.std.specs.List.{fold};
 ghost use Rattle.kapi_policy.specs.Views.{binding_of};
 ghost use Rattle.kapi_access.specs.Grantees.{role_of};
-ghost use Rattle.kapi_access.specs.Views.{counts as counts_there};
-ghost use Rattle.kapi_access.specs.Who.{ways_by, with_way};
+ghost use Rattle.kapi_access.specs.Who.{counts as counts_there, ways_by, with_way};
 
 use crate::first_ways::FirstWays;
 use crate::grantee::{Grantee, grantees};

@@ -13,7 +13,7 @@ pub returns-in-Ok : goal.returns-in-Ok
 unfolding compare_files
 returns-in-Ok g c =
     let h = subst (λ (r : Result LoadedPolicy StartError). IsLoaded loading.fault_told r (machine_alone 0 c.args.before.now)) c.in-Ok.is c.load_both-before.ensures.before in
-    onward compared_told c.compare_with.result _ (λ b. compared_to c.args.form c.args.identities b (machine_alone 0 c.args.after.now)) h.0 (ap as_first h.1) (c.compare_with.ensures h.0 _ h.2 c.load_both-before.ensures.after)
+    onward compared_told c.compare_with.result _ (λ b. compared_to c.args.form c.args.shown c.args.identities b (machine_alone 0 c.args.after.now)) h.0 (ap as_first h.1) (c.compare_with.ensures h.0 _ h.2 c.load_both-before.ensures.after)
 
 pub returns-in-Err : goal.returns-in-Err
 unfolding compare_files

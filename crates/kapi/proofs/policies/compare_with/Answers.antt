@@ -11,7 +11,7 @@ use Rattle.kapi.proofs.policies.compare_with.Goals as goal
 pub returns-in_ok-compare_policies-in-Ok : goal.returns-in_ok-compare_policies-in-Ok
 returns-in_ok-compare_policies-in-Ok c = λ b given before loaded.
     let h = subst (λ (r : Result LoadedPolicy StartError). IsLoaded loading.fault_told r given) c.in-Ok.is loaded in
-    onward compared_told (Ok c.in_ok-compare_policies-in-Ok.field-0) _ (λ a. Ok (comparison c.args.form c.args.identities b a)) h.0 (ap as_second h.1)
+    onward compared_told (Ok c.in_ok-compare_policies-in-Ok.field-0) _ (λ a. Ok (comparison c.args.form c.args.shown c.args.identities b a)) h.0 (ap as_second h.1)
     (ap Ok (sym (c.in_ok-compare_policies-in-Ok.ensures b h.0 before h.2)))
 
 pub returns-in-Err : goal.returns-in-Err

@@ -1,0 +1,13 @@
+-- The subcommand that clap entered is the one that is asked for.
+use Rattle.std.proofs.Common.{◌≡◌, option_and_then, subst, sym}
+use Rattle.clap.specs.Matches.{found_of}
+use Rattle.clap.specs.Simple.{subcommand_rows_of}
+use Rattle.clap.specs.Walk.{rows_of}
+use Rattle.kapi.specs.Asked.{Reads, asked_by, told}
+use Rattle.kapi.proofs.Reading.{entered}
+use Rattle.kapi.proofs.command_line.asked.Goals as goal
+
+pub returns-in-Some : goal.returns-in-Some
+returns-in-Some c =
+    subst (λ o. Reads told c.named.result (option_and_then (λ p. asked_by p.0 p.1) o)) (sym (entered c.args.matches.now _ _ (sym c.in-Some.ensures.name) (sym c.in-Some.ensures.rows)))
+    c.named.ensures

@@ -1,6 +1,0 @@
-use Rattle.std.proofs.Common.{◌≡◌, ◌++◌, take}
-use Rattle.kapi_access.specs.Rights.{resources_of}
-use Rattle.kapi_access.proofs.rights.push_resources.Given as goal
-
-abbrev pub invariant-loop-resource : goal.invariant-loop-resource
-invariant-loop-resource l = l.text.items ≡ l.initial.text.items ++ resources_of (take l.resource-index l.resources) l.group

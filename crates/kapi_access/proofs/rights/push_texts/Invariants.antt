@@ -1,6 +1,0 @@
-use Rattle.std.proofs.Common.{◌≡◌, ◌++◌, take}
-use Rattle.kapi_access.specs.Rights.{behind_commas}
-use Rattle.kapi_access.proofs.rights.push_texts.Given as goal
-
-abbrev pub invariant-loop-entry : goal.invariant-loop-entry
-invariant-loop-entry l = l.text.items ≡ l.initial.text.items ++ behind_commas (take l.entry-index l.texts)

@@ -1,0 +1,18 @@
+//! The least roles for what was used: what a file of questions or a cluster's audit log shows, as roles and bindings; and what of a
+//! policy nobody used.
+#![tactic(auto)]
+
+mod event;
+mod idle;
+pub mod laws;
+mod needs;
+mod place;
+mod printed;
+mod suggested;
+
+pub use event::{Shown, read_event, read_events};
+pub use idle::{Unused, allowed_uses, unused_rules};
+pub use needs::suggest;
+pub use place::Place;
+pub use printed::manifests;
+pub use suggested::Suggested;
