@@ -28,9 +28,10 @@ quick: profile ## change: plays all transcripts and runs the quick checks; prove
 	@sh tools/unproved.sh
 	@$(PYTHON) -m checks $(TRIED)
 
-test: ## change: the gate (rt ci): every proof, the edits that must be refused, the tests and all transcripts
+test: ## change: the gate: every proof, the edits that must be refused, the tests and all transcripts (rt ci), then the quick checks
 	@rt ci
 	@sh tools/sources.sh > crates/kapi/out/proved
+	@$(PYTHON) -m checks $(PROVED)
 
 kapi: ## use: says where the program lies that was proved of these sources; without one, runs the gate
 	@sh tools/sources.sh | cmp -s - crates/kapi/out/proved && test -x $(PROVED) || $(MAKE) --no-print-directory test

@@ -23,19 +23,26 @@ def run(folder, name, words, **how):
 
 
 def main(folder, modules, jobs, program, names="", *words):
-    """Runs the modules of these names, with commas between them, one after the other with the words; or so many at a time of all that have words here."""
+    """Runs the modules of these names, with commas between them, one after the other with the words; or so many at a time of all that have words here.
+
+    Of these, one that fails is run once more with nothing beside it, since some wait for sockets."""
     named = [it for it in names.replace(",", " ").split() if it]
     others = [it for it in named if it not in modules]
     if others:
         sys.exit(f"{folder}/ has no {', '.join(others)}; there are {', '.join(modules)}")
     chosen = named or [it for it, module in modules.items() if module.words is not None]
     how = {} if named or jobs == 1 else {"stdout": subprocess.PIPE, "stderr": subprocess.STDOUT}
+    words_of = lambda it: [program, *(words if named else modules[it].words)]
     failed = []
     with ThreadPoolExecutor(1 if named else jobs) as pool:
-        runs = pool.map(lambda it: run(folder, it, [program, *(words if named else modules[it].words)], **how), chosen)
+        runs = pool.map(lambda it: run(folder, it, words_of(it), **how), chosen)
         for name, (is_failed, text, ended) in zip(chosen, runs):
             print(text + ended, flush=True)
             failed += [name] if is_failed else []
+    for name in [] if named else list(failed):
+        is_failed, text, ended = run(folder, name, words_of(name), **how)
+        print(f"{text}again, alone: {ended}", flush=True)
+        failed = failed if is_failed else [it for it in failed if it != name]
     for name, module in modules.items():
         if not named and name not in chosen:
             print(f"{name}: left out, as it {'wants ' + module.wants if module.wants else 'takes long'}; ONLY={name} runs it")
