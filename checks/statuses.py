@@ -343,7 +343,7 @@ def part(text, head):
 
 def other_examples(program, room):
     """The example of each command's help prints what stands below it there, and so do the commands of docs/COMPARE.md."""
-    for command in ("script", "audit", "replay", "compare", "who", "what", "risks", "paths", "check"):
+    for command in ("script", "audit", "replay", "compare", "who", "what", "risks", "paths", "check", "suggest"):
         text = subprocess.run([program, command, "--help"], capture_output=True, text=True).stdout
         told = shell(program, part(text, "Example:"), room)
         if told != part(text, "It prints"):
@@ -368,7 +368,7 @@ def main(program):
         kapi = str(room / "bin/kapi")
         wrong = [f"kapi {case.words!r}, {case.input[:80]!r}, {case.files}: {got}" for case in cases if (got := fault(kapi, case, room))]
         wrong += [*other_examples(kapi, room), *at_another_revision(kapi)]
-    print(*wrong, f"{len(cases)} commands, 9 examples of help, docs/COMPARE.md and {len(REVISIONS)} servers: {len(wrong)} not as they should be", sep="\n")
+    print(*wrong, f"{len(cases)} commands, 10 examples of help, docs/COMPARE.md and {len(REVISIONS)} servers: {len(wrong)} not as they should be", sep="\n")
     return 1 if wrong else 0
 
 

@@ -148,7 +148,7 @@ check = with_rule (asking (codes "check")) (file (codes "POLICY"))
 
 -- the options of `kapi suggest`
 abbrev pub suggest_options : App
-suggest_options = with_rule (with_rule (formed (codes "suggest")) (flag (codes "log"))) (option (codes "policy"))
+suggest_options = with_rule (with_rule (asking (codes "suggest")) (flag (codes "log"))) (option (codes "policy"))
 
 -- `kapi suggest`, its options before its file
 abbrev pub suggest : App

@@ -682,11 +682,13 @@ rules of it that no use needs are listed on standard error.
 Example:
   printf '%s%s\n' '{"user":"ann","resourceAttributes":{"verb":"get",' \
     '"resource":"pods","namespace":"shop"}}' > uses.jsonl
-  kapi suggest uses.jsonl --format table
+  kapi suggest uses.jsonl | grep -o '"name":"suggested-1","name[^}]*'
 
 It prints
-  VERBS  RESOURCES  NAMES  SCOPE  BY
-  get    pods       -      shop   User ann"#;
+  "name":"suggested-1","namespace":"shop"
+  "name":"suggested-1","namespace":"shop"
+
+The first object is a Role, the second the RoleBinding that gives it to ann."#;
 
 fn suggest<'a>(alloc: Global) -> Result<Command<'a>, Memory>
     ensures { IfOk result (λ c. (app_of c ≡ suggest_app) × ((out-Command c).has_globals ≡ false)) }
@@ -699,7 +701,7 @@ fn suggest_options<'a>(alloc: Global) -> Result<Command<'a>, Memory>
     ensures { IfOk result (λ c. (app_of c ≡ suggest_options_app) × ((out-Command c).has_globals ≡ false)) }
 {
     let about = "Prints the least roles for what was used";
-    formed(alloc, "suggest", about, SUGGEST_FORMS)?
+    asking(alloc, "suggest", about, SUGGEST_FORMS)?
         .arg(flag(alloc, "log", "USES is a cluster's audit log"))?
         .arg(option(
             alloc,
