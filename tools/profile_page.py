@@ -15,9 +15,16 @@ DATA = ROOT / "crates/kapi/data"
 def rules():
     """Each rule: its number, the row's text, and the names in its last two cells."""
     for line in PAGE.read_text().splitlines():
-        cells = [cell.strip() for cell in line.strip("|").split(" | ")]
-        if re.match(r"\| \d+\.\d+ \|", line):
-            yield cells[0], " ".join(cells[1:-2]), *(re.findall(r"`([^`]+)`", cell) for cell in cells[-2:])
+        cells = [cell.strip() for cell in line.strip("|").split("|")]
+        if re.match(r"\|\s*\d+\.\d+\s*\|", line):
+            shown, kept = (re.findall(r"`([^`]+)`", cell) for cell in cells[-2:])
+            yield cells[0], " ".join(cells[1:-2]), shown, [file for name in kept for file in files(name)]
+
+
+def files(name):
+    """The files of a name: `CRATE/FILE`, or `CRATE/some_name` for `some_name.rt` and `SomeName.antt`."""
+    crate, stem = name.split("/")
+    return [name] if "." in stem else [f"{name}.rt", f"{crate}/{''.join(word.capitalize() for word in stem.split('_'))}.antt"]
 
 
 def transcript(name):
