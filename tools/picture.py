@@ -71,4 +71,5 @@ def main():
         file.write(picture())
 
 
-main()
+if __name__ == "__main__":
+    main()
