@@ -1,8 +1,17 @@
 """Prints crates/kapi_manifests/src/defaults.rt: the user-facing cluster roles of a cluster, `admin`, `edit` and `view`, and the roles that they are put together of.
 
-usage: kubectl get clusterroles -o json | python3 tools/default_roles.py VERSION > crates/kapi_manifests/src/defaults.rt
+usage: python3 tools/default_roles.py VERSION < LIST > crates/kapi_manifests/src/defaults.rt, then `rt fmt` in that crate
 
-The cluster is a new one, whose API server of that version has written its own roles. A List as JSON is read; annotations and what the server adds are left out.
+LIST is the cluster roles of a new cluster as JSON, whose API server of that version has written its own. Annotations and what the
+server adds are left out. The file was made with VERSION 1.20.2 of what a kube-apiserver over an empty etcd answered. It was that of
+Debian's source package `kubernetes` (1.20.5+really1.20.2-1.1+deb12u1; docs/CLUSTER.md, 'Show it'), with `-tags providerless`:
+
+    etcd --data-dir etcd &
+    openssl genrsa -out sa.key 2048; echo 'admin,admin,1,system:masters' > tokens
+    kube-apiserver --etcd-servers=http://127.0.0.1:2379 --authorization-mode=RBAC --token-auth-file=tokens --cert-dir=. \\
+        --bind-address=127.0.0.1 --advertise-address=127.0.0.1 --endpoint-reconciler-type=none --service-cluster-ip-range=10.0.0.0/24 \\
+        --service-account-issuer=https://kubernetes.default.svc --service-account-{key,signing-key}-file=sa.key &
+    curl -sk -H 'Authorization: Bearer admin' https://127.0.0.1:6443/apis/rbac.authorization.k8s.io/v1/clusterroles > LIST
 """
 import json
 import sys
@@ -39,7 +48,7 @@ ROW = """        Standing {{
 def kept(role):
     """The members that say something about policy, in a stable order."""
     metadata = {key: role["metadata"][key] for key in ("name", "labels") if key in role["metadata"]}
-    rest = {"aggregationRule": role["aggregationRule"]} if "aggregationRule" in role else {"rules": role["rules"]}
+    rest = {"aggregationRule": role["aggregationRule"]} if "aggregationRule" in role else {"rules": [dict(sorted(it.items())) for it in role["rules"]]}
     return {"apiVersion": "rbac.authorization.k8s.io/v1", "kind": "ClusterRole", "metadata": metadata} | rest
 
 
