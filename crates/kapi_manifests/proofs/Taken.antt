@@ -1,12 +1,14 @@
 -- Objects that are taken one after the other.
-use Rattle.std.proofs.Common.{◌≡◌, ◌∙◌, ◌+◌, ◌<◌, ◌++◌, ℕ, List, [], ◌∷◌, append-nil, append_assoc, get_or, length, map, take, false, refl, ap, sym, arith}
+use Rattle.std.proofs.Common.{◌≡◌, ◌==◌, ◌∙◌, ◌+◌, ◌<◌, ◌++◌, ℕ, List, [], ◌∷◌, append-nil, append_assoc, get_or, length, map, slice_index, take, true, false, refl, ap, sym, arith}
+use Rattle.std.proofs.lemmas.Bool.Decides.{nat_tests}
 use Rattle.std.specs.List.{flat_map}
 use Rattle.std.proofs.lemmas.Grind.{flat_map-append}
 use Rattle.std.proofs.lemmas.List.{map-append, take_more}
 use Rattle.serde_json.specs.Data.{Data}
-use Rattle.kapi_manifests.specs.Files.{Takes, data_of, is_yaml, read_piece, readings_of, faults_among, sum_of}
+use Rattle.kapi_manifests.specs.Files.{Takes, begins_yaml, data_of, fault, is_yaml, read_piece, readings, readings_of, unmarked, faults_among, sum_of}
 use Rattle.kapi_manifests.specs.Pieces.{piece_in, pieces, spans_of}
 use Rattle.kapi_manifests.specs.Sorting.{faults_if, namespace_if, object_if, sort_of}
+use Rattle.kapi_manifests.specs.declared.cut.Span.{Span}
 use Rattle.kapi_manifests.specs.declared.sorted.Options.{Options}
 use Rattle.kapi_manifests.specs.declared.sorted.Sorted.{Sorted}
 
@@ -56,3 +58,22 @@ map_twice f g (x ∷ xs) = ap (λ l. f (g x) ∷ l) (map_twice f g xs)
 -- the pieces of a file that does not begin like YAML, read
 pub file_read : (text : List ℕ) → is_yaml (pieces text) ≡ false → map (λ s. read_piece (piece_in text s)) (spans_of text) ≡ readings_of (pieces text)
 file_read text json = map_twice read_piece (piece_in text) (spans_of text) ∙ sym (rw json refl)
+
+-- a piece that begins like YAML is no JSON text of an object
+not_json : (text : List ℕ) → begins_yaml (slice_index text 0) ≡ true → read_piece text ≡ fault
+unfolding read_piece
+not_json text yaml = let other : (slice_index text 0 == 123) ≡ false = grind (arith, nat_tests) in rw other refl
+
+first_read : (text : List ℕ) (ss : List Span) → is_yaml (map (piece_in text) ss) ≡ true → map (λ s. read_piece (piece_in text s)) (take 1 ss) ≡ fault ∷ []
+first_read text [] yaml = cc
+first_read text (s ∷ ss) yaml = ap (λ r. r ∷ []) (not_json (piece_in text s) yaml)
+
+-- the first piece of a file that begins like YAML, read
+pub yaml_read : (text : List ℕ) → is_yaml (pieces text) ≡ true → map (λ s. read_piece (piece_in text s)) (take 1 (spans_of text)) ≡ readings_of (pieces text)
+yaml_read text yaml = first_read text (spans_of text) yaml ∙ sym (rw yaml refl)
+
+-- the pieces that are read of a text without its byte order mark
+pub all_read : (text bare : List ℕ) (ss all : List Span) → ss ≡ all → bare ≡ unmarked text → map (λ s. read_piece (piece_in bare s)) all ≡ readings_of (pieces bare)
+    → map (λ s. read_piece (piece_in bare s)) ss ≡ readings text
+unfolding readings
+all_read text bare ss all same is read = rw same read ∙ ap (λ t. readings_of (pieces t)) is

@@ -8,8 +8,8 @@ use Rattle.serde_json.specs.View.{view}
 use Rattle.kapi_manifests.specs.Kinds.{is_list, item_kind, kind_of, version_of}
 use Rattle.kapi_manifests.specs.Pieces.{pieces}
 use Rattle.kapi_manifests.specs.Sorting.{faults_if, item_of, namespace_if, object_if, sort_of}
-use Rattle.kapi_manifests.specs.declared.reading.Document.{Document}
-use Rattle.kapi_manifests.specs.declared.reading.Document.TheVariants as told
+use Rattle.kapi_manifests.specs.declared.sorted.Found.{Found}
+use Rattle.kapi_manifests.specs.declared.sorted.Found.TheVariants as found
 use Rattle.kapi_manifests.specs.declared.sorted.Scope.{Scope}
 use Rattle.kapi_manifests.specs.declared.sorted.Manifest.{Manifest}
 use Rattle.kapi_manifests.specs.declared.sorted.Options.{Options}
@@ -35,12 +35,6 @@ read_or_fault None = fault
 -- what a piece is: the JSON text of an object, or a fault
 unfoldable pub read_piece : List ℕ → Read
 read_piece text = if (slice_index text 0 == 123) && is_utf8 text then read_or_fault (read text) else fault
-
--- what the code read of a piece
-abbrev pub document_told : Document → Read
-document_told (told.Read v) = document (view v)
-document_told told.Stray = fault
-document_told (told.Wrong e) = fault
 
 -- the items of a list
 abbrev pub listed : Items → List Data
@@ -103,6 +97,16 @@ bad_pieces text = sum_of faults_read (readings text)
 -- the tree of an object
 abbrev pub data_of : Manifest → Data
 data_of m = view m.object
+
+-- the objects of what is found
+abbrev pub objects_found : Found → List Data
+objects_found (found.Objects ms) = map data_of ms.items
+objects_found (found.Fault f) = []
+
+-- how many faults are found
+abbrev pub faults_found : Found → ℕ
+faults_found (found.Objects ms) = 0
+faults_found (found.Fault f) = 1
 
 -- the namespaces among objects
 abbrev pub namespaces_among : Scope → List ℕ → List Data → List Data

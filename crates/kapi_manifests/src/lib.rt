@@ -20,5 +20,6 @@ mod words;
 pub use dangling::Dangling;
 pub use fault::{Fault, Origin, Reason};
 pub use prepared::{Prepared, prepare};
-pub use sorted::{Options, Scope};
+pub use reading::{Objects, read_objects};
+pub use sorted::{Manifest, Options, Scope};
 pub use words::Words;

@@ -1,42 +1,70 @@
 //! The items of a list, and the lines that they begin in.
 ghost use Rattle.std.specs.Prelude.{◌≡◌, ◌≤◌, ◌<◌, ◌+◌, ◌^◌, IfOk, map};
 ghost use Rattle.serde_json.specs.View.{view, items_view};
-ghost use Rattle.kapi_manifests.specs.Files.{items_in, items_or_none, objects_listed};
+ghost use Rattle.kapi_manifests.specs.Files as files;
+ghost use Rattle.kapi_manifests.specs.Files.{data_of, items_in, items_or_none, objects_in};
 ghost use Rattle.kapi_manifests.specs.Sorting.{item_of};
 ghost use Rattle.serde_json.specs.Find.{as_array};
 ghost use Rattle.kapi_manifests.specs.Places.{depth_of};
 
-use crate::kinds::{item_kind, text_at};
+use crate::fault::Origin;
+use crate::kinds::{is_list, item_kind, text_at};
 use crate::place::{Place, next};
 use crate::placing::named;
+use crate::sorted::Manifest;
 use kapi_text::Memory;
 use serde_json::Value;
 use std::alloc::Global;
 
-/// The items of a list, each of its kind.
-pub fn objects_of(alloc: Global, list: Value) -> Result<Vec<Value>, Memory>
-    ensures { IfOk result (λ v. map view v.items ≡ objects_listed (view list)) }
+/// The objects of a document that begins there: the items of a list, each of its kind and from its line, or the document.
+pub fn objects_of(
+    alloc: Global,
+    origin: Origin,
+    text: &[u8],
+    document: Value,
+) -> Result<Vec<Manifest>, Memory>
+    ensures { IfOk result (λ v. map data_of v.items ≡ objects_in (view document)) }
 {
+    if is_list(&document) {
+        return objects_listed(alloc, origin, text, document);
+    }
+    let mut objects = Vec::new(alloc);
+    objects.push(Manifest {
+        origin,
+        object: document,
+    })?;
+    Ok(objects)
+}
+
+/// The items of a list, each of its kind and from its line.
+fn objects_listed(
+    alloc: Global,
+    origin: Origin,
+    text: &[u8],
+    list: Value,
+) -> Result<Vec<Manifest>, Memory>
+    ensures { IfOk result (λ v. map data_of v.items ≡ files.objects_listed (view list)) }
+{
+    let lines = item_lines(alloc, origin.line, text)?;
     let kind = item_kind(text_at(&list, "kind"));
     let version = String::from_str(alloc, text_at(&list, "apiVersion"))?;
     let items = items_of(alloc, list);
-    named_items(alloc, kind, version.as_str(), items)
-}
-
-/// Items, each of that kind and version if it names no kind.
-fn named_items(
-    alloc: Global,
-    kind: &str,
-    version: &str,
-    items: Vec<Value>,
-) -> Result<Vec<Value>, Memory>
-    ensures { IfOk result (λ v. map view v.items ≡ map (item_of kind.now version.now) (map view items.items)) }
-{
     let mut all = Vec::new(alloc);
     for item in items {
-        all.push(named_item(alloc, kind, version, item)?)?;
+        let line = line_at(lines.as_slice(), all.len(), origin.line);
+        let object = named_item(alloc, kind, version.as_str(), item)?;
+        let file = origin.file;
+        let origin = Origin { file, line };
+        all.push(Manifest { origin, object })?;
     }
     Ok(all)
+}
+
+fn line_at(lines: &[usize], number: usize, otherwise: usize) -> usize {
+    match lines.get(number) {
+        Some(line) => *line,
+        None => otherwise,
+    }
 }
 
 fn named_item(alloc: Global, kind: &str, version: &str, item: Value) -> Result<Value, Memory>
@@ -78,7 +106,7 @@ struct ListCursor {
 
 /// The numbers of the lines in which the objects begin that stand in lists among the members of an object, which itself
 /// begins in that line.
-pub fn item_lines(alloc: Global, line: usize, text: &[u8]) -> Result<Vec<usize>, Memory> {
+fn item_lines(alloc: Global, line: usize, text: &[u8]) -> Result<Vec<usize>, Memory> {
     let mut lines = Vec::new(alloc);
     let mut cursor = ListCursor {
         place: Place::Between,

@@ -1,15 +1,14 @@
 //! The objects of a file.
-ghost use Rattle.std.specs.Prelude.{◌≡◌, ◌≤◌, ◌+◌, [], ◌∷◌, IfOk, OnOk, map, flat_map, slice_index};
+ghost use Rattle.std.specs.Prelude.{◌≡◌, ◌≤◌, ◌+◌, ◌++◌, [], ◌∷◌, IfOk, OnOk, length, map, flat_map, slice_index};
 ghost use Rattle.serde_json.specs.View.{view};
 ghost use Rattle.kapi_manifests.specs.Files as files;
-ghost use Rattle.kapi_manifests.specs.Files.{Takes, bad_pieces, begins_yaml, document_told, faults_read, objects_in, objects_of, objects_read, read_piece, sum_of, unmarked};
-ghost use Rattle.kapi_manifests.specs.Pieces.{piece_in};
+ghost use Rattle.kapi_manifests.specs.Files.{Takes, bad_pieces, begins_yaml, data_of, faults_found, faults_read, objects_found, objects_of, objects_read, read_piece, readings_of, unmarked};
+ghost use Rattle.kapi_manifests.specs.Pieces.{piece_in, pieces};
 
 use crate::cut::{Span, spans};
-use crate::fault::{Origin, Reason};
-use crate::kinds::is_list;
-use crate::list::{item_lines, objects_of};
-use crate::sorted::{Options, Sorted};
+use crate::fault::{Fault, Origin, Reason};
+use crate::list::objects_of;
+use crate::sorted::{Found, Manifest, Options, Sorted};
 use kapi_text::Memory;
 use serde_json::{Error, Value};
 use std::alloc::{AllocError, Global};
@@ -17,18 +16,56 @@ use std::alloc::{AllocError, Global};
 /// The number of faults whose column is looked for.
 const SHOWN: usize = 20;
 
-/// A text, and the number of its file.
+/// The objects of a file, and what is wrong with its pieces.
+#[derive(Debug, Drop)]
+pub struct Objects {
+    pub objects: Vec<Manifest>,
+    pub faults: Vec<Fault>,
+}
+
+/// A text without a byte order mark, the number of its file, and whether it begins like YAML.
 #[derive(Clone, Copy)]
 struct Source<'a> {
     file: usize,
     text: &'a [u8],
+    yaml: bool,
 }
 
-/// A piece of a text: where it begins, and its bytes.
-#[derive(Clone, Copy)]
-struct Piece<'a> {
-    origin: Origin,
-    text: &'a [u8],
+/// The objects of a file of that number, each as it stands there, and what is wrong with its pieces.
+#[tactic(auto, unfolding(crate::specs::Files::readings))]
+pub fn read_objects(alloc: Global, file: usize, text: &[u8]) -> Result<Objects, Memory>
+    ensures objects { IfOk result (λ o. map data_of o.objects.items ≡ objects_of text.now) }
+    ensures faults { IfOk result (λ o. length o.faults.items ≡ bad_pieces text.now) }
+{
+    let text = without_mark(text);
+    let spans = spans_read(alloc, text)?;
+    let spans = spans.as_slice();
+    let yaml = is_yaml(text, spans);
+    let source = Source { file, text, yaml };
+    let mut all = Objects {
+        objects: Vec::new(alloc),
+        faults: Vec::new(alloc),
+    };
+    for span in spans {
+        let found = read_span(alloc, source, *span, all.faults.len() < SHOWN)?;
+        keep_found(&mut all, found)?;
+    }
+    Ok(all)
+}
+
+/// Keeps what a piece is.
+fn keep_found(all: &mut Objects, found: Found) -> Result<(), Memory>
+    ensures objects { OnOk result (map data_of all.new.objects.items ≡ map data_of all.old.objects.items ++ objects_found found) }
+    ensures faults { OnOk result (length all.new.faults.items ≡ length all.old.faults.items + faults_found found) }
+{
+    match found {
+        Found::Objects(objects) => {
+            let mut objects = objects;
+            all.objects.append(&mut objects)?;
+        }
+        Found::Fault(fault) => all.faults.push(fault)?,
+    }
+    Ok(())
 }
 
 /// Takes the objects of a file.
@@ -42,15 +79,41 @@ pub fn take_file(
 ) -> Result<(), Memory>
     ensures { OnOk result (Takes options.entry sorted.old sorted.new (objects_of text.now) (bad_pieces text.now)) }
 {
-    let source = Source {
-        file,
-        text: without_mark(text),
-    };
-    let spans = spans(alloc, source.text)?;
-    if is_yaml(source.text, spans.as_slice()) {
-        return sorted.refuse(Origin { file, line: 1 }, Reason::Yaml);
+    let text = without_mark(text);
+    let spans = spans_read(alloc, text)?;
+    let spans = spans.as_slice();
+    let yaml = is_yaml(text, spans);
+    let source = Source { file, text, yaml };
+    for span in spans {
+        take_span(alloc, sorted, options, source, *span)?;
     }
-    take_pieces(alloc, sorted, options, source, spans.as_slice())
+    Ok(())
+}
+
+fn take_span(
+    alloc: Global,
+    sorted: &mut Sorted,
+    options: Options<'_>,
+    source: Source<'_>,
+    span: Span,
+) -> Result<(), Memory>
+    ensures { OnOk result (Takes options.entry sorted.old sorted.new
+        (objects_read (read_piece (piece_in source.entry.text.now span))) (faults_read (read_piece (piece_in source.entry.text.now span)))) }
+{
+    let found = read_span(alloc, source, span, sorted.faults.len() < SHOWN)?;
+    sorted.take_found(alloc, options, found)
+}
+
+/// Where the pieces of a text stand that are read: all, or the first of one that begins like YAML.
+fn spans_read(alloc: Global, text: &[u8]) -> Result<Vec<Span>, Memory>
+    ensures { IfOk result (λ v. map (λ s. read_piece (piece_in text.now s)) v.items ≡ readings_of (pieces text.now)) }
+{
+    let mut spans = spans(alloc, text)?;
+    if is_yaml(text, spans.as_slice()) {
+        spans.truncate(1);
+        return Ok(spans);
+    }
+    Ok(spans)
 }
 
 /// The text without a byte order mark at its beginning.
@@ -64,10 +127,11 @@ fn without_mark(text: &[u8]) -> &[u8]
     }
 }
 
+/// Where a piece begins; a file that begins like YAML is at fault from its first line on.
 fn origin_of(source: Source<'_>, span: Span) -> Origin {
     Origin {
         file: source.file,
-        line: span.start.line,
+        line: if source.yaml { 1 } else { span.start.line },
     }
 }
 
@@ -109,79 +173,43 @@ fn is_yaml_byte(byte: u8) -> bool
         || ((b'a' <= byte && byte <= b'z') || (byte == b'-' || byte == b'%'))
 }
 
-/// Takes the objects of the pieces of a file.
-fn take_pieces(
-    alloc: Global,
-    sorted: &mut Sorted,
-    options: Options<'_>,
-    source: Source<'_>,
-    spans: &[Span],
-) -> Result<(), Memory>
-    ensures { OnOk result (Takes options.entry sorted.old sorted.new
-        (flat_map objects_read (map (λ s. read_piece (piece_in source.entry.text.now s)) spans.now))
-        (sum_of faults_read (map (λ s. read_piece (piece_in source.entry.text.now s)) spans.now))) }
-{
-    for span in spans {
-        take_span(alloc, sorted, options, source, *span)?;
-    }
-    Ok(())
-}
-
-fn take_span(
-    alloc: Global,
-    sorted: &mut Sorted,
-    options: Options<'_>,
-    source: Source<'_>,
-    span: Span,
-) -> Result<(), Memory>
-    ensures { OnOk result (Takes options.entry sorted.old sorted.new
-        (objects_read (read_piece (piece_in source.entry.text.now span))) (faults_read (read_piece (piece_in source.entry.text.now span)))) }
-{
-    let piece = Piece {
-        origin: origin_of(source, span),
-        text: text_of(source.text, span),
-    };
-    match read_text(alloc, piece.text)? {
-        Document::Read(document) => take_document(alloc, sorted, options, piece, document),
-        Document::Stray => sorted.refuse(piece.origin, Reason::Stray),
-        Document::Wrong(error) => {
-            let before = column_before(sorted, source, span);
-            sorted.refuse(piece.origin, json_reason(piece.origin.line, before, &error))
-        }
-    }
-}
-
-/// What a piece is.
-#[derive(Drop)]
-enum Document {
-    Read(Value),
-    /// No object begins with it.
-    Stray,
-    Wrong(Error),
-}
-
-/// What the text of a piece is.
+/// What a piece is; its column is looked for if it is shown.
 #[tactic(auto, unfolding(crate::specs::Files::read_piece))]
-fn read_text(alloc: Global, text: &[u8]) -> Result<Document, Memory>
-    ensures { IfOk result (λ d. document_told d ≡ read_piece text.now) }
+fn read_span(alloc: Global, source: Source<'_>, span: Span, shown: bool) -> Result<Found, Memory>
+    ensures objects { IfOk result (λ f. objects_found f ≡ objects_read (read_piece (piece_in source.entry.text.now span))) }
+    ensures faults { IfOk result (λ f. faults_found f ≡ faults_read (read_piece (piece_in source.entry.text.now span))) }
 {
+    let origin = origin_of(source, span);
+    let text = text_of(source.text, span);
     if first_byte(text) != b'{' {
-        return Ok(Document::Stray);
+        let reason = stray_reason(source);
+        return Ok(Found::Fault(Fault { origin, reason }));
     }
     match Value::from_slice(alloc, text) {
-        Ok(document) => Ok(Document::Read(document)),
+        Ok(document) => Ok(Found::Objects(objects_of(alloc, origin, text, document)?)),
         Err(error) => {
             if error.is_memory() {
                 return Err(AllocError);
             }
-            Ok(Document::Wrong(error))
+            let before = column_before(source, span, shown);
+            let reason = json_reason(origin.line, before, &error);
+            Ok(Found::Fault(Fault { origin, reason }))
         }
     }
 }
 
-/// The number of bytes before a piece in its line, for the first faults that are told.
-fn column_before(sorted: &Sorted, source: Source<'_>, span: Span) -> usize {
-    if sorted.faults.len() >= SHOWN {
+/// Why a piece that begins no object is at fault.
+fn stray_reason(source: Source<'_>) -> Reason {
+    if source.yaml {
+        Reason::Yaml
+    } else {
+        Reason::Stray
+    }
+}
+
+/// The number of bytes before a piece in its line; 0 if it is not shown.
+fn column_before(source: Source<'_>, span: Span, shown: bool) -> usize {
+    if !shown {
         return 0;
     }
     let before = source.text.get(..span.start.at).unwrap_or(b"");
@@ -201,59 +229,4 @@ fn json_reason(line: usize, before: usize, error: &Error) -> Reason {
         return Reason::NotJson(line, before.saturating_add(error.column()));
     }
     Reason::NotJson(line.saturating_add(below), error.column())
-}
-
-fn take_document(
-    alloc: Global,
-    sorted: &mut Sorted,
-    options: Options<'_>,
-    piece: Piece<'_>,
-    document: Value,
-) -> Result<(), Memory>
-    ensures { OnOk result (Takes options.entry sorted.old sorted.new (objects_in (view document)) 0) }
-{
-    if is_list(&document) {
-        let lines = item_lines(alloc, piece.origin.line, piece.text)?;
-        let items = objects_of(alloc, document)?;
-        take_items(
-            alloc,
-            sorted,
-            options,
-            piece.origin,
-            lines.as_slice(),
-            items,
-        )
-    } else {
-        sorted.take(alloc, options, piece.origin, document)
-    }
-}
-
-/// Takes the items of a list, each from its line.
-fn take_items(
-    alloc: Global,
-    sorted: &mut Sorted,
-    options: Options<'_>,
-    list: Origin,
-    lines: &[usize],
-    items: Vec<Value>,
-) -> Result<(), Memory>
-    ensures { OnOk result (Takes options.entry sorted.old sorted.new (map view items.items) 0) }
-{
-    let mut number = 0;
-    for item in items {
-        let origin = Origin {
-            file: list.file,
-            line: line_at(lines, number, list.line),
-        };
-        sorted.take(alloc, options, origin, item)?;
-        number = number.saturating_add(1);
-    }
-    Ok(())
-}
-
-fn line_at(lines: &[usize], number: usize, otherwise: usize) -> usize {
-    match lines.get(number) {
-        Some(line) => *line,
-        None => otherwise,
-    }
 }

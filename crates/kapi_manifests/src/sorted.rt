@@ -2,7 +2,7 @@
 ghost use Rattle.std.specs.Prelude.{◌≡◌, ◌∷◌, ◌++◌, ◌+◌, [], OnOk, IfOk, length, map};
 ghost use Rattle.serde_json.specs.View.{view};
 ghost use Rattle.kapi_manifests.specs.Sorting as sorting;
-ghost use Rattle.kapi_manifests.specs.Files.{Takes, data_of};
+ghost use Rattle.kapi_manifests.specs.Files.{Takes, data_of, faults_found, objects_found};
 
 use crate::fault::{Fault, Origin, Reason};
 use crate::kinds::{is_namespace, is_policy, lives_in_namespace, metadata_text, text_at};
@@ -38,6 +38,13 @@ pub struct Options<'a> {
 pub struct Manifest {
     pub origin: Origin,
     pub object: Value,
+}
+
+/// What a piece of a file is: its objects, or a fault.
+#[derive(Drop)]
+pub enum Found {
+    Objects(Vec<Manifest>),
+    Fault(Fault),
 }
 
 /// The objects of files.
@@ -136,8 +143,37 @@ impl Sorted {
         }
     }
 
+    /// Takes what a piece of a file is.
+    pub fn take_found(
+        &mut self,
+        alloc: Global,
+        options: Options<'_>,
+        found: Found,
+    ) -> Result<(), Memory>
+        ensures { OnOk result (Takes options.entry self.old self.new (objects_found found) (faults_found found)) }
+    {
+        match found {
+            Found::Objects(objects) => self.take_all(alloc, options, objects),
+            Found::Fault(fault) => self.refuse(fault.origin, fault.reason),
+        }
+    }
+
+    fn take_all(
+        &mut self,
+        alloc: Global,
+        options: Options<'_>,
+        objects: Vec<Manifest>,
+    ) -> Result<(), Memory>
+        ensures { OnOk result (Takes options.entry self.old self.new (map data_of objects.items) 0) }
+    {
+        for manifest in objects {
+            self.take(alloc, options, manifest.origin, manifest.object)?;
+        }
+        Ok(())
+    }
+
     /// Takes an object.
-    pub fn take(
+    fn take(
         &mut self,
         alloc: Global,
         options: Options<'_>,
@@ -160,7 +196,7 @@ impl Sorted {
     }
 
     /// Keeps a fault.
-    pub fn refuse(&mut self, origin: Origin, reason: Reason) -> Result<(), Memory>
+    fn refuse(&mut self, origin: Origin, reason: Reason) -> Result<(), Memory>
         ensures namespaces { self.new.namespaces ≡ self.old.namespaces }
         ensures objects { self.new.objects ≡ self.old.objects }
         ensures faults { OnOk result (length self.new.faults.items ≡ length self.old.faults.items + 1) }

@@ -2,7 +2,7 @@ use Rattle.std.proofs.Common.{map, take}
 use Rattle.std.specs.List.{flat_map}
 use Rattle.kapi_manifests.specs.Files.{Takes, faults_read, objects_read, read_piece, sum_of}
 use Rattle.kapi_manifests.specs.Pieces.{piece_in}
-use Rattle.kapi_manifests.proofs.reading.take_pieces.Given as goal
+use Rattle.kapi_manifests.proofs.reading.take_file.Given as goal
 
 abbrev pub invariant-loop-span : goal.invariant-loop-span
 invariant-loop-span l = Takes l.options l.initial.sorted l.sorted
