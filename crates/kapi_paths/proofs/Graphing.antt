@@ -5,7 +5,8 @@ use Rattle.std.proofs.lemmas.List.{get_or_append_left, get_or_past, get_or_push,
 use Rattle.std.proofs.lemmas.Option.{same_Some, slice_get_within}
 use Rattle.std.proofs.lemmas.Bool.{cases_lt}
 use Rattle.kapi_paths.specs.Chains.{Has, IsChain, IsInside, row}
-use Rattle.kapi_paths.specs.Graphs.{AddsPaths, AreAt, Begins, HasPath, IsCovered, IsDrawn, IsGraph, IsSomewhere, IsThere, IsWalk, is_listed, next_of}
+use Rattle.kapi_paths.specs.Graphs.{AddsPaths, AreAt, Begins, HasPath, IsCovered, IsGraph, IsPath, IsSomewhere, IsThere, IsWalk, is_listed, next_of}
+use Rattle.kapi_paths.specs.Numbers.{IsOnce}
 use Rattle.kapi_paths.proofs.Grown.{has_left, has_push}
 use Rattle.kapi_paths.specs.Rights.{Row}
 use Rattle.kapi_paths.specs.Steps.{everything, next}
@@ -69,7 +70,7 @@ no_row : (rows : List (List ℕ)) (n m : ℕ) → length rows ≤ n → Has (row
 no_row rows n m past h = subst (λ (ns : List ℕ). Has ns m) (get_or_past rows n [] past) h
 
 -- a node that is within has an item
-some_at : {X : Type 0} (xs : List X) (n : ℕ) → n < length xs → (x : X) × (slice_get xs n ≡ Some x)
+pub some_at : {X : Type 0} (xs : List X) (n : ℕ) → n < length xs → (x : X) × (slice_get xs n ≡ Some x)
 some_at [] n h = absurd (omega arith)
 some_at (a ∷ xs) zero h = (a, refl)
 some_at (a ∷ xs) (suc n) h = some_at xs n (omega arith)
@@ -93,10 +94,6 @@ chain_walks step nodes rows a (n ∷ ns) [] i j x y from to h e = absurd h
 chain_walks step nodes rows a (n ∷ ns) (z ∷ zs) i j x y from to h (leads, rest) =
     let p = has_node nodes (row rows i) (step x) n (a.next i x from) leads in
     (subst (λ w. Has (step x) w) (same_Some p.0 z (sym p.1 ∙ h.0)) p.2, chain_walks step nodes rows a ns zs n j z y h.0 to h.1 rest)
-
-pub drawn_walks : (step : Node → List Node) (nodes : List Node) (rows : List (List ℕ)) → IsGraph step nodes rows
-    → (i j : ℕ) (p : Path) → IsDrawn nodes rows i j p → IsWalk step p.from p.nodes p.to
-drawn_walks step nodes rows a i j p d = chain_walks step nodes rows a d.numbers p.nodes i j p.from p.to d.at_from d.at_to d.at_path d.chain
 
 -- the numbers of a chain are within
 pub chain_inside : (rows : List (List ℕ)) → IsInside rows → (ns : List ℕ) (i j : ℕ) → IsChain rows i ns j → (n : ℕ) → Has ns n → n < length rows
@@ -125,21 +122,22 @@ row_added step old new rows r x b done size here added n z within e = ⊎_elim
 
 -- all rows
 pub rows_done : (step : Node → List Node) (nodes : List Node) (rows : List (List ℕ)) → ((n : ℕ) (z : Node) → n < length rows → slice_get nodes n ≡ Some z → AreAt nodes (row rows n) (step z))
-    → length rows ≤ length nodes → length nodes ≤ length rows → IsGraph step nodes rows
-rows_done step nodes rows done some all = record {
+    → length rows ≤ length nodes → length nodes ≤ length rows → IsOnce nodes → IsGraph step nodes rows
+rows_done step nodes rows done some all once = record {
   size = omega arith;
+  once = once;
   next = λ n x e. let w = slice_get_within nodes n x e in done n x (omega (arith, w, all)) e;
 }
-
-pub same_node : (a b : Node) → a.kind ≡ b.kind → a.place ≡ b.place → a.name ≡ b.name → a ≡ b
-same_node a b k p n =
-    ap (λ x. record { kind = x; place = a.place; name = a.name }) k
-    ∙ (ap (λ x. record { kind = b.kind; place = x; name = a.name }) p ∙ ap (λ x. record { kind = b.kind; place = b.place; name = x }) n)
 
 pub has_at : {X : Type 0} (xs : List X) (n : ℕ) (d : X) → n < length xs → Has xs (get_or xs n d)
 has_at [] n d h = absurd (omega arith)
 has_at (a ∷ xs) zero d h = inl refl
 has_at (a ∷ xs) (suc n) d h = inr (has_at xs n d (omega arith))
+
+pub has_found : {X : Type 0} (xs : List X) (n : ℕ) (x : X) → slice_get xs n ≡ Some x → Has xs x
+has_found [] n x e = absurd (cc e)
+has_found (a ∷ xs) zero x e = inl (same_Some a x e)
+has_found (a ∷ xs) (suc n) x e = inr (has_found xs n x e)
 
 -- ---- walks are chains
 
@@ -162,41 +160,59 @@ walk_chains step nodes rows a (z ∷ zs) i x y from (leads, rest) =
 
 -- ---- lists of paths
 
-pub adds_none : (nodes : List Node) (rows : List (List ℕ)) (list : List Path) → AddsPaths nodes rows list list
-adds_none nodes rows list = record { kept = λ p h. h; came = λ p h. inl h }
-
-pub adds_then : (nodes : List Node) (rows : List (List ℕ)) (a b c : List Path) → AddsPaths nodes rows a b → AddsPaths nodes rows b c → AddsPaths nodes rows a c
-adds_then nodes rows a b c x y = record {
+pub adds_then : (nodes : List Node) (rows : List (List ℕ)) (from : ℕ) (a b c : List Path) → AddsPaths nodes rows from a b → AddsPaths nodes rows from b c → AddsPaths nodes rows from a c
+adds_then nodes rows from a b c x y = record {
   kept = λ p h. y.kept p (x.kept p h);
   came = λ p h. ⊎_elim (λ k. x.came p k) (λ k. inr k) (y.came p h);
 }
 
-pub adds_one : (nodes : List Node) (rows : List (List ℕ)) (a : List Path) (path : Path) → IsSomewhere nodes rows path → AddsPaths nodes rows a (a ++ path ∷ [])
-adds_one nodes rows a path s = record {
+pub adds_one : (nodes : List Node) (rows : List (List ℕ)) (from : ℕ) (a : List Path) (path : Path) → IsSomewhere nodes rows from path → AddsPaths nodes rows from a (a ++ path ∷ [])
+adds_one nodes rows from a path s = record {
   kept = λ p h. has_left a (path ∷ []) p h;
-  came = λ p h. ⊎_elim (λ k. inl k) (λ e. inr (subst (λ q. IsSomewhere nodes rows q) e s)) (has_push a path p h);
+  came = λ p h. ⊎_elim (λ k. inl k) (λ e. inr (subst (λ q. IsSomewhere nodes rows from q) e s)) (has_push a path p h);
 }
 
-pub there_kept : (nodes : List Node) (rows : List (List ℕ)) (a b : List Path) → AddsPaths nodes rows a b → (i j : ℕ) → IsThere nodes rows a i j → IsThere nodes rows b i j
-there_kept nodes rows a b x i j t = record { path = t.path; there = x.kept t.path t.there; at_from = t.at_from; at_to = t.at_to; shortest = t.shortest }
+there_kept : (nodes : List Node) (a b : List Path) → ((p : Path) → Has a p → Has b p) → (i j : ℕ) → IsThere nodes a i j → IsThere nodes b i j
+there_kept nodes a b kept i j t = record { path = t.path; there = kept t.path t.there; at_from = t.at_from; at_to = t.at_to }
 
-pub covered_kept : (nodes : List Node) (rows : List (List ℕ)) (a b : List Path) → AddsPaths nodes rows a b → (i j : ℕ) → IsCovered nodes rows a i j → IsCovered nodes rows b i j
-covered_kept nodes rows a b x i j h = λ path z chain at listed other.
-    ⊎_elim (λ t. inl (there_kept nodes rows a b x i j t)) (λ t. inr (there_kept nodes rows a b x i 0 t)) (h path z chain at listed other)
+pub covered_kept : (nodes : List Node) (rows : List (List ℕ)) (a b : List Path) → ((p : Path) → Has a p → Has b p) → (i j : ℕ) → IsCovered nodes rows a i j → IsCovered nodes rows b i j
+covered_kept nodes rows a b kept i j h = λ path z chain at listed other.
+    ⊎_elim (λ t. inl (there_kept nodes a b kept i j t)) (λ t. inr (there_kept nodes a b kept i 0 t)) (h path z chain at listed other)
 
--- what is listed of numbers is listed of their nodes
-pub covered_has : (step : Node → List Node) (nodes : List Node) (rows : List (List ℕ)) (list : List Path) → IsGraph step nodes rows → slice_get nodes 0 ≡ Some everything
-    → (i : ℕ) → ((j : ℕ) → IsCovered nodes rows list i j) → (from to : Node) (zs : List Node) → slice_get nodes i ≡ Some from → IsWalk step from zs to
-    → is_listed to.kind ≡ true → (from ≡ to → ⊥) → HasPath list from to (length zs)
-covered_has step nodes rows list a first i covered from to zs at walk listed other =
-    let q = walk_chains step nodes rows a zs i from to at walk in
-    let apart : i ≡ q.0 → ⊥ = λ e. other (same_Some from to (sym at ∙ (ap (slice_get nodes) e ∙ q.1))) in
-    ⊎_elim
-    (λ (t : IsThere nodes rows list i q.0).
-    record { path = t.path; there = t.there; from_is = same_Some t.path.from from (sym t.at_from ∙ at); to_is = inl (same_Some t.path.to to (sym t.at_to ∙ q.1), subst (λ k. length t.path.nodes ≤ k) q.4 (t.shortest q.2 q.3)) })
-    (λ (t : IsThere nodes rows list i 0).
-    record { path = t.path; there = t.there; from_is = same_Some t.path.from from (sym t.at_from ∙ at); to_is = inr (same_Some t.path.to everything (sym t.at_to ∙ first)) })
-    (covered q.0 q.2 to q.3 q.1 listed apart)
+module _ (step : Node → List Node) (nodes : List Node) (rows : List (List ℕ)) (a : IsGraph step nodes rows) (first : slice_get nodes 0 ≡ Some everything) where
+  -- what is listed of numbers is listed of their nodes
+  pub covered_has : (list : List Path) (i : ℕ) → ((j : ℕ) → IsCovered nodes rows list i j) → (from to : Node) (zs : List Node) → slice_get nodes i ≡ Some from → IsWalk step from zs to
+      → is_listed to.kind ≡ true → (from ≡ to → ⊥) → HasPath list from to
+  covered_has list i covered from to zs at walk listed other =
+      let q = walk_chains step nodes rows a zs i from to at walk in
+      let apart : i ≡ q.0 → ⊥ = λ e. other (same_Some from to (sym at ∙ (ap (slice_get nodes) e ∙ q.1))) in
+      ⊎_elim
+      (λ (t : IsThere nodes list i q.0).
+      record { path = t.path; there = t.there; from_is = same_Some t.path.from from (sym t.at_from ∙ at); to_is = inl (same_Some t.path.to to (sym t.at_to ∙ q.1)) })
+      (λ (t : IsThere nodes list i 0).
+      record { path = t.path; there = t.there; from_is = same_Some t.path.from from (sym t.at_from ∙ at); to_is = inr (same_Some t.path.to everything (sym t.at_to ∙ first)) })
+      (covered q.0 q.2 to q.3 q.1 listed apart)
+
+  -- the path between numbers is one between their nodes
+  pub somewhere_is : (sources : List Node) (i : ℕ) (p : Path) → IsSomewhere nodes rows i p → Has sources p.from → IsPath step sources p
+  somewhere_is sources i p s source =
+      let d = s.drawn in
+      record {
+        source = source;
+        listed = s.listed;
+        other = λ e. s.other (a.once i s.to p.from d.at_from (subst (λ x. slice_get nodes s.to ≡ Some x) (sym e) d.at_to));
+        walk = chain_walks step nodes rows a d.numbers p.nodes i s.to p.from p.to d.at_from d.at_to d.at_path d.chain;
+        shortest = λ zs walk.
+            let q = walk_chains step nodes rows a zs i p.from p.to d.at_from walk in
+            let fewer = d.shortest q.2 (subst (λ j. IsChain rows i q.2 j) (a.once q.0 s.to p.to q.1 d.at_to) q.3) in
+            let drawn = are_length nodes d.numbers p.nodes d.at_path in
+            let walked = q.4 in
+            omega (arith, fewer, drawn, walked);
+        alone = λ zs walk.
+            let q = walk_chains step nodes rows a zs i p.from everything d.at_from walk in
+            let zero = s.alone q.2 (subst (λ j. IsChain rows i q.2 j) (a.once q.0 0 everything q.1 first) q.3) in
+            same_Some p.to everything (sym d.at_to ∙ (ap (slice_get nodes) zero ∙ first));
+      }
 
 -- a walk from everything leads nowhere
 pub stays : (step : Node → List Node) → step everything ≡ [] → (from to : Node) (zs : List Node) → from ≡ everything → IsWalk step from zs to → from ≡ to

@@ -1,3 +1,5 @@
 pub mod Grown
 pub mod Levelled
 pub mod Graphing
+pub mod Numbering
+pub mod Asking

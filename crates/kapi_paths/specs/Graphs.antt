@@ -4,6 +4,7 @@ use Rattle.std.specs.List.{slice_get}
 use Rattle.kapi_policy.specs.Decided.{Binding}
 use Rattle.kapi_policy.specs.Objects.{PolicyObjects}
 use Rattle.kapi_paths.specs.Chains.{Has, IsChain, row}
+use Rattle.kapi_paths.specs.Numbers.{IsOnce}
 use Rattle.kapi_paths.specs.Rights.{Row}
 use Rattle.kapi_paths.specs.Steps.{everything, next}
 use Rattle.kapi_paths.specs.declared.node.Node.{Node}
@@ -34,9 +35,10 @@ AreAt nodes (n ∷ ns) (x ∷ xs) = (slice_get nodes n ≡ Some x) × AreAt node
 abbrev pub Begins : List Node → List Node → Type 0
 Begins front list = (more : List Node) × (list ≡ front ++ more)
 
--- each node has a row of the numbers of whom it can become
+-- each node has one number, and at it a row of the numbers of whom it can become
 pub record IsGraph (step : Node → List Node) (nodes : List Node) (rows : List (List ℕ)) : Type 0 where
   pub size : length rows ≡ length nodes
+  pub once : IsOnce nodes
   pub next : (n : ℕ) (x : Node) → slice_get nodes n ≡ Some x → AreAt nodes (row rows n) (step x)
 
 -- ---- paths
@@ -56,40 +58,49 @@ pub record IsDrawn (nodes : List Node) (rows : List (List ℕ)) (from to : ℕ) 
   pub chain : IsChain rows from numbers to
   pub shortest : (path : List ℕ) → IsChain rows from path to → length numbers ≤ length path
 
--- the path is one between numbers, and to everything if that is reached
-pub record IsSomewhere (nodes : List Node) (rows : List (List ℕ)) (p : Path) : Type 0 where
-  pub from : ℕ
+-- the path is one from the number to another, whose node is listed, and to everything if that is reached
+pub record IsSomewhere (nodes : List Node) (rows : List (List ℕ)) (from : ℕ) (p : Path) : Type 0 where
   pub to : ℕ
   pub drawn : IsDrawn nodes rows from to p
   pub alone : (path : List ℕ) → IsChain rows from path 0 → to ≡ 0
+  pub other : from ≡ to → ⊥
+  pub listed : is_listed p.to.kind ≡ true
 
 -- the list keeps what it had, and what came are such paths
-pub record AddsPaths (nodes : List Node) (rows : List (List ℕ)) (old new : List Path) : Type 0 where
+pub record AddsPaths (nodes : List Node) (rows : List (List ℕ)) (from : ℕ) (old new : List Path) : Type 0 where
   pub kept : (p : Path) → Has old p → Has new p
-  pub came : (p : Path) → Has new p → Has old p ⊎ IsSomewhere nodes rows p
+  pub came : (p : Path) → Has new p → Has old p ⊎ IsSomewhere nodes rows from p
 
--- the list has a path between the nodes of the numbers, and no chain is shorter
-pub record IsThere (nodes : List Node) (rows : List (List ℕ)) (list : List Path) (from to : ℕ) : Type 0 where
+-- the list has a path between the nodes of the numbers
+pub record IsThere (nodes : List Node) (list : List Path) (from to : ℕ) : Type 0 where
   pub path : Path
   pub there : Has list path
   pub at_from : slice_get nodes from ≡ Some path.from
   pub at_to : slice_get nodes to ≡ Some path.to
-  pub shortest : (ns : List ℕ) → IsChain rows from ns to → length path.nodes ≤ length ns
 
 -- if chains lead from the number to another, whose node is listed, the list has a path there, or to everything
 abbrev pub IsCovered : List Node → List (List ℕ) → List Path → ℕ → ℕ → Type 0
 IsCovered nodes rows list from to =
     (path : List ℕ) (x : Node) → IsChain rows from path to → slice_get nodes to ≡ Some x → is_listed x.kind ≡ true → (from ≡ to → ⊥)
-    → IsThere nodes rows list from to ⊎ IsThere nodes rows list from 0
+    → IsThere nodes list from to ⊎ IsThere nodes list from 0
 
--- the list has a path from the node to the other in no more steps, or to everything
-pub record HasPath (list : List Path) (from to : Node) (steps : ℕ) : Type 0 where
+-- the path is a shortest walk from one of the sources to another node that is listed, and to everything if a walk leads there
+pub record IsPath (step : Node → List Node) (sources : List Node) (p : Path) : Type 0 where
+  pub source : Has sources p.from
+  pub listed : is_listed p.to.kind ≡ true
+  pub other : p.from ≡ p.to → ⊥
+  pub walk : IsWalk step p.from p.nodes p.to
+  pub shortest : (nodes : List Node) → IsWalk step p.from nodes p.to → length p.nodes ≤ length nodes
+  pub alone : (nodes : List Node) → IsWalk step p.from nodes everything → p.to ≡ everything
+
+-- the list has a path from the node to the other, or to everything
+pub record HasPath (list : List Path) (from to : Node) : Type 0 where
   pub path : Path
   pub there : Has list path
   pub from_is : path.from ≡ from
-  pub to_is : ((path.to ≡ to) × (length path.nodes ≤ steps)) ⊎ (path.to ≡ everything)
+  pub to_is : (path.to ≡ to) ⊎ (path.to ≡ everything)
 
--- if a walk leads from one of the sources to another node that is listed, the list has a path there that is no longer, or to everything
+-- if a walk leads from one of the sources to another node that is listed, the list has a path there, or to everything
 abbrev pub HasAll : (Node → List Node) → List Node → List Path → Type 0
 HasAll step sources list =
-    (from to : Node) (nodes : List Node) → Has sources from → IsWalk step from nodes to → is_listed to.kind ≡ true → (from ≡ to → ⊥) → HasPath list from to (length nodes)
+    (from to : Node) (nodes : List Node) → Has sources from → IsWalk step from nodes to → is_listed to.kind ≡ true → (from ≡ to → ⊥) → HasPath list from to

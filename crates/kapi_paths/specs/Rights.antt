@@ -124,7 +124,7 @@ person_groups =
     ∷ group (codes "webhooks") (codes "create" ∷ codes "update" ∷ codes "patch" ∷ [])
     (plain (codes "admissionregistration.k8s.io") (codes "validatingwebhookconfigurations")
     ∷ plain (codes "admissionregistration.k8s.io") (codes "mutatingwebhookconfigurations") ∷ []) names.Any leads.Everything
-    ∷ group (codes "namespaces") (codes "update" ∷ codes "patch" ∷ []) (plain [] (codes "namespaces") ∷ []) names.Own leads.Limits
+    ∷ group (codes "namespaces") (codes "update" ∷ codes "patch" ∷ []) (plain [] (codes "namespaces") ∷ []) names.Any leads.NamedLimits
     ∷ []
 
 -- the table

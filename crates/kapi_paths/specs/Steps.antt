@@ -38,6 +38,10 @@ everything = node kind.Everything [] []
 abbrev pub many : NodeKind → List ℕ → List Node
 many kind place = node kind place [] ∷ []
 
+-- the same in each of the namespaces
+abbrev pub each_space : NodeKind → List (List ℕ) → List Node
+each_space kind places = flat_map (many kind) places
+
 -- those of the names in a namespace
 abbrev pub named : NodeKind → List (List ℕ) → List ℕ → List Node
 named kind names place = map (node kind place) names
@@ -75,22 +79,28 @@ member_of group =
     if bytes_eq group (codes "system:unauthenticated") then user_alone (codes "system:anonymous")
     else record { user = []; groups = group ∷ codes "system:authenticated" ∷ [] }
 
+-- the identity of a user, group or account, and of any other node that of nobody
+abbrev pub identity_of : NodeKind → List ℕ → List ℕ → Identity
+identity_of kind.User place name = user_alone name
+identity_of kind.Group place name = member_of name
+identity_of kind.Account place name = account_alone place name
+identity_of other place name = user_alone []
+
 -- ---- what a role leads to
 
--- the names of a rule are those for which the right is asked in the namespace
-abbrev pub are_asked : Names → List ℕ → List (List ℕ) → Bool
-are_asked names.Unnamed place listed = names_match listed []
-are_asked names.Any place listed = true
-are_asked names.Own place listed = names_match listed place
-are_asked names.Signer place listed =
+-- the names of a rule have one for which the right is asked
+abbrev pub are_asked : Names → List (List ℕ) → Bool
+are_asked names.Unnamed listed = names_match listed []
+are_asked names.Any listed = true
+are_asked names.Signer listed =
     names_match listed (codes "kubernetes.io/kube-apiserver-client") || names_match listed (codes "kubernetes.io/*")
 
--- the rule has the right in the namespace
-abbrev pub has_right : Row → List ℕ → PolicyRule → Bool
-has_right row place rule =
+-- the rule has the right
+abbrev pub has_right : Row → PolicyRule → Bool
+has_right row rule =
     list_any (λ e. word_matches e row.verb) rule.verbs
     && (list_any (λ e. word_matches e row.group) rule.api_groups
-    && (list_any (λ e. resource_matches e row.resource row.subresource) rule.resources && are_asked row.names place rule.resource_names))
+    && (list_any (λ e. resource_matches e row.resource row.subresource) rule.resources && are_asked row.names rule.resource_names))
 
 -- the nodes, if they are asked for cluster-wide
 abbrev pub if_wide : List ℕ → List Node → List Node
@@ -104,12 +114,16 @@ by_names listed all some = if length listed == 0 then all else some
 abbrev pub all_there : List ℕ → List Node
 all_there place = if length place == 0 then everything ∷ [] else many kind.All place
 
+-- what the namespace of that name asks of its pods, or cluster-wide each of the names
+abbrev pub limits_of : List ℕ → List (List ℕ) → List Node
+limits_of place listed = if names_match listed place then many kind.Limits place else if_wide place (each_space kind.Limits listed)
+
 -- whom a right leads to in a namespace, by the names that the rule lists
 abbrev pub led_to : Known → Leads → List ℕ → List (List ℕ) → List Node
 led_to known leads.Everything place listed = if_wide place (everything ∷ [])
 led_to known leads.All place listed = many kind.All place
 led_to known leads.Accounts place listed = many kind.Accounts place
-led_to known leads.Limits place listed = many kind.Limits place
+led_to known leads.NamedLimits place listed = limits_of place listed
 led_to known leads.NamedAccounts place listed = by_names listed (many kind.Accounts place) (in_each known kind.Account listed place)
 led_to known leads.NamedUsers place listed = if_wide place (by_names listed (many kind.EveryUser []) (named kind.User listed []))
 led_to known leads.NamedGroups place listed = if_wide place (by_names listed (everything ∷ []) (named kind.Group listed []))
@@ -118,7 +132,7 @@ led_to known leads.NamedClusterRoles place listed = by_names listed (all_there p
 
 -- whom a rule that has the right leads to
 unfoldable pub by_right : Known → List ℕ → PolicyRule → Row → List Node
-by_right known place rule row = if has_right row place rule then led_to known row.leads place rule.resource_names else []
+by_right known place rule row = if has_right row rule then led_to known row.leads place rule.resource_names else []
 
 -- whom the rules of a role in a namespace lead to
 unfoldable pub by_rules : Known → List Row → List ℕ → List PolicyRule → List Node
@@ -144,10 +158,6 @@ bound identity b =
 unfoldable pub by_bindings : List Binding → Identity → List Node
 by_bindings bindings identity = (if is_master identity then everything ∷ [] else []) ++ flat_map (bound identity) bindings
 
--- one of each namespace that is known, if the namespace is empty
-abbrev pub each_space : Known → NodeKind → List Node
-each_space known kind = flat_map (many kind) known.namespaces
-
 -- the account, if it is one of the namespace
 abbrev pub account_in : List ℕ → NamespacedName → List Node
 account_in place a = if bytes_eq a.namespace place then node kind.Account place a.name ∷ [] else []
@@ -158,11 +168,11 @@ accounts_in known place = flat_map (account_in place) known.accounts
 
 -- all accounts of the namespace
 abbrev pub all_accounts : Known → List ℕ → List Node
-all_accounts known place = if length place == 0 then each_space known kind.Accounts else accounts_in known place
+all_accounts known place = if length place == 0 then each_space kind.Accounts known.namespaces else accounts_in known place
 
 -- all in the namespace
 abbrev pub all_in : Known → List ℕ → List Node
-all_in known place = if length place == 0 then each_space known kind.All else many kind.Accounts place ++ many kind.Limits place
+all_in known place = if length place == 0 then each_space kind.All known.namespaces else many kind.Accounts place ++ many kind.Limits place
 
 -- whom one can become in a step
 unfoldable pub next : PolicyObjects → List Binding → Known → List Row → NodeKind → List ℕ → List ℕ → List Node

@@ -1,10 +1,13 @@
 //! The graph of who can become whom, its nodes numbered.
-ghost use Rattle.std.specs.Prelude.{◌≡◌, ◌<◌, ◌∷◌, [], length, map, true, IfOk, IfSome, OnOk};
+ghost use Rattle.std.specs.Prelude.{◌≡◌, ◌⊎◌, ◌<◌, ◌∷◌, [], length, map, IfOk, OnOk};
 ghost use Rattle.std.specs.List.{slice_get};
 ghost use Rattle.kapi_policy.specs.Views.{binding_of};
+ghost use Rattle.kapi_paths.specs.Chains.{Has};
 ghost use Rattle.kapi_paths.specs.Graphs.{AreAt, Begins, IsGraph, next_of};
+ghost use Rattle.kapi_paths.specs.Numbers.{IsOnce};
 ghost use Rattle.kapi_paths.specs.Rights.{row_of};
 ghost use Rattle.kapi_paths.specs.Steps.{everything};
+ghost use Rattle.kapi_paths.specs.declared.node.Node.{Node as Who};
 
 use crate::node::{Node, NodeKind, push_node};
 use crate::steps::{Question, next};
@@ -24,10 +27,13 @@ pub struct Numbered {
 impl Model for Numbered {
     ghost use Rattle.std.specs.Prelude.{List};
     ghost use Rattle.kapi_paths.specs.declared.node.Node.{Node as Who};
+    ghost use Rattle.kapi_paths.specs.Numbers.{AreNumbers};
 
     ghost Value = { List Who };
 
     ghost view = { λ n. n.nodes.items };
+
+    ghost invariant = { λ n. AreNumbers n.numbers n.nodes.items };
 }
 
 impl Numbered {
@@ -43,8 +49,10 @@ impl Numbered {
     }
 
     fn len(&self) -> usize
-        ensures { result ≡ length self.now }
+        ensures count { result ≡ length self.now }
+        ensures once { IsOnce self.now }
     {
+        let _ = &self.numbers;
         self.nodes.len()
     }
 
@@ -62,24 +70,13 @@ impl Numbered {
         self.nodes.as_slice()
     }
 
-    // The number is looked at once more, so that it is never another node's.
-    fn known(&self, node: &Node) -> Option<usize>
-        ensures { IfSome result (λ n. slice_get self.now n ≡ Some node.now) }
-    {
-        let number = *self.numbers.get(node)?;
-        if is_at(self.nodes(), number, node) {
-            Some(number)
-        } else {
-            None
-        }
-    }
-
     fn number(&mut self, alloc: Global, node: Node) -> Result<usize, Memory>
         ensures at { IfOk result (λ n. slice_get self.new n ≡ Some node) }
         ensures more { OnOk result (Begins self.old self.new) }
+        ensures came { OnOk result ((x : Who) → Has self.new x → Has self.old x ⊎ (node ≡ x)) }
     {
-        if let Some(number) = self.known(&node) {
-            return Ok(number);
+        if let Some(number) = self.numbers.get(&node) {
+            return Ok(*number);
         }
         let number = self.nodes.len();
         self.nodes.reserve(1)?;
@@ -92,34 +89,13 @@ impl Numbered {
     pub fn row(&mut self, alloc: Global, nodes: Vec<Node>) -> Result<Vec<usize>, Memory>
         ensures at { IfOk result (λ row. AreAt self.new row.items nodes.items) }
         ensures more { OnOk result (Begins self.old self.new) }
+        ensures came { OnOk result ((x : Who) → Has self.new x → Has self.old x ⊎ Has nodes.items x) }
     {
         let mut row = Vec::new(alloc);
         for node in nodes {
             row.push(self.number(alloc, node)?)?;
         }
         Ok(row)
-    }
-}
-
-fn is_same_kind(a: NodeKind, b: NodeKind) -> bool
-    ensures { result ≡ true → a ≡ b }
-{
-    a == b
-}
-
-#[tactic(auto, using(crate::proofs::Graphing::same_node))]
-fn is_same(a: &Node, b: &Node) -> bool
-    ensures { result ≡ true → a.now ≡ b.now }
-{
-    is_same_kind(a.kind, b.kind) && (a.place == b.place && a.name == b.name)
-}
-
-fn is_at(nodes: &[Node], number: usize, node: &Node) -> bool
-    ensures { result ≡ true → slice_get nodes.now number ≡ Some node.now }
-{
-    match nodes.get(number) {
-        Some(other) => is_same(other, node),
-        None => false,
     }
 }
 

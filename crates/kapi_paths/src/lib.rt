@@ -3,6 +3,7 @@
 
 mod gathered;
 mod graph;
+pub mod laws;
 mod node;
 mod path;
 mod right;

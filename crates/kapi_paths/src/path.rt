@@ -4,9 +4,11 @@ ghost use Rattle.std.specs.List.{slice_get};
 ghost use Rattle.kapi_policy.specs.Views.{binding_of};
 ghost use Rattle.kapi_paths.specs.Chains.{Has, IsChain, IsInside};
 ghost use Rattle.kapi_paths.specs.Graphs as graphs;
-ghost use Rattle.kapi_paths.specs.Graphs.{AddsPaths, AreAt, HasAll, IsCovered, IsThere, IsWalk, next_of};
+ghost use Rattle.kapi_paths.specs.Graphs.{AddsPaths, AreAt, HasAll, IsCovered, IsPath, IsThere, next_of};
 ghost use Rattle.kapi_paths.specs.Rights.{row_of};
 ghost use Rattle.kapi_paths.specs.Sources.{sources as sources_of};
+ghost use Rattle.kapi_paths.specs.Steps.{everything};
+ghost use Rattle.kapi_paths.specs.declared.node.Node.{Node as Who};
 ghost use Rattle.kapi_paths.specs.declared.path.Path.{Path as Told};
 
 use crate::gathered::sources;
@@ -90,8 +92,10 @@ fn push_path(
     requires from { search.now.start < length nodes.now }
     requires to { to < length nodes.now }
     requires alone { (path : List ℕ) → IsChain search.now.graph search.now.start path 0 → to ≡ 0 }
-    ensures added { OnOk result (AddsPaths nodes.now search.now.graph list.old.items list.new.items) }
-    ensures there { IfOk result (λ reached. reached ≡ true → IsThere nodes.now search.now.graph list.new.items search.now.start to) }
+    requires other { search.now.start ≡ to → ⊥ }
+    requires listed { (x : Who) → slice_get nodes.now to ≡ Some x → graphs.is_listed x.kind ≡ true }
+    ensures added { OnOk result (AddsPaths nodes.now search.now.graph search.now.start list.old.items list.new.items) }
+    ensures there { IfOk result (λ reached. reached ≡ true → IsThere nodes.now list.new.items search.now.start to) }
     ensures unreached { IfOk result (λ reached. reached ≡ false → (path : List ℕ) → IsChain search.now.graph search.now.start path to → ⊥) }
 {
     match search.path_to(alloc, to)? {
@@ -117,7 +121,7 @@ fn push_listed(
     requires from { search.now.start < length nodes.now }
     requires to { to < length nodes.now }
     requires alone { (path : List ℕ) → IsChain search.now.graph search.now.start path 0 → to ≡ 0 }
-    ensures added { OnOk result (AddsPaths nodes.now search.now.graph list.old.items list.new.items) }
+    ensures added { OnOk result (AddsPaths nodes.now search.now.graph search.now.start list.old.items list.new.items) }
     ensures covered { OnOk result (IsCovered nodes.now search.now.graph list.new.items search.now.start to) }
 {
     if to == search.start() {
@@ -140,7 +144,7 @@ fn push_each(
     requires nodes { length search.now.graph ≡ length nodes.now }
     requires from { search.now.start < length nodes.now }
     requires other { (path : List ℕ) → IsChain search.now.graph search.now.start path 0 → ⊥ }
-    ensures added { OnOk result (AddsPaths nodes.now search.now.graph list.old.items list.new.items) }
+    ensures added { OnOk result (AddsPaths nodes.now search.now.graph search.now.start list.old.items list.new.items) }
     ensures covered { OnOk result ((to : ℕ) → 0 < to → to < length nodes.now → IsCovered nodes.now search.now.graph list.new.items search.now.start to) }
 {
     for to in 1..nodes.len() {
@@ -159,7 +163,9 @@ fn push_found(
     requires inside { IsInside search.now.graph }
     requires nodes { length search.now.graph ≡ length nodes.now }
     requires from { search.now.start < length nodes.now }
-    ensures added { OnOk result (AddsPaths nodes.now search.now.graph list.old.items list.new.items) }
+    requires some { 0 < search.now.start }
+    requires first { slice_get nodes.now 0 ≡ Some everything }
+    ensures added { OnOk result (AddsPaths nodes.now search.now.graph search.now.start list.old.items list.new.items) }
     ensures covered { OnOk result ((to : ℕ) → IsCovered nodes.now search.now.graph list.new.items search.now.start to) }
 {
     if push_path(alloc, list, nodes, search, 0)? {
@@ -179,7 +185,9 @@ fn push_paths(
     requires inside { IsInside rows.now }
     requires nodes { length rows.now ≡ length nodes.now }
     requires from { from < length nodes.now }
-    ensures added { OnOk result (AddsPaths nodes.now rows.now list.old.items list.new.items) }
+    requires some { 0 < from }
+    requires first { slice_get nodes.now 0 ≡ Some everything }
+    ensures added { OnOk result (AddsPaths nodes.now rows.now from list.old.items list.new.items) }
     ensures covered { OnOk result ((to : ℕ) → IsCovered nodes.now rows.now list.new.items from to) }
 {
     let search = Search::new(alloc, rows, from)?;
@@ -189,7 +197,7 @@ fn push_paths(
 
 /// The paths of each subject of the bindings: to everything, or else to each node that it reaches, besides those who hold a role.
 pub fn paths<P: Policy>(alloc: Global, asked: &Question<'_, P>) -> Result<Vec<Path>, Memory>
-    ensures walks { IfOk result (λ v. (p : Told) → Has v.items p → IsWalk (next_of (P.content asked.now.policy.now) (map binding_of asked.now.bindings.now) asked.now.known.now (map row_of asked.now.rights.now)) p.from p.nodes p.to) }
+    ensures each { IfOk result (λ v. (p : Told) → Has v.items p → IsPath (next_of (P.content asked.now.policy.now) (map binding_of asked.now.bindings.now) asked.now.known.now (map row_of asked.now.rights.now)) (sources_of (map binding_of asked.now.bindings.now)) p) }
     ensures listed { IfOk result (λ v. HasAll (next_of (P.content asked.now.policy.now) (map binding_of asked.now.bindings.now) asked.now.known.now (map row_of asked.now.rights.now)) (sources_of (map binding_of asked.now.bindings.now)) v.items) }
 {
     let mut numbered = Numbered::of_everything(alloc)?;

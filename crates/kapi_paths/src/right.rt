@@ -15,8 +15,6 @@ pub enum Names {
     Unnamed,
     /// For an object of some name, or without one.
     Any,
-    /// For the namespace itself.
-    Own,
     /// For the signer of clients of the API server, or for all of `kubernetes.io`.
     Signer,
 }
@@ -30,8 +28,6 @@ pub enum Leads {
     All,
     /// The accounts of the namespace.
     Accounts,
-    /// What the namespace asks of its pods.
-    Limits,
     /// The accounts of those names, without names all of the namespace.
     NamedAccounts,
     /// The users of those names, without names every one; cluster-wide alone.
@@ -40,6 +36,8 @@ pub enum Leads {
     NamedGroups,
     /// The Roles of those names, without names all in the namespace.
     NamedRoles,
+    /// What the namespace asks of its pods, if its name is listed or none is; cluster-wide each of those names.
+    NamedLimits,
     /// The ClusterRoles of those names there, without names all in the namespace, or everything.
     NamedClusterRoles,
 }
@@ -269,8 +267,8 @@ fn person_groups() -> [Group; 7]
             kind: "namespaces",
             verbs: &["update", "patch"],
             resources: &[Resource("", "namespaces", "")],
-            names: Names::Own,
-            leads: Leads::Limits,
+            names: Names::Any,
+            leads: Leads::NamedLimits,
         },
     ]
 }

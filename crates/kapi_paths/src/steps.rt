@@ -52,13 +52,12 @@ fn is_name_matched(names: &[Text], name: &str) -> bool
     names.is_empty() || is_listed(names, name)
 }
 
-fn are_asked(names: Names, place: &str, listed: &[Text]) -> bool
-    ensures { result ≡ steps.are_asked names place.now listed.now }
+fn are_asked(names: Names, listed: &[Text]) -> bool
+    ensures { result ≡ steps.are_asked names listed.now }
 {
     match names {
         Names::Unnamed => is_name_matched(listed, ""),
         Names::Any => true,
-        Names::Own => is_name_matched(listed, place),
         Names::Signer => {
             is_name_matched(listed, "kubernetes.io/kube-apiserver-client")
                 || is_name_matched(listed, "kubernetes.io/*")
@@ -66,13 +65,27 @@ fn are_asked(names: Names, place: &str, listed: &[Text]) -> bool
     }
 }
 
-fn has_right(right: &Right, place: &str, rule: &PolicyRule) -> bool
-    ensures { result ≡ steps.has_right (row_of right.now) place.now rule.now }
+fn has_right(right: &Right, rule: &PolicyRule) -> bool
+    ensures { result ≡ steps.has_right (row_of right.now) rule.now }
 {
     some_word_matches(rule.verbs.as_slice(), right.1)
         && (some_word_matches(rule.api_groups.as_slice(), right.2)
             && (some_resource_matches(rule.resources.as_slice(), right.3, right.4)
-                && are_asked(right.5, place, rule.resource_names.as_slice())))
+                && are_asked(right.5, rule.resource_names.as_slice())))
+}
+
+fn push_each_space(
+    alloc: Global,
+    list: &mut Vec<Node>,
+    kind: NodeKind,
+    places: &[Text],
+) -> Result<(), Memory>
+    ensures { OnOk result (list.new.items ≡ list.old.items ++ steps.each_space kind places.now) }
+{
+    for place in places {
+        push_node(alloc, list, kind, place.as_str(), "")?;
+    }
+    Ok(())
 }
 
 fn push_named(
@@ -196,6 +209,23 @@ fn push_cluster_roles(
     }
 }
 
+fn push_limits(
+    alloc: Global,
+    list: &mut Vec<Node>,
+    place: &str,
+    listed: &[Text],
+) -> Result<(), Memory>
+    ensures { OnOk result (list.new.items ≡ list.old.items ++ steps.limits_of place.now listed.now) }
+{
+    if is_name_matched(listed, place) {
+        push_node(alloc, list, NodeKind::Limits, place, "")
+    } else if place.is_empty() {
+        push_each_space(alloc, list, NodeKind::Limits, listed)
+    } else {
+        Ok(())
+    }
+}
+
 fn push_led_to(
     alloc: Global,
     list: &mut Vec<Node>,
@@ -210,7 +240,6 @@ fn push_led_to(
         Leads::Everything => push_if_wide(alloc, list, place),
         Leads::All => push_node(alloc, list, NodeKind::All, place, ""),
         Leads::Accounts => push_node(alloc, list, NodeKind::Accounts, place, ""),
-        Leads::Limits => push_node(alloc, list, NodeKind::Limits, place, ""),
         Leads::NamedAccounts => {
             push_by_names(
                 alloc,
@@ -249,6 +278,7 @@ fn push_led_to(
             place,
             listed,
         ),
+        Leads::NamedLimits => push_limits(alloc, list, place, listed),
         Leads::NamedClusterRoles => push_cluster_roles(alloc, list, place, listed),
     }
 }
@@ -265,7 +295,7 @@ pub fn push_by_right(
 ) -> Result<(), Memory>
     ensures { OnOk result (list.new.items ≡ list.old.items ++ steps.by_right known.now place.now rule.now (row_of right.now)) }
 {
-    if !has_right(right, place, rule) {
+    if !has_right(right, rule) {
         return Ok(());
     }
     push_led_to(
@@ -319,33 +349,6 @@ pub fn rules_held<'a, P: Policy>(policy: &'a P, role: &RoleRef, place: &str) -> 
         Some(rules) => rules,
         None => &[],
     }
-}
-
-#[tactic(auto, unfolding(crate::specs::Steps::by_role))]
-fn push_by_role<P: Policy>(
-    alloc: Global,
-    list: &mut Vec<Node>,
-    policy: &P,
-    known: &Known,
-    rights: &[Right],
-    kind: RoleKind,
-    node: &Node,
-) -> Result<(), Memory>
-    ensures { OnOk result (list.new.items ≡ list.old.items ++ steps.by_role (P.content policy.now) known.now (map row_of rights.now) kind node.now.place node.now.name) }
-{
-    let role = RoleRef {
-        kind,
-        name: node.name.copy(alloc)?,
-    };
-    let place = node.place.as_str();
-    push_by_rules(
-        alloc,
-        list,
-        known,
-        rights,
-        place,
-        rules_held(policy, &role, place),
-    )
 }
 
 // ---- by bindings
@@ -463,20 +466,6 @@ fn push_by_bindings(
 
 // ---- of many
 
-fn push_each_space(
-    alloc: Global,
-    list: &mut Vec<Node>,
-    known: &Known,
-    kind: NodeKind,
-) -> Result<(), Memory>
-    ensures { OnOk result (list.new.items ≡ list.old.items ++ steps.each_space known.now kind) }
-{
-    for place in known.namespaces.as_slice() {
-        push_node(alloc, list, kind, place.as_str(), "")?;
-    }
-    Ok(())
-}
-
 fn push_account(
     alloc: Global,
     list: &mut Vec<Node>,
@@ -514,7 +503,7 @@ fn push_accounts(
     ensures { OnOk result (list.new.items ≡ list.old.items ++ steps.all_accounts known.now place.now) }
 {
     if place.is_empty() {
-        push_each_space(alloc, list, known, NodeKind::Accounts)
+        push_each_space(alloc, list, NodeKind::Accounts, known.namespaces.as_slice())
     } else {
         push_accounts_in(alloc, list, known, place)
     }
@@ -529,7 +518,7 @@ fn push_all_in(
     ensures { OnOk result (list.new.items ≡ list.old.items ++ steps.all_in known.now place.now) }
 {
     if place.is_empty() {
-        return push_each_space(alloc, list, known, NodeKind::All);
+        return push_each_space(alloc, list, NodeKind::All, known.namespaces.as_slice());
     }
     push_node(alloc, list, NodeKind::Accounts, place, "")?;
     push_node(alloc, list, NodeKind::Limits, place, "")
@@ -538,7 +527,9 @@ fn push_all_in(
 // ---- of each node
 
 /// The identity of a user, group or account; of another node that of nobody.
-pub fn identity_of(alloc: Global, node: &Node) -> Result<Identity, Memory> {
+pub fn identity_of(alloc: Global, node: &Node) -> Result<Identity, Memory>
+    ensures { IfOk result (λ i. i ≡ steps.identity_of node.now.kind node.now.place node.now.name) }
+{
     match node.kind {
         NodeKind::User => user_alone(alloc, node.name.as_str()),
         NodeKind::Group => member_of(alloc, node.name.as_str()),
@@ -556,6 +547,25 @@ pub struct Question<'a, P> {
     pub rights: &'a [Right],
 }
 
+#[tactic(auto, unfolding(crate::specs::Steps::by_role))]
+fn push_by_role<P: Policy>(
+    alloc: Global,
+    list: &mut Vec<Node>,
+    asked: &Question<'_, P>,
+    kind: RoleKind,
+    node: &Node,
+) -> Result<(), Memory>
+    ensures { OnOk result (list.new.items ≡ list.old.items ++ steps.by_role (P.content asked.now.policy.now) asked.now.known.now (map row_of asked.now.rights.now) kind node.now.place node.now.name) }
+{
+    let role = RoleRef {
+        kind,
+        name: node.name.copy(alloc)?,
+    };
+    let place = node.place.as_str();
+    let rules = rules_held(asked.policy, &role, place);
+    push_by_rules(alloc, list, asked.known, asked.rights, place, rules)
+}
+
 #[tactic(auto, unfolding(crate::specs::Steps::next))]
 fn push_next<P: Policy>(
     alloc: Global,
@@ -566,7 +576,7 @@ fn push_next<P: Policy>(
     ensures { OnOk result (list.new.items ≡ list.old.items ++ steps.next (P.content asked.now.policy.now) (map binding_of asked.now.bindings.now) asked.now.known.now (map row_of asked.now.rights.now) node.now.kind node.now.place node.now.name) }
 {
     let place = node.place.as_str();
-    let name = node.name.as_str();
+    let bindings = asked.bindings;
     let users = asked.known.users.as_slice();
     match node.kind {
         NodeKind::Everything => Ok(()),
@@ -574,36 +584,11 @@ fn push_next<P: Policy>(
         NodeKind::EveryUser => push_named(alloc, list, NodeKind::User, users, ""),
         NodeKind::All => push_all_in(alloc, list, asked.known, place),
         NodeKind::Accounts => push_accounts(alloc, list, asked.known, place),
-        NodeKind::User => {
-            push_by_bindings(alloc, list, asked.bindings, &user_alone(alloc, name)?)
-        }
-        NodeKind::Group => push_by_bindings(alloc, list, asked.bindings, &member_of(alloc, name)?),
-        NodeKind::Account => {
-            push_by_bindings(
-                alloc,
-                list,
-                asked.bindings,
-                &account_alone(alloc, place, name)?,
-            )
-        }
-        NodeKind::Role => push_by_role(
-            alloc,
-            list,
-            asked.policy,
-            asked.known,
-            asked.rights,
-            RoleKind::Role,
-            node,
-        ),
-        NodeKind::ClusterRole => push_by_role(
-            alloc,
-            list,
-            asked.policy,
-            asked.known,
-            asked.rights,
-            RoleKind::ClusterRole,
-            node,
-        ),
+        NodeKind::User => push_by_bindings(alloc, list, bindings, &identity_of(alloc, node)?),
+        NodeKind::Group => push_by_bindings(alloc, list, bindings, &identity_of(alloc, node)?),
+        NodeKind::Account => push_by_bindings(alloc, list, bindings, &identity_of(alloc, node)?),
+        NodeKind::Role => push_by_role(alloc, list, asked, RoleKind::Role, node),
+        NodeKind::ClusterRole => push_by_role(alloc, list, asked, RoleKind::ClusterRole, node),
     }
 }
 

@@ -15,7 +15,7 @@ rows-preserved g c =
     let ok = c.rows.rows.ok in
     let less = c.rows-test.true in
     let first = c.len.ensures in
-    let second = c.len-in-rows.ensures in
+    let second = c.len-in-rows.ensures.count in
     let third = c.len-in-rows-2.ensures in
     let at : c.len-in-rows-2.result ≡ length c.rows.rows.items = omega (arith, third, ok) in
     let here = subst (λ k. slice_get c.rows.numbered k ≡ Some c.node.result.now) at c.node.ensures in
@@ -36,5 +36,5 @@ returns-clause-rows g c =
     let ok = c.rows.rows.ok in
     let less = c.rows-test.false in
     let first = c.len.ensures in
-    let second = c.len-in-rows.ensures in
-    rows_done step c.rows.numbered c.rows.rows.items c.rows.invariant.next c.rows.invariant.size (omega (arith, less, first, second, ok))
+    let second = c.len-in-rows.ensures.count in
+    rows_done step c.rows.numbered c.rows.rows.items c.rows.invariant.next c.rows.invariant.size (omega (arith, less, first, second, ok)) c.len-in-rows.ensures.once

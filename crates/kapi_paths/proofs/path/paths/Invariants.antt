@@ -6,6 +6,6 @@ use Rattle.kapi_paths.proofs.path.paths.Given as goal
 
 abbrev pub invariant-loop-from : goal.invariant-loop-from
 invariant-loop-from g l = record {
-  came : (p : Path) → Has l.list.items p → IsSomewhere l.numbered l.rows.items p;
+  came : (p : Path) → Has l.list.items p → (from : ℕ) × (0 < from) × (from < l.count) × IsSomewhere l.numbered l.rows.items from p;
   covered : (from : ℕ) → 0 < from → from < l.from → (to : ℕ) → IsCovered l.numbered l.rows.items l.list.items from to;
 }

@@ -9,11 +9,11 @@ loop-to-preserved c =
     let nodes = c.args.nodes.now in
     let rows = c.args.search.now.graph in
     let start = c.args.search.now.start in
-    let added : AddsPaths nodes rows c.loop-to.list.items c.push_listed.new.list.items = c.in_ok-push_listed.ensures.added in
+    let added : AddsPaths nodes rows start c.loop-to.list.items c.push_listed.new.list.items = c.in_ok-push_listed.ensures.added in
     record {
-      added = adds_then nodes rows c.args.list.now.items c.loop-to.list.items c.push_listed.new.list.items c.loop-to.invariant.added added;
+      added = adds_then nodes rows start c.args.list.now.items c.loop-to.list.items c.push_listed.new.list.items c.loop-to.invariant.added added;
       covered = λ i some below. ⊎_elim
-          (λ less. covered_kept nodes rows c.loop-to.list.items c.push_listed.new.list.items added start i (c.loop-to.invariant.covered i some less))
+          (λ less. covered_kept nodes rows c.loop-to.list.items c.push_listed.new.list.items added.kept start i (c.loop-to.invariant.covered i some less))
           (λ past. let e : c.loop-to.to ≡ i = omega (arith, below, past) in
           subst (λ k. IsCovered nodes rows c.push_listed.new.list.items start k) e c.in_ok-push_listed.ensures.covered)
           (cases_lt i c.loop-to.to);

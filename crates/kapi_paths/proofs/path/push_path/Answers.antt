@@ -1,8 +1,8 @@
-use Rattle.std.proofs.Common.{◌≡◌, ◌<◌, ◌≤◌, length, ℕ, List, Some, subst}
+use Rattle.std.proofs.Common.{◌≡◌, ◌<◌, ℕ, List, Some, subst}
 use Rattle.std.specs.List.{slice_get}
 use Rattle.kapi_paths.specs.Chains.{Has, IsChain}
 use Rattle.kapi_paths.specs.Graphs.{AreAt}
-use Rattle.kapi_paths.proofs.Graphing.{adds_one, are_length, chain_inside}
+use Rattle.kapi_paths.proofs.Graphing.{adds_one, chain_inside}
 use Rattle.kapi_paths.proofs.Grown.{has_last}
 use Rattle.kapi_paths.proofs.path.push_path.Goals as goal
 
@@ -18,8 +18,7 @@ returns-in_ok-push-in-Some-clause-added c =
     let e = c.in_ok-path-in-Some.ensures in
     let path = c.in_ok-path-in-Some.path in
     rw c.in_ok-push-in-Some.ensures.items
-    (adds_one c.args.nodes.now c.args.search.now.graph c.args.list.now.items path (record {
-      from = c.args.search.now.start;
+    (adds_one c.args.nodes.now c.args.search.now.graph c.args.search.now.start c.args.list.now.items path (record {
       to = c.args.to;
       drawn = record {
         numbers = c.in-Some.numbers.items;
@@ -30,6 +29,8 @@ returns-in_ok-push-in-Some-clause-added c =
         shortest = rw c.in-Some.is at c.in_ok-numbers.ensures.shortest;
       };
       alone = c.requires.alone;
+      other = c.requires.other;
+      listed = c.requires.listed path.to e.to;
     }))
 
 pub returns-in_ok-push-in-Some-clause-there : goal.returns-in_ok-push-in-Some-clause-there
@@ -41,7 +42,4 @@ returns-in_ok-push-in-Some-clause-there c =
       there = has_last c.args.list.now.items path;
       at_from = subst (λ k. slice_get c.args.nodes.now k ≡ Some path.from) c.start.ensures e.from;
       at_to = e.to;
-      shortest = subst (λ k. (ns : List ℕ) → IsChain c.args.search.now.graph c.args.search.now.start ns c.args.to → k ≤ length ns)
-          (are_length c.args.nodes.now c.in-Some.numbers.items path.nodes (subst (λ (l : List ℕ). AreAt c.args.nodes.now l path.nodes) c.as_slice.ensures.value e.path))
-          (rw c.in-Some.is at c.in_ok-numbers.ensures.shortest);
     })

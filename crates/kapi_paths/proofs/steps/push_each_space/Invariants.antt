@@ -1,8 +1,6 @@
 use Rattle.std.proofs.Common.{◌≡◌, ◌++◌, take}
-use Rattle.std.specs.List.{flat_map}
-use Rattle.kapi_paths.specs.Steps as steps
-use Rattle.kapi_paths.specs.Steps.{named}
+use Rattle.kapi_paths.specs.Steps.{each_space}
 use Rattle.kapi_paths.proofs.steps.push_each_space.Given as goal
 
 abbrev pub invariant-loop-place : goal.invariant-loop-place
-invariant-loop-place l = l.list.items ≡ l.initial.list.items ++ flat_map (steps.many l.kind) (take l.place-index l.known.namespaces)
+invariant-loop-place l = l.list.items ≡ l.initial.list.items ++ each_space l.kind (take l.place-index l.places)
