@@ -1,5 +1,5 @@
 -- The numbers of nodes, and what a graph of numbers says of the nodes.
-use Rattle.std.proofs.Common.{◌≡◌, ◌≤◌, ◌<◌, ◌++◌, ℕ, true, suc, zero, List, [], ◌∷◌, length, get_or, Some, refl, sym, ap, subst, ◌∙◌, inl, inr, ⊎_elim, arith, append_assoc, append-nil}
+use Rattle.std.proofs.Common.{◌≡◌, ◌≤◌, ◌<◌, ◌++◌, ℕ, true, suc, zero, List, [], ◌∷◌, length, get_or, Some, refl, sym, ap, subst, ◌∙◌, inl, inr, ⊎_elim, arith, append_assoc}
 use Rattle.std.specs.List.{slice_get}
 use Rattle.std.proofs.lemmas.List.{get_or_append_left, get_or_past, get_or_push, length-append, length_push}
 use Rattle.std.proofs.lemmas.Option.{same_Some, slice_get_within}
@@ -26,9 +26,6 @@ kept_at (a ∷ xs) ys (suc n) x e = kept_at xs ys n x e
 pub at_end : {X : Type 0} (xs : List X) (x : X) → slice_get (xs ++ x ∷ []) (length xs) ≡ Some x
 at_end [] x = refl
 at_end (a ∷ xs) x = at_end xs x
-
-pub begins_itself : (xs : List Node) → Begins xs xs
-begins_itself xs = ([], sym (append-nil xs))
 
 pub begins_then : (xs ys zs : List Node) → Begins xs ys → Begins ys zs → Begins xs zs
 begins_then xs ys zs (more, e) (rest, f) = (more ++ rest, f ∙ (ap (λ l. l ++ rest) e ∙ append_assoc xs more rest))

@@ -1,5 +1,5 @@
 -- The graph of who can become whom, and its paths.
-use Rattle.std.specs.Prelude.{◌≡◌, ◌⊎◌, ℕ, ◌≤◌, Bool, true, false, List, [], ◌∷◌, ◌++◌, length, Some}
+use Rattle.std.specs.Prelude.{◌≡◌, ◌⊎◌, ℕ, ◌<◌, ◌≤◌, Bool, true, false, List, [], ◌∷◌, ◌++◌, length, Some}
 use Rattle.std.specs.List.{slice_get}
 use Rattle.kapi_policy.specs.Decided.{Binding}
 use Rattle.kapi_policy.specs.Objects.{PolicyObjects}
@@ -70,6 +70,15 @@ pub record IsSomewhere (nodes : List Node) (rows : List (List ℕ)) (from : ℕ)
 pub record AddsPaths (nodes : List Node) (rows : List (List ℕ)) (from : ℕ) (old new : List Path) : Type 0 where
   pub kept : (p : Path) → Has old p → Has new p
   pub came : (p : Path) → Has new p → Has old p ⊎ IsSomewhere nodes rows from p
+
+-- no two paths of the list have the same ends
+abbrev pub AreApart : List Path → Type 0
+AreApart list = (i j : ℕ) (p q : Path) → slice_get list i ≡ Some p → slice_get list j ≡ Some q → p.from ≡ q.from → p.to ≡ q.to → i ≡ j
+
+-- they are so, and the numbers of their ends come before those, in the order of the first and then of the second
+pub record AreBefore (nodes : List Node) (from to : ℕ) (list : List Path) : Type 0 where
+  pub apart : AreApart list
+  pub before : (p : Path) (i j : ℕ) → Has list p → slice_get nodes i ≡ Some p.from → slice_get nodes j ≡ Some p.to → (i < from) ⊎ ((i ≡ from) × (j < to))
 
 -- the list has a path between the nodes of the numbers
 pub record IsThere (nodes : List Node) (list : List Path) (from to : ℕ) : Type 0 where

@@ -1,10 +1,11 @@
 //! Who can become whom, and by which steps.
-ghost use Rattle.std.specs.Prelude.{◌≡◌, ℕ, ◌<◌, List, Some, false, length, map, true, IfOk, OnOk};
+ghost use Rattle.std.specs.Prelude.{◌≡◌, ℕ, ◌+◌, ◌<◌, List, Some, false, length, map, true, IfOk, OnOk};
 ghost use Rattle.std.specs.List.{slice_get};
 ghost use Rattle.kapi_policy.specs.Views.{binding_of};
 ghost use Rattle.kapi_paths.specs.Chains.{Has, IsChain, IsInside};
 ghost use Rattle.kapi_paths.specs.Graphs as graphs;
-ghost use Rattle.kapi_paths.specs.Graphs.{AddsPaths, AreAt, HasAll, IsCovered, IsPath, IsThere, next_of};
+ghost use Rattle.kapi_paths.specs.Graphs.{AddsPaths, AreApart, AreAt, AreBefore, HasAll, IsCovered, IsPath, IsThere, next_of};
+ghost use Rattle.kapi_paths.specs.Numbers.{IsOnce};
 ghost use Rattle.kapi_paths.specs.Rights.{row_of};
 ghost use Rattle.kapi_paths.specs.Sources.{sources as sources_of};
 ghost use Rattle.kapi_paths.specs.Steps.{everything};
@@ -80,6 +81,7 @@ fn drawn(
 }
 
 // Puts a shortest path to the node of that number at the end of a list, if chains lead there. Answers whether they do.
+#[tactic(auto, using(crate::proofs::Numbering::before_more))]
 fn push_path(
     alloc: Global,
     list: &mut Vec<Path>,
@@ -94,6 +96,9 @@ fn push_path(
     requires alone { (path : List ℕ) → IsChain search.now.graph search.now.start path 0 → to ≡ 0 }
     requires other { search.now.start ≡ to → ⊥ }
     requires listed { (x : Who) → slice_get nodes.now to ≡ Some x → graphs.is_listed x.kind ≡ true }
+    requires once { IsOnce nodes.now }
+    requires before { AreBefore nodes.now search.now.start to list.old.items }
+    ensures after { OnOk result (AreBefore nodes.now search.now.start (to + 1) list.new.items) }
     ensures added { OnOk result (AddsPaths nodes.now search.now.graph search.now.start list.old.items list.new.items) }
     ensures there { IfOk result (λ reached. reached ≡ true → IsThere nodes.now list.new.items search.now.start to) }
     ensures unreached { IfOk result (λ reached. reached ≡ false → (path : List ℕ) → IsChain search.now.graph search.now.start path to → ⊥) }
@@ -109,6 +114,7 @@ fn push_path(
 }
 
 // The same, if that node is another, and is listed.
+#[tactic(auto, using(crate::proofs::Numbering::before_more))]
 fn push_listed(
     alloc: Global,
     list: &mut Vec<Path>,
@@ -121,6 +127,9 @@ fn push_listed(
     requires from { search.now.start < length nodes.now }
     requires to { to < length nodes.now }
     requires alone { (path : List ℕ) → IsChain search.now.graph search.now.start path 0 → to ≡ 0 }
+    requires once { IsOnce nodes.now }
+    requires before { AreBefore nodes.now search.now.start to list.old.items }
+    ensures after { OnOk result (AreBefore nodes.now search.now.start (to + 1) list.new.items) }
     ensures added { OnOk result (AddsPaths nodes.now search.now.graph search.now.start list.old.items list.new.items) }
     ensures covered { OnOk result (IsCovered nodes.now search.now.graph list.new.items search.now.start to) }
 {
@@ -134,6 +143,7 @@ fn push_listed(
     Ok(())
 }
 
+#[tactic(auto, using(crate::proofs::Numbering::before_next))]
 fn push_each(
     alloc: Global,
     list: &mut Vec<Path>,
@@ -144,6 +154,9 @@ fn push_each(
     requires nodes { length search.now.graph ≡ length nodes.now }
     requires from { search.now.start < length nodes.now }
     requires other { (path : List ℕ) → IsChain search.now.graph search.now.start path 0 → ⊥ }
+    requires once { IsOnce nodes.now }
+    requires before { AreBefore nodes.now search.now.start 1 list.old.items }
+    ensures after { OnOk result (AreBefore nodes.now (search.now.start + 1) 0 list.new.items) }
     ensures added { OnOk result (AddsPaths nodes.now search.now.graph search.now.start list.old.items list.new.items) }
     ensures covered { OnOk result ((to : ℕ) → 0 < to → to < length nodes.now → IsCovered nodes.now search.now.graph list.new.items search.now.start to) }
 {
@@ -154,6 +167,7 @@ fn push_each(
 }
 
 // The paths of a search: to everything, or else to each node that is listed.
+#[tactic(auto, using(crate::proofs::Numbering::before_next))]
 fn push_found(
     alloc: Global,
     list: &mut Vec<Path>,
@@ -165,6 +179,9 @@ fn push_found(
     requires from { search.now.start < length nodes.now }
     requires some { 0 < search.now.start }
     requires first { slice_get nodes.now 0 ≡ Some everything }
+    requires once { IsOnce nodes.now }
+    requires before { AreBefore nodes.now search.now.start 0 list.old.items }
+    ensures after { OnOk result (AreBefore nodes.now (search.now.start + 1) 0 list.new.items) }
     ensures added { OnOk result (AddsPaths nodes.now search.now.graph search.now.start list.old.items list.new.items) }
     ensures covered { OnOk result ((to : ℕ) → IsCovered nodes.now search.now.graph list.new.items search.now.start to) }
 {
@@ -187,6 +204,9 @@ fn push_paths(
     requires from { from < length nodes.now }
     requires some { 0 < from }
     requires first { slice_get nodes.now 0 ≡ Some everything }
+    requires once { IsOnce nodes.now }
+    requires before { AreBefore nodes.now from 0 list.old.items }
+    ensures after { OnOk result (AreBefore nodes.now (from + 1) 0 list.new.items) }
     ensures added { OnOk result (AddsPaths nodes.now rows.now from list.old.items list.new.items) }
     ensures covered { OnOk result ((to : ℕ) → IsCovered nodes.now rows.now list.new.items from to) }
 {
@@ -198,6 +218,7 @@ fn push_paths(
 /// The paths of each subject of the bindings: to everything, or else to each node that it reaches, besides those who hold a role.
 pub fn paths<P: Policy>(alloc: Global, asked: &Question<'_, P>) -> Result<Vec<Path>, Memory>
     ensures each { IfOk result (λ v. (p : Told) → Has v.items p → IsPath (next_of (P.content asked.now.policy.now) (map binding_of asked.now.bindings.now) asked.now.known.now (map row_of asked.now.rights.now)) (sources_of (map binding_of asked.now.bindings.now)) p) }
+    ensures once { IfOk result (λ v. AreApart v.items) }
     ensures listed { IfOk result (λ v. HasAll (next_of (P.content asked.now.policy.now) (map binding_of asked.now.bindings.now) asked.now.known.now (map row_of asked.now.rights.now)) (sources_of (map binding_of asked.now.bindings.now)) v.items) }
 {
     let mut numbered = Numbered::of_everything(alloc)?;

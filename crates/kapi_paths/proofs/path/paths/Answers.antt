@@ -1,10 +1,11 @@
-use Rattle.std.proofs.Common.{◌≡◌, ◌<◌, ⊎_elim, ap, arith, length, List, ℕ, [], ◌∷◌, Some, map, subst, sym, ◌∙◌}
+use Rattle.std.proofs.Common.{◌≡◌, ◌+◌, ◌<◌, ⊎_elim, ap, arith, length, List, ℕ, [], ◌∷◌, Some, map, subst, sym, ◌∙◌}
 use Rattle.std.specs.List.{slice_get}
 use Rattle.std.proofs.lemmas.Bool.{cases_lt}
 use Rattle.std.proofs.lemmas.Option.{same_Some, slice_get_within}
 use Rattle.kapi_policy.specs.Views.{binding_of}
 use Rattle.kapi_paths.specs.Chains.{Has, IsInside}
-use Rattle.kapi_paths.specs.Graphs.{AddsPaths, Begins, IsCovered, next_of}
+use Rattle.kapi_paths.specs.Graphs.{AddsPaths, AreBefore, Begins, IsCovered, next_of}
+use Rattle.kapi_paths.specs.Numbers.{IsOnce}
 use Rattle.kapi_paths.specs.Rights.{row_of}
 use Rattle.kapi_paths.specs.Sources.{sources}
 use Rattle.kapi_paths.specs.Steps.{everything}
@@ -26,6 +27,12 @@ push_paths-requires-clause-first g c =
     subst (λ (ns : List Node). slice_get ns 0 ≡ Some everything) (sym c.nodes.ensures)
     (first_is _ c.row.new.self c.rows.new.numbered c.in_ok-numbered.ensures c.in_ok-row.ensures.more c.in_ok-rows.ensures.more)
 
+pub push_paths-requires-clause-once : goal.push_paths-requires-clause-once
+push_paths-requires-clause-once g c = subst (λ (ns : List Node). IsOnce ns) (sym c.nodes.ensures) c.in_ok-rows.ensures.rows.once
+
+pub push_paths-requires-clause-before : goal.push_paths-requires-clause-before
+push_paths-requires-clause-before g c = subst (λ (ns : List Node). AreBefore ns c.loop-from.from 0 c.loop-from.list.items) (sym c.nodes.ensures) c.loop-from.invariant.ordered
+
 pub loop-from-preserved : goal.loop-from-preserved
 loop-from-preserved g c =
     let nodes = c.rows.new.numbered in
@@ -42,6 +49,7 @@ loop-from-preserved g c =
           (λ k. c.loop-from.invariant.came p k)
           (λ k. (from, omega arith, c.loop-from-test.true, k))
           (added.came p h);
+      ordered = subst (λ (ns : List Node). AreBefore ns (from + 1) 0 new) c.nodes.ensures c.in_ok-push_paths.ensures.after;
       covered = λ i some below to. ⊎_elim
           (λ less. covered_kept nodes rows old new added.kept i to (c.loop-from.invariant.covered i some less to))
           (λ past. let e : from ≡ i = omega (arith, below, past) in subst (λ k. IsCovered nodes rows new k to) e (covered to))

@@ -12,6 +12,7 @@ loop-to-preserved c =
     let added : AddsPaths nodes rows start c.loop-to.list.items c.push_listed.new.list.items = c.in_ok-push_listed.ensures.added in
     record {
       added = adds_then nodes rows start c.args.list.now.items c.loop-to.list.items c.push_listed.new.list.items c.loop-to.invariant.added added;
+      ordered = c.in_ok-push_listed.ensures.after;
       covered = λ i some below. ⊎_elim
           (λ less. covered_kept nodes rows c.loop-to.list.items c.push_listed.new.list.items added.kept start i (c.loop-to.invariant.covered i some less))
           (λ past. let e : c.loop-to.to ≡ i = omega (arith, below, past) in

@@ -4,6 +4,7 @@ use Rattle.kapi_paths.specs.Chains.{Has, IsChain}
 use Rattle.kapi_paths.specs.Graphs.{AreAt}
 use Rattle.kapi_paths.proofs.Graphing.{adds_one, chain_inside}
 use Rattle.kapi_paths.proofs.Grown.{has_last}
+use Rattle.kapi_paths.proofs.Numbering.{before_push}
 use Rattle.kapi_paths.proofs.path.push_path.Goals as goal
 
 pub drawn-requires-clause-numbers : goal.drawn-requires-clause-numbers
@@ -32,6 +33,14 @@ returns-in_ok-push-in-Some-clause-added c =
       other = c.requires.other;
       listed = c.requires.listed path.to e.to;
     }))
+
+pub returns-in_ok-push-in-Some-clause-after : goal.returns-in_ok-push-in-Some-clause-after
+returns-in_ok-push-in-Some-clause-after c =
+    let e = c.in_ok-path-in-Some.ensures in
+    let path = c.in_ok-path-in-Some.path in
+    let start = c.args.search.now.start in
+    rw c.in_ok-push-in-Some.ensures.items
+    (before_push c.args.nodes.now start c.args.to c.args.list.now.items path c.requires.once c.requires.before (subst (λ k. slice_get c.args.nodes.now k ≡ Some path.from) c.start.ensures e.from) e.to)
 
 pub returns-in_ok-push-in-Some-clause-there : goal.returns-in_ok-push-in-Some-clause-there
 returns-in_ok-push-in-Some-clause-there c =
