@@ -43,7 +43,7 @@ TABLE = (
     ("tokens", "create", "serviceaccounts/token", "any", "named accounts"),
     ("signers", "approve sign", "signers", "signer", "everything"),
     ("webhooks", "create update patch", WEBHOOKS, "any", "everything"),
-    ("namespaces", "update patch", "namespaces", "own", "limits"),
+    ("namespaces", "update patch", "namespaces", "any", "named limits"),
 )
 ROWS = [(kind, verb, "*" if it == "*" else GROUPS.get(it.split("/")[0], ""), it, names, leads)
         for kind, verbs, resources, names, leads in TABLE for it in resources.split() for verb in verbs.split()]
@@ -128,12 +128,14 @@ class Cluster:
 
     def leads(self, row, place, names):
         asked, leads = row[4:]
-        if asked == "unnamed" and names or asked == "own" and names and place not in names or asked == "signer" and names and not set(names) & set(SIGNERS):
+        if asked == "unnamed" and names or asked == "signer" and names and not set(names) & set(SIGNERS):
             return []
+        if leads == "named limits":
+            return [("limits", place, "")] if not names or place in names else [] if place else [("limits", it, "") for it in names]
         places = [place] if place else self.places
         if leads == "everything":
             return [] if place else [("everything", "", "")]
-        if leads in ("all", "accounts", "limits"):
+        if leads in ("all", "accounts"):
             return [(leads, place, "")]
         if leads in ("named users", "named groups") and place:
             return []
