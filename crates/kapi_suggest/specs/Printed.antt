@@ -1,4 +1,4 @@
--- What is suggested as objects, one a line (Kubernetes API, rbac.authorization.k8s.io/v1).
+-- What is suggested as objects, one a line or in a list (Kubernetes API, rbac.authorization.k8s.io/v1).
 use Rattle.std.specs.Prelude.{ℕ, ◌==◌, if◌then◌else◌, List, [], ◌∷◌, ◌++◌, length, codes, decimal}
 use Rattle.std.specs.List.{enumerate_from, flat_map}
 use Rattle.serde_json.specs.Data.{Data, Members, no_members, object, put, string}
@@ -49,14 +49,27 @@ role_manifest name s = manifest (role_kind_text (role_kind_in s.at.namespace)) n
 unfoldable pub binding_manifest : List ℕ → Suggested → Data
 binding_manifest name s = manifest (binding_kind_in s.at.namespace) name s.at.namespace (binding_content (subjects_for s) (role_ref_for name s))
 
--- a line with the object
-abbrev pub line_of : Data → List ℕ
-line_of d = compact_text d ++ 10 ∷ []
+-- the role and the binding of one number, with a text between them
+abbrev pub pair_for : List ℕ → ℕ × Suggested → List ℕ
+pair_for between numbered =
+    compact_text (role_manifest (name_of numbered.0) numbered.1) ++ (between ++ compact_text (binding_manifest (name_of numbered.0) numbered.1))
 
--- the role and the binding of one number
+-- a line with each
 abbrev pub lines_for : ℕ × Suggested → List ℕ
-lines_for numbered = line_of (role_manifest (name_of numbered.0) numbered.1) ++ line_of (binding_manifest (name_of numbered.0) numbered.1)
+lines_for numbered = pair_for (codes "\n") numbered ++ codes "\n"
 
 -- all that is suggested, numbered from 1
 abbrev pub manifests : List Suggested → List ℕ
-manifests list = flat_map lines_for (enumerate_from 1 list)
+manifests suggested = flat_map lines_for (enumerate_from 1 suggested)
+
+-- both as items of a list, behind a comma unless they are the first
+abbrev pub items_for : ℕ × Suggested → List ℕ
+items_for numbered = (if numbered.0 == 1 then [] else codes ",") ++ pair_for (codes ",") numbered
+
+-- how a list begins
+abbrev pub begun_list : List ℕ
+begun_list = codes "{\"apiVersion\":\"v1\",\"items\":["
+
+-- all that is suggested as one list (Kubernetes API conventions, 'Lists and Simple kinds')
+abbrev pub list : List Suggested → List ℕ
+list suggested = (begun_list ++ flat_map items_for (enumerate_from 1 suggested)) ++ codes "],\"kind\":\"List\"}\n"

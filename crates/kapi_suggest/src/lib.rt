@@ -14,5 +14,5 @@ pub use event::{Shown, read_event, read_events};
 pub use idle::{Unused, allowed_uses, unused_rules};
 pub use needs::suggest;
 pub use place::Place;
-pub use printed::manifests;
+pub use printed::{list, manifests};
 pub use suggested::Suggested;

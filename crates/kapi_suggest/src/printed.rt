@@ -1,7 +1,8 @@
-//! What is suggested as objects, one a line.
+//! What is suggested as objects, one a line or in a list.
 ghost use Rattle.std.specs.Prelude.{◌≡◌, ◌++◌, false, string_bytes, IfOk, OnOk};
 ghost use Rattle.serde_json.specs.View.{members_view, view};
-ghost use Rattle.serde_json.specs.Written.{has_float};
+ghost use Rattle.std.specs.List.{enumerate_from, flat_map};
+ghost use Rattle.serde_json.specs.Written.{compact_text, has_float};
 ghost use Rattle.kapi_suggest.specs.Printed as printed;
 
 use crate::suggested::Suggested;
@@ -106,29 +107,31 @@ fn binding_manifest(alloc: Global, name: &str, suggested: &Suggested) -> Result<
     manifest(alloc, binding_kind_in(namespace), name, namespace, content)
 }
 
-fn push_line(alloc: Global, text: &mut Vec<u8>, tree: &Value) -> Result<(), Memory>
+fn push_tree(alloc: Global, text: &mut Vec<u8>, tree: &Value) -> Result<(), Memory>
     requires { has_float (view tree.now) ≡ false }
-    ensures { OnOk result (text.new.items ≡ text.old.items ++ printed.line_of (view tree.now)) }
+    ensures { OnOk result (text.new.items ≡ text.old.items ++ compact_text (view tree.now)) }
 {
     let written = tree.to_vec(alloc)?;
-    text.extend_from_slice(written.as_slice())?;
-    text.extend_from_slice(b"\n")
+    text.extend_from_slice(written.as_slice())
 }
 
+/// Appends the role and the binding of one number, with a text between them.
 #[tactic(auto, using(crate::proofs::Floatless::role_has_no_float, crate::proofs::Floatless::binding_has_no_float))]
-fn push_suggested(
+fn push_pair(
     alloc: Global,
     text: &mut Vec<u8>,
     number: usize,
     suggested: &Suggested,
+    between: &[u8],
 ) -> Result<(), Memory>
-    ensures { OnOk result (text.new.items ≡ text.old.items ++ printed.lines_for (number, suggested.now)) }
+    ensures { OnOk result (text.new.items ≡ text.old.items ++ printed.pair_for between.now (number, suggested.now)) }
 {
     let name = name_of(alloc, number)?;
     let role = role_manifest(alloc, name.as_str(), suggested)?;
     let binding = binding_manifest(alloc, name.as_str(), suggested)?;
-    push_line(alloc, text, &role)?;
-    push_line(alloc, text, &binding)
+    push_tree(alloc, text, &role)?;
+    text.extend_from_slice(between)?;
+    push_tree(alloc, text, &binding)
 }
 
 /// What is suggested as JSON, an object a line: of each its role and then the binding, both named `suggested-` and its number, from 1.
@@ -137,7 +140,54 @@ pub fn manifests(alloc: Global, suggested: &[Suggested]) -> Result<Vec<u8>, Memo
 {
     let mut text = Vec::new(alloc);
     for (index, one) in suggested.iter().enumerate() {
-        push_suggested(alloc, &mut text, index + 1, one)?;
+        push_lines(alloc, &mut text, index + 1, one)?;
     }
     Ok(text)
+}
+
+fn push_lines(
+    alloc: Global,
+    text: &mut Vec<u8>,
+    number: usize,
+    suggested: &Suggested,
+) -> Result<(), Memory>
+    ensures { OnOk result (text.new.items ≡ text.old.items ++ printed.lines_for (number, suggested.now)) }
+{
+    push_pair(alloc, text, number, suggested, b"\n")?;
+    text.extend_from_slice(b"\n")
+}
+
+/// The same objects as one document, a List.
+pub fn list(alloc: Global, suggested: &[Suggested]) -> Result<Vec<u8>, Memory>
+    ensures { IfOk result (λ v. v.items ≡ printed.list suggested.now) }
+{
+    let mut text = items(alloc, suggested)?;
+    text.extend_from_slice(b"],\"kind\":\"List\"}\n")?;
+    Ok(text)
+}
+
+/// A list up to its last item.
+fn items(alloc: Global, suggested: &[Suggested]) -> Result<Vec<u8>, Memory>
+    ensures { IfOk result (λ v. v.items ≡ printed.begun_list ++ flat_map printed.items_for (enumerate_from 1 suggested.now)) }
+{
+    let mut text = Vec::new(alloc);
+    text.extend_from_slice(b"{\"apiVersion\":\"v1\",\"items\":[")?;
+    for (index, one) in suggested.iter().enumerate() {
+        push_items(alloc, &mut text, index + 1, one)?;
+    }
+    Ok(text)
+}
+
+fn push_items(
+    alloc: Global,
+    text: &mut Vec<u8>,
+    number: usize,
+    suggested: &Suggested,
+) -> Result<(), Memory>
+    ensures { OnOk result (text.new.items ≡ text.old.items ++ printed.items_for (number, suggested.now)) }
+{
+    if number != 1 {
+        text.push(b',')?;
+    }
+    push_pair(alloc, text, number, suggested, b",")
 }
