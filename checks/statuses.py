@@ -183,7 +183,7 @@ DIFFERENT = {
 ASKED = "as root\nGET /healthz\n"
 CODE = "a code of three digits is wanted: = CODE or = CODE TEXT"
 TEXT = "a space and a text are wanted behind the sign: == BODY, ~ TEXT or > LINE"
-BEGINS = ("no line begins so; there are load, manifests, recheck, begin, as, GET, POST, PUT, PATCH, DELETE, pump, =, ==, ~, >, "
+BEGINS = ("no line begins so; there are load, manifests, kinds, recheck, begin, as, GET, POST, PUT, PATCH, DELETE, pump, =, ==, ~, >, "
           "and the events open, feed, serve, pump, turn and close")
 FORMLESS = {
     f"{ASKED}list": BEGINS,

@@ -1,10 +1,12 @@
 #!/usr/bin/env python3
 """A door for kubectl: answers what it asks about the kinds of objects first, and hands on everything else to a port of Kapi.
 
-usage: door.py PORT SERVED     PORT of 127.0.0.1 is listened on, SERVED is the port of `kapi serve` that stands behind it
+usage: door.py PORT SERVED [KINDS..]     PORT of 127.0.0.1 is listened on, SERVED is the port of `kapi serve` that stands behind it, and
+                                         KINDS are the files of its --kinds
 
-It answers GET of /api, /apis, /api/v1, /apis/GROUP/v1 and /version by tools/kinds.txt, and reads `watch=True`, as Python's client writes
-it, as `watch=true`. Requests, answers and watches pass unchanged otherwise, whoever asks: the port behind it says who that is.
+It answers GET of /api, /apis, their groups, /version and /openapi/v2 by tools/kinds.txt and the files, reads `watch=True`, as Python's
+client writes it, as `watch=true`, and hands on a strategic merge patch as a merge patch if both mean the same. Requests, answers and watches
+pass unchanged otherwise, whoever asks: the port behind it says who that is.
 """
 import asyncio
 import contextlib
@@ -12,69 +14,117 @@ import json
 import pathlib
 import re
 import sys
+from dataclasses import dataclass
 
-KINDS = pathlib.Path(__file__).with_name("kinds.txt")
+FOLDER = pathlib.Path(__file__).parent
+KINDS = FOLDER / "kinds.txt"
+COMMON = FOLDER.parent / "examples/kinds/kubernetes.jsonl"
 OBJECT_VERBS = ["create", "delete", "deletecollection", "get", "list", "patch", "update", "watch"]
 HEAD_BYTES = 65536
+STRATEGIC, MERGE = b"application/strategic-merge-patch+json", b"application/merge-patch+json"
+# An OpenAPI document without definitions, as protobuf (gnostic's openapi.v2): swagger 2.0, and the title and version of its info.
+OPENAPI = b"\x0a\x032.0\x12\x0c\x0a\x04kapi\x12\x04v1.0"
 
 
-def rows():
-    """Group, plural, kind, scope, status and short names of each resource; the core group is empty."""
-    lines = [it.split() for it in KINDS.read_text().splitlines() if it and not it.startswith("#")]
-    return [["" if word == "-" else word for word in line] for line in lines]
+@dataclass
+class Row:
+    """A kind, as `kubectl api-resources` shows it."""
+
+    group: str
+    version: str
+    plural: str
+    kind: str
+    namespaced: bool
+    status: bool
+    short: str = ""
+    is_review: bool = False
+
+
+def own_rows():
+    """The kinds that each server has."""
+    lines = [["" if word == "-" else word for word in it.split()] for it in KINDS.read_text().splitlines() if it and not it.startswith("#")]
+    return [Row(group, "v1", plural, kind, scope == "namespaced", status == "status", short, status == "review")
+            for group, plural, kind, scope, status, short in lines]
+
+
+def objects_in(text):
+    """The objects of a file: lines, documents, and the items of lists."""
+    decoder, text = json.JSONDecoder(), text.lstrip("\ufeff").strip()
+    while text:
+        item, end = decoder.raw_decode(text)
+        yield from item["items"] if str(item.get("kind", "")).endswith("List") else [item]
+        text = text[end:].lstrip()
+
+
+def row_of(item):
+    """The kind of a line, or of a CustomResourceDefinition: its first version that is served."""
+    if "spec" not in item:
+        return Row(item.get("group", ""), item["version"], item["resource"], item["kind"], item["namespaced"], item.get("status", False))
+    spec = item["spec"]
+    names, version = spec["names"], next(it for it in spec["versions"] if it["served"])
+    has_status = isinstance((version.get("subresources") or {}).get("status"), dict)
+    return Row(spec["group"], version["name"], names["plural"], names["kind"], spec["scope"] == "Namespaced", has_status, ",".join(names.get("shortNames", [])))
+
+
+def added_rows(name):
+    place = COMMON if name == "kubernetes" else pathlib.Path(name)
+    files = sorted(it for it in place.iterdir() if it.suffix in (".json", ".jsonl")) if place.is_dir() else [place]
+    return [row_of(item) for file in files for item in objects_in(file.read_text())]
 
 
 def resources(row):
-    """A resource of discovery, and the one of its status where it has one."""
-    _group, plural, kind, scope, status, short = row
+    """A resource of discovery, and the one of its status if it has one."""
     whole = {
-        "name": plural,
-        "singularName": kind.lower(),
-        "namespaced": scope == "namespaced",
-        "kind": kind,
-        "verbs": ["create"] if status == "review" else OBJECT_VERBS,
+        "name": row.plural,
+        "singularName": row.kind.lower(),
+        "namespaced": row.namespaced,
+        "kind": row.kind,
+        "verbs": ["create"] if row.is_review else OBJECT_VERBS,
     }
-    if short:
-        whole["shortNames"] = short.split(",")
-    part = {**whole, "name": f"{plural}/status", "singularName": "", "verbs": ["get", "patch", "update"]}
+    if row.short:
+        whole["shortNames"] = row.short.split(",")
+    part = {**whole, "name": f"{row.plural}/status", "singularName": "", "verbs": ["get", "patch", "update"]}
     part.pop("shortNames", None)
-    return [whole, part] if status == "status" else [whole]
+    return [whole, part] if row.status else [whole]
 
 
-def group_version(group):
-    return f"{group}/v1" if group else "v1"
+def group_version(group, version):
+    return f"{group}/{version}" if group else version
 
 
-def resource_list(group):
-    found = [resource for row in rows() if row[0] == group for resource in resources(row)]
-    return {"kind": "APIResourceList", "apiVersion": "v1", "groupVersion": group_version(group), "resources": found}
+def group_of(name, versions):
+    told = [{"groupVersion": group_version(name, it), "version": it} for it in versions]
+    return {"name": name, "versions": told, "preferredVersion": told[0]}
 
 
-def group(name):
-    version = {"groupVersion": group_version(name), "version": "v1"}
-    return {"name": name, "versions": [version], "preferredVersion": version}
-
-
-def discovery():
+def discovery(rows):
     """What is answered, by its path."""
-    groups = sorted({row[0] for row in rows()} - {""})
+    places = list(dict.fromkeys((row.group, row.version) for row in rows))
+    versions = {group: [version for other, version in places if other == group] for group, _version in places if group}
     told = {
         "/api": {"kind": "APIVersions", "versions": ["v1"], "serverAddressByClientCIDRs": []},
-        "/apis": {"kind": "APIGroupList", "apiVersion": "v1", "groups": [group(it) for it in groups]},
-        "/api/v1": resource_list(""),
+        "/apis": {"kind": "APIGroupList", "apiVersion": "v1", "groups": [group_of(it, versions[it]) for it in sorted(versions)]},
         "/version": {"major": "1", "minor": "20", "gitVersion": "v1.20.0", "platform": "kapi"},
     }
-    told.update({f"/apis/{it}/v1": resource_list(it) for it in groups})
+    for group, version in places:
+        found = [it for row in rows if (row.group, row.version) == (group, version) for it in resources(row)]
+        listed = {"kind": "APIResourceList", "apiVersion": "v1", "groupVersion": group_version(group, version), "resources": found}
+        told[f"/apis/{group}/{version}" if group else f"/api/{version}"] = listed
     return {path: json.dumps(it).encode() for path, it in told.items()}
 
 
-TOLD = discovery()
+TOLD = {}
 
 
 def told_for(head):
-    """The discovery that a request asks for, or nothing."""
+    """The media type and the document that a request asks for, or nothing."""
     method, target, _version = head.split(b"\r\n", 1)[0].decode("latin-1").split(" ", 2)
-    return TOLD.get(target.split("?", 1)[0].rstrip("/")) if method == "GET" else None
+    path = target.split("?", 1)[0].rstrip("/")
+    if method != "GET":
+        return None
+    if path == "/openapi/v2":
+        return b"application/com.github.proto-openapi.spec.v2.v1.0+protobuf", OPENAPI
+    return (b"application/json", TOLD[path]) if path in TOLD else None
 
 
 def with_true(head):
@@ -86,6 +136,46 @@ def with_true(head):
 def field(head, name):
     found = re.search(rb"(?im)^" + name + rb":[ \t]*([^\r\n]*)", head)
     return found[1].strip().lower() if found else b""
+
+
+def why_strategic(target, patch):
+    """Why a strategic merge patch may mean something else than a merge patch; nothing if it does not. Both merge objects and replace all other
+    values; lists of some kinds are merged by key (Kubernetes, 'Update API Objects in Place Using kubectl patch')."""
+    if any(key.startswith("$") for key in keys_in(patch)):
+        return "it has directives"
+    metadata = patch.get("metadata") or {}
+    atomic = re.search(r"/(configmaps|secrets|roles|clusterroles|rolebindings|clusterrolebindings)/", target)
+    lists = lists_in({key: value for key, value in patch.items() if key != "metadata"})
+    if lists_in(metadata) or lists and not atomic:
+        return "it has lists, which are merged by their keys"
+    return None
+
+
+def keys_in(tree):
+    if isinstance(tree, dict):
+        return [*tree, *(key for it in tree.values() for key in keys_in(it))]
+    return [key for it in tree for key in keys_in(it)] if isinstance(tree, list) else []
+
+
+def lists_in(tree):
+    return isinstance(tree, list) or isinstance(tree, dict) and any(lists_in(it) for it in tree.values())
+
+
+def as_merge(head, body):
+    """A strategic merge patch as a merge patch, or why it is none."""
+    target = head.split(b" ", 2)[1].decode("latin-1").split("?", 1)[0]
+    try:
+        why = why_strategic(target, json.loads(body))
+    except (ValueError, AttributeError):
+        return head, "it is no JSON object"
+    return re.sub(rb"(?i)" + re.escape(STRATEGIC), MERGE, head), why
+
+
+def refusal(why):
+    status = {"kind": "Status", "apiVersion": "v1", "metadata": {}, "status": "Failure", "reason": "UnsupportedMediaType", "code": 415,
+              "message": f"the door hands on no such strategic merge patch: {why}; use --type=merge or replace"}
+    body = json.dumps(status).encode()
+    return b"HTTP/1.1 415 Unsupported Media Type\r\nContent-Type: application/json\r\nContent-Length: %d\r\n\r\n%s" % (len(body), body)
 
 
 async def hand_on_body(head, reader, writer):
@@ -115,8 +205,18 @@ async def hand_on(reader, client, writer):
         head = await reader.readuntil(b"\r\n\r\n")
         told = told_for(head)
         if told:
-            client.write(b"HTTP/1.1 200 OK\r\nContent-Type: application/json\r\nContent-Length: %d\r\n\r\n%s" % (len(told), told))
+            client.write(b"HTTP/1.1 200 OK\r\nContent-Type: %s\r\nContent-Length: %d\r\n\r\n%s" % (told[0], len(told[1]), told[1]))
             await client.drain()
+            continue
+        if field(head, b"content-type") == STRATEGIC and field(head, b"content-length"):
+            body = await reader.readexactly(int(field(head, b"content-length")))
+            head, why = as_merge(head, body)
+            if why:
+                client.write(refusal(why))
+                await client.drain()
+            else:
+                writer.write(head + body)
+                await writer.drain()
             continue
         writer.write(with_true(head))
         await hand_on_body(head, reader, writer)
@@ -143,6 +243,7 @@ async def main(port, served):
 
 
 if __name__ == "__main__":
-    if len(sys.argv) != 3:
+    if len(sys.argv) < 3:
         sys.exit(__doc__)
+    TOLD.update(discovery([*own_rows(), *(row for name in sys.argv[3:] for row in added_rows(name))]))
     asyncio.run(main(int(sys.argv[1]), int(sys.argv[2])))

@@ -13,7 +13,7 @@ use Rattle.clap.specs.declared.error.kind.ErrorKind.{ErrorKind}
 use Rattle.clap.specs.declared.error.kind.ErrorKind.TheVariants.{DisplayHelp, DisplayVersion, OutOfMemory}
 use Rattle.clap.specs.declared.parser.matches.ArgMatches.{ArgMatches}
 use Rattle.clap.proofs.OnLiterals.{clap_on_literals}
-use Rattle.kapi.specs.Asked.{AreWrong, Asked, Names, Reads, Shows, asked, asked_by, asking_in, compare_in, files_in, is_shown, options_in, paths_in, suggest_in, told, transcripts_in, what_in, who_in}
+use Rattle.kapi.specs.Asked.{AreWrong, Ask, Asked, Names, Reads, Shows, asked, asked_by, asking_in, compare_in, files_in, is_shown, kinds_in, options_in, paths_in, suggest_in, told, transcripts_in, what_in, who_in}
 use Rattle.kapi.specs.Asked.{AskPaths, AskRisks, AskWhat, AskWho, Audit, Check, Compare, Replay, Script, Serve, Show, Suggest}
 use Rattle.kapi.specs.CommandLine.{kapi}
 use Rattle.kapi.specs.declared.program.Command.{Command}
@@ -48,6 +48,10 @@ never_some : {X : Type 0} (f : X → Asked) → ((x : X) (k : ErrorKind) → f x
 never_some f never None k e = cc
 never_some f never (Some x) k e = never x k (cc e)
 
+never_check : (o : Option Ask) (kinds : List Text) (k : ErrorKind) → option_map (λ ask. Check ask kinds) o ≡ Some (Show k) → ⊥
+never_check None kinds k e = cc
+never_check (Some x) kinds k e = let both : Check x kinds ≡ Show k = cc e in cc both
+
 -- a choice is no text to be shown where neither side is
 one_of : (b : Bool) (x y : Option Asked) (k : ErrorKind) → (x ≡ Some (Show k) → ⊥) → (y ≡ Some (Show k) → ⊥) → (if b then x else y) ≡ Some (Show k) → ⊥
 one_of true x y k p q e = p e
@@ -64,7 +68,7 @@ never_by name rows k =
     (one_of (bytes_eq name (codes "what")) _ _ k (never_some AskWhat (λ x k e. cc e) (what_in rows) k)
     (one_of (bytes_eq name (codes "risks")) _ _ k (never_some AskRisks (λ x k e. cc e) (asking_in (codes "POLICY") rows) k)
     (one_of (bytes_eq name (codes "paths")) _ _ k (never_some AskPaths (λ x k e. cc e) (paths_in rows) k)
-    (one_of (bytes_eq name (codes "check")) _ _ k (never_some Check (λ x k e. cc e) (asking_in (codes "POLICY") rows) k)
+    (one_of (bytes_eq name (codes "check")) _ _ k (never_check (asking_in (codes "POLICY") rows) (kinds_in rows) k)
     (one_of (bytes_eq name (codes "suggest")) _ _ k (never_some Suggest (λ x k e. cc e) (suggest_in rows) k) (λ e. cc e)))))))))))
 
 never_shown : (o : Option (Text × List Row)) (k : ErrorKind) → option_and_then (λ p. asked_by p.0 p.1) o ≡ Some (Show k) → ⊥
@@ -72,13 +76,13 @@ never_shown None k e = cc
 never_shown (Some p) k e = never_by p.0 p.1 k e
 
 pub names_of : (words : List Text) (m : ArgMatches) (r : Result Command CommandFault) → asked words ≡ given m → Reads told r (given m) → IfOk r (Names words)
-names_of words m (Ok command.Script) e h = e ∙ h
+names_of words m (Ok (command.Script ks)) e h = e ∙ h
 names_of words m (Ok (command.Audit f)) e h = e ∙ h
 names_of words m (Ok (command.Serve o)) e h = e ∙ h
 names_of words m (Ok (command.Replay o)) e h = e ∙ h
 names_of words m (Ok (command.Compare o)) e h = e ∙ h
 names_of words m (Ok (command.Paths o)) e h = e ∙ h
-names_of words m (Ok (command.Check o)) e h = e ∙ h
+names_of words m (Ok (command.Check o ks)) e h = e ∙ h
 names_of words m (Ok (command.Suggest o)) e h = e ∙ h
 names_of words m (Ok (command.Who o)) e h = e ∙ h
 names_of words m (Ok (command.What o)) e h = e ∙ h

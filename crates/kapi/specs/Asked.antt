@@ -39,19 +39,21 @@ pub record Manifests : Type 0 where
   pub strict : Bool
 
 -- the files of an audit, by their names, whether the questions are an audit log, whether JSON is printed, how the policy is read
--- if it is manifests, and how many threads answer
+-- if it is manifests, the files of the kinds of lines, and how many threads answer
 pub record Files : Type 0 where
   pub policy : Text
   pub questions : Text
+  pub kinds : List Text
   pub log : Bool
   pub json : Bool
   pub manifests : Option Manifests
   pub readers : ℕ
 
--- the file that a server loads, or the manifests in its place, the revision after which its own begin (none: the clock gives it), whether the rights
+-- the files of kinds of a server, the file that it loads, or the manifests in its place, the revision after which its own begin (none: the clock gives it), whether the rights
 -- of watches are rechecked, the ports that it serves, the port on which questions are answered, by how many threads, and
 -- whether that number is given without the port
 pub record Options : Type 0 where
+  pub kinds : List Text
   pub load : Option Text
   pub manifests : Option Manifests
   pub first : Option ℕ
@@ -115,17 +117,17 @@ pub record Paths : Type 0 where
   pub without : List Text
 
 -- the file of what was used, whether it is an audit log, the policy that may allow it, by the names of their files, how it is
--- read, and what is printed
+-- read, and whether one list is printed
 pub record Uses : Type 0 where
   pub uses : Text
   pub log : Bool
   pub policy : Text
   pub reading : Manifests
-  pub form : Form
+  pub list : Bool
 
 -- one of the programs with its arguments, or a text of that kind
 pub data Asked : Type 0 where
-  Script : Asked
+  Script : List Text → Asked
   Audit : Files → Asked
   Serve : Options → Asked
   Replay : Transcripts → Asked
@@ -134,7 +136,7 @@ pub data Asked : Type 0 where
   AskWhat : What → Asked
   AskRisks : Ask → Asked
   AskPaths : Paths → Asked
-  Check : Ask → Asked
+  Check : Ask → List Text → Asked
   Suggest : Uses → Asked
   Show : ErrorKind → Asked
 
@@ -153,6 +155,10 @@ reading_by files rows = record {
   namespace = unwrap_or (first_of (codes "namespace") rows) [];
   strict = is_true (first_of (codes "strict") rows);
 }
+
+-- the files of kinds that parsed rows name
+abbrev pub kinds_in : List Row → List Text
+kinds_in rows = unwrap_or (all_of (codes "kinds") rows) []
 
 -- some word says how manifests are read
 abbrev pub has_reading : List Row → Bool
@@ -199,6 +205,7 @@ files_in rows = do
   Some (record {
     policy = policy;
     questions = questions;
+    kinds = kinds_in rows;
     log = is_true (first_of (codes "log") rows);
     json = is_true (first_of (codes "json") rows);
     manifests = manifests;
@@ -231,6 +238,7 @@ options_in rows = do
   listens ← listens_in rows
   manifests ← served_in rows
   Some (record {
+    kinds = kinds_in rows;
     load = first_of (codes "load") rows;
     manifests = manifests;
     first = first;
@@ -304,17 +312,22 @@ paths_in rows = do
     without = unwrap_or (all_of (codes "without") rows) [];
   })
 
+-- whether one list is printed, and not an object a line
+abbrev pub list_or_lines : Option Text → Option Bool
+list_or_lines None = Some false
+list_or_lines (Some name) = if bytes_eq name (codes "lines") then Some false else (if bytes_eq name (codes "list") then Some true else None)
+
 -- the uses whose roles parsed rows ask for
 abbrev pub suggest_in : List Row → Option Uses
 suggest_in rows = do
   uses ← first_of (codes "USES") rows
-  printed ← form_in rows
+  list ← list_or_lines (first_of (codes "format") rows)
   Some (record {
     uses = uses;
     log = is_true (first_of (codes "log") rows);
     policy = unwrap_or (first_of (codes "policy") rows) [];
     reading = reading_by (codes "with") rows;
-    form = printed;
+    list = list;
   })
 
 -- a question is not about one namespace and cluster-wide at once
@@ -368,7 +381,7 @@ who_in rows = do
 -- what the subcommand of that name asks for
 abbrev pub asked_by : Text → List Row → Option Asked
 asked_by name rows =
-    if bytes_eq name (codes "script") then Some Script
+    if bytes_eq name (codes "script") then Some (Script (kinds_in rows))
     else (if bytes_eq name (codes "audit") then option_map Audit (files_in rows)
     else (if bytes_eq name (codes "serve") then option_map Serve (options_in rows)
     else (if bytes_eq name (codes "replay") then option_map Replay (transcripts_in rows)
@@ -377,7 +390,7 @@ asked_by name rows =
     else (if bytes_eq name (codes "what") then option_map AskWhat (what_in rows)
     else (if bytes_eq name (codes "risks") then option_map AskRisks (asking_in (codes "POLICY") rows)
     else (if bytes_eq name (codes "paths") then option_map AskPaths (paths_in rows)
-    else (if bytes_eq name (codes "check") then option_map Check (asking_in (codes "POLICY") rows)
+    else (if bytes_eq name (codes "check") then option_map (λ ask. Check ask (kinds_in rows)) (asking_in (codes "POLICY") rows)
     else (if bytes_eq name (codes "suggest") then option_map Suggest (suggest_in rows) else None))))))))))
 
 -- ---- of the words
@@ -413,6 +426,7 @@ abbrev pub files_told : AuditFiles → Files
 files_told f = record {
   policy = string_bytes f.policy;
   questions = string_bytes f.questions;
+  kinds = map string_bytes f.kinds.items;
   log = f.log;
   json = f.json;
   manifests = option_map reading_told f.manifests;
@@ -422,6 +436,7 @@ files_told f = record {
 -- a server's options, as data
 abbrev pub options_told : ServeOptions → Options
 options_told o = record {
+  kinds = map string_bytes o.kinds.items;
   load = option_map (λ s. string_bytes s) o.load;
   manifests = option_map reading_told o.manifests;
   first = o.first_revision;
@@ -465,7 +480,7 @@ suggest_told w = record {
   log = w.log;
   policy = string_bytes w.policy;
   reading = reading_told w.reading;
-  form = w.form;
+  list = w.list;
 }
 
 -- the words of a question, as data
@@ -489,7 +504,7 @@ who_told w = record { ask = asking_told w.asking; question = question_told w.que
 
 -- a command, as data
 abbrev pub told : Command → Asked
-told command.Script = Script
+told (command.Script kinds) = Script (map string_bytes kinds.items)
 told (command.Audit files) = Audit (files_told files)
 told (command.Serve options) = Serve (options_told options)
 told (command.Replay options) = Replay (transcripts_told options)
@@ -498,7 +513,7 @@ told (command.Who words) = AskWho (who_told words)
 told (command.What words) = AskWhat (what_told words)
 told (command.Risks asking) = AskRisks (asking_told asking)
 told (command.Paths words) = AskPaths (paths_told words)
-told (command.Check asking) = Check (asking_told asking)
+told (command.Check asking kinds) = Check (asking_told asking) (map string_bytes kinds.items)
 told (command.Suggest words) = Suggest (suggest_told words)
 told (command.Show text) = Show (kind_of text)
 

@@ -1,5 +1,5 @@
 -- The machine that a server begins with.
-use Rattle.std.specs.Prelude.{◌≡◌, ℕ, Option, Some, None, Result, Ok, Err}
+use Rattle.std.specs.Prelude.{◌≡◌, ℕ, List, Option, Some, None, Result, Ok, Err}
 use Rattle.kapi.specs.Numbers.{clock_revision}
 use Rattle.kapi.specs.declared.beginning.BeginError.{BeginError}
 use Rattle.kapi.specs.declared.beginning.BeginError.TheVariants as error
@@ -10,6 +10,7 @@ use Rattle.kapi_loading.specs.Faults.{FileFault}
 use Rattle.kapi_loading.specs.Loading.{machine_alone, machine_from}
 use Rattle.kapi_loading.specs.Starting.{Starts}
 use Rattle.kapi_loading.specs.declared.starting.Started.{Started}
+use Rattle.kapi_model.specs.declared.row.ResourceRow.{ResourceRow}
 
 -- the revision after which a server's begin: the one that was specified, else the clock's
 abbrev pub first_given : Option ℕ → ℕ → Option ℕ
@@ -17,9 +18,9 @@ first_given (Some first) milliseconds = Some first
 first_given None milliseconds = clock_revision milliseconds
 
 -- the machine that objects make beside those that every server begins with, or in their place
-abbrev pub machine_with : ℕ → Objects → Result Machine FileFault
-machine_with first (objects.Lines lines) = machine_from first lines.now
-machine_with first (objects.Alone lines) = machine_alone first lines.now
+abbrev pub machine_with : List ResourceRow → ℕ → Objects → Result Machine FileFault
+machine_with table first (objects.Lines lines) = machine_from table first lines.now
+machine_with table first (objects.Alone lines) = machine_alone table first lines.now
 
 -- the machine behind that revision, or why none is; where there is no such revision, just the absence
 abbrev pub Begins : Result Started BeginError → Option ℕ → (ℕ → Result Machine FileFault) → Type 0

@@ -28,9 +28,13 @@ listen = record (new_rule (codes "LISTEN")) {
   range = Some (record { start_inclusive = 1; end_inclusive = 16 });
 }
 
+-- `--kinds FILE`, again and again
+abbrev pub kinds : Rule
+kinds = files (codes "kinds")
+
 -- `kapi script`
 abbrev pub script : App
-script = new_app (codes "script")
+script = with_rule (new_app (codes "script")) kinds
 
 -- `--NAME`, which has no value
 abbrev pub flag : Text → Rule
@@ -54,7 +58,7 @@ reading name = with_rule (with_rule (beside name) (option (codes "namespace"))) 
 
 -- `kapi audit` with its files
 abbrev pub audited : App
-audited = with_rule (with_rule (reading (codes "audit")) (file (codes "POLICY"))) (file (codes "QUESTIONS"))
+audited = with_rule (with_rule (with_rule (reading (codes "audit")) kinds) (file (codes "POLICY"))) (file (codes "QUESTIONS"))
 
 -- `kapi audit`, its files before its options
 abbrev pub audit : App
@@ -62,7 +66,7 @@ audit = with_rule (with_rule (with_rule (with_rule audited readers) (flag (codes
 
 -- `kapi serve` with the manifests that it begins with
 abbrev pub served : App
-served = with_rule (with_rule (new_app (codes "serve")) (files (codes "manifests"))) (flag (codes "with-defaults"))
+served = with_rule (with_rule (with_rule (new_app (codes "serve")) kinds) (files (codes "manifests"))) (flag (codes "with-defaults"))
 
 -- `kapi serve` with the options that say more of these, and of its ports
 abbrev pub opened : App
@@ -144,11 +148,11 @@ paths = with_rule paths_options (file (codes "POLICY"))
 
 -- `kapi check`, its options before its file
 abbrev pub check : App
-check = with_rule (asking (codes "check")) (file (codes "POLICY"))
+check = with_rule (with_rule (asking (codes "check")) kinds) (file (codes "POLICY"))
 
 -- the options of `kapi suggest`
 abbrev pub suggest_options : App
-suggest_options = with_rule (with_rule (asking (codes "suggest")) (flag (codes "log"))) (option (codes "policy"))
+suggest_options = with_rule (with_rule (with_rule (reading (codes "suggest")) (flag (codes "log"))) (option (codes "policy"))) (option (codes "format"))
 
 -- `kapi suggest`, its options before its file
 abbrev pub suggest : App

@@ -6,7 +6,7 @@ use Rattle.kapi_core.specs.Machine.{Machine, policy_of}
 use Rattle.kapi_core.specs.Running.{Running}
 use Rattle.kapi_core.specs.Refines.{Refines}
 use Rattle.kapi_loading.specs.Faults.{FileFault, bad_line}
-use Rattle.kapi_loading.specs.Loading.{machine_alone}
+use Rattle.kapi_loading.specs.Loading.{policy_machine}
 use Rattle.kapi_loading.specs.Settled.{is_settled}
 use Rattle.kapi_access.specs.Gained.{gained}
 use Rattle.kapi_access.specs.declared.identities.Identities.{Identities}
@@ -107,7 +107,7 @@ compared_to f s who b second = as_second second >>= λ a. Ok (comparison f s who
 
 -- the comparison of the policies that two files are
 unfoldable pub compare_files : Form → Shown → Identities → List ℕ → List ℕ → Result Comparison FilesError
-compare_files f s who before after = as_first (machine_alone 0 before) >>= λ b. compared_to f s who b (machine_alone 0 after)
+compare_files f s who before after = as_first (policy_machine before) >>= λ b. compared_to f s who b (policy_machine after)
 
 -- a comparison, as data
 abbrev pub compared_told : Compared → Comparison
@@ -133,7 +133,7 @@ who_on f w m = record { text = who_text f (policy_of m) w; settled = is_settled 
 
 -- who may do what is asked, by the policy that a file is
 unfoldable pub who_wanted : Form → List ℕ → Wanted → Result Reply FilesError
-who_wanted f objects w = as_first (machine_alone 0 objects) >>= λ m. Ok (who_on f w m)
+who_wanted f objects w = as_first (policy_machine objects) >>= λ m. Ok (who_on f w m)
 
 -- the line that is no question
 abbrev pub as_question : Result (List ℕ) LineError → Result (List ℕ) FilesError
@@ -146,7 +146,7 @@ lines_on f lines m = as_question (answered_lines f (policy_of m) lines) >>= λ t
 
 -- who may do what each line of a file asks, by the policy that another file is
 unfoldable pub who_file : Form → List ℕ → List ℕ → Result Reply FilesError
-who_file f objects questions = as_first (machine_alone 0 objects) >>= λ m. lines_on f (lines_of questions) m
+who_file f objects questions = as_first (policy_machine objects) >>= λ m. lines_on f (lines_of questions) m
 
 -- what a user has by the policy of a machine
 abbrev pub what_on : Form → Holder → Machine → Reply
@@ -154,7 +154,7 @@ what_on f h m = record { text = what_text f (policy_of m) h; settled = is_settle
 
 -- what a user has by the policy that a file is
 unfoldable pub what_file : Form → List ℕ → Holder → Result Reply FilesError
-what_file f objects h = as_first (machine_alone 0 objects) >>= λ m. Ok (what_on f h m)
+what_file f objects h = as_first (policy_machine objects) >>= λ m. Ok (what_on f h m)
 
 -- who may gain more than a policy grants, and what holds of all others
 abbrev pub risks_on : Form → Machine → Reply
@@ -162,4 +162,4 @@ risks_on f m = record { text = ways_text f (risks (policy_of m)) ++ settled_line
 
 -- who may gain more than the policy of a file grants, and what holds of all others
 unfoldable pub risks_file : Form → List ℕ → Result Reply FilesError
-risks_file f objects = as_first (machine_alone 0 objects) >>= λ m. Ok (risks_on f m)
+risks_file f objects = as_first (policy_machine objects) >>= λ m. Ok (risks_on f m)

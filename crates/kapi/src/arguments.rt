@@ -2,7 +2,7 @@ ghost use Rattle.std.specs.Prelude.{◌≡◌, IfOk, codes, false};
 ghost use Rattle.clap.specs.Simple.{app_of, new_app};
 ghost use Rattle.clap.specs.Walk.{rule_of};
 ghost use Rattle.clap.specs.declared.builder.command.Command.TheViews.{out-Command};
-ghost use Rattle.kapi.specs.CommandLine.{kapi, askers as askers_app, asking as asking_app, check as check_app, formed as formed_app, suggest as suggest_app, suggest_options as suggest_options_app, audit as audit_app, audited as audited_app, beside as beside_app, compare as compare_app, compare_options as compare_options_app, opened as opened_app, paths as paths_app, paths_options as paths_options_app, played as played_app, reading as reading_app, replay as replay_app, risks as risks_app, serve as serve_app, served as served_app, script as script_app, who as who_app, what as what_app, who_options as who_options_app, word as word_rule, words as words_rule, file as file_rule, files as files_rule, json as json_rule, strict as strict_rule, machines as machines_app, option as option_rule, readers as readers_rule, listen as listen_rule, transcripts as transcripts_rule, flag as flag_rule};
+ghost use Rattle.kapi.specs.CommandLine.{kapi, askers as askers_app, asking as asking_app, check as check_app, formed as formed_app, suggest as suggest_app, suggest_options as suggest_options_app, audit as audit_app, audited as audited_app, beside as beside_app, compare as compare_app, compare_options as compare_options_app, opened as opened_app, paths as paths_app, paths_options as paths_options_app, played as played_app, reading as reading_app, replay as replay_app, risks as risks_app, serve as serve_app, served as served_app, script as script_app, who as who_app, what as what_app, who_options as who_options_app, word as word_rule, words as words_rule, file as file_rule, files as files_rule, json as json_rule, kinds as kinds_rule, strict as strict_rule, machines as machines_app, option as option_rule, readers as readers_rule, listen as listen_rule, transcripts as transcripts_rule, flag as flag_rule};
 
 use crate::command_line::PORTS;
 use clap::{Arg, ArgAction, Command};
@@ -41,7 +41,7 @@ fn machines<'a>(alloc: Global) -> Result<Command<'a>, Memory>
         .about("An API server for declared objects with role-based access control")
         .version(VERSION)
         .subcommand_required(true)
-        .subcommand(script(alloc))?
+        .subcommand(script(alloc)?)?
         .subcommand(audit(alloc)?)?
         .subcommand(serve(alloc)?)?
         .subcommand(replay(alloc)?)
@@ -80,13 +80,13 @@ It prints
 Status 0 at the end of the script, 1 at a line that is no event. docs/PROFILE.md
 has each rule of scripts. docs/REPLAY.md shows transcripts, a shorter form."#;
 
-fn script<'a>(alloc: Global) -> Command<'a>
-    ensures app { app_of result ≡ script_app }
-    ensures local { (out-Command result).has_globals ≡ false }
+fn script<'a>(alloc: Global) -> Result<Command<'a>, Memory>
+    ensures { IfOk result (λ c. (app_of c ≡ script_app) × ((out-Command c).has_globals ≡ false)) }
 {
     Command::new(alloc, "script")
         .about("Plays the events on standard input and prints their answers")
         .after_help(SCRIPT_FORMS)
+        .arg(kinds(alloc))
 }
 
 /// What `kapi audit --help` shows below the arguments.
@@ -142,6 +142,7 @@ fn audited<'a>(alloc: Global) -> Result<Command<'a>, Memory>
 {
     let about = "Answers the questions of a file by the roles and bindings of another";
     reading(alloc, "audit", about, AUDIT_FORMS)?
+        .arg(kinds(alloc))?
         .arg(file(alloc, "POLICY", "The objects of the policy"))?
         .arg(file(alloc, "QUESTIONS", "The questions"))
 }
@@ -217,6 +218,7 @@ fn served<'a>(alloc: Global) -> Result<Command<'a>, Memory>
     Command::new(alloc, "serve")
         .about("Serves requests on ports of this machine")
         .after_help(SERVE_FORMS)
+        .arg(kinds(alloc))?
         .arg(files(
             alloc,
             "manifests",
@@ -281,6 +283,7 @@ lines that begin with # are skipped.
                       kapi serve --load
   manifests FILE      a new machine with manifests, as of kapi serve --manifests
   load defaults       beside manifests: with the roles view, edit and admin
+  kinds FILE          the kinds of FILE are served too in this case
   recheck             rights of watches are checked anew in this case
 
 Example:
@@ -663,11 +666,9 @@ fn check<'a>(alloc: Global) -> Result<Command<'a>, Memory>
     ensures { IfOk result (λ c. (app_of c ≡ check_app) × ((out-Command c).has_globals ≡ false)) }
 {
     let about = "Prints what dangles in a policy";
-    asking(alloc, "check", about, CHECK_FORMS)?.arg(file(
-        alloc,
-        "POLICY",
-        "The objects of the policy",
-    ))
+    asking(alloc, "check", about, CHECK_FORMS)?
+        .arg(kinds(alloc))?
+        .arg(file(alloc, "POLICY", "The objects of the policy"))
 }
 
 /// What `kapi suggest --help` shows below the arguments.
@@ -701,14 +702,15 @@ fn suggest_options<'a>(alloc: Global) -> Result<Command<'a>, Memory>
     ensures { IfOk result (λ c. (app_of c ≡ suggest_options_app) × ((out-Command c).has_globals ≡ false)) }
 {
     let about = "Prints the least roles for what was used";
-    asking(alloc, "suggest", about, SUGGEST_FORMS)?
+    reading(alloc, "suggest", about, SUGGEST_FORMS)?
         .arg(flag(alloc, "log", "USES is a cluster's audit log"))?
         .arg(option(
             alloc,
             "policy",
             "POLICY",
             "The policy that may allow the uses",
-        ))
+        ))?
+        .arg(option(alloc, "format", "FORM", "What is printed: lines or list"))
 }
 
 /// `--with-defaults`, of programs that read manifests.
@@ -799,6 +801,18 @@ fn files<'a>(alloc: Global, name: &'a str, help: &'a str) -> Arg<'a>
     ensures local { result.global ≡ false }
 {
     option(alloc, name, "FILE", help).action(ArgAction::Append)
+}
+
+/// `--kinds FILE`, which may be given again and again.
+fn kinds<'a>(alloc: Global) -> Arg<'a>
+    ensures rule { rule_of result ≡ kinds_rule }
+    ensures local { result.global ≡ false }
+{
+    files(
+        alloc,
+        "kinds",
+        "Kinds that are served too; kubernetes: a set of its own",
+    )
 }
 
 fn readers<'a>(alloc: Global) -> Arg<'a>

@@ -1,15 +1,19 @@
 //! Questions of a file, answered by a policy.
-ghost use Rattle.std.specs.Prelude.{◌≤◌};
+ghost use Rattle.std.specs.Prelude.{◌≡◌, ◌≤◌, true};
+ghost use Rattle.kapi_core.specs.Table.{fits};
 
 use crate::asking::{doubts_of, tell_unsettled};
 use crate::ending::Ending;
+use crate::kinds::read_kinds;
 use crate::logging::audit_log;
 use crate::manifests::{ReadPolicy, read_policy, tell_refused};
 use crate::program::{AuditFiles, Reading};
 use crate::telling::{print, read_file, tell_reason};
 use kapi_audit::{AuditFault, Audited, NoGate, audit_alone, audit_run};
 use kapi_lines::{as_text, numbered_lines};
+use kapi_model::ResourceRow;
 use kapi_reasons::{object_reason, question_reason};
+use kapi_text::Sequence;
 use serde_json::Value;
 use std::fs::Files;
 use std::io;
@@ -20,18 +24,24 @@ use std::thread::Threads;
 pub fn run_audit<
     R: Files + Input + Print + Eprint + AllocGlobal + Threads + Wait + Sync + Clone + Drop,
 >(rt: &R, files: &AuditFiles) -> io::Result<Ending> {
+    let Some(table) = read_kinds(rt, files.kinds.as_slice())? else {
+        return Ok(Ending::Stopped);
+    };
     match &files.manifests {
         Some(reading) if files.log => audit_log(rt, files, reading),
         Some(reading) => audit_manifests(rt, files, reading),
-        None => audit_lines(rt, files),
+        None => audit_lines(rt, &table, files),
     }
 }
 
 /// Answers by a policy of lines.
 fn audit_lines<R: Files + Print + Eprint + AllocGlobal + Threads + Wait + Sync>(
     rt: &R,
+    table: &Sequence<ResourceRow>,
     files: &AuditFiles,
-) -> io::Result<Ending> {
+) -> io::Result<Ending>
+    requires { fits table.now ≡ true }
+{
     let Some(policy) = read_file(rt, files.policy.as_str())? else {
         return Ok(Ending::Stopped);
     };
@@ -39,7 +49,7 @@ fn audit_lines<R: Files + Print + Eprint + AllocGlobal + Threads + Wait + Sync>(
         return Ok(Ending::Stopped);
     };
     let (policy, questions) = (policy.as_slice(), questions.as_slice());
-    match audit(rt, policy, questions, files.readers) {
+    match audit(rt, table, policy, questions, files.readers) {
         Ok(answers) => {
             print_answers(rt, files.json, answers.as_slice())?;
             Ok(Ending::Done)
@@ -47,7 +57,7 @@ fn audit_lines<R: Files + Print + Eprint + AllocGlobal + Threads + Wait + Sync>(
         Err(fault) => {
             if let AuditFault::PolicyLine(_line) = fault {
                 eprintln!(rt; "{fault}")?;
-                tell_reason(rt, object_reason(rt.alloc(), 0, policy))?;
+                tell_reason(rt, object_reason(rt.alloc(), table, 0, policy))?;
                 return Ok(Ending::Stopped);
             }
             refuse(rt, fault, questions)
@@ -118,13 +128,15 @@ fn refuse<R: Eprint + AllocGlobal>(
 
 fn audit<R: AllocGlobal + Threads + Wait + Sync>(
     rt: &R,
+    table: &Sequence<ResourceRow>,
     policy: &[u8],
     questions: &[u8],
     readers: usize,
 ) -> Result<Vec<u8>, AuditFault>
-    requires { (1 ≤ readers) × (readers ≤ 16) }
+    requires table { fits table.now ≡ true }
+    requires readers { (1 ≤ readers) × (readers ≤ 16) }
 {
-    audit_run(rt.alloc(), rt, policy, questions, readers, &NoGate)
+    audit_run(rt.alloc(), rt, table, policy, questions, readers, &NoGate)
 }
 
 fn audit_objects<R: AllocGlobal + Threads + Wait + Sync>(

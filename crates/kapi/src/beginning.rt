@@ -1,10 +1,13 @@
 //! The machine that a server begins with.
-ghost use Rattle.std.specs.Prelude.{◌≡◌, ◌≤◌, [], IfOk, IfSome};
+ghost use Rattle.std.specs.Prelude.{◌≡◌, ◌≤◌, true, [], IfOk, IfSome};
 ghost use Rattle.kapi.specs.Beginning.{Begins, first_given, machine_with};
+ghost use Rattle.kapi_core.specs.Table.{fits};
 ghost use Rattle.kapi_loading.specs.Starting.{Starts};
 
 use crate::numbers::clock_revision;
 use kapi_loading::{StartError, Started, start, start_without_objects};
+use kapi_model::ResourceRow;
+use kapi_text::Sequence;
 use std::alloc::Global;
 use std::sync::Wait;
 use thiserror::Error;
@@ -39,47 +42,51 @@ pub enum Objects<'a> {
     Alone(&'a [u8]),
 }
 
-/// The machine that objects make, whose revisions begin after `first`, or after the one that the clock gives so many
-/// milliseconds after the start of 1970.
+/// The machine that objects make of the resource types of a table, whose revisions begin after `first`, or after the one
+/// that the clock gives so many milliseconds after the start of 1970.
 pub fn begin<R: Wait>(
     alloc: Global,
     rt: &R,
+    table: &Sequence<ResourceRow>,
     objects: Objects<'_>,
     first: Option<u64>,
     milliseconds: u64,
     seats: usize,
 ) -> Result<Started, BeginError>
+    requires table { fits table.now ≡ true }
     requires first { IfSome first (λ n. n ≤ 281474976710650) }
     requires seats { (1 ≤ seats) × (seats ≤ 16) }
-    ensures machine { Begins result (first_given first milliseconds) (λ n. machine_with n objects.entry) }
+    ensures machine { Begins result (first_given first milliseconds) (λ n. machine_with table.now n objects.entry) }
     ensures unopened { IfOk result (λ s. s.core.next_id ≡ 0) }
     ensures waiting { IfOk result (λ s. s.desk.waiting ≡ []) }
 {
     let Some(first) = first_of(first, milliseconds) else {
         return Err(BeginError::Clock);
     };
-    match start_with(alloc, rt, objects, first, seats) {
+    match start_with(alloc, rt, table, objects, first, seats) {
         Ok(started) => Ok(started),
         Err(error) => Err(BeginError::Start(error)),
     }
 }
 
-/// The machine that objects make, whose revisions begin after `first`.
+/// The machine that objects make of the resource types of a table, whose revisions begin after `first`.
 fn start_with<R: Wait>(
     alloc: Global,
     rt: &R,
+    table: &Sequence<ResourceRow>,
     objects: Objects<'_>,
     first: u64,
     seats: usize,
 ) -> Result<Started, StartError>
+    requires table { fits table.now ≡ true }
     requires first { first ≤ 281474976710650 }
     requires seats { (1 ≤ seats) × (seats ≤ 16) }
-    ensures machine { Starts result (machine_with first objects.entry) }
+    ensures machine { Starts result (machine_with table.now first objects.entry) }
     ensures unopened { IfOk result (λ s. s.core.next_id ≡ 0) }
     ensures waiting { IfOk result (λ s. s.desk.waiting ≡ []) }
 {
     match objects {
-        Objects::Lines(lines) => start(alloc, rt, lines, first, seats),
-        Objects::Alone(lines) => start_without_objects(alloc, rt, lines, first, seats),
+        Objects::Lines(lines) => start(alloc, rt, table, lines, first, seats),
+        Objects::Alone(lines) => start_without_objects(alloc, rt, table, lines, first, seats),
     }
 }

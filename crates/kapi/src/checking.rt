@@ -1,6 +1,7 @@
 //! What dangles in a policy: `kapi check`.
 use crate::asking::{doubts_of, tell_unsettled};
 use crate::ending::Ending;
+use crate::kinds::read_kinds;
 use crate::manifests::{ReadPolicy, read_policy, tell_refused};
 use crate::policies::{FilesFault, loaded_first};
 use crate::program::Asking;
@@ -10,7 +11,7 @@ use kapi_index::IndexedPolicy;
 use kapi_lines::numbered_lines;
 use kapi_loading::is_settled;
 use kapi_manifests::Origin;
-use kapi_model::{PolicyRule, RoleKind, RoleRef};
+use kapi_model::{PolicyRule, ResourceRow, RoleKind, RoleRef};
 use kapi_policy::{Binding, BindingKind, NamespacedName, Policy};
 use kapi_reviews::Question;
 use kapi_rules::Point;
@@ -40,6 +41,8 @@ struct Looks<'a> {
     bound: BTreeSet<NamespacedName>,
     /// The service accounts of the files.
     accounts: BTreeSet<NamespacedName>,
+    /// The resource types that are served besides those of Kubernetes.
+    table: &'a [ResourceRow],
 }
 
 /// An object of a policy: its kind, its namespace and its name.
@@ -55,7 +58,11 @@ struct Named<'a> {
 pub fn run_check<R: Files + Input + Print + Eprint + AllocGlobal + Wait + Clone + Drop>(
     rt: &R,
     asking: &Asking,
+    kinds: &[String],
 ) -> io::Result<Ending> {
+    let Some(table) = read_kinds(rt, kinds)? else {
+        return Ok(Ending::Stopped);
+    };
     let Some(policy) = read_policy(rt, asking.policy.as_str(), &asking.reading)? else {
         return Ok(Ending::Stopped);
     };
@@ -70,7 +77,7 @@ pub fn run_check<R: Files + Input + Print + Eprint + AllocGlobal + Wait + Clone 
             return Ok(Ending::Stopped);
         }
     };
-    let findings = findings(rt.alloc(), &policy, core.policy())?;
+    let findings = findings(rt.alloc(), &policy, core.policy(), table.as_slice())?;
     let json = asking.form == kapi_access::Form::Json;
     print(
         rt,
@@ -119,6 +126,7 @@ fn findings(
     alloc: Global,
     read: &ReadPolicy,
     policy: &IndexedPolicy,
+    table: &[ResourceRow],
 ) -> Result<Vec<Finding>, Memory> {
     let bindings = policy.bindings()?;
     let looks = Looks {
@@ -127,6 +135,7 @@ fn findings(
         places: places_of(alloc, bindings.as_slice())?,
         bound: bound_places(alloc, bindings.as_slice())?,
         accounts: read.accounts(alloc)?,
+        table,
     };
     let mut found = Vec::new(alloc);
     let lines = numbered_lines(alloc, read.lines())?;
@@ -264,7 +273,15 @@ fn look_at_role(
         found.push(Finding { origin, text })?;
     }
     for (index, rule) in rules.iter().enumerate() {
-        look_at_resources(alloc, words.as_str(), index, rule, origin, found)?;
+        look_at_resources(
+            alloc,
+            looks.table,
+            words.as_str(),
+            index,
+            rule,
+            origin,
+            found,
+        )?;
     }
     Ok(())
 }
@@ -272,6 +289,7 @@ fn look_at_role(
 /// Notes the resources of a rule that no kind of its group serves.
 fn look_at_resources(
     alloc: Global,
+    table: &[ResourceRow],
     words: &str,
     index: usize,
     rule: &PolicyRule,
@@ -280,7 +298,7 @@ fn look_at_resources(
 ) -> Result<(), Memory> {
     for resource in rule.resources.as_slice() {
         let resource = resource.as_str();
-        if !is_served(rule, resource) {
+        if !is_served(table, rule, resource) {
             let text = format!(in alloc;
                 "{words}: rule {index}: no kind serves the resource {resource}"
             )?;
@@ -339,8 +357,8 @@ const SERVED: [(&str, &str); 18] = [
     ),
 ];
 
-/// Whether some group of the rule may have the resource: `*` may have any, and so may groups that are not Kubernetes' own.
-fn is_served(rule: &PolicyRule, resource: &str) -> bool {
+/// Whether some group of the rule may have the resource: `*` may have any, and so may groups of which no kind is known.
+fn is_served(table: &[ResourceRow], rule: &PolicyRule, resource: &str) -> bool {
     let whole = match resource.split_once('/') {
         Some((whole, _subresource)) => whole,
         None => resource,
@@ -350,13 +368,16 @@ fn is_served(rule: &PolicyRule, resource: &str) -> bool {
             .api_groups
             .as_slice()
             .iter()
-            .any(|group| has_resource(group.as_str(), whole))
+            .any(|group| has_resource(table, group.as_str(), whole))
 }
 
-fn has_resource(group: &str, resource: &str) -> bool {
-    match SERVED.iter().find(|served| served.0 == group) {
-        Some(served) => served.1.split(' ').any(|known| known == resource),
-        None => true,
+fn has_resource(table: &[ResourceRow], group: &str, resource: &str) -> bool {
+    let of_kubernetes = SERVED.iter().find(|served| served.0 == group);
+    let is_added = table.iter().any(|row| row.group.as_str() == group
+        && row.plural.as_str() == resource);
+    match of_kubernetes {
+        Some(served) => is_added || served.1.split(' ').any(|known| known == resource),
+        None => is_added || !table.iter().any(|row| row.group.as_str() == group),
     }
 }
 

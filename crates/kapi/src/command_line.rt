@@ -2,7 +2,7 @@ ghost use Rattle.std.specs.Prelude.{◌≡◌, ◌≤◌, ℕ, List, [], Some, I
 ghost use Rattle.clap.specs.Matches.{found_of};
 ghost use Rattle.clap.specs.Simple.{subcommand_rows_of};
 ghost use Rattle.clap.specs.Walk.{all_of, first_of, rows_of};
-ghost use Rattle.kapi.specs.Asked.{AreWrong, Names, Reads, answer_of, are_idle, asked_by, asking_in, asking_told, audited_in, form_in, has_manifests, has_reading, reading_by, reading_told, served_in, compare_in, compare_told, file_alone, has_words, question_in, question_told, paths_in, paths_told, suggest_in, suggest_told, wanted_in, wanted_told, what_in, what_told, who_in, who_told, files_in, files_told, first_of_word, is_true, listens_in, options_in, options_told, readers_in, told, transcripts_in, transcripts_told};
+ghost use Rattle.kapi.specs.Asked.{AreWrong, Names, Reads, answer_of, are_idle, asked_by, asking_in, asking_told, audited_in, form_in, has_manifests, has_reading, reading_by, reading_told, served_in, compare_in, compare_told, file_alone, has_words, list_or_lines, question_in, question_told, paths_in, paths_told, suggest_in, suggest_told, wanted_in, wanted_told, what_in, what_told, who_in, who_told, files_in, files_told, first_of_word, is_true, listens_in, options_in, options_told, readers_in, told, transcripts_in, transcripts_told};
 ghost use Rattle.kapi.specs.Listens.{listen_of, listens_of, parted as parted_of};
 
 use crate::arguments::program;
@@ -49,7 +49,7 @@ fn named(alloc: Global, name: &str, words: &ArgMatches<'_>) -> Result<Command, C
     ensures { Reads told result (asked_by name.now (rows_of (found_of words.now))) }
 {
     match name {
-        "script" => Ok(Command::Script),
+        "script" => Ok(Command::Script(each_copied(alloc, words, "kinds")?)),
         "audit" => Ok(Command::Audit(audit_files(alloc, words)?)),
         "serve" => Ok(Command::Serve(serve_options(alloc, words)?)),
         "replay" => Ok(Command::Replay(replay_options(alloc, words)?)),
@@ -58,7 +58,10 @@ fn named(alloc: Global, name: &str, words: &ArgMatches<'_>) -> Result<Command, C
         "what" => Ok(Command::What(what_words(alloc, words)?)),
         "risks" => Ok(Command::Risks(asking(alloc, words, "POLICY")?)),
         "paths" => Ok(Command::Paths(paths_words(alloc, words)?)),
-        "check" => Ok(Command::Check(asking(alloc, words, "POLICY")?)),
+        "check" => {
+            let asking = asking(alloc, words, "POLICY")?;
+            Ok(Command::Check(asking, each_copied(alloc, words, "kinds")?))
+        }
         "suggest" => Ok(Command::Suggest(suggest_words(alloc, words)?)),
         _ => Err(CommandFault::Words),
     }
@@ -75,6 +78,7 @@ fn audit_files(alloc: Global, words: &ArgMatches<'_>) -> Result<AuditFiles, Comm
     Ok(AuditFiles {
         policy: String::from_str(alloc, policy)?,
         questions: String::from_str(alloc, questions)?,
+        kinds: each_copied(alloc, words, "kinds")?,
         log: is_given(words, "log"),
         json: is_given(words, "json"),
         manifests,
@@ -237,15 +241,26 @@ fn suggest_words(alloc: Global, words: &ArgMatches<'_>) -> Result<SuggestWords, 
     ensures { Reads suggest_told result (suggest_in (rows_of (found_of words.now))) }
 {
     let uses = needed(alloc, words, "USES")?;
-    let form = form(words).ok_or(CommandFault::Words)?;
+    let list = is_list(words).ok_or(CommandFault::Words)?;
     let policy = text_or_empty(alloc, words, "policy")?;
     Ok(SuggestWords {
         uses,
         log: is_given(words, "log"),
         policy,
         reading: reading(alloc, words, "with")?,
-        form,
+        list,
     })
+}
+
+/// Whether one list is printed, and not an object a line.
+fn is_list(words: &ArgMatches<'_>) -> Option<bool>
+    ensures { result ≡ list_or_lines (first_of (codes "format") (rows_of (found_of words.now))) }
+{
+    match value(words, "format") {
+        None | Some("lines") => Some(false),
+        Some("list") => Some(true),
+        Some(_other) => None,
+    }
 }
 
 /// The policy and the question that the words behind `who` specify.
@@ -371,7 +386,9 @@ fn serve_options(alloc: Global, words: &ArgMatches<'_>) -> Result<ServeOptions, 
     let listens = listens(alloc, words)?;
     let manifests = served_manifests(alloc, words)?;
     let load = copied(alloc, value(words, "load"))?;
+    let kinds = each_copied(alloc, words, "kinds")?;
     Ok(ServeOptions {
+        kinds,
         load,
         manifests,
         first_revision,

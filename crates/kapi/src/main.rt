@@ -14,6 +14,7 @@ mod command_line;
 mod doubts;
 mod ending;
 mod kept_lines;
+mod kinds;
 mod logging;
 mod manifests;
 mod numbers;
@@ -36,6 +37,7 @@ use kapi_index::IndexedPolicy;
 use kapi_reasons::script_reason;
 use kapi_script::{ScriptFault, script_run};
 use kept_lines::KeptLines;
+use kinds::read_kinds;
 use program::{Command, CommandFault};
 use replaying::run_replay;
 use serving::run_serve;
@@ -82,7 +84,7 @@ fn run<
         + 'static,
 >(rt: &R, command: &Command) -> io::Result<Ending> {
     match command {
-        Command::Script => run_script(rt),
+        Command::Script(kinds) => run_script(rt, kinds.as_slice()),
         Command::Audit(files) => run_audit(rt, files),
         Command::Serve(options) => run_serve(rt, options),
         Command::Replay(options) => run_replay(rt, options),
@@ -91,7 +93,7 @@ fn run<
         Command::What(words) => run_what(rt, words),
         Command::Risks(asking) => run_risks(rt, asking),
         Command::Paths(words) => run_paths(rt, words),
-        Command::Check(asking) => run_check(rt, asking),
+        Command::Check(asking, kinds) => run_check(rt, asking, kinds.as_slice()),
         Command::Suggest(words) => run_suggest(rt, words),
         Command::Show(text) => show(rt, text),
     }
@@ -118,11 +120,18 @@ fn complained<R: Env + AllocGlobal>(rt: &R) -> Result<String, CommandFault> {
 }
 
 /// Plays the script on standard input: status 0, or 1 after the fault and its reason on standard error.
-fn run_script<R: Input + Print + Eprint + AllocGlobal>(rt: &R) -> io::Result<Ending> {
+fn run_script<R: Files + Input + Print + Eprint + AllocGlobal + Clone + Drop>(
+    rt: &R,
+    kinds: &[String],
+) -> io::Result<Ending> {
+    let Some(table) = read_kinds(rt, kinds)? else {
+        return Ok(Ending::Stopped);
+    };
     let mut reader = KeptLines::new(rt.alloc(), rt.reader());
     let mut writer = BufWriter::new(rt.alloc(), io::writer(rt))?;
     match script_run(
         rt.alloc(),
+        table,
         IndexedPolicy::new(rt.alloc()),
         &mut reader,
         &mut writer,

@@ -1,26 +1,32 @@
 //! Policies as people have them: files of manifests, read, and what is wrong with them told.
+ghost use Rattle.std.specs.Prelude.{◌≡◌, true};
+ghost use Rattle.kapi_core.specs.Table.{fits};
+
 use crate::checking::place_of;
 use crate::program::Reading;
 use crate::telling::tell_unread;
+use kapi_core::program_table;
 use kapi_lines::numbered_lines;
 use kapi_manifests::{Options, Origin, Prepared, Scope, prepare};
+use kapi_model::ResourceRow;
 use kapi_policy::NamespacedName;
 use kapi_reasons::{LineReason, line_reasons};
 use kapi_text::{Memory, Sequence, Text};
 use serde_json::Value;
 use std::alloc::Global;
 use std::collections::BTreeSet;
+use std::fmt::Display;
 use std::fs::{self, Files};
 use std::io::{self, Read};
 
 /// The largest number of faults that are told one by one.
-const TOLD: usize = 20;
+pub const TOLD: usize = 20;
 
 /// A file that was read, and its name.
 #[derive(Drop)]
-struct Source {
-    name: String,
-    bytes: Vec<u8>,
+pub struct Source {
+    pub name: String,
+    pub bytes: Vec<u8>,
 }
 
 /// A policy that was read: its files, and the lines that they are.
@@ -93,7 +99,7 @@ pub fn read_texts<R: Files + Input + AllocGlobal + Clone + Drop>(
 }
 
 /// Reads what is named: whether it can be read, after a line on standard error if not.
-fn read_named<R: Files + Input + Eprint + AllocGlobal + Clone + Drop>(
+pub fn read_named<R: Files + Input + Eprint + AllocGlobal + Clone + Drop>(
     rt: &R,
     path: &str,
     sources: &mut Vec<Source>,
@@ -115,10 +121,7 @@ fn prepare_sources(
         Scope::Policy => true,
         Scope::All => false,
     };
-    let mut texts: Vec<&[u8]> = Vec::new(alloc);
-    for source in sources {
-        texts.push(source.bytes.as_slice())?;
-    }
+    let texts = texts_of(alloc, sources)?;
     let options = Options {
         scope,
         namespace: reading.namespace.as_str(),
@@ -126,6 +129,15 @@ fn prepare_sources(
         words,
     };
     prepare(alloc, options, texts.as_slice())
+}
+
+/// The texts of files.
+pub fn texts_of(alloc: Global, sources: &[Source]) -> Result<Vec<&[u8]>, Memory> {
+    let mut texts: Vec<&[u8]> = Vec::new(alloc);
+    for source in sources {
+        texts.push(source.bytes.as_slice())?;
+    }
+    Ok(texts)
 }
 
 fn read_sources<R: Files + Input + AllocGlobal + Clone + Drop>(
@@ -202,16 +214,33 @@ fn tell_skipped(rt: &impl Eprint, prepared: &Prepared) -> io::Result<()> {
 fn tell_faults<R: Eprint>(rt: &R, policy: &ReadPolicy) -> io::Result<()> {
     let faults = policy.prepared.faults.as_slice();
     for fault in faults.iter().take(TOLD) {
-        let name = policy.name_of(fault.origin);
-        let line = fault.origin.line;
-        let reason = &fault.reason;
-        eprintln!(rt; "{name}:{line}: {reason}")?;
+        tell_fault(rt, policy.sources.as_slice(), fault.origin, &fault.reason)?;
     }
     tell_more(rt, faults.len())
 }
 
+/// Reports what is wrong at a place of a file.
+pub fn tell_fault<T: Display>(
+    rt: &impl Eprint,
+    sources: &[Source],
+    origin: Origin,
+    reason: &T,
+) -> io::Result<()> {
+    let name = name_in(sources, origin);
+    let line = origin.line;
+    eprintln!(rt; "{name}:{line}: {reason}")
+}
+
+/// The name of the file in which an object stands.
+fn name_in(sources: &[Source], origin: Origin) -> &str {
+    match sources.get(origin.file) {
+        Some(source) => source.name.as_str(),
+        None => "",
+    }
+}
+
 /// Reports how many faults there are beside those that were told.
-fn tell_more(rt: &impl Eprint, faults: usize) -> io::Result<()> {
+pub fn tell_more(rt: &impl Eprint, faults: usize) -> io::Result<()> {
     let more = faults.saturating_sub(TOLD);
     if more > 0 {
         eprintln!(rt; "and {more} more")?;
@@ -221,7 +250,18 @@ fn tell_more(rt: &impl Eprint, faults: usize) -> io::Result<()> {
 
 /// Reports the objects of a policy that a machine does not load.
 pub fn tell_refused<R: Eprint + AllocGlobal>(rt: &R, policy: &ReadPolicy) -> io::Result<()> {
-    let reasons = line_reasons(rt.alloc(), policy.prepared.text.as_slice())?;
+    tell_unloaded(rt, &program_table(rt.alloc())?, policy)
+}
+
+/// Reports the objects that a machine of that table does not load.
+pub fn tell_unloaded<R: Eprint + AllocGlobal>(
+    rt: &R,
+    table: &Sequence<ResourceRow>,
+    policy: &ReadPolicy,
+) -> io::Result<()>
+    requires { fits table.now ≡ true }
+{
+    let reasons = line_reasons(rt.alloc(), table, policy.prepared.text.as_slice())?;
     for reason in reasons.as_slice().iter().take(TOLD) {
         tell_reason_of(rt, policy, reason)?;
     }
@@ -242,10 +282,7 @@ fn tell_reason_of(rt: &impl Eprint, policy: &ReadPolicy, reason: &LineReason) ->
 impl ReadPolicy {
     /// The name of the file in which an object stands.
     pub fn name_of(&self, origin: Origin) -> &str {
-        match self.sources.get(origin.file) {
-            Some(source) => source.name.as_str(),
-            None => "",
-        }
+        name_in(self.sources.as_slice(), origin)
     }
 
     /// The service accounts among the objects of the files, which a policy passes over.

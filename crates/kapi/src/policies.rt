@@ -6,7 +6,7 @@ ghost use Rattle.kapi_core.specs.Machine.{Machine};
 ghost use Rattle.kapi_core.specs.Refines.{Refines};
 ghost use Rattle.kapi_loading.specs.Faults as loading;
 ghost use Rattle.kapi_loading.specs.Faults.{FileFault};
-ghost use Rattle.kapi_loading.specs.Loading.{machine_alone};
+ghost use Rattle.kapi_loading.specs.Loading.{policy_machine};
 ghost use Rattle.kapi_access.specs.Risks.{risks};
 ghost use Rattle.kapi_access.specs.Answers.{ways_text, who_text};
 ghost use Rattle.kapi_access.specs.Rights.{what_text};
@@ -23,7 +23,7 @@ use kapi_access::{
 use kapi_core::Core;
 use kapi_index::IndexedPolicy;
 use kapi_lines::{Line, numbered_lines};
-use kapi_loading::{StartError, Started, is_settled, start_without_objects};
+use kapi_loading::{StartError, Started, is_settled, start_policy};
 use kapi_paths::answer_paths;
 use kapi_text::{Memory, Text};
 use std::alloc::Global;
@@ -79,9 +79,9 @@ impl From<Memory> for FilesFault {
 
 /// The machine that a file of objects makes, with its turns.
 fn loaded<R: Wait>(alloc: Global, rt: &R, objects: &[u8]) -> Result<Core<IndexedPolicy>, StartError>
-    ensures { Holds loading.fault_told result (machine_alone 0 objects.now) }
+    ensures { Holds loading.fault_told result (policy_machine objects.now) }
 {
-    match start_without_objects(alloc, rt, objects, 0, 1) {
+    match start_policy(alloc, rt, objects, 1) {
         Ok(started) => {
             let Started {
                 core,
@@ -124,7 +124,7 @@ pub fn loaded_first<R: Wait>(
     rt: &R,
     objects: &[u8],
 ) -> Result<Core<IndexedPolicy>, FilesFault>
-    ensures { Holds fault_told result (as_first (machine_alone 0 objects.now)) }
+    ensures { Holds fault_told result (as_first (policy_machine objects.now)) }
 {
     match loaded(alloc, rt, objects) {
         Ok(core) => Ok(core),
@@ -136,9 +136,9 @@ pub fn loaded_first<R: Wait>(
 
 /// The policy that a file of objects makes, with its turns.
 fn load_policy<R: Wait>(alloc: Global, rt: &R, objects: &[u8]) -> Result<LoadedPolicy, StartError>
-    ensures { IsLoaded loading.fault_told result (machine_alone 0 objects.now) }
+    ensures { IsLoaded loading.fault_told result (policy_machine objects.now) }
 {
-    match start_without_objects(alloc, rt, objects, 0, 1) {
+    match start_policy(alloc, rt, objects, 1) {
         Ok(started) => {
             let Started {
                 core,
@@ -164,16 +164,16 @@ fn load_both<R: Wait + Threads + Sync>(
     Result<LoadedPolicy, StartError>,
     Result<LoadedPolicy, StartError>,
 )
-    ensures before { IsLoaded loading.fault_told result.0 (machine_alone 0 before.now) }
-    ensures after { IsLoaded loading.fault_told result.1 (machine_alone 0 after.now) }
+    ensures before { IsLoaded loading.fault_told result.0 (policy_machine before.now) }
+    ensures after { IsLoaded loading.fault_told result.1 (policy_machine after.now) }
 {
     thread::join(
         rt,
         move || -> Result<LoadedPolicy, StartError>
-            ensures { IsLoaded loading.fault_told result (machine_alone 0 before.entry.now) }
+            ensures { IsLoaded loading.fault_told result (policy_machine before.entry.now) }
         { load_policy(alloc, rt, before) },
         move || -> Result<LoadedPolicy, StartError>
-            ensures { IsLoaded loading.fault_told result (machine_alone 0 after.entry.now) }
+            ensures { IsLoaded loading.fault_told result (policy_machine after.entry.now) }
         { load_policy(alloc, rt, after) },
     )
 }

@@ -12,8 +12,9 @@ use thiserror::Error;
 /// What the command line asks for.
 #[derive(Drop)]
 pub enum Command {
-    /// `kapi script`: events on standard input, answers on standard output.
-    Script,
+    /// `kapi script`: events on standard input, answers on standard output, on a machine that serves the kinds of files, by
+    /// their names.
+    Script(Vec<String>),
     /// `kapi audit`: the questions of a file, answered by the policy of another.
     Audit(AuditFiles),
     /// `kapi serve`: requests on ports of this machine.
@@ -30,8 +31,8 @@ pub enum Command {
     Risks(Asking),
     /// `kapi paths`: who can become whom.
     Paths(PathsWords),
-    /// `kapi check`: what dangles in a policy.
-    Check(Asking),
+    /// `kapi check`: what dangles in a policy, where the kinds of files are served too, by their names.
+    Check(Asking, Vec<String>),
     /// `kapi suggest`: the least roles for what was used.
     Suggest(SuggestWords),
     /// `--help`, `help` or `--version`: the text that is asked for.
@@ -129,7 +130,8 @@ pub struct SuggestWords {
     /// The name of the policy's file, empty if there is none.
     pub policy: String,
     pub reading: Reading,
-    pub form: Form,
+    /// Whether one list is printed, and not an object a line.
+    pub list: bool,
 }
 
 /// The files of an audit, by their names, and how many threads answer.
@@ -137,6 +139,8 @@ pub struct SuggestWords {
 pub struct AuditFiles {
     pub policy: String,
     pub questions: String,
+    /// The files of kinds, by their names.
+    pub kinds: Vec<String>,
     /// Whether the questions are a cluster's audit log.
     pub log: bool,
     /// Whether JSON is printed.
@@ -163,6 +167,8 @@ pub struct ReplayOptions {
 /// What a server loads, and the ports that it serves.
 #[derive(Drop)]
 pub struct ServeOptions {
+    /// The files of kinds, by their names.
+    pub kinds: Vec<String>,
     /// The file of the objects that are stored at first, by its name.
     pub load: Option<String>,
     /// The manifests of the objects that are stored at first, in place of such a file.

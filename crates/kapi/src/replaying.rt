@@ -1,8 +1,10 @@
 //! Transcripts, played.
 use crate::ending::Ending;
+use crate::kinds::KUBERNETES;
 use crate::manifests::read_texts;
 use crate::program::ReplayOptions;
 use crate::telling::{read_file, tell_unread};
+use kapi_kinds::kubernetes_kinds;
 use kapi_replay::{
     LoadedFile, NamedFile, Outcome, Transcript, are_sure, are_well, junit_text, loaded_names,
     replay_run,
@@ -116,13 +118,26 @@ fn push_load<R: Files + Input + AllocGlobal + Clone + Drop>(
         return Ok(());
     }
     let path = path_of(rt.alloc(), transcript, name)?;
-    if let Some(texts) = read_texts(rt, path.as_str())? {
+    let read = match read_texts(rt, path.as_str())? {
+        None if name == KUBERNETES => Some(common_kinds(rt.alloc())?),
+        read => read,
+    };
+    if let Some(texts) = read {
         loads.push(LoadedFile {
             name: Text::copy_of(rt.alloc(), name)?,
             texts: Sequence::new(texts),
         })?;
     }
     Ok(())
+}
+
+/// The common kinds of Kubernetes, which have a name of their own where no file has it.
+fn common_kinds(alloc: Global) -> Result<Vec<Sequence<u8>>, Memory> {
+    let mut bytes = Vec::new(alloc);
+    bytes.extend_from_slice(kubernetes_kinds().as_bytes())?;
+    let mut texts = Vec::new(alloc);
+    texts.push(Sequence::new(bytes))?;
+    Ok(texts)
 }
 
 /// The path of a file that a transcript names: in the transcript's folder, or for standard input in the working folder.

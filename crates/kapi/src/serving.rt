@@ -1,19 +1,22 @@
-ghost use Rattle.std.specs.Prelude.{◌≡◌, ◌≤◌, [], IfOk, IfSome};
+ghost use Rattle.std.specs.Prelude.{◌≡◌, ◌≤◌, true, [], IfOk, IfSome};
 ghost use Rattle.kapi.specs.Doors.{doors_of};
+ghost use Rattle.kapi_core.specs.Table.{fits};
 ghost use Rattle.kapi_serve.specs.Listening.{doors};
 
 use crate::answering::start_readers;
 use crate::beginning::{BeginError, Objects, begin, first_of};
 use crate::ending::Ending;
-use crate::manifests::{ReadPolicy, read_served, tell_refused};
+use crate::kinds::read_kinds;
+use crate::manifests::{ReadPolicy, read_served, tell_unloaded};
 use crate::program::{Listen, ServeOptions};
 use crate::system_reason::Reason;
 use crate::telling::{read_file, tell_reason};
 use kapi_desk::Seat;
 use kapi_loading::{StartError, Started};
+use kapi_model::ResourceRow;
 use kapi_reasons::object_reason;
 use kapi_serve::{Sockets, serve_loop};
-use kapi_text::TryCopy;
+use kapi_text::{Sequence, TryCopy};
 use std::fs::Files;
 use std::io;
 use std::net::{Ipv4Addr, Net, SocketAddr, TcpListener, TcpStream};
@@ -58,6 +61,9 @@ pub fn run_serve<
     for listen in options.listens.iter() {
         tell_names(rt, listen)?;
     }
+    let Some(table) = read_kinds(rt, options.kinds.as_slice())? else {
+        return Ok(Ending::Stopped);
+    };
     let Some(opening) = read_opening(rt, options)? else {
         return Ok(Ending::Stopped);
     };
@@ -73,6 +79,7 @@ pub fn run_serve<
     match begin(
         rt.alloc(),
         rt,
+        &table,
         objects_of(&opening),
         first,
         milliseconds,
@@ -83,7 +90,7 @@ pub fn run_serve<
             drop(opening);
             serve_ports(rt, started, options)
         }
-        Err(fault) => refuse_begin(rt, fault, first_of(first, milliseconds), &opening),
+        Err(fault) => refuse_begin(rt, &table, fault, first_of(first, milliseconds), &opening),
     }
 }
 
@@ -134,20 +141,25 @@ fn objects_of(opening: &Opening) -> Objects<'_> {
 /// Reports why a server does not begin behind a revision, and why objects are not loaded: status 1.
 fn refuse_begin<R: Eprint + AllocGlobal>(
     rt: &R,
+    table: &Sequence<ResourceRow>,
     fault: BeginError,
     first: Option<u64>,
     opening: &Opening,
 ) -> io::Result<Ending>
-    requires { IfSome first (λ n. n ≤ 281474976710650) }
+    requires table { fits table.now ≡ true }
+    requires first { IfSome first (λ n. n ≤ 281474976710650) }
 {
     match (fault, opening) {
         (BeginError::Start(StartError::Line(_line)), Opening::Manifests(policy)) => {
-            tell_refused(rt, policy)?;
+            tell_unloaded(rt, table, policy)?;
         }
         (BeginError::Start(StartError::Line(_line)), Opening::Lines(lines)) => {
             eprintln!(rt; "{fault}")?;
             if let Some(first) = first {
-                tell_reason(rt, object_reason(rt.alloc(), first, lines.as_slice()))?;
+                tell_reason(
+                    rt,
+                    object_reason(rt.alloc(), table, first, lines.as_slice()),
+                )?;
             }
         }
         _ => eprintln!(rt; "{fault}")?,

@@ -6,13 +6,12 @@ use crate::manifests::{ReadPolicy, read_policy};
 use crate::policies::loaded_first;
 use crate::program::SuggestWords;
 use crate::telling::{print, read_file};
-use kapi_access::Form;
 use kapi_audit::{access_reviews, question_of};
 use kapi_index::IndexedPolicy;
 use kapi_lines::numbered_lines;
 use kapi_loading::is_settled;
 use kapi_reviews::Question;
-use kapi_suggest::{allowed_uses, manifests, read_events, suggest, unused_rules};
+use kapi_suggest::{allowed_uses, list, manifests, read_events, suggest, unused_rules};
 use kapi_text::Memory;
 use std::alloc::Global;
 use std::fs::Files;
@@ -43,7 +42,7 @@ pub fn run_suggest<R: Files + Input + Print + Eprint + AllocGlobal + Wait + Clon
     };
     if words.policy.is_empty() {
         tell_masters(rt, uses.as_slice())?;
-        print_suggested(rt, words.form, uses.as_slice())?;
+        print_suggested(rt, words.list, uses.as_slice())?;
         return Ok(Ending::Done);
     }
     let Some(policy) = read_policy(rt, words.policy.as_str(), &words.reading)? else {
@@ -70,7 +69,7 @@ fn suggest_beside<R: Print + Eprint + AllocGlobal + Wait>(
         eprintln!(rt; "left out, as the policy denies them: {denied}")?;
     }
     tell_masters(rt, allowed.as_slice())?;
-    print_suggested(rt, words.form, allowed.as_slice())?;
+    print_suggested(rt, words.list, allowed.as_slice())?;
     tell_unused(rt, core.policy(), allowed.as_slice())?;
     let settled = is_settled(&mut core)?;
     tell_unsettled(rt, words.policy.as_str(), settled)?;
@@ -100,11 +99,16 @@ fn uses_in(alloc: Global, log: bool, bytes: &[u8]) -> Result<Result<Vec<Question
 
 fn print_suggested<R: Print + AllocGlobal>(
     rt: &R,
-    form: Form,
+    is_list: bool,
     uses: &[Question],
 ) -> io::Result<()> {
     let suggested = suggest(rt.alloc(), uses)?;
-    print(rt, manifests(rt.alloc(), suggested.as_slice())?.as_slice())
+    let text = if is_list {
+        list(rt.alloc(), suggested.as_slice())?
+    } else {
+        manifests(rt.alloc(), suggested.as_slice())?
+    };
+    print(rt, text.as_slice())
 }
 
 /// Reports how many uses are of members of `system:masters`, who need no role.

@@ -13,10 +13,11 @@ use Rattle.kapi_desk.specs.Steps.{after}
 use Rattle.kapi_loading.specs.Faults as loading
 use Rattle.kapi_loading.specs.Faults.{FileFault}
 use Rattle.kapi_lines.specs.Lines.{NumberedLine, lines_of}
-use Rattle.kapi_loading.specs.Loading.{Publishes, machine_alone, machine_of}
+use Rattle.kapi_loading.specs.Loading.{Publishes, machine_of, policy_machine}
 use Rattle.kapi_loading.specs.Settled.{is_settled}
 use Rattle.kapi_loading.specs.declared.fault.StartError.{StartError}
 use Rattle.kapi_loading.specs.declared.fault.StartError.TheVariants as start
+use Rattle.kapi_model.specs.declared.row.ResourceRow.{ResourceRow}
 use Rattle.kapi_policy.specs.Objects.{PolicyObjects}
 
 -- what is answered by the policy that the desk has published is answered by the machine's policy
@@ -37,15 +38,15 @@ unanswered items (Err f) (start.Line n) given asked is h = subst (λ x. Fails (f
 unanswered items (Err f) start.Memory given asked is h = subst (λ x. Fails (fault_told x) (answers_on given asked)) (sym is) tt
 
 -- the lines of two files
-pub audited_files : {X : Type 0} (items : X → List ℕ) (result : Result X AuditFault) (policy questions : List ℕ) (asked : List NumberedLine) → asked ≡ lines_of questions
-    → Gives fault_told items result (answers_on (machine_of policy) asked) → Gives fault_told items result (answers policy questions)
+pub audited_files : {X : Type 0} (items : X → List ℕ) (result : Result X AuditFault) (table : List ResourceRow) (policy questions : List ℕ) (asked : List NumberedLine) → asked ≡ lines_of questions
+    → Gives fault_told items result (answers_on (machine_of table policy) asked) → Gives fault_told items result (answers table policy questions)
 unfolding answers
-audited_files items result policy questions asked is h = subst (λ ls. Gives fault_told items result (answers_on (machine_of policy) ls)) is h
+audited_files items result table policy questions asked is h = subst (λ ls. Gives fault_told items result (answers_on (machine_of table policy) ls)) is h
 
 pub audited_objects : {X : Type 0} (items : X → List ℕ) (result : Result X AuditFault) (policy questions : List ℕ) (asked : List NumberedLine) → asked ≡ lines_of questions
-    → Gives fault_told items result (answers_on (machine_alone 0 policy) asked) → Gives fault_told items result (answers_alone policy questions)
+    → Gives fault_told items result (answers_on (policy_machine policy) asked) → Gives fault_told items result (answers_alone policy questions)
 unfolding answers_alone
-audited_objects items result policy questions asked is h = subst (λ ls. Gives fault_told items result (answers_on (machine_alone 0 policy) ls)) is h
+audited_objects items result policy questions asked is h = subst (λ ls. Gives fault_told items result (answers_on (policy_machine policy) ls)) is h
 
 -- the machine that the objects make is settled where that of the core is
 pub settled_as : {X E : Type 0} (result : Result X E) (told : X → Bool) (core : Running) (desk : Board) (given : Result Machine FileFault)

@@ -11,7 +11,7 @@ use Rattle.kapi_lines.specs.Escapes.{escaped}
 use Rattle.kapi_audit.specs.Faults.{AuditError, policy_line, question_line}
 use Rattle.kapi_loading.specs.Faults.{FileFault, bad_line}
 use Rattle.kapi_lines.specs.Lines.{NumberedLine, lines_of}
-use Rattle.kapi_loading.specs.Loading.{machine_alone, machine_of}
+use Rattle.kapi_loading.specs.Loading.{machine_of, policy_machine}
 use Rattle.kapi_audit.specs.Questions.{question_of}
 
 -- the line of a decision, by the reason that a review reports where it is allowed
@@ -37,10 +37,10 @@ abbrev pub answers_on : Result Machine FileFault → List NumberedLine → Resul
 answers_on (Ok m) asked = answered_by (answer_of access_reviews_row (policy_of m)) asked
 answers_on (Err (bad_line n)) asked = Err (policy_line n)
 
--- the answers to a file of questions by the policy that a file of objects is
-unfoldable pub answers : List ℕ → List ℕ → Result (List ℕ) AuditError
-answers policy questions = answers_on (machine_of policy) (lines_of questions)
+-- the answers to a file of questions by the policy that a file of objects is on a machine of a table
+unfoldable pub answers : List ResourceRow → List ℕ → List ℕ → Result (List ℕ) AuditError
+answers table policy questions = answers_on (machine_of table policy) (lines_of questions)
 
 -- the answers by the policy that the objects of a file are alone, without those that every other machine begins with
 unfoldable pub answers_alone : List ℕ → List ℕ → Result (List ℕ) AuditError
-answers_alone policy questions = answers_on (machine_alone 0 policy) (lines_of questions)
+answers_alone policy questions = answers_on (policy_machine policy) (lines_of questions)

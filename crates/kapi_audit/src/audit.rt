@@ -1,10 +1,10 @@
-ghost use Rattle.std.specs.Prelude.{◌≡◌, ◌≤◌, [], All, IfOk, Ok, map, length};
+ghost use Rattle.std.specs.Prelude.{◌≡◌, ◌≤◌, true, [], All, IfOk, Ok, map, length};
 ghost use Rattle.kapi_core.specs.Machine.{Machine};
 ghost use Rattle.kapi_core.specs.Refines.{Refines};
-ghost use Rattle.kapi_loading.specs.Loading.{machine_alone};
+ghost use Rattle.kapi_loading.specs.Loading.{policy_machine};
 ghost use Rattle.kapi_loading.specs.Settled.{is_settled as is_settled_machine};
 ghost use Rattle.kapi_text.specs.Gives.{Gives};
-ghost use Rattle.kapi_core.specs.Table.{access_reviews_row};
+ghost use Rattle.kapi_core.specs.Table.{access_reviews_row, fits};
 ghost use Rattle.kapi_desk.specs.Boards.{Chair, fresh, informed};
 ghost use Rattle.kapi_desk.specs.Steps.{after};
 ghost use Rattle.kapi_audit.specs.Answers.{answer_of, answered_by, answers, answers_alone};
@@ -22,8 +22,9 @@ use kapi_core::Core;
 use kapi_desk::{Desk, Seat};
 use kapi_index::IndexedPolicy;
 use kapi_lines::{Line, numbered_lines};
-use kapi_loading::{Started, is_settled, start, start_without_objects};
-use kapi_text::Memory;
+use kapi_loading::{Started, is_settled, start, start_policy};
+use kapi_model::ResourceRow;
+use kapi_text::{Memory, Sequence};
 use std::alloc::Global;
 use std::sync::Wait;
 use std::thread::Threads;
@@ -128,8 +129,8 @@ fn answer_seated<R: Threads + Wait + Sync, G: Gate + Sync>(
     answered
 }
 
-/// Answers a file of questions by the policy of a file of objects, with so many reader threads. The text has a line for
-/// each question, in their order, whatever the number of readers is.
+/// Answers a file of questions by the policy of a file of objects of the resource types of a table, with so many reader
+/// threads. The text has a line for each question, in their order, whatever the number of readers is.
 ///
 /// # Errors
 /// `PolicyLine` at the first line of the policy that is not loaded, else `QuestionLine` at the first line that is no
@@ -138,16 +139,18 @@ fn answer_seated<R: Threads + Wait + Sync, G: Gate + Sync>(
 pub fn audit_run<R: Threads + Wait + Sync, G: Gate + Sync>(
     alloc: Global,
     rt: &R,
+    table: &Sequence<ResourceRow>,
     policy: &[u8],
     questions: &[u8],
     readers: usize,
     gate: &G,
 ) -> Result<Vec<u8>, AuditFault>
-    requires { (1 ≤ readers) × (readers ≤ 16) }
-    ensures { Gives fault_told (λ v. v.items) result (answers policy.now questions.now) }
+    requires table { fits table.now ≡ true }
+    requires readers { (1 ≤ readers) × (readers ≤ 16) }
+    ensures { Gives fault_told (λ v. v.items) result (answers table.now policy.now questions.now) }
 {
     let asked = numbered_lines(alloc, questions)?;
-    let started = start(alloc, rt, policy, 0, readers)?;
+    let started = start(alloc, rt, table, policy, 0, readers)?;
     let Started {
         core: _core,
         desk,
@@ -175,10 +178,10 @@ pub fn audit_alone<R: Threads + Wait + Sync, G: Gate + Sync>(
 ) -> Result<Audited, AuditFault>
     requires { (1 ≤ readers) × (readers ≤ 16) }
     ensures text { Gives fault_told (λ a. a.text.items) result (answers_alone policy.now questions.now) }
-    ensures settled { (m : Machine) → machine_alone 0 policy.now ≡ Ok m → IfOk result (λ a. a.settled ≡ is_settled_machine m) }
+    ensures settled { (m : Machine) → policy_machine policy.now ≡ Ok m → IfOk result (λ a. a.settled ≡ is_settled_machine m) }
 {
     let asked = numbered_lines(alloc, questions)?;
-    let started = start_without_objects(alloc, rt, policy, 0, readers)?;
+    let started = start_policy(alloc, rt, policy, readers)?;
     let Started {
         mut core,
         desk,

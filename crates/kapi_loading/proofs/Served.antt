@@ -1,5 +1,5 @@
 -- The machine of a file has begun, loaded the file's objects, and made turns, and no connection was opened on it.
-use Rattle.std.proofs.Common.{◌≡◌, ℕ, zero, suc, Bool, false, List, [], ◌∷◌, map, Option, None, Some, Result, Ok, Err, sym, ap, ◌∙◌, refl, subst}
+use Rattle.std.proofs.Common.{◌≡◌, ℕ, zero, suc, Bool, false, List, [], ◌∷◌, map, Option, None, Some, Result, Ok, Err, IfOk, sym, ap, ◌∙◌, refl, subst}
 use Rattle.std.specs.Prelude.{replicate}
 use Rattle.kapi_text.specs.Gives.{◌>>=◌}
 use Rattle.kapi_aggregation.specs.Rewriting.{rewriting}
@@ -15,10 +15,13 @@ use Rattle.kapi_core.specs.Opening.{empty, opening, opening_objects}
 use Rattle.kapi_core.proofs.Openings.{openings_same}
 use Rattle.kapi_core.specs.declared.event.Event.TheVariants as event
 use Rattle.kapi_loading.specs.Faults.{FileFault}
+use Rattle.kapi_loading.specs.Starting.{Starts}
+use Rattle.kapi_loading.specs.declared.fault.StartError.{StartError}
+use Rattle.kapi_loading.specs.declared.starting.Started.{Started}
 use Rattle.kapi_loading.specs.Laws.{FileIsServed, FileIsUnopened}
 use Rattle.kapi_lines.specs.Lines.{NumberedLine, lines_of}
-use Rattle.kapi_loading.specs.Loading.{loaded, machine_alone, machine_from, made_by, turned}
-use Rattle.kapi_core.specs.ProgramTable.{program_rows}
+use Rattle.kapi_loading.specs.Loading.{loaded, machine_alone, machine_from, made_by, made_of, turned}
+use Rattle.kapi_model.specs.declared.row.ResourceRow.{ResourceRow}
 
 -- the texts of lines
 abbrev texts : List NumberedLine → List (List ℕ)
@@ -93,43 +96,45 @@ unfolding has_loaded
 loads_new [] m new = new
 loads_new (t ∷ ts) m new = loads_new ts (loaded_if m (loads m.store t)) (load_new m (loads m.store t) new)
 
-opening_new : (first : ℕ) → IsNew (opening program_rows first)
+opening_new : (table : List ResourceRow) (first : ℕ) → IsNew (opening table first)
 unfolding opening
-opening_new first =
-    let same = openings_same opening_objects (empty program_rows first) in
+opening_new table first =
+    let same = openings_same opening_objects (empty table first) in
     (same.next_id, same.rechecks)
 
--- the opening machine after the objects of a file
-abbrev with_objects : ℕ → List ℕ → Machine
-with_objects first file = has_loaded (opening program_rows first) (texts (lines_of file))
-
-made_is : (first : ℕ) (file : List ℕ) (m : Machine) → machine_from first file ≡ Ok m → m ≡ after (with_objects first file) (replicate 64 event.Turn)
-unfolding machine_from
-made_is first file m is = by_load (loaded (opening program_rows first) (lines_of file)) refl is
+-- what lines make of a machine is what their objects and the turns make of it
+made_is : (from : Machine) (lines : List NumberedLine) (m : Machine) → made_of from lines ≡ Ok m → m ≡ after (has_loaded from (texts lines)) (replicate 64 event.Turn)
+made_is from lines m is = by_load (loaded from lines) refl is
   where
-    by_load : (r : Result Machine FileFault) → loaded (opening program_rows first) (lines_of file) ≡ r → (r >>= λ k. Ok (turned 64 k)) ≡ Ok m
-        → m ≡ after (with_objects first file) (replicate 64 event.Turn)
+    by_load : (r : Result Machine FileFault) → loaded from lines ≡ r → (r >>= λ k. Ok (turned 64 k)) ≡ Ok m
+        → m ≡ after (has_loaded from (texts lines)) (replicate 64 event.Turn)
     by_load (Ok k) at made =
         same (turned 64 k) m made ∙ turned_is 64 k
-        ∙ ap (λ n. after n (replicate 64 event.Turn)) (loaded_is (lines_of file) (opening program_rows first) k at)
+        ∙ ap (λ n. after n (replicate 64 event.Turn)) (loaded_is lines from k at)
     by_load (Err fault) at made = absurd (cc made)
+
+-- no connection is opened by lines
+made_new : (from : Machine) (lines : List NumberedLine) (m : Machine) → made_of from lines ≡ Ok m → IsNew from → IsNew m
+made_new from lines m is new =
+    subst IsNew (sym (made_is from lines m is)) (turns_new 64 (has_loaded from (texts lines)) (loads_new (texts lines) from new))
 
 pub file_is_served : FileIsServed
-file_is_served on first file m is = ap (with_rechecks on) (made_is first file m is) ∙ turns_switched on 64 (with_objects first file)
+unfolding machine_from
+file_is_served on table first file m is =
+    let from : Machine = opening table first in
+    ap (with_rechecks on) (made_is from (lines_of file) m is) ∙ turns_switched on 64 (has_loaded from (texts (lines_of file)))
 
 pub file_is_unopened : FileIsUnopened
-file_is_unopened first file m is =
-    let new = loads_new (texts (lines_of file)) (opening program_rows first) (opening_new first) in
-    subst IsNew (sym (made_is first file m is)) (turns_new 64 (with_objects first file) new)
+unfolding machine_from
+file_is_unopened table first file m is = made_new (opening table first) (lines_of file) m is (opening_new table first)
 
 -- no connection was opened on the machine that objects make alone
-pub alone_is_unopened : (first : ℕ) (objects : List ℕ) (m : Machine) → machine_alone first objects ≡ Ok m → (m.next_id ≡ 0) × (m.rechecks ≡ false)
+pub alone_is_unopened : (table : List ResourceRow) (first : ℕ) (objects : List ℕ) (m : Machine) → machine_alone table first objects ≡ Ok m → (m.next_id ≡ 0) × (m.rechecks ≡ false)
 unfolding machine_alone
-alone_is_unopened first objects m is = by_load (loaded (empty program_rows first) (lines_of objects)) refl is
-  where
-    by_load : (r : Result Machine FileFault) → loaded (empty program_rows first) (lines_of objects) ≡ r → (r >>= λ k. Ok (turned 64 k)) ≡ Ok m → IsNew m
-    by_load (Ok k) at made =
-        let new : IsNew k = subst IsNew (sym (loaded_is (lines_of objects) (empty program_rows first) k at))
-        (loads_new (texts (lines_of objects)) (empty program_rows first) (refl, refl)) in
-        subst IsNew (sym (same (turned 64 k) m made ∙ turned_is 64 k)) (turns_new 64 k new)
-    by_load (Err fault) at made = absurd (cc made)
+alone_is_unopened table first objects m is = made_new (empty table first) (lines_of objects) m is (refl, refl)
+
+-- no connection is open on what a start returns if none is on the machine
+pub unopened : (result : Result Started StartError) (given : Result Machine FileFault) → Starts result given
+    → ((m : Machine) → given ≡ Ok m → (m.next_id ≡ 0) × (m.rechecks ≡ false)) → IfOk result (λ s. s.core.next_id ≡ 0)
+unopened (Ok s) given h known = h.2.0.next_id ∙ (known h.0 h.1).0
+unopened (Err e) given h known = tt

@@ -17,6 +17,7 @@ use Rattle.kapi_policy.specs.declared.change.PolicyChange.{PolicyChange}
 use Rattle.kapi_stored_policy.specs.Reading.{policy_changes}
 use Rattle.kapi_loading.specs.Faults.{FileFault, bad_line, fault_told}
 use Rattle.kapi_core.specs.ProgramTable.{program_rows}
+use Rattle.kapi_model.specs.declared.row.ResourceRow.{ResourceRow}
 use Rattle.kapi_lines.specs.Lines.{NumberedLine, lines_of}
 use Rattle.kapi_loading.specs.declared.fault.StartError.{StartError}
 use Rattle.kapi_loading.specs.declared.fault.StartError.TheVariants as fault
@@ -69,17 +70,21 @@ turns_behind (Err fault) = []
 abbrev pub steps_made : Machine → List NumberedLine → List (List PolicyChange)
 steps_made m lines = steps_loaded m lines ++ turns_behind (loaded m lines)
 
--- the machine that a file of objects makes of the one that opens at revision `first`, or the first line at fault
-unfoldable pub machine_from : ℕ → List ℕ → Result Machine FileFault
-machine_from first objects = made_of (opening program_rows first) (lines_of objects)
+-- the machine that a file of objects makes of the one that opens over a table at revision `first`, or the first line at fault
+unfoldable pub machine_from : List ResourceRow → ℕ → List ℕ → Result Machine FileFault
+machine_from table first objects = made_of (opening table first) (lines_of objects)
 
 -- the machine that the objects of a file make alone, of the one without objects whose revisions begin after `first`
-unfoldable pub machine_alone : ℕ → List ℕ → Result Machine FileFault
-machine_alone first objects = made_of (empty program_rows first) (lines_of objects)
+unfoldable pub machine_alone : List ResourceRow → ℕ → List ℕ → Result Machine FileFault
+machine_alone table first objects = made_of (empty table first) (lines_of objects)
+
+-- the machine that the objects of a policy make alone, of the resource types of the programs
+abbrev pub policy_machine : List ℕ → Result Machine FileFault
+policy_machine objects = machine_alone program_rows 0 objects
 
 -- the machine that a file of objects makes of the opening one at revision 0, or the first line that is not loaded
-abbrev pub machine_of : List ℕ → Result Machine FileFault
-machine_of objects = machine_from 0 objects
+abbrev pub machine_of : List ResourceRow → List ℕ → Result Machine FileFault
+machine_of table objects = machine_from table 0 objects
 
 -- the core refines a machine, and the desk has published its policy
 abbrev pub Publishes : Running → Board → Machine → Type 0

@@ -1,6 +1,7 @@
 ghost use Rattle.std.specs.Prelude.{◌≡◌, []};
 
 use kapi_audit::{AnswerFault, answer_run};
+use kapi_core::program_table;
 use kapi_desk::{Desk, Seat};
 use kapi_loading::{Started, start};
 use kapi_policy::{NamespacedName, PolicyChange, PolicyKey, PolicyStep};
@@ -144,7 +145,7 @@ fn questions_are_answered_by_what_is_published_then(rt: HostRuntime) -> Result<(
         core,
         mut desk,
         mut seats,
-    } = start(alloc, &rt, OBJECTS.as_bytes(), 0, 1)?;
+    } = start(alloc, &rt, &program_table(alloc)?, OBJECTS.as_bytes(), 0, 1)?;
     drop(core);
     let said = match seats.get_mut(0) {
         Some(seat) => told_twice(&rt, alloc, &mut desk, seat),
@@ -203,7 +204,7 @@ fn a_client_that_breaks_is_told(rt: HostRuntime) -> Result<(), Fail> {
         core,
         desk,
         mut seats,
-    } = start(alloc, &rt, b"", 0, 1)?;
+    } = start(alloc, &rt, &program_table(alloc)?, b"", 0, 1)?;
     drop(core);
     drop(desk.close(&rt));
     let Some(seat) = seats.get_mut(0) else {

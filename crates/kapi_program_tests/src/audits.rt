@@ -1,6 +1,7 @@
 ghost use Rattle.std.specs.Prelude.{◌≤◌};
 
 use kapi_audit::{Gate, NoGate, audit_run};
+use kapi_core::program_table;
 use std::alloc::Global;
 use std::sync::Wait;
 use std::sync::atomic::{AtomicU64, Ordering};
@@ -34,7 +35,8 @@ fn told<R: Threads + Wait + Sync>(
     requires { (1 ≤ readers) × (readers ≤ 16) }
 {
     let (policy, questions) = (policy.as_bytes(), questions.as_bytes());
-    match audit_run(alloc, rt, policy, questions, readers, &NoGate) {
+    let table = program_table(alloc)?;
+    match audit_run(alloc, rt, &table, policy, questions, readers, &NoGate) {
         Ok(answers) => match String::from_utf8(answers) {
             Ok(text) => Ok(text),
             Err(_) => Err(Fail::new("no text")),
@@ -121,8 +123,9 @@ fn two_questions_meet(rt: HostRuntime) -> Result<(), Fail> {
         answered: AtomicU64::new(0),
         given_up: AtomicU64::new(0),
     };
+    let table = program_table(rt.alloc())?;
     let (policy, questions) = (POLICY.as_bytes(), QUESTIONS.as_bytes());
-    let answered = audit_run(rt.alloc(), &rt, policy, questions, 2, &gate);
+    let answered = audit_run(rt.alloc(), &rt, &table, policy, questions, 2, &gate);
     let given_up = gate.given_up.load(Ordering::SeqCst);
     assert_eq!(rt; given_up, 0);
     assert!(rt; answered.is_ok());

@@ -1,3 +1,4 @@
+use kapi_core::program_table;
 use kapi_index::IndexedPolicy;
 use kapi_script::{ScriptFault, script_run};
 use kapi_text::Memory;
@@ -11,7 +12,14 @@ use std::test::Fail;
 fn answers_to(alloc: Global, script: &[u8]) -> Result<Vec<u8>, ScriptFault> {
     let mut reader = script;
     let mut writer = Vec::new(alloc);
-    script_run(alloc, IndexedPolicy::new(alloc), &mut reader, &mut writer)?;
+    let table = program_table(alloc)?;
+    script_run(
+        alloc,
+        table,
+        IndexedPolicy::new(alloc),
+        &mut reader,
+        &mut writer,
+    )?;
     Ok(writer)
 }
 
@@ -53,20 +61,28 @@ fn around(alloc: Global, line: &str) -> Result<Vec<u8>, Memory> {
 }
 
 /// Checks that a script ends at its third line, behind the answer to the first.
-fn stops_behind(rt: &impl Abort, alloc: Global, script: &[u8]) {
+fn stops_behind(rt: &impl Abort, alloc: Global, script: &[u8]) -> Result<(), Memory> {
     let mut reader = script;
     let mut writer = Vec::new(alloc);
-    let played = script_run(alloc, IndexedPolicy::new(alloc), &mut reader, &mut writer);
+    let table = program_table(alloc)?;
+    let played = script_run(
+        alloc,
+        table,
+        IndexedPolicy::new(alloc),
+        &mut reader,
+        &mut writer,
+    );
     let third = str::from_utf8(script).unwrap_or("");
     assert_eq!(rt; played, Err(ScriptFault::BadLine(3)), "{third}");
     assert_eq!(rt; writer.as_slice(), b"conn 0\n".as_slice());
+    Ok(())
 }
 
 #[test]
 fn stops_at_a_bad_line(rt: HostRuntime) -> Result<(), Fail> {
     for line in BAD_LINES {
         let script = around(rt.alloc(), line)?;
-        stops_behind(&rt, rt.alloc(), script.as_slice());
+        stops_behind(&rt, rt.alloc(), script.as_slice())?;
     }
     Ok(())
 }
@@ -110,16 +126,24 @@ fn long_script(alloc: Global) -> Result<(String, String), Fail> {
 }
 
 /// Checks the answers to a script whose bytes come one by one.
-fn drips(rt: &impl Abort, alloc: Global, script: &[u8], answers: &[u8]) {
+fn drips(rt: &impl Abort, alloc: Global, script: &[u8], answers: &[u8]) -> Result<(), Memory> {
     let mut reader = Dripping {
         text: script,
         at: 0,
         fails: false,
     };
     let mut writer = Vec::new(alloc);
-    let played = script_run(alloc, IndexedPolicy::new(alloc), &mut reader, &mut writer);
+    let table = program_table(alloc)?;
+    let played = script_run(
+        alloc,
+        table,
+        IndexedPolicy::new(alloc),
+        &mut reader,
+        &mut writer,
+    );
     assert_eq!(rt; played, Ok(()));
     assert!(rt; writer.as_slice() == answers);
+    Ok(())
 }
 
 #[test]
@@ -129,7 +153,7 @@ fn plays_a_long_script_in_any_pieces(rt: HostRuntime) -> Result<(), Fail> {
     let (script, answers) = (script.as_str().as_bytes(), answers.as_str().as_bytes());
     let told = answers_to(rt.alloc(), script)?;
     assert!(rt; told.as_slice() == answers);
-    drips(&rt, rt.alloc(), script, answers);
+    drips(&rt, rt.alloc(), script, answers)?;
     Ok(())
 }
 
@@ -155,9 +179,11 @@ fn hands_each_answer_on_at_once(rt: HostRuntime) -> Result<(), Fail> {
         fails: true,
     };
     let mut writer = BufWriter::new(rt.alloc(), Vec::new(rt.alloc()))?;
+    let table = program_table(rt.alloc())?;
     assert_eq!(rt;
         script_run(
             rt.alloc(),
+            table,
             IndexedPolicy::new(rt.alloc()),
             &mut reader,
             &mut writer

@@ -1,3 +1,4 @@
+use kapi_core::program_table;
 use kapi_loading::{StartError, Started, start};
 use std::alloc::Global;
 use std::sync::Wait;
@@ -13,7 +14,7 @@ const FAULTY: &[u8] =
 
 /// The number of seats of a start with one seat.
 fn seats<R: Wait>(alloc: Global, rt: &R, objects: &[u8]) -> Result<usize, StartError> {
-    let Started { core, desk, seats } = start(alloc, rt, objects, 0, 1)?;
+    let Started { core, desk, seats } = start(alloc, rt, &program_table(alloc)?, objects, 0, 1)?;
     let count = seats.len();
     drop(seats);
     drop(core);

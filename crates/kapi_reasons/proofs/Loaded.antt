@@ -6,12 +6,12 @@ use Rattle.kapi_answer.specs.Load.{LoadFault, fault_told, loads}
 use Rattle.kapi_answer.specs.declared.loading.LoadError.{LoadError}
 use Rattle.kapi_core.specs.Machine.{Machine, changed}
 use Rattle.kapi_core.specs.Opening.{opening}
-use Rattle.kapi_core.specs.ProgramTable.{program_rows}
 use Rattle.kapi_core.specs.Refines.{Loads, Refines}
 use Rattle.kapi_core.specs.Running.{Running}
 use Rattle.kapi_lines.specs.Lines.{line_of, lines_of}
 use Rattle.kapi_lines.specs.declared.line.Line.{Line}
 use Rattle.kapi_loading.specs.Faults.{FileFault}
+use Rattle.kapi_model.specs.declared.row.ResourceRow.{ResourceRow}
 use Rattle.kapi_loading.specs.Loading.{loaded, machine_from, made_by, turned}
 use Rattle.kapi_policy.specs.declared.change.PolicyChange.{PolicyChange}
 
@@ -52,9 +52,9 @@ unfolding loaded
 all_loaded m lines i core past (k, said, stands) = ap is_err (said ∙ ap (λ ls. loaded k (map line_of ls)) (drop_all i lines past))
 
 -- a file makes no machine exactly where one of its lines is not loaded
-pub made_fails : (first : ℕ) (objects : List ℕ) → is_err (machine_from first objects) ≡ is_err (loaded (opening program_rows first) (lines_of objects))
+pub made_fails : (table : List ResourceRow) (first : ℕ) (objects : List ℕ) → is_err (machine_from table first objects) ≡ is_err (loaded (opening table first) (lines_of objects))
 unfolding machine_from
-made_fails first objects = by_result (loaded (opening program_rows first) (lines_of objects))
+made_fails table first objects = by_result (loaded (opening table first) (lines_of objects))
   where
     by_result : (r : Result Machine FileFault) → is_err (r >>= λ k. Ok (turned 64 k)) ≡ is_err r
     by_result (Ok k) = refl

@@ -1,29 +1,39 @@
 //! A creation that the machine refuses.
-ghost use Rattle.std.specs.Prelude.{◌≡◌, ◌≤◌, IfOk};
+ghost use Rattle.std.specs.Prelude.{◌≡◌, ◌≤◌, true, IfOk};
 ghost use Rattle.kapi_core.specs.Opening.{opening};
-ghost use Rattle.kapi_core.specs.ProgramTable.{program_rows};
 ghost use Rattle.kapi_core.specs.Refines.{Refines};
+ghost use Rattle.kapi_core.specs.Table.{fits};
 ghost use Rattle.kapi_reasons.specs.Private.Requests as requests;
 
 use crate::words::refusal_words;
-use kapi_core::{Core, Output, program_table};
-use kapi_model::Identity;
+use kapi_core::{Core, Output};
+use kapi_model::{Identity, ResourceRow};
 use kapi_policy::PlainPolicy;
-use kapi_text::{Memory, Sequence, Text};
+use kapi_text::{Memory, Sequence, Text, TryCopy};
 use serde_json::{Error, Value};
 use std::alloc::{AllocError, Global};
 
 /// A machine with the opening objects alone, at the revisions after `first`.
-pub fn begun(alloc: Global, first: u64) -> Result<Core<PlainPolicy>, Memory>
+pub fn begun(
+    alloc: Global,
+    table: &Sequence<ResourceRow>,
+    first: u64,
+) -> Result<Core<PlainPolicy>, Memory>
+    requires table { fits table.now ≡ true }
     requires first { first ≤ 281474976710650 }
-    ensures stands { IfOk result (λ core. Refines core (opening program_rows first)) }
+    ensures stands { IfOk result (λ core. Refines core (opening table.now first)) }
 {
-    Core::new(alloc, program_table(alloc)?, PlainPolicy::new(alloc), first)
+    Core::new(alloc, table.copy(alloc)?, PlainPolicy::new(alloc), first)
 }
 
 /// A machine without objects.
-pub fn begun_empty(alloc: Global) -> Result<Core<PlainPolicy>, Memory> {
-    Core::without_objects(alloc, program_table(alloc)?, PlainPolicy::new(alloc), 0)
+pub fn begun_empty(
+    alloc: Global,
+    table: &Sequence<ResourceRow>,
+) -> Result<Core<PlainPolicy>, Memory>
+    requires { fits table.now ≡ true }
+{
+    Core::without_objects(alloc, table.copy(alloc)?, PlainPolicy::new(alloc), 0)
 }
 
 /// Why the machine refuses to create what the bytes are at a target; none where it does not refuse.

@@ -3,6 +3,7 @@ ghost use Rattle.std.specs.Prelude.{◌≡◌, ◌≤◌, true, IfOk, IfSome, On
 ghost use Rattle.kapi_answer.specs.Load.{fault_told};
 ghost use Rattle.kapi_core.specs.Machine.{Machine};
 ghost use Rattle.kapi_core.specs.Refines.{Refines};
+ghost use Rattle.kapi_core.specs.Table.{fits};
 ghost use Rattle.kapi_lines.specs.Lines.{line_of};
 ghost use Rattle.kapi_loading.specs.Loading.{loaded, machine_from};
 ghost use Rattle.kapi_reasons.specs.Private.Requests as requests;
@@ -11,30 +12,37 @@ ghost use Rattle.kapi_reasons.specs.Reasons.{is_reason};
 use crate::asking::{Read, begun, begun_empty, read_line, refusal};
 use crate::shown::one_line;
 use crate::words::text_at;
-use kapi_core::{Core, LoadError, program_table};
+use kapi_core::{Core, LoadError};
 use kapi_lines::{Line, numbered_lines};
 use kapi_model::{ResourceRow, check_namespace_name};
 use kapi_policy::PlainPolicy;
-use kapi_text::Memory;
+use kapi_text::{Memory, Sequence};
 use serde_json::Value;
 use std::alloc::{AllocError, Global};
 
-/// Why the first line of a file of objects that is not loaded is not, on a machine whose revisions begin after `first`;
-/// nothing where all lines are loaded. It is asked of a machine that has loaded the lines before.
+/// Why the first line of a file of objects that is not loaded is not, on a machine of that table whose revisions begin
+/// after `first`; nothing if all lines are loaded. It is asked of a machine that has loaded the lines before.
 #[tactic(auto, using(crate::proofs::Loaded::made_fails))]
-pub fn object_reason(alloc: Global, first: u64, objects: &[u8]) -> Result<Option<String>, Memory>
+pub fn object_reason(
+    alloc: Global,
+    table: &Sequence<ResourceRow>,
+    first: u64,
+    objects: &[u8],
+) -> Result<Option<String>, Memory>
+    requires table { fits table.now ≡ true }
     requires first { first ≤ 281474976710650 }
-    ensures bad { IfOk result (λ reason. is_some reason ≡ is_err (machine_from first objects.now)) }
+    ensures bad { IfOk result (λ reason. is_some reason ≡ is_err (machine_from table.now first objects.now)) }
     ensures line { IfOk result (λ reason. IfSome reason (λ r. is_reason (string_bytes r) ≡ true)) }
 {
     let lines = numbered_lines(alloc, objects)?;
-    let mut core = begun(alloc, first)?;
-    first_reason(alloc, &mut core, lines.as_slice())
+    let mut core = begun(alloc, table, first)?;
+    first_reason(alloc, table.as_slice(), &mut core, lines.as_slice())
 }
 
 /// Why a machine does not load the first of some lines that it does not.
 fn first_reason(
     alloc: Global,
+    table: &[ResourceRow],
     core: &mut Core<PlainPolicy>,
     lines: &[Line<'_>],
 ) -> Result<Option<String>, Memory>
@@ -44,7 +52,7 @@ fn first_reason(
     for line in lines {
         match core.load(line.text) {
             Ok(_step) => {}
-            Err(error) => return Ok(Some(line_reason(alloc, core, line.text, error)?)),
+            Err(error) => return Ok(Some(line_reason(alloc, table, core, line.text, error)?)),
         }
     }
     Ok(None)
@@ -62,13 +70,20 @@ const REASONS: usize = 20;
 
 /// Each line of a file of objects that is not loaded where the objects of the file stand alone, and why: no others stand
 /// beside them, and lines that are loaded stay where others are not.
-pub fn line_reasons(alloc: Global, objects: &[u8]) -> Result<Vec<LineReason>, Memory> {
+pub fn line_reasons(
+    alloc: Global,
+    table: &Sequence<ResourceRow>,
+    objects: &[u8],
+) -> Result<Vec<LineReason>, Memory>
+    requires { fits table.now ≡ true }
+{
     let lines = numbered_lines(alloc, objects)?;
-    let mut core = begun_empty(alloc)?;
+    let mut core = begun_empty(alloc, table)?;
+    let table = table.as_slice();
     let mut reasons = Vec::new(alloc);
     for line in lines.as_slice() {
         if let Err(error) = core.load(line.text) {
-            push_reason(alloc, &mut reasons, &mut core, *line, error)?;
+            push_reason(alloc, &mut reasons, table, &mut core, *line, error)?;
         }
     }
     Ok(reasons)
@@ -77,12 +92,13 @@ pub fn line_reasons(alloc: Global, objects: &[u8]) -> Result<Vec<LineReason>, Me
 fn push_reason(
     alloc: Global,
     reasons: &mut Vec<LineReason>,
+    table: &[ResourceRow],
     core: &mut Core<PlainPolicy>,
     line: Line<'_>,
     error: LoadError,
 ) -> Result<(), Memory> {
     let reason = if reasons.len() < REASONS {
-        line_reason(alloc, core, line.text, error)?
+        line_reason(alloc, table, core, line.text, error)?
     } else {
         String::new(alloc)
     };
@@ -96,6 +112,7 @@ fn push_reason(
 /// Why a machine did not load a line, with this error.
 fn line_reason(
     alloc: Global,
+    table: &[ResourceRow],
     core: &mut Core<PlainPolicy>,
     line: &[u8],
     error: LoadError,
@@ -107,7 +124,7 @@ fn line_reason(
         return Err(AllocError);
     }
     let reason = match read_line(alloc, line)? {
-        Read::Object(object) => object_fault(alloc, core, &object, line, error)?,
+        Read::Object(object) => object_fault(alloc, table, core, &object, line, error)?,
         Read::Refused(reason) => reason,
     };
     one_line(alloc, reason.as_str())
@@ -116,26 +133,26 @@ fn line_reason(
 /// Why a machine did not load an object, with this error.
 fn object_fault(
     alloc: Global,
+    table: &[ResourceRow],
     core: &mut Core<PlainPolicy>,
     object: &Value,
     line: &[u8],
     error: LoadError,
 ) -> Result<String, Memory> {
     match error {
-        LoadError::UnknownKind => kind_reason(alloc, object),
-        _ => place_reason(alloc, core, object, line),
+        LoadError::UnknownKind => kind_reason(alloc, table, object),
+        _ => place_reason(alloc, table, core, object, line),
     }
 }
 
 /// Why an object is of no kind whose objects are kept.
-fn kind_reason(alloc: Global, object: &Value) -> Result<String, Memory> {
+fn kind_reason(alloc: Global, table: &[ResourceRow], object: &Value) -> Result<String, Memory> {
     let version = text_at(object, "apiVersion");
     let kind = text_at(object, "kind");
     if version.is_empty() || kind.is_empty() {
         return String::from_str(alloc, "apiVersion and kind: required, each a text");
     }
-    let table = program_table(alloc)?;
-    match row_of(table.as_slice(), object) {
+    match row_of(table, object) {
         Some(row) => version_reason(alloc, row, version),
         None => format!(in alloc;
             "kind '{kind}' of apiVersion '{version}' is not served; docs/PROFILE.md names those that are"
@@ -176,13 +193,13 @@ fn namespace_of(object: &Value) -> &str {
 /// Why an object of a kind that is kept cannot be created at its place.
 fn place_reason(
     alloc: Global,
+    table: &[ResourceRow],
     core: &mut Core<PlainPolicy>,
     object: &Value,
     line: &[u8],
 ) -> Result<String, Memory> {
-    let table = program_table(alloc)?;
-    let Some(row) = row_of(table.as_slice(), object) else {
-        return kind_reason(alloc, object);
+    let Some(row) = row_of(table, object) else {
+        return kind_reason(alloc, table, object);
     };
     let namespace = namespace_of(object);
     if row.namespaced && namespace.is_empty() {

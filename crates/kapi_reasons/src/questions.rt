@@ -6,6 +6,7 @@ ghost use Rattle.kapi_reasons.specs.Reasons.{is_reason};
 
 use crate::asking::{Read, begun, read_line, refusal};
 use crate::shown::one_line;
+use kapi_core::program_table;
 use kapi_lines::{Line, numbered_lines};
 use kapi_text::Memory;
 use std::alloc::Global;
@@ -60,7 +61,7 @@ fn review_reason(alloc: Global, spec: &[u8]) -> Result<String, Memory> {
     review.extend_from_slice(b"{\"spec\":")?;
     review.extend_from_slice(spec)?;
     review.push(b'}')?;
-    let mut core = begun(alloc, 0)?;
+    let mut core = begun(alloc, &program_table(alloc)?, 0)?;
     match refusal(&mut core, REVIEWS, review.as_slice())? {
         Some(reason) => format!(in alloc; "as the spec of a SubjectAccessReview: {reason}"),
         None => String::from_str(alloc, "it is no spec of a SubjectAccessReview"),

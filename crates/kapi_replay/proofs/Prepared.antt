@@ -4,6 +4,7 @@ use Rattle.kapi_core.specs.Machine.{Machine, with_rechecks}
 use Rattle.kapi_loading.specs.Faults.{FileFault, bad_line}
 use Rattle.kapi_manifests.specs.declared.fault.Origin.{Origin}
 use Rattle.kapi_manifests.specs.declared.prepared.Prepared.{Prepared}
+use Rattle.kapi_model.specs.declared.row.ResourceRow.{ResourceRow}
 use Rattle.kapi_replay.specs.Failures.{FailsOn}
 use Rattle.kapi_replay.specs.Manifests.{FailsAlone, FailsBehind, FailsTexts, IsFaultAt, IsRead, IsRefused, origin_at}
 use Rattle.kapi_replay.specs.declared.failure.Failure.{Failure}
@@ -29,7 +30,7 @@ is_refused items (Ok v) loads files p n more o is h = (more, subst (λ x. IsFaul
 is_refused items (Err x) loads files p n more o is h = tt
 
 -- what is loaded of texts
-pub texts_fail : {V E : Type 0} (items : V → List Failure) (r : Result V E) (loads : List LoadedFile) (c : Case) (m : Manifests) (p : Prepared) (files : List Loaded) → files ≡ m.files
-    → IsRead loads m p → IfOk r (λ v. FailsBehind loads c files p p.faults.items (items v)) → IfOk r (λ v. FailsTexts loads c m (items v))
-texts_fail items (Ok v) loads c m p files same read h = (p, read, subst (λ fs. FailsBehind loads c fs p p.faults.items (items v)) same h)
-texts_fail items (Err x) loads c m p files same read h = tt
+pub texts_fail : {V E : Type 0} (items : V → List Failure) (r : Result V E) (table : List ResourceRow) (loads : List LoadedFile) (c : Case) (m : Manifests) (p : Prepared) (files : List Loaded) → files ≡ m.files
+    → IsRead loads m p → IfOk r (λ v. FailsBehind table loads c files p p.faults.items (items v)) → IfOk r (λ v. FailsTexts table loads c m (items v))
+texts_fail items (Ok v) table loads c m p files same read h = (p, read, subst (λ fs. FailsBehind table loads c fs p p.faults.items (items v)) same h)
+texts_fail items (Err x) table loads c m p files same read h = tt

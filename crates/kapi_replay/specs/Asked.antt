@@ -2,7 +2,9 @@
 use Rattle.std.specs.Prelude.{ℕ, Bool, false, if◌then◌else◌, List, [], ◌∷◌, codes, Option, Some, None, Result, Ok, Err}
 use Rattle.std.specs.List.{flat_map, list_any}
 use Rattle.std.specs.Str.{bytes_eq, is_utf8}
-use Rattle.kapi_core.specs.ProgramTable.{program_rows}
+use Rattle.kapi_model.specs.declared.row.ResourceRow.{ResourceRow}
+use Rattle.kapi_replay.specs.Kinds.{known_table}
+use Rattle.kapi_replay.specs.declared.files.LoadedFile.{LoadedFile}
 use Rattle.kapi_http.specs.declared.message.Method.{Method}
 use Rattle.kapi_http.specs.declared.message.Method.TheVariants.{Get, Post, Put, Patch, Delete}
 use Rattle.kapi_replay.specs.Failures.{number_at}
@@ -53,15 +55,15 @@ attributes_of line = attributes_in (form_of line)
 
 -- ---- resources that are not served
 
--- the resource of a point, if the server has none such of this version
-abbrev pub unserved_point : List ℕ → Point → Option (List ℕ)
-unserved_point version (point.Url u) = None
-unserved_point version (point.Resource p) = if list_any (is_row_of version p) program_rows then None else Some p.resource
+-- the resource of a point, if the table has none such of this version
+abbrev pub unserved_point : List ResourceRow → List ℕ → Point → Option (List ℕ)
+unserved_point table version (point.Url u) = None
+unserved_point table version (point.Resource p) = if list_any (is_row_of version p) table then None else Some p.resource
 
--- the resource of the attributes, if the server has none such
-abbrev pub unserved : Option Attributes → Option (List ℕ)
-unserved None = None
-unserved (Some a) = unserved_point a.version a.point
+-- the resource of the attributes, if the table has none such
+abbrev pub unserved : List ResourceRow → Option Attributes → Option (List ℕ)
+unserved table None = None
+unserved table (Some a) = unserved_point table a.version a.point
 
 -- a reply of code 403 is wanted
 abbrev pub wants_refusal : Wanted → Bool
@@ -74,10 +76,10 @@ doubt_about n None = []
 doubt_about n (Some resource) = record { number = n; resource = resource } ∷ []
 
 -- the doubt about what is wanted: it is 403, of a request about a resource that is not served
-abbrev pub doubt : List (List ℕ) → List Event → Want → List Doubt
-doubt lines script w =
-    if wants_refusal w.wanted then doubt_about w.number (unserved (attributes_of (line_at lines (number_at script w.events)))) else []
+abbrev pub doubt : List ResourceRow → List (List ℕ) → List Event → Want → List Doubt
+doubt table lines script w =
+    if wants_refusal w.wanted then doubt_about w.number (unserved table (attributes_of (line_at lines (number_at script w.events)))) else []
 
 -- the doubts of cases
-abbrev pub doubts_of : List (List ℕ) → List Case → List Doubt
-doubts_of lines cases = flat_map (λ c. flat_map (doubt lines c.script) c.wants) cases
+abbrev pub doubts_of : List LoadedFile → List (List ℕ) → List Case → List Doubt
+doubts_of loads lines cases = flat_map (λ c. flat_map (doubt (known_table loads c) lines c.script) c.wants) cases

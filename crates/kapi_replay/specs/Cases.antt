@@ -21,10 +21,11 @@ use Rattle.kapi_replay.specs.declared.request.Request.{Request}
 use Rattle.kapi_replay.specs.declared.wanted.Wanted.{Wanted}
 use Rattle.kapi_lines.specs.Words.{begins}
 
--- a case that is being read: what it begins with, whether it rechecks rights, its script and wants so far, the identities of its
--- connections in their order, the connection that was taken last, and whether a header field may follow
+-- a case that is being read: what it begins with, its files of kinds, whether it rechecks rights, its script and wants so far, the
+-- identities of its connections in their order, the connection that was taken last, and whether a header field may follow
 pub record PlainDraft : Type 0 where
   pub begins : Beginning
+  pub kinds : List Loaded
   pub rechecks : Bool
   pub script : List Event
   pub wants : List Want
@@ -35,15 +36,15 @@ pub record PlainDraft : Type 0 where
 -- a draft, as lists
 abbrev pub draft_of : Draft → PlainDraft
 draft_of d =
-    record { begins = d.begins; rechecks = d.rechecks; script = d.script.items; wants = d.wants.items; opened = d.opened.items; taken = d.taken; fields = d.fields }
+    record { begins = d.begins; kinds = d.kinds.items; rechecks = d.rechecks; script = d.script.items; wants = d.wants.items; opened = d.opened.items; taken = d.taken; fields = d.fields }
 
 -- a case without lines
 abbrev pub fresh : Beginning → PlainDraft
-fresh begins = record { begins = begins; rechecks = false; script = []; wants = []; opened = []; taken = None; fields = false }
+fresh begins = record { begins = begins; kinds = []; rechecks = false; script = []; wants = []; opened = []; taken = None; fields = false }
 
 -- the case that was read
 abbrev pub case_of : PlainDraft → Case
-case_of d = record { begins = d.begins; rechecks = d.rechecks; script = d.script; wants = d.wants }
+case_of d = record { begins = d.begins; kinds = d.kinds; rechecks = d.rechecks; script = d.script; wants = d.wants }
 
 -- ---- what a line adds
 
@@ -101,6 +102,11 @@ pumped d l = pumped_on d l d.taken
 abbrev pub rechecked : PlainDraft → NumberedLine → PlainDraft
 rechecked d l = if length d.script == 0 then record d { rechecks = true; fields = false } else raw d l.number l.text
 
+-- the case has a file of kinds, where no event comes before the line
+abbrev pub with_kinds : PlainDraft → NumberedLine → List ℕ → PlainDraft
+with_kinds d l name =
+    if length d.script == 0 then record d { kinds = d.kinds ++ record { number = l.number; name = name } ∷ []; fields = false } else raw d l.number l.text
+
 -- something is wanted of the last answer
 abbrev pub wants : PlainDraft → ℕ → Wanted → PlainDraft
 wants d n wanted = record d { wants = d.wants ++ record { number = n; events = length d.script; wanted = wanted } ∷ []; fields = false }
@@ -116,6 +122,7 @@ drafted d l (form.Request r) later = asked d l r later
 drafted d l form.Field later = field d l
 drafted d l form.Pump later = pumped d l
 drafted d l form.Recheck later = rechecked d l
+drafted d l (form.Kinds name) later = with_kinds d l name
 drafted d l (form.Want wanted) later = wants d l.number wanted
 drafted d l f later = raw d l.number l.text
 
@@ -140,7 +147,7 @@ with_manifests begins n (source.Lines name) = beginning.Manifests (manifests_in 
 
 -- the case begins with manifests, and has no other line yet
 abbrev pub takes_manifests : PlainDraft → Bool
-takes_manifests d = are_manifests d.begins && (length d.script == 0 && (length d.wants == 0 && not d.rechecks))
+takes_manifests d = are_manifests d.begins && (length d.script == 0 && (length d.wants == 0 && (length d.kinds == 0 && not d.rechecks)))
 
 -- what a case begins with that goes on with manifests, or begins with them
 abbrev pub begun_with : PlainDraft → ℕ → Source → Beginning

@@ -8,6 +8,7 @@ use Rattle.kapi_loading.specs.Faults as file_fault
 use Rattle.kapi_lines.specs.Lines.{parts_of}
 use Rattle.kapi_lines.specs.Words.{begins, nth}
 use Rattle.kapi_loading.specs.Loading.{machine_of}
+use Rattle.kapi_model.specs.declared.row.ResourceRow.{ResourceRow}
 use Rattle.kapi_reasons.specs.Reasons.{is_reason}
 use Rattle.kapi_replay.specs.Reports.{line_at}
 use Rattle.kapi_replay.specs.Wants.{is_met}
@@ -92,5 +93,5 @@ abbrev pub FailsBy : Case → Loaded → Result Machine FileFault → List Failu
 FailsBy c load (Ok m) failures = FailsOn (with_rechecks c.rechecks m) c failures
 FailsBy c load (Err (file_fault.bad_line n)) failures = IsNotLoaded load n failures
 
-abbrev pub FailsLoaded : Case → Loaded → List ℕ → List Failure → Type 0
-FailsLoaded c load objects failures = FailsBy c load (machine_of objects) failures
+abbrev pub FailsLoaded : List ResourceRow → Case → Loaded → List ℕ → List Failure → Type 0
+FailsLoaded table c load objects failures = FailsBy c load (machine_of table objects) failures

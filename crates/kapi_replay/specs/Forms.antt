@@ -42,4 +42,5 @@ form_of line =
     else (if bytes_eq line (codes "load defaults") then form.Load source.Defaults
     else (if begins line (codes "load ") then form.Load (source.Lines (drop 5 line))
     else (if begins line (codes "manifests ") then form.Load (source.Manifests (drop 10 line))
-    else (if begins line (codes "as ") then actor_form (drop 3 line) else want_form line (wanted_of line)))))))
+    else (if begins line (codes "kinds ") then form.Kinds (drop 6 line)
+    else (if begins line (codes "as ") then actor_form (drop 3 line) else want_form line (wanted_of line))))))))

@@ -10,6 +10,7 @@ pub mod Reports
 pub mod Failures
 pub mod Asked
 pub mod Files
+pub mod Kinds
 pub mod Manifests
 pub mod Playing
 pub mod Outcomes

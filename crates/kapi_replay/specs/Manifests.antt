@@ -8,6 +8,7 @@ use Rattle.kapi_loading.specs.Faults.{FileFault}
 use Rattle.kapi_loading.specs.Faults as file_fault
 use Rattle.kapi_loading.specs.Loading.{machine_alone}
 use Rattle.kapi_manifests.specs.Written.{Loads, faults_in_all}
+use Rattle.kapi_model.specs.declared.row.ResourceRow.{ResourceRow}
 use Rattle.kapi_manifests.specs.declared.fault.Fault.{Fault}
 use Rattle.kapi_manifests.specs.declared.fault.Origin.{Origin}
 use Rattle.kapi_manifests.specs.declared.prepared.Prepared.{Prepared}
@@ -79,9 +80,9 @@ FailsAlone loads c files p (Ok m) failures = FailsOn (with_rechecks c.rechecks m
 FailsAlone loads c files p (Err (file_fault.bad_line n)) failures = IsRefused loads files p n failures
 
 -- the failures of manifests with these faults
-abbrev pub FailsBehind : List LoadedFile → Case → List Loaded → Prepared → List Fault → List Failure → Type 0
-FailsBehind loads c files p [] failures = FailsAlone loads c files p (machine_alone 0 p.text.items) failures
-FailsBehind loads c files p (f ∷ fs) failures = IsFaultAt loads files f.origin (length fs) failures
+abbrev pub FailsBehind : List ResourceRow → List LoadedFile → Case → List Loaded → Prepared → List Fault → List Failure → Type 0
+FailsBehind table loads c files p [] failures = FailsAlone loads c files p (machine_alone table 0 p.text.items) failures
+FailsBehind table loads c files p (f ∷ fs) failures = IsFaultAt loads files f.origin (length fs) failures
 
 -- what is loaded of the files, and how many faults they have
 pub record IsRead (loads : List LoadedFile) (m : Manifests) (p : Prepared) : Type 0 where
@@ -89,13 +90,13 @@ pub record IsRead (loads : List LoadedFile) (m : Manifests) (p : Prepared) : Typ
   pub faults : length p.faults.items ≡ faults_in_all All [] (all_texts loads m.files)
 
 -- the failures of a case that begins with what is loaded of the files
-abbrev pub FailsTexts : List LoadedFile → Case → Manifests → List Failure → Type 0
-FailsTexts loads c m failures = (p : Prepared) × IsRead loads m p × FailsBehind loads c m.files p p.faults.items failures
+abbrev pub FailsTexts : List ResourceRow → List LoadedFile → Case → Manifests → List Failure → Type 0
+FailsTexts table loads c m failures = (p : Prepared) × IsRead loads m p × FailsBehind table loads c m.files p p.faults.items failures
 
 -- the failures of a case that begins with manifests, the first of whose files is not there, or all of which are
-abbrev pub FailsWithout : List LoadedFile → Case → Manifests → Option Loaded → List Failure → Type 0
-FailsWithout loads c m None failures = FailsTexts loads c m failures
-FailsWithout loads c m (Some f) failures = failures ≡ failure.NoFile f.number ∷ []
+abbrev pub FailsWithout : List ResourceRow → List LoadedFile → Case → Manifests → Option Loaded → List Failure → Type 0
+FailsWithout table loads c m None failures = FailsTexts table loads c m failures
+FailsWithout table loads c m (Some f) failures = failures ≡ failure.NoFile f.number ∷ []
 
-abbrev pub FailsManifests : List LoadedFile → Case → Manifests → List Failure → Type 0
-FailsManifests loads c m failures = FailsWithout loads c m (first_missing loads m.files) failures
+abbrev pub FailsManifests : List ResourceRow → List LoadedFile → Case → Manifests → List Failure → Type 0
+FailsManifests table loads c m failures = FailsWithout table loads c m (first_missing loads m.files) failures

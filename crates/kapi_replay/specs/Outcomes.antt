@@ -40,7 +40,7 @@ ArePlayed loads (c ∷ cs) checks failures =
 pub record IsOutcome (t : Transcript) (o : Outcome) : Type 0 where
   pub name : o.name ≡ t.file.name
   pub played : ArePlayed t.loads (cases_in t.file.bytes) o.checks o.failures
-  pub doubts : o.doubts ≡ doubts_of (parts_of t.file.bytes) (cases_in t.file.bytes)
+  pub doubts : o.doubts ≡ doubts_of t.loads (parts_of t.file.bytes) (cases_in t.file.bytes)
 
 -- what became of a transcript, and its report is written
 abbrev pub IsReported : Bool → Transcript → Option (List ℕ) → Option (List ℕ) → Outcome → Type 0
@@ -61,6 +61,10 @@ names_of beginning.Opening = []
 names_of (beginning.Lines file) = file.name ∷ []
 names_of (beginning.Manifests m) = map (λ f. f.name) m.files
 
--- the names of the files that a transcript's cases begin with
+-- the names of the files that a case has: its files of kinds, and those that it begins with
+abbrev pub names_in : Case → List (List ℕ)
+names_in c = map (λ f. f.name) c.kinds ++ names_of c.begins
+
+-- the names of the files that a transcript's cases have
 abbrev pub loaded_names : List ℕ → List (List ℕ)
-loaded_names transcript = flat_map (λ c. names_of c.begins) (cases_in transcript)
+loaded_names transcript = flat_map names_in (cases_in transcript)

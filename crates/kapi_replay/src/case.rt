@@ -46,6 +46,8 @@ pub struct Want {
 #[derive(Drop)]
 pub struct Case {
     pub begins: Beginning,
+    /// The files of the kinds that the machine serves besides those of the programs.
+    pub kinds: Sequence<Loaded>,
     /// The rights of watches are rechecked at each of their events.
     pub rechecks: bool,
     pub script: Sequence<Event>,

@@ -1,7 +1,7 @@
 //! Lines that want 403 of a resource that is not served.
 ghost use Rattle.std.specs.Prelude.{◌≡◌, ◌++◌, IfOk, OnOk, option_map};
 ghost use Rattle.std.specs.List.{flat_map, list_any};
-ghost use Rattle.kapi_core.specs.ProgramTable.{program_rows};
+ghost use Rattle.kapi_replay.specs.Kinds.{known_table as table_of};
 ghost use Rattle.kapi_replay.specs.Asked as asks;
 ghost use Rattle.kapi_replay.specs.Asked.{doubts_of as doubts_of_cases, wants_refusal as wants_refusal_of};
 ghost use Rattle.kapi_answer.specs.Route.{is_row_of as is_row_of_point};
@@ -9,6 +9,8 @@ ghost use Rattle.kapi_answer.specs.Route.{is_row_of as is_row_of_point};
 use crate::asked::attributes_of;
 use crate::case::{Case, Event, Want};
 use crate::failure::Doubt;
+use crate::files::LoadedFile;
+use crate::kinds::known_table;
 use crate::play::number_at;
 use crate::report::line_at;
 use crate::wanted::Wanted;
@@ -35,8 +37,7 @@ fn is_served(table: &[ResourceRow], version: &str, point: &ResourcePoint) -> boo
 
 /// The resource that the attributes are about, if it is not served.
 fn unserved<'a>(table: &[ResourceRow], attributes: &'a Attributes) -> Option<&'a str>
-    requires { table.now ≡ program_rows }
-    ensures { option_map (λ s. s.now) result ≡ asks.unserved_point attributes.now.version attributes.now.point }
+    ensures { option_map (λ s. s.now) result ≡ asks.unserved_point table.now attributes.now.version attributes.now.point }
 {
     match &attributes.point {
         Point::Url(_point) => None,
@@ -68,8 +69,7 @@ fn push_doubt(
     number: usize,
     attributes: Option<&Attributes>,
 ) -> Result<(), Memory>
-    requires { table.now ≡ program_rows }
-    ensures { OnOk result (doubts.new.items ≡ doubts.old.items ++ asks.doubt_about number (asks.unserved (option_map (λ a. a.now) attributes.entry))) }
+    ensures { OnOk result (doubts.new.items ≡ doubts.old.items ++ asks.doubt_about number (asks.unserved table.now (option_map (λ a. a.now) attributes.entry))) }
 {
     let Some(attributes) = attributes else {
         return Ok(());
@@ -90,8 +90,7 @@ fn check_want(
     script: &[Event],
     want: &Want,
 ) -> Result<(), Memory>
-    requires { table.now ≡ program_rows }
-    ensures { OnOk result (doubts.new.items ≡ doubts.old.items ++ asks.doubt lines.now script.now want.now) }
+    ensures { OnOk result (doubts.new.items ≡ doubts.old.items ++ asks.doubt table.now lines.now script.now want.now) }
 {
     if !wants_refusal(&want.wanted) {
         return Ok(());
@@ -105,13 +104,14 @@ fn check_want(
 fn check_case(
     alloc: Global,
     doubts: &mut Vec<Doubt>,
-    table: &[ResourceRow],
+    loads: &[LoadedFile],
     lines: &[Sequence<u8>],
     case: &Case,
 ) -> Result<(), Memory>
-    requires { table.now ≡ program_rows }
-    ensures { OnOk result (doubts.new.items ≡ doubts.old.items ++ flat_map (asks.doubt lines.now case.now.script) case.now.wants) }
+    ensures { OnOk result (doubts.new.items ≡ doubts.old.items ++ flat_map (asks.doubt (table_of loads.now case.now) lines.now case.now.script) case.now.wants) }
 {
+    let table = known_table(alloc, loads, case)?;
+    let table = table.as_slice();
     for want in case.wants.as_slice() {
         check_want(alloc, doubts, table, lines, case.script.as_slice(), want)?;
     }
@@ -121,16 +121,15 @@ fn check_case(
 /// The doubts about the cases of a transcript with these lines.
 pub fn doubts_of(
     alloc: Global,
-    table: &[ResourceRow],
+    loads: &[LoadedFile],
     lines: &[Sequence<u8>],
     cases: &[Case],
 ) -> Result<Vec<Doubt>, Memory>
-    requires { table.now ≡ program_rows }
-    ensures { IfOk result (λ v. v.items ≡ doubts_of_cases lines.now cases.now) }
+    ensures { IfOk result (λ v. v.items ≡ doubts_of_cases loads.now lines.now cases.now) }
 {
     let mut doubts = Vec::new(alloc);
     for case in cases {
-        check_case(alloc, &mut doubts, table, lines, case)?;
+        check_case(alloc, &mut doubts, loads, lines, case)?;
     }
     Ok(doubts)
 }

@@ -17,6 +17,7 @@ use std::mem;
 #[derive(Drop)]
 pub struct Draft {
     begins: Beginning,
+    kinds: Vec<Loaded>,
     rechecks: bool,
     script: Vec<Event>,
     wants: Vec<Want>,
@@ -35,6 +36,7 @@ impl Draft {
     {
         Draft {
             begins,
+            kinds: Vec::new(alloc),
             rechecks: false,
             script: Vec::new(alloc),
             wants: Vec::new(alloc),
@@ -51,6 +53,7 @@ impl Draft {
         matches!(&self.begins, Beginning::Manifests(_))
             && self.script.is_empty()
             && self.wants.is_empty()
+            && self.kinds.is_empty()
             && !self.rechecks
     }
 
@@ -60,6 +63,7 @@ impl Draft {
     {
         Case {
             begins: self.begins,
+            kinds: Sequence::new(self.kinds),
             rechecks: self.rechecks,
             script: Sequence::new(self.script),
             wants: Sequence::new(self.wants),
@@ -153,6 +157,24 @@ impl Draft {
         Ok(())
     }
 
+    /// Adds a file of kinds; behind an event the line is one of the script.
+    fn push_kinds(
+        &mut self,
+        alloc: Global,
+        line: &Line<'_>,
+        name: Sequence<u8>,
+    ) -> Result<(), Memory>
+        ensures { OnOk result (draft_of self.new ≡ cased.with_kinds (draft_of self.old) (line_of line.now) name) }
+    {
+        if !self.script.is_empty() {
+            return self.push_line(alloc, line.number, line.text);
+        }
+        let number = line.number;
+        self.kinds.push(Loaded { number, name })?;
+        self.fields = false;
+        Ok(())
+    }
+
     /// Adds what is wanted of the last answer.
     fn push_want(&mut self, number: usize, wanted: Wanted) -> Result<(), Memory>
         ensures { OnOk result (draft_of self.new ≡ cased.wants (draft_of self.old) number wanted) }
@@ -193,6 +215,7 @@ impl Draft {
             Form::Field => self.push_field(alloc, line),
             Form::Pump => self.push_pump(alloc, line),
             Form::Recheck => self.push_recheck(alloc, line),
+            Form::Kinds(name) => self.push_kinds(alloc, line, name),
             Form::Want(wanted) => self.push_want(line.number, wanted),
             Form::Begin | Form::Load(_) | Form::Event => {
                 self.push_line(alloc, line.number, line.text)

@@ -8,6 +8,7 @@ use crate::case::{Beginning, Case};
 use crate::failure::{Difference, Failure};
 use crate::files::{LoadedFile, only_text, texts_named};
 use crate::form::{Form, parse_form};
+use crate::kinds::known_table;
 use crate::manifests::read_manifests;
 use crate::play::script_text;
 use crate::report::line_at;
@@ -39,7 +40,7 @@ pub fn explained<R: Wait>(
     if failures.is_empty() {
         return Ok(failures);
     }
-    let Some(started) = begun(alloc, rt, loads, &case.begins)? else {
+    let Some(started) = begun(alloc, rt, loads, case)? else {
         return Ok(failures);
     };
     let Started {
@@ -58,20 +59,22 @@ fn begun<R: Wait>(
     alloc: Global,
     rt: &R,
     loads: &[LoadedFile],
-    begins: &Beginning,
+    case: &Case,
 ) -> Result<Option<Started>, Memory>
     ensures unopened { IfOk result (λ o. IfSome o (λ s. s.core.next_id ≡ 0)) }
     ensures waiting { IfOk result (λ o. IfSome o (λ s. s.desk.waiting ≡ [])) }
 {
-    match begins {
-        Beginning::Opening => made(start(alloc, rt, b"".as_slice(), 0, 1)),
+    let table = &known_table(alloc, loads, case)?;
+    match &case.begins {
+        Beginning::Opening => made(start(alloc, rt, table, b"".as_slice(), 0, 1)),
         Beginning::Lines(file) => match only_text(texts_named(loads, file.name.as_slice())) {
-            Some(objects) => made(start(alloc, rt, objects, 0, 1)),
+            Some(objects) => made(start(alloc, rt, table, objects, 0, 1)),
             None => Ok(None),
         },
         Beginning::Manifests(manifests) => {
             let prepared = read_manifests(alloc, loads, manifests)?;
-            made(start_without_objects(alloc, rt, prepared.text.as_slice(), 0, 1))
+            let text = prepared.text.as_slice();
+            made(start_without_objects(alloc, rt, table, text, 0, 1))
         }
     }
 }

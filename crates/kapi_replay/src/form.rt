@@ -40,6 +40,8 @@ pub enum Form {
     Pump,
     /// `recheck`: the rights of watches are rechecked in this case.
     Recheck,
+    /// `kinds FILE`: the kinds of that file are served in this case.
+    Kinds(Sequence<u8>),
     /// What is wanted of the last answer.
     Want(Wanted),
     /// A line of a script.
@@ -68,6 +70,9 @@ pub fn parse_form(alloc: Global, line: &[u8]) -> Result<Form, Memory>
     }
     if line.starts_with(b"manifests ") {
         return Ok(Form::Load(Source::Manifests(copy_of(alloc, &line[10..])?)));
+    }
+    if line.starts_with(b"kinds ") {
+        return Ok(Form::Kinds(copy_of(alloc, &line[6..])?));
     }
     if line.starts_with(b"as ") {
         return Ok(actor_form(copy_of(alloc, &line[3..])?));

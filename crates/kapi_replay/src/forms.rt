@@ -9,7 +9,7 @@ use std::alloc::Global;
 
 /// The words that a line of a transcript may begin with.
 const FORMS: &str =
-    "no line begins so; there are load, manifests, recheck, begin, as, GET, POST, PUT, PATCH, DELETE, pump, =, ==, ~, >, and the events open, feed, serve, pump, turn and close";
+    "no line begins so; there are load, manifests, kinds, recheck, begin, as, GET, POST, PUT, PATCH, DELETE, pump, =, ==, ~, >, and the events open, feed, serve, pump, turn and close";
 
 /// Why a line of a transcript has no known form, where it stands in its case.
 pub fn form_reason(alloc: Global, line: &[u8]) -> Result<&'static str, Memory>
@@ -27,6 +27,7 @@ pub fn form_reason(alloc: Global, line: &[u8]) -> Result<&'static str, Memory>
             "it is read as a header field, and there is no request directly above it",
         ),
         Form::Recheck => Ok("recheck comes before the first event of a case"),
+        Form::Kinds(_name) => Ok("kinds comes before the first event of a case"),
         Form::Event => Ok(word_reason(line)),
         Form::Begin | Form::Load(_) | Form::Want(_) => Ok(FORMS),
     }
@@ -70,6 +71,7 @@ fn sign_reason(line: &[u8]) -> Option<&'static str>
         b"as" => Some("an identity is wanted: as USER or as USER,GROUP,.."),
         b"load" => Some("a file is wanted: load FILE"),
         b"manifests" => Some("a file or folder is wanted: manifests FILE"),
+        b"kinds" => Some("a file or folder is wanted: kinds FILE"),
         _ => None,
     }
 }

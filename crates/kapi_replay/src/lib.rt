@@ -14,6 +14,7 @@ mod files;
 mod form;
 mod forms;
 mod junit;
+mod kinds;
 mod manifests;
 mod names;
 mod play;

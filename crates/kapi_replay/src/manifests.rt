@@ -1,6 +1,7 @@
 //! A case that begins with manifests.
 ghost use Rattle.std.specs.Prelude.{◌≡◌, ◌++◌, ◌==◌, true, IfOk, OnOk, length, map, option_map};
 ghost use Rattle.std.specs.List.{find, list_all};
+ghost use Rattle.kapi_core.specs.Table.{fits};
 ghost use Rattle.kapi_loading.specs.Loading.{machine_alone};
 ghost use Rattle.kapi_reasons.specs.Reasons.{is_shown};
 ghost use Rattle.kapi_replay.specs.Manifests as manifests;
@@ -14,13 +15,14 @@ use crate::request::push_number;
 use kapi_lines::nth;
 use kapi_loading::{StartError, Started, start_without_objects};
 use kapi_manifests::{Fault, Options, Origin, Prepared, Scope, prepare};
+use kapi_model::ResourceRow;
 use kapi_reasons::{LineReason, line_reasons};
 use kapi_text::{Memory, Sequence};
 use std::alloc::{AllocError, Global};
 use std::sync::Wait;
 
 /// The first file that is not there, or is a folder without files.
-fn first_missing<'a>(loads: &[LoadedFile], files: &'a [Loaded]) -> Option<&'a Loaded>
+pub fn first_missing<'a>(loads: &[LoadedFile], files: &'a [Loaded]) -> Option<&'a Loaded>
     ensures { option_map (λ f. f.now) result ≡ manifests.first_missing loads.now files.now }
 {
     files
@@ -29,7 +31,7 @@ fn first_missing<'a>(loads: &[LoadedFile], files: &'a [Loaded]) -> Option<&'a Lo
 }
 
 /// The texts of files, one file after the other.
-fn all_texts<'a>(
+pub fn all_texts<'a>(
     alloc: Global,
     loads: &'a [LoadedFile],
     files: &[Loaded],
@@ -162,7 +164,7 @@ fn shown(byte: u8) -> u8
 }
 
 /// The failure of manifests with a fault that begins there, and so many more.
-fn fault_failure(
+pub fn fault_failure(
     alloc: Global,
     loads: &[LoadedFile],
     files: &[Loaded],
@@ -198,14 +200,16 @@ fn first_reason(reasons: &[LineReason]) -> &str {
 /// The failure of manifests whose line of this number is not loaded.
 fn refused(
     alloc: Global,
+    table: &Sequence<ResourceRow>,
     loads: &[LoadedFile],
     files: &[Loaded],
     prepared: &Prepared,
     line: usize,
 ) -> Result<Vec<Failure>, Memory>
+    requires { fits table.now ≡ true }
     ensures { IfOk result (λ v. IsRefused loads.now files.now prepared.now line v.items) }
 {
-    let reasons = line_reasons(alloc, prepared.text.as_slice())?;
+    let reasons = line_reasons(alloc, table, prepared.text.as_slice())?;
     let origin = origin_at(prepared.origins.as_slice(), line);
     let reason = first_reason(reasons.as_slice());
     let more = reasons.len().saturating_sub(1);
@@ -216,14 +220,16 @@ fn refused(
 fn play_alone<R: Wait>(
     alloc: Global,
     rt: &R,
+    table: &Sequence<ResourceRow>,
     loads: &[LoadedFile],
     case: &Case,
     files: &[Loaded],
     prepared: &Prepared,
 ) -> Result<Vec<Failure>, Memory>
-    ensures { IfOk result (λ v. FailsAlone loads.now case.now files.now prepared.now (machine_alone 0 prepared.now.text.items) v.items) }
+    requires { fits table.now ≡ true }
+    ensures { IfOk result (λ v. FailsAlone loads.now case.now files.now prepared.now (machine_alone table.now 0 prepared.now.text.items) v.items) }
 {
-    match start_without_objects(alloc, rt, prepared.text.as_slice(), 0, 1) {
+    match start_without_objects(alloc, rt, table, prepared.text.as_slice(), 0, 1) {
         Ok(started) => {
             let Started {
                 mut core,
@@ -234,7 +240,7 @@ fn play_alone<R: Wait>(
             drop(desk.close(rt));
             failures
         }
-        Err(StartError::Line(line)) => refused(alloc, loads, files, prepared, line),
+        Err(StartError::Line(line)) => refused(alloc, table, loads, files, prepared, line),
         Err(StartError::Memory) => Err(AllocError),
     }
 }
@@ -258,15 +264,17 @@ fn faulty(
 fn play_prepared<R: Wait>(
     alloc: Global,
     rt: &R,
+    table: &Sequence<ResourceRow>,
     loads: &[LoadedFile],
     case: &Case,
     files: &[Loaded],
     prepared: &Prepared,
 ) -> Result<Vec<Failure>, Memory>
-    ensures { IfOk result (λ v. FailsBehind loads.now case.now files.now prepared.now prepared.now.faults.items v.items) }
+    requires { fits table.now ≡ true }
+    ensures { IfOk result (λ v. FailsBehind table.now loads.now case.now files.now prepared.now prepared.now.faults.items v.items) }
 {
     match prepared.faults.as_slice() {
-        [] => play_alone(alloc, rt, loads, case, files, prepared),
+        [] => play_alone(alloc, rt, table, loads, case, files, prepared),
         [fault, more @ ..] => faulty(alloc, loads, files, fault, more.len()),
     }
 }
@@ -294,16 +302,19 @@ pub fn read_manifests(
 fn play_texts<R: Wait>(
     alloc: Global,
     rt: &R,
+    table: &Sequence<ResourceRow>,
     loads: &[LoadedFile],
     case: &Case,
     manifests: &Manifests,
 ) -> Result<Vec<Failure>, Memory>
-    ensures { IfOk result (λ v. FailsTexts loads.now case.now manifests.now v.items) }
+    requires { fits table.now ≡ true }
+    ensures { IfOk result (λ v. FailsTexts table.now loads.now case.now manifests.now v.items) }
 {
     let prepared = read_manifests(alloc, loads, manifests)?;
     play_prepared(
         alloc,
         rt,
+        table,
         loads,
         case,
         manifests.files.as_slice(),
@@ -315,14 +326,16 @@ fn play_texts<R: Wait>(
 pub fn play_manifests<R: Wait>(
     alloc: Global,
     rt: &R,
+    table: &Sequence<ResourceRow>,
     loads: &[LoadedFile],
     case: &Case,
     manifests: &Manifests,
 ) -> Result<Vec<Failure>, Memory>
-    ensures { IfOk result (λ v. FailsManifests loads.now case.now manifests.now v.items) }
+    requires { fits table.now ≡ true }
+    ensures { IfOk result (λ v. FailsManifests table.now loads.now case.now manifests.now v.items) }
 {
     match first_missing(loads, manifests.files.as_slice()) {
         Some(file) => only(alloc, Failure::NoFile(file.number)),
-        None => play_texts(alloc, rt, loads, case, manifests),
+        None => play_texts(alloc, rt, table, loads, case, manifests),
     }
 }

@@ -3,6 +3,7 @@ ghost use Rattle.std.specs.Prelude.{◌≡◌, ◌++◌, ◌∷◌, [], true, If
 ghost use Rattle.kapi_core.specs.Machine.{Machine, with_rechecks};
 ghost use Rattle.kapi_loading.specs.Loading.{machine_of};
 ghost use Rattle.kapi_core.specs.Refines.{Refines};
+ghost use Rattle.kapi_core.specs.Table.{fits};
 ghost use Rattle.kapi_script.specs.Scripts.{start as begun};
 ghost use Rattle.kapi_replay.specs.Reports.{line_at};
 ghost use Rattle.kapi_replay.specs.Failures as fails;
@@ -13,13 +14,14 @@ use crate::case::{Case, Event, Loaded, Want};
 use crate::failure::{Difference, Failure};
 use crate::forms::form_reason;
 use crate::wanted::is_met;
-use kapi_core::{Core, program_table};
+use kapi_core::Core;
 use kapi_index::IndexedPolicy;
 use kapi_lines::{copy_of, nth, split_lines};
 use kapi_loading::{StartError, Started, start};
+use kapi_model::ResourceRow;
 use kapi_reasons::object_reason;
 use kapi_script::{ScriptFault, play_script};
-use kapi_text::{Memory, Sequence, Text};
+use kapi_text::{Memory, Sequence, Text, TryCopy};
 use std::alloc::{AllocError, Global};
 use std::sync::Wait;
 
@@ -160,14 +162,16 @@ fn no_form(alloc: Global, number: usize, reason: &str) -> Result<Vec<Failure>, M
 /// The failure of a case that loads a file of objects, a line of which, of this number, is not loaded.
 fn not_loaded(
     alloc: Global,
+    table: &Sequence<ResourceRow>,
     load: &Loaded,
     objects: &[u8],
     line: usize,
 ) -> Result<Vec<Failure>, Memory>
-    requires bad { is_err (machine_of objects.now) ≡ true }
+    requires table { fits table.now ≡ true }
+    requires bad { is_err (machine_of table.now objects.now) ≡ true }
     ensures { IfOk result (λ v. fails.IsNotLoaded load.now line v.items) }
 {
-    match object_reason(alloc, 0, objects)? {
+    match object_reason(alloc, table, 0, objects)? {
         Some(reason) => not_loaded_for(alloc, load.number, line, reason),
         None => unreachable!(),
     }
@@ -209,13 +213,15 @@ pub fn play_on(
 pub fn play_loaded<R: Wait>(
     alloc: Global,
     rt: &R,
+    table: &Sequence<ResourceRow>,
     case: &Case,
     load: &Loaded,
     objects: &[u8],
 ) -> Result<Vec<Failure>, Memory>
-    ensures { IfOk result (λ v. fails.FailsLoaded case.now load.now objects.now v.items) }
+    requires { fits table.now ≡ true }
+    ensures { IfOk result (λ v. fails.FailsLoaded table.now case.now load.now objects.now v.items) }
 {
-    match start(alloc, rt, objects, 0, 1) {
+    match start(alloc, rt, table, objects, 0, 1) {
         Ok(started) => {
             let Started {
                 mut core,
@@ -226,15 +232,20 @@ pub fn play_loaded<R: Wait>(
             drop(desk.close(rt));
             failures
         }
-        Err(StartError::Line(line)) => not_loaded(alloc, load, objects, line),
+        Err(StartError::Line(line)) => not_loaded(alloc, table, load, objects, line),
         Err(StartError::Memory) => Err(AllocError),
     }
 }
 
 /// Plays a case on the opening machine.
-pub fn play_begun(alloc: Global, case: &Case) -> Result<Vec<Failure>, Memory>
-    ensures { IfOk result (λ v. fails.FailsOn (with_rechecks case.now.rechecks begun) case.now v.items) }
+pub fn play_begun(
+    alloc: Global,
+    table: &Sequence<ResourceRow>,
+    case: &Case,
+) -> Result<Vec<Failure>, Memory>
+    requires { fits table.now ≡ true }
+    ensures { IfOk result (λ v. fails.FailsOn (with_rechecks case.now.rechecks (begun table.now)) case.now v.items) }
 {
-    let mut core = Core::new(alloc, program_table(alloc)?, IndexedPolicy::new(alloc), 0)?;
+    let mut core = Core::new(alloc, table.copy(alloc)?, IndexedPolicy::new(alloc), 0)?;
     play_on(alloc, &mut core, case)
 }

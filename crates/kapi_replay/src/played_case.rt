@@ -1,13 +1,18 @@
 //! A case, by what it begins with.
-ghost use Rattle.std.specs.Prelude.{◌≡◌, IfOk};
-ghost use Rattle.kapi_replay.specs.Playing.{Fails, FailsLines};
+ghost use Rattle.std.specs.Prelude.{◌≡◌, ◌<◌, true, IfOk, length};
+ghost use Rattle.kapi_core.specs.Table.{fits};
+ghost use Rattle.kapi_replay.specs.Kinds.{table_of};
+ghost use Rattle.kapi_replay.specs.Playing.{Fails, FailsFrom, FailsLines, FailsOver, IsBadKinds};
 
 use crate::case::{Beginning, Case, Loaded};
 use crate::failure::Failure;
 use crate::files::{LoadedFile, only_text, texts_named};
-use crate::manifests::play_manifests;
+use crate::kinds::read_kinds;
+use crate::manifests::{fault_failure, first_missing, play_manifests};
 use crate::play::{only, play_begun, play_loaded};
-use kapi_text::Memory;
+use kapi_kinds::{Fault, Kinds};
+use kapi_model::ResourceRow;
+use kapi_text::{Memory, Sequence};
 use std::alloc::Global;
 use std::sync::Wait;
 
@@ -15,15 +20,71 @@ use std::sync::Wait;
 fn play_lines<R: Wait>(
     alloc: Global,
     rt: &R,
+    table: &Sequence<ResourceRow>,
     loads: &[LoadedFile],
     case: &Case,
     file: &Loaded,
 ) -> Result<Vec<Failure>, Memory>
-    ensures { IfOk result (λ v. FailsLines loads.now case.now file.now v.items) }
+    requires { fits table.now ≡ true }
+    ensures { IfOk result (λ v. FailsLines table.now loads.now case.now file.now v.items) }
 {
     match only_text(texts_named(loads, file.name.as_slice())) {
-        Some(objects) => play_loaded(alloc, rt, case, file, objects),
+        Some(objects) => play_loaded(alloc, rt, table, case, file, objects),
         None => only(alloc, Failure::NoFile(file.number)),
+    }
+}
+
+/// Plays a case over a table.
+fn play_over<R: Wait>(
+    alloc: Global,
+    rt: &R,
+    table: &Sequence<ResourceRow>,
+    loads: &[LoadedFile],
+    case: &Case,
+) -> Result<Vec<Failure>, Memory>
+    requires { fits table.now ≡ true }
+    ensures { IfOk result (λ v. FailsFrom table.now loads.now case.now case.now.begins v.items) }
+{
+    match &case.begins {
+        Beginning::Opening => play_begun(alloc, table, case),
+        Beginning::Lines(file) => play_lines(alloc, rt, table, loads, case, file),
+        Beginning::Manifests(manifests) => {
+            play_manifests(alloc, rt, table, loads, case, manifests)
+        }
+    }
+}
+
+/// The failure of files of kinds with these faults.
+fn bad_kinds(
+    alloc: Global,
+    loads: &[LoadedFile],
+    files: &[Loaded],
+    faults: &[Fault],
+) -> Result<Vec<Failure>, Memory>
+    requires { 0 < length faults.now }
+    ensures { IfOk result (λ v. IsBadKinds loads.now files.now v.items) }
+{
+    let fault = &faults[0];
+    let reason = &fault.reason;
+    let reason = format!(in alloc; "{reason}")?;
+    let more = faults.len() - 1;
+    fault_failure(alloc, loads, files, fault.origin, reason.as_str(), more)
+}
+
+/// Plays a case whose files of kinds are there.
+fn play_kinds<R: Wait>(
+    alloc: Global,
+    rt: &R,
+    loads: &[LoadedFile],
+    case: &Case,
+) -> Result<Vec<Failure>, Memory>
+    ensures { IfOk result (λ v. FailsOver loads.now case.now (table_of loads.now case.now) v.items) }
+{
+    match read_kinds(alloc, loads, case)? {
+        Kinds::Table(table) => play_over(alloc, rt, &table, loads, case),
+        Kinds::Faults(faults) => {
+            bad_kinds(alloc, loads, case.kinds.as_slice(), faults.as_slice())
+        }
     }
 }
 
@@ -36,9 +97,8 @@ pub fn play_case<R: Wait>(
 ) -> Result<Vec<Failure>, Memory>
     ensures { IfOk result (λ v. Fails loads.now case.now v.items) }
 {
-    match &case.begins {
-        Beginning::Opening => play_begun(alloc, case),
-        Beginning::Lines(file) => play_lines(alloc, rt, loads, case, file),
-        Beginning::Manifests(manifests) => play_manifests(alloc, rt, loads, case, manifests),
+    match first_missing(loads, case.kinds.as_slice()) {
+        Some(file) => only(alloc, Failure::NoFile(file.number)),
+        None => play_kinds(alloc, rt, loads, case),
     }
 }

@@ -2,7 +2,6 @@
 ghost use Rattle.std.specs.Prelude.{◌≡◌, ◌++◌, ◌∷◌, [], IfOk, OnOk, map};
 ghost use Rattle.kapi_replay.specs.Outcomes as comes;
 ghost use Rattle.std.specs.List.{list_all};
-ghost use Rattle.kapi_replay.specs.Asked.{doubts_of as doubts_of_cases};
 ghost use Rattle.kapi_replay.specs.Outcomes.{ArePlayed, IsOutcome, IsReplayed};
 ghost use Rattle.kapi_replay.specs.Reports.{is_difference as is_difference_of, is_sure as is_sure_of, is_well as is_well_of};
 
@@ -10,11 +9,10 @@ use crate::case::{Beginning, Case, Loaded};
 use crate::doubts::doubts_of;
 use crate::draft::cases;
 use crate::explained::explained;
-use crate::failure::{Check, Doubt, Failure, Outcome};
+use crate::failure::{Check, Failure, Outcome};
 use crate::files::{LoadedFile, Transcript};
 use crate::played_case::play_case;
 use crate::report::{is_difference, outcome_text};
-use kapi_core::program_table;
 use kapi_lines::{numbered_lines, split_lines};
 use kapi_text::{Memory, Sequence, TryCopy};
 use std::alloc::Global;
@@ -95,15 +93,6 @@ fn cases_in(alloc: Global, transcript: &[u8]) -> Result<Vec<Case>, Memory>
     Ok(cases)
 }
 
-/// The doubts about the cases of a transcript with these lines.
-fn doubts(alloc: Global, lines: &[Sequence<u8>], cases: &[Case]) -> Result<Vec<Doubt>, Memory>
-    ensures { IfOk result (λ v. v.items ≡ doubts_of_cases lines.now cases.now) }
-{
-    let table = program_table(alloc)?;
-    let doubts = doubts_of(alloc, table.as_slice(), lines, cases)?;
-    Ok(doubts)
-}
-
 /// Plays a transcript.
 fn play<R: Wait>(alloc: Global, rt: &R, transcript: &Transcript) -> Result<Outcome, Memory>
     ensures { IfOk result (IsOutcome transcript.now) }
@@ -111,18 +100,20 @@ fn play<R: Wait>(alloc: Global, rt: &R, transcript: &Transcript) -> Result<Outco
     let bytes = transcript.file.bytes.as_slice();
     let cases = cases_in(alloc, bytes)?;
     let lines = split_lines(alloc, bytes)?;
+    let loads = transcript.loads.as_slice();
     let Played { checks, failures } = play_cases(
         alloc,
         rt,
-        transcript.loads.as_slice(),
+        loads,
         lines.as_slice(),
         cases.as_slice(),
     )?;
+    let doubts = doubts_of(alloc, loads, lines.as_slice(), cases.as_slice())?;
     Ok(Outcome {
         name: transcript.file.name.copy(alloc)?,
         checks: Sequence::new(checks),
         failures: Sequence::new(failures),
-        doubts: Sequence::new(doubts(alloc, lines.as_slice(), cases.as_slice())?),
+        doubts: Sequence::new(doubts),
     })
 }
 
@@ -209,6 +200,7 @@ pub fn loaded_names(alloc: Global, transcript: &[u8]) -> Result<Vec<Sequence<u8>
 {
     let mut names = Vec::new(alloc);
     for case in cases_in(alloc, transcript)?.as_slice() {
+        push_all(alloc, &mut names, case.kinds.as_slice())?;
         push_names(alloc, &mut names, &case.begins)?;
     }
     Ok(names)

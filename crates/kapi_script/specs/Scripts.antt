@@ -6,7 +6,7 @@ use Rattle.kapi_core.specs.Opening.{opening}
 use Rattle.kapi_core.specs.declared.event.Event.{Event}
 use Rattle.kapi_script.specs.AnswerLines.{answer_line, refused_line}
 use Rattle.kapi_script.specs.Events.{line_event}
-use Rattle.kapi_core.specs.ProgramTable.{program_rows}
+use Rattle.kapi_model.specs.declared.row.ResourceRow.{ResourceRow}
 
 -- lines end at LF; the last may lack it
 abbrev pub lines : List ℕ → List (List ℕ)
@@ -63,8 +63,8 @@ first_bad_from n [] = None
 first_bad_from n (l ∷ ls) = if is_bad (line_of l) then Some n else first_bad_from (n + 1) ls
 
 -- the machine that a script is played on
-abbrev pub start : Machine
-start = opening program_rows 0
+abbrev pub start : List ResourceRow → Machine
+start table = opening table 0
 
 -- the number of the first bad line of a script, from 1
 abbrev pub first_bad : List ℕ → Option ℕ
@@ -77,5 +77,5 @@ IsAnsweredBy m text before contents number =
     (refused : List Bool) × (contents ≡ Some (before ++ said m (lines text) refused)) × (first_bad text ≡ number)
 
 -- behind what was written before come the answers of the machine that a script is played on to the script's lines
-abbrev pub IsAnswered : List ℕ → List ℕ → Option (List ℕ) → Option ℕ → Type 0
-IsAnswered text before contents number = IsAnsweredBy start text before contents number
+abbrev pub IsAnswered : List ResourceRow → List ℕ → List ℕ → Option (List ℕ) → Option ℕ → Type 0
+IsAnswered table text before contents number = IsAnsweredBy (start table) text before contents number

@@ -1,8 +1,9 @@
-ghost use Rattle.std.specs.Prelude.{◌≡◌, ◌+◌, ◌<◌, ◌≤◌, ◌++◌, [], ◌∷◌, Bool, List, ℕ, None, Some, Err, OnOk, IfOk, IfErr, length, take};
+ghost use Rattle.std.specs.Prelude.{◌≡◌, ◌+◌, ◌<◌, ◌≤◌, ◌++◌, [], ◌∷◌, Bool, List, ℕ, None, Some, Err, OnOk, IfOk, IfErr, length, take, true};
 ghost use Rattle.kapi_script.specs.declared.script.ScriptFault.TheVariants as Fault;
 ghost use Rattle.std.specs.Io.KnownBytes.{Appends, Consumes, IsAtEnd};
 ghost use Rattle.kapi_core.specs.Machine.{Machine};
 ghost use Rattle.kapi_core.specs.Refines.{Refines};
+ghost use Rattle.kapi_core.specs.Table.{fits};
 ghost use Rattle.kapi_script.specs.Private.Playing.{is_bad_play, Ends, Goes, Play, Plays, ReachedBy, Reading, ReadsOn, played_text};
 ghost use Rattle.kapi_policy.specs.Objects.{no_objects};
 ghost use Rattle.kapi_script.specs.Gains.{NobodyGainsFrom};
@@ -10,9 +11,10 @@ ghost use Rattle.kapi_script.specs.Scripts.{IsAnswered, IsAnsweredBy};
 
 use crate::answer_text::write_answer;
 use crate::line::parse_line;
-use kapi_core::{Answer, Core, program_table};
+use kapi_core::{Answer, Core};
+use kapi_model::ResourceRow;
 use kapi_policy::Policy;
-use kapi_text::Memory;
+use kapi_text::{Memory, Sequence};
 use std::alloc::Global;
 use std::io::{self, Read, Write};
 use thiserror::Error;
@@ -204,8 +206,8 @@ fn end_script<P: Policy + Drop, W: Write>(
     play_line(alloc, core, script.lines, script.line.as_slice(), writer)
 }
 
-/// Plays the events of a reader, line by line, on a machine that decides by the given policy, which is still empty, and
-/// writes the answers as they are made.
+/// Plays the events of a reader, line by line, on a machine that serves the resource types of a table and decides by the
+/// given policy, which is still empty, and writes the answers as they are made.
 ///
 /// From any line of the script on, and wherever an allocation fails, nobody gains by the lines that follow what no
 /// actor held: where the aggregated cluster roles then have their unions, and all identities acting in the lines are
@@ -216,20 +218,22 @@ fn end_script<P: Policy + Drop, W: Write>(
 /// `Write` where the writer fails; `Memory` where an allocation fails outside an event.
 pub fn script_run<P: Policy + Drop, R: Read, W: Write>(
     alloc: Global,
+    table: Sequence<ResourceRow>,
     policy: P,
     reader: &mut R,
     writer: &mut W,
 ) -> Result<(), ScriptFault>
-    requires { P.content policy ≡ no_objects }
+    requires table { fits table ≡ true }
+    requires empty { P.content policy ≡ no_objects }
     ensures played { (text before : List ℕ) → R.remaining reader.old ≡ Some text → W.contents writer.old ≡ Some before
-        → OnOk result (IsAnswered text before (W.contents writer.new) None) }
+        → OnOk result (IsAnswered table text before (W.contents writer.new) None) }
     ensures bad { (text before : List ℕ) (number : ℕ) → R.remaining reader.old ≡ Some text → W.contents writer.old ≡ Some before
-        → result ≡ Err (Fault.BadLine number) → IsAnswered text before (W.contents writer.new) (Some number) }
+        → result ≡ Err (Fault.BadLine number) → IsAnswered table text before (W.contents writer.new) (Some number) }
     ensures whole { OnOk result (IsAtEnd (R.remaining reader.new)) }
     ensures gains { (text : List ℕ) (refused : List Bool) (count : ℕ) → R.remaining reader.old ≡ Some text
-        → NobodyGainsFrom text refused count }
+        → NobodyGainsFrom table text refused count }
 {
-    let mut core = Core::new(alloc, program_table(alloc)?, policy, 0)?;
+    let mut core = Core::new(alloc, table, policy, 0)?;
     play_script(alloc, &mut core, reader, writer)
 }
 

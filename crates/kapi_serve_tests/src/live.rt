@@ -5,7 +5,7 @@ use crate::fixture::{master, user};
 use crate::loopback::UntilIdle;
 use crate::scene::{Clients, play};
 use kapi_audit::answer_run;
-use kapi_core::Core;
+use kapi_core::{Core, program_table};
 use kapi_desk::{Desk, Seat, SeatDecision};
 use kapi_index::IndexedPolicy;
 use kapi_loading::{Started, start};
@@ -214,7 +214,7 @@ fn seats_answer_while_a_client_of_127_0_0_1_changes_the_policy(
         mut core,
         mut desk,
         seats,
-    } = start(alloc, &rt, b"", 0, 2)?;
+    } = start(alloc, &rt, &program_table(alloc)?, b"", 0, 2)?;
     let right = serve_and_ask(&rt, alloc, &mut core, &mut desk, seats);
     drop(desk.close(&rt));
     assert_eq!(rt; right?, 2);

@@ -12,7 +12,7 @@ pub returns : goal.returns
 returns c =
     let named : app_of c.subcommand_required.result ≡ bare = search rules in
     let first : app_of c.in_ok-subcommand.field-0 ≡ with_subcommand bare script.top =
-    c.in_ok-subcommand.ensures.shape c.script.ensures.local ∙ ap₂ with_subcommand named (ap (λ (a : App). a.top) c.script.ensures.app) in
+    c.in_ok-subcommand.ensures.shape c.in_ok-script.ensures.1 ∙ ap₂ with_subcommand named (ap (λ (a : App). a.top) c.in_ok-script.ensures.0) in
     let second : app_of c.in_ok-subcommand-2.field-0 ≡ with_subcommand (with_subcommand bare script.top) audit.top =
     c.in_ok-subcommand-2.ensures.shape c.in_ok-audit.ensures.1 ∙ ap₂ with_subcommand first (ap (λ (a : App). a.top) c.in_ok-audit.ensures.0) in
     let third : app_of c.in_ok-subcommand-3.field-0 ≡ with_subcommand (with_subcommand (with_subcommand bare script.top) audit.top) serve.top =

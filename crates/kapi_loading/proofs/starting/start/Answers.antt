@@ -1,28 +1,20 @@
-use Rattle.std.proofs.Common.{Ok, Err, ap, map, ◌∙◌}
-use Rattle.kapi_loading.proofs.Begun.{begun, begun_steps}
-use Rattle.kapi_loading.proofs.Served.{file_is_unopened}
-use Rattle.kapi_lines.specs.Lines.{line_of}
+use Rattle.std.proofs.Common.{subst}
+use Rattle.kapi_core.specs.Opening.{opening}
+use Rattle.kapi_core.specs.Refines.{Refines}
+use Rattle.kapi_loading.specs.Loading.{machine_from}
+use Rattle.kapi_loading.proofs.Served.{file_is_unopened, unopened}
 use Rattle.kapi_loading.proofs.starting.start.Goals as goal
 
-pub returns-in-Ok-clause-machine : goal.returns-in-Ok-clause-machine
-returns-in-Ok-clause-machine g c =
-    let desk = c.in_ok-desk.ensures.desk in
-    begun c.in_ok-core.core c.publish_policy.new.core c.in_ok-desk.desk c.publish_policy.new.desk (Ok c.in-Ok.field-0) c.args.first _ _ _ c.in_ok-core.ensures.stands c.in_ok-program_table.ensures.rows
-    (desk.0 ∙ c.in_ok-opening.ensures ∙ c.policy.ensures) desk.1 (ap (map line_of) c.as_slice.ensures.value ∙ c.in_ok-lines.ensures) (λ m h. c.in-Ok.ensures.reaches m h)
-
 pub returns-clause-machine : goal.returns-clause-machine
+unfolding machine_from
 returns-clause-machine g c =
-    let desk = c.in_ok-desk.ensures.desk in
-    begun c.in_ok-core.core c.publish_policy.new.core c.in_ok-desk.desk c.publish_policy.new.desk (Err c.in-Err.error) c.args.first _ _ _ c.in_ok-core.ensures.stands c.in_ok-program_table.ensures.rows
-    (desk.0 ∙ c.in_ok-opening.ensures ∙ c.policy.ensures) desk.1 (ap (map line_of) c.as_slice.ensures.value ∙ c.in_ok-lines.ensures) (λ m h. c.in-Err.ensures.reaches m h)
+    c.start_on.ensures.machine (opening c.args.table.now c.args.first)
+    (subst (λ t. Refines c.in_ok-core.core (opening t c.args.first)) c.in_ok-copy.ensures c.in_ok-core.ensures.stands)
 
-pub returns-in-Ok-clause-unopened : goal.returns-in-Ok-clause-unopened
-returns-in-Ok-clause-unopened g c =
-    let r = returns-in-Ok-clause-machine g c in
-    r.2.0.next_id ∙ (file_is_unopened c.args.first c.args.objects.now r.0 r.1).0
+pub returns-clause-unopened : goal.returns-clause-unopened
+returns-clause-unopened g c = unopened _ _ (returns-clause-machine g c) (file_is_unopened c.args.table.now c.args.first c.args.objects.now)
 
-pub returns-in-Ok-clause-steps : goal.returns-in-Ok-clause-steps
-returns-in-Ok-clause-steps g c =
-    let desk = c.in_ok-desk.ensures.desk in
-    begun_steps c.in_ok-core.core c.in_ok-desk.desk _ c.args.first _ _ c.args.objects.now c.in_ok-core.ensures.stands c.in_ok-program_table.ensures.rows (desk.0 ∙ c.in_ok-opening.ensures ∙ c.policy.ensures) desk.1
-    (ap (map line_of) c.as_slice.ensures.value ∙ c.in_ok-lines.ensures) (λ m h. c.in-Ok.ensures.steps m h)
+pub returns-clause-steps : goal.returns-clause-steps
+returns-clause-steps g c =
+    c.start_on.ensures.steps (opening c.args.table.now c.args.first)
+    (subst (λ t. Refines c.in_ok-core.core (opening t c.args.first)) c.in_ok-copy.ensures c.in_ok-core.ensures.stands)

@@ -4,4 +4,4 @@ use Rattle.kapi_replay.specs.Asked.{doubt}
 use Rattle.kapi_replay.proofs.doubts.check_case.Given as goal
 
 abbrev pub invariant-loop-want : goal.invariant-loop-want
-invariant-loop-want l = l.doubts.items ≡ l.initial.doubts.items ++ flat_map (doubt l.lines l.case.script) (take l.want-index l.case.wants)
+invariant-loop-want l = l.doubts.items ≡ l.initial.doubts.items ++ flat_map (doubt l.table l.lines l.case.script) (take l.want-index l.case.wants)
