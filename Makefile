@@ -7,7 +7,7 @@ TRIED = out/try/kapi
 # What has to be there before the program is run: nothing, where another one is named.
 READY = $(if $(filter $(PROVED),$(PROGRAM)),kapi)
 
-.PHONY: help demo serve-demo quick test kapi install serve checks bench kubectl-demo cluster-demo edits proofs-page profile
+.PHONY: help demo serve-demo quick test kapi install serve checks bench kubectl-demo controller-demo cluster-demo edits proofs-page profile
 
 help: ## try: lists the targets
 	@for group in try use change; do echo "To $$group:"; sed -n "s/^\([a-z-]*\):.*## $$group: /\1 /p" Makefile | while read -r name what; do printf '  make %-13s %s\n' "$$name" "$$what"; done; done
@@ -51,6 +51,9 @@ bench: $(READY) ## change: measures the same program, or as ONLY=name,name says 
 
 kubectl-demo: $(READY) ## try: runs kubectl against a server (docs/USING.md)
 	@$(PYTHON) -m checks $(PROGRAM) kubectl
+
+controller-demo: $(READY) ## try: runs a controller of kinds of its own, twice, and ends the first (docs/USING.md)
+	@$(PYTHON) -m checks $(PROGRAM) controller
 
 cluster-demo: $(READY) ## try: runs an API server that asks Kapi, real if KUBE_APISERVER and ETCD name the programs (docs/CLUSTER.md)
 	@$(PYTHON) -m checks $(PROGRAM) cluster $(WORDS)
