@@ -5,8 +5,9 @@ usage: door.py PORT SERVED [KINDS..]     PORT of 127.0.0.1 is listened on, SERVE
                                          KINDS are the files of its --kinds
 
 It answers GET of /api, /apis, their groups, /version and /openapi/v2 by tools/kinds.txt and the files, reads `watch=True`, as Python's
-client writes it, as `watch=true`, and hands on a strategic merge patch as a merge patch if both mean the same. Requests, answers and watches
-pass unchanged otherwise, whoever asks: the port behind it says who that is.
+client writes it, as `watch=true`, and hands on a strategic merge patch as a merge patch if both mean the same, and an object in protobuf, as
+kubectl from 1.32 on sends some, as JSON if the packages are there that tools/bodies.py wants. Requests, answers and watches pass unchanged
+otherwise, whoever asks: the port behind it says who that is.
 """
 import asyncio
 import contextlib
@@ -21,9 +22,19 @@ KINDS = FOLDER / "kinds.txt"
 COMMON = FOLDER.parent / "examples/kinds/kubernetes.jsonl"
 OBJECT_VERBS = ["create", "delete", "deletecollection", "get", "list", "patch", "update", "watch"]
 HEAD_BYTES = 65536
-STRATEGIC, MERGE = b"application/strategic-merge-patch+json", b"application/merge-patch+json"
+JSON, MERGE = b"application/json", b"application/merge-patch+json"
+STRATEGIC, PROTOBUF = b"application/strategic-merge-patch+json", b"application/vnd.kubernetes.protobuf"
+# What lines of KINDS do not say: the short names of Kubernetes' own kinds, and which kinds `kubectl get all` means.
+SHORT = dict(it.split(":") for it in """services:svc endpoints:ep events:ev persistentvolumes:pv persistentvolumeclaims:pvc limitranges:limits resourcequotas:quota
+replicasets:rs statefulsets:sts daemonsets:ds cronjobs:cj ingresses:ing networkpolicies:netpol storageclasses:sc horizontalpodautoscalers:hpa
+poddisruptionbudgets:pdb priorityclasses:pc customresourcedefinitions:crd,crds""".split())
+ALL = "pods services deployments replicasets statefulsets daemonsets jobs cronjobs horizontalpodautoscalers".split()
 # An OpenAPI document without definitions, as protobuf (gnostic's openapi.v2): swagger 2.0, and the title and version of its info.
 OPENAPI = b"\x0a\x032.0\x12\x0c\x0a\x04kapi\x12\x04v1.0"
+
+
+class Refused(Exception):
+    """What the door does not hand on."""
 
 
 @dataclass
@@ -59,7 +70,9 @@ def objects_in(text):
 def row_of(item):
     """The kind of a line, or of a CustomResourceDefinition: its first version that is served."""
     if "spec" not in item:
-        return Row(item.get("group", ""), item["version"], item["resource"], item["kind"], item["namespaced"], item.get("status", False))
+        group, plural = item.get("group", ""), item["resource"]
+        short = SHORT.get(plural, "") if "." not in group or group.endswith(".k8s.io") else ""
+        return Row(group, item["version"], plural, item["kind"], item["namespaced"], item.get("status", False), short)
     spec = item["spec"]
     names, version = spec["names"], next(it for it in spec["versions"] if it["served"])
     has_status = isinstance((version.get("subresources") or {}).get("status"), dict)
@@ -85,6 +98,8 @@ def resources(row):
         whole["shortNames"] = row.short.split(",")
     part = {**whole, "name": f"{row.plural}/status", "singularName": "", "verbs": ["get", "patch", "update"]}
     part.pop("shortNames", None)
+    if row.plural in ALL and "." not in row.group:
+        whole["categories"] = ["all"]
     return [whole, part] if row.status else [whole]
 
 
@@ -124,7 +139,7 @@ def told_for(head):
         return None
     if path == "/openapi/v2":
         return b"application/com.github.proto-openapi.spec.v2.v1.0+protobuf", OPENAPI
-    return (b"application/json", TOLD[path]) if path in TOLD else None
+    return (JSON, TOLD[path]) if path in TOLD else None
 
 
 def with_true(head):
@@ -161,33 +176,55 @@ def lists_in(tree):
     return isinstance(tree, list) or isinstance(tree, dict) and any(lists_in(it) for it in tree.values())
 
 
-def as_merge(head, body):
-    """A strategic merge patch as a merge patch, or why it is none."""
-    target = head.split(b" ", 2)[1].decode("latin-1").split("?", 1)[0]
+def as_merge(target, body):
+    """A strategic merge patch as a merge patch."""
     try:
-        why = why_strategic(target, json.loads(body))
+        why = why_strategic(target.split("?", 1)[0], json.loads(body))
     except (ValueError, AttributeError):
-        return head, "it is no JSON object"
-    return re.sub(rb"(?i)" + re.escape(STRATEGIC), MERGE, head), why
+        why = "it is no JSON object"
+    if why:
+        raise Refused(f"no such strategic merge patch: {why}; use --type=merge or replace")
+    return MERGE, body
+
+
+def as_plain(_target, body):
+    """An object in protobuf as JSON."""
+    try:
+        return JSON, bodies.as_json(body)
+    except bodies.Unread as why:
+        raise Refused(f"no such protobuf: {why}; use -o yaml --dry-run=client, and create or apply that") from None
+
+
+# How bodies are read of which the server would read none, by their media types.
+READ = {STRATEGIC: as_merge}
 
 
 def refusal(why):
     status = {"kind": "Status", "apiVersion": "v1", "metadata": {}, "status": "Failure", "reason": "UnsupportedMediaType", "code": 415,
-              "message": f"the door hands on no such strategic merge patch: {why}; use --type=merge or replace"}
-    body = json.dumps(status).encode()
-    return b"HTTP/1.1 415 Unsupported Media Type\r\nContent-Type: application/json\r\nContent-Length: %d\r\n\r\n%s" % (len(body), body)
+              "message": f"the door hands on {why}"}
+    return answer(b"415 Unsupported Media Type", JSON, json.dumps(status).encode())
 
 
-async def hand_on_body(head, reader, writer):
-    """The body of a request, by its length or in chunks."""
-    if field(head, b"transfer-encoding") == b"chunked":
-        size = 1
-        while size:
-            line = await reader.readuntil(b"\r\n")
-            size = int(line.split(b";")[0], 16)
-            writer.write(line + await reader.readexactly(size + 2))
+def answer(code, media, body):
+    return b"HTTP/1.1 %s\r\nContent-Type: %s\r\nContent-Length: %d\r\n\r\n%s" % (code, media, len(body), body)
+
+
+def with_body(head, media, body):
+    """A request with a body of this media type in place of its own."""
+    kept = [it for it in head[:-4].split(b"\r\n") if not re.match(rb"(?i)(content-type|content-length|transfer-encoding):", it)]
+    return b"\r\n".join([*kept, b"Content-Type: " + media, b"Content-Length: %d" % len(body), b"", body])
+
+
+async def body_of(head, reader):
+    """The pieces of the body of a request, each with what frames it: its whole length, or a chunk."""
+    if field(head, b"transfer-encoding") != b"chunked":
+        yield b"", await reader.readexactly(int(field(head, b"content-length") or 0)), b""
         return
-    writer.write(await reader.readexactly(int(field(head, b"content-length") or 0)))
+    size = 1
+    while size:
+        line = await reader.readuntil(b"\r\n")
+        size = int(line.split(b";")[0], 16)
+        yield line, await reader.readexactly(size), await reader.readexactly(2)
 
 
 async def hand_back(reader, writer):
@@ -203,23 +240,20 @@ async def hand_on(reader, client, writer):
     """The requests of a client, one after the other; an answer of the door itself stands in its place, since a client waits for each."""
     while True:
         head = await reader.readuntil(b"\r\n\r\n")
-        told = told_for(head)
+        told, read = told_for(head), READ.get(field(head, b"content-type"))
         if told:
-            client.write(b"HTTP/1.1 200 OK\r\nContent-Type: %s\r\nContent-Length: %d\r\n\r\n%s" % (told[0], len(told[1]), told[1]))
-            await client.drain()
-            continue
-        if field(head, b"content-type") == STRATEGIC and field(head, b"content-length"):
-            body = await reader.readexactly(int(field(head, b"content-length")))
-            head, why = as_merge(head, body)
-            if why:
+            client.write(answer(b"200 OK", *told))
+        elif read:
+            body = b"".join([it async for _before, it, _behind in body_of(head, reader)])
+            try:
+                writer.write(with_body(head, *read(head.split(b" ", 2)[1].decode("latin-1"), body)))
+            except Refused as why:
                 client.write(refusal(why))
-                await client.drain()
-            else:
-                writer.write(head + body)
-                await writer.drain()
-            continue
-        writer.write(with_true(head))
-        await hand_on_body(head, reader, writer)
+        else:
+            writer.write(with_true(head))
+            async for piece in body_of(head, reader):
+                writer.write(b"".join(piece))
+        await client.drain()
         await writer.drain()
 
 
@@ -245,5 +279,9 @@ async def main(port, served):
 if __name__ == "__main__":
     if len(sys.argv) < 3:
         sys.exit(__doc__)
+    import bodies  # Of this folder, which checks that read this file as a module have not on their path.
+
+    if bodies.sources():
+        READ[PROTOBUF] = as_plain
     TOLD.update(discovery([*own_rows(), *(row for name in sys.argv[3:] for row in added_rows(name))]))
     asyncio.run(main(int(sys.argv[1]), int(sys.argv[2])))
