@@ -155,10 +155,12 @@ def field(head, name):
 
 def why_strategic(target, patch):
     """Why a strategic merge patch may mean something else than a merge patch; nothing if it does not. Both merge objects and replace all other
-    values; lists of some kinds are merged by key (Kubernetes, 'Update API Objects in Place Using kubectl patch')."""
+    values; lists of some kinds are merged by key (Kubernetes, 'Update API Objects in Place Using kubectl patch'), taints of nodes are not."""
     if any(key.startswith("$") for key in keys_in(patch)):
         return "it has directives"
     metadata = patch.get("metadata") or {}
+    if re.search(r"/nodes/[^/]+$", target):
+        patch.get("spec", {}).pop("taints", None)
     atomic = re.search(r"/(configmaps|secrets|roles|clusterroles|rolebindings|clusterrolebindings)/", target)
     lists = lists_in({key: value for key, value in patch.items() if key != "metadata"})
     if lists_in(metadata) or lists and not atomic:
