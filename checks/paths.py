@@ -102,7 +102,9 @@ class Cluster:
         kind, place, name = node
         user, groups = ("", [name, "system:authenticated"])
         if kind == "account":
-            user, groups = f"system:serviceaccount:{place}:{name}", ["system:serviceaccounts", f"system:serviceaccounts:{place}", "system:authenticated"]
+            # A name with a colon makes a user name that is no account's (Kubernetes, `SplitUsername`).
+            own = [] if ":" in name else ["system:serviceaccounts", f"system:serviceaccounts:{place}"]
+            user, groups = f"system:serviceaccount:{place}:{name}", [*own, "system:authenticated"]
         elif kind == "user":
             user, groups = name, ["system:unauthenticated" if name == "system:anonymous" else "system:authenticated"]
         elif name == "system:unauthenticated":
