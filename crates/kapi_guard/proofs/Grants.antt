@@ -1,9 +1,11 @@
 -- The checks in their order, and the grant.
-use Rattle.std.proofs.Common.{◌≡◌, ℕ, Bool, true, false, ◌&&◌, ◌||◌, if◌then◌else◌, List, [], ◌++◌, Option, Some, None, Result, Ok, Err, refl, sym, ap, ◌∙◌}
+use Rattle.std.proofs.Common.{◌≡◌, ℕ, Bool, true, false, not, ◌&&◌, ◌||◌, if◌then◌else◌, List, [], ◌++◌, Option, Some, None, Result, Ok, Err, refl, sym, ap, ◌∙◌}
+use Rattle.std.specs.List.{flat_map}
 use Rattle.std.specs.Option.{is_some}
 use Rattle.std.specs.Prelude.{OnOk}
 use Rattle.std.specs.Result.{is_ok}
 use Rattle.std.proofs.lemmas.Bool.{and_parts, and_from}
+use Rattle.kapi_text.proofs.Booleans.{filter_same}
 use Rattle.kapi_text.specs.Gives.{Gives, ◌>>=◌}
 use Rattle.kapi_model.specs.declared.kinds.RoleKind.{RoleKind}
 use Rattle.kapi_model.specs.declared.kinds.RoleKind.TheVariants as role_kind
@@ -15,8 +17,10 @@ use Rattle.kapi_model.specs.declared.role.ClusterRole.{ClusterRole}
 use Rattle.kapi_model.specs.declared.role.Role.{Role}
 use Rattle.kapi_model.specs.declared.role_ref.RoleRef.{RoleRef}
 use Rattle.kapi_rules.proofs.Covers.{itself}
-use Rattle.kapi_rules.specs.Missing.{missing}
+use Rattle.kapi_rules.specs.Atoms.{atoms}
+use Rattle.kapi_rules.specs.Missing.{each_once, is_missing, missing, rule_implies}
 use Rattle.kapi_policy.specs.Decided.{held}
+use Rattle.kapi_policy.specs.Laws.{AreSameRules}
 use Rattle.kapi_policy.specs.Objects.{PolicyObjects}
 use Rattle.kapi_policy.proofs.Decisions.{allowed_where_held, cluster_wide_first}
 use Rattle.kapi_policy.specs.declared.change.NamespacedName.{NamespacedName}
@@ -69,6 +73,18 @@ passes_where_granted objects identity w = by_role objects identity w.object (kee
 pub granted_where_checked : (objects : PolicyObjects) (identity : Identity) (w : PolicyWrite) → checked objects identity w ≡ Ok tt → grant objects identity w ≡ true
 granted_where_checked objects identity w passes =
     (and_parts (keeps_role w.object) (grant objects identity w) (sym (passes_where_granted objects identity w) ∙ ap is_ok passes)).1
+
+-- ---- the same rules
+
+same_missing : (own others rules : List PolicyRule) → AreSameRules own others → missing own rules ≡ missing others rules
+unfolding missing
+same_missing own others rules same =
+    ap each_once (filter_same (is_missing own) (is_missing others) (λ wanted. ap not (same (λ rule. rule_implies rule wanted))) (flat_map atoms rules))
+
+-- who holds the same rules lacks the same
+pub same_held : (own others rules : List PolicyRule) (o : WrittenObject) → AreSameRules own others → all_held own o rules ≡ all_held others o rules
+unfolding all_held
+same_held own others rules o same = rw (same_missing own others rules same, same_missing own others full_authority same) refl
 
 -- ---- what an answer tells
 

@@ -13,3 +13,4 @@ pub mod Walks
 pub mod Copied
 pub mod Alone
 pub mod EachBinding
+pub mod Once

@@ -7,3 +7,4 @@ pub mod Prepared
 pub mod Scopes
 pub mod Contents
 pub mod NamesOf
+pub mod Taken

@@ -8,6 +8,7 @@ ghost use Rattle.kapi_policy.specs.Objects.{no_objects, with_object, without_obj
 ghost use Rattle.kapi_index.specs.Contents.{binding_at};
 
 use crate::all::{cluster_bindings, push_spaces};
+use crate::held_once::held_once;
 use crate::roles::{PreparedClusterRole, PreparedRole};
 use crate::rules::CompiledRules;
 use crate::scope::Scope;
@@ -182,6 +183,10 @@ impl Policy for IndexedPolicy {
 
     fn held(&self, identity: &Identity, namespace: &str) -> Result<Vec<PolicyRule>, Memory> {
         walk::held(self.alloc, self, identity, namespace)
+    }
+
+    fn held_once(&self, identity: &Identity, namespace: &str) -> Result<Vec<PolicyRule>, Memory> {
+        held_once(self.alloc, self, identity, namespace)
     }
 
     fn role_rules<'a>(&'a self, role: &RoleRef, namespace: &str) -> Option<&'a [PolicyRule]> {

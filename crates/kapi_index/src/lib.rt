@@ -6,6 +6,7 @@ mod all;
 mod asked;
 mod asker;
 mod compiled_rule;
+mod held_once;
 mod indexed;
 mod key_list;
 mod keys;

@@ -128,7 +128,8 @@ fn grant_by<'a>(
     }
 }
 
-fn push_of(
+/// Puts the rules of the role that a binding in the namespace refers to at the end, if it exists.
+pub fn push_of(
     alloc: Global,
     list: &mut Vec<PolicyRule>,
     policy: &IndexedPolicy,

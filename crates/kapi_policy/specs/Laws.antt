@@ -28,6 +28,10 @@ is_allowed denied = false
 abbrev pub rules_by : PolicyObjects → Identity → Binding → List PolicyRule
 rules_by objects identity b = unwrap_or (given objects identity b) []
 
+-- the same rules, in whatever order and however often: what some rule of one passes, some rule of the other passes
+abbrev pub AreSameRules : List PolicyRule → List PolicyRule → Type 0
+AreSameRules some others = (test : PolicyRule → Bool) → list_any test some ≡ list_any test others
+
 -- the grant names the first rule that allows the point: it is one of a binding that counts; no rule that an earlier
 -- binding grants allows the point, nor does an earlier rule of its own role
 pub record NamesFirst (objects : PolicyObjects) (identity : Identity) (namespace : List ℕ) (point : Point) (g : Granted) : Type 0 where

@@ -160,6 +160,10 @@ impl Policy for PlainPolicy {
         walk::held(self.alloc, self, identity, namespace)
     }
 
+    fn held_once(&self, identity: &Identity, namespace: &str) -> Result<Vec<PolicyRule>, Memory> {
+        walk::held(self.alloc, self, identity, namespace)
+    }
+
     fn role_rules<'a>(&'a self, role: &RoleRef, namespace: &str) -> Option<&'a [PolicyRule]> {
         walk::role_rules(self, role, namespace)
     }

@@ -2,6 +2,7 @@ ghost use Rattle.std.specs.Prelude.{◌≡◌, ◌||◌, IfOk, IsOk, OnErr, OnOk
 ghost use Rattle.std.specs.List.{list_any};
 ghost use Rattle.kapi_rules.specs.Rules.{allows as rule_allows};
 ghost use Rattle.kapi_policy.specs.Decided.{decided, held as held_by, rules_of};
+ghost use Rattle.kapi_policy.specs.Laws.{AreSameRules};
 ghost use Rattle.kapi_model.specs.Identities.{is_master};
 ghost use Rattle.kapi_policy.specs.Objects.{PolicyObjects, applied};
 ghost use Rattle.kapi_policy.specs.Views.{decision_of};
@@ -33,6 +34,11 @@ pub trait Policy {
     /// The rules that the bindings grant the identity in the namespace, in the order in which they are checked.
     fn held(&self, identity: &Identity, namespace: &str) -> Result<Vec<PolicyRule>, Memory>
         ensures { IfOk result (λ v. v.items ≡ held_by (content self.now) identity.now namespace.now) };
+
+    /// The rules that the bindings grant the identity in the namespace, in no promised order. Where many bindings have the
+    /// same role, its rules need not come for each.
+    fn held_once(&self, identity: &Identity, namespace: &str) -> Result<Vec<PolicyRule>, Memory>
+        ensures { IfOk result (λ v. AreSameRules v.items (held_by (content self.now) identity.now namespace.now)) };
 
     /// The rules of the role that a binding in the namespace refers to, if it exists. Allocates nothing.
     fn role_rules<'a>(&'a self, role: &RoleRef, namespace: &str) -> Option<&'a [PolicyRule]>
