@@ -2,4 +2,5 @@ pub mod Grown
 pub mod Levelled
 pub mod Graphing
 pub mod Numbering
+pub mod Binding
 pub mod Asking

@@ -17,7 +17,7 @@ use Rattle.kapi_paths.proofs.Grown.{has_push}
 use Rattle.kapi_paths.specs.Graphs.{AreBefore}
 use Rattle.kapi_paths.specs.declared.path.Path.{Path}
 
-node_exact : (a b : Node) → is_at (node_cmp a) b ≡ true → a ≡ b
+pub node_exact : (a b : Node) → is_at (node_cmp a) b ≡ true → a ≡ b
 node_exact a b h =
     let kinds = and_parts _ _ (laws.matches_eq-law a b ∙ h) in
     let texts = and_parts _ _ kinds.1 in

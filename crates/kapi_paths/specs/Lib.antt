@@ -6,3 +6,4 @@ pub mod Sources
 pub mod Numbers
 pub mod Graphs
 pub mod Asked
+pub mod Bound

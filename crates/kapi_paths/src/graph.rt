@@ -1,7 +1,6 @@
 //! The graph of who can become whom, its nodes numbered.
 ghost use Rattle.std.specs.Prelude.{◌≡◌, ◌⊎◌, ◌<◌, ◌∷◌, [], length, map, IfOk, OnOk};
 ghost use Rattle.std.specs.List.{slice_get};
-ghost use Rattle.kapi_policy.specs.Views.{binding_of};
 ghost use Rattle.kapi_paths.specs.Chains.{Has};
 ghost use Rattle.kapi_paths.specs.Graphs.{AreAt, Begins, IsGraph, next_of};
 ghost use Rattle.kapi_paths.specs.Numbers.{IsOnce};
@@ -105,7 +104,7 @@ pub fn rows<P: Policy>(
     asked: &Question<'_, P>,
     numbered: &mut Numbered,
 ) -> Result<Vec<Sequence<usize>>, Memory>
-    ensures rows { IfOk result (λ rows. IsGraph (next_of (P.content asked.now.policy.now) (map binding_of asked.now.bindings.now) asked.now.known.now (map row_of asked.now.rights.now)) numbered.new rows.items) }
+    ensures rows { IfOk result (λ rows. IsGraph (next_of (P.content asked.now.policy.now) asked.now.bindings.now asked.now.known.now (map row_of asked.now.rights.now)) numbered.new rows.items) }
     ensures more { OnOk result (Begins numbered.old numbered.new) }
 {
     let mut rows = Vec::new(alloc);

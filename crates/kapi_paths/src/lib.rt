@@ -1,6 +1,7 @@
 //! Who can become whom under a policy (Kubernetes, 'Role Based Access Control Good Practices', 'Privilege escalation risks').
 #![tactic(auto)]
 
+mod bound;
 mod gathered;
 mod graph;
 pub mod laws;
@@ -11,6 +12,7 @@ mod search;
 mod steps;
 mod told;
 
+pub use bound::Bound;
 pub use gathered::known_of;
 pub use node::{Node, NodeKind};
 pub use path::{Path, paths};

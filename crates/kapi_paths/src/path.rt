@@ -1,7 +1,6 @@
 //! Who can become whom, and by which steps.
 ghost use Rattle.std.specs.Prelude.{◌≡◌, ℕ, ◌+◌, ◌<◌, List, Some, false, length, map, true, IfOk, OnOk};
 ghost use Rattle.std.specs.List.{slice_get};
-ghost use Rattle.kapi_policy.specs.Views.{binding_of};
 ghost use Rattle.kapi_paths.specs.Chains.{Has, IsChain, IsInside};
 ghost use Rattle.kapi_paths.specs.Graphs as graphs;
 ghost use Rattle.kapi_paths.specs.Graphs.{AddsPaths, AreApart, AreAt, AreBefore, HasAll, IsCovered, IsPath, IsThere, next_of};
@@ -133,7 +132,8 @@ fn push_listed(
     ensures added { OnOk result (AddsPaths nodes.now search.now.graph search.now.start list.old.items list.new.items) }
     ensures covered { OnOk result (IsCovered nodes.now search.now.graph list.new.items search.now.start to) }
 {
-    if to == search.start() {
+    // Most nodes are not reached, so that is asked first.
+    if !search.reaches(to) || to == search.start() {
         return Ok(());
     }
     if !is_listed(node_at(nodes, to).kind) {
@@ -217,12 +217,12 @@ fn push_paths(
 
 /// The paths of each subject of the bindings: to everything, or else to each node that it reaches, besides those who hold a role.
 pub fn paths<P: Policy>(alloc: Global, asked: &Question<'_, P>) -> Result<Vec<Path>, Memory>
-    ensures each { IfOk result (λ v. (p : Told) → Has v.items p → IsPath (next_of (P.content asked.now.policy.now) (map binding_of asked.now.bindings.now) asked.now.known.now (map row_of asked.now.rights.now)) (sources_of (map binding_of asked.now.bindings.now)) p) }
+    ensures each { IfOk result (λ v. (p : Told) → Has v.items p → IsPath (next_of (P.content asked.now.policy.now) asked.now.bindings.now asked.now.known.now (map row_of asked.now.rights.now)) (sources_of asked.now.bindings.now) p) }
     ensures once { IfOk result (λ v. AreApart v.items) }
-    ensures listed { IfOk result (λ v. HasAll (next_of (P.content asked.now.policy.now) (map binding_of asked.now.bindings.now) asked.now.known.now (map row_of asked.now.rights.now)) (sources_of (map binding_of asked.now.bindings.now)) v.items) }
+    ensures listed { IfOk result (λ v. HasAll (next_of (P.content asked.now.policy.now) asked.now.bindings.now asked.now.known.now (map row_of asked.now.rights.now)) (sources_of asked.now.bindings.now) v.items) }
 {
     let mut numbered = Numbered::of_everything(alloc)?;
-    drop(numbered.row(alloc, sources(alloc, asked.bindings)?)?);
+    drop(numbered.row(alloc, sources(alloc, asked.bindings.list())?)?);
     let count = numbered.nodes().len();
     let rows = rows(alloc, asked, &mut numbered)?;
     let mut list = Vec::new(alloc);

@@ -1,5 +1,5 @@
 //! Shortest chains of steps in a graph of numbered nodes, by breadth first.
-ghost use Rattle.std.specs.Prelude.{◌≡◌, ◌==◌, ◌<◌, ◌≤◌, ℕ, List, [], length, IfOk, IfSome, IfNone, OnOk};
+ghost use Rattle.std.specs.Prelude.{◌≡◌, ◌==◌, ◌<◌, ◌≤◌, ℕ, List, [], false, length, IfOk, IfSome, IfNone, OnOk};
 ghost use Rattle.std.specs.List.{fold};
 ghost use Rattle.kapi_paths.specs.Chains.{IsChain, IsInside, row as row_of};
 ghost use Rattle.kapi_paths.specs.Levels.{IsFoundAt, IsSearched, found_at, is_open as is_open_in, passed, started, visited};
@@ -187,6 +187,17 @@ impl<'g> Search<'g> {
         match self.table.get(node) {
             Some(found) => *found,
             None => None,
+        }
+    }
+
+    /// Whether chains of steps lead to the node.
+    pub fn reaches(&self, node: usize) -> bool
+        ensures { result ≡ false → (path : List ℕ) → IsChain self.now.graph self.now.start path node → ⊥ }
+    {
+        let _ = &self.graph;
+        match self.found(node) {
+            Some(_found) => true,
+            None => false,
         }
     }
 

@@ -1,5 +1,5 @@
 //! Who can become whom in one step.
-ghost use Rattle.std.specs.Prelude.{◌≡◌, ◌∷◌, ◌++◌, ◌||◌, [], map, IfOk, OnOk};
+ghost use Rattle.std.specs.Prelude.{◌≡◌, ◌∷◌, ◌++◌, ◌||◌, [], map, true, IfOk, OnOk};
 ghost use Rattle.std.specs.List.{flat_map, list_any};
 ghost use Rattle.std.specs.Option.{unwrap_or};
 ghost use Rattle.kapi_model.specs.Subjects.{subject_matches as matches_of};
@@ -10,6 +10,7 @@ ghost use Rattle.kapi_paths.specs.Rights.{row_of};
 ghost use Rattle.kapi_paths.specs.Steps as steps;
 ghost use Rattle.kapi_paths.specs.Steps.{named};
 
+use crate::bound::{Bound, is_marked};
 use crate::node::{Node, NodeKind, push_node};
 use crate::right::{Leads, Names, Right};
 use kapi_guard::own_groups;
@@ -435,16 +436,36 @@ fn push_bound(
     )
 }
 
+// The role of a binding that may give it to the identity.
+fn push_if_marked(
+    alloc: Global,
+    list: &mut Vec<Node>,
+    identity: &Identity,
+    binding: &Binding<'_>,
+    is_marked: bool,
+) -> Result<(), Memory>
+    requires { list_any (λ s. matches_of s (binding_of binding.now).namespace identity.now) (binding_of binding.now).subjects ≡ true → is_marked ≡ true }
+    ensures { OnOk result (list.new.items ≡ list.old.items ++ steps.bound identity.now (binding_of binding.now)) }
+{
+    if is_marked {
+        push_bound(alloc, list, identity, binding)
+    } else {
+        Ok(())
+    }
+}
+
 fn push_all_bound(
     alloc: Global,
     list: &mut Vec<Node>,
     identity: &Identity,
-    bindings: &[Binding<'_>],
+    bindings: &Bound<'_>,
 ) -> Result<(), Memory>
-    ensures { OnOk result (list.new.items ≡ list.old.items ++ flat_map (steps.bound identity.now) (map binding_of bindings.now)) }
+    ensures { OnOk result (list.new.items ≡ list.old.items ++ flat_map (steps.bound identity.now) bindings.now) }
 {
-    for binding in bindings {
-        push_bound(alloc, list, identity, binding)?;
+    let marks = bindings.marks(alloc, identity)?;
+    for (position, binding) in bindings.list().iter().enumerate() {
+        let may_be = is_marked(marks.as_slice(), position);
+        push_if_marked(alloc, list, identity, binding, may_be)?;
     }
     Ok(())
 }
@@ -453,10 +474,10 @@ fn push_all_bound(
 fn push_by_bindings(
     alloc: Global,
     list: &mut Vec<Node>,
-    bindings: &[Binding<'_>],
+    bindings: &Bound<'_>,
     identity: &Identity,
 ) -> Result<(), Memory>
-    ensures { OnOk result (list.new.items ≡ list.old.items ++ steps.by_bindings (map binding_of bindings.now) identity.now) }
+    ensures { OnOk result (list.new.items ≡ list.old.items ++ steps.by_bindings bindings.now identity.now) }
 {
     if identity.is_master() {
         push_node(alloc, list, NodeKind::Everything, "", "")?;
@@ -542,7 +563,7 @@ pub fn identity_of(alloc: Global, node: &Node) -> Result<Identity, Memory>
 #[derive(Drop)]
 pub struct Question<'a, P> {
     pub policy: &'a P,
-    pub bindings: &'a [Binding<'a>],
+    pub bindings: &'a Bound<'a>,
     pub known: &'a Known,
     pub rights: &'a [Right],
 }
@@ -573,7 +594,7 @@ fn push_next<P: Policy>(
     asked: &Question<'_, P>,
     node: &Node,
 ) -> Result<(), Memory>
-    ensures { OnOk result (list.new.items ≡ list.old.items ++ steps.next (P.content asked.now.policy.now) (map binding_of asked.now.bindings.now) asked.now.known.now (map row_of asked.now.rights.now) node.now.kind node.now.place node.now.name) }
+    ensures { OnOk result (list.new.items ≡ list.old.items ++ steps.next (P.content asked.now.policy.now) asked.now.bindings.now asked.now.known.now (map row_of asked.now.rights.now) node.now.kind node.now.place node.now.name) }
 {
     let place = node.place.as_str();
     let bindings = asked.bindings;
@@ -598,7 +619,7 @@ pub fn next<P: Policy>(
     asked: &Question<'_, P>,
     node: &Node,
 ) -> Result<Vec<Node>, Memory>
-    ensures { IfOk result (λ v. v.items ≡ steps.next (P.content asked.now.policy.now) (map binding_of asked.now.bindings.now) asked.now.known.now (map row_of asked.now.rights.now) node.now.kind node.now.place node.now.name) }
+    ensures { IfOk result (λ v. v.items ≡ steps.next (P.content asked.now.policy.now) asked.now.bindings.now asked.now.known.now (map row_of asked.now.rights.now) node.now.kind node.now.place node.now.name) }
 {
     let mut list = Vec::new(alloc);
     push_next(alloc, &mut list, asked, node)?;

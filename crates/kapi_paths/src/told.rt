@@ -1,4 +1,5 @@
 //! Paths as they are printed.
+use crate::bound::Bound;
 use crate::gathered::known_of;
 use crate::node::{Node, NodeKind};
 use crate::path::{Path, paths};
@@ -119,7 +120,7 @@ fn binding_by<P: Policy>(
     role: &Node,
 ) -> Result<String, Memory> {
     let identity = identity_of(alloc, from)?;
-    for binding in asked.bindings {
+    for binding in asked.bindings.list() {
         if gives(binding, &identity, role) {
             return binding_text(alloc, binding);
         }
@@ -320,9 +321,10 @@ pub fn answer_paths<P: Policy>(
 ) -> Result<Vec<u8>, Memory> {
     let known = known_of(alloc, bindings)?;
     let rights = rights_without(alloc, without)?;
+    let bound = Bound::new(alloc, bindings)?;
     let asked = Question {
         policy,
-        bindings,
+        bindings: &bound,
         known: &known,
         rights: rights.as_slice(),
     };

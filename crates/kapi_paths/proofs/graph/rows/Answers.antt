@@ -1,7 +1,6 @@
 use Rattle.std.proofs.Common.{◌≡◌, ◌++◌, ℕ, List, [], ◌∷◌, Some, arith, length, map, subst, sym}
 use Rattle.std.specs.List.{slice_get}
 use Rattle.std.proofs.lemmas.List.{length_push}
-use Rattle.kapi_policy.specs.Views.{binding_of}
 use Rattle.kapi_paths.specs.Graphs.{AreAt, next_of}
 use Rattle.kapi_paths.specs.Rights.{row_of}
 use Rattle.kapi_paths.specs.declared.node.Node.{Node}
@@ -10,7 +9,7 @@ use Rattle.kapi_paths.proofs.graph.rows.Goals as goal
 
 pub rows-preserved : goal.rows-preserved
 rows-preserved g c =
-    let step = next_of (g.P.Policy.content c.args.asked.now.policy.now) (map binding_of c.args.asked.now.bindings.now) c.args.asked.now.known.now (map row_of c.args.asked.now.rights.now) in
+    let step = next_of (g.P.Policy.content c.args.asked.now.policy.now) c.args.asked.now.bindings.now c.args.asked.now.known.now (map row_of c.args.asked.now.rights.now) in
     let items : c.push.new.self.items ≡ c.rows.rows.items ++ c.new.result ∷ [] = c.in_ok-push.ensures.items in
     let ok = c.rows.rows.ok in
     let less = c.rows-test.true in
@@ -32,7 +31,7 @@ rows-preserved g c =
 
 pub returns-clause-rows : goal.returns-clause-rows
 returns-clause-rows g c =
-    let step = next_of (g.P.Policy.content c.args.asked.now.policy.now) (map binding_of c.args.asked.now.bindings.now) c.args.asked.now.known.now (map row_of c.args.asked.now.rights.now) in
+    let step = next_of (g.P.Policy.content c.args.asked.now.policy.now) c.args.asked.now.bindings.now c.args.asked.now.known.now (map row_of c.args.asked.now.rights.now) in
     let ok = c.rows.rows.ok in
     let less = c.rows-test.false in
     let first = c.len.ensures in

@@ -2,7 +2,6 @@ use Rattle.std.proofs.Common.{◌≡◌, ◌+◌, ◌<◌, ⊎_elim, ap, arith, 
 use Rattle.std.specs.List.{slice_get}
 use Rattle.std.proofs.lemmas.Bool.{cases_lt}
 use Rattle.std.proofs.lemmas.Option.{same_Some, slice_get_within}
-use Rattle.kapi_policy.specs.Views.{binding_of}
 use Rattle.kapi_paths.specs.Chains.{Has, IsInside}
 use Rattle.kapi_paths.specs.Graphs.{AddsPaths, AreBefore, Begins, IsCovered, next_of}
 use Rattle.kapi_paths.specs.Numbers.{IsOnce}
@@ -15,7 +14,7 @@ use Rattle.kapi_paths.proofs.path.paths.Goals as goal
 
 pub push_paths-requires-clause-inside : goal.push_paths-requires-clause-inside
 push_paths-requires-clause-inside g c =
-    let step = next_of (g.P.Policy.content c.args.asked.now.policy.now) (map binding_of c.args.asked.now.bindings.now) c.args.asked.now.known.now (map row_of c.args.asked.now.rights.now) in
+    let step = next_of (g.P.Policy.content c.args.asked.now.policy.now) c.args.asked.now.bindings.now c.args.asked.now.known.now (map row_of c.args.asked.now.rights.now) in
     subst (λ (rows : List (List ℕ)). IsInside rows) (sym c.as_slice.ensures.value) (graph_inside step c.rows.new.numbered c.in_ok-rows.rows.items c.in_ok-rows.ensures.rows)
 
 -- everything is the first node of a list that begins as another that begins with it
@@ -58,7 +57,7 @@ loop-from-preserved g c =
 
 pub returns-clause-each : goal.returns-clause-each
 returns-clause-each g c = λ p h.
-    let step = next_of (g.P.Policy.content c.args.asked.now.policy.now) (map binding_of c.args.asked.now.bindings.now) c.args.asked.now.known.now (map row_of c.args.asked.now.rights.now) in
+    let step = next_of (g.P.Policy.content c.args.asked.now.policy.now) c.args.asked.now.bindings.now c.args.asked.now.known.now (map row_of c.args.asked.now.rights.now) in
     let nodes = c.rows.new.numbered in
     let graph = c.in_ok-rows.ensures.rows in
     let begun = c.row.new.self in
@@ -69,21 +68,21 @@ returns-clause-each g c = λ p h.
     let counted : length c.nodes-count.result.now ≡ length begun = ap length c.nodes-count.ensures in
     let x = some_at begun s.0 (omega (arith, below, counted)) in
     let same : x.0 ≡ p.from = same_Some x.0 p.from (sym (begins_at begun nodes c.in_ok-rows.ensures.more s.0 x.0 x.1) ∙ s.3.drawn.at_from) in
-    let source : Has (sources (map binding_of c.args.asked.now.bindings.now)) x.0 = ⊎_elim
+    let source : Has (sources c.args.asked.now.bindings.now) x.0 = ⊎_elim
     (λ k.
     let e : everything ≡ x.0 = ⊎_elim (λ (e : everything ≡ x.0). e) (λ k. absurd k) (subst (λ (l : List Node). Has l x.0) c.in_ok-numbered.ensures k) in
     let zero : 0 ≡ s.0 = graph.once 0 s.0 p.from (subst (λ (y : Node). slice_get nodes 0 ≡ Some y) (e ∙ same) first) s.3.drawn.at_from in
     absurd (omega (arith, zero, some)))
-    (λ k. subst (λ (l : List Node). Has l x.0) c.in_ok-sources.ensures k)
+    (λ k. subst (λ (l : List Node). Has l x.0) (c.in_ok-sources.ensures ∙ ap sources c.list.ensures) k)
     (c.in_ok-row.ensures.came x.0 (has_found begun s.0 x.0 x.1)) in
-    somewhere_is step nodes c.in_ok-rows.rows.items graph first (sources (map binding_of c.args.asked.now.bindings.now)) s.0 p s.3 (subst (λ (y : Node). Has (sources (map binding_of c.args.asked.now.bindings.now)) y) same source)
+    somewhere_is step nodes c.in_ok-rows.rows.items graph first (sources c.args.asked.now.bindings.now) s.0 p s.3 (subst (λ (y : Node). Has (sources c.args.asked.now.bindings.now) y) same source)
 
 pub returns-clause-listed : goal.returns-clause-listed
 returns-clause-listed g c = λ from to zs source walk listed other.
-    let step = next_of (g.P.Policy.content c.args.asked.now.policy.now) (map binding_of c.args.asked.now.bindings.now) c.args.asked.now.known.now (map row_of c.args.asked.now.rights.now) in
+    let step = next_of (g.P.Policy.content c.args.asked.now.policy.now) c.args.asked.now.bindings.now c.args.asked.now.known.now (map row_of c.args.asked.now.rights.now) in
     let nodes = c.rows.new.numbered in
     let begun = c.row.new.self in
-    let p = has_number begun c.in_ok-row.field-0.items c.in_ok-sources.field-0.items from c.in_ok-row.ensures.at (subst (λ (l : List Node). Has l from) (sym c.in_ok-sources.ensures) source) in
+    let p = has_number begun c.in_ok-row.field-0.items c.in_ok-sources.field-0.items from c.in_ok-row.ensures.at (subst (λ (l : List Node). Has l from) (sym (c.in_ok-sources.ensures ∙ ap sources c.list.ensures)) source) in
     let at = begins_at begun nodes c.in_ok-rows.ensures.more p.0 from p.2 in
     let first = first_is _ begun nodes c.in_ok-numbered.ensures c.in_ok-row.ensures.more c.in_ok-rows.ensures.more in
     let within : p.0 < length begun = slice_get_within begun p.0 from p.2 in
@@ -94,6 +93,6 @@ returns-clause-listed g c = λ from to zs source walk listed other.
     (λ some. covered_has step nodes c.in_ok-rows.rows.items c.in_ok-rows.ensures.rows first c.loop-from.list.items p.0 (c.loop-from.invariant.covered p.0 some below) from to zs at walk listed other)
     (λ none.
     let zero : 0 ≡ p.0 = omega (arith, none) in
-    let nowhere = leads_nowhere (g.P.Policy.content c.args.asked.now.policy.now) (map binding_of c.args.asked.now.bindings.now) c.args.asked.now.known.now (map row_of c.args.asked.now.rights.now) in
+    let nowhere = leads_nowhere (g.P.Policy.content c.args.asked.now.policy.now) c.args.asked.now.bindings.now c.args.asked.now.known.now (map row_of c.args.asked.now.rights.now) in
     absurd (other (stays step nowhere from to zs (same_Some from everything (sym at ∙ subst (λ k. slice_get nodes k ≡ Some everything) zero first)) walk)))
     (cases_lt 0 p.0)

@@ -1,9 +1,7 @@
-use Rattle.std.proofs.Common.{◌≡◌, ◌++◌, map, take}
+use Rattle.std.proofs.Common.{◌≡◌, ◌++◌, take}
 use Rattle.std.specs.List.{flat_map}
-use Rattle.kapi_policy.specs.Views.{binding_of}
 use Rattle.kapi_paths.specs.Steps as steps
-use Rattle.kapi_paths.specs.Steps.{named}
 use Rattle.kapi_paths.proofs.steps.push_all_bound.Given as goal
 
-abbrev pub invariant-loop-binding : goal.invariant-loop-binding
-invariant-loop-binding l = l.list.items ≡ l.initial.list.items ++ flat_map (steps.bound l.identity) (map binding_of (take l.binding-index l.bindings))
+abbrev pub invariant-loop-position : goal.invariant-loop-position
+invariant-loop-position l = l.list.items ≡ l.initial.list.items ++ flat_map (steps.bound l.identity) (take l.position l.bindings)
