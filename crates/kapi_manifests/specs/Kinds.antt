@@ -48,15 +48,17 @@ lives_in_namespace kind =
     || (bytes_eq kind (codes "Secret") || (bytes_eq kind (codes "ServiceAccount") || (bytes_eq kind (codes "Pod")
     || bytes_eq kind (codes "Deployment"))))))
 
--- the kind of the items of a list of namespaces, roles or bindings, which may leave it out; empty for other lists
+-- the kind of the items of a list of namespaces, definitions of kinds, roles or bindings, which may leave it out; empty
+-- for other lists
 -- (Kubernetes API conventions, 'Lists and Simple kinds')
 abbrev pub item_kind : List ℕ → List ℕ
 item_kind kind =
     if bytes_eq kind (codes "NamespaceList") then codes "Namespace"
+    else (if bytes_eq kind (codes "CustomResourceDefinitionList") then codes "CustomResourceDefinition"
     else (if bytes_eq kind (codes "RoleList") then codes "Role"
     else (if bytes_eq kind (codes "RoleBindingList") then codes "RoleBinding"
     else (if bytes_eq kind (codes "ClusterRoleList") then codes "ClusterRole"
-    else (if bytes_eq kind (codes "ClusterRoleBindingList") then codes "ClusterRoleBinding" else codes ""))))
+    else (if bytes_eq kind (codes "ClusterRoleBindingList") then codes "ClusterRoleBinding" else codes "")))))
 
 -- the text ends with another
 unfoldable pub ends_with : List ℕ → List ℕ → Bool

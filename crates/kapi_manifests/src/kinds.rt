@@ -68,13 +68,14 @@ pub fn lives_in_namespace(kind: &str) -> bool
     }
 }
 
-/// The kind of the items of a list of namespaces, roles or bindings, which may leave it out (Kubernetes API conventions,
-/// 'Lists and Simple kinds'); empty for lists of other kinds.
+/// The kind of the items of a list of namespaces, definitions of kinds, roles or bindings, which may leave it out
+/// (Kubernetes API conventions, 'Lists and Simple kinds'); empty for lists of other kinds.
 pub fn item_kind(list: &str) -> &'static str
     ensures { result.now ≡ kinds.item_kind list.now }
 {
     match list {
         "NamespaceList" => "Namespace",
+        "CustomResourceDefinitionList" => "CustomResourceDefinition",
         "RoleList" => "Role",
         "RoleBindingList" => "RoleBinding",
         "ClusterRoleList" => "ClusterRole",
