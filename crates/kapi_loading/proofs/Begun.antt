@@ -1,31 +1,28 @@
--- A machine and its desk at their start.
-use Rattle.std.proofs.Common.{◌≡◌, List, [], ◌++◌, Result, ◌∙◌, subst}
-use Rattle.kapi_core.specs.Machine.{Machine}
+-- A machine at its start, with a desk or without one.
+use Rattle.std.proofs.Common.{◌≡◌, [], Result, Ok, Err, IsErrAnd, ◌∙◌, refl, subst, sym}
+use Rattle.kapi_text.specs.Gives.{Fails}
+use Rattle.kapi_core.specs.Machine.{Machine, policy_of}
 use Rattle.kapi_core.specs.Running.{Running}
 use Rattle.kapi_core.specs.Refines.{Refines}
-use Rattle.kapi_desk.specs.Boards.{Board}
+use Rattle.kapi_desk.specs.Boards.{Board, Chair, fresh}
 use Rattle.kapi_desk.specs.Steps.{after}
-use Rattle.kapi_lines.specs.Lines.{NumberedLine}
-use Rattle.kapi_loading.specs.Loading.{Publishes, Reaches, made_of, steps_made}
-use Rattle.kapi_policy.specs.declared.change.PolicyChange.{PolicyChange}
+use Rattle.kapi_loading.specs.Faults.{FileFault, fault_told}
+use Rattle.kapi_loading.specs.Loading.{HasPublished}
+use Rattle.kapi_loading.specs.Starting.{Holds}
 use Rattle.kapi_loading.specs.declared.fault.StartError.{StartError}
+use Rattle.kapi_policy.specs.Objects.{no_objects}
 
 -- a desk over the policy of a core has published it
-pub published_first : (core : Running) (desk : Board) (m : Machine) → Refines core m → desk.opening ≡ core.policy → desk.list ≡ [] → Publishes core desk m
+pub published_first : (core : Running) (desk : Board) (m : Machine) → Refines core m → desk.opening ≡ core.policy → desk.list ≡ [] → desk.waiting ≡ []
+    → HasPublished (fresh desk) desk (policy_of m)
 unfolding after
-published_first core desk m stands opening none =
-    (stands, (λ i. after (opening i) (none i)) ∙ stands.policy_is)
+published_first core desk m stands opening none free = (refl, free, (λ i. after (opening i) (none i)) ∙ stands.policy_is)
 
--- what lines reach, from a core and a desk over its policy
-pub begun : (core next : Running) (desk board : Board) (result : Result (Unit {0}) StartError) (m : Machine) (lines known : List NumberedLine) → Refines core m
-    → desk.opening ≡ core.policy → desk.list ≡ [] → lines ≡ known
-    → ((k : Machine) → Publishes core desk k → Reaches next board result (made_of k lines)) → Reaches next board result (made_of m known)
-begun core next desk board result m lines known stands policy none same reaches =
-    subst (λ ls. Reaches next board result (made_of m ls)) same (reaches m (published_first core desk m stands policy none))
+-- some seat
+abbrev pub no_seat : Chair
+no_seat = record { desk = record { number = 0; log_name = 0; cells_name = 0 }; opening = no_objects; seen = [] }
 
--- what a desk over the policy of a core has published of lines
-pub begun_steps : (core : Running) (desk : Board) (list : List (List PolicyChange)) (m : Machine) (lines known : List NumberedLine) → Refines core m
-    → desk.opening ≡ core.policy → desk.list ≡ [] → lines ≡ known
-    → ((k : Machine) → Publishes core desk k → list ≡ desk.list ++ steps_made k lines) → list ≡ steps_made m known
-begun_steps core desk list m lines known stands policy none same made =
-    made m (published_first core desk m stands policy none) ∙ (λ j. none j ++ steps_made m (same j))
+-- a fault that is handed on, where there is no core
+pub core_fault : (result : Result Running StartError) (e : StartError) (given : Result Machine FileFault) → IsErrAnd result (λ f. f ≡ e) → Fails (fault_told e) given → Holds result given
+core_fault (Ok core) e given is h = absurd is
+core_fault (Err f) e given is h = subst (λ x. Fails (fault_told x) given) (sym is) h

@@ -15,7 +15,8 @@ use Rattle.kapi_core.specs.Opening.{empty, opening, opening_objects}
 use Rattle.kapi_core.proofs.Openings.{openings_same}
 use Rattle.kapi_core.specs.declared.event.Event.TheVariants as event
 use Rattle.kapi_loading.specs.Faults.{FileFault}
-use Rattle.kapi_loading.specs.Starting.{Starts}
+use Rattle.kapi_core.specs.Running.{Running}
+use Rattle.kapi_loading.specs.Starting.{Holds, Starts}
 use Rattle.kapi_loading.specs.declared.fault.StartError.{StartError}
 use Rattle.kapi_loading.specs.declared.starting.Started.{Started}
 use Rattle.kapi_loading.specs.Laws.{FileIsServed, FileIsUnopened}
@@ -132,6 +133,12 @@ file_is_unopened table first file m is = made_new (opening table first) (lines_o
 pub alone_is_unopened : (table : List ResourceRow) (first : ℕ) (objects : List ℕ) (m : Machine) → machine_alone table first objects ≡ Ok m → (m.next_id ≡ 0) × (m.rechecks ≡ false)
 unfolding machine_alone
 alone_is_unopened table first objects m is = made_new (empty table first) (lines_of objects) m is (refl, refl)
+
+-- no connection is open on a core if none is on the machine
+pub core_unopened : (result : Result Running StartError) (given : Result Machine FileFault) → Holds result given
+    → ((m : Machine) → given ≡ Ok m → (m.next_id ≡ 0) × (m.rechecks ≡ false)) → IfOk result (λ core. core.next_id ≡ 0)
+core_unopened (Ok core) given h known = h.2.next_id ∙ (known h.0 h.1).0
+core_unopened (Err e) given h known = tt
 
 -- no connection is open on what a start returns if none is on the machine
 pub unopened : (result : Result Started StartError) (given : Result Machine FileFault) → Starts result given

@@ -1,5 +1,5 @@
 -- The policy of a file: its lines loaded in order, and then the turns that follow.
-use Rattle.std.specs.Prelude.{◌≡◌, ℕ, zero, suc, List, [], ◌∷◌, ◌++◌, Result, Ok, Err}
+use Rattle.std.specs.Prelude.{◌≡◌, ℕ, zero, suc, List, [], ◌∷◌, Result, Ok, Err}
 use Rattle.kapi_text.specs.Gives.{Fails, ◌>>=◌}
 use Rattle.kapi_answer.specs.Load.{LoadFault, loads}
 use Rattle.kapi_answer.specs.declared.loading.LoadError.{LoadError}
@@ -10,11 +10,9 @@ use Rattle.kapi_core.specs.Opening.{empty, opening}
 use Rattle.kapi_core.specs.Running.{Running}
 use Rattle.kapi_core.specs.Refines.{Refines}
 use Rattle.kapi_core.specs.declared.event.Event.TheVariants as event
-use Rattle.kapi_desk.specs.Boards.{Board}
-use Rattle.kapi_core.specs.Telling.{changes_told}
-use Rattle.kapi_desk.specs.Steps.{after, step_of}
-use Rattle.kapi_policy.specs.declared.change.PolicyChange.{PolicyChange}
-use Rattle.kapi_stored_policy.specs.Reading.{policy_changes}
+use Rattle.kapi_desk.specs.Boards.{Board, Chair, fresh}
+use Rattle.kapi_desk.specs.Steps.{after}
+use Rattle.kapi_policy.specs.Objects.{PolicyObjects}
 use Rattle.kapi_loading.specs.Faults.{FileFault, bad_line, fault_told}
 use Rattle.kapi_core.specs.ProgramTable.{program_rows}
 use Rattle.kapi_model.specs.declared.row.ResourceRow.{ResourceRow}
@@ -46,30 +44,6 @@ turned (suc k) m = turned k (step m event.Turn).1
 abbrev pub made_of : Machine → List NumberedLine → Result Machine FileFault
 made_of m lines = loaded m lines >>= λ k. Ok (turned 64 k)
 
--- the step of one line, and what is published of the lines behind it
-abbrev pub steps_behind : (Machine → List (List PolicyChange)) → Machine → Result (List PlainChange) LoadFault → List (List PolicyChange)
-steps_behind later m (Ok changes) = step_of (policy_changes changes) ++ later (changed changes m)
-steps_behind later m (Err fault) = []
-
--- what is published of lines: a step for each that changes the policy, in order, up to the first that is not loaded
-unfoldable pub steps_loaded : Machine → List NumberedLine → List (List PolicyChange)
-steps_loaded m [] = []
-steps_loaded m (l ∷ ls) = steps_behind (λ next. steps_loaded next ls) m (loads m.store l.text)
-
--- what is published of so many turns: a step for each that changes the policy
-unfoldable pub steps_turned : ℕ → Machine → List (List PolicyChange)
-steps_turned zero m = []
-steps_turned (suc k) m = step_of (changes_told (step m event.Turn).0) ++ steps_turned k (step m event.Turn).1
-
--- what is published of the turns behind all lines
-abbrev pub turns_behind : Result Machine FileFault → List (List PolicyChange)
-turns_behind (Ok m) = steps_turned 64 m
-turns_behind (Err fault) = []
-
--- what is published of lines and of the turns that follow
-abbrev pub steps_made : Machine → List NumberedLine → List (List PolicyChange)
-steps_made m lines = steps_loaded m lines ++ turns_behind (loaded m lines)
-
 -- the machine that a file of objects makes of the one that opens over a table at revision `first`, or the first line at fault
 unfoldable pub machine_from : List ResourceRow → ℕ → List ℕ → Result Machine FileFault
 machine_from table first objects = made_of (opening table first) (lines_of objects)
@@ -90,7 +64,11 @@ machine_of table objects = machine_from table 0 objects
 abbrev pub Publishes : Running → Board → Machine → Type 0
 Publishes core desk m = Refines core m × (after desk.opening desk.list ≡ policy_of m)
 
--- the core refines the machine that is given, and the desk has published its policy; or why no machine is given
-abbrev pub Reaches : Running → Board → Result (Unit {0}) StartError → Result Machine FileFault → Type 0
-Reaches core desk (Ok done) given = (m : Machine) × (given ≡ Ok m) × Publishes core desk m
-Reaches core desk (Err e) given = Fails (fault_told e) given
+-- the desk gives such seats, no step waits, and it has published the policy
+abbrev pub HasPublished : Chair → Board → PolicyObjects → Type 0
+HasPublished seat desk policy = (fresh desk ≡ seat) × (desk.waiting ≡ []) × (after desk.opening desk.list ≡ policy)
+
+-- the core refines the machine that is given, whose policy has what is said of it; or why no machine is given
+abbrev pub Reaches : Running → (PolicyObjects → Type 0) → Result (Unit {0}) StartError → Result Machine FileFault → Type 0
+Reaches core Follows (Ok done) given = (m : Machine) × (given ≡ Ok m) × Refines core m × Follows (policy_of m)
+Reaches core Follows (Err e) given = Fails (fault_told e) given

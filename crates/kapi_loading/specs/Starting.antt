@@ -1,11 +1,18 @@
--- What a start returns.
+-- What a load and a start return.
 use Rattle.std.specs.Prelude.{◌≡◌, Result, Ok, Err}
 use Rattle.kapi_text.specs.Gives.{Fails}
 use Rattle.kapi_core.specs.Machine.{Machine}
+use Rattle.kapi_core.specs.Running.{Running}
+use Rattle.kapi_core.specs.Refines.{Refines}
 use Rattle.kapi_loading.specs.Faults.{FileFault, fault_told}
 use Rattle.kapi_loading.specs.Loading.{Publishes}
 use Rattle.kapi_loading.specs.declared.fault.StartError.{StartError}
 use Rattle.kapi_loading.specs.declared.starting.Started.{Started}
+
+-- a core that refines the machine that is given, or why none is
+abbrev pub Holds : Result Running StartError → Result Machine FileFault → Type 0
+Holds (Ok core) given = (m : Machine) × (given ≡ Ok m) × Refines core m
+Holds (Err e) given = Fails (fault_told e) given
 
 -- a core that refines the machine that is given, whose policy the desk has published, or why none is
 abbrev pub Starts : Result Started StartError → Result Machine FileFault → Type 0

@@ -1,8 +1,9 @@
-//! A file of objects, loaded into a machine whose policy a desk publishes.
+//! A file of objects, loaded into a machine, and a desk that publishes its policy.
 #![tactic(auto)]
 
 mod fault;
 mod laws;
+mod loading;
 mod publishing;
 mod settled;
 mod starting;
@@ -10,4 +11,6 @@ mod starting;
 pub use fault::StartError;
 pub use laws::a_file_makes_a_machine_of_the_laws;
 pub use settled::is_settled;
-pub use starting::{Started, start, start_policy, start_without_objects};
+pub use starting::{
+    Started, load_alone, load_from, load_policy, start, start_policy, start_without_objects,
+};

@@ -1,23 +1,115 @@
 ghost use Rattle.std.specs.Prelude.{◌≡◌, ◌≤◌, true, [], IfOk, replicate};
 ghost use Rattle.kapi_desk.specs.Boards.{fresh};
 ghost use Rattle.kapi_core.specs.Machine.{Machine};
-ghost use Rattle.kapi_core.specs.Opening.{opening};
+ghost use Rattle.kapi_core.specs.Opening.{empty, opening};
 ghost use Rattle.kapi_core.specs.Refines.{Refines};
 ghost use Rattle.kapi_core.specs.Table.{fits};
 ghost use Rattle.kapi_lines.specs.Lines.{lines_of};
-ghost use Rattle.kapi_loading.specs.Loading.{machine_alone, machine_from, made_of, policy_machine, steps_made};
-ghost use Rattle.kapi_loading.specs.Starting.{Starts};
+ghost use Rattle.kapi_loading.specs.Loading.{machine_alone, machine_from, made_of, policy_machine};
+ghost use Rattle.kapi_loading.specs.Starting.{Holds, Starts};
 
 use crate::fault::StartError;
-use crate::publishing::publish_policy;
+use crate::loading::{Unpublished, load_file};
+use crate::publishing::Publishing;
 use kapi_core::{Core, program_table};
 use kapi_desk::{Desk, Seat};
 use kapi_index::IndexedPolicy;
-use kapi_lines::numbered_lines;
 use kapi_model::ResourceRow;
-use kapi_text::{Sequence, TryCopy};
+use kapi_text::{Memory, Sequence, TryCopy};
 use std::alloc::Global;
 use std::sync::Wait;
+
+// ---- machines alone
+
+/// The machine whose revisions begin after `first` and whose resource types are those of the table, with the objects of a
+/// file, a JSON object a line. The turns that follow the objects are made, 64 at most.
+///
+/// # Errors
+/// `Line` at the first line that cannot be loaded, `Memory` where an allocation fails.
+pub fn load_from(
+    alloc: Global,
+    table: &Sequence<ResourceRow>,
+    objects: &[u8],
+    first: u64,
+) -> Result<Core<IndexedPolicy>, StartError>
+    requires table { fits table.now ≡ true }
+    requires first { first ≤ 281474976710650 }
+    ensures machine { Holds result (machine_from table.now first objects.now) }
+    ensures unopened { IfOk result (λ core. core.next_id ≡ 0) }
+{
+    load_into(alloc, opened(alloc, table, first)?, objects)
+}
+
+/// The machine that the objects of a file make alone, without those that every other machine begins with; the rest is as
+/// of `load_from`.
+///
+/// # Errors
+/// `Line` at the first line that cannot be loaded, `Memory` where an allocation fails.
+pub fn load_alone(
+    alloc: Global,
+    table: &Sequence<ResourceRow>,
+    objects: &[u8],
+    first: u64,
+) -> Result<Core<IndexedPolicy>, StartError>
+    requires table { fits table.now ≡ true }
+    requires first { first ≤ 281474976710650 }
+    ensures machine { Holds result (machine_alone table.now first objects.now) }
+    ensures unopened { IfOk result (λ core. core.next_id ≡ 0) }
+{
+    load_into(alloc, emptied(alloc, table, first)?, objects)
+}
+
+/// The machine that the objects of a policy make alone, of the resource types of the programs.
+///
+/// # Errors
+/// `Line` at the first line that cannot be loaded, `Memory` where an allocation fails.
+pub fn load_policy(alloc: Global, objects: &[u8]) -> Result<Core<IndexedPolicy>, StartError>
+    ensures machine { Holds result (policy_machine objects.now) }
+    ensures unopened { IfOk result (λ core. core.next_id ≡ 0) }
+{
+    load_alone(alloc, &program_table(alloc)?, objects, 0)
+}
+
+/// The machine that begins with the opening objects.
+fn opened(
+    alloc: Global,
+    table: &Sequence<ResourceRow>,
+    first: u64,
+) -> Result<Core<IndexedPolicy>, Memory>
+    requires table { fits table.now ≡ true }
+    requires first { first ≤ 281474976710650 }
+    ensures { IfOk result (λ core. Refines core (opening table.now first)) }
+{
+    Core::new(alloc, table.copy(alloc)?, IndexedPolicy::new(alloc), first)
+}
+
+/// The machine that begins without objects.
+fn emptied(
+    alloc: Global,
+    table: &Sequence<ResourceRow>,
+    first: u64,
+) -> Result<Core<IndexedPolicy>, Memory>
+    requires table { fits table.now ≡ true }
+    requires first { first ≤ 281474976710650 }
+    ensures { IfOk result (λ core. Refines core (empty table.now first)) }
+{
+    Core::without_objects(alloc, table.copy(alloc)?, IndexedPolicy::new(alloc), first)
+}
+
+/// Loads the objects of a file into a machine, and makes the turns that follow.
+fn load_into(
+    alloc: Global,
+    core: Core<IndexedPolicy>,
+    objects: &[u8],
+) -> Result<Core<IndexedPolicy>, StartError>
+    ensures { (m : Machine) → Refines core m → Holds result (made_of m (lines_of objects.now)) }
+{
+    let mut core = core;
+    load_file(alloc, &mut core, &mut Unpublished, objects)?;
+    Ok(core)
+}
+
+// ---- machines with a desk
 
 /// A machine, the desk that publishes its policy, and the seats of that desk.
 pub struct Started {
@@ -46,11 +138,9 @@ pub fn start<R: Wait>(
     ensures machine { Starts result (machine_from table.now first objects.now) }
     ensures unopened { IfOk result (λ s. s.core.next_id ≡ 0) }
     ensures waiting { IfOk result (λ s. s.desk.waiting ≡ []) }
-    ensures steps { IfOk result (λ s. s.desk.list ≡ steps_made (opening table.now first) (lines_of objects.now)) }
     ensures seats { IfOk result (λ s. s.seats.items ≡ replicate seats (fresh s.desk)) }
 {
-    let core = Core::new(alloc, table.copy(alloc)?, IndexedPolicy::new(alloc), first)?;
-    start_on(alloc, rt, core, objects, seats)
+    start_on(alloc, rt, opened(alloc, table, first)?, objects, seats)
 }
 
 /// The machine that the objects of a file make alone, without those that every other machine begins with; the rest is as
@@ -74,8 +164,7 @@ pub fn start_without_objects<R: Wait>(
     ensures waiting { IfOk result (λ s. s.desk.waiting ≡ []) }
     ensures seats { IfOk result (λ s. s.seats.items ≡ replicate seats (fresh s.desk)) }
 {
-    let core = Core::without_objects(alloc, table.copy(alloc)?, IndexedPolicy::new(alloc), first)?;
-    start_on(alloc, rt, core, objects, seats)
+    start_on(alloc, rt, emptied(alloc, table, first)?, objects, seats)
 }
 
 /// The machine that the objects of a policy make alone, of the resource types of the programs; the rest is as of `start`.
@@ -108,15 +197,16 @@ fn start_on<R: Wait>(
 ) -> Result<Started, StartError>
     requires seats { (1 ≤ seats) × (seats ≤ 16) }
     ensures machine { (m : Machine) → Refines core m → Starts result (made_of m (lines_of objects.now)) }
-    ensures waiting { IfOk result (λ s. s.desk.waiting ≡ []) }
-    ensures steps { (m : Machine) → Refines core m → IfOk result (λ s. s.desk.list ≡ steps_made m (lines_of objects.now)) }
-    ensures seats { IfOk result (λ s. s.seats.items ≡ replicate seats (fresh s.desk)) }
+    ensures waiting { (m : Machine) → Refines core m → IfOk result (λ s. s.desk.waiting ≡ []) }
+    ensures seats { (m : Machine) → Refines core m → IfOk result (λ s. s.seats.items ≡ replicate seats (fresh s.desk)) }
 {
-    let lines = numbered_lines(alloc, objects)?;
     let mut core = core;
     let opening = core.policy().copy()?;
-    let (mut desk, seats) = Desk::new(alloc, rt, opening, seats)?;
-    match publish_policy(rt, &mut core, &mut desk, lines.as_slice()) {
+    let (desk, seats) = Desk::new(alloc, rt, opening, seats)?;
+    let mut publishing = Publishing { rt, desk };
+    let loaded = load_file(alloc, &mut core, &mut publishing, objects);
+    let Publishing { rt: _rt, desk } = publishing;
+    match loaded {
         Ok(()) => Ok(Started { core, desk, seats }),
         Err(error) => {
             drop(desk.close(rt));
