@@ -28,6 +28,7 @@ class Case:
     files: dict = field(default_factory=dict)
     folder: str = ""
     is_full: bool = False
+    is_mute: bool = False
 
 
 def fault(program, case, room):
@@ -36,9 +37,10 @@ def fault(program, case, room):
         (room / name).write_bytes(text.encode("latin-1"))
     words = shlex.split(case.words) if isinstance(case.words, str) else case.words
     with open("/dev/full", "wb") as full:
-        how = {"stdout": full if case.is_full else subprocess.PIPE, "stderr": subprocess.PIPE, "timeout": 60}
+        out, error = (full if it else subprocess.PIPE for it in (case.is_full, case.is_mute))
+        how = {"stdout": out, "stderr": error, "timeout": 60}
         ran = subprocess.run([program, *words], input=case.input.encode("latin-1"), cwd=room / case.folder, **how)
-    got = {"status": ran.returncode, "error": ran.stderr.decode().removesuffix("\n"), "told": (ran.stdout or b"").decode()}
+    got = {"status": ran.returncode, "error": (ran.stderr or b"").decode().removesuffix("\n"), "told": (ran.stdout or b"").decode()}
     return {name: text for name, text in got.items() if not fits(getattr(case, name), text)}
 
 
@@ -119,6 +121,7 @@ WORDS = [
     *[Case(words, 2, re.compile("error: .*For more information, try '.*--help'.", re.S)) for words in UNASKED],
     *[Case(words, 0) for words in ("--help", "--version", "help", *[f"{it} --help" for it in COMMANDS])],
     *[Case(words, 1, FULL, is_full=True) for words in ("--help", "audit audit/policy.jsonl audit/questions.jsonl", "risks audit/policy.jsonl", "serve 60003=a")],
+    *[Case(words, 2, is_mute=True) for words in ("nonsense", "serve 60003")],
 ]
 
 # What audits of the stored files print, and policies of one line that are not loaded, for this reason.

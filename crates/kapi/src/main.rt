@@ -56,7 +56,11 @@ use wrong_words::complaint;
 fn main(rt: HostRuntime) -> io::Result<ExitCode> {
     let ended = match named_command(&rt) {
         Ok(command) => run(&rt, &command),
-        Err(fault) => refuse(&rt, fault),
+        Err(fault) => {
+            // Where standard error takes nothing the status still says what was wrong.
+            let _unwritten = complain(&rt, fault);
+            Ok(Ending::Misused)
+        }
     };
     let ending = match ended {
         Ok(ending) => ending,
@@ -147,14 +151,13 @@ fn run_script<R: Files + Input + Print + Eprint + AllocGlobal + Clone + Drop>(
     }
 }
 
-/// A command line that names no program: status 2.
-fn refuse<R: Env + Eprint + AllocGlobal>(rt: &R, fault: CommandFault) -> io::Result<Ending> {
+/// Says what is wrong with a command line that names no program.
+fn complain<R: Env + Eprint + AllocGlobal>(rt: &R, fault: CommandFault) -> io::Result<()> {
     match fault {
         CommandFault::Words => match complained(rt) {
-            Ok(complaint) => rt.eprint(complaint)?,
-            Err(fault) => eprintln!(rt; "{fault}")?,
+            Ok(complaint) => rt.eprint(complaint),
+            Err(fault) => eprintln!(rt; "{fault}"),
         },
-        CommandFault::Memory => eprintln!(rt; "{fault}")?,
+        CommandFault::Memory => eprintln!(rt; "{fault}"),
     }
-    Ok(Ending::Misused)
 }
