@@ -19,16 +19,17 @@ use std::fs::Files;
 use std::io;
 use std::sync::Wait;
 use std::thread::Threads;
+use std::time::Clock;
 
 /// Prints the answers to the questions: status 0, or 1 after the fault and its reason on standard error.
 pub fn run_audit<
-    R: Files + Input + Print + Eprint + AllocGlobal + Threads + Wait + Sync + Clone + Drop,
->(rt: &R, files: &AuditFiles) -> io::Result<Ending> {
+    R: Files + Input + Print + Eprint + AllocGlobal + Threads + Wait + Clock + Sync + Clone + Drop,
+>(rt: &R, files: &AuditFiles, on_terminal: bool) -> io::Result<Ending> {
     let Some(table) = read_kinds(rt, files.kinds.as_slice())? else {
         return Ok(Ending::Stopped);
     };
     match &files.manifests {
-        Some(reading) if files.log => audit_log(rt, files, reading),
+        Some(reading) if files.log => audit_log(rt, files, reading, on_terminal),
         Some(reading) => audit_manifests(rt, files, reading),
         None => audit_lines(rt, &table, files),
     }

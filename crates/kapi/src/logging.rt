@@ -18,6 +18,10 @@ use std::collections::BTreeMap;
 use std::fs::Files;
 use std::io;
 use std::sync::Wait;
+use std::time::{Clock, Instant};
+
+/// After so many lines the clock is asked.
+const LINES: usize = 65_536;
 
 /// A request of the log, and whether the cluster allowed it.
 #[derive(Drop)]
@@ -29,10 +33,11 @@ struct Logged {
 
 /// Prints each request that the policy decides otherwise than the log, and then how often whom it would refuse what: status
 /// 0 if no decision differs, 3 if one does, 4 if the roles are not settled, or 1 after a line on standard error.
-pub fn audit_log<R: Files + Input + Print + Eprint + AllocGlobal + Wait + Clone + Drop>(
+pub fn audit_log<R: Files + Input + Print + Eprint + AllocGlobal + Wait + Clock + Clone + Drop>(
     rt: &R,
     files: &AuditFiles,
     reading: &Reading,
+    on_terminal: bool,
 ) -> io::Result<Ending> {
     let name = files.policy.as_str();
     let Some(policy) = read_policy(rt, name, reading)? else {
@@ -41,7 +46,7 @@ pub fn audit_log<R: Files + Input + Print + Eprint + AllocGlobal + Wait + Clone 
     let Some(log) = read_file(rt, files.questions.as_str())? else {
         return Ok(Ending::Stopped);
     };
-    let logged = match requests_of(rt.alloc(), log.as_slice())? {
+    let logged = match requests_of(rt, log.as_slice(), on_terminal)? {
         Ok(logged) => logged,
         Err(line) => {
             let file = files.questions.as_str();
@@ -67,10 +72,20 @@ pub fn audit_log<R: Files + Input + Print + Eprint + AllocGlobal + Wait + Clone 
     Ok(ending.or_doubted(doubted).or_unsettled(settled))
 }
 
-/// The requests that a log's lines show, or the first line that is no event.
-fn requests_of(alloc: Global, log: &[u8]) -> Result<Result<Vec<Logged>, usize>, Memory> {
+/// The requests that a log's lines show, or the first line that is no event. On a terminal it is shown how many were read.
+fn requests_of<R: Eprint + AllocGlobal + Clock>(
+    rt: &R,
+    log: &[u8],
+    on_terminal: bool,
+) -> io::Result<Result<Vec<Logged>, usize>> {
+    let alloc = rt.alloc();
+    let started = Instant::now(rt)?;
     let mut logged = Vec::new(alloc);
-    for line in numbered_lines(alloc, log)?.iter() {
+    let lines = numbered_lines(alloc, log)?;
+    for (count, line) in lines.iter().enumerate() {
+        if on_terminal && count % LINES == LINES - 1 {
+            show_progress(rt, &started, count + 1, lines.len())?;
+        }
         let (request, allowed) = match read_event(alloc, line.text)? {
             Shown::Used(request) => (request, true),
             Shown::Refused(request) => (request, false),
@@ -84,6 +99,19 @@ fn requests_of(alloc: Global, log: &[u8]) -> Result<Result<Vec<Logged>, usize>, 
         })?;
     }
     Ok(Ok(logged))
+}
+
+/// Shows how many lines were read, once that takes over a second.
+fn show_progress<R: Eprint + Clock>(
+    rt: &R,
+    started: &Instant,
+    count: usize,
+    all: usize,
+) -> io::Result<()> {
+    if started.elapsed(rt)?.as_secs() >= 1 {
+        eprintln!(rt; "{count} of {all} lines")?;
+    }
+    Ok(())
 }
 
 /// What is printed of a log, and whether a decision differs.

@@ -43,7 +43,7 @@ use replaying::run_replay;
 use serving::run_serve;
 use std::env::{self, Env};
 use std::fs::Files;
-use std::io::{self, BufWriter};
+use std::io::{self, BufWriter, IsTerminal};
 use std::net::{Net, TcpListener, TcpStream};
 use std::process::ExitCode;
 use std::sync::Wait;
@@ -55,7 +55,7 @@ use wrong_words::complaint;
 
 fn main(rt: HostRuntime) -> io::Result<ExitCode> {
     let ended = match named_command(&rt) {
-        Ok(command) => run(&rt, &command),
+        Ok(command) => run(&rt, &command, rt.stderr().is_terminal()),
         Err(fault) => {
             // Where standard error takes nothing the status still says what was wrong.
             let _unwritten = complain(&rt, fault);
@@ -69,7 +69,7 @@ fn main(rt: HostRuntime) -> io::Result<ExitCode> {
     Ok(ending.status())
 }
 
-/// Runs a command.
+/// Runs a command; on a terminal it may show how far it has come.
 fn run<
     R: Files
         + Env
@@ -86,10 +86,10 @@ fn run<
         + Sync
         + Net<Listener = TcpListener, Stream = TcpStream>
         + 'static,
->(rt: &R, command: &Command) -> io::Result<Ending> {
+>(rt: &R, command: &Command, on_terminal: bool) -> io::Result<Ending> {
     match command {
         Command::Script(kinds) => run_script(rt, kinds.as_slice()),
-        Command::Audit(files) => run_audit(rt, files),
+        Command::Audit(files) => run_audit(rt, files, on_terminal),
         Command::Serve(options) => run_serve(rt, options),
         Command::Replay(options) => run_replay(rt, options),
         Command::Compare(words) => run_compare(rt, words),
