@@ -266,12 +266,7 @@ fn look_at_role(
     let Some(rules) = looks.policy.role_rules(&role, named.namespace) else {
         return Ok(());
     };
-    for covered in covered_rules(alloc, rules)?.iter() {
-        let rule = covered.rule;
-        let by = covered.by;
-        let text = format!(in alloc; "{words}: rule {by} covers rule {rule}")?;
-        found.push(Finding { origin, text })?;
-    }
+    look_for_covered(alloc, words.as_str(), rules, origin, found)?;
     for (index, rule) in rules.iter().enumerate() {
         look_at_resources(
             alloc,
@@ -282,6 +277,23 @@ fn look_at_role(
             origin,
             found,
         )?;
+    }
+    Ok(())
+}
+
+/// Notes the rules of a role that another rule of it covers.
+fn look_for_covered(
+    alloc: Global,
+    words: &str,
+    rules: &[PolicyRule],
+    origin: Origin,
+    found: &mut Vec<Finding>,
+) -> Result<(), Memory> {
+    for covered in covered_rules(alloc, rules)?.iter() {
+        let rule = covered.rule;
+        let by = covered.by;
+        let text = format!(in alloc; "{words}: rule {by} covers rule {rule}")?;
+        found.push(Finding { origin, text })?;
     }
     Ok(())
 }

@@ -55,21 +55,12 @@ pub fn run_serve<
         + Net<Listener = TcpListener, Stream = TcpStream>
         + 'static,
 >(rt: &R, options: &ServeOptions) -> io::Result<Ending> {
-    if options.idle_readers {
-        eprintln!(rt; "--readers has no effect without --answer")?;
-    }
-    for listen in options.listens.iter() {
-        tell_names(rt, listen)?;
-    }
+    warn_of_options(rt, options)?;
     let Some(table) = read_kinds(rt, options.kinds.as_slice())? else {
         return Ok(Ending::Stopped);
     };
     let Some(opening) = read_opening(rt, options)? else {
         return Ok(Ending::Stopped);
-    };
-    let seats = match options.answer {
-        Some(_port) => options.readers,
-        None => 1,
     };
     let first = options.first_revision;
     let milliseconds = match first {
@@ -83,7 +74,7 @@ pub fn run_serve<
         objects_of(&opening),
         first,
         milliseconds,
-        seats,
+        seats_of(options),
     ) {
         Ok(started) => {
             // The text of the file is not kept beside what was made of it.
@@ -92,6 +83,27 @@ pub fn run_serve<
         }
         Err(fault) => refuse_begin(rt, &table, fault, first_of(first, milliseconds), &opening),
     }
+}
+
+/// How many readers answer questions; one seat is there without a port for them.
+fn seats_of(options: &ServeOptions) -> usize
+    ensures { (1 ≤ result) × (result ≤ 16) }
+{
+    match options.answer {
+        Some(_port) => options.readers,
+        None => 1,
+    }
+}
+
+/// Reports options without effect, and ports whose user or group hardly anybody means.
+fn warn_of_options(rt: &impl Eprint, options: &ServeOptions) -> io::Result<()> {
+    if options.idle_readers {
+        eprintln!(rt; "--readers has no effect without --answer")?;
+    }
+    for listen in options.listens.iter() {
+        tell_names(rt, listen)?;
+    }
+    Ok(())
 }
 
 /// Reports a port whose user or group hardly anybody means.
