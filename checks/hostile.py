@@ -3,7 +3,7 @@
 usage: python3 -m checks.hostile PROGRAM [ATTACK..]     all attacks if none is named
 
 Without any right: greedy flood silent stalled idle spin line readers. With the right to read: list selector window. To
-create roles: memory missing rules. To create cluster roles: labels. To create reviews: groups repeats.
+create roles: memory missing rules bound_again. To create cluster roles: labels. To create reviews: groups repeats.
 Each attack starts a server of its own on free ports, and is bounded in count and time. The exit status is 1 where one is
 above its bound.
 """
@@ -36,6 +36,7 @@ ROLES = f"/apis/{RBAC}/v1/namespaces/default/roles"
 STARVED_CLIENTS, STARVED_SECONDS, LONG = 50, 20, 320
 IDLE_CLIENTS, LISTED, WIDE, CHECKED, LABELLED = 320, 100_000, 56, 1_000, 5_000
 QUIET, REMOVED = 100, 1_000
+RULES = 300
 
 
 def take_ports():
@@ -403,6 +404,18 @@ def rules(program):
     return judge(f"a role of {CHECKED:,} rules of four lists of 12", [("seconds of processor time", used, 0.6), ("refused", answer[9:12] != b"201", 0)])
 
 
+def bound_again(program):
+    """A role of one rule, by one who may create roles and holds a role of hundreds of rules by thousands of bindings."""
+    short = [long_rule(1, f"r{number}-") for number in range(RULES)]
+    role, binding = grant("Role", "create", group=RBAC, resource="roles")
+    role["rules"] += short
+    bindings = [binding | {"metadata": {"name": f"b{number:05}", "namespace": "default"}} for number in range(BINDINGS)]
+    with Server(program, objects=[role, *bindings]) as server:
+        before, (_took, answer) = server.precise(), timed(connect(ports.ANN), "POST", ROLES, role_of("short", short[0]))
+        used = server.precise() - before
+    return judge(f"a role beside {BINDINGS:,} bindings of one of {RULES} rules", [("ms of processor time", 1000 * used, 20), ("refused", answer[9:12] != b"201", 0)])
+
+
 def labels(program):
     """A cluster role by one who may create them, beside thousands of labelled ones from which another takes its rules."""
     kind = {"apiVersion": f"{RBAC}/v1", "kind": "ClusterRole"}
@@ -435,7 +448,7 @@ def window(program):
     return judge(f"a deletion of {REMOVED:,} objects", [("bytes shown to a watch that it does not concern, 0 or a 410", len(shown), None)])
 
 
-ATTACKS = {it.__name__: it for it in (greedy, flood, silent, stalled, idle, spin, line, readers, selector, window, memory, missing, rules, labels, groups, repeats)}
+ATTACKS = {it.__name__: it for it in (greedy, flood, silent, stalled, idle, spin, line, readers, selector, window, memory, missing, rules, bound_again, labels, groups, repeats)}
 ATTACKS["list"] = long_list
 
 
