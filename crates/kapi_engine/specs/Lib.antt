@@ -1,0 +1,3 @@
+pub mod Engines
+pub mod Decisions
+pub mod Manifests

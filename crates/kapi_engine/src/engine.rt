@@ -1,0 +1,31 @@
+ghost use Rattle.kapi_text.specs.Gives.{Gives};
+ghost use Rattle.kapi_loading.specs.Faults.{fault_told};
+ghost use Rattle.kapi_engine.specs.Engines.{engine_of};
+
+use kapi_index::IndexedPolicy;
+use kapi_loading::{StartError, is_settled, load_policy};
+use std::alloc::Global;
+
+/// A policy that was loaded, and whether its aggregated cluster roles have their unions. Contracts see its roles and
+/// bindings as `policy`.
+#[derive(Drop)]
+pub struct Engine {
+    pub policy: IndexedPolicy,
+    pub settled: bool,
+}
+
+/// The policy of objects alone, a JSON object a line, a namespace before what lives in it; empty lines and those that begin
+/// with `#` are skipped. It is the policy of a server that begins with these objects in place of its own, as with
+/// `--manifests`, so what is decided by it is what that server decides. The five opening objects of other servers count if
+/// they are among the lines.
+///
+/// # Errors
+/// `Line` at the first line that is not loaded, `Memory` where an allocation fails.
+pub fn load(alloc: Global, objects: &[u8]) -> Result<Engine, StartError>
+    ensures { Gives fault_told (λ e. e) result (engine_of objects.now) }
+{
+    let mut core = load_policy(alloc, objects)?;
+    let policy = core.policy().copy()?;
+    let settled = is_settled(&mut core)?;
+    Ok(Engine { policy, settled })
+}

@@ -1,0 +1,19 @@
+//! Questions to a policy that was loaded: whether somebody may do something and why, what somebody lacks of a role, who
+//! may do something, what somebody has, who can gain more, who can become whom, and what another policy gives besides.
+//! Nothing here waits, starts a thread or reads a file.
+#![tactic(auto)]
+
+mod answers;
+mod deciding;
+mod engine;
+mod line;
+mod manifests;
+
+pub use answers::compare;
+pub use engine::{Engine, load};
+pub use kapi_access::{Compared, Form, Holder, Identities, LineFault, Scope, Shown, Wanted};
+pub use kapi_audit::{access_reviews, question_of};
+pub use kapi_loading::StartError;
+pub use kapi_reviews::Question;
+pub use line::decision_line;
+pub use manifests::{ManifestsFault, load_manifests};

@@ -1,0 +1,72 @@
+//! Engines of manifests.
+ghost use Rattle.std.specs.Prelude.{◌≡◌, map};
+ghost use Rattle.kapi_engine.specs.Manifests.{IsOfManifests, origin_of as origin_in};
+
+use crate::engine::{Engine, load};
+use kapi_loading::StartError;
+use kapi_manifests::{Fault, Options, Origin, Prepared, Scope, prepare};
+use kapi_text::Memory;
+use std::alloc::Global;
+
+/// Why files of manifests make no engine.
+#[derive(Debug, Drop)]
+pub enum ManifestsFault {
+    /// What is wrong with the files, in order, and is never empty.
+    Files(Vec<Fault>),
+    /// The object that begins there is not loaded, as by a server.
+    Object(Origin),
+    Memory,
+}
+
+impl From<Memory> for ManifestsFault {
+    ghost use Rattle.std.specs.Prelude.{◌≡◌};
+    ghost use Rattle.kapi_engine.specs.declared.manifests.ManifestsFault.TheVariants.{Memory as NoMemory};
+
+    ghost from_gives = { λ _ e. e ≡ NoMemory };
+
+    fn from(_refused: Memory) -> ManifestsFault {
+        ManifestsFault::Memory
+    }
+}
+
+/// The policy of files of manifests, each with JSON objects and Lists of them one after the other; objects that are no
+/// part of a policy are passed over. An object that names no namespace and lives in one is in `namespace`, unless that is
+/// empty; with `defaults`, Kubernetes' user-facing roles stand beneath the files.
+///
+/// # Errors
+/// `Files` if a file is no manifests, `Object` at the first object that a server would not create, `Memory` where an
+/// allocation fails.
+pub fn load_manifests(
+    alloc: Global,
+    namespace: &str,
+    defaults: bool,
+    files: &[&[u8]],
+) -> Result<Engine, ManifestsFault>
+    ensures { IsOfManifests namespace.now defaults (map (λ text. text.now) files.now) result }
+{
+    let options = Options {
+        scope: Scope::Policy,
+        namespace,
+        defaults,
+        words: false,
+    };
+    let prepared = prepare(alloc, options, files)?;
+    if !prepared.faults.is_empty() {
+        return Err(ManifestsFault::Files(prepared.faults));
+    }
+    match load(alloc, prepared.text.as_slice()) {
+        Ok(engine) => Ok(engine),
+        Err(StartError::Line(number)) => Err(ManifestsFault::Object(origin_of(&prepared, number))),
+        Err(StartError::Memory) => Err(ManifestsFault::Memory),
+    }
+}
+
+/// Where the object of a line begins; file and line 0 if there is no such line.
+fn origin_of(prepared: &Prepared, number: usize) -> Origin
+    ensures { result ≡ origin_in prepared.now.origins.items number }
+{
+    match prepared.origins.get(number.saturating_sub(1)) {
+        Some(origin) => *origin,
+        None => Origin { file: 0, line: 0 },
+    }
+}
