@@ -1,13 +1,10 @@
 -- Answers about the policies of files.
-use Rattle.std.specs.Prelude.{◌≡◌, ℕ, ◌==◌, not, Bool, true, false, List, ◌++◌, length, Option, Some, None, Result, Ok, Err}
-use Rattle.kapi_text.specs.Gives.{Fails, ◌>>=◌}
-use Rattle.kapi_lines.specs.Lines.{NumberedLine, lines_of}
-use Rattle.kapi_core.specs.Machine.{Machine, policy_of}
-use Rattle.kapi_core.specs.Running.{Running}
-use Rattle.kapi_core.specs.Refines.{Refines}
+use Rattle.std.specs.Prelude.{ℕ, ◌==◌, not, Bool, true, false, List, ◌++◌, length, Option, Some, None, Result, Ok, Err}
+use Rattle.kapi_text.specs.Gives.{◌>>=◌}
+use Rattle.kapi_lines.specs.Lines.{lines_of}
 use Rattle.kapi_loading.specs.Faults.{FileFault, bad_line}
-use Rattle.kapi_loading.specs.Loading.{policy_machine}
-use Rattle.kapi_loading.specs.Settled.{is_settled}
+use Rattle.kapi_engine.specs.Engines.{engine_of}
+use Rattle.kapi_engine.specs.declared.engine.Engine.{Engine}
 use Rattle.kapi_access.specs.Gained.{gained}
 use Rattle.kapi_access.specs.declared.identities.Identities.{Identities}
 use Rattle.kapi_access.specs.Risks.{risks}
@@ -21,7 +18,6 @@ use Rattle.kapi_access.specs.declared.rights.Holder.{Holder}
 use Rattle.kapi.specs.declared.policies.Answered.{Answered}
 use Rattle.kapi.specs.declared.policies.Compared.{Compared}
 use Rattle.kapi.specs.declared.policies.FilesFault.{FilesFault}
-use Rattle.kapi.specs.declared.policies.LoadedPolicy.{LoadedPolicy}
 use Rattle.kapi.specs.declared.policies.FilesFault.TheVariants as fault
 use Rattle.kapi_loading.specs.declared.fault.StartError.{StartError}
 use Rattle.kapi_loading.specs.declared.fault.StartError.TheVariants as start
@@ -56,31 +52,16 @@ abbrev pub question_fault : LineFault → FilesFault
 question_fault (lined.Question n) = fault.Question n
 question_fault lined.Memory = fault.Memory
 
--- ---- machines
+-- ---- engines
 
--- a core refines the machine that is given, or that fault is why there is none
-abbrev pub Holds : {E F : Type 0} → (E → Option F) → Result Running E → Result Machine F → Type 0
-Holds told (Ok core) given = (m : Machine) × (given ≡ Ok m) × Refines core m
-Holds told (Err e) given = Fails (told e) given
-
--- the policy is that of the machine, and settled where its roles are
-pub record IsPolicyOf (l : LoadedPolicy) (m : Machine) : Type 0 where
-  pub policy : l.policy ≡ policy_of m
-  pub settled : l.settled ≡ is_settled m
-
--- the policy of the machine that is given, or that fault is why there is none
-abbrev pub IsLoaded : {E F : Type 0} → (E → Option F) → Result LoadedPolicy E → Result Machine F → Type 0
-IsLoaded told (Ok l) given = (m : Machine) × (given ≡ Ok m) × IsPolicyOf l m
-IsLoaded told (Err e) given = Fails (told e) given
-
--- the machine of the first file
-abbrev pub as_first : Result Machine FileFault → Result Machine FilesError
-as_first (Ok m) = Ok m
+-- the engine of the first file
+abbrev pub as_first : Result Engine FileFault → Result Engine FilesError
+as_first (Ok e) = Ok e
 as_first (Err (bad_line n)) = Err (first_line n)
 
--- the machine of the second file
-abbrev pub as_second : Result Machine FileFault → Result Machine FilesError
-as_second (Ok m) = Ok m
+-- the engine of the second file
+abbrev pub as_second : Result Engine FileFault → Result Engine FilesError
+as_second (Ok e) = Ok e
 as_second (Err (bad_line n)) = Err (second_line n)
 
 -- ---- answers
@@ -92,22 +73,22 @@ pub record Comparison : Type 0 where
   pub before_settled : Bool
   pub after_settled : Bool
 
--- what the policy of one machine allows those identities that another's did not
-abbrev pub comparison : Form → Shown → Identities → Machine → Machine → Comparison
+-- what one policy allows those identities that another did not
+abbrev pub comparison : Form → Shown → Identities → Engine → Engine → Comparison
 comparison f s who b a = record {
-  text = gains_text f s (gained who (policy_of b) (policy_of a));
-  gains = not (length (gained who (policy_of b) (policy_of a)) == 0);
-  before_settled = is_settled b;
-  after_settled = is_settled a;
+  text = gains_text f s (gained who b.policy a.policy);
+  gains = not (length (gained who b.policy a.policy) == 0);
+  before_settled = b.settled;
+  after_settled = a.settled;
 }
 
--- the comparison of a machine's policy with that of a second file
-abbrev pub compared_to : Form → Shown → Identities → Machine → Result Machine FileFault → Result Comparison FilesError
+-- the comparison of a policy with that of a second file
+abbrev pub compared_to : Form → Shown → Identities → Engine → Result Engine FileFault → Result Comparison FilesError
 compared_to f s who b second = as_second second >>= λ a. Ok (comparison f s who b a)
 
 -- the comparison of the policies that two files are
 unfoldable pub compare_files : Form → Shown → Identities → List ℕ → List ℕ → Result Comparison FilesError
-compare_files f s who before after = as_first (policy_machine before) >>= λ b. compared_to f s who b (policy_machine after)
+compare_files f s who before after = as_first (engine_of before) >>= λ b. compared_to f s who b (engine_of after)
 
 -- a comparison, as data
 abbrev pub compared_told : Compared → Comparison
@@ -127,39 +108,39 @@ pub record Reply : Type 0 where
 abbrev pub answered_told : Answered → Reply
 answered_told a = record { text = a.text.items; settled = a.settled }
 
--- who may do what is asked, by the policy of a machine
-abbrev pub who_on : Form → Wanted → Machine → Reply
-who_on f w m = record { text = who_text f (policy_of m) w; settled = is_settled m }
+-- who may do what is asked, by a policy
+abbrev pub who_on : Form → Wanted → Engine → Reply
+who_on f w e = record { text = who_text f e.policy w; settled = e.settled }
 
 -- who may do what is asked, by the policy that a file is
 unfoldable pub who_wanted : Form → List ℕ → Wanted → Result Reply FilesError
-who_wanted f objects w = as_first (policy_machine objects) >>= λ m. Ok (who_on f w m)
+who_wanted f objects w = as_first (engine_of objects) >>= λ e. Ok (who_on f w e)
 
 -- the line that is no question
 abbrev pub as_question : Result (List ℕ) LineError → Result (List ℕ) FilesError
 as_question (Ok text) = Ok text
 as_question (Err (no_question n)) = Err (question_line n)
 
--- who may do what each line asks, by the policy of a machine
-abbrev pub lines_on : Form → List NumberedLine → Machine → Result Reply FilesError
-lines_on f lines m = as_question (answered_lines f (policy_of m) lines) >>= λ text. Ok (record { text = text; settled = is_settled m })
+-- who may do what each line of a file asks, by a policy
+abbrev pub lines_on : Form → List ℕ → Engine → Result Reply FilesError
+lines_on f questions e = as_question (answered_lines f e.policy (lines_of questions)) >>= λ text. Ok (record { text = text; settled = e.settled })
 
 -- who may do what each line of a file asks, by the policy that another file is
 unfoldable pub who_file : Form → List ℕ → List ℕ → Result Reply FilesError
-who_file f objects questions = as_first (policy_machine objects) >>= λ m. lines_on f (lines_of questions) m
+who_file f objects questions = as_first (engine_of objects) >>= λ e. lines_on f questions e
 
--- what a user has by the policy of a machine
-abbrev pub what_on : Form → Holder → Machine → Reply
-what_on f h m = record { text = what_text f (policy_of m) h; settled = is_settled m }
+-- what a user has by a policy
+abbrev pub what_on : Form → Holder → Engine → Reply
+what_on f h e = record { text = what_text f e.policy h; settled = e.settled }
 
 -- what a user has by the policy that a file is
 unfoldable pub what_file : Form → List ℕ → Holder → Result Reply FilesError
-what_file f objects h = as_first (policy_machine objects) >>= λ m. Ok (what_on f h m)
+what_file f objects h = as_first (engine_of objects) >>= λ e. Ok (what_on f h e)
 
 -- who may gain more than a policy grants, and what holds of all others
-abbrev pub risks_on : Form → Machine → Reply
-risks_on f m = record { text = ways_text f (risks (policy_of m)) ++ settled_line f (is_settled m); settled = is_settled m }
+abbrev pub risks_on : Form → Engine → Reply
+risks_on f e = record { text = ways_text f (risks e.policy) ++ settled_line f e.settled; settled = e.settled }
 
 -- who may gain more than the policy of a file grants, and what holds of all others
 unfoldable pub risks_file : Form → List ℕ → Result Reply FilesError
-risks_file f objects = as_first (policy_machine objects) >>= λ m. Ok (risks_on f m)
+risks_file f objects = as_first (engine_of objects) >>= λ e. Ok (risks_on f e)

@@ -16,7 +16,6 @@ use kapi_text::{Memory, Text};
 use std::alloc::Global;
 use std::fs::Files;
 use std::io;
-use std::sync::Wait;
 use std::thread::Threads;
 
 /// A file of questions that was read, and its name.
@@ -29,9 +28,10 @@ struct Source<'a> {
 /// Prints what a policy allows that another did not, or, with `--lost`, what the other allowed that it does not: status 0 if
 /// there is nothing, 3 if there is something, 4 if the roles of a policy are not settled, or 1 after a line on standard
 /// error.
-pub fn run_compare<
-    R: Files + Input + Print + Eprint + AllocGlobal + Wait + Threads + Sync + Clone + Drop,
->(rt: &R, words: &CompareWords) -> io::Result<Ending> {
+pub fn run_compare<R: Files + Input + Print + Eprint + AllocGlobal + Threads + Sync + Clone + Drop>(
+    rt: &R,
+    words: &CompareWords,
+) -> io::Result<Ending> {
     let asking = &words.after;
     let before = read_policy(rt, words.before.as_str(), &asking.reading)?;
     let after = read_policy(rt, asking.policy.as_str(), &asking.reading)?;
@@ -115,7 +115,7 @@ fn tell_compared<R: Print + Eprint + AllocGlobal>(
 }
 
 /// Prints who may do something: status 0, 4 if the roles are not settled, or 1 after a line on standard error.
-pub fn run_who<R: Files + Input + Print + Eprint + AllocGlobal + Wait + Clone + Drop>(
+pub fn run_who<R: Files + Input + Print + Eprint + AllocGlobal + Clone + Drop>(
     rt: &R,
     words: &WhoWords,
 ) -> io::Result<Ending> {
@@ -134,13 +134,13 @@ pub fn run_who<R: Files + Input + Print + Eprint + AllocGlobal + Wait + Clone + 
                 return Ok(Ending::Stopped);
             };
             let questions = file_of(file.as_str(), lines.as_slice());
-            let asked = who_file(rt.alloc(), rt, asking.form, policy.lines(), questions.bytes);
+            let asked = who_file(rt.alloc(), asking.form, policy.lines(), questions.bytes);
             answer(rt, asking, &policy, &questions, None, asked)
         }
     }
 }
 
-fn ask_words<R: AllocGlobal + Wait>(
+fn ask_words<R: AllocGlobal>(
     rt: &R,
     form: Form,
     objects: &[u8],
@@ -161,7 +161,7 @@ fn ask_words<R: AllocGlobal + Wait>(
         scope,
         wanted.name.as_str(),
     )?;
-    who_wanted(rt.alloc(), rt, form, objects, &wanted)
+    who_wanted(rt.alloc(), form, objects, &wanted)
 }
 
 /// Prints an answer about a policy and reports the doubts about it and about the questions: status 0, 4 if the roles are
@@ -197,7 +197,7 @@ fn answer<R: Print + Eprint + AllocGlobal>(
 }
 
 /// Prints what a user has: status 0, 4 if the roles are not settled, or 1 after a line on standard error.
-pub fn run_what<R: Files + Input + Print + Eprint + AllocGlobal + Wait + Clone + Drop>(
+pub fn run_what<R: Files + Input + Print + Eprint + AllocGlobal + Clone + Drop>(
     rt: &R,
     words: &WhatWords,
 ) -> io::Result<Ending> {
@@ -206,7 +206,7 @@ pub fn run_what<R: Files + Input + Print + Eprint + AllocGlobal + Wait + Clone +
         return Ok(Ending::Stopped);
     };
     let holder = holder_of(rt.alloc(), words)?;
-    let asked = what_file(rt.alloc(), rt, asking.form, policy.lines(), &holder);
+    let asked = what_file(rt.alloc(), asking.form, policy.lines(), &holder);
     answer(
         rt,
         asking,
@@ -237,14 +237,14 @@ fn holder_of(alloc: Global, words: &WhatWords) -> Result<Holder, Memory> {
 
 /// Prints who may gain more than a policy grants: status 0, 4 if the roles are not settled, or 1 after a line on
 /// standard error.
-pub fn run_risks<R: Files + Input + Print + Eprint + AllocGlobal + Wait + Clone + Drop>(
+pub fn run_risks<R: Files + Input + Print + Eprint + AllocGlobal + Clone + Drop>(
     rt: &R,
     asking: &Asking,
 ) -> io::Result<Ending> {
     let Some(policy) = read_policy(rt, asking.policy.as_str(), &asking.reading)? else {
         return Ok(Ending::Stopped);
     };
-    let asked = risks_file(rt.alloc(), rt, asking.form, policy.lines());
+    let asked = risks_file(rt.alloc(), asking.form, policy.lines());
     answer(
         rt,
         asking,
@@ -256,7 +256,7 @@ pub fn run_risks<R: Files + Input + Print + Eprint + AllocGlobal + Wait + Clone 
 }
 
 /// Prints who can become whom by a policy: status 0, 4 if the roles are not settled, or 1 after a line on standard error.
-pub fn run_paths<R: Files + Input + Print + Eprint + AllocGlobal + Wait + Clone + Drop>(
+pub fn run_paths<R: Files + Input + Print + Eprint + AllocGlobal + Clone + Drop>(
     rt: &R,
     words: &PathsWords,
 ) -> io::Result<Ending> {
@@ -270,7 +270,7 @@ pub fn run_paths<R: Files + Input + Print + Eprint + AllocGlobal + Wait + Clone 
     let Some(policy) = read_policy(rt, asking.policy.as_str(), &asking.reading)? else {
         return Ok(Ending::Stopped);
     };
-    let asked = paths_file(rt.alloc(), rt, words, policy.lines());
+    let asked = paths_file(rt.alloc(), words, policy.lines());
     answer(
         rt,
         asking,

@@ -3,13 +3,12 @@ use crate::asking::{doubts_of, tell_unsettled};
 use crate::ending::Ending;
 use crate::kinds::read_kinds;
 use crate::manifests::{ReadPolicy, read_policy, tell_refused};
-use crate::policies::{FilesFault, loaded_first};
+use crate::policies::{FilesFault, load_first};
 use crate::program::Asking;
 use crate::telling::print;
 use kapi_access::{absent_accounts, bound_places, covered_rules, dangles};
 use kapi_index::IndexedPolicy;
 use kapi_lines::numbered_lines;
-use kapi_loading::is_settled;
 use kapi_manifests::Origin;
 use kapi_model::{PolicyRule, ResourceRow, RoleKind, RoleRef};
 use kapi_policy::{Binding, BindingKind, NamespacedName, Policy};
@@ -21,7 +20,6 @@ use std::alloc::Global;
 use std::collections::{BTreeMap, BTreeSet};
 use std::fs::Files;
 use std::io;
-use std::sync::Wait;
 
 /// What dangles at an object of a file.
 #[derive(Drop)]
@@ -55,7 +53,7 @@ struct Named<'a> {
 
 /// Prints what dangles: status 0 if nothing does, 3 if something does, 4 if the roles are not settled, or 1 after a line
 /// on standard error.
-pub fn run_check<R: Files + Input + Print + Eprint + AllocGlobal + Wait + Clone + Drop>(
+pub fn run_check<R: Files + Input + Print + Eprint + AllocGlobal + Clone + Drop>(
     rt: &R,
     asking: &Asking,
     kinds: &[String],
@@ -66,8 +64,8 @@ pub fn run_check<R: Files + Input + Print + Eprint + AllocGlobal + Wait + Clone 
     let Some(policy) = read_policy(rt, asking.policy.as_str(), &asking.reading)? else {
         return Ok(Ending::Stopped);
     };
-    let mut core = match loaded_first(rt.alloc(), rt, policy.lines()) {
-        Ok(core) => core,
+    let engine = match load_first(rt.alloc(), policy.lines()) {
+        Ok(engine) => engine,
         Err(FilesFault::Memory) => {
             eprintln!(rt; "out of memory")?;
             return Ok(Ending::Stopped);
@@ -77,14 +75,13 @@ pub fn run_check<R: Files + Input + Print + Eprint + AllocGlobal + Wait + Clone 
             return Ok(Ending::Stopped);
         }
     };
-    let findings = findings(rt.alloc(), &policy, core.policy(), table.as_slice())?;
+    let findings = findings(rt.alloc(), &policy, &engine.policy, table.as_slice())?;
     let json = asking.form == kapi_access::Form::Json;
     print(
         rt,
         text_of(rt.alloc(), json, &policy, findings.as_slice())?.as_slice(),
     )?;
-    let settled = is_settled(&mut core)?;
-    tell_unsettled(rt, asking.policy.as_str(), settled)?;
+    tell_unsettled(rt, asking.policy.as_str(), engine.settled)?;
     let doubted = asking.reading.strict && !policy.has_policy();
     if !policy.has_policy() {
         drop(doubts_of(rt, asking.policy.as_str(), &policy)?);
@@ -94,7 +91,7 @@ pub fn run_check<R: Files + Input + Print + Eprint + AllocGlobal + Wait + Clone 
     } else {
         Ending::Dangles
     };
-    Ok(ending.or_doubted(doubted).or_unsettled(settled))
+    Ok(ending.or_doubted(doubted).or_unsettled(engine.settled))
 }
 
 /// The findings as they are printed, a line each.

@@ -3,11 +3,10 @@ use crate::asking::{doubts_of, tell_unsettled};
 use crate::checking::request_words;
 use crate::ending::Ending;
 use crate::manifests::{read_policy, tell_refused};
-use crate::policies::loaded_first;
+use crate::policies::load_first;
 use crate::program::{AuditFiles, Reading};
 use crate::telling::{print, read_file};
 use kapi_lines::numbered_lines;
-use kapi_loading::is_settled;
 use kapi_policy::Policy;
 use kapi_reviews::Question;
 use kapi_suggest::{Shown, read_event};
@@ -17,7 +16,6 @@ use std::alloc::Global;
 use std::collections::BTreeMap;
 use std::fs::Files;
 use std::io;
-use std::sync::Wait;
 use std::time::{Clock, Instant};
 
 /// After so many lines the clock is asked.
@@ -33,7 +31,7 @@ struct Logged {
 
 /// Prints each request that the policy decides otherwise than the log, and then how often whom it would refuse what: status
 /// 0 if no decision differs, 3 if one does, 4 if the roles are not settled, or 1 after a line on standard error.
-pub fn audit_log<R: Files + Input + Print + Eprint + AllocGlobal + Wait + Clock + Clone + Drop>(
+pub fn audit_log<R: Files + Input + Print + Eprint + AllocGlobal + Clock + Clone + Drop>(
     rt: &R,
     files: &AuditFiles,
     reading: &Reading,
@@ -54,14 +52,13 @@ pub fn audit_log<R: Files + Input + Print + Eprint + AllocGlobal + Wait + Clock 
             return Ok(Ending::Stopped);
         }
     };
-    let Ok(mut core) = loaded_first(rt.alloc(), rt, policy.lines()) else {
+    let Ok(engine) = load_first(rt.alloc(), policy.lines()) else {
         tell_refused(rt, &policy)?;
         return Ok(Ending::Stopped);
     };
-    let judged = judge(rt.alloc(), files.json, core.policy(), logged.as_slice())?;
+    let judged = judge(rt.alloc(), files.json, &engine.policy, logged.as_slice())?;
     print(rt, judged.text.as_slice())?;
-    let settled = is_settled(&mut core)?;
-    tell_unsettled(rt, name, settled)?;
+    tell_unsettled(rt, name, engine.settled)?;
     let doubts = doubts_of(rt, name, &policy)?;
     let ending = if judged.differ {
         Ending::Differing
@@ -69,7 +66,7 @@ pub fn audit_log<R: Files + Input + Print + Eprint + AllocGlobal + Wait + Clock 
         Ending::Done
     };
     let doubted = reading.strict && doubts.are_some();
-    Ok(ending.or_doubted(doubted).or_unsettled(settled))
+    Ok(ending.or_doubted(doubted).or_unsettled(engine.settled))
 }
 
 /// The requests that a log's lines show, or the first line that is no event. On a terminal it is shown how many were read.

@@ -1,33 +1,19 @@
 //! Answers about the policies of files.
-ghost use Rattle.std.specs.Prelude.{◌≡◌, Result, map, IfOk};
+ghost use Rattle.std.specs.Prelude.{◌≡◌, Result, IfOk};
 ghost use Rattle.kapi_text.specs.Gives.{Gives};
-ghost use Rattle.kapi_lines.specs.Lines.{line_of};
-ghost use Rattle.kapi_core.specs.Machine.{Machine};
-ghost use Rattle.kapi_core.specs.Refines.{Refines};
 ghost use Rattle.kapi_loading.specs.Faults as loading;
 ghost use Rattle.kapi_loading.specs.Faults.{FileFault};
-ghost use Rattle.kapi_loading.specs.Loading.{policy_machine};
-ghost use Rattle.kapi_access.specs.Risks.{risks};
-ghost use Rattle.kapi_access.specs.Answers.{ways_text, who_text};
-ghost use Rattle.kapi_access.specs.Rights.{what_text};
-ghost use Rattle.kapi_access.specs.Lines as lined;
-ghost use Rattle.kapi_access.specs.Lines.{answered_lines};
+ghost use Rattle.kapi_engine.specs.Engines.{engine_of};
+ghost use Rattle.kapi_engine.specs.declared.engine.Engine.{Engine as AnEngine};
 ghost use Rattle.kapi.specs.Policies as files;
-ghost use Rattle.kapi.specs.Policies.{Holds, IsLoaded, IsPolicyOf, answered_told, as_first, compared_to, compared_told, comparison, fault_told, lines_on, risks_on, what_on, who_on};
+ghost use Rattle.kapi.specs.Policies.{answered_told, as_first, compared_to, compared_told, comparison, fault_told};
 
 use crate::program::PathsWords;
-use kapi_access::{
-    Form, Holder, Identities, LineFault, Shown, Wanted, answer_compare, answer_lines, answer_risks,
-    answer_what, answer_who, settled_line,
+use kapi_engine::{
+    Engine, Form, Holder, Identities, LineFault, Shown, StartError, Wanted, compare, load,
 };
-use kapi_core::Core;
-use kapi_index::IndexedPolicy;
-use kapi_lines::{Line, numbered_lines};
-use kapi_loading::{StartError, Started, is_settled, start_policy};
-use kapi_paths::answer_paths;
 use kapi_text::{Memory, Text};
 use std::alloc::Global;
-use std::sync::Wait;
 use std::thread;
 use std::thread::Threads;
 
@@ -38,13 +24,6 @@ pub struct Compared {
     pub gains: bool,
     pub before_settled: bool,
     pub after_settled: bool,
-}
-
-/// The policy that a file of objects makes, and whether its roles are settled.
-#[derive(Drop)]
-pub struct LoadedPolicy {
-    policy: IndexedPolicy,
-    settled: bool,
 }
 
 /// What is printed of an answer, and whether the roles of the policy are settled.
@@ -77,24 +56,6 @@ impl From<Memory> for FilesFault {
     }
 }
 
-/// The machine that a file of objects makes, with its turns.
-fn loaded<R: Wait>(alloc: Global, rt: &R, objects: &[u8]) -> Result<Core<IndexedPolicy>, StartError>
-    ensures { Holds loading.fault_told result (policy_machine objects.now) }
-{
-    match start_policy(alloc, rt, objects, 1) {
-        Ok(started) => {
-            let Started {
-                core,
-                desk,
-                seats: _seats,
-            } = started;
-            drop(desk.close(rt));
-            Ok(core)
-        }
-        Err(error) => Err(error),
-    }
-}
-
 /// The fault of a first policy that is not loaded.
 fn first_fault(error: StartError) -> FilesFault
     ensures { result ≡ files.first_fault error }
@@ -115,66 +76,39 @@ fn second_fault(error: StartError) -> FilesFault
     }
 }
 
-/// The machine that a first policy makes, with its turns.
+/// The policy of the first file.
 ///
 /// # Errors
 /// `First` at the first line that is not loaded, `Memory` where an allocation fails.
-pub fn loaded_first<R: Wait>(
-    alloc: Global,
-    rt: &R,
-    objects: &[u8],
-) -> Result<Core<IndexedPolicy>, FilesFault>
-    ensures { Holds fault_told result (as_first (policy_machine objects.now)) }
+pub fn load_first(alloc: Global, objects: &[u8]) -> Result<Engine, FilesFault>
+    ensures { Gives fault_told (λ e. e) result (as_first (engine_of objects.now)) }
 {
-    match loaded(alloc, rt, objects) {
-        Ok(core) => Ok(core),
+    match load(alloc, objects) {
+        Ok(engine) => Ok(engine),
         Err(error) => Err(first_fault(error)),
     }
 }
 
 // ---- comparisons
 
-/// The policy that a file of objects makes, with its turns.
-fn load_policy<R: Wait>(alloc: Global, rt: &R, objects: &[u8]) -> Result<LoadedPolicy, StartError>
-    ensures { IsLoaded loading.fault_told result (policy_machine objects.now) }
-{
-    match start_policy(alloc, rt, objects, 1) {
-        Ok(started) => {
-            let Started {
-                core,
-                desk,
-                seats: _seats,
-            } = started;
-            let mut core = core;
-            let policy = desk.close(rt);
-            let settled = is_settled(&mut core)?;
-            Ok(LoadedPolicy { policy, settled })
-        }
-        Err(error) => Err(error),
-    }
-}
-
 /// The policies of two files, side by side where a thread can be made.
-fn load_both<R: Wait + Threads + Sync>(
+fn load_both<R: Threads + Sync>(
     alloc: Global,
     rt: &R,
     before: &[u8],
     after: &[u8],
-) -> (
-    Result<LoadedPolicy, StartError>,
-    Result<LoadedPolicy, StartError>,
-)
-    ensures before { IsLoaded loading.fault_told result.0 (policy_machine before.now) }
-    ensures after { IsLoaded loading.fault_told result.1 (policy_machine after.now) }
+) -> (Result<Engine, StartError>, Result<Engine, StartError>)
+    ensures before { Gives loading.fault_told (λ e. e) result.0 (engine_of before.now) }
+    ensures after { Gives loading.fault_told (λ e. e) result.1 (engine_of after.now) }
 {
     thread::join(
         rt,
-        move || -> Result<LoadedPolicy, StartError>
-            ensures { IsLoaded loading.fault_told result (policy_machine before.entry.now) }
-        { load_policy(alloc, rt, before) },
-        move || -> Result<LoadedPolicy, StartError>
-            ensures { IsLoaded loading.fault_told result (policy_machine after.entry.now) }
-        { load_policy(alloc, rt, after) },
+        move || -> Result<Engine, StartError>
+            ensures { Gives loading.fault_told (λ e. e) result (engine_of before.entry.now) }
+        { load(alloc, before) },
+        move || -> Result<Engine, StartError>
+            ensures { Gives loading.fault_told (λ e. e) result (engine_of after.entry.now) }
+        { load(alloc, after) },
     )
 }
 
@@ -184,24 +118,12 @@ fn compare_policies(
     form: Form,
     shown: Shown,
     identities: Identities,
-    before: &LoadedPolicy,
-    after: &LoadedPolicy,
+    before: &Engine,
+    after: &Engine,
 ) -> Result<Compared, Memory>
-    ensures { (b a : Machine) → IsPolicyOf before.now b → IsPolicyOf after.now a
-        → IfOk result (λ c. compared_told c ≡ comparison form shown identities b a) }
+    ensures { IfOk result (λ c. compared_told c ≡ comparison form shown identities before.now after.now) }
 {
-    let stood = before.policy.bindings()?;
-    let bindings = after.policy.bindings()?;
-    let compared = answer_compare(
-        alloc,
-        form,
-        shown,
-        identities,
-        &before.policy,
-        stood.as_slice(),
-        &after.policy,
-        bindings.as_slice(),
-    )?;
+    let compared = compare(alloc, form, shown, identities, before, after)?;
     Ok(Compared {
         text: compared.text,
         gains: compared.gains,
@@ -216,11 +138,11 @@ fn compare_with(
     form: Form,
     shown: Shown,
     identities: Identities,
-    before: &LoadedPolicy,
-    after: Result<LoadedPolicy, StartError>,
+    before: &Engine,
+    after: Result<Engine, StartError>,
 ) -> Result<Compared, FilesFault>
-    ensures { (b : Machine) (given : Result Machine FileFault) → IsPolicyOf before.now b → IsLoaded loading.fault_told after given
-        → Gives fault_told compared_told result (compared_to form shown identities b given) }
+    ensures { (given : Result AnEngine FileFault) → Gives loading.fault_told (λ e. e) after given
+        → Gives fault_told compared_told result (compared_to form shown identities before.now given) }
 {
     match after {
         Ok(after) => Ok(compare_policies(alloc, form, shown, identities, before, &after)?),
@@ -232,7 +154,7 @@ fn compare_with(
 ///
 /// # Errors
 /// `First` and `Second` at the first line of a file that is not loaded, `Memory` where an allocation fails.
-pub fn compare_files<R: Wait + Threads + Sync>(
+pub fn compare_files<R: Threads + Sync>(
     alloc: Global,
     rt: &R,
     form: Form,
@@ -252,63 +174,24 @@ pub fn compare_files<R: Wait + Threads + Sync>(
 
 // ---- who may do something
 
-fn who_core(
-    alloc: Global,
-    form: Form,
-    core: &Core<IndexedPolicy>,
-    wanted: &Wanted,
-) -> Result<Vec<u8>, Memory>
-    ensures { IfOk result (λ v. v.items ≡ who_text form core.now.policy wanted.now) }
-{
-    let bindings = core.policy().bindings()?;
-    answer_who(alloc, form, core.policy(), bindings.as_slice(), wanted)
-}
-
-fn who_machine(
-    alloc: Global,
-    form: Form,
-    core: &mut Core<IndexedPolicy>,
-    wanted: &Wanted,
-) -> Result<Answered, Memory>
-    ensures { (m : Machine) → Refines core.old m → IfOk result (λ a. answered_told a ≡ who_on form wanted.now m) }
-{
-    let text = who_core(alloc, form, core, wanted)?;
-    let settled = is_settled(core)?;
-    Ok(Answered { text, settled })
-}
-
 /// Who may do what the words ask, by the policy that a file is.
 ///
 /// # Errors
 /// `First` at the first line that is not loaded, `Memory` where an allocation fails.
-pub fn who_wanted<R: Wait>(
+pub fn who_wanted(
     alloc: Global,
-    rt: &R,
     form: Form,
     objects: &[u8],
     wanted: &Wanted,
 ) -> Result<Answered, FilesFault>
     ensures { Gives fault_told answered_told result (files.who_wanted form objects.now wanted.now) }
 {
-    match loaded_first(alloc, rt, objects) {
-        Ok(core) => {
-            let mut core = core;
-            Ok(who_machine(alloc, form, &mut core, wanted)?)
-        }
-        Err(fault) => Err(fault),
-    }
-}
-
-fn lines_core(
-    alloc: Global,
-    form: Form,
-    core: &Core<IndexedPolicy>,
-    lines: &[Line<'_>],
-) -> Result<Vec<u8>, LineFault>
-    ensures { Gives lined.fault_told (λ v. v.items) result (answered_lines form core.now.policy (map line_of lines.now)) }
-{
-    let bindings = core.policy().bindings()?;
-    answer_lines(alloc, form, core.policy(), bindings.as_slice(), lines)
+    let engine = load_first(alloc, objects)?;
+    let text = engine.who(alloc, form, wanted)?;
+    Ok(Answered {
+        text,
+        settled: engine.settled,
+    })
 }
 
 /// The fault of a line that is no question.
@@ -321,19 +204,20 @@ fn question_fault(fault: LineFault) -> FilesFault
     }
 }
 
-fn lines_machine(
+/// Who may do what each line asks.
+fn who_lines(
     alloc: Global,
     form: Form,
-    core: &mut Core<IndexedPolicy>,
-    lines: &[Line<'_>],
+    engine: &Engine,
+    questions: &[u8],
 ) -> Result<Answered, FilesFault>
-    ensures { (m : Machine) → Refines core.old m → Gives fault_told answered_told result (lines_on form (map line_of lines.now) m) }
+    ensures { Gives fault_told answered_told result (files.lines_on form questions.now engine.now) }
 {
-    match lines_core(alloc, form, core, lines) {
-        Ok(text) => {
-            let settled = is_settled(core)?;
-            Ok(Answered { text, settled })
-        }
+    match engine.who_lines(alloc, form, questions) {
+        Ok(text) => Ok(Answered {
+            text,
+            settled: engine.settled,
+        }),
         Err(fault) => Err(question_fault(fault)),
     }
 }
@@ -343,115 +227,53 @@ fn lines_machine(
 /// # Errors
 /// `First` at the first line that is not loaded, else `Question` at the first that is no question, `Memory` where an
 /// allocation fails.
-pub fn who_file<R: Wait>(
+pub fn who_file(
     alloc: Global,
-    rt: &R,
     form: Form,
     objects: &[u8],
     questions: &[u8],
 ) -> Result<Answered, FilesFault>
     ensures { Gives fault_told answered_told result (files.who_file form objects.now questions.now) }
 {
-    let lines = numbered_lines(alloc, questions)?;
-    match loaded_first(alloc, rt, objects) {
-        Ok(core) => {
-            let mut core = core;
-            lines_machine(alloc, form, &mut core, lines.as_slice())
-        }
-        Err(fault) => Err(fault),
-    }
+    let engine = load_first(alloc, objects)?;
+    who_lines(alloc, form, &engine, questions)
 }
 
-// ---- what a user has
-
-fn what_core(
-    alloc: Global,
-    form: Form,
-    core: &Core<IndexedPolicy>,
-    holder: &Holder,
-) -> Result<Vec<u8>, Memory>
-    ensures { IfOk result (λ v. v.items ≡ what_text form core.now.policy holder.now) }
-{
-    let bindings = core.policy().bindings()?;
-    answer_what(alloc, form, core.policy(), bindings.as_slice(), holder)
-}
-
-fn what_machine(
-    alloc: Global,
-    form: Form,
-    core: &mut Core<IndexedPolicy>,
-    holder: &Holder,
-) -> Result<Answered, Memory>
-    ensures { (m : Machine) → Refines core.old m → IfOk result (λ a. answered_told a ≡ what_on form holder.now m) }
-{
-    let text = what_core(alloc, form, core, holder)?;
-    let settled = is_settled(core)?;
-    Ok(Answered { text, settled })
-}
+// ---- what a user has, and risks
 
 /// What a user has by the policy that a file is.
 ///
 /// # Errors
 /// `First` at the first line that is not loaded, `Memory` where an allocation fails.
-pub fn what_file<R: Wait>(
+pub fn what_file(
     alloc: Global,
-    rt: &R,
     form: Form,
     objects: &[u8],
     holder: &Holder,
 ) -> Result<Answered, FilesFault>
     ensures { Gives fault_told answered_told result (files.what_file form objects.now holder.now) }
 {
-    match loaded_first(alloc, rt, objects) {
-        Ok(core) => {
-            let mut core = core;
-            Ok(what_machine(alloc, form, &mut core, holder)?)
-        }
-        Err(fault) => Err(fault),
-    }
-}
-
-// ---- risks
-
-fn risks_core(alloc: Global, form: Form, core: &Core<IndexedPolicy>) -> Result<Vec<u8>, Memory>
-    ensures { IfOk result (λ v. v.items ≡ ways_text form (risks core.now.policy)) }
-{
-    let bindings = core.policy().bindings()?;
-    answer_risks(alloc, form, core.policy(), bindings.as_slice())
-}
-
-fn risks_machine(
-    alloc: Global,
-    form: Form,
-    core: &mut Core<IndexedPolicy>,
-) -> Result<Answered, Memory>
-    ensures { (m : Machine) → Refines core.old m → IfOk result (λ a. answered_told a ≡ risks_on form m) }
-{
-    let mut text = risks_core(alloc, form, core)?;
-    let settled = is_settled(core)?;
-    text.extend_from_slice(settled_line(form, settled))?;
-    Ok(Answered { text, settled })
+    let engine = load_first(alloc, objects)?;
+    let text = engine.what(alloc, form, holder)?;
+    Ok(Answered {
+        text,
+        settled: engine.settled,
+    })
 }
 
 /// Who may gain more than the policy of a file grants, and what holds of all others.
 ///
 /// # Errors
 /// `First` at the first line that is not loaded, `Memory` where an allocation fails.
-pub fn risks_file<R: Wait>(
-    alloc: Global,
-    rt: &R,
-    form: Form,
-    objects: &[u8],
-) -> Result<Answered, FilesFault>
+pub fn risks_file(alloc: Global, form: Form, objects: &[u8]) -> Result<Answered, FilesFault>
     ensures { Gives fault_told answered_told result (files.risks_file form objects.now) }
 {
-    match loaded_first(alloc, rt, objects) {
-        Ok(core) => {
-            let mut core = core;
-            Ok(risks_machine(alloc, form, &mut core)?)
-        }
-        Err(fault) => Err(fault),
-    }
+    let engine = load_first(alloc, objects)?;
+    let text = engine.risks(alloc, form)?;
+    Ok(Answered {
+        text,
+        settled: engine.settled,
+    })
 }
 
 // ---- paths
@@ -464,45 +286,25 @@ fn texts_of(alloc: Global, texts: &[String]) -> Result<Vec<Text>, Memory> {
     Ok(list)
 }
 
-fn is_json(form: Form) -> bool {
-    match form {
-        Form::Json => true,
-        Form::Table | Form::Markdown => false,
-    }
-}
-
-fn paths_core(
-    alloc: Global,
-    words: &PathsWords,
-    core: &Core<IndexedPolicy>,
-) -> Result<Vec<u8>, Memory> {
-    let bindings = core.policy().bindings()?;
-    let without = texts_of(alloc, words.without.as_slice())?;
-    answer_paths(
-        alloc,
-        is_json(words.asking.form),
-        core.policy(),
-        bindings.as_slice(),
-        words.to.as_str(),
-        without.as_slice(),
-    )
-}
-
 /// Who can become whom by the policy of a file.
 ///
 /// # Errors
 /// `First` at the first line that is not loaded, `Memory` where an allocation fails.
-pub fn paths_file<R: Wait>(
+pub fn paths_file(
     alloc: Global,
-    rt: &R,
     words: &PathsWords,
     objects: &[u8],
 ) -> Result<Answered, FilesFault> {
-    let mut core = loaded_first(alloc, rt, objects)?;
-    let mut text = paths_core(alloc, words, &core)?;
-    let settled = is_settled(&mut core)?;
-    if is_json(words.asking.form) {
-        text.extend_from_slice(settled_line(Form::Json, settled))?;
-    }
-    Ok(Answered { text, settled })
+    let engine = load_first(alloc, objects)?;
+    let without = texts_of(alloc, words.without.as_slice())?;
+    let text = engine.paths(
+        alloc,
+        words.asking.form,
+        words.to.as_str(),
+        without.as_slice(),
+    )?;
+    Ok(Answered {
+        text,
+        settled: engine.settled,
+    })
 }

@@ -3,24 +3,22 @@ use crate::asking::tell_unsettled;
 use crate::checking::{binding_kind, place_words};
 use crate::ending::Ending;
 use crate::manifests::{ReadPolicy, read_policy};
-use crate::policies::loaded_first;
+use crate::policies::load_first;
 use crate::program::SuggestWords;
 use crate::telling::{print, read_file};
-use kapi_audit::{access_reviews, question_of};
+use kapi_engine::{access_reviews, question_of};
 use kapi_index::IndexedPolicy;
 use kapi_lines::numbered_lines;
-use kapi_loading::is_settled;
 use kapi_reviews::Question;
 use kapi_suggest::{allowed_uses, list, manifests, read_events, suggest, unused_rules};
 use kapi_text::Memory;
 use std::alloc::Global;
 use std::fs::Files;
 use std::io;
-use std::sync::Wait;
 
 /// Prints roles and bindings for what was used: status 0, 4 if the roles of the policy are not settled, or 1 after a line on
 /// standard error.
-pub fn run_suggest<R: Files + Input + Print + Eprint + AllocGlobal + Wait + Clone + Drop>(
+pub fn run_suggest<R: Files + Input + Print + Eprint + AllocGlobal + Clone + Drop>(
     rt: &R,
     words: &SuggestWords,
 ) -> io::Result<Ending> {
@@ -52,28 +50,27 @@ pub fn run_suggest<R: Files + Input + Print + Eprint + AllocGlobal + Wait + Clon
 }
 
 /// Prints roles for the uses that a policy allows, and reports how many it denies and which of its rules no use needs.
-fn suggest_beside<R: Print + Eprint + AllocGlobal + Wait>(
+fn suggest_beside<R: Print + Eprint + AllocGlobal>(
     rt: &R,
     words: &SuggestWords,
     read: &ReadPolicy,
     uses: Vec<Question>,
 ) -> io::Result<Ending> {
-    let Ok(mut core) = loaded_first(rt.alloc(), rt, read.lines()) else {
+    let Ok(engine) = load_first(rt.alloc(), read.lines()) else {
         crate::manifests::tell_refused(rt, read)?;
         return Ok(Ending::Stopped);
     };
     let all = uses.len();
-    let allowed = allowed_uses(rt.alloc(), core.policy(), uses)?;
+    let allowed = allowed_uses(rt.alloc(), &engine.policy, uses)?;
     let denied = all.saturating_sub(allowed.len());
     if denied > 0 {
         eprintln!(rt; "left out, as the policy denies them: {denied}")?;
     }
     tell_masters(rt, allowed.as_slice())?;
     print_suggested(rt, words.list, allowed.as_slice())?;
-    tell_unused(rt, core.policy(), allowed.as_slice())?;
-    let settled = is_settled(&mut core)?;
-    tell_unsettled(rt, words.policy.as_str(), settled)?;
-    Ok(Ending::Done.or_unsettled(settled))
+    tell_unused(rt, &engine.policy, allowed.as_slice())?;
+    tell_unsettled(rt, words.policy.as_str(), engine.settled)?;
+    Ok(Ending::Done.or_unsettled(engine.settled))
 }
 
 /// The uses of a file, or the line of it that is none.

@@ -1,14 +1,14 @@
-use Rattle.std.proofs.Common.{Ok, ap, sym}
-use Rattle.kapi.specs.Policies.{answered_told, what_file, what_on}
-use Rattle.kapi.proofs.Held.{goes_on, onward}
+use Rattle.std.proofs.Common.{Ok, sym}
+use Rattle.kapi.specs.Policies.{Reply, answered_told, what_file, what_on}
+use Rattle.kapi.proofs.Held.{handed_on, onward}
 use Rattle.kapi.proofs.policies.what_file.Goals as goal
 
-pub returns-in_ok-what_machine-in-Ok : goal.returns-in_ok-what_machine-in-Ok
+pub returns-in_err-engine : goal.returns-in_err-engine
 unfolding what_file
-returns-in_ok-what_machine-in-Ok g c =
-    let h = c.in-Ok.ensures in
-    onward answered_told (Ok c.in_ok-what_machine-in-Ok.field-0) _ (λ m. Ok (what_on c.args.form c.args.holder.now m)) h.0 h.1 (ap Ok (sym (c.in_ok-what_machine-in-Ok.ensures h.0 h.2)))
+returns-in_err-engine c = handed_on answered_told c.from_residual.result c.in_err-engine.field-0.0 _ _ c.from_residual.ensures.1 c.in_err-engine.ensures
 
-pub returns-in-Err : goal.returns-in-Err
+pub returns : goal.returns
 unfolding what_file
-returns-in-Err g c = goes_on _ _ _ c.in-Err.ensures
+returns c =
+    onward answered_told (Ok (record { text = c.in_ok-text.text; settled = c.in_ok-engine.engine.settled })) _ (λ e. Ok (what_on c.args.form c.args.holder.now e)) c.in_ok-engine.engine c.in_ok-engine.ensures
+    (λ i. Ok (record { text = sym c.in_ok-text.ensures i; settled = c.in_ok-engine.engine.settled }))

@@ -1,19 +1,11 @@
-use Rattle.std.proofs.Common.{ap, map, ◌∙◌, subst}
-use Rattle.kapi_text.specs.Gives.{Gives}
-use Rattle.kapi_lines.specs.Lines.{NumberedLine, line_of, lines_of}
-use Rattle.std.specs.Prelude.{List}
-use Rattle.kapi.specs.Policies.{answered_told, fault_told, lines_on, who_file}
-use Rattle.kapi.proofs.Held.{goes_on, onward}
+use Rattle.kapi.specs.Policies.{answered_told, lines_on, who_file}
+use Rattle.kapi.proofs.Held.{handed_on, onward}
 use Rattle.kapi.proofs.policies.who_file.Goals as goal
 
-pub returns-in-Ok : goal.returns-in-Ok
+pub returns-in_err-engine : goal.returns-in_err-engine
 unfolding who_file
-returns-in-Ok g c =
-    let h = c.in-Ok.ensures in
-    let same = ap (map line_of) c.as_slice.ensures.value ∙ c.in_ok-lines.ensures in
-    onward answered_told c.lines_machine.result _ (λ m. lines_on c.args.form (lines_of c.args.questions.now) m) h.0 h.1
-    (subst (λ (ls : List NumberedLine). Gives fault_told answered_told c.lines_machine.result (lines_on c.args.form ls h.0)) same (c.lines_machine.ensures h.0 h.2))
+returns-in_err-engine c = handed_on answered_told c.from_residual.result c.in_err-engine.field-0.0 _ _ c.from_residual.ensures.1 c.in_err-engine.ensures
 
 pub returns : goal.returns
 unfolding who_file
-returns g c = goes_on _ _ _ c.in-Err.ensures
+returns c = onward answered_told c.who_lines.result _ (λ e. lines_on c.args.form c.args.questions.now e) c.in_ok-engine.engine c.in_ok-engine.ensures c.who_lines.ensures

@@ -1,14 +1,14 @@
-use Rattle.std.proofs.Common.{Ok, ap, sym}
-use Rattle.kapi.specs.Policies.{answered_told, who_on, who_wanted}
-use Rattle.kapi.proofs.Held.{goes_on, onward}
+use Rattle.std.proofs.Common.{Ok, sym}
+use Rattle.kapi.specs.Policies.{Reply, answered_told, who_wanted, who_on}
+use Rattle.kapi.proofs.Held.{handed_on, onward}
 use Rattle.kapi.proofs.policies.who_wanted.Goals as goal
 
-pub returns-in_ok-who_machine-in-Ok : goal.returns-in_ok-who_machine-in-Ok
+pub returns-in_err-engine : goal.returns-in_err-engine
 unfolding who_wanted
-returns-in_ok-who_machine-in-Ok g c =
-    let h = c.in-Ok.ensures in
-    onward answered_told (Ok c.in_ok-who_machine-in-Ok.field-0) _ (λ m. Ok (who_on c.args.form c.args.wanted.now m)) h.0 h.1 (ap Ok (sym (c.in_ok-who_machine-in-Ok.ensures h.0 h.2)))
+returns-in_err-engine c = handed_on answered_told c.from_residual.result c.in_err-engine.field-0.0 _ _ c.from_residual.ensures.1 c.in_err-engine.ensures
 
-pub returns-in-Err : goal.returns-in-Err
+pub returns : goal.returns
 unfolding who_wanted
-returns-in-Err g c = goes_on _ _ _ c.in-Err.ensures
+returns c =
+    onward answered_told (Ok (record { text = c.in_ok-text.text; settled = c.in_ok-engine.engine.settled })) _ (λ e. Ok (who_on c.args.form c.args.wanted.now e)) c.in_ok-engine.engine c.in_ok-engine.ensures
+    (λ i. Ok (record { text = sym c.in_ok-text.ensures i; settled = c.in_ok-engine.engine.settled }))
