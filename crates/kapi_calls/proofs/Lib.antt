@@ -1,0 +1,2 @@
+mod Slashes
+mod Texts

@@ -1,0 +1,87 @@
+-- What is answered to a call, and what the caller finds behind it.
+use Rattle.std.specs.Prelude.{◌≡◌, ℕ, ◌<◌, ◌==◌, Bool, true, false, if◌then◌else◌, List, [], ◌++◌, length, drop, Result, Ok, Err}
+use Rattle.kapi_text.specs.Gives.{◌>>=◌}
+use Rattle.kapi_policy.specs.Decided.{Decided, allowed, decided, denied, masters}
+use Rattle.kapi_audit.specs.Answers.{decision_line}
+use Rattle.kapi_engine.specs.declared.engine.Engine.{Engine}
+use Rattle.kapi_calls.specs.declared.answering.Answer.{Answer}
+use Rattle.kapi_calls.specs.declared.fault.CallFault.{CallFault}
+use Rattle.kapi_calls.specs.declared.fault.CallFault.TheVariants as fault
+use Rattle.kapi_calls.specs.declared.passed.Call.{Call}
+use Rattle.kapi_calls.specs.declared.reading.Asked.{Asked}
+use Rattle.kapi_calls.specs.Faults.{code_of}
+use Rattle.kapi_calls.specs.Questions.{question_of}
+
+-- the number of a decision: 0 denies
+abbrev pub number_of : Decided → ℕ
+number_of denied = 0
+number_of (allowed g) = 1
+number_of masters = 2
+
+abbrev pub bit : Bool → ℕ
+bit true = 1
+bit false = 0
+
+-- a number and a text
+pub record Given : Type 0 where
+  pub number : ℕ
+  pub text : List ℕ
+
+-- what is decided of what is asked
+abbrev pub decided_of : Engine → Asked → Decided
+decided_of engine asked = decided engine.policy asked.identity asked.namespace asked.point
+
+abbrev pub number_alone : Decided → Given
+number_alone d = record { number = number_of d; text = [] }
+
+abbrev pub with_line : Decided → Given
+with_line d = record { number = number_of d; text = decision_line d }
+
+-- what is answered: whether the roles are settled, a decision, or a decision and its line
+unfoldable pub given_of : Engine → Call → Result Given CallFault
+given_of engine call =
+    if call.wants == 0 then Ok (record { number = bit engine.settled; text = [] })
+    else (if call.wants == 1 then (question_of call.question >>= λ asked. Ok (number_alone (decided_of engine asked)))
+    else (if call.wants == 2 then (question_of call.question >>= λ asked. Ok (with_line (decided_of engine asked)))
+    else Err fault.Question))
+
+-- the number and the text stand where the caller said, and the room behind the text is as before
+abbrev pub IsWritten : Given → Answer → List ℕ → List ℕ → Type 0
+IsWritten g new room room' = (new ≡ record { decision = g.number; length = length g.text }) × (room' ≡ g.text ++ drop (length g.text) room)
+
+-- the length that the text needs is told, and nothing else is written
+abbrev pub IsShort : Given → Answer → Answer → List ℕ → List ℕ → Type 0
+IsShort g old new room room' =
+    (length room < length g.text) × (new ≡ record { decision = old.decision; length = length g.text }) × (room' ≡ room)
+
+abbrev pub IsKept : Answer → Answer → List ℕ → List ℕ → Type 0
+IsKept old new room room' = (new ≡ old) × (room' ≡ room)
+
+-- by whether the text fits
+abbrev pub Stands : Given → Answer → Answer → List ℕ → List ℕ → Bool → Type 0
+Stands g old new room room' true = IsWritten g new room room'
+Stands g old new room room' false = IsShort g old new room room'
+
+-- how a call ends
+pub data End : Type 0 where
+  done : End
+  short : End
+  failed : CallFault → End
+
+-- its status
+abbrev pub status_of : End → ℕ
+status_of done = 0
+status_of short = 5
+status_of (failed fault) = code_of fault
+
+-- what the caller finds behind a call that ended so
+abbrev pub Ends : Result Given CallFault → Answer → Answer → List ℕ → List ℕ → End → Type 0
+Ends given old new room room' done = (g : Given) × (given ≡ Ok g) × IsWritten g new room room'
+Ends given old new room room' short = (g : Given) × (given ≡ Ok g) × IsShort g old new room room'
+Ends given old new room room' (failed fault.Memory) = IsKept old new room room'
+Ends given old new room room' (failed other) = (given ≡ Err other) × IsKept old new room room'
+
+-- the status says how the call ended, and the caller finds what then stands there
+abbrev pub IsAnswered : Engine → Call → Answer → Answer → List ℕ → List ℕ → ℕ → Type 0
+IsAnswered engine call old new room room' status =
+    (end : End) × (status ≡ status_of end) × Ends (given_of engine call) old new room room' end

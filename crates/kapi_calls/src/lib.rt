@@ -1,0 +1,13 @@
+//! The calls of the C library: what a caller passes, read as a question, and what is answered, written where the caller
+//! said. A status is no answer: a decision goes out beside it, and 0 denies.
+#![tactic(auto)]
+
+mod answering;
+mod fault;
+mod passed;
+mod reading;
+
+pub use answering::{Answer, answer_call};
+pub use fault::CallFault;
+pub use passed::{Call, PassedQuestion, PassedText};
+pub use reading::{Asked, read_question};
