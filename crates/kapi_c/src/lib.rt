@@ -1,0 +1,73 @@
+//! The C library: `include/kapi.h` is its other side. Each export calls one function. A policy crosses as a pointer to a
+//! struct that C never sees into, which is an engine here.
+#![tactic(auto)]
+
+ghost use Rattle.std.specs.Prelude.{◌≡◌, ℕ, suc, MatchResult, Ok};
+ghost use Rattle.std.specs.Borrow.{sem};
+ghost use Rattle.kapi_engine.specs.Engines.{engine_of};
+ghost use Rattle.kapi_engine.specs.declared.engine.Engine.{Engine as Loaded};
+ghost use Rattle.kapi_calls.specs.Answers.{IsAnswered};
+ghost use Rattle.kapi_c.specs.Handles.{IsLoaded, handed, holds_at};
+
+mod loading;
+
+use kapi_calls::{Answer, Call, answer_call};
+use kapi_engine::Engine;
+use loading::{let_go, make_engine, put};
+use std::alloc::Global;
+
+/// What a handle points to, as C knows it: nothing.
+#[repr(C)]
+#[derive(Drop)]
+pub struct Policy {
+    opaque: u8,
+}
+
+/// The number of the interface, which is raised with each change of a layout, a number or a meaning.
+#[unsafe(no_mangle)]
+pub extern "C" fn kapi_abi() -> u32
+    ensures { result ≡ 1 }
+{
+    1
+}
+
+/// Loads a policy, which the caller then holds by the handle that is put out. The status is 0, or tells why not.
+#[unsafe(no_mangle)]
+pub extern "C" fn kapi_load(
+    alloc: Global,
+    objects: &[u8],
+    line: &mut usize,
+    policy: &mut *mut Policy,
+) -> u32
+    ensures* { sem 𝓛 (handed result policy.old policy.new (engine_of objects.now)) ∗ ⌜ IsLoaded (engine_of objects.now) line.old line.new result ⌝ }
+{
+    match make_engine(alloc, objects, line) {
+        Ok(made) => put(policy, Box::into_raw(made)),
+        Err(status) => status,
+    }
+}
+
+/// Answers a call by the policy, which the caller holds before and after.
+#[unsafe(no_mangle)]
+pub unsafe extern "C" fn kapi_ask(
+    alloc: Global,
+    policy: *const Policy,
+    call: &Call<'_>,
+    answer: &mut Answer,
+    room: &mut [u8],
+) -> u32
+    ghost held: { Loaded }
+    requires* { sem 𝓛 (holds_at policy held) }
+    ensures* { sem 𝓛 (holds_at policy held) ∗ ⌜ IsAnswered held call.now answer.old answer.new room.old room.new result ⌝ }
+{
+    answer_call(alloc, &*(policy as *const Engine), call, answer, room)
+}
+
+/// Frees a policy.
+#[unsafe(no_mangle)]
+pub unsafe extern "C" fn kapi_drop(alloc: Global, policy: *mut Policy)
+    ghost held: { Loaded }
+    requires* { sem 𝓛 (holds_at policy held) }
+{
+    let_go(Box::from_raw(alloc, policy as *mut Engine));
+}
