@@ -26,17 +26,11 @@ pub struct PassedQuestion<'a> {
     pub path: &'a [u8],
 }
 
-/// A call: which answer is wanted, and of what. Each answer reads its own part only.
+/// A call: which answer is wanted, and of what.
 #[repr(C)]
 #[derive(Clone, Copy)]
 pub struct Call<'a> {
-    /// 0: whether it is settled, 1: a decision, 2: a decision and its line, 3: who may, 4: who may gain, 5: paths.
+    /// 0: whether the roles are settled, 1: a decision, 2: a decision and its line. Only the last two read the question.
     pub wants: u32,
-    /// Of a text: 0 is a table, 1 is JSON.
-    pub form: u32,
     pub question: PassedQuestion<'a>,
-    /// The lines of a question who may, or the node that paths lead to.
-    pub text: &'a [u8],
-    /// The kinds of rights that paths leave out.
-    pub words: &'a [PassedText<'a>],
 }
