@@ -7,7 +7,7 @@ TRIED = out/try/kapi
 # What has to be there before the program is run: nothing, where another one is named.
 READY = $(if $(filter $(PROVED),$(PROGRAM)),kapi)
 
-.PHONY: help demo serve-demo quick test kapi install serve checks bench kubectl-demo controller-demo cluster-demo edits proofs-page profile
+.PHONY: help demo serve-demo quick test kapi install library serve checks bench kubectl-demo controller-demo cluster-demo edits proofs-page profile
 
 help: ## try: lists the targets
 	@for group in try use change; do echo "To $$group:"; sed -n "s/^\([a-z-]*\):.*## $$group: /\1 /p" Makefile | while read -r name what; do printf '  make %-13s %s\n' "$$name" "$$what"; done; done
@@ -39,6 +39,9 @@ kapi: ## use: says where the program lies that was proved of these sources; with
 
 install: kapi ## use: copies the proved program to PREFIX/bin, of PREFIX=/usr/local
 	@install -D $(PROVED) $(PREFIX)/bin/kapi
+
+library: kapi ## use: installs the proved C library: header, archive and shared object, to PREFIX (docs/LIBRARY.md)
+	@sh tools/library.sh $(PREFIX)
 
 serve: kapi ## use: starts the proved program as a server on ports 8001 and 8002
 	@cd examples/serve && PATH="$(CURDIR)/crates/kapi/out:$$PATH" sh -v command

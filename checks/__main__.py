@@ -21,6 +21,7 @@ CHECKS = {
     "hostile": Module(),
     "crafted": Module(),
     "growths": Module("cc"),
+    "library": Module("make library PREFIX=out/library"),
     "pages": Module("curl and jq"),
     "kubectl": Module("kubectl"),
     "controller": Module("python3-kubernetes"),

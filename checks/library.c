@@ -1,0 +1,174 @@
+/* Each export of the library, from C. usage: library OBJECTS: of a policy in which ann may get the log of pods of web. */
+#include <stdio.h>
+#include <stdlib.h>
+#include <string.h>
+
+#include "kapi.h"
+
+static size_t calls, fails_at, held;
+
+void *__real_malloc(size_t size);
+void *__real_realloc(void *old, size_t size);
+void __real_free(void *old);
+
+static int fails(void) { return ++calls == fails_at; }
+
+void *__wrap_malloc(size_t size) {
+    void *made = fails() ? NULL : __real_malloc(size);
+    held += made != NULL;
+    return made;
+}
+
+void *__wrap_realloc(void *old, size_t size) {
+    void *made = fails() ? NULL : __real_realloc(old, size);
+    held += old == NULL && made != NULL;
+    return made;
+}
+
+void __wrap_free(void *old) {
+    held -= old != NULL;
+    __real_free(old);
+}
+
+#define CHECK(holds)                                                              \
+    do {                                                                          \
+        if (!(holds)) {                                                           \
+            fprintf(stderr, "library.c:%d: %s does not hold\n", __LINE__, #holds); \
+            exit(1);                                                              \
+        }                                                                         \
+    } while (0)
+
+static kapi_text text(const char *from) {
+    kapi_text made = {from, strlen(from)};
+    return made;
+}
+
+static kapi_question logs(const char *user) {
+    kapi_call empty = kapi_call_of(0);
+    kapi_question asked = empty.question;
+    asked.user = text(user);
+    asked.name_space = text("web");
+    asked.verb = text("get");
+    asked.resource = text("pods/log");
+    return asked;
+}
+
+static char *read_file(const char *name, size_t *length) {
+    FILE *from = fopen(name, "rb");
+    CHECK(from != NULL);
+    char *all = __real_malloc(1 << 24);
+    *length = fread(all, 1, 1 << 24, from);
+    fclose(from);
+    return all;
+}
+
+static void asks(const kapi_policy *policy) {
+    kapi_decision decision = 7;
+    kapi_answer answer = {7, 7};
+    char room[4096];
+    uint32_t settled = 7;
+    kapi_question asked = logs("ann");
+    CHECK(kapi_may(policy, &asked, &decision) == KAPI_OK && decision == KAPI_ALLOWED);
+    CHECK(kapi_why(policy, &asked, &answer, room, 0) == KAPI_NO_ROOM && answer.decision == 7 && answer.length > 8);
+    size_t wanted = answer.length;
+    memset(room, '!', sizeof room);
+    CHECK(kapi_why(policy, &asked, &answer, room, wanted - 1) == KAPI_NO_ROOM && room[0] == '!');
+    CHECK(kapi_why(policy, &asked, &answer, room, sizeof room) == KAPI_OK && answer.decision == KAPI_ALLOWED);
+    CHECK(answer.length == wanted && memcmp(room, "allowed ", 8) == 0 && room[wanted] == '!');
+    CHECK(kapi_settled(policy, &settled) == KAPI_OK && settled == 1);
+    asked.resource = text("pods");
+    CHECK(kapi_may(policy, &asked, &decision) == KAPI_OK && decision == KAPI_DENIED);
+    asked.subresource = text("log");
+    CHECK(kapi_may(policy, &asked, &decision) == KAPI_OK && decision == KAPI_ALLOWED);
+    asked.path = text("/healthz");
+    CHECK(kapi_may(policy, &asked, &decision) == KAPI_OK && decision == KAPI_DENIED);
+    asked = logs("bob");
+    CHECK(kapi_may(policy, &asked, &decision) == KAPI_OK && decision == KAPI_DENIED);
+    kapi_text groups[1000];
+    for (size_t at = 0; at < 1000; at++) {
+        groups[at] = text(at == 999 ? "system:masters" : "a");
+    }
+    asked.groups.texts = groups;
+    asked.groups.length = 1000;
+    CHECK(kapi_may(policy, &asked, &decision) == KAPI_OK && decision == KAPI_MASTERS);
+}
+
+static void faults(const kapi_policy *policy) {
+    kapi_decision decision = 7;
+    kapi_call call = kapi_call_of(99);
+    kapi_answer answer = {7, 7};
+    kapi_question asked = logs("\xff");
+    CHECK(kapi_may(policy, &asked, &decision) == KAPI_NOT_TEXT && decision == 7);
+    asked = logs("ann");
+    asked.resource = text("pods/log/x");
+    CHECK(kapi_may(policy, &asked, &decision) == KAPI_NO_QUESTION && decision == 7);
+    asked.resource = text("pods/log");
+    asked.subresource = text("log");
+    CHECK(kapi_may(policy, &asked, &decision) == KAPI_NO_QUESTION && decision == 7);
+    CHECK(kapi_ask(policy, &call, &answer, NULL, 0) == KAPI_NO_QUESTION && answer.decision == 7 && answer.length == 7);
+    size_t huge = 1 << 22;
+    char *many = __real_malloc(huge);
+    memset(many, 'a', huge);
+    asked = logs("ann");
+    asked.user.bytes = many;
+    asked.user.length = huge;
+    CHECK(kapi_may(policy, &asked, &decision) == KAPI_OK && decision == KAPI_DENIED);
+    __real_free(many);
+}
+
+/* Each allocation refused in turn: a status says so, nothing is written, and nothing is kept. */
+static size_t refusals(const char *objects, size_t length) {
+    size_t refused = 0;
+    for (fails_at = 1;; fails_at++, refused++) {
+        kapi_policy *policy = (kapi_policy *)&refused;
+        size_t line = 7, before = held;
+        calls = 0;
+        kapi_status status = kapi_load(objects, length, &line, &policy);
+        if (status == KAPI_OK) {
+            fails_at = 0;
+            kapi_free(policy);
+            CHECK(held == before);
+            return refused;
+        }
+        CHECK(status == KAPI_NO_MEMORY && line == 7 && policy == (kapi_policy *)&refused && held == before);
+    }
+}
+
+static size_t refused_questions(const kapi_policy *policy) {
+    size_t refused = 0;
+    for (fails_at = 1;; fails_at++, refused++) {
+        kapi_question asked = logs("a user with a name that is longer than sixteen bytes");
+        kapi_text group = text("a group with a name that is longer than sixteen bytes");
+        kapi_answer answer = {7, 7};
+        char room[64];
+        size_t before = held;
+        asked.groups.texts = &group;
+        asked.groups.length = 1;
+        calls = 0;
+        kapi_status status = kapi_why(policy, &asked, &answer, room, sizeof room);
+        CHECK(held == before);
+        if (status == KAPI_OK) {
+            fails_at = 0;
+            CHECK(answer.decision == KAPI_DENIED && answer.length == 7 && memcmp(room, "denied\n", 7) == 0);
+            return refused;
+        }
+        CHECK(status == KAPI_NO_MEMORY && answer.decision == 7 && answer.length == 7);
+    }
+}
+
+int main(int count, char **words) {
+    CHECK(count == 2 && kapi_abi() == KAPI_ABI);
+    size_t length, line = 7;
+    char *objects = read_file(words[1], &length);
+    kapi_policy *policy = NULL, *none = NULL;
+    CHECK(kapi_load(objects, length, &line, &policy) == KAPI_OK && policy != NULL && line == 7);
+    CHECK(kapi_load("\n#\n{", 4, &line, &none) == KAPI_BAD_LINE && none == NULL && line == 3);
+    asks(policy);
+    faults(policy);
+    size_t loads = refusals(objects, length), questions = refused_questions(policy);
+    kapi_free(policy);
+    kapi_free(NULL);
+    CHECK(held == 0);
+    printf("C: all as it should be; %zu refused allocations of a load and %zu of a question told by a status\n", loads, questions);
+    return 0;
+}

@@ -1,0 +1,193 @@
+"""Checks the C library and the packages over it, and compares it with `kapi audit`.
+
+usage: python3 -m checks.library PROGRAM [FOLDER [QUESTIONS [SEED]]]     the folder that `make library PREFIX=..` wrote, out/library
+if left out, 10,000 questions and the seed 1; wants cc, and runs what valgrind, c++, cargo and go are there
+
+C: each export, each fault, each allocation refused in turn; with valgrind once more. What the shared object shows, and its size.
+Python: its tests; random questions over the policies of examples/ with the answers of the program; 8 threads with a policy each.
+Rust and Go: their tests. What is not there is named.
+"""
+import json
+import os
+import pathlib
+import random
+import shutil
+import subprocess
+import sys
+import tempfile
+import threading
+
+ROOT = pathlib.Path(__file__).resolve().parent.parent
+POLICIES = ["examples/audit/policy.jsonl", "examples/replay/policy.jsonl", "examples/compare/before.jsonl", "examples/compare/after.jsonl", "examples/serve/objects.jsonl"]
+RBAC = "rbac.authorization.k8s.io"
+LARGEST = 1_200_000
+THREADS = 8
+
+EVERYTHING = [{"apiGroups": ["*"], "resources": ["*"], "verbs": ["*"]}, {"nonResourceURLs": ["*"], "verbs": ["*"]}]
+REVIEWS = [{"apiGroups": ["authorization.k8s.io"], "resources": ["selfsubjectaccessreviews", "selfsubjectrulesreviews"], "verbs": ["create"]}]
+
+
+def cluster_role(name, rules):
+    return {"apiVersion": f"{RBAC}/v1", "kind": "ClusterRole", "metadata": {"name": name}, "rules": rules}
+
+
+def cluster_binding(name, group):
+    subjects = [{"apiGroup": RBAC, "kind": "Group", "name": group}]
+    return {"apiVersion": f"{RBAC}/v1", "kind": "ClusterRoleBinding", "metadata": {"name": name}, "subjects": subjects,
+            "roleRef": {"apiGroup": RBAC, "kind": "ClusterRole", "name": name}}
+
+
+# What a server, and so an audit, begins with (docs/AUDIT.md).
+OPENING = [{"apiVersion": "v1", "kind": "Namespace", "metadata": {"name": "default"}}, cluster_role("cluster-admin", EVERYTHING), cluster_role("system:basic-user", REVIEWS),
+           cluster_binding("cluster-admin", "system:masters"), cluster_binding("system:basic-user", "system:authenticated")]
+
+
+def run(*words, **how):
+    print("  $", *words, flush=True)
+    return subprocess.run([str(word) for word in words], check=True, **how)
+
+
+def is_there(tool, what):
+    if shutil.which(tool):
+        return True
+    print(f"  {tool} is not there: {what} not run")
+    return False
+
+
+def check_c(folder, room):
+    objects = room / "objects.jsonl"
+    objects.write_text(example().OBJECTS)
+    program = room / "library"
+    wraps = "-Wl,--wrap=malloc,--wrap=realloc,--wrap=free"
+    run("cc", "-std=c11", "-Wall", "-Wextra", "-Werror", "-O1", "-g", f"-I{folder}/include", ROOT / "checks/library.c", folder / "lib/libkapi.a", wraps, "-o", program)
+    run(program, objects)
+    if is_there("valgrind", "the same under valgrind"):
+        run("valgrind", "-q", "--error-exitcode=9", "--leak-check=full", program, objects)
+    if is_there("c++", "the header as C++"):
+        run("c++", "-std=c++11", "-Wall", "-Wextra", "-Werror", "-fsyntax-only", "-x", "c++", folder / "include/kapi.h")
+
+
+def check_shared(folder):
+    shared = folder / "lib/libkapi.so"
+    lines = subprocess.run(["nm", "-D", "--defined-only", shared], check=True, capture_output=True, text=True).stdout.split("\n")
+    shown = sorted(it.split()[-1].split("@")[0] for it in lines if it and " A " not in it)
+    print(f"  libkapi.so has {shared.stat().st_size:,} bytes and shows {', '.join(shown)}")
+    assert all(it.startswith("kapi_") for it in shown) and shared.stat().st_size < LARGEST
+
+
+def example():
+    import example as module
+
+    return module
+
+
+def words_of(lines):
+    """The users, groups, namespaces, verbs, API groups, resources, names and paths that the objects name."""
+    found = {it: {""} for it in ("user", "group", "namespace", "verb", "apiGroup", "resource", "name", "path")}
+    found["user"] |= {"nobody"}
+    for it in map(json.loads, lines):
+        if "metadata" in it:
+            found["namespace"] |= {it["metadata"].get("namespace", ""), it["metadata"]["name"] if it["kind"] == "Namespace" else ""}
+        for rule in it.get("rules") or []:
+            found["verb"] |= set(rule["verbs"])
+            found["apiGroup"] |= set(rule.get("apiGroups", []))
+            found["resource"] |= set(rule.get("resources", []))
+            found["name"] |= set(rule.get("resourceNames", []))
+            found["path"] |= {path.replace("*", "x") for path in rule.get("nonResourceURLs", [])}
+        for subject in it.get("subjects") or []:
+            name = subject["name"]
+            account = subject["kind"] == "ServiceAccount"
+            found["group" if subject["kind"] == "Group" else "user"] |= {f"system:serviceaccount:{subject.get('namespace', '')}:{name}" if account else name}
+    return {key: sorted(words) for key, words in found.items()}
+
+
+def question(rng, words, kapi):
+    """A random question: as the library takes it, and as a line of an audit."""
+    one = lambda key: rng.choice(words[key])
+    groups = rng.sample(words["group"], rng.randint(0, min(3, len(words["group"]))))
+    user, verb = one("user"), one("verb") or "get"
+    if rng.random() < 0.1 and one("path"):
+        path = rng.choice([it for it in words["path"] if it])
+        spec = {"user": user, "groups": groups, "nonResourceAttributes": {"verb": verb, "path": path}}
+        return kapi.Question(user, verb, groups=groups, path=path), spec
+    resource, _, below = (one("resource") or "pods").partition("/")
+    fields = {"namespace": one("namespace"), "group": one("apiGroup"), "subresource": rng.choice(["", below]), "name": one("name")}
+    if rng.random() < 0.1 and not fields["subresource"]:
+        resource += "/log"
+    spec = {"user": user, "groups": groups, "resourceAttributes": {"verb": verb, "resource": resource, **fields}}
+    return kapi.Question(user, verb, resource, groups=groups, **fields), spec
+
+
+def loaded(name):
+    """The lines of an example's policy that an audit loads, and those with what an audit begins with."""
+    lines = [it for it in (ROOT / name).read_text().splitlines() if it and not it.startswith("#")]
+    return lines, "\n".join([*map(json.dumps, OPENING), *lines])
+
+
+def compare(program, kapi, count, seed, room):
+    rng, each, asked = random.Random(seed), count // len(POLICIES), 0
+    for name in POLICIES:
+        lines, objects = loaded(name)
+        words = words_of(lines)
+        pairs = [question(rng, words, kapi) for _ in range(each)]
+        questions = [ours for ours, spec in pairs if ours.user or ours.groups]
+        file = room / "questions.jsonl"
+        file.write_text("".join(json.dumps(spec) + "\n" for ours, spec in pairs if ours.user or ours.groups))
+        ran = subprocess.run([program, "audit", ROOT / name, file], check=True, capture_output=True, text=True)
+        answers = ran.stdout.splitlines()
+        with kapi.Policy.load(objects) as policy:
+            ours = [policy.why(it) for it in questions]
+        differ = [(it, want, got) for it, want, got in zip(questions, answers, ours, strict=True) if want != got]
+        for it, want, got in differ[:5]:
+            print(f"  {name}: {it}: audit says {want}, the library {got}")
+        assert not differ
+        asked += len(ours)
+        print(f"  {name}: {len(ours)} questions, {sum(it != 'denied' for it in ours)} allowed, none differs from kapi audit")
+    return asked
+
+
+def ask_in_threads(kapi):
+    _, objects = loaded(POLICIES[0])
+    rng = random.Random(8)
+    questions = [question(rng, words_of(objects.splitlines()), kapi)[0] for _ in range(500)]
+    found = [None] * THREADS
+
+    def work(at):
+        with kapi.Policy.load(objects) as policy:
+            found[at] = [policy.why(it) for it in questions]
+
+    threads = [threading.Thread(target=work, args=(at,)) for at in range(THREADS)]
+    for it in threads:
+        it.start()
+    for it in threads:
+        it.join()
+    assert found[0] and all(it == found[0] for it in found)
+    print(f"  {THREADS} threads with a policy each answer {len(questions)} questions alike")
+
+
+def main(program, folder="out/library", questions="10000", seed="1"):
+    folder = pathlib.Path(folder).resolve()
+    os.environ |= {"KAPI_LIBRARY": str(folder / "lib/libkapi.so"), "PKG_CONFIG_PATH": str(folder / "lib/pkgconfig"), "LD_LIBRARY_PATH": str(folder / "lib")}
+    sys.path.insert(0, str(ROOT / "bindings/python"))
+    import kapi
+
+    with tempfile.TemporaryDirectory() as name:
+        room = pathlib.Path(name)
+        print("C")
+        check_c(folder, room)
+        check_shared(folder)
+        print("Python")
+        run(sys.executable, "-m", "unittest", "discover", "-q", "-s", "tests", "-t", ".", cwd=ROOT / "bindings/python")
+        asked = compare(program, kapi, int(questions), int(seed), room)
+        ask_in_threads(kapi)
+        print("Rust")
+        if is_there("cargo", "the tests of the crate"):
+            run("cargo", "test", "-q", "--offline", cwd=ROOT / "bindings/rust", env=os.environ | {"KAPI_LIB": str(folder / "lib"), "CARGO_TARGET_DIR": str(room / "target")})
+        print("Go")
+        if is_there("go", "the tests of the module"):
+            run("go", "test", "./...", cwd=ROOT / "bindings/go")
+    print(f"library: {asked} decisions are those of kapi audit")
+
+
+if __name__ == "__main__":
+    main(*sys.argv[1:])
