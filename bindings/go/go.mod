@@ -1,0 +1,3 @@
+module kapi.example/kapi
+
+go 1.19

@@ -1,0 +1,42 @@
+"""Tests of the package. usage: KAPI_LIBRARY=libkapi.so python3 -m unittest discover -s tests"""
+
+import unittest
+
+from example import OBJECTS
+from kapi import BadLine, Decision, KapiError, NoQuestion, NotText, Policy, Question
+
+
+class Answers(unittest.TestCase):
+    def setUp(self) -> None:
+        self.policy = Policy.load(OBJECTS)
+        self.addCleanup(self.policy.close)
+
+    def test_decisions(self) -> None:
+        ask = lambda **how: self.policy.decide(Question(**{"user": "ann", "verb": "get", "resource": "pods/log", "namespace": "web", **how}))
+        self.assertIs(ask(), Decision.ALLOWED)
+        self.assertIs(ask(resource="pods", subresource="log"), Decision.ALLOWED)
+        self.assertIs(ask(user="bob"), Decision.DENIED)
+        self.assertIs(ask(namespace=""), Decision.DENIED)
+        self.assertIs(ask(path="/healthz"), Decision.DENIED)
+        self.assertIs(ask(user="bob", groups=["a"] * 1000 + ["system:masters"]), Decision.MASTERS)
+
+    def test_lines(self) -> None:
+        self.assertTrue(self.policy.why(Question("ann", "get", "pods/log", namespace="web")).startswith("allowed "))
+        self.assertEqual(self.policy.why(Question("bob", "get", "pods")), "denied")
+        self.assertTrue(self.policy.settled)
+
+    def test_faults(self) -> None:
+        with self.assertRaises(NotText):
+            self.policy.may(Question(b"\xff", "get", "pods"))
+        with self.assertRaises(NoQuestion):
+            self.policy.may(Question("ann", "get", "pods/log/x"))
+        with self.assertRaises(BadLine) as fault:
+            Policy.load(OBJECTS + "no object\n")
+        self.assertEqual(fault.exception.line, 4)
+        self.policy.close()
+        with self.assertRaises(KapiError):
+            self.policy.may(Question("ann", "get", "pods"))
+
+
+if __name__ == "__main__":
+    unittest.main()
