@@ -7,6 +7,7 @@ MEASURES = {
     "events": Module(words=()),
     "policies": Module(words=()),
     "load": Module("cc and wrk"),
+    "library": Module("make library PREFIX=out/library"),
     "instructions": Module("valgrind"),
     "samples": Module("perf and wrk"),
     "cluster": Module("wrk, python3-kubernetes, KUBE_APISERVER and ETCD"),
