@@ -169,6 +169,7 @@ int main(int count, char **words) {
     kapi_free(policy);
     kapi_free(NULL);
     CHECK(held == 0);
+    __real_free(objects);
     printf("C: all as it should be; %zu refused allocations of a load and %zu of a question told by a status\n", loads, questions);
     return 0;
 }

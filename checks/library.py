@@ -177,7 +177,7 @@ def main(program, folder="out/library", questions="10000", seed="1"):
         check_c(folder, room)
         check_shared(folder)
         print("Python")
-        run(sys.executable, "-m", "unittest", "discover", "-q", "-s", "tests", "-t", ".", cwd=ROOT / "bindings/python")
+        run(sys.executable, "-m", "unittest", "-q", "tests.test_kapi", cwd=ROOT / "bindings/python")
         asked = compare(program, kapi, int(questions), int(seed), room)
         ask_in_threads(kapi)
         print("Rust")

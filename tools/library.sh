@@ -1,11 +1,12 @@
 #!/bin/sh
-# Installs the C library, as it was proved last: header, libkapi.a, libkapi.so and kapi.pc. usage: library.sh PREFIX     wants cc and objcopy
+# Proves the C library, unless that was done, and installs header, libkapi.a, libkapi.so and kapi.pc. usage: library.sh PREFIX     wants cc and objcopy
 set -e
 cd "$(dirname "$0")/.."
 prefix=${1:?usage: library.sh PREFIX}
 archive=crates/kapi_c/out/libkapi_c.a
+command -v rt > /dev/null || { echo 'rt, the Rattle toolchain, is not on the PATH.' >&2; exit 1; }
 kit=$(dirname "$(dirname "$(readlink -f "$(command -v rt)")")")
-[ -f "$archive" ] || (cd crates/kapi_c && rt lib)
+(cd crates/kapi_c && rt lib)
 room=$(mktemp -d)
 trap 'rm -rf "$room"' EXIT
 # One object of the proved code and of the kit's part in C. Only what begins with kapi_ can be seen from outside.

@@ -71,8 +71,8 @@ const (
 // Question is whether a user may do something. No group is added: name system:authenticated too. With a path, it is asked
 // about that.
 type Question struct {
-	User                                                        string
-	Groups                                                      []string
+	User                                                      string
+	Groups                                                    []string
 	Namespace, Verb, Group, Resource, Subresource, Name, Path string
 }
 
@@ -89,7 +89,7 @@ func Load(objects []byte) (*Policy, error) {
 	}
 	var line C.size_t
 	policy := &Policy{}
-	if err := fault(C.kapi_load((*C.char)(unsafe.Pointer(unsafe.SliceData(objects))), C.size_t(len(objects)), &line, &policy.handle), uint64(line)); err != nil {
+	if err := fault(C.kapi_load(start(objects), C.size_t(len(objects)), &line, &policy.handle), uint64(line)); err != nil {
 		return nil, err
 	}
 	runtime.SetFinalizer(policy, (*Policy).Close)
@@ -137,8 +137,8 @@ func (policy *Policy) ask(wants C.uint32_t, question Question) (Decision, string
 	}
 	for room := make([]byte, 512); ; {
 		var answer C.kapi_answer
-		status := C.ask(policy.handle, wants, (*C.char)(unsafe.Pointer(unsafe.SliceData(bytes))), &lengths[0], C.size_t(len(question.Groups)),
-			&answer, (*C.char)(unsafe.Pointer(&room[0])), C.size_t(len(room)))
+		status := C.ask(policy.handle, wants, start(bytes), &lengths[0], C.size_t(len(question.Groups)),
+			&answer, start(room), C.size_t(len(room)))
 		if status == C.KAPI_NO_ROOM {
 			room = make([]byte, answer.length)
 			continue
@@ -148,6 +148,13 @@ func (policy *Policy) ask(wants C.uint32_t, question Question) (Decision, string
 		}
 		return Decision(answer.decision), string(room[:answer.length]), nil
 	}
+}
+
+func start(bytes []byte) *C.char {
+	if len(bytes) == 0 {
+		return nil
+	}
+	return (*C.char)(unsafe.Pointer(&bytes[0]))
 }
 
 func fault(status C.kapi_status, line uint64) error {

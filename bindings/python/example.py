@@ -8,7 +8,8 @@ OBJECTS = """\
 {"apiVersion":"rbac.authorization.k8s.io/v1","kind":"RoleBinding","metadata":{"namespace":"web","name":"logs"},"subjects":[{"apiGroup":"rbac.authorization.k8s.io","kind":"User","name":"ann"}],"roleRef":{"apiGroup":"rbac.authorization.k8s.io","kind":"Role","name":"logs"}}
 """
 
-with Policy.load(OBJECTS) as policy:
-    for user in ("ann", "bob"):
-        question = Question(user, "get", "pods/log", namespace="web")
-        print(user, policy.may(question), policy.why(question))
+if __name__ == "__main__":
+    with Policy.load(OBJECTS) as policy:
+        for user in ("ann", "bob"):
+            question = Question(user, "get", "pods/log", namespace="web")
+            print(user, policy.may(question), policy.why(question))

@@ -1,4 +1,4 @@
-"""Tests of the package. usage: KAPI_LIBRARY=libkapi.so python3 -m unittest discover -s tests"""
+"""Tests of the package. usage: KAPI_LIBRARY=libkapi.so python3 -m unittest tests.test_kapi"""
 
 import unittest
 

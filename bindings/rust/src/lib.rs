@@ -1,14 +1,11 @@
 //! Decisions of Kubernetes' RBAC, by Kapi's library.
 //!
 //! ```
-//! let objects = concat!(
-//!     r#"{"apiVersion":"rbac.authorization.k8s.io/v1","kind":"ClusterRole","metadata":{"name":"view"},"rules":[{"apiGroups":[""],"resources":["pods"],"verbs":["get"]}]}"#, "\n",
-//!     r#"{"apiVersion":"rbac.authorization.k8s.io/v1","kind":"ClusterRoleBinding","metadata":{"name":"view"},"subjects":[{"apiGroup":"rbac.authorization.k8s.io","kind":"User","name":"ann"}],"roleRef":{"apiGroup":"rbac.authorization.k8s.io","kind":"ClusterRole","name":"view"}}"#,
-//! );
-//! let mut policy = kapi::Policy::load(objects.as_bytes())?;
-//! let pods = kapi::Question { user: "ann", verb: "get", resource: "pods", ..Default::default() };
-//! assert!(policy.may(&pods)?);
-//! assert!(!policy.may(&kapi::Question { user: "bob", ..pods })?);
+//! # let objects = include_bytes!(concat!(env!("CARGO_MANIFEST_DIR"), "/tests/objects.jsonl"));
+//! let mut policy = kapi::Policy::load(objects)?;
+//! let logs = kapi::Question { user: "ann", verb: "get", resource: "pods/log", namespace: "web", ..Default::default() };
+//! assert!(policy.may(&logs)?);
+//! assert!(!policy.may(&kapi::Question { user: "bob", ..logs })?);
 //! # Ok::<(), kapi::Error>(())
 //! ```
 

@@ -1,13 +1,6 @@
 use kapi::{Decision, Error, Policy, Question};
 
-const OBJECTS: &str = concat!(
-    r#"{"apiVersion":"v1","kind":"Namespace","metadata":{"name":"web"}}"#,
-    "\n",
-    r#"{"apiVersion":"rbac.authorization.k8s.io/v1","kind":"Role","metadata":{"namespace":"web","name":"logs"},"rules":[{"apiGroups":[""],"resources":["pods/log"],"verbs":["get"]}]}"#,
-    "\n",
-    r#"{"apiVersion":"rbac.authorization.k8s.io/v1","kind":"RoleBinding","metadata":{"namespace":"web","name":"logs"},"subjects":[{"apiGroup":"rbac.authorization.k8s.io","kind":"User","name":"ann"}],"roleRef":{"apiGroup":"rbac.authorization.k8s.io","kind":"Role","name":"logs"}}"#,
-    "\n",
-);
+const OBJECTS: &str = include_str!("objects.jsonl");
 
 const LOGS: Question<'static> =
     Question { user: "ann", groups: &[], namespace: "web", verb: "get", group: "", resource: "pods/log", subresource: "", name: "", path: "" };
