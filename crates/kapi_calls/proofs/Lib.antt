@@ -1,2 +1,2 @@
 mod Slashes
-mod Texts
+mod Going

@@ -1,5 +1,5 @@
 -- What is passed, as a question.
-use Rattle.std.specs.Prelude.{ℕ, ◌==◌, Bool, not, ◌&&◌, ◌||◌, if◌then◌else◌, List, [], ◌∷◌, length, Result, Ok, Err}
+use Rattle.std.specs.Prelude.{ℕ, ◌==◌, Bool, not, ◌&&◌, ◌||◌, if◌then◌else◌, List, [], length, Result, Ok, Err}
 use Rattle.std.specs.List.{list_any, before_first, after_first}
 use Rattle.std.specs.Str.{is_utf8}
 use Rattle.kapi_text.specs.Gives.{◌>>=◌}
@@ -11,15 +11,19 @@ use Rattle.kapi_calls.specs.declared.fault.CallFault.TheVariants as fault
 use Rattle.kapi_calls.specs.declared.passed.PassedText.{PassedText}
 use Rattle.kapi_calls.specs.declared.passed.PassedQuestion.{PassedQuestion}
 use Rattle.kapi_calls.specs.declared.reading.Asked.{Asked}
+use Rattle.kapi_calls.specs.Each.{each}
 
 -- bytes as a text
 unfoldable pub text_of : List ℕ → Result (List ℕ) CallFault
 text_of bytes = if is_utf8 bytes then Ok bytes else Err fault.Text
 
+-- what is passed as a text
+abbrev pub passed_text : PassedText → Result (List ℕ) CallFault
+passed_text t = text_of t.bytes.now
+
 -- all of them as texts
-unfoldable pub texts_of : List PassedText → Result (List (List ℕ)) CallFault
-texts_of [] = Ok []
-texts_of (t ∷ ts) = text_of t.bytes.now >>= λ x. texts_of ts >>= λ xs. Ok (x ∷ xs)
+abbrev pub texts_of : List PassedText → Result (List (List ℕ)) CallFault
+texts_of = each passed_text
 
 abbrev pub has_slash : List ℕ → Bool
 has_slash s = list_any (λ b. b == 47) s

@@ -40,14 +40,20 @@ fn number(decision: &Decision<'_>) -> u32
     }
 }
 
-/// What is decided.
+/// The number of what is decided.
+pub fn number_decided(engine: &Engine, asked: &Asked) -> u32
+    ensures { result ≡ number_of (decided_of engine.now asked.now) }
+{
+    let namespace = asked.namespace.as_str();
+    number(&engine.decide(&asked.identity, namespace, &asked.point))
+}
+
+/// What is decided, without a text.
 fn decided(engine: &Engine, asked: &Asked, alloc: Global) -> Found
     ensures { told result ≡ number_alone (decided_of engine.now asked.now) }
 {
-    let namespace = asked.namespace.as_str();
-    let decision = engine.decide(&asked.identity, namespace, &asked.point);
     Found {
-        number: number(&decision),
+        number: number_decided(engine, asked),
         text: Vec::new(alloc),
     }
 }

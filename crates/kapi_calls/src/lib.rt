@@ -3,11 +3,13 @@
 #![tactic(auto)]
 
 mod answering;
+mod batch;
 mod fault;
 mod passed;
 mod reading;
 
 pub use answering::{Answer, answer_call};
+pub use batch::decide_batch;
 pub use fault::CallFault;
 pub use passed::{Call, PassedQuestion, PassedText};
 pub use reading::{Asked, read_question};

@@ -1,4 +1,4 @@
-use Rattle.std.proofs.Common.{◌≡◌, ℕ, List, Result, refl}
+use Rattle.std.proofs.Common.{ℕ, List, Result, refl}
 use Rattle.kapi_text.specs.Gives.{Fails}
 use Rattle.kapi_calls.specs.declared.answering.Answer.{Answer}
 use Rattle.kapi_calls.specs.declared.fault.CallFault.{CallFault}

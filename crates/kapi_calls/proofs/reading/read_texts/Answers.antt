@@ -1,17 +1,18 @@
 use Rattle.std.proofs.Common.{Ok, ap, arith, subst, sym, ◌∙◌, ◌+◌}
-use Rattle.kapi_calls.proofs.Texts.{Reading, reading_all, reading_bad, reading_more}
+use Rattle.kapi_calls.specs.Questions.{passed_text}
+use Rattle.kapi_calls.proofs.Going.{Going, going_all, going_bad, going_more}
 use Rattle.kapi_calls.proofs.reading.read_texts.Goals as goal
 
 pub returns-in-Err : goal.returns-in-Err
 returns-in-Err c =
-    reading_bad c.args.passed.now c.loop-text.text-index _ c.loop-text.texts.items _ c.loop-text-test.true c.loop-text.invariant c.in-Err.ensures
+    going_bad passed_text c.args.passed.now c.loop-text.text-index _ c.loop-text.texts.items _ c.loop-text-test.true c.loop-text.invariant c.in-Err.ensures
 
 pub loop-text-preserved : goal.loop-text-preserved
 loop-text-preserved c =
-    subst (λ ts. Reading c.args.passed.now (c.loop-text.text-index + 1) ts) (sym c.in_ok-push-in-Ok.ensures)
-    (reading_more c.args.passed.now c.loop-text.text-index _ c.loop-text.texts.items _ c.loop-text-test.true c.loop-text.invariant c.in-Ok.ensures)
+    subst (λ ts. Going passed_text c.args.passed.now (c.loop-text.text-index + 1) ts) (sym c.in_ok-push-in-Ok.ensures)
+    (going_more passed_text c.args.passed.now c.loop-text.text-index _ c.loop-text.texts.items _ c.loop-text-test.true c.loop-text.invariant c.in-Ok.ensures)
 
 pub returns : goal.returns
 returns c =
-    reading_all c.args.passed.now c.loop-text.text-index c.loop-text.texts.items (omega (arith, c.loop-text-test.false)) c.loop-text.invariant
+    going_all passed_text c.args.passed.now c.loop-text.text-index c.loop-text.texts.items (omega (arith, c.loop-text-test.false)) c.loop-text.invariant
     ∙ ap Ok (sym c.new.ensures)
