@@ -116,6 +116,21 @@ static void faults(const kapi_policy *policy) {
     __real_free(many);
 }
 
+static void decides_many(const char *objects, size_t length) {
+    kapi_question questions[] = {logs("ann"), logs("bob"), logs("ann")};
+    kapi_decision decisions[] = {7, 7, 7};
+    size_t line = 7;
+    CHECK(kapi_decide(objects, length, questions, 3, decisions, 2, &line) == KAPI_NO_ROOM && decisions[0] == 7);
+    CHECK(kapi_decide("{", 1, questions, 3, decisions, 3, &line) == KAPI_BAD_LINE && line == 1 && decisions[0] == 7);
+    CHECK(kapi_decide(objects, length, questions, 3, decisions, 3, &line) == KAPI_OK && line == 1);
+    CHECK(decisions[0] == KAPI_ALLOWED && decisions[1] == KAPI_DENIED && decisions[2] == KAPI_ALLOWED);
+    questions[2].verb.bytes = "\xff";
+    questions[2].verb.length = 1;
+    decisions[0] = 7;
+    CHECK(kapi_decide(objects, length, questions, 3, decisions, 3, &line) == KAPI_NOT_TEXT && decisions[0] == 7);
+    CHECK(kapi_decide(objects, length, NULL, 0, NULL, 0, &line) == KAPI_OK);
+}
+
 /* Each allocation refused in turn: a status says so, nothing is written, and nothing is kept. */
 static size_t refusals(const char *objects, size_t length) {
     size_t refused = 0;
@@ -165,6 +180,7 @@ int main(int count, char **words) {
     CHECK(kapi_load("\n#\n{", 4, &line, &none) == KAPI_BAD_LINE && none == NULL && line == 3);
     asks(policy);
     faults(policy);
+    decides_many(objects, length);
     size_t loads = refusals(objects, length), questions = refused_questions(policy);
     kapi_free(policy);
     kapi_free(NULL);

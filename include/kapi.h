@@ -46,7 +46,7 @@ typedef uint32_t kapi_status;
 #define KAPI_BAD_LINE 2u    /* a line holds no object that can be created */
 #define KAPI_NOT_TEXT 3u    /* a text is no UTF-8 */
 #define KAPI_NO_QUESTION 4u /* no such question: a resource with two slashes, or a `wants` that is not known */
-#define KAPI_NO_ROOM 5u     /* the text does not fit; its length was written */
+#define KAPI_NO_ROOM 5u     /* the text does not fit, and its length was written; or there is not a decision for each question */
 
 typedef uint32_t kapi_decision;
 #define KAPI_DENIED 0u
@@ -107,6 +107,11 @@ kapi_status kapi_ask(const kapi_policy *policy, const kapi_call *call, kapi_answ
 
 /* Frees a policy, which is not null. */
 void kapi_drop(kapi_policy *policy);
+
+/* Loads a policy, decides each of `count` questions by it, and frees it: decisions[n] is that of questions[n]. `room` has to be
+ * `count`, or the status is KAPI_NO_ROOM. At KAPI_BAD_LINE *line is the first line that is not loaded. */
+kapi_status kapi_decide(const char *objects, size_t length, const kapi_question *questions, size_t count,
+                        kapi_decision *decisions, size_t room, size_t *line);
 
 /* ---- calls that are made of these */
 

@@ -7,11 +7,12 @@ ghost use Rattle.std.specs.Borrow.{sem};
 ghost use Rattle.kapi_engine.specs.Engines.{engine_of};
 ghost use Rattle.kapi_engine.specs.declared.engine.Engine.{Engine as Loaded};
 ghost use Rattle.kapi_calls.specs.Answers.{IsAnswered};
+ghost use Rattle.kapi_calls.specs.Batches.{IsBatch};
 ghost use Rattle.kapi_c.specs.Handles.{IsLoaded, handed, holds_at};
 
 mod loading;
 
-use kapi_calls::{Answer, Call, answer_call};
+use kapi_calls::{Answer, Call, PassedQuestion, answer_call, decide_batch};
 use kapi_engine::Engine;
 use loading::{let_go, make_engine, put};
 use std::alloc::Global;
@@ -45,6 +46,20 @@ pub extern "C" fn kapi_load(
         Ok(made) => put(policy, Box::into_raw(made)),
         Err(status) => status,
     }
+}
+
+/// Loads a policy, decides each question by it, and frees it. There are as many decisions as questions.
+#[unsafe(no_mangle)]
+pub extern "C" fn kapi_decide(
+    alloc: Global,
+    objects: &[u8],
+    questions: &[PassedQuestion<'_>],
+    decisions: &mut [u32],
+    line: &mut usize,
+) -> u32
+    ensures { IsBatch (engine_of objects.now) questions.now decisions.old decisions.new line.old line.new result }
+{
+    decide_batch(alloc, objects, questions, decisions, line)
 }
 
 /// Answers a call by the policy, which the caller holds before and after.
