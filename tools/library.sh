@@ -2,7 +2,8 @@
 # Proves the C library, unless that was done, and installs header, libkapi.a, libkapi.so and kapi.pc. usage: library.sh PREFIX     wants cc and objcopy
 set -e
 cd "$(dirname "$0")/.."
-prefix=${1:?usage: library.sh PREFIX}
+mkdir -p "${1:?usage: library.sh PREFIX}"
+prefix=$(cd "$1" && pwd)
 archive=crates/kapi_c/out/libkapi_c.a
 command -v rt > /dev/null || { echo 'rt, the Rattle toolchain, is not on the PATH.' >&2; exit 1; }
 kit=$(dirname "$(dirname "$(readlink -f "$(command -v rt)")")")
