@@ -86,12 +86,15 @@ def misread(program, text, wanted_lines):
 ROLE = {"apiVersion": "rbac.authorization.k8s.io/v1", "kind": "Role", "metadata": {"name": "r", "namespace": "default"},
         "rules": [{"apiGroups": ["example.org"], "resources": ["widgets", "gears"], "verbs": ["get"]}]}
 WIDGET = {"apiVersion": "example.org/v1", "kind": "Widget", "metadata": {"name": "w", "namespace": "default"}}
+# As an API server writes a list: its items have no kind of their own.
+DEFINITIONS = {"apiVersion": DEFINITION["apiVersion"], "kind": f"{DEFINITION['kind']}List", "items": [{"metadata": DEFINITION["metadata"], "spec": SPEC}]}
 GEARS = "policy:1: Role default/r: rule 0: no kind serves the resource gears"
 # The words behind a program, its status, and whether it prints or says a text.
 COMMANDS = [
     ("audit policy questions", 1, "policy line 2", True),
     ("audit policy questions --kinds kinds", 0, "denied", True),
     ("audit --kinds kinds --kinds kubernetes policy questions", 0, "denied", True),
+    ("audit policy questions --kinds definitions", 0, "denied", True),
     ("audit policy questions --kinds none", 1, "none: there is no such file", True),
     ("check policy", 3, GEARS, False),
     ("check policy --kinds kinds", 3, GEARS, True),
@@ -105,6 +108,7 @@ def misdone(program, words, status, text, is_there):
     """What is wrong with how a command ends."""
     with tempfile.TemporaryDirectory() as room:
         pathlib.Path(room, "kinds").write_text(json.dumps(LINE) + "\n")
+        pathlib.Path(room, "definitions").write_text(json.dumps(DEFINITIONS))
         pathlib.Path(room, "policy").write_text(json.dumps(ROLE) + "\n" + json.dumps(WIDGET) + "\n")
         pathlib.Path(room, "questions").write_text('{"user":"ann","resourceAttributes":{"verb":"get","resource":"widgets","group":"example.org"}}\n')
         ran = subprocess.run([os.path.abspath(program), *words.split()], cwd=room, input="", capture_output=True, text=True, check=False)
