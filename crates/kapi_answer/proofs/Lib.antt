@@ -1,5 +1,4 @@
 mod Semicolons
-mod Rows
 pub mod Stored
 pub mod Merged
 pub mod Listed

@@ -16,6 +16,7 @@ use Rattle.kapi_reply.specs.declared.refusal.Place.TheVariants as place
 use Rattle.kapi_answer.specs.declared.route.Action.{Action}
 use Rattle.kapi_answer.specs.declared.route.Action.TheVariants as action
 use Rattle.kapi_answer.specs.declared.route.Part.TheVariants as part
+use Rattle.kapi_store.specs.Rows.{is_of}
 use Rattle.kapi_text.specs.Gives.{◌>>=◌}
 use Rattle.kapi_reply.specs.Refusals.{asked_for}
 
@@ -32,7 +33,7 @@ pub data Routed : Type 0 where
 
 -- the resource type is that of the request's group, version and resource
 abbrev pub is_row_of : List ℕ → ResourcePoint → ResourceRow → Bool
-is_row_of version p row = bytes_eq row.group p.group && (bytes_eq row.version version && bytes_eq row.plural p.resource)
+is_row_of version p row = is_of p.group version p.resource row
 
 -- the resource type is that of the namespaces themselves
 abbrev pub is_of_namespaces : ResourceRow → Bool

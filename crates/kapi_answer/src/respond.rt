@@ -260,7 +260,7 @@ fn plan<P: Policy>(
     ensures told { IfOk result ChangesNothing }
 {
     authorize(policy, identity, attributes)?;
-    match find_route(store.table(), request.method, attributes)? {
+    match find_route(store, request.method, attributes)? {
         Route::Health => Ok(Plan::Tell(health(alloc, request)?)),
         Route::Resource(route) => {
             plan_for(alloc, policy, store, identity, request, attributes, route)

@@ -9,6 +9,7 @@ use kapi_model::ResourceRow;
 use kapi_reply::{Place, Refusal, Refused};
 use kapi_request_info::Attributes;
 use kapi_rules::{Point, ResourcePoint};
+use kapi_store::Store;
 
 /// Which part of an object is read or written.
 #[derive(Clone, Copy, Debug, PartialEq, Eq)]
@@ -50,15 +51,15 @@ pub enum Route<'a> {
 /// Finds the resource type, the place and the action of a request.
 #[tactic(auto, unfolding(crate::specs::Route::routed))]
 pub fn find_route<'a>(
-    table: &'a [ResourceRow],
+    store: &'a Store,
     method: Method,
     attributes: &'a Attributes,
 ) -> Result<Route<'a>, Refused>
-    ensures { Routes result (routed table.now method attributes.now) }
+    ensures { Routes result (routed store.now.table method attributes.now) }
 {
     match &attributes.point {
         Point::Url(point) => path_route(method, point.path.as_str()),
-        Point::Resource(point) => match find_row(table, attributes, point) {
+        Point::Resource(point) => match find_row(store, attributes, point) {
             Some(row) => route_on_row(row, method, attributes, point),
             None => Err(Refused::asked_for(Refusal::NoSuchResource)),
         },
@@ -97,21 +98,13 @@ fn health_route<'a>(method: Method) -> Result<Route<'a>, Refused>
 
 /// The resource type of the request's group, version and resource.
 fn find_row<'a>(
-    table: &'a [ResourceRow],
+    store: &'a Store,
     attributes: &Attributes,
     point: &ResourcePoint,
 ) -> Option<&'a ResourceRow>
-    ensures { option_copied result ≡ find (routes.is_row_of attributes.now.version point.now) table.now }
+    ensures { option_copied result ≡ find (routes.is_row_of attributes.now.version point.now) store.now.table }
 {
-    table.iter().find(|row| is_row_of(row, attributes, point))
-}
-
-#[tactic(auto, using(crate::proofs::Rows::last_first))]
-fn is_row_of(row: &ResourceRow, attributes: &Attributes, point: &ResourcePoint) -> bool
-    ensures { result ≡ routes.is_row_of attributes.now.version point.now row.now }
-{
-    // Rows differ most in the resource.
-    row.plural == point.resource && (row.group == point.group && row.version == attributes.version)
+    store.row(&point.group, &attributes.version, &point.resource)
 }
 
 #[tactic(auto, unfolding(crate::specs::Route::on_row))]

@@ -21,3 +21,4 @@ pub mod Cuts
 pub mod VersionTexts
 pub mod Restamped
 pub mod SameText
+pub mod FirstRows

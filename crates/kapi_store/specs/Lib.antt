@@ -12,4 +12,5 @@ pub mod Lent
 pub mod Faults
 pub mod Plain
 pub mod Listing
+pub mod Rows
 pub mod Private

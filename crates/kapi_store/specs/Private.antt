@@ -4,3 +4,4 @@ pub mod Alike
 pub mod Existing
 pub mod Hidden
 pub mod Cut
+pub mod FirstRows

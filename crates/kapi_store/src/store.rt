@@ -4,7 +4,7 @@ use crate::key::Key;
 use crate::listing::{Listed, Selection};
 use crate::namespaces::{any_stands_in, forget_if_removed, is_known, is_namespace, keep_namespace};
 use crate::ready::Ready;
-use crate::rows::is_namespaced;
+use crate::rows::{Rows, is_namespaced};
 use crate::slots::{Hidden, find, place, reserve_slot};
 use crate::stamps::{admitted, created, replacing};
 use crate::stored::StoredObject;
@@ -23,7 +23,7 @@ pub const LAST_REVISION: u64 = 281_474_976_710_655;
 #[derive(Debug)]
 pub struct Store {
     alloc: Global,
-    table: Sequence<ResourceRow>,
+    table: Rows,
     slots: BTreeMap<Key, Shared>,
     /// The slot whose object is still to be created.
     hidden: Option<Hidden>,
@@ -91,6 +91,8 @@ impl Store {
     ghost use Rattle.kapi_store.specs.Plain.{changes_after as changes_after_in, replaceable as replaceable_at, holds_objects as holds_objects_in, is_full_namespace, removable, replaced, window_start as window_start_of};
     ghost use Rattle.kapi_store.specs.Limits.{last_revision, window_limit};
     ghost use Rattle.kapi_store.specs.Listing.{listed_objects, listed_trees, shown};
+    ghost use Rattle.kapi_store.specs.Rows.{is_of};
+    ghost use Rattle.std.specs.Prelude.{find as find_row};
 
     /// A store with no object and no change, whose counter starts at `first`; it has the memory for all changes that
     /// it will keep.
@@ -105,7 +107,7 @@ impl Store {
     {
         Ok(Store {
             alloc,
-            table,
+            table: Rows::new(alloc, table)?,
             slots: BTreeMap::new(alloc),
             hidden: None,
             known: None,
@@ -120,6 +122,13 @@ impl Store {
         ensures { result.now ≡ self.now.table }
     {
         self.table.as_slice()
+    }
+
+    /// The resource type of a group, a version and a name, if it is served. Allocates nothing.
+    pub fn row(&self, group: &Text, version: &Text, plural: &Text) -> Option<&ResourceRow>
+        ensures { option_copied result ≡ find_row (is_of group.now version.now plural.now) self.now.table }
+    {
+        self.table.find(group, version, plural)
     }
 
     /// The object at the key, if any. Allocates nothing.

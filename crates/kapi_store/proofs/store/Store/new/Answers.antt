@@ -13,11 +13,11 @@ pub invariant_of-result : goal.invariant_of-result
 unfolding IsStrictlySortedBy
 invariant_of-result c =
     let P : List (Key × StoredObject) → Type 0 = λ es. IsStrictlySortedBy key_cmp (keys_of es) in
-    (new_store _ (ap (map (seen None)) c.new.ensures.empty) c.in_ok-new.ensures refl c.requires, tt, subst P (sym c.new.ensures.empty) tt, tt)
+    (new_store _ (ap (map (seen None)) c.new-2.ensures.empty) c.in_ok-new-2.ensures refl c.requires, tt, subst P (sym c.new-2.ensures.empty) tt, tt)
 
 pub returns-clause-objects : goal.returns-clause-objects
 unfolding live
-returns-clause-objects c = ap (λ es. live (map (seen None) es)) c.new.ensures.empty
+returns-clause-objects c = ap (λ es. live (map (seen None) es)) c.new-2.ensures.empty
 
 pub returns-clause-stands : goal.returns-clause-stands
-returns-clause-stands c = opened_stands _ _ _ refl (ap (map (seen None)) c.new.ensures.empty) refl refl c.in_ok-new.ensures
+returns-clause-stands c = opened_stands _ _ _ c.in_ok-new.ensures (ap (map (seen None)) c.new-2.ensures.empty) refl refl c.in_ok-new-2.ensures
