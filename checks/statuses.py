@@ -2,8 +2,10 @@
 
 usage: python3 -m checks.statuses PROGRAM     wants bash
 """
+import json
 import os
 import pathlib
+import pty
 import re
 import shlex
 import shutil
@@ -325,6 +327,10 @@ SERVERS = [
 REVISIONS = {"": "5", "--first-revision 41": "46", "--first-revision 281474976710650": "281474976710655", "--first-revision clock": "1[0-9]{12}05"}
 
 
+# So many events of a log take some seconds.
+LONG = 400_000
+
+
 def at_another_revision(program):
     for words, revision in REVISIONS.items():
         with Server(program, *words.split()), urllib.request.urlopen(f"http://127.0.0.1:{ROOT}/api/v1/namespaces") as answer:
@@ -359,6 +365,24 @@ def other_examples(program, room):
         yield f"docs/COMPARE.md: {told}"
 
 
+def at_a_terminal(program, room):
+    """How many lines of a log were read is shown on a terminal alone, once that takes over a second."""
+    event = {"kind": "Event", "apiVersion": "audit.k8s.io/v1", "stage": "ResponseComplete", "verb": "get", "requestURI": "/",
+             "user": {"username": "ann", "groups": ["system:masters"]}, "annotations": {"authorization.k8s.io/decision": "allow"}}
+    (room / "long").write_text((json.dumps(event) + "\n") * LONG)
+    for is_terminal in (True, False):
+        ours, theirs = pty.openpty() if is_terminal else os.pipe()
+        ran = subprocess.run([program, "audit", "empty", "long", "--log"], cwd=room, stdout=subprocess.PIPE, stderr=theirs, timeout=60)
+        os.set_blocking(ours, False)
+        os.write(theirs, b".")  # So that there is something to read.
+        shown = os.read(ours, 65536).decode().replace("\r\n", "\n")
+        read = rf"(\d+ of {LONG} lines\n)+" if is_terminal else ""
+        wanted = read + r"empty: there is no role and no binding in it\n\."
+        if (ran.returncode, ran.stdout) != (0, b"") or not re.fullmatch(wanted, shown):
+            yield f"audit --log, {is_terminal=}: status {ran.returncode}, {ran.stdout}, {shown!r}"
+        os.close(ours), os.close(theirs)
+
+
 def main(program):
     cases = [*SCRIPTS, *WORDS, *AUDITS, *REPLAYS, *COMPARISONS, *SERVERS]
     with tempfile.TemporaryDirectory() as folder:
@@ -370,7 +394,7 @@ def main(program):
         (room / "bad").write_text('\n# nothing\n{"kind":"Pod"}\n')
         kapi = str(room / "bin/kapi")
         wrong = [f"kapi {case.words!r}, {case.input[:80]!r}, {case.files}: {got}" for case in cases if (got := fault(kapi, case, room))]
-        wrong += [*other_examples(kapi, room), *at_another_revision(kapi)]
+        wrong += [*other_examples(kapi, room), *at_another_revision(kapi), *at_a_terminal(kapi, room)]
     print(*wrong, f"{len(cases)} commands, 10 examples of help, docs/COMPARE.md and {len(REVISIONS)} servers: {len(wrong)} not as they should be", sep="\n")
     return 1 if wrong else 0
 
