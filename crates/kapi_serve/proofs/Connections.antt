@@ -25,7 +25,7 @@ use Rattle.kapi_http.specs.Scan.{scanned}
 use Rattle.kapi_http.specs.declared.message.HttpFault.{HttpFault}
 use Rattle.kapi_http.specs.declared.message.HttpRequest.{HttpRequest}
 use Rattle.kapi_model.specs.declared.identity.Identity.{Identity}
-use Rattle.kapi_serve.specs.Private.Stands.{GoesOn, HasNoRequest, IsNumbered, Stays}
+use Rattle.kapi_serve.specs.Private.ClientsMatch.{GoesOn, HasNoRequest, IsNumbered, Stays}
 use Rattle.kapi_serve.proofs.Numbers.{grows_by}
 
 -- ---- one connection goes on

@@ -17,8 +17,8 @@ use Rattle.kapi_policy.specs.Objects.{PolicyObjects}
 use Rattle.kapi_policy.specs.declared.change.PolicyChange.{PolicyChange}
 use Rattle.kapi_gains.specs.StoredStates.{AreInOrder}
 use Rattle.kapi_stored_policy.proofs.Writes.{stands_in_order}
-use Rattle.kapi_serve.specs.Goes.{steps_in}
-use Rattle.kapi_serve.specs.Policies.{ShowsPolicies}
+use Rattle.kapi_serve.specs.Advances.{steps_in}
+use Rattle.kapi_serve.specs.Policies.{PublishesPolicies}
 use Rattle.kapi_desk.specs.Steps.{step_of}
 
 -- a policy after some steps is one that the machine had after some of the events
@@ -51,7 +51,7 @@ first_steps m (e ∷ es) sorted (s ∷ r) rest is =
 
 -- the steps that a desk has published since it had published the machine's policy
 pub policies_shown : (core : Running) (board next : Board) (events : List Event) (told : List Answer) (left : List (List PolicyChange)) → next.opening ≡ board.opening
-    → ((m : Machine) → Publishes core board m → told ≡ answers m events) → next.list ++ left ≡ board.list ++ steps_in told → ShowsPolicies core board next events
+    → ((m : Machine) → Publishes core board m → told ≡ answers m events) → next.list ++ left ≡ board.list ++ steps_in told → PublishesPolicies core board next events
 unfolding IsHad
 policies_shown core board next events told left same runs published m shown seen (r, is) (q, ends) =
     let whole : board.list ++ (r ++ (q ++ left)) ≡ board.list ++ steps_in (answers m events) =

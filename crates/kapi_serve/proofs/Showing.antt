@@ -5,7 +5,7 @@ use Rattle.std.proofs.lemmas.List.{append-nil}
 use Rattle.kapi_policy.specs.declared.change.PolicyChange.{PolicyChange}
 use Rattle.kapi_desk.specs.Boards.{Board}
 use Rattle.kapi_desk.specs.Steps.{step_of}
-use Rattle.kapi_serve.specs.Shows.{IsPrompt, Shows, Takes, all_steps, unpublished}
+use Rattle.kapi_serve.specs.Publishes.{IsPrompt, Publishes, Takes, all_steps, unpublished}
 
 -- nothing waits where none is pending
 pub none_waits : (ws : List (List PolicyChange)) (b : Bool) → ((b ≡ true) ↔ (0 < length ws)) → b ≡ false → ws ≡ []
@@ -14,24 +14,24 @@ none_waits (w ∷ ws) b iff off = let on : b ≡ true = iff.1 (omega arith) in a
 
 -- ---- nothing is shown
 
-pub shows_nothing : (d : Board) (k : Option (List PolicyChange)) → Shows d d k k []
+pub shows_nothing : (d : Board) (k : Option (List PolicyChange)) → Publishes d d k k []
 shows_nothing d k = record { opening = refl; all = sym (append-nil (all_steps d k)); prompt = λ h. h }
 
-pub shows_empty : (d : Board) (k : Option (List PolicyChange)) (cs : List PolicyChange) → cs ≡ [] → Shows d d k k (step_of cs)
-shows_empty d k cs none = subst (λ xs. Shows d d k k (step_of xs)) (sym none) (shows_nothing d k)
+pub shows_empty : (d : Board) (k : Option (List PolicyChange)) (cs : List PolicyChange) → cs ≡ [] → Publishes d d k k (step_of cs)
+shows_empty d k cs none = subst (λ xs. Publishes d d k k (step_of xs)) (sym none) (shows_nothing d k)
 
-pub shows_as : (d e : Board) (k q : Option (List PolicyChange)) (xs ys : List (List PolicyChange)) → xs ≡ ys → Shows d e k q xs → Shows d e k q ys
-shows_as d e k q xs ys same s = subst (λ zs. Shows d e k q zs) same s
+pub shows_as : (d e : Board) (k q : Option (List PolicyChange)) (xs ys : List (List PolicyChange)) → xs ≡ ys → Publishes d e k q xs → Publishes d e k q ys
+shows_as d e k q xs ys same s = subst (λ zs. Publishes d e k q zs) same s
 
 -- steps are published one after the other
-pub shows_on : (d e f : Board) (p q r : Option (List PolicyChange)) (xs ys : List (List PolicyChange)) → Shows d e p q xs → Shows e f q r ys → Shows d f p r (xs ++ ys)
+pub shows_on : (d e f : Board) (p q r : Option (List PolicyChange)) (xs ys : List (List PolicyChange)) → Publishes d e p q xs → Publishes e f q r ys → Publishes d f p r (xs ++ ys)
 shows_on d e f p q r xs ys s t = record {
   opening = t.opening ∙ s.opening;
   all = t.all ∙ ap (λ zs. zs ++ ys) s.all ∙ append_assoc (all_steps d p) xs ys;
   prompt = λ h. t.prompt (s.prompt h);
 }
 
-pub shows_on_nothing : (d e f : Board) (p q r : Option (List PolicyChange)) → Shows d e p q [] → Shows e f q r [] → Shows d f p r []
+pub shows_on_nothing : (d e f : Board) (p q r : Option (List PolicyChange)) → Publishes d e p q [] → Publishes e f q r [] → Publishes d f p r []
 shows_on_nothing d e f p q r s t = shows_on d e f p q r [] [] s t
 
 -- ---- a step is shown
@@ -44,7 +44,7 @@ pub all_published : (d : Board) → d.waiting ≡ [] → (k : Option (List Polic
 all_published d none k gone = ap (λ q. all_steps d q) gone ∙ ap (λ ws. d.list ++ (ws ++ [])) none ∙ append-nil d.list
 
 -- the desk took the step
-shows_taken : (d e : Board) (k : Option (List PolicyChange)) (cs : List PolicyChange) → d.waiting ≡ [] → k ≡ None → Takes d e cs None → Shows d e k k (cs ∷ [])
+shows_taken : (d e : Board) (k : Option (List PolicyChange)) (cs : List PolicyChange) → d.waiting ≡ [] → k ≡ None → Takes d e cs None → Publishes d e k k (cs ∷ [])
 shows_taken d e k cs none gone took = record {
   opening = took.0;
   all = ap (λ q. all_steps e q) gone ∙ ap (λ ws. e.list ++ ws) (append-nil e.waiting) ∙ took.1 ∙ ap (λ xs. xs ++ cs ∷ []) (sym (all_published d none k gone));
@@ -52,9 +52,9 @@ shows_taken d e k cs none gone took = record {
 }
 
 -- the step is kept
-shows_kept : (d e : Board) (k : Option (List PolicyChange)) (cs : List PolicyChange) → d.waiting ≡ [] → k ≡ None → e ≡ d → Shows d e k (Some cs) (cs ∷ [])
+shows_kept : (d e : Board) (k : Option (List PolicyChange)) (cs : List PolicyChange) → d.waiting ≡ [] → k ≡ None → e ≡ d → Publishes d e k (Some cs) (cs ∷ [])
 shows_kept d e k cs none gone same =
-    let P : Board → Type 0 = λ b. Shows d b k (Some cs) (cs ∷ []) in
+    let P : Board → Type 0 = λ b. Publishes d b k (Some cs) (cs ∷ []) in
     subst P (sym same) (record {
       opening = refl;
       all = ap (λ ws. d.list ++ (ws ++ cs ∷ [])) none ∙ ap (λ xs. xs ++ cs ∷ []) (sym (all_published d none k gone));
@@ -62,14 +62,14 @@ shows_kept d e k cs none gone same =
     })
 
 -- the desk took the step, or the step is kept
-pub shows_taken_or_kept : (d e : Board) (k q : Option (List PolicyChange)) (cs : List PolicyChange) → d.waiting ≡ [] → k ≡ None → Takes d e cs q → Shows d e k q (cs ∷ [])
+pub shows_taken_or_kept : (d e : Board) (k q : Option (List PolicyChange)) (cs : List PolicyChange) → d.waiting ≡ [] → k ≡ None → Takes d e cs q → Publishes d e k q (cs ∷ [])
 shows_taken_or_kept d e k None cs none gone took =
-    subst (λ q. Shows d e k q (cs ∷ [])) gone (shows_taken d e k cs none gone took)
+    subst (λ q. Publishes d e k q (cs ∷ [])) gone (shows_taken d e k cs none gone took)
 shows_taken_or_kept d e k (Some back) cs none gone (same, is) =
-    subst (λ b. Shows d e k (Some b) (cs ∷ [])) (sym is) (shows_kept d e k cs none gone same)
+    subst (λ b. Publishes d e k (Some b) (cs ∷ [])) (sym is) (shows_kept d e k cs none gone same)
 
 -- what waited is published
-pub shows_waiting : (d e : Board) (k : Option (List PolicyChange)) → e.opening ≡ d.opening → e.list ≡ d.list ++ d.waiting → e.waiting ≡ [] → Shows d e k k []
+pub shows_waiting : (d e : Board) (k : Option (List PolicyChange)) → e.opening ≡ d.opening → e.list ≡ d.list ++ d.waiting → e.waiting ≡ [] → Publishes d e k k []
 shows_waiting d e k opening list none =
     let kept : List (List PolicyChange) = unpublished (record d { waiting = [] }) k in record {
       opening = opening;
@@ -78,7 +78,7 @@ shows_waiting d e k opening list none =
     }
 
 -- the step still waits
-pub shows_same : (d e : Board) (k : Option (List PolicyChange)) → e.opening ≡ d.opening → e.list ≡ d.list → e.waiting ≡ d.waiting → Shows d e k k []
+pub shows_same : (d e : Board) (k : Option (List PolicyChange)) → e.opening ≡ d.opening → e.list ≡ d.list → e.waiting ≡ d.waiting → Publishes d e k k []
 shows_same d e k opening list waiting = record {
   opening = opening;
   all = (λ j. list j ++ unpublished (record d { waiting = waiting j }) k) ∙ sym (append-nil (all_steps d k));
@@ -86,7 +86,7 @@ shows_same d e k opening list waiting = record {
 }
 
 -- what was kept is shown
-pub shows_again : (d e : Board) (k q : Option (List PolicyChange)) (cs : List PolicyChange) → k ≡ Some cs → d.waiting ≡ [] → Shows d e None q (cs ∷ []) → Shows d e k q []
+pub shows_again : (d e : Board) (k q : Option (List PolicyChange)) (cs : List PolicyChange) → k ≡ Some cs → d.waiting ≡ [] → Publishes d e None q (cs ∷ []) → Publishes d e k q []
 shows_again d e k q cs is none s = record {
   opening = s.opening;
   all = s.all ∙ ap (λ ws. (d.list ++ (ws ++ [])) ++ cs ∷ []) none ∙ ap (λ xs. xs ++ cs ∷ []) (append-nil d.list)

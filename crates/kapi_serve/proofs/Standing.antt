@@ -11,7 +11,7 @@ use Rattle.std.proofs.lemmas.Bool.Decides.{nat_tests}
 use Rattle.std.proofs.lemmas.Cmp.{ranked}
 use Rattle.kapi_aggregation.specs.Members.{Has}
 use Rattle.kapi_serve.specs.declared.client.Client.{Client}
-use Rattle.kapi_serve.specs.Private.Stands.{Rise}
+use Rattle.kapi_serve.specs.Private.ClientsMatch.{Rise}
 
 -- ---- numbers in lists
 

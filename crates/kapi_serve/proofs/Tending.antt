@@ -35,10 +35,10 @@ use Rattle.kapi_serve.specs.declared.pending.Pending.{Pending}
 use Rattle.kapi_serve.specs.declared.progress.Progress.{Progress}
 use Rattle.kapi_serve.specs.declared.progress.Progress.TheVariants as progress
 use Rattle.kapi_serve.specs.Ports.{Report}
-use Rattle.kapi_serve.specs.Private.Moments.{Ends}
+use Rattle.kapi_serve.specs.Private.ServerStates.{Ends}
 use Rattle.kapi_serve.specs.Private.Pieces.{IsCounted, IsSent, joined, owed}
 use Rattle.kapi_serve.specs.Private.Progresses.{both}
-use Rattle.kapi_serve.specs.Private.Stands.{AllSuit, AreCalled, AreDue, AreRoused, Finishes, GoesOn, HasNoRequest, IsAwakeOrQuiet, IsNew, IsNumbered, IsQuiet, IsServed, Keeps, PassesBy, Rise, Stays, Suits, Tends, Waits, is_called}
+use Rattle.kapi_serve.specs.Private.ClientsMatch.{AllMatch, AreCalled, AreDue, AreRoused, Finishes, GoesOn, HasNoRequest, IsAwakeOrQuiet, IsNew, IsNumbered, IsQuiet, IsServed, Keeps, PassesBy, Rise, Stays, MatchesConnection, Tends, Waits, is_called}
 use Rattle.kapi_serve.specs.Rests.{AreAtRest, Rests}
 use Rattle.kapi_serve.proofs.Connections.{answered_nothing, answered_same, closed_gone, fed_concern, goes_both, goes_event, goes_none, gone_request, opened_concern, opened_request, pumped_concern, pumped_request, request_answered, served_gone, shown_gone, stays_both, stays_none, turn_stays, unfed_stays, unserved_stays}
 use Rattle.kapi_serve.proofs.Numbers.{opened_next}
@@ -117,7 +117,7 @@ waits_shown c b = record { seat = refl; phase = refl; blocked = refl; count = re
 pub waits_pending : (c : Client) (p : Pending) → owed p ≡ owed c.pending → p.count ≡ c.pending.count → Waits c (record c { pending = p })
 waits_pending c p same count = record { seat = ap (λ o. record { slot = c.slot; conn = c.id; owed = o }) same; phase = refl; blocked = refl; count = count }
 
-pub suits_same : (m n : Machine) (c : Client) → link_at c.id.0 n ≡ link_at c.id.0 m → m.next_id ≤ n.next_id → Suits m c → Suits n c
+pub suits_same : (m n : Machine) (c : Client) → link_at c.id.0 n ≡ link_at c.id.0 m → m.next_id ≤ n.next_id → MatchesConnection m c → MatchesConnection n c
 suits_same m n c same next s = record {
   unfed = λ e. subst (λ o. HasNoRequest c.id.0 o) (sym same) (s.unfed e);
   closed = λ e. same ∙ s.closed e;
@@ -127,7 +127,7 @@ suits_same m n c same next s = record {
   watching = s.watching ∙ sym (ap concern_on same);
 }
 
-pub suits_kept : (m : Machine) (c d : Client) → Keeps c d → Suits m c → Suits m d
+pub suits_kept : (m : Machine) (c d : Client) → Keeps c d → MatchesConnection m c → MatchesConnection m d
 suits_kept m c d k s = record {
   unfed = λ e. subst (λ i. HasNoRequest i.0 (link_at i.0 m)) (sym k.id) (s.unfed (sym k.fed ∙ e));
   closed = λ e. subst (λ i. link_at i.0 m ≡ None) (sym k.id) (s.closed (sym k.phase ∙ e));
@@ -138,8 +138,8 @@ suits_kept m c d k s = record {
 }
 
 -- the connection of a client went on, and bytes came since a request was looked for
-suits_fed : (m n : Machine) (c d : Client) → GoesOn c.id.0 m n → Suits m c → d.id ≡ c.id → d.fed ≡ true → (d.phase ≡ phase.Closed → link_at c.id.0 n ≡ None) → IsCounted d.pending
-    → d.watching ≡ concern_on (link_at c.id.0 n) → Suits n d
+suits_fed : (m n : Machine) (c d : Client) → GoesOn c.id.0 m n → MatchesConnection m c → d.id ≡ c.id → d.fed ≡ true → (d.phase ≡ phase.Closed → link_at c.id.0 n ≡ None) → IsCounted d.pending
+    → d.watching ≡ concern_on (link_at c.id.0 n) → MatchesConnection n d
 suits_fed m n c d g s same fed closed counted told = record {
   unfed = λ e. absurd (true≢false (sym fed ∙ e));
   closed = λ e. subst (λ i. link_at i.0 n ≡ None) (sym same) (closed e);
@@ -233,7 +233,7 @@ tends_unserved a b x c f d o p k makes none going (inl q) = λ m r n s.
       (closes m there).1,
       subst (λ i. GoesOn i.0 m next) k.id g,
       ap (λ z. z.id) is ∙ k.id,
-      subst (λ z. Suits next z) (sym is) (record {
+      subst (λ z. MatchesConnection next z) (sym is) (record {
         unfed = λ e. gone_request f.id.0 (link_at f.id.0 next) gone;
         closed = λ e. gone;
         ending = λ e. absurd (closed_not_ending e);
@@ -252,7 +252,7 @@ tends_unserved a b x c f d o p k makes none going (inr q) = λ m r n s.
       subst (λ z. Refines z m) (sym q.2) there,
       goes_none c.id.0 m n,
       ap (λ z. z.id) is ∙ k.id,
-      subst (λ z. Suits m z) (sym is) (record {
+      subst (λ z. MatchesConnection m z) (sym is) (record {
         unfed = λ e. answered_nothing m f.id (served m r).0;
         closed = λ e. absurd (going e);
         ending = λ e. absurd (q.0 e);
@@ -343,7 +343,7 @@ owed_sent p sent = λ j. drop_all p.sent p.head sent.0 j ++ joined (sent.1 j)
 under_limit : (p : Pending) → IsCounted p → length (owed p) < 1048576 → p.count < 1048576
 under_limit p counted less = omega (arith, counted, less)
 
-rests_quiet : (m : Machine) (c : Client) → Suits m c → IsQuiet c → Rests m c
+rests_quiet : (m : Machine) (c : Client) → MatchesConnection m c → IsQuiet c → Rests m c
 rests_quiet m c s q = record {
   offered = q.owed;
   answered = λ less. request_answered m c.id (s.unfed (q.fed (under_limit c.pending s.counted less)));
@@ -355,7 +355,7 @@ rests_same : (m n : Machine) (c : Client) → link_at c.id.0 n ≡ link_at c.id.
 rests_same m n c same r = record { offered = r.offered; answered = λ less. answered_same m n c.id same (r.answered less); ended = r.ended; closed = r.closed }
 
 -- a client to which bytes were offered, which was served, and of which nothing was done
-pub rests_visited : (n : Machine) (f e : Client) → Suits n e → Waits f e → IsServed e → (f.blocked ≡ false → IsSent f.pending) → (f.phase ≡ phase.Closed → IsSent f.pending → ⊥) → Rests n e
+pub rests_visited : (n : Machine) (f e : Client) → MatchesConnection n e → Waits f e → IsServed e → (f.blocked ≡ false → IsSent f.pending) → (f.phase ≡ phase.Closed → IsSent f.pending → ⊥) → Rests n e
 rests_visited n f e s w served sent over = record {
   offered = λ free. ap (λ z. z.owed) w.seat ∙ owed_sent f.pending (sent (sym w.blocked ∙ free));
   answered = λ less. by_case (served (under_limit e.pending s.counted less));
@@ -378,47 +378,47 @@ rests_visited n f e s w served sent over = record {
 -- ---- all clients
 
 -- the relations of `Stands` by the clients and the connections that are awake
-abbrev pub SuitOn : Running → Running → List Client → List ℕ → List Client → List ℕ → Type 0
-SuitOn old new cs awake ds later = (m : Machine) → Refines old m → AllSuit m cs awake → (n : Machine) × Refines new n × AllSuit n ds later
+abbrev pub MatchOn : Running → Running → List Client → List ℕ → List Client → List ℕ → Type 0
+MatchOn old new cs awake ds later = (m : Machine) → Refines old m → AllMatch m cs awake → (n : Machine) × Refines new n × AllMatch n ds later
 
 abbrev pub VisitsAt : Running → Running → List Client → List Client → List ℕ → ℕ → Type 0 → Type 0
-VisitsAt old new cs ds awake place still = (m : Machine) → Refines old m → AllSuit m cs awake
-    → (n : Machine) × Refines new n × AllSuit n ds awake × (still → AreDue m cs (drop place awake) → AreDue n ds (drop (suc place) awake))
+VisitsAt old new cs ds awake place still = (m : Machine) → Refines old m → AllMatch m cs awake
+    → (n : Machine) × Refines new n × AllMatch n ds awake × (still → AreDue m cs (drop place awake) → AreDue n ds (drop (suc place) awake))
 
 abbrev pub SettlesOn : Running → Running → List Client → List ℕ → List Client → List ℕ → Type 0 → Type 0
-SettlesOn old new cs awake ds later still = (m : Machine) → Refines old m → AllSuit m cs awake → (n : Machine) × Refines new n × AllSuit n ds later × (still → AreAtRest n ds)
+SettlesOn old new cs awake ds later still = (m : Machine) → Refines old m → AllMatch m cs awake → (n : Machine) × Refines new n × AllMatch n ds later × (still → AreAtRest n ds)
 
-pub on_nothing : (a : Running) (cs : List Client) (aw : List ℕ) → SuitOn a a cs aw cs aw
+pub on_nothing : (a : Running) (cs : List Client) (aw : List ℕ) → MatchOn a a cs aw cs aw
 on_nothing a cs aw = λ m r s. (m, r, s)
 
-pub on_kept : (a b : Running) (cs : List Client) (aw : List ℕ) → Same a b → SuitOn a b cs aw cs aw
+pub on_kept : (a b : Running) (cs : List Client) (aw : List ℕ) → Same a b → MatchOn a b cs aw cs aw
 on_kept a b cs aw keeps = λ m r s. (m, keeps m r, s)
 
-pub on_both : (a b x : Running) (cs ds es : List Client) (aw bw xw : List ℕ) → SuitOn a b cs aw ds bw → SuitOn b x ds bw es xw → SuitOn a x cs aw es xw
+pub on_both : (a b x : Running) (cs ds es : List Client) (aw bw xw : List ℕ) → MatchOn a b cs aw ds bw → MatchOn b x ds bw es xw → MatchOn a x cs aw es xw
 on_both a b x cs ds es aw bw xw one other = λ m r s.
     let t = one m r s in
     other t.0 t.1 t.2
 
-pub on_as : (a b : Running) (cs ds es : List Client) (aw bw xw : List ℕ) → SuitOn a b cs aw ds bw → es ≡ ds → xw ≡ bw → SuitOn a b cs aw es xw
+pub on_as : (a b : Running) (cs ds es : List Client) (aw bw xw : List ℕ) → MatchOn a b cs aw ds bw → es ≡ ds → xw ≡ bw → MatchOn a b cs aw es xw
 on_as a b cs ds es aw bw xw one same also = λ m r s.
     let t = one m r s in
-    (t.0, t.1, subst (λ xs. AllSuit t.0 xs xw) (sym same) (subst (λ ks. AllSuit t.0 ds ks) (sym also) t.2))
+    (t.0, t.1, subst (λ xs. AllMatch t.0 xs xw) (sym same) (subst (λ ks. AllMatch t.0 ds ks) (sym also) t.2))
 
 -- at first there are no clients
-pub stands_none : (m : Machine) (cs : List Client) (aw : List ℕ) → cs ≡ [] → IsNumbered m → AllSuit m cs aw
+pub stands_none : (m : Machine) (cs : List Client) (aw : List ℕ) → cs ≡ [] → IsNumbered m → AllMatch m cs aw
 unfolding Rise
-stands_none m cs aw none k = subst (λ xs. AllSuit m xs aw) (sym none) (record { numbered = k; suit = tt; rise = tt; asleep = tt })
+stands_none m cs aw none k = subst (λ xs. AllMatch m xs aw) (sym none) (record { numbered = k; suit = tt; rise = tt; asleep = tt })
 
 -- what stands on one machine stands on one with the same connections
-stands_by : (m n : Machine) (cs : List Client) (aw : List ℕ) → Stays m n → AllSuit m cs aw → AllSuit n cs aw
+stands_by : (m n : Machine) (cs : List Client) (aw : List ℕ) → Stays m n → AllMatch m cs aw → AllMatch n cs aw
 stands_by m n cs aw by s = record {
   numbered = let P : List (ℕ × Link) → Type 0 = λ es. IsNumbered (record m { links = es }) in subst P (sym by.links) s.numbered;
-  suit = each_to (λ c. Suits m c) (λ c. Suits n c) cs (λ c suits. suits_same m n c (link_by c.id.0 m n by) by.next suits) s.suit;
+  suit = each_to (λ c. MatchesConnection m c) (λ c. MatchesConnection n c) cs (λ c suits. suits_same m n c (link_by c.id.0 m n by) by.next suits) s.suit;
   rise = s.rise;
   asleep = s.asleep;
 }
 
-pub on_passing : (a b : Running) (cs : List Client) (aw : List ℕ) → PassesBy a b → SuitOn a b cs aw cs aw
+pub on_passing : (a b : Running) (cs : List Client) (aw : List ℕ) → PassesBy a b → MatchOn a b cs aw cs aw
 on_passing a b cs aw by = λ m r s.
     let t = by m r in
     (t.0, t.1, stands_by m t.0 cs aw t.2 s)
@@ -431,38 +431,38 @@ awake_more aw bw cs more all = each_to (λ c. IsAwakeOrQuiet aw c) (λ c. IsAwak
     by_case c (inr quiet) = inr quiet
 
 -- more connections are awake
-pub stands_awake : (m : Machine) (cs : List Client) (aw bw : List ℕ) → ((k : ℕ) → Has aw k → Has bw k) → AllSuit m cs aw → AllSuit m cs bw
+pub stands_awake : (m : Machine) (cs : List Client) (aw bw : List ℕ) → ((k : ℕ) → Has aw k → Has bw k) → AllMatch m cs aw → AllMatch m cs bw
 stands_awake m cs aw bw more s = record { numbered = s.numbered; suit = s.suit; rise = s.rise; asleep = awake_more aw bw cs more s.asleep }
 
 -- the machine stays as it is, and what is kept suits it still
-pub on_each : (a : Running) (cs ds : List Client) (aw bw : List ℕ) → ((m : Machine) → AllSuit m cs aw → AllSuit m ds bw) → SuitOn a a cs aw ds bw
+pub on_each : (a : Running) (cs ds : List Client) (aw bw : List ℕ) → ((m : Machine) → AllMatch m cs aw → AllMatch m ds bw) → MatchOn a a cs aw ds bw
 on_each a cs ds aw bw each = λ m r s. (m, r, each m s)
 
-pub on_woken : (a : Running) (cs : List Client) (aw bw : List ℕ) → ((k : ℕ) → Has aw k → Has bw k) → SuitOn a a cs aw cs bw
+pub on_woken : (a : Running) (cs : List Client) (aw bw : List ℕ) → ((k : ℕ) → Has aw k → Has bw k) → MatchOn a a cs aw cs bw
 on_woken a cs aw bw more = on_each a cs cs aw bw (λ m s. stands_awake m cs aw bw more s)
 
 -- a client that is awake may have to be shown something
-pub stands_roused : (m : Machine) (cs : List Client) (aw bw : List ℕ) (i : ℕ) (c : Client) → i < length cs → c ≡ get_or cs i c → Has bw (get_or cs i c).id.0 → ((k : ℕ) → Has aw k → Has bw k) → AllSuit m cs aw
-    → AllSuit m (set cs i (record c { shown = false })) bw
+pub stands_roused : (m : Machine) (cs : List Client) (aw bw : List ℕ) (i : ℕ) (c : Client) → i < length cs → c ≡ get_or cs i c → Has bw (get_or cs i c).id.0 → ((k : ℕ) → Has aw k → Has bw k) → AllMatch m cs aw
+    → AllMatch m (set cs i (record c { shown = false })) bw
 stands_roused m cs aw bw i c below is awake more s =
     let e : Client = record c { shown = false } in
-    let own : Suits m c = subst (λ x. Suits m x) (sym is) (each_at (λ x. Suits m x) cs i c s.suit below) in
+    let own : MatchesConnection m c = subst (λ x. MatchesConnection m x) (sym is) (each_at (λ x. MatchesConnection m x) cs i c s.suit below) in
     record {
       numbered = s.numbered;
-      suit = each_put (λ x. Suits m x) cs i e s.suit (suits_kept m c e (keeps_shown c false) own);
+      suit = each_put (λ x. MatchesConnection m x) cs i e s.suit (suits_kept m c e (keeps_shown c false) own);
       rise = rise_set cs i c e s.rise below (ap (λ x. x.id) is);
       asleep = each_put (λ x. IsAwakeOrQuiet bw x) cs i e (awake_more aw bw cs more s.asleep) (inl (subst (λ x. Has bw x.id.0) (sym is) awake));
     }
 
 -- a step of a client may be made that was held back, or is held back
-pub stands_held : (m : Machine) (cs : List Client) (aw : List ℕ) (i : ℕ) (c : Client) (b : Bool) → i < length cs → c ≡ get_or cs i c → AllSuit m cs aw → AllSuit m (set cs i (record c { held = b })) aw
+pub stands_held : (m : Machine) (cs : List Client) (aw : List ℕ) (i : ℕ) (c : Client) (b : Bool) → i < length cs → c ≡ get_or cs i c → AllMatch m cs aw → AllMatch m (set cs i (record c { held = b })) aw
 stands_held m cs aw i c b below is s =
     let e : Client = record c { held = b } in
-    let own : Suits m c = subst (λ x. Suits m x) (sym is) (each_at (λ x. Suits m x) cs i c s.suit below) in
+    let own : MatchesConnection m c = subst (λ x. MatchesConnection m x) (sym is) (each_at (λ x. MatchesConnection m x) cs i c s.suit below) in
     let asleep : IsAwakeOrQuiet aw c = subst (λ x. IsAwakeOrQuiet aw x) (sym is) (each_at (λ x. IsAwakeOrQuiet aw x) cs i c s.asleep below) in
     record {
       numbered = s.numbered;
-      suit = each_put (λ x. Suits m x) cs i e s.suit (suits_kept m c e (record { id = refl; phase = refl; fed = refl; watching = refl; counted = λ h. h }) own);
+      suit = each_put (λ x. MatchesConnection m x) cs i e s.suit (suits_kept m c e (record { id = refl; phase = refl; fed = refl; watching = refl; counted = λ h. h }) own);
       rise = rise_set cs i c e s.rise below (ap (λ x. x.id) is);
       asleep = each_put (λ x. IsAwakeOrQuiet aw x) cs i e s.asleep (by_case asleep);
     }
@@ -487,11 +487,11 @@ called_set o cs n e below unshown before = called_next o (set cs n e) n (λ d. s
     (λ i under d. subst (λ x. is_called o x.watching ≡ true → x.shown ≡ false) (sym (get_or-set_other cs n i e d (λ same. absurd (omega (arith, under, same))))) (before i under d))
 
 -- the clients whose watches a change may concern are called
-pub roused_by : (m : Machine) (revision : ℕ) (o : Option (List ℕ)) (cs : List Client) (aw : List ℕ) → AllSuit m cs aw → AreCalled o (length cs) cs
+pub roused_by : (m : Machine) (revision : ℕ) (o : Option (List ℕ)) (cs : List Client) (aw : List ℕ) → AllMatch m cs aw → AreCalled o (length cs) cs
     → ((ns : List ℕ) → o ≡ Some ns → (id : ℕ) → is_concerned m id revision ≡ true → is_among ns (concern_on (link_at id m)) ≡ true) → AreRoused m revision cs
 roused_by m revision o cs aw s called listed i below d concerned =
     let c : Client = get_or cs i d in
-    let suits : Suits m c = each_at (λ x. Suits m x) cs i d s.suit below in
+    let suits : MatchesConnection m c = each_at (λ x. MatchesConnection m x) cs i d s.suit below in
     called i below d (subst (λ w. is_called o w ≡ true) (sym suits.watching) (by_list c.id.0 o listed concerned))
   where
     some_watch : (l : Option Link) → concern_some (later revision m.changes) (watch_on l) ≡ true → is_some (concern_on l) ≡ true
@@ -516,47 +516,47 @@ some_items (Some v) P h ns is = subst P (same_items v.items ns is) h
     same_items xs ys e = cc e
 
 -- one client is changed, which is awake
-pub stands_set : (m n : Machine) (cs : List Client) (aw bw : List ℕ) (i : ℕ) (d e : Client) → AllSuit m cs aw → i < length cs → GoesOn (get_or cs i d).id.0 m n → e.id ≡ (get_or cs i d).id → Suits n e
-    → Has bw e.id.0 → ((k : ℕ) → Has aw k → Has bw k) → AllSuit n (set cs i e) bw
+pub stands_set : (m n : Machine) (cs : List Client) (aw bw : List ℕ) (i : ℕ) (d e : Client) → AllMatch m cs aw → i < length cs → GoesOn (get_or cs i d).id.0 m n → e.id ≡ (get_or cs i d).id → MatchesConnection n e
+    → Has bw e.id.0 → ((k : ℕ) → Has aw k → Has bw k) → AllMatch n (set cs i e) bw
 stands_set m n cs aw bw i d e s below g same suits awake more = record {
   numbered = g.numbered;
-  suit = each_set (λ c. Suits m c) (λ c. Suits n c) cs i d e s.rise below (λ c never suits. suits_same m n c (g.others c.id.0 never) g.next suits) s.suit suits;
+  suit = each_set (λ c. MatchesConnection m c) (λ c. MatchesConnection n c) cs i d e s.rise below (λ c never suits. suits_same m n c (g.others c.id.0 never) g.next suits) s.suit suits;
   rise = rise_set cs i d e s.rise below same;
   asleep = each_put (λ c. IsAwakeOrQuiet bw c) cs i e (awake_more aw bw cs more s.asleep) (inl awake);
 }
 
 -- one client leaves
-pub stands_left : (m n : Machine) (cs : List Client) (aw : List ℕ) (i : ℕ) (d : Client) → AllSuit m cs aw → i < length cs → GoesOn (get_or cs i d).id.0 m n → AllSuit n (remove cs i) aw
+pub stands_left : (m n : Machine) (cs : List Client) (aw : List ℕ) (i : ℕ) (d : Client) → AllMatch m cs aw → i < length cs → GoesOn (get_or cs i d).id.0 m n → AllMatch n (remove cs i) aw
 stands_left m n cs aw i d s below g = record {
   numbered = g.numbered;
-  suit = each_left (λ c. Suits m c) (λ c. Suits n c) cs i d s.rise below (λ c never suits. suits_same m n c (g.others c.id.0 never) g.next suits) s.suit;
+  suit = each_left (λ c. MatchesConnection m c) (λ c. MatchesConnection n c) cs i d s.rise below (λ c never suits. suits_same m n c (g.others c.id.0 never) g.next suits) s.suit;
   rise = rise_left cs i s.rise;
   asleep = each_kept (λ c. IsAwakeOrQuiet aw c) cs i s.asleep;
 }
 
 -- the next connection is opened or not
-stands_next : (m n : Machine) (cs : List Client) (aw : List ℕ) → AllSuit m cs aw → GoesOn m.next_id m n → AllSuit n cs aw
+stands_next : (m n : Machine) (cs : List Client) (aw : List ℕ) → AllMatch m cs aw → GoesOn m.next_id m n → AllMatch n cs aw
 stands_next m n cs aw s g = record {
   numbered = g.numbered;
-  suit = each_to (λ c. Suits m c) (λ c. Suits n c) cs (λ c suits. suits_same m n c (g.others c.id.0 (λ same. let less : c.id.0 < m.next_id = suits.below in omega (arith, less, same))) g.next suits) s.suit;
+  suit = each_to (λ c. MatchesConnection m c) (λ c. MatchesConnection n c) cs (λ c suits. suits_same m n c (g.others c.id.0 (λ same. let less : c.id.0 < m.next_id = suits.below in omega (arith, less, same))) g.next suits) s.suit;
   rise = s.rise;
   asleep = s.asleep;
 }
 
 -- a client comes
-stands_more : (m n : Machine) (cs : List Client) (aw : List ℕ) (e : Client) → AllSuit m cs aw → GoesOn m.next_id m n → e.id.0 ≡ m.next_id → Suits n e → IsQuiet e → AllSuit n (cs ++ e ∷ []) aw
+stands_more : (m n : Machine) (cs : List Client) (aw : List ℕ) (e : Client) → AllMatch m cs aw → GoesOn m.next_id m n → e.id.0 ≡ m.next_id → MatchesConnection n e → IsQuiet e → AllMatch n (cs ++ e ∷ []) aw
 stands_more m n cs aw e s g next suits quiet =
     let stands = stands_next m n cs aw s g in
     record {
       numbered = g.numbered;
-      suit = each_more (λ c. Suits n c) cs e stands.suit suits;
-      rise = rise_more cs e s.rise (each_to (λ c. Suits m c) (λ c. c.id.0 < e.id.0) cs (λ c has. let less : c.id.0 < m.next_id = has.below in omega (arith, less, next)) s.suit);
+      suit = each_more (λ c. MatchesConnection n c) cs e stands.suit suits;
+      rise = rise_more cs e s.rise (each_to (λ c. MatchesConnection m c) (λ c. c.id.0 < e.id.0) cs (λ c has. let less : c.id.0 < m.next_id = has.below in omega (arith, less, next)) s.suit);
       asleep = each_more (λ c. IsAwakeOrQuiet aw c) cs e s.asleep (inr quiet);
     }
 
 -- a connection was opened for a client, or none
 pub on_opened : (a b : Running) (cs ds : List Client) (aw : List ℕ) (who : Identity) (id : ConnId) → Makes a b (event.Open who) (answer.Opened id) → (e : Client) × (ds ≡ cs ++ e ∷ []) × (e.id ≡ id) × IsNew e
-    → SuitOn a b cs aw ds aw
+    → MatchOn a b cs aw ds aw
 on_opened a b cs ds aw who id makes fresh = λ m r s.
     let e : Client = fresh.0 in
     let new : IsNew e = fresh.3 in
@@ -565,7 +565,7 @@ on_opened a b cs ds aw who id makes fresh = λ m r s.
     let g = goes_event m (event.Open who) m.next_id refl s.numbered in
     let next = opened_next m who id (sym told) in
     let at : e.id.0 ≡ m.next_id = ap (λ i. i.0) fresh.2 ∙ next.0 in
-    let suits : Suits n e = record {
+    let suits : MatchesConnection n e = record {
       unfed = λ u. subst (λ k. HasNoRequest k (link_at k n)) (sym at) (opened_request m who id told);
       closed = λ closed. absurd (open_not_closed (sym new.quiet.phase ∙ closed));
       ending = λ ending. absurd (open_not_ending (sym new.quiet.phase ∙ ending));
@@ -573,49 +573,49 @@ on_opened a b cs ds aw who id makes fresh = λ m r s.
       below = let up : n.next_id ≡ m.next_id + 1 = next.1 in omega (arith, at, up);
       watching = new.unwatched ∙ subst (λ k. None ≡ concern_on (link_at k n)) (sym at) (opened_concern m who id told);
     } in
-    (n, (makes m r).1, subst (λ xs. AllSuit n xs aw) (sym fresh.1) (stands_more m n cs aw e s g at suits new.quiet))
+    (n, (makes m r).1, subst (λ xs. AllMatch n xs aw) (sym fresh.1) (stands_more m n cs aw e s g at suits new.quiet))
 
-pub on_unopened : (a b : Running) (cs : List Client) (aw : List ℕ) (who : Identity) (o : OpenError) → Opens a b who (Err o) → SuitOn a b cs aw cs aw
+pub on_unopened : (a b : Running) (cs : List Client) (aw : List ℕ) (who : Identity) (o : OpenError) → Opens a b who (Err o) → MatchOn a b cs aw cs aw
 on_unopened a b cs aw who refused.TooMany makes = λ m r s. ((step m (event.Open who)).1, (makes m r).1, stands_next m (step m (event.Open who)).1 cs aw s (goes_event m (event.Open who) m.next_id refl s.numbered))
 on_unopened a b cs aw who refused.Memory out = λ m r s. (m, (out m r).0, s)
 
 -- a client's connection is closed
-pub on_closed : (a b : Running) (cs ds : List Client) (aw : List ℕ) (i : ℕ) (d : Client) → i < length cs → d ≡ get_or cs i d → ds ≡ remove cs i → Makes a b (event.Close d.id) answer.Done → SuitOn a b cs aw ds aw
+pub on_closed : (a b : Running) (cs ds : List Client) (aw : List ℕ) (i : ℕ) (d : Client) → i < length cs → d ≡ get_or cs i d → ds ≡ remove cs i → Makes a b (event.Close d.id) answer.Done → MatchOn a b cs aw ds aw
 on_closed a b cs ds aw i d below is are makes = λ m r s.
     let n : Machine = (step m (event.Close d.id)).1 in
     let g = goes_event m (event.Close d.id) d.id.0 refl s.numbered in
-    (n, (makes m r).1, subst (λ xs. AllSuit n xs aw) (sym are) (stands_left m n cs aw i d s below (subst (λ c. GoesOn c.id.0 m n) is g)))
+    (n, (makes m r).1, subst (λ xs. AllMatch n xs aw) (sym are) (stands_left m n cs aw i d s below (subst (λ c. GoesOn c.id.0 m n) is g)))
 
 -- the client at a place left
-pub on_left : (a b : Running) (cs ds : Clients) (r s : Report) (i : ℕ) (e : Client) → i < length cs.list.items → Ends i a b cs ds r s → SuitOn a b cs.list.items cs.awake.numbers.items ds.list.items cs.awake.numbers.items
+pub on_left : (a b : Running) (cs ds : Clients) (r s : Report) (i : ℕ) (e : Client) → i < length cs.list.items → Ends i a b cs ds r s → MatchOn a b cs.list.items cs.awake.numbers.items ds.list.items cs.awake.numbers.items
 on_left a b cs ds r s i e below left =
     let c : Client = get_or cs.list.items i e in
     on_closed a b cs.list.items ds.list.items cs.awake.numbers.items i c below (get_or_default cs.list.items i e c below) left.list (left.closes e)
 
 -- the slot of a client that is awake takes bytes again
-pub stands_free : (m : Machine) (cs : List Client) (aw bw : List ℕ) (i : ℕ) (c : Client) → i < length cs → c ≡ get_or cs i c → Has bw (get_or cs i c).id.0 → ((k : ℕ) → Has aw k → Has bw k) → AllSuit m cs aw
-    → AllSuit m (set cs i (record c { blocked = false })) bw
+pub stands_free : (m : Machine) (cs : List Client) (aw bw : List ℕ) (i : ℕ) (c : Client) → i < length cs → c ≡ get_or cs i c → Has bw (get_or cs i c).id.0 → ((k : ℕ) → Has aw k → Has bw k) → AllMatch m cs aw
+    → AllMatch m (set cs i (record c { blocked = false })) bw
 stands_free m cs aw bw i c below is awake more s =
     let e : Client = record c { blocked = false } in
-    let own : Suits m c = subst (λ x. Suits m x) (sym is) (each_at (λ x. Suits m x) cs i c s.suit below) in
+    let own : MatchesConnection m c = subst (λ x. MatchesConnection m x) (sym is) (each_at (λ x. MatchesConnection m x) cs i c s.suit below) in
     stands_set m m cs aw bw i c e s below (goes_none (get_or cs i c).id.0 m s.numbered) (ap (λ x. x.id) is)
     (suits_kept m c e (record { id = refl; phase = refl; fed = refl; watching = refl; counted = λ h. h }) own) (subst (λ x. Has bw x.id.0) (sym is) awake) more
 
 -- a client's bytes have ended
-pub stands_ended : (m : Machine) (cs : List Client) (aw : List ℕ) (i : ℕ) (c : Client) → i < length cs → c ≡ get_or cs i c → Has aw (get_or cs i c).id.0 → AllSuit m cs aw
-    → AllSuit m (set cs i (record c { phase = phase.Ending; fed = true })) aw
+pub stands_ended : (m : Machine) (cs : List Client) (aw : List ℕ) (i : ℕ) (c : Client) → i < length cs → c ≡ get_or cs i c → Has aw (get_or cs i c).id.0 → AllMatch m cs aw
+    → AllMatch m (set cs i (record c { phase = phase.Ending; fed = true })) aw
 stands_ended m cs aw i c below is has s =
-    let own : Suits m c = subst (λ x. Suits m x) (sym is) (each_at (λ x. Suits m x) cs i c s.suit below) in
+    let own : MatchesConnection m c = subst (λ x. MatchesConnection m x) (sym is) (each_at (λ x. MatchesConnection m x) cs i c s.suit below) in
     stands_set m m cs aw aw i c (record c { phase = phase.Ending; fed = true }) s below (goes_none (get_or cs i c).id.0 m s.numbered) (ap (λ x. x.id) is)
     (record { unfed = λ e. absurd (true≢false e); closed = λ e. absurd (closed_not_ending (sym e)); ending = λ e. refl; counted = own.counted; below = own.below; watching = own.watching }) (subst (λ x. Has aw x.id.0) (sym is) has) (λ k h. h)
 
 -- a piece of a client is fed
 pub on_fed : (a b : Running) (cs : List Client) (aw : List ℕ) (i : ℕ) (c : Client) (id : ConnId) (piece : List ℕ) → i < length cs → c ≡ get_or cs i c → id ≡ c.id → Has aw (get_or cs i c).id.0
-    → (get_or cs i c).phase ≡ phase.Open → Makes a b (event.Feed id piece) answer.Done → SuitOn a b cs aw (set cs i (record c { fed = true })) aw
+    → (get_or cs i c).phase ≡ phase.Open → Makes a b (event.Feed id piece) answer.Done → MatchOn a b cs aw (set cs i (record c { fed = true })) aw
 on_fed a b cs aw i c id piece below is same has reading makes = λ m r s.
     let n : Machine = (step m (event.Feed id piece)).1 in
     let g : GoesOn c.id.0 m n = goes_event m (event.Feed id piece) c.id.0 (ap (λ k. k.0) same) s.numbered in
-    let own : Suits m c = subst (λ x. Suits m x) (sym is) (each_at (λ x. Suits m x) cs i c s.suit below) in
+    let own : MatchesConnection m c = subst (λ x. MatchesConnection m x) (sym is) (each_at (λ x. MatchesConnection m x) cs i c s.suit below) in
     let going : c.phase ≡ phase.Open = subst (λ x. x.phase ≡ phase.Open) (sym is) reading in (
       n,
       (makes m r).1,
@@ -624,13 +624,13 @@ on_fed a b cs aw i c id piece below is same has reading makes = λ m r s.
     )
 
 -- a piece of a client is not taken in
-pub on_refused : (a b : Running) (cs : List Client) (aw : List ℕ) (id : ConnId) (piece : List ℕ) (r : FeedError) → TakesIn a b id piece (Err r) → SuitOn a b cs aw cs aw
+pub on_refused : (a b : Running) (cs : List Client) (aw : List ℕ) (id : ConnId) (piece : List ℕ) (r : FeedError) → TakesIn a b id piece (Err r) → MatchOn a b cs aw cs aw
 on_refused a b cs aw id piece fed.Memory out = λ m r s. (m, (out m r).0, s)
 on_refused a b cs aw id piece fed.Full makes = λ m r s. (m, subst (λ q. Refines b q) (unfed_stays m id piece answer.Full (makes m r).0 (λ same. absurd (cc))) (makes m r).1, s)
 on_refused a b cs aw id piece fed.Ended makes = λ m r s. (m, subst (λ q. Refines b q) (unfed_stays m id piece answer.Ended (makes m r).0 (λ same. absurd (cc))) (makes m r).1, s)
 
 -- the connection at a place sleeps: its client is quiet, or there is none
-pub stands_asleep : (m : Machine) (cs : List Client) (aw : List ℕ) (p d : ℕ) → AllByRecursion (λ c. get_or aw p d ≡ c.id.0 → IsQuiet c) cs → AllSuit m cs aw → AllSuit m cs (remove aw p)
+pub stands_asleep : (m : Machine) (cs : List Client) (aw : List ℕ) (p d : ℕ) → AllByRecursion (λ c. get_or aw p d ≡ c.id.0 → IsQuiet c) cs → AllMatch m cs aw → AllMatch m cs (remove aw p)
 stands_asleep m cs aw p d quiet s = record {
   numbered = s.numbered;
   suit = s.suit;
@@ -647,27 +647,27 @@ stands_asleep m cs aw p d quiet s = record {
     by_case c if_here (inr quiet) = inr quiet
 
 -- the client of the number is quiet
-pub stands_quiet : (m : Machine) (cs : List Client) (aw : List ℕ) (p i : ℕ) (c : Client) → i < length cs → c ≡ get_or cs i c → ((d : Client) (x : ℕ) → get_or aw p x ≡ (get_or cs i d).id.0) → IsQuiet c → AllSuit m cs aw
-    → AllSuit m cs (remove aw p)
+pub stands_quiet : (m : Machine) (cs : List Client) (aw : List ℕ) (p i : ℕ) (c : Client) → i < length cs → c ≡ get_or cs i c → ((d : Client) (x : ℕ) → get_or aw p x ≡ (get_or cs i d).id.0) → IsQuiet c → AllMatch m cs aw
+    → AllMatch m cs (remove aw p)
 stands_quiet m cs aw p i c below is at quiet s =
     let own : IsQuiet (get_or cs i c) = subst (λ z. IsQuiet z) is quiet in
     stands_asleep m cs aw p 0 (each_to (λ x. x.id.0 ≡ (get_or cs i c).id.0 → IsQuiet x) (λ x. get_or aw p 0 ≡ x.id.0 → IsQuiet x) cs (λ x f same. f (sym same ∙ at c 0)) (each_only (λ x. IsQuiet x) cs i c s.rise below own)) s
 
 -- no client has the number
-pub stands_absent : (m : Machine) (cs : List Client) (aw : List ℕ) (p : ℕ) → (Rise cs → p < length aw → AllByRecursion (λ c. (x : ℕ) → get_or aw p x ≡ c.id.0 → ⊥) cs) → AllSuit m cs aw → AllSuit m cs (remove aw p)
+pub stands_absent : (m : Machine) (cs : List Client) (aw : List ℕ) (p : ℕ) → (Rise cs → p < length aw → AllByRecursion (λ c. (x : ℕ) → get_or aw p x ≡ c.id.0 → ⊥) cs) → AllMatch m cs aw → AllMatch m cs (remove aw p)
 stands_absent m cs aw p absent s = by_place (cases_lt p (length aw))
   where
-    by_place : (p < length aw) ⊎ (length aw ≤ p) → AllSuit m cs (remove aw p)
+    by_place : (p < length aw) ⊎ (length aw ≤ p) → AllMatch m cs (remove aw p)
     by_place (inl inside) = stands_asleep m cs aw p 0 (each_to (λ c. (x : ℕ) → get_or aw p x ≡ c.id.0 → ⊥) (λ c. get_or aw p 0 ≡ c.id.0 → IsQuiet c) cs (λ c never same. absurd (never 0 same)) (absent s.rise inside)) s
-    by_place (inr past) = subst (λ ks. AllSuit m cs ks) (sym (remove_past aw p past)) s
+    by_place (inr past) = subst (λ ks. AllMatch m cs ks) (sym (remove_past aw p past)) s
 
 -- ---- visits
 
 -- at first each client is quiet or awake
-due_first : (m : Machine) (cs : List Client) (aw : List ℕ) → AllSuit m cs aw → AreDue m cs aw
-due_first m cs aw s = each_both (λ c. Suits m c) (λ c. IsAwakeOrQuiet aw c) (λ c. Rests m c ⊎ Has aw c.id.0) cs (λ c suits h. by_case c suits h) s.suit s.asleep
+due_first : (m : Machine) (cs : List Client) (aw : List ℕ) → AllMatch m cs aw → AreDue m cs aw
+due_first m cs aw s = each_both (λ c. MatchesConnection m c) (λ c. IsAwakeOrQuiet aw c) (λ c. Rests m c ⊎ Has aw c.id.0) cs (λ c suits h. by_case c suits h) s.suit s.asleep
   where
-    by_case : (c : Client) → Suits m c → IsAwakeOrQuiet aw c → Rests m c ⊎ Has aw c.id.0
+    by_case : (c : Client) → MatchesConnection m c → IsAwakeOrQuiet aw c → Rests m c ⊎ Has aw c.id.0
     by_case c suits (inl has) = inr has
     by_case c suits (inr quiet) = inl (rests_quiet m c suits quiet)
 
@@ -725,16 +725,16 @@ pub visits_absent : (a : Running) (cs : List Client) (aw : List ℕ) (p : ℕ) (
 visits_absent a cs aw p still absent = λ m r s. (m, r, s, λ h due. due_absent m cs aw p (absent s.rise) due)
 
 -- something was done for a client, which may have left
-pub visits_made : (a b : Running) (cs ds : List Client) (aw : List ℕ) (p : ℕ) (still : Type 0) → (still → ⊥) → SuitOn a b cs aw ds aw → VisitsAt a b cs ds aw p still
+pub visits_made : (a b : Running) (cs ds : List Client) (aw : List ℕ) (p : ℕ) (still : Type 0) → (still → ⊥) → MatchOn a b cs aw ds aw → VisitsAt a b cs ds aw p still
 visits_made a b cs ds aw p still never on = λ m r s.
     let t = on m r s in
     (t.0, t.1, t.2, λ h due. absurd (never h))
 
 -- a client was tended
 pub on_tended : (a b : Running) (cs : List Client) (aw : List ℕ) (p i : ℕ) (c e : Client) → i < length cs → p < length aw → ((d : Client) (x : ℕ) → get_or aw p x ≡ (get_or cs i d).id.0) → c ≡ get_or cs i c → Tends a b c e
-    → SuitOn a b cs aw (set cs i e) aw
+    → MatchOn a b cs aw (set cs i e) aw
 on_tended a b cs aw p i c e below inside at is tends = λ m r s.
-    let t = tends m r s.numbered (subst (λ z. Suits m z) (sym is) (each_at (λ x. Suits m x) cs i c s.suit below)) in
+    let t = tends m r s.numbered (subst (λ z. MatchesConnection m z) (sym is) (each_at (λ x. MatchesConnection m x) cs i c s.suit below)) in
     let same : e.id ≡ (get_or cs i c).id = t.3 ∙ ap (λ z. z.id) is in (
       t.0,
       t.1,
@@ -745,7 +745,7 @@ on_tended a b cs aw p i c e below inside at is tends = λ m r s.
 pub visits_tended : (a b : Running) (cs : List Client) (aw : List ℕ) (p i : ℕ) (c f e : Client) (still : Type 0) → i < length cs → p < length aw → ((d : Client) (x : ℕ) → get_or aw p x ≡ (get_or cs i d).id.0) → c ≡ get_or cs i c
     → Tends a b c e → (still → Waits f e × IsServed e) → (f.blocked ≡ false → IsSent f.pending) → (f.phase ≡ phase.Closed → IsSent f.pending → ⊥) → VisitsAt a b cs (set cs i e) aw p still
 visits_tended a b cs aw p i c f e still below inside at is tends rests sent over = λ m r s.
-    let t = tends m r s.numbered (subst (λ z. Suits m z) (sym is) (each_at (λ x. Suits m x) cs i c s.suit below)) in
+    let t = tends m r s.numbered (subst (λ z. MatchesConnection m z) (sym is) (each_at (λ x. MatchesConnection m x) cs i c s.suit below)) in
     let same : e.id ≡ (get_or cs i c).id = t.3 ∙ ap (λ z. z.id) is in
     let g : GoesOn (get_or cs i c).id.0 m t.0 = subst (λ z. GoesOn z.id.0 m t.0) is t.2 in (
       t.0,
@@ -758,7 +758,7 @@ visits_tended a b cs aw p i c f e still below inside at is tends rests sent over
 
 -- the clients stand, and while nothing was done those that were visited rest
 pub record Round (a b : Running) (cs : List Client) (aw : List ℕ) (ds : List Client) (bw : List ℕ) (p : ℕ) (still : Type 0) : Type 0 where
-  pub goes : (m : Machine) → Refines a m → AllSuit m cs aw → (n : Machine) × Refines b n × AllSuit n ds bw × (still → AreDue n ds (drop p bw))
+  pub goes : (m : Machine) → Refines a m → AllMatch m cs aw → (n : Machine) × Refines b n × AllMatch n ds bw × (still → AreDue n ds (drop p bw))
 
 pub round_first : (a b : Running) (cs : List Client) (aw : List ℕ) (still : Type 0) → PassesBy a b → Round a b cs aw cs aw 0 still
 round_first a b cs aw still by = record {
@@ -770,7 +770,7 @@ round_first a b cs aw still by = record {
 
 -- one visit more, after which the connection may sleep
 pub round_next : (a b x : Running) (cs ds es fs : List Client) (aw bw vw xw : List ℕ) (p q : ℕ) (still now later : Type 0) → (later → still × now) → Round a b cs aw ds bw p still → VisitsAt b x ds es bw p now → vw ≡ bw
-    → ((m : Machine) → AllSuit m es vw → AllSuit m fs xw) → fs ≡ es → drop q xw ≡ drop (suc p) vw → Round a x cs aw fs xw q later
+    → ((m : Machine) → AllMatch m es vw → AllMatch m fs xw) → fs ≡ es → drop q xw ≡ drop (suc p) vw → Round a x cs aw fs xw q later
 round_next a b x cs ds es fs aw bw vw xw p q still now later before one visit same sleeps are next = record {
   goes = λ m r s.
       let t = one.goes m r s in
@@ -778,7 +778,7 @@ round_next a b x cs ds es fs aw bw vw xw p q still now later before one visit sa
       let rest : drop q xw ≡ drop (suc p) bw = next ∙ ap (λ ks. drop (suc p) ks) same in (
         u.0,
         u.1,
-        sleeps u.0 (subst (λ ks. AllSuit u.0 es ks) (sym same) u.2),
+        sleeps u.0 (subst (λ ks. AllMatch u.0 es ks) (sym same) u.2),
         λ h. subst (λ ks. AreDue u.0 fs ks) (sym rest) (subst (λ xs. AreDue u.0 xs (drop (suc p) bw)) (sym are) (u.3 (before h).1 (t.3 (before h).0))),
       );
 }
@@ -789,19 +789,19 @@ round_last a b cs ds aw bw p still past one = λ m r s.
     (t.0, t.1, t.2, λ h. due_last t.0 ds (drop p bw) (drop_all p bw past) (t.3 h))
 
 -- behind the visits those that watch were woken, unless nothing was to be done
-pub settles_woken : (a b : Running) (cs ds es : List Client) (aw bw xw : List ℕ) (still now later : Type 0) → (later → still × now) → SettlesOn a b cs aw ds bw still → ((m : Machine) → AllSuit m ds bw → AllSuit m es xw) → (now → es ≡ ds)
+pub settles_woken : (a b : Running) (cs ds es : List Client) (aw bw xw : List ℕ) (still now later : Type 0) → (later → still × now) → SettlesOn a b cs aw ds bw still → ((m : Machine) → AllMatch m ds bw → AllMatch m es xw) → (now → es ≡ ds)
     → SettlesOn a b cs aw es xw later
 settles_woken a b cs ds es aw bw xw still now later before one woken same = λ m r s.
     let t = one m r s in
     (t.0, t.1, woken t.0 t.2, λ h. subst (λ xs. AreAtRest t.0 xs) (sym (same (before h).1)) (t.3 (before h).0))
 
-pub settles_on : (a b x : Running) (cs ds es : List Client) (aw bw xw : List ℕ) (still : Type 0) → SuitOn a b cs aw ds bw → SettlesOn b x ds bw es xw still → SettlesOn a x cs aw es xw still
+pub settles_on : (a b x : Running) (cs ds es : List Client) (aw bw xw : List ℕ) (still : Type 0) → MatchOn a b cs aw ds bw → SettlesOn b x ds bw es xw still → SettlesOn a x cs aw es xw still
 settles_on a b x cs ds es aw bw xw still one other = λ m r s.
     let t = one m r s in
     other t.0 t.1 t.2
 
 -- what settles stands
-pub on_settled : (a b : Running) (cs ds : List Client) (aw bw : List ℕ) (still : Type 0) → SettlesOn a b cs aw ds bw still → SuitOn a b cs aw ds bw
+pub on_settled : (a b : Running) (cs ds : List Client) (aw bw : List ℕ) (still : Type 0) → SettlesOn a b cs aw ds bw still → MatchOn a b cs aw ds bw
 on_settled a b cs ds aw bw still one = λ m r s.
     let t = one m r s in
     (t.0, t.1, t.2)

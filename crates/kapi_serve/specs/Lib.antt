@@ -1,7 +1,7 @@
 pub mod Ports
-pub mod Shows
+pub mod Publishes
 pub mod Policies
-pub mod Goes
+pub mod Advances
 pub mod Account
 pub mod Acts
 pub mod Rests

@@ -11,7 +11,7 @@ use Rattle.kapi_policy.specs.declared.change.PolicyChange.{PolicyChange}
 
 -- where a desk had published the policy of the machine, each list of steps that was published since is the policy that
 -- the machine had after some of the events: a reader of the list decides as the machine did then
-abbrev pub ShowsPolicies : Running → Board → Board → List Event → Type 0
-ShowsPolicies core board next events =
+abbrev pub PublishesPolicies : Running → Board → Board → List Event → Type 0
+PublishesPolicies core board next events =
     (m : Machine) → Publishes core board m → (seen : List (List PolicyChange)) → Begins board.list seen → Begins seen next.list
     → (n : ℕ) × (after next.opening seen ≡ policy_of (machine_after m (take n events)))

@@ -2,7 +2,7 @@
 pub mod Pieces
 pub mod Clients
 pub mod Turns
-pub mod Stands
+pub mod ClientsMatch
 pub mod Progresses
 pub mod Ready
-pub mod Moments
+pub mod ServerStates

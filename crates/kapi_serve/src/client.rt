@@ -1,17 +1,17 @@
 ghost use Rattle.std.specs.Prelude.{◌≡◌, ◌⊎◌, ◌<◌, ◌≤◌, ℕ, List, Option, [], ◌++◌, None, true, false, if◌then◌else◌, is_some, option_map};
 ghost use Rattle.std.specs.VecDeque.{deque_len, deque_capacity};
 ghost use Rattle.kapi_serve.specs.Private.Clients.{seat_of};
-ghost use Rattle.kapi_serve.specs.Private.Moments.{GoesFor, Writes, stage};
+ghost use Rattle.kapi_serve.specs.Private.ServerStates.{AdvancesFor, Writes, stage};
 ghost use Rattle.kapi_serve.specs.Private.Pieces.{IsCounted, IsSent, owed};
 ghost use Rattle.kapi_core.specs.Concerns.{is_among};
 ghost use Rattle.kapi_core.specs.Refines.{Makes};
 ghost use Rattle.kapi_core.specs.declared.event.Answer.TheVariants as answer;
 ghost use Rattle.kapi_core.specs.declared.event.Event.TheVariants as event;
-ghost use Rattle.kapi_serve.specs.Private.Stands.{is_called as is_called_of};
-ghost use Rattle.kapi_serve.specs.Private.Stands.{AreMarked, Finishes, IsQuiet, IsServed, Keeps, Tends, Waits};
+ghost use Rattle.kapi_serve.specs.Private.ClientsMatch.{is_called as is_called_of};
+ghost use Rattle.kapi_serve.specs.Private.ClientsMatch.{AreMarked, Finishes, IsQuiet, IsServed, Keeps, Tends, Waits};
 ghost use Rattle.kapi_desk.specs.Steps.{step_of};
 ghost use Rattle.kapi_serve.specs.Ports.{Adds};
-ghost use Rattle.kapi_serve.specs.Shows.{Shows};
+ghost use Rattle.kapi_serve.specs.Publishes.{Publishes};
 ghost use Rattle.kapi_serve.specs.declared.client.Flushed.TheVariants as flush;
 ghost use Rattle.kapi_serve.specs.declared.client.Phase.TheVariants as phase;
 ghost use Rattle.kapi_serve.specs.declared.progress.Progress.TheVariants as progress;
@@ -218,7 +218,7 @@ impl Client {
         desk: &mut Desk,
         publishing: &mut Publishing,
     ) -> Progress
-        ensures goes { GoesFor (stage core.old desk.old publishing.old) (stage core.new desk.new publishing.new) self.old self.new }
+        ensures goes { AdvancesFor (stage core.old desk.old publishing.old) (stage core.new desk.new publishing.new) self.old self.new }
         ensures tends { Tends core.old core.new self.old self.new }
         ensures still { result ≡ progress.Still → Waits self.old self.new × IsServed self.new }
     {
@@ -254,7 +254,7 @@ impl Client {
         desk: &mut Desk,
         publishing: &mut Publishing,
     ) -> Progress
-        ensures goes { GoesFor (stage core.old desk.old publishing.old) (stage core.new desk.new publishing.new) self.old self.new }
+        ensures goes { AdvancesFor (stage core.old desk.old publishing.old) (stage core.new desk.new publishing.new) self.old self.new }
         ensures tends { Tends core.old core.new self.old self.new }
         ensures still { result ≡ progress.Still → Waits self.old self.new × Keeps self.old self.new }
         ensures shown { self.new.shown ≡ true → (self.old.shown ≡ true) ⊎ Makes core.old core.new (event.Pump self.new.id) answer.Nothing }
@@ -318,7 +318,7 @@ impl Client {
         requires room { deque_len self.old.pending.behind < deque_capacity self.old.pending.behind }
         requires waiting { desk.old.waiting ≡ [] }
         requires kept { publishing.old.kept ≡ None }
-        ensures shows { Shows desk.old desk.new publishing.old.kept publishing.new.kept (step_of output.policy_changes) }
+        ensures shows { Publishes desk.old desk.new publishing.old.kept publishing.new.kept (step_of output.policy_changes) }
         ensures slot { self.new.slot ≡ self.old.slot }
         ensures id { self.new.id ≡ self.old.id }
         ensures owed { owed self.new.pending ≡ owed self.old.pending ++ output.bytes }

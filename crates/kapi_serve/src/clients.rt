@@ -5,8 +5,8 @@ ghost use Rattle.kapi_core.specs.Machine.{Machine, link_at};
 ghost use Rattle.kapi_core.specs.Refines.{Refines};
 ghost use Rattle.kapi_serve.specs.Acts.{IsFree};
 ghost use Rattle.kapi_serve.specs.Private.Clients.{freed, freed_on, others, seats_of};
-ghost use Rattle.kapi_serve.specs.Private.Moments.{Ends, FeedsOrEnds, Moves, MovesAfter, unasked};
-ghost use Rattle.kapi_serve.specs.Private.Stands.{AreCalled, AreMarked, AreRoused, IsAwakeAt, IsNew, IsNumbered, IsOf, IsOfNone, Rise, Stands, StandsOn};
+ghost use Rattle.kapi_serve.specs.Private.ServerStates.{Ends, FeedsOrEnds, Moves, MovesAfter, unasked};
+ghost use Rattle.kapi_serve.specs.Private.ClientsMatch.{AreCalled, AreMarked, AreRoused, IsAwakeAt, IsNew, IsNumbered, IsOf, IsOfNone, Rise, ClientsMatch, ClientsMatchAfter};
 ghost use Rattle.kapi_serve.specs.declared.client.Client.{Client as AClient};
 ghost use Rattle.kapi_serve.specs.declared.client.Phase.TheVariants as phase;
 ghost use Rattle.kapi_serve.specs.declared.port.Entry.TheVariants as entry;
@@ -59,7 +59,7 @@ pub(crate) enum Pulled {
 impl Clients {
     pub(crate) fn new(alloc: Global) -> Clients
         ensures seats { seats_of result.list.items ≡ [] }
-        ensures stands { (m : Machine) → IsNumbered m → Stands m result }
+        ensures stands { (m : Machine) → IsNumbered m → ClientsMatch m result }
     {
         Clients {
             alloc,
@@ -88,7 +88,7 @@ impl Clients {
     /// Lets one of the awake connections sleep, if nothing can be done at it. Returns the position of the next one.
     pub(crate) fn pass(&mut self, position: usize) -> usize
         ensures list { self.new.list ≡ self.old.list }
-        ensures stands { (m : Machine) → Stands m self.old → Stands m self.new }
+        ensures stands { (m : Machine) → ClientsMatch m self.old → ClientsMatch m self.new }
         ensures next { drop result self.new.awake.numbers.items ≡ drop (suc position) self.old.awake.numbers.items }
         ensures left { position < length self.old.awake.numbers.items → length self.new.awake.numbers.items + suc position ≡ length self.old.awake.numbers.items + result }
     {
@@ -110,7 +110,7 @@ impl Clients {
         identity: Identity,
     )
         ensures moves { MovesAfter (entry.Opened slot identity) core.old core.new self.old self.new (Q.report ports.old) (Q.report ports.new) }
-        ensures stands { StandsOn core.old core.new self.old self.new }
+        ensures stands { ClientsMatchAfter core.old core.new self.old self.new }
     {
         self.forget(core, slot);
         if self.reserve().is_err() {
@@ -197,7 +197,7 @@ impl Clients {
     fn forget<P: Policy + Drop>(&mut self, core: &mut Core<P>, slot: usize)
         ensures moves { Moves core.old core.new self.old self.new unasked unasked }
         ensures free { IsFree slot (seats_of self.new.list.items) }
-        ensures stands { StandsOn core.old core.new self.old self.new }
+        ensures stands { ClientsMatchAfter core.old core.new self.old self.new }
     {
         while let Some(index) = self.place(slot) {
             let client = self.list.remove(index);
@@ -223,7 +223,7 @@ impl Clients {
     /// Lets steps that found no memory be made again, one connection after the other, as far as the ports let them.
     pub(crate) fn retry<P: Policy + Drop, Q: Ports>(&mut self, core: &mut Core<P>, ports: &mut Q)
         ensures moves { Moves core.old core.new self.old self.new (Q.report ports.old) (Q.report ports.new) }
-        ensures stands { StandsOn core.old core.new self.old self.new }
+        ensures stands { ClientsMatchAfter core.old core.new self.old self.new }
     {
         for _ in 0..self.awake.len() {
             let Some(index) = self.next_held() else {
@@ -245,7 +245,7 @@ impl Clients {
     ) -> bool
         requires { index < length self.old.list.items }
         ensures moves { Moves core.old core.new self.old self.new (Q.report ports.old) (Q.report ports.new) }
-        ensures stands { StandsOn core.old core.new self.old self.new }
+        ensures stands { ClientsMatchAfter core.old core.new self.old self.new }
     {
         match self.list[index].ask(ports) {
             Ok(()) => {
@@ -281,7 +281,7 @@ impl Clients {
     fn release(&mut self, index: usize)
         requires { index < length self.old.list.items }
         ensures seats { seats_of self.new.list.items ≡ seats_of self.old.list.items }
-        ensures stands { (m : Machine) → Stands m self.old → Stands m self.new }
+        ensures stands { (m : Machine) → ClientsMatch m self.old → ClientsMatch m self.new }
         ensures released { HoldsAt (λ client. client.held ≡ false) self.new.list.items index }
     {
         self.tried = self.list[index].id.0;
@@ -293,7 +293,7 @@ impl Clients {
         ensures freed { result ≡ progress.Still → self.new.list.items ≡ freed_on slot self.old.list.items }
         ensures starved { (result ≡ progress.Still) ⊎ ((result ≡ progress.Starved) × (self.new.list.items ≡ self.old.list.items)) }
         ensures seats { seats_of self.new.list.items ≡ seats_of self.old.list.items }
-        ensures stands { (m : Machine) → Stands m self.old → Stands m self.new }
+        ensures stands { (m : Machine) → ClientsMatch m self.old → ClientsMatch m self.new }
     {
         match self.place(slot) {
             Some(index) => self.free(index),
@@ -305,7 +305,7 @@ impl Clients {
     pub(crate) fn unblock_all(&mut self) -> Progress
         ensures freed { result ≡ progress.Still → self.new.list.items ≡ map freed self.old.list.items }
         ensures seats { seats_of self.new.list.items ≡ seats_of self.old.list.items }
-        ensures stands { (m : Machine) → Stands m self.old → Stands m self.new }
+        ensures stands { (m : Machine) → ClientsMatch m self.old → ClientsMatch m self.new }
     {
         let mut progress = Progress::Still;
         for index in 0..self.list.len() {
@@ -321,7 +321,7 @@ impl Clients {
         ensures starved { (result ≡ progress.Still) ⊎ ((result ≡ progress.Starved) × (self.new.list.items ≡ self.old.list.items)) }
         ensures count { length self.new.list.items ≡ length self.old.list.items }
         ensures seats { seats_of self.new.list.items ≡ seats_of self.old.list.items }
-        ensures stands { (m : Machine) → Stands m self.old → Stands m self.new }
+        ensures stands { (m : Machine) → ClientsMatch m self.old → ClientsMatch m self.new }
     {
         if !self.list[index].blocked {
             return Progress::Still;
@@ -337,10 +337,10 @@ impl Clients {
     /// suffice for is done the next time.
     pub(crate) fn wake<P: Policy + Drop>(&mut self, core: &Core<P>) -> Progress
         ensures seats { seats_of self.new.list.items ≡ seats_of self.old.list.items }
-        ensures stands { (m : Machine) → Stands m self.old → Stands m self.new }
+        ensures stands { (m : Machine) → ClientsMatch m self.old → ClientsMatch m self.new }
         ensures still { result ≡ progress.Still → (self.new ≡ self.old) × (self.new.woken ≡ core.now.store.revision) }
         ensures woken { result ≡ progress.Made → self.new.woken ≡ core.now.store.revision }
-        ensures made { result ≡ progress.Made → (m : Machine) → Refines core.now m → Stands m self.old → AreRoused m self.old.woken self.new.list.items }
+        ensures made { result ≡ progress.Made → (m : Machine) → Refines core.now m → ClientsMatch m self.old → AreRoused m self.old.woken self.new.list.items }
         ensures starved { result ≡ progress.Starved → self.new.woken ≡ self.old.woken }
     {
         let revision = core.revision();
@@ -363,7 +363,7 @@ impl Clients {
     /// memory does not suffice for all.
     fn rouse_all(&mut self, concerned: &Option<Vec<u64>>) -> bool
         ensures seats { seats_of self.new.list.items ≡ seats_of self.old.list.items }
-        ensures stands { (m : Machine) → Stands m self.old → Stands m self.new }
+        ensures stands { (m : Machine) → ClientsMatch m self.old → ClientsMatch m self.new }
         ensures woken { self.new.woken ≡ self.old.woken }
         ensures roused { result ≡ true → AreCalled (option_map (λ v. v.items) concerned.now) (length self.new.list.items) self.new.list.items }
     {
@@ -421,7 +421,7 @@ impl Clients {
         requires { index < length self.old.list.items }
         ensures seats { seats_of self.new.list.items ≡ seats_of self.old.list.items }
         ensures count { length self.new.list.items ≡ length self.old.list.items }
-        ensures stands { (m : Machine) → Stands m self.old → Stands m self.new }
+        ensures stands { (m : Machine) → ClientsMatch m self.old → ClientsMatch m self.new }
         ensures woken { self.new.woken ≡ self.old.woken }
         ensures roused { result ≡ true → (concerned : Option (List ℕ)) → AreCalled concerned index self.old.list.items
             → AreCalled concerned (suc index) self.new.list.items }
@@ -443,7 +443,7 @@ impl Clients {
     ) -> Pulled
         ensures moves { Moves core.old core.new self.old self.new (Q.report ports.old) (Q.report ports.new) }
         ensures others { others slot (seats_of self.new.list.items) ≡ others slot (seats_of self.old.list.items) }
-        ensures stands { StandsOn core.old core.new self.old self.new }
+        ensures stands { ClientsMatchAfter core.old core.new self.old self.new }
     {
         let Some(index) = self.find(slot) else {
             return Pulled::Stopped;
@@ -465,7 +465,7 @@ impl Clients {
         requires found { HoldsAt (λ client. client.slot ≡ slot) self.old.list.items index }
         ensures moves { Moves core.old core.new self.old self.new (Q.report ports.old) (Q.report ports.new) }
         ensures others { others slot (seats_of self.new.list.items) ≡ others slot (seats_of self.old.list.items) }
-        ensures stands { StandsOn core.old core.new self.old self.new }
+        ensures stands { ClientsMatchAfter core.old core.new self.old self.new }
     {
         if self.list[index].phase != Phase::Open {
             return Pulled::Stopped;
@@ -492,7 +492,7 @@ impl Clients {
     fn reach_end(&mut self, index: usize)
         requires { index < length self.old.list.items }
         ensures seats { seats_of self.new.list.items ≡ seats_of self.old.list.items }
-        ensures stands { IsAwakeAt index self.old → (m : Machine) → Stands m self.old → Stands m self.new }
+        ensures stands { IsAwakeAt index self.old → (m : Machine) → ClientsMatch m self.old → ClientsMatch m self.new }
     {
         let client = &mut self.list[index];
         client.phase = Phase::Ending;
@@ -509,7 +509,7 @@ impl Clients {
     ) -> Pulled
         requires bound { index < length self.old.list.items }
         requires reading { HoldsAt (λ client. client.phase ≡ phase.Open) self.old.list.items index }
-        ensures stands { IsAwakeAt index self.old → StandsOn core.old core.new self.old self.new }
+        ensures stands { IsAwakeAt index self.old → ClientsMatchAfter core.old core.new self.old self.new }
         ensures feeds { FeedsOrEnds index piece.now core.old core.new self.old self.new (Q.report ports.old) (Q.report ports.new) }
     {
         match core.feed(self.list[index].id, piece) {

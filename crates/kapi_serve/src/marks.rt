@@ -1,7 +1,7 @@
 //! The fingerprints that are called, marked by their last bits: most watches are told apart by that look alone.
 ghost use Rattle.std.specs.Prelude.{◌≡◌, ◌%◌, ◌==◌, ℕ, Some, true, option_map};
 ghost use Rattle.std.specs.List.{HoldsAt, list_any};
-ghost use Rattle.kapi_serve.specs.Private.Stands.{AreMarked};
+ghost use Rattle.kapi_serve.specs.Private.ClientsMatch.{AreMarked};
 
 /// The number of marks.
 pub(crate) const MARKS: usize = 64;

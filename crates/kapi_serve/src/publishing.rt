@@ -1,11 +1,11 @@
 ghost use Rattle.std.specs.Prelude.{◌≡◌, List, Option, [], ◌∷◌, None, true, false};
 ghost use Rattle.kapi_policy.specs.declared.change.PolicyChange.{PolicyChange as AChange};
 ghost use Rattle.kapi_serve.specs.Acts.{Seat};
-ghost use Rattle.kapi_serve.specs.Goes.{Goes};
+ghost use Rattle.kapi_serve.specs.Advances.{Advances};
 ghost use Rattle.kapi_desk.specs.Steps.{step_of};
-ghost use Rattle.kapi_serve.specs.Private.Moments.{stage};
-ghost use Rattle.kapi_serve.specs.Private.Stands.{PassesBy};
-ghost use Rattle.kapi_serve.specs.Shows.{Shows, Takes};
+ghost use Rattle.kapi_serve.specs.Private.ServerStates.{stage};
+ghost use Rattle.kapi_serve.specs.Private.ClientsMatch.{PassesBy};
+ghost use Rattle.kapi_serve.specs.Publishes.{Publishes, Takes};
 
 use crate::progress::Progress;
 use kapi_core::Core;
@@ -51,7 +51,7 @@ impl Publishing {
     pub(crate) fn publish_step<R: Wait>(&mut self, rt: &R, desk: &mut Desk, step: PolicyStep)
         requires waiting { desk.old.waiting ≡ [] }
         requires kept { self.old.kept ≡ None }
-        ensures { Shows desk.old desk.new self.old.kept self.new.kept (step_of step) }
+        ensures { Publishes desk.old desk.new self.old.kept self.new.kept (step_of step) }
     {
         if !step.as_slice().is_empty() {
             self.turns = TURNS;
@@ -63,7 +63,7 @@ impl Publishing {
     fn publish<R: Wait>(&mut self, rt: &R, desk: &mut Desk, step: PolicyStep)
         requires waiting { desk.old.waiting ≡ [] }
         requires kept { self.old.kept ≡ None }
-        ensures { Shows desk.old desk.new self.old.kept self.new.kept (step_of step) }
+        ensures { Publishes desk.old desk.new self.old.kept self.new.kept (step_of step) }
     {
         if step.as_slice().is_empty() {
             return;
@@ -76,7 +76,7 @@ impl Publishing {
     fn show<R: Wait>(&mut self, rt: &R, desk: &mut Desk, step: PolicyStep)
         requires waiting { desk.old.waiting ≡ [] }
         requires kept { self.old.kept ≡ None }
-        ensures { Shows desk.old desk.new self.old.kept self.new.kept (step ∷ []) }
+        ensures { Publishes desk.old desk.new self.old.kept self.new.kept (step ∷ []) }
     {
         self.kept = refused(rt, desk, step);
     }
@@ -84,7 +84,7 @@ impl Publishing {
     /// Tries again to publish a step that was refused, and lets a turn be made again.
     #[tactic(auto, using(crate::proofs::Showing::shows_on_nothing, crate::proofs::Showing::shows_again))]
     pub(crate) fn retry<R: Wait>(&mut self, rt: &R, desk: &mut Desk)
-        ensures { Shows desk.old desk.new self.old.kept self.new.kept [] }
+        ensures { Publishes desk.old desk.new self.old.kept self.new.kept [] }
     {
         self.held = false;
         retry(rt, desk);
@@ -104,7 +104,7 @@ impl Publishing {
         core: &mut Core<P>,
         desk: &mut Desk,
     ) -> Progress
-        ensures goes { (s : List Seat) → Goes (stage core.old desk.old self.old s) (stage core.new desk.new self.new s) }
+        ensures goes { (s : List Seat) → Advances (stage core.old desk.old self.old s) (stage core.new desk.new self.new s) }
         ensures passes { PassesBy core.old core.new }
     {
         let mut progress = Progress::Still;
@@ -125,7 +125,7 @@ impl Publishing {
         core: &mut Core<P>,
         desk: &mut Desk,
     ) -> Progress
-        ensures goes { (s : List Seat) → Goes (stage core.old desk.old self.old s) (stage core.new desk.new self.new s) }
+        ensures goes { (s : List Seat) → Advances (stage core.old desk.old self.old s) (stage core.new desk.new self.new s) }
         ensures passes { PassesBy core.old core.new }
     {
         if self.turns == 0 {
@@ -166,7 +166,7 @@ fn waits(desk: &Desk) -> bool
 /// Publishes the step that waits in the desk, if there is one.
 #[tactic(auto, using(crate::proofs::Showing::shows_waiting, crate::proofs::Showing::shows_same))]
 fn retry<R: Wait>(rt: &R, desk: &mut Desk)
-    ensures { (k : Option (List AChange)) → Shows desk.old desk.new k k [] }
+    ensures { (k : Option (List AChange)) → Publishes desk.old desk.new k k [] }
 {
     match desk.retry(rt) {
         Ok(_count) => {}

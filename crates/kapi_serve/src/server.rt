@@ -1,8 +1,8 @@
 ghost use Rattle.std.specs.Prelude.{◌≡◌, ℕ, [], map};
 ghost use Rattle.kapi_serve.specs.Private.Clients.{freed, freed_on};
-ghost use Rattle.kapi_serve.specs.Private.Moments.{GoesAfter, GoesFor, at, stage};
-ghost use Rattle.kapi_serve.specs.Private.Stands.{IsServed, Settles, StandsOn, Tends, Visits, Waits};
-ghost use Rattle.kapi_serve.specs.Goes.{Goes, Serves};
+ghost use Rattle.kapi_serve.specs.Private.ServerStates.{AdvancesAfter, AdvancesFor, at, stage};
+ghost use Rattle.kapi_serve.specs.Private.ClientsMatch.{IsServed, Settles, ClientsMatchAfter, Tends, Visits, Waits};
+ghost use Rattle.kapi_serve.specs.Advances.{Advances, Serves};
 ghost use Rattle.kapi_serve.specs.declared.port.PortEvent.TheVariants as happened;
 ghost use Rattle.kapi_serve.specs.declared.progress.Progress.TheVariants as progress;
 
@@ -63,7 +63,7 @@ impl Server {
         buffer: &mut [u8],
         event: PortEvent,
     ) -> Progress
-        ensures goes { GoesAfter event (at core.old desk.old self.old (Q.report ports.old)) (at core.new desk.new self.new (Q.report ports.new)) }
+        ensures goes { AdvancesAfter event (at core.old desk.old self.old (Q.report ports.old)) (at core.new desk.new self.new (Q.report ports.new)) }
         ensures settles { Settles core.old core.new self.old.clients self.new.clients (result ≡ progress.Still) }
         ensures woken { result ≡ progress.Still → self.new.clients.woken ≡ core.new.store.revision }
     {
@@ -83,8 +83,8 @@ impl Server {
         buffer: &mut [u8],
         event: PortEvent,
     ) -> Progress
-        ensures goes { GoesAfter event (at core.old desk.old self.old (Q.report ports.old)) (at core.new desk.new self.new (Q.report ports.new)) }
-        ensures stands { StandsOn core.old core.new self.old.clients self.new.clients }
+        ensures goes { AdvancesAfter event (at core.old desk.old self.old (Q.report ports.old)) (at core.new desk.new self.new (Q.report ports.new)) }
+        ensures stands { ClientsMatchAfter core.old core.new self.old.clients self.new.clients }
         ensures writable { (slot : ℕ) → event ≡ happened.Writable slot → result ≡ progress.Still → self.new.clients.list.items ≡ freed_on slot self.old.clients.list.items }
         ensures idle { event ≡ happened.Idle → result ≡ progress.Still → self.new.clients.list.items ≡ map freed self.old.clients.list.items }
     {
@@ -112,8 +112,8 @@ impl Server {
         slot: usize,
         buffer: &mut [u8],
     )
-        ensures goes { Goes (at core.old desk.old self.old (Q.report ports.old)) (at core.new desk.new self.new (Q.report ports.new)) }
-        ensures stands { StandsOn core.old core.new self.old.clients self.new.clients }
+        ensures goes { Advances (at core.old desk.old self.old (Q.report ports.old)) (at core.new desk.new self.new (Q.report ports.new)) }
+        ensures stands { ClientsMatchAfter core.old core.new self.old.clients self.new.clients }
     {
         for _ in rt.forever() {
             match self.clients.pull(core, ports, slot, buffer) {
@@ -133,7 +133,7 @@ impl Server {
         desk: &mut Desk,
         ports: &mut Q,
     ) -> Progress
-        ensures goes { Goes (at core.old desk.old self.old (Q.report ports.old)) (at core.new desk.new self.new (Q.report ports.new)) }
+        ensures goes { Advances (at core.old desk.old self.old (Q.report ports.old)) (at core.new desk.new self.new (Q.report ports.new)) }
         ensures settles { Settles core.old core.new self.old.clients self.new.clients (result ≡ progress.Still) }
         ensures woken { result ≡ progress.Still → self.new.clients.woken ≡ core.new.store.revision }
     {
@@ -155,7 +155,7 @@ impl Server {
         desk: &mut Desk,
         ports: &mut Q,
     ) -> Progress
-        ensures goes { Goes (at core.old desk.old self.old (Q.report ports.old)) (at core.new desk.new self.new (Q.report ports.new)) }
+        ensures goes { Advances (at core.old desk.old self.old (Q.report ports.old)) (at core.new desk.new self.new (Q.report ports.new)) }
         ensures settles { Settles core.old core.new self.old.clients self.new.clients (result ≡ progress.Still) }
         ensures woken { result ≡ progress.Still → self.new.clients.woken ≡ core.new.store.revision }
     {
@@ -178,7 +178,7 @@ impl Server {
         ports: &mut Q,
         position: usize,
     ) -> Progress
-        ensures goes { Goes (at core.old desk.old self.old (Q.report ports.old)) (at core.new desk.new self.new (Q.report ports.new)) }
+        ensures goes { Advances (at core.old desk.old self.old (Q.report ports.old)) (at core.new desk.new self.new (Q.report ports.new)) }
         ensures visits { Visits core.old core.new self.old.clients self.new.clients position (result ≡ progress.Still) }
         ensures awake { self.new.clients.awake.numbers.items ≡ self.old.clients.awake.numbers.items }
     {
@@ -208,7 +208,7 @@ fn answer<R: Wait, P: Policy + Drop>(
     publishing: &mut Publishing,
     client: &mut Client,
 ) -> Progress
-    ensures goes { GoesFor (stage core.old desk.old publishing.old) (stage core.new desk.new publishing.new) client.old client.new }
+    ensures goes { AdvancesFor (stage core.old desk.old publishing.old) (stage core.new desk.new publishing.new) client.old client.new }
     ensures tends { Tends core.old core.new client.old client.new }
     ensures still { result ≡ progress.Still → Waits client.old client.new × IsServed client.new }
 {

@@ -1,5 +1,5 @@
 use Rattle.std.proofs.Common.{◌≡◌, Some, length, take}
-use Rattle.kapi_serve.specs.Private.Stands.{AreMarked}
+use Rattle.kapi_serve.specs.Private.ClientsMatch.{AreMarked}
 use Rattle.kapi_serve.proofs.marks.marks_among.Given as goal
 
 -- the numbers before this one are marked

@@ -1,5 +1,5 @@
-use Rattle.kapi_serve.specs.Private.Moments.{Writes}
-use Rattle.kapi_serve.specs.Private.Stands.{Keeps}
+use Rattle.kapi_serve.specs.Private.ServerStates.{Writes}
+use Rattle.kapi_serve.specs.Private.ClientsMatch.{Keeps}
 use Rattle.kapi_serve.proofs.client.Client.flush.Given as goal
 
 abbrev pub invariant-loop : goal.invariant-loop

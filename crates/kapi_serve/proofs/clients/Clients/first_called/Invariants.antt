@@ -1,5 +1,5 @@
 use Rattle.std.specs.Prelude.{option_map}
-use Rattle.kapi_serve.specs.Private.Stands.{AreCalled}
+use Rattle.kapi_serve.specs.Private.ClientsMatch.{AreCalled}
 use Rattle.kapi_serve.proofs.clients.Clients.first_called.Given as goal
 
 abbrev pub invariant-loop-index : goal.invariant-loop-index

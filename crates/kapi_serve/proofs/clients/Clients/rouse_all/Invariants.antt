@@ -1,12 +1,12 @@
 use Rattle.std.specs.Prelude.{◌≡◌, ◌-◌, true, length, option_map}
 use Rattle.kapi_serve.specs.Private.Clients.{seats_of}
 use Rattle.kapi_core.specs.Machine.{Machine}
-use Rattle.kapi_serve.specs.Private.Stands.{AreCalled, Stands}
+use Rattle.kapi_serve.specs.Private.ClientsMatch.{AreCalled, ClientsMatch}
 use Rattle.kapi_serve.proofs.clients.Clients.rouse_all.Given as goal
 
 abbrev pub invariant-loop-index : goal.invariant-loop-index
 invariant-loop-index l = (seats_of l.self.list.items ≡ seats_of l.initial.self.list.items) × (length l.self.list.items ≡ length l.initial.self.list.items)
-    × ((m : Machine) → Stands m l.initial.self → Stands m l.self)
+    × ((m : Machine) → ClientsMatch m l.initial.self → ClientsMatch m l.self)
     × (l.self.woken ≡ l.initial.self.woken)
     × (l.all ≡ true → AreCalled (option_map (λ v. v.items) l.concerned) l.from l.self.list.items)
 

@@ -27,7 +27,7 @@ abbrev pub HasNoRequest : ℕ → Option Link → Type 0
 HasNoRequest id l = (m : Machine) → (serve_step id l m).0 ≡ answer.Nothing
 
 -- what is kept of a client suits its connection
-pub record Suits (m : Machine) (c : Client) : Type 0 where
+pub record MatchesConnection (m : Machine) (c : Client) : Type 0 where
   pub unfed : c.fed ≡ false → HasNoRequest c.id.0 (link_at c.id.0 m)
   pub closed : c.phase ≡ phase.Closed → link_at c.id.0 m ≡ None
   pub ending : c.phase ≡ phase.Ending → c.fed ≡ true
@@ -56,7 +56,7 @@ PassesBy old new = (m : Machine) → Refines old m → (n : Machine) × Refines 
 
 -- something was done for a client, of which is kept what suits its connection
 abbrev pub Tends : Running → Running → Client → Client → Type 0
-Tends old new c d = (m : Machine) → Refines old m → IsNumbered m → Suits m c → (n : Machine) × Refines new n × GoesOn c.id.0 m n × (d.id ≡ c.id) × Suits n d
+Tends old new c d = (m : Machine) → Refines old m → IsNumbered m → MatchesConnection m c → (n : Machine) × Refines new n × GoesOn c.id.0 m n × (d.id ≡ c.id) × MatchesConnection n d
 
 -- the same is kept of a client, which may have taken bytes
 pub record Keeps (c d : Client) : Type 0 where
@@ -127,19 +127,19 @@ abbrev pub IsAwakeOrQuiet : List ℕ → Client → Type 0
 IsAwakeOrQuiet awake c = Has awake c.id.0 ⊎ IsQuiet c
 
 -- what is kept of the clients suits their connections, which are in order, and those that sleep are quiet
-pub record AllSuit (m : Machine) (cs : List Client) (awake : List ℕ) : Type 0 where
+pub record AllMatch (m : Machine) (cs : List Client) (awake : List ℕ) : Type 0 where
   pub numbered : IsNumbered m
-  pub suit : AllByRecursion (λ c. Suits m c) cs
+  pub suit : AllByRecursion (λ c. MatchesConnection m c) cs
   pub rise : Rise cs
   pub asleep : AllByRecursion (λ c. IsAwakeOrQuiet awake c) cs
 
 -- what is kept of the clients that are served suits their connections
-abbrev pub Stands : Machine → Clients → Type 0
-Stands m cs = AllSuit m cs.list.items cs.awake.numbers.items
+abbrev pub ClientsMatch : Machine → Clients → Type 0
+ClientsMatch m cs = AllMatch m cs.list.items cs.awake.numbers.items
 
 -- the machine goes on, and what is kept of the clients suits it again
-abbrev pub StandsOn : Running → Running → Clients → Clients → Type 0
-StandsOn old new cs ds = (m : Machine) → Refines old m → Stands m cs → (n : Machine) × Refines new n × Stands n ds
+abbrev pub ClientsMatchAfter : Running → Running → Clients → Clients → Type 0
+ClientsMatchAfter old new cs ds = (m : Machine) → Refines old m → ClientsMatch m cs → (n : Machine) × Refines new n × ClientsMatch n ds
 
 -- the client at a place is awake
 abbrev pub IsAwakeAt : ℕ → Clients → Type 0
@@ -159,10 +159,10 @@ AreDue m cs rest = AllByRecursion (λ c. Rests m c ⊎ Has rest c.id.0) cs
 
 -- the awake connection at a place was visited; where nothing could be done, its client rests
 abbrev pub Visits : Running → Running → Clients → Clients → ℕ → Type 0 → Type 0
-Visits old new cs ds place still = (m : Machine) → Refines old m → Stands m cs
-    → (n : Machine) × Refines new n × AllSuit n ds.list.items cs.awake.numbers.items
+Visits old new cs ds place still = (m : Machine) → Refines old m → ClientsMatch m cs
+    → (n : Machine) × Refines new n × AllMatch n ds.list.items cs.awake.numbers.items
     × (still → AreDue m cs.list.items (drop place cs.awake.numbers.items) → AreDue n ds.list.items (drop (suc place) cs.awake.numbers.items))
 
 -- the clients were gone over; where nothing could be done, all rest
 abbrev pub Settles : Running → Running → Clients → Clients → Type 0 → Type 0
-Settles old new cs ds still = (m : Machine) → Refines old m → Stands m cs → (n : Machine) × Refines new n × Stands n ds × (still → AreAtRest n ds.list.items)
+Settles old new cs ds still = (m : Machine) → Refines old m → ClientsMatch m cs → (n : Machine) × Refines new n × ClientsMatch n ds × (still → AreAtRest n ds.list.items)

@@ -17,7 +17,7 @@ abbrev pub IsPrompt : Board → Option (List PolicyChange) → Type 0
 IsPrompt desk kept = length (unpublished desk kept) ≤ 1
 
 -- steps were put behind the others; where at most one was unpublished, at most one is
-pub record Shows (old new : Board) (p q : Option (List PolicyChange)) (steps : List (List PolicyChange)) : Type 0 where
+pub record Publishes (old new : Board) (p q : Option (List PolicyChange)) (steps : List (List PolicyChange)) : Type 0 where
   pub opening : new.opening ≡ old.opening
   pub all : all_steps new q ≡ all_steps old p ++ steps
   pub prompt : IsPrompt old p → IsPrompt new q

@@ -10,10 +10,10 @@ use Rattle.kapi_core.specs.declared.event.Answer.{Answer}
 use Rattle.kapi_desk.specs.Boards.{Board}
 use Rattle.kapi_serve.specs.Account.{Account, Made}
 use Rattle.kapi_serve.specs.Acts.{Act, Follows, Seat, answers_of, entries_in, events_of, made_in}
-use Rattle.kapi_serve.specs.Policies.{ShowsPolicies}
+use Rattle.kapi_serve.specs.Policies.{PublishesPolicies}
 use Rattle.kapi_serve.specs.Ports.{Adds, Report}
 use Rattle.kapi_desk.specs.Steps.{step_of}
-use Rattle.kapi_serve.specs.Shows.{Shows}
+use Rattle.kapi_serve.specs.Publishes.{Publishes}
 use Rattle.kapi_serve.specs.declared.port.Entry.{Entry}
 
 -- the events were made on the machine, and answered as they say
@@ -29,19 +29,19 @@ unfoldable pub steps_in : List Answer → List (List PolicyChange)
 steps_in [] = []
 steps_in (a ∷ rest) = step_in a ++ steps_in rest
 
--- a moment of a server: the machine, what its desk has, the step that is kept, the clients, and what the ports report
-pub record Moment : Type 1 where
+-- the state of a server: the machine, what its desk has, the step that is kept, the clients, and what the ports report
+pub record ServerState : Type 1 where
   pub core : Running
   pub desk : Board
   pub kept : Option (List PolicyChange)
   pub seats : List Seat
   pub report : Report
 
--- acts were made from one moment to another, and the steps of their events were put behind the others
-pub record Goes (old new : Moment) : Type 0 where
+-- acts were made from one state to another, and the steps of their events were put behind the others
+pub record Advances (old new : ServerState) : Type 0 where
   pub acts : List Act
   pub runs : Runs old.core new.core (made_in acts)
-  pub shows : Shows old.desk new.desk old.kept new.kept (steps_in (answers_of (made_in acts)))
+  pub shows : Publishes old.desk new.desk old.kept new.kept (steps_in (answers_of (made_in acts)))
   pub follows : Follows old.seats acts new.seats
   pub told : Adds old.report new.report (entries_in acts)
 
@@ -56,7 +56,7 @@ pub record Serves (old new : Running) (board next : Board) (report later : Repor
   pub left : List (List PolicyChange)
   pub published : next.list ++ left ≡ board.list ++ steps_in (answers_of made)
   pub prompt : length left ≤ 1
-  pub policies : ShowsPolicies old board next (events_of made)
+  pub policies : PublishesPolicies old board next (events_of made)
   pub entries : List Entry
   pub told : later.tells → later.history ≡ report.history ++ entries
   pub account : (m : Machine) → Refines old m → Account entries made

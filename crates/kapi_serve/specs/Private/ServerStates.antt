@@ -9,7 +9,7 @@ use Rattle.kapi_desk.specs.Boards.{Board}
 use Rattle.kapi_http.specs.declared.inbox.FeedError.{FeedError}
 use Rattle.kapi_policy.specs.declared.change.PolicyChange.{PolicyChange}
 use Rattle.kapi_serve.specs.Acts.{Seat}
-use Rattle.kapi_serve.specs.Goes.{Goes, Moment}
+use Rattle.kapi_serve.specs.Advances.{Advances, ServerState}
 use Rattle.kapi_serve.specs.Ports.{Adds, Report, opened}
 use Rattle.kapi_serve.specs.Private.Clients.{seat_of, seats_of}
 use Rattle.kapi_serve.specs.declared.client.Client.{Client}
@@ -23,11 +23,11 @@ use Rattle.kapi_serve.specs.declared.server.Server.{Server}
 -- ---- moments
 
 -- a moment from its parts
-abbrev pub moment : Running → Board → Option (List PolicyChange) → List Seat → Report → Moment
+abbrev pub moment : Running → Board → Option (List PolicyChange) → List Seat → Report → ServerState
 moment core desk kept seats report = record { core = core; desk = desk; kept = kept; seats = seats; report = report }
 
 -- a server at a moment
-abbrev pub at : Running → Board → Server → Report → Moment
+abbrev pub at : Running → Board → Server → Report → ServerState
 at core desk server report = moment core desk server.publishing.kept (seats_of server.clients.list.items) report
 
 -- the report of ports that are not asked
@@ -35,28 +35,28 @@ abbrev pub unasked : Report
 unasked = record { tells = ⊤; history = [] }
 
 -- a moment at which these are the clients, and no port is asked
-abbrev pub stage : Running → Board → Publishing → List Seat → Moment
+abbrev pub stage : Running → Board → Publishing → List Seat → ServerState
 stage core desk publishing seats = moment core desk publishing.kept seats unasked
 
 -- ---- what is done
 
 -- a server went on from before an event of its ports
-abbrev pub GoesAfter : PortEvent → Moment → Moment → Type 0
-GoesAfter happened old new = (h : List Entry) → (old.report.tells → old.report.history ≡ h ++ opened (Some happened)) → Goes (record old { report = record old.report { history = h } }) new
+abbrev pub AdvancesAfter : PortEvent → ServerState → ServerState → Type 0
+AdvancesAfter happened old new = (h : List Entry) → (old.report.tells → old.report.history ≡ h ++ opened (Some happened)) → Advances (record old { report = record old.report { history = h } }) new
 
 -- something was done for a client, whichever the others are
-abbrev pub GoesFor : (List Seat → Moment) → (List Seat → Moment) → Client → Client → Type 0
-GoesFor old new c d = (front back : List Seat) → Goes (old (front ++ seat_of c ∷ back)) (new (front ++ seat_of d ∷ back))
+abbrev pub AdvancesFor : (List Seat → ServerState) → (List Seat → ServerState) → Client → Client → Type 0
+AdvancesFor old new c d = (front back : List Seat) → Advances (old (front ++ seat_of c ∷ back)) (new (front ++ seat_of d ∷ back))
 
 -- bytes that a client was owed were sent to it, whatever else there is
 abbrev pub Writes : Client → Client → Report → Report → Type 0
 Writes c d report later = (core : Running) (desk : Board) (kept : Option (List PolicyChange)) (front back : List Seat)
-    → Goes (moment core desk kept (front ++ seat_of c ∷ back) report) (moment core desk kept (front ++ seat_of d ∷ back) later)
+    → Advances (moment core desk kept (front ++ seat_of c ∷ back) report) (moment core desk kept (front ++ seat_of d ∷ back) later)
 
 -- the clients went on, whatever the desk has and is kept
 abbrev pub Moves : Running → Running → Clients → Clients → Report → Report → Type 0
 Moves old new cs ds report later = (desk : Board) (kept : Option (List PolicyChange))
-    → Goes (moment old desk kept (seats_of cs.list.items) report) (moment new desk kept (seats_of ds.list.items) later)
+    → Advances (moment old desk kept (seats_of cs.list.items) report) (moment new desk kept (seats_of ds.list.items) later)
 
 -- the clients went on from before the last entry of the report
 abbrev pub MovesAfter : Entry → Running → Running → Clients → Clients → Report → Report → Type 0
