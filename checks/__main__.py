@@ -18,7 +18,7 @@ CHECKS = {
     "what-random": Module(words=("100",)),
     "suggest-random": Module(words=("100",)),
     "paths": Module(words=("300",)),
-    "hostile": Module(),
+    "hostile": Module(words=("window",)),
     "crafted": Module(),
     "growths": Module("cc"),
     "library": Module("make library PREFIX=out/library"),

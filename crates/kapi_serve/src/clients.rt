@@ -24,8 +24,8 @@ use kapi_policy::Policy;
 use kapi_text::Memory;
 use std::alloc::Global;
 
-/// After so many changes all watches are woken, far fewer than are kept.
-const WAKE_ALL_AFTER: u64 = 256;
+/// After so many changes all watches are woken, so that one that no change concerned outlives a step of a thousand.
+const WAKE_ALL_AFTER: u64 = 16;
 
 /// The number of places that are kept, more than connections are open at a time.
 const PLACES: usize = 512;
