@@ -57,11 +57,14 @@ fn is_up_to(name: &Text, other: &Text) -> bool
     name.as_str() <= other.as_str()
 }
 
-/// Drops the names before this one.
+/// Drops the names before this one, and touches no others, unless there is no memory for the cut.
 fn drop_before(names: &mut BTreeSet<Text>, first: &Text)
     ensures { names.new.keys ≡ marks_from names.old.keys first.now }
 {
-    names.retain(|name| is_up_to(first, name));
+    match names.split_off(first) {
+        Ok(rest) => *names = rest,
+        Err(_refused) => names.retain(|name| is_up_to(first, name)),
+    }
 }
 
 /// Whether some of the changes is of a cluster role.
