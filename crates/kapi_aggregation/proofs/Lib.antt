@@ -7,5 +7,6 @@ pub mod Placed
 pub mod Marking
 pub mod Noting
 pub mod Turning
+pub mod Giving
 pub mod Unmoved
 pub mod Rewritten

@@ -24,8 +24,8 @@ use Rattle.kapi_store.specs.Keys.{is_key}
 use Rattle.kapi_store.specs.Plain.{PlainChange}
 use Rattle.kapi_store.specs.Told.{labels_of}
 use Rattle.kapi_store.specs.declared.key.Key.{Key}
-use Rattle.kapi_aggregation.specs.Roles.{Labelled, is_cluster_role, labels_in, selectors_of, takes_from}
-use Rattle.kapi_aggregation.specs.Marks.{IsKnown, Keeps, KeepsBoth, KeepsTakers, Tracked, end_at, first_text, is_known, is_marked, label_text, learn, learn_rule, learned, listed_if, mark_all, mark_change, mark_changed, mark_object, mark_taker, mark_takers, names_for, noted, role_at, rule_left, start_at, taker_cmp, taker_of, takers_at, takers_in, with_mark, with_names_at, with_takers}
+use Rattle.kapi_aggregation.specs.Roles.{Labelled, is_cluster_role, labelled_at, labels_in, selectors_of, takes_from}
+use Rattle.kapi_aggregation.specs.Marks.{IsGiven, IsKnown, Keeps, KeepsAll, KeepsGivers, KeepsTakers, Tracked, end_at, first_text, giver_of, givers_after, is_known, is_marked, label_list, label_text, learn, learn_rule, learned, listed_if, mark_all, mark_change, mark_changed, mark_object, mark_taker, mark_takers, names_for, noted, role_at, rule_left, start_at, taker_cmp, taker_of, takers_at, takers_in, with_all_left, with_giver, with_left, with_mark, with_names_at, with_takers}
 use Rattle.kapi_aggregation.specs.declared.takers.Taker.{Taker}
 use Rattle.kapi_aggregation.proofs.Lists.{all_at, all_from, any_of, has_kept, itself, same_text}
 use Rattle.kapi_aggregation.specs.Members.{Has}
@@ -99,18 +99,26 @@ with_mark_keeps ms k n h = by_case (is_marked ms k)
 taker_compares : (t : Taker) → is_eq (taker_cmp t t) ≡ true
 taker_compares t = rw (equal (slice_cmp nat_cmp t.label t.label) (compares t.label)) (compares t.name)
 
+-- what is put in at the label of each of some items is known by each
+module _ {X : Type 0} (text : X → List ℕ) (name : List ℕ) where
+  abbrev at_item : X → Taker
+  at_item x = record { label = text x; name = name }
+
+  pub each_keeps : (ts : List Taker) (xs : List X) → KeepsTakers ts (fold (λ us x. insert_key taker_cmp us (at_item x)) ts xs)
+  each_keeps ts [] t h = h
+  each_keeps ts (x ∷ xs) t h = each_keeps (insert_key taker_cmp ts (at_item x)) xs t (put_keeps taker_cmp ts (at_item x) t h)
+
+  pub each_known : (ts : List Taker) (xs : List X) (x : X) → Has xs x → is_known (fold (λ us x. insert_key taker_cmp us (at_item x)) ts xs) (at_item x) ≡ true
+  each_known ts [] x has = absurd has
+  each_known ts (y ∷ xs) x (inl same) = each_keeps (insert_key taker_cmp ts (at_item y)) xs (at_item x) (rw same (put_in taker_cmp taker_compares ts (at_item x)))
+  each_known ts (y ∷ xs) x (inr has) = each_known (insert_key taker_cmp ts (at_item y)) xs x has
+
 -- a cluster role that is put in is known by each of its selectors
 pub selectors_keep : (ts : List Taker) (name : List ℕ) (ss : List Selector) → KeepsTakers ts (with_takers ts name ss)
-selectors_keep ts name [] t h = h
-selectors_keep ts name (s ∷ ss) t h = selectors_keep (insert_key taker_cmp ts (taker_of name s)) name ss t (put_keeps taker_cmp ts (taker_of name s) t h)
+selectors_keep ts name ss = each_keeps (λ (s : Selector). first_text s.match_labels) name ts ss
 
 pub selectors_known : (ts : List Taker) (name : List ℕ) (ss : List Selector) → AllByRecursion (λ s. is_known (with_takers ts name ss) (taker_of name s) ≡ true) ss
-selectors_known ts name ss = all_from (λ s. is_known (with_takers ts name ss) (taker_of name s) ≡ true) ss (known_of ts ss)
-  where
-    known_of : (us : List Taker) (qs : List Selector) → (s : Selector) → Has qs s → is_known (with_takers us name qs) (taker_of name s) ≡ true
-    known_of us [] s has = absurd has
-    known_of us (q ∷ qs) s (inl same) = selectors_keep (insert_key taker_cmp us (taker_of name q)) name qs (taker_of name s) (rw same (put_in taker_cmp taker_compares us (taker_of name s)))
-    known_of us (q ∷ qs) s (inr has) = known_of (insert_key taker_cmp us (taker_of name q)) qs s has
+selectors_known ts name ss = all_from (λ s. is_known (with_takers ts name ss) (taker_of name s) ≡ true) ss (each_known (λ (s : Selector). first_text s.match_labels) name ts ss)
 
 -- more takers know as well
 pub still_known : (old new : List Taker) (r : Labelled) → KeepsTakers old new → IsKnown old r → IsKnown new r
@@ -175,7 +183,7 @@ known_has (u ∷ ts) t h = by_case (is_eq (taker_cmp t u)) refl (known_has ts t)
 names_at_keep : (ts : List Taker) (ns : List (List ℕ)) (l : List ℕ) → Keeps ns (with_names_at ts ns l)
 names_at_keep ts ns l = names_keep ns (takers_at ts l)
 
-names_at_have : (ts : List Taker) (ns : List (List ℕ)) (l n : List ℕ) → is_known ts (record { label = l; name = n }) ≡ true → is_marked (with_names_at ts ns l) n ≡ true
+pub names_at_have : (ts : List Taker) (ns : List (List ℕ)) (l n : List ℕ) → is_known ts (record { label = l; name = n }) ≡ true → is_marked (with_names_at ts ns l) n ≡ true
 names_at_have ts ns l n known =
     let t : Taker = record { label = l; name = n } in
     names_have ns (takers_at ts l) t (has_kept (range_contains taker_cmp (Included (start_at l)) (Excluded (end_at l))) ts t (known_has ts t known) (lies_at l n))
@@ -268,7 +276,7 @@ listed_before None rs r has = has
 listed_before (Some q) rs r has = inr has
 
 -- a cluster role is read where its name is kept
-taker_has : (os : List (Key × Data)) (names : List (List ℕ)) (name : List ℕ) (r : Labelled) → role_at os name ≡ Some r → is_marked names name ≡ true → Has (takers_in os names) r
+pub taker_has : (os : List (Key × Data)) (names : List (List ℕ)) (name : List ℕ) (r : Labelled) → role_at os name ≡ Some r → is_marked names name ≡ true → Has (takers_in os names) r
 taker_has os [] name r found kept = absurd (cc kept)
 taker_has os (n ∷ names) name r found kept = by_name (is_eq (slice_cmp nat_cmp name n)) refl (taker_has os names name r found) kept
   where
@@ -337,19 +345,19 @@ module _ (os : List (Key × Data)) (takers : List Taker) where
 
 -- ---- the aggregated cluster roles that changes leave
 
-learn_keeps : (t : Tracked) (c : PlainChange) → KeepsBoth t (learn t c)
+learn_keeps : (t : Tracked) (c : PlainChange) → KeepsAll t (learn t c)
 learn_keeps t c = by_case (rule_left c)
   where
-    by_case : (o : Option AggregationRule) → KeepsBoth t (learn_rule t c.key.name o)
-    by_case (Some rule) = (with_mark_keeps t.marks c.key.name, selectors_keep t.takers c.key.name rule.cluster_role_selectors)
-    by_case None = ((λ n h. h), (λ n h. h))
+    by_case : (o : Option AggregationRule) → KeepsAll t (learn_rule t c.key.name o)
+    by_case (Some rule) = (with_mark_keeps t.marks c.key.name, (selectors_keep t.takers c.key.name rule.cluster_role_selectors, (λ r h. h)))
+    by_case None = ((λ n h. h), ((λ n h. h), (λ r h. h)))
 
-pub learned_keeps : (t : Tracked) (cs : List PlainChange) → KeepsBoth t (learned t cs)
-learned_keeps t [] = ((λ n h. h), (λ n h. h))
+pub learned_keeps : (t : Tracked) (cs : List PlainChange) → KeepsAll t (learned t cs)
+learned_keeps t [] = ((λ n h. h), ((λ n h. h), (λ r h. h)))
 learned_keeps t (c ∷ cs) =
     let first = learn_keeps t c in
     let rest = learned_keeps (learn t c) cs in
-    ((λ n h. rest.0 n (first.0 n h)), (λ n h. rest.1 n (first.1 n h)))
+    ((λ n h. rest.0 n (first.0 n h)), ((λ n h. rest.1.0 n (first.1.0 n h)), (λ r h. rest.1.1 r (first.1.1 r h))))
 
 -- the name is marked, and known by each of some selectors
 abbrev pub IsBoth : Tracked → List ℕ → List Selector → Type 0
@@ -358,9 +366,9 @@ IsBoth t name ss = (is_marked t.marks name ≡ true) × AllByRecursion (λ s. is
 learns : (t : Tracked) (c : PlainChange) (rule : AggregationRule) → rule_left c ≡ Some rule → IsBoth (learn t c) c.key.name rule.cluster_role_selectors
 learns t c rule is = rw is (with_mark_marks t.marks c.key.name, selectors_known t.takers c.key.name rule.cluster_role_selectors)
 
-both_keep : (old new : Tracked) (name : List ℕ) (ss : List Selector) → KeepsBoth old new → IsBoth old name ss → IsBoth new name ss
+both_keep : (old new : Tracked) (name : List ℕ) (ss : List Selector) → KeepsAll old new → IsBoth old name ss → IsBoth new name ss
 both_keep old new name ss keeps both =
-    (keeps.0 name both.0, all_from (λ s. is_known new.takers (taker_of name s) ≡ true) ss (λ s has. keeps.1 (taker_of name s) (all_at (λ (q : Selector). is_known old.takers (taker_of name q) ≡ true) ss s both.1 has)))
+    (keeps.0 name both.0, all_from (λ s. is_known new.takers (taker_of name s) ≡ true) ss (λ s has. keeps.1.0 (taker_of name s) (all_at (λ (q : Selector). is_known old.takers (taker_of name q) ≡ true) ss s both.1 has)))
 
 pub learned_has : (t : Tracked) (cs : List PlainChange) (c : PlainChange) (rule : AggregationRule) → Has cs c → rule_left c ≡ Some rule → IsBoth (learned t cs) c.key.name rule.cluster_role_selectors
 learned_has t [] c rule has is = absurd has
@@ -368,9 +376,55 @@ learned_has t (d ∷ cs) c rule (inl same) is =
     both_keep (learn t d) (learned (learn t d) cs) c.key.name rule.cluster_role_selectors (learned_keeps (learn t d) cs) (rw same (learns t c rule is))
 learned_has t (d ∷ cs) c rule (inr has) is = learned_has (learn t d) cs c rule has is
 
+-- ---- what is known by its labels
+
+labels_keep_givers : (gs : List Taker) (name : List ℕ) (ls : List Label) → KeepsTakers gs (with_giver gs name ls)
+labels_keep_givers gs name ls = each_keeps label_text name gs ls
+
+-- one that is put in is known by its labels
+is_given : (gs : List Taker) (r : Labelled) → value_in (label_list r.labels) ≡ label_in r.labels → IsGiven (Some (with_giver gs r.name (label_list r.labels))) r
+is_given gs r kept l h =
+    each_known label_text r.name gs (label_list r.labels) l (label_there (label_list r.labels) l (ap (λ (f : List ℕ → Option (List ℕ)). is_text (f l.key) l.value) kept ∙ h))
+
+left_keeps : (gs : List Taker) (name : List ℕ) (d : Option Data) → KeepsTakers gs (with_left gs name d)
+left_keeps gs name None t h = h
+left_keeps gs name (Some tree) t h = labels_keep_givers gs name (labels_of tree) t h
+
+all_left_keep : (gs : List Taker) (cs : List PlainChange) → KeepsTakers gs (with_all_left gs cs)
+all_left_keep gs [] t h = h
+all_left_keep gs (c ∷ cs) t h = all_left_keep (with_left gs c.key.name c.new) cs t (left_keeps gs c.key.name c.new t h)
+
+pub after_keeps : (givers : Option (List Taker)) (cs : List PlainChange) → KeepsGivers givers (givers_after givers cs)
+after_keeps None cs r h = h
+after_keeps (Some gs) cs r h = λ l has. all_left_keep gs cs (giver_of r.name l) (h l has)
+
+left_given : (gs : List Taker) (cs : List PlainChange) (c : PlainChange) (x : Data) → Has cs c → c.new ≡ Some x → AreKept c.new → IsGiven (Some (with_all_left gs cs)) (labelled_at c.key.name x)
+left_given gs [] c x has puts kept = absurd has
+left_given gs (d ∷ cs) c x (inl same) puts kept = λ l h.
+    all_left_keep (with_left gs d.key.name d.new) cs (giver_of c.key.name l)
+    (rw (same, puts) (is_given gs (labelled_at c.key.name x) (subst AreKept puts kept) l h))
+left_given gs (d ∷ cs) c x (inr has) puts kept = left_given (with_left gs d.key.name d.new) cs c x has puts kept
+
+-- what a change leaves is known by its labels
+pub after_gives : (givers : Option (List Taker)) (cs : List PlainChange) (c : PlainChange) (x : Data) → Has cs c → c.new ≡ Some x → AreKept c.new → IsGiven (givers_after givers cs) (labelled_at c.key.name x)
+after_gives None cs c x has puts kept = tt
+after_gives (Some gs) cs c x has puts kept = left_given gs cs c x has puts kept
+
+-- each of some cluster roles is known by its labels
+pub roles_given : (gs : List Taker) (rs : List Labelled) (r : Labelled) → Has rs r → value_in (label_list r.labels) ≡ label_in r.labels
+    → IsGiven (Some (fold (λ hs q. with_giver hs q.name (label_list q.labels)) gs rs)) r
+roles_given gs [] r has kept = absurd has
+roles_given gs (q ∷ rs) r (inl same) kept = λ l h.
+    roles_keep (with_giver gs q.name (label_list q.labels)) rs (giver_of r.name l) (rw same (is_given gs r kept l h))
+  where
+    roles_keep : (hs : List Taker) (ps : List Labelled) → KeepsTakers hs (fold (λ us p. with_giver us p.name (label_list p.labels)) hs ps)
+    roles_keep hs [] t h = h
+    roles_keep hs (p ∷ ps) t h = roles_keep (with_giver hs p.name (label_list p.labels)) ps t (labels_keep_givers hs p.name (label_list p.labels) t h)
+roles_given gs (q ∷ rs) r (inr has) kept = roles_given (with_giver gs q.name (label_list q.labels)) rs r has kept
+
 -- a note keeps what is there
-pub noted_keeps : (os : List (Key × Data)) (t : Tracked) (cs : List PlainChange) → KeepsBoth t (noted os t cs)
+pub noted_keeps : (os : List (Key × Data)) (t : Tracked) (cs : List PlainChange) → KeepsAll t (noted os t cs)
 unfolding noted
 noted_keeps os t cs =
     let after = learned_keeps t cs in
-    ((λ n h. all_keep os (learned t cs).takers (learned t cs).marks cs n (after.0 n h)), after.1)
+    ((λ n h. all_keep os (learned t cs).takers (learned t cs).marks cs n (after.0 n h)), (after.1.0, (λ r h. after_keeps (learned t cs).givers cs r (after.1.1 r h))))

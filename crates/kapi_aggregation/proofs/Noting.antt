@@ -31,15 +31,15 @@ use Rattle.kapi_aggregation.specs.Rewriting.{role_key}
 use Rattle.kapi_aggregation.specs.Roles.{Labelled, is_aggregated, is_cluster_role, labelled_at, labelled_tree, labels_in, roles_in, selectors_in, selectors_of, takes_from}
 use Rattle.kapi_aggregation.specs.Unions.{is_meant, rules_meant, same_rules, union_for, with_rule}
 use Rattle.kapi_aggregation.specs.Turns.{differs}
-use Rattle.kapi_aggregation.specs.Marks.{Covers, IsCovered, IsKnown, KeepsBoth, Tracked, is_known, is_marked, learned, mark_all, noted, role_at, rule_left, taker_of}
+use Rattle.kapi_aggregation.specs.Marks.{Covers, IsCovered, IsGiven, IsKnown, KeepsAll, Tracked, givers_after, is_known, is_marked, learned, mark_all, noted, role_at, rule_left, taker_of}
 use Rattle.kapi_aggregation.proofs.Lists.{all_at, all_from, filter_mapped, filter_twice, has_kept, has_mapped, kept_of, mapped_of, none_at, same_text, then_false}
 use Rattle.kapi_aggregation.specs.Members.{Has}
-use Rattle.kapi_aggregation.proofs.Marking.{AreKept, all_keep, all_mark, is_moved, learned_has, learned_keeps, still_known, takes_object}
+use Rattle.kapi_aggregation.proofs.Marking.{AreKept, after_gives, after_keeps, all_keep, all_mark, is_moved, learned_has, learned_keeps, still_known, takes_object}
 use Rattle.kapi_aggregation.proofs.Placed.{key_is, placed_all_filter, placed_all_has}
 use Rattle.kapi_aggregation.proofs.Read.{empty_is, keys_of_trees}
 
 -- lists that are made alike of each item are the same
-flat_map_alike : {X Y : Type 0} (f g : X → List Y) (xs : List X) → ((x : X) → Has xs x → f x ≡ g x) → flat_map f xs ≡ flat_map g xs
+pub flat_map_alike : {X Y : Type 0} (f g : X → List Y) (xs : List X) → ((x : X) → Has xs x → f x ≡ g x) → flat_map f xs ≡ flat_map g xs
 flat_map_alike f g [] same = refl
 flat_map_alike f g (x ∷ xs) same = rw (same x (inl refl), flat_map_alike f g xs (λ y has. same y (inr has))) refl
 
@@ -161,7 +161,7 @@ module _ (os : List (Key × Data)) (cs : List PlainChange) (sorted : IsStrictlyS
       covered = all_at (IsCovered t (roles_in os)) (roles_in os) (labelled_tree e) covers (has_mapped labelled_tree (filter (λ e. is_cluster_role e.0) os) e (has_kept (λ (e : Key × Data). is_cluster_role e.0) os e there is))
 
       known : IsKnown (learned t cs).takers (labelled_tree e)
-      known = still_known t.takers (learned t cs).takers (labelled_tree e) (learned_keeps t cs).1 covered.0
+      known = still_known t.takers (learned t cs).takers (labelled_tree e) (learned_keeps t cs).1.0 covered.0.0
 
       marked : (b : Bool) → list_any (is_moved os (labelled_tree e)) cs ≡ b → differs (roles_in after) (labelled_tree e) ≡ true
           → is_marked (mark_all os (learned t cs).takers (learned t cs).marks cs) e.0.name ≡ true
@@ -172,7 +172,7 @@ module _ (os : List (Key × Data)) (cs : List PlainChange) (sorted : IsStrictlyS
 
       stood : IsCovered (noted os t cs) (roles_in after) (labelled_tree e)
       unfolding noted
-      stood = (known, marked (list_any (is_moved os (labelled_tree e)) cs) refl)
+      stood = ((known, after_keeps (learned t cs).givers cs (labelled_tree e) ((learned_keeps t cs).1.1 (labelled_tree e) covered.0.1)), marked (list_any (is_moved os (labelled_tree e)) cs) refl)
 
     leaves_rule : (c : PlainChange) (x : Data) (rule : AggregationRule) → c.new ≡ Some x → is_cluster_role c.key ≡ true → (cluster_role_of x).aggregation_rule ≡ Some rule → rule_left c ≡ Some rule
     leaves_rule c x rule puts is has = rw (is, puts) has
@@ -182,11 +182,14 @@ module _ (os : List (Key × Data)) (cs : List PlainChange) (sorted : IsStrictlyS
     unfolding noted
     left c x there puts is = by_rule (cluster_role_of x).aggregation_rule refl
       where
+        given : IsGiven (givers_after (learned t cs).givers cs) (labelled_at c.key.name x)
+        given = after_gives (learned t cs).givers cs c x there puts (all_at (λ (d : PlainChange). AreKept (lookup (is_key d.key) os) × AreKept d.new) cs c kept there).1
+
         by_rule : (o : Option AggregationRule) → (cluster_role_of x).aggregation_rule ≡ o → IsCovered (noted os t cs) (roles_in after) (labelled_at c.key.name x)
-        by_rule None none = (subst (λ o. AllByRecursion (λ s. is_known (learned t cs).takers (taker_of c.key.name s) ≡ true) (selectors_in o)) (sym none) tt, λ d. absurd (let never : is_some (cluster_role_of x).aggregation_rule ≡ false = ap is_some none in cc (never, (and_parts (is_aggregated (labelled_at c.key.name x)) _ d).0)))
+        by_rule None none = ((subst (λ o. AllByRecursion (λ s. is_known (learned t cs).takers (taker_of c.key.name s) ≡ true) (selectors_in o)) (sym none) tt, given), λ d. absurd (let never : is_some (cluster_role_of x).aggregation_rule ≡ false = ap is_some none in cc (never, (and_parts (is_aggregated (labelled_at c.key.name x)) _ d).0)))
         by_rule (Some rule) some =
             let both = learned_has t cs c rule there (leaves_rule c x rule puts is some) in
-            (subst (λ o. AllByRecursion (λ s. is_known (learned t cs).takers (taker_of c.key.name s) ≡ true) (selectors_in o)) (sym some) both.1, λ d. all_keep os (learned t cs).takers (learned t cs).marks cs c.key.name both.0)
+            ((subst (λ o. AllByRecursion (λ s. is_known (learned t cs).takers (taker_of c.key.name s) ≡ true) (selectors_in o)) (sym some) both.1, given), λ d. all_keep os (learned t cs).takers (learned t cs).marks cs c.key.name both.0)
 
     Covered : Labelled → Type 0
     Covered r = IsCovered (noted os t cs) (roles_in after) r
@@ -243,7 +246,7 @@ note_covers s cs old new is made covers =
     rw made (covers_noted (plain_of s).objects (map plain_change cs) (rw (keys_of_trees (objects s)) is.ordered) (kept_all s cs) old covers)
 
 -- what is more covers as well
-pub keeps_covers : (old new : Tracked) (roles : List Labelled) → KeepsBoth old new → Covers old roles → Covers new roles
+pub keeps_covers : (old new : Tracked) (roles : List Labelled) → KeepsAll old new → Covers old roles → Covers new roles
 keeps_covers old new roles keeps covers =
     all_from (IsCovered new roles) roles
-    (λ r has. let covered = all_at (IsCovered old roles) roles r covers has in (still_known old.takers new.takers r keeps.1 covered.0, (λ d. keeps.0 r.name (covered.1 d))))
+    (λ r has. let covered = all_at (IsCovered old roles) roles r covers has in ((still_known old.takers new.takers r keeps.1.0 covered.0.0, keeps.1.1 r covered.0.1), (λ d. keeps.0 r.name (covered.1 d))))

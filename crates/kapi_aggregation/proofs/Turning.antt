@@ -17,10 +17,9 @@ use Rattle.kapi_store.specs.declared.key.Key.{Key}
 use Rattle.kapi_aggregation.specs.Rewriting.{role_key}
 use Rattle.kapi_aggregation.specs.Roles.{IsInNameOrder, Labelled, is_cluster_role, labelled_at, labelled_tree, names_of, roles_in}
 use Rattle.kapi_aggregation.specs.Turns.{differs, first_some, next, turn_at, turn_of}
-use Rattle.kapi_aggregation.specs.Marks.{Covers, IsCovered, Tracked, all_takers, is_marked, left_by, marks_after, marks_from, role_at, turn_if_marked, turn_of_name}
+use Rattle.kapi_aggregation.specs.Marks.{Covers, IsCovered, Tracked, is_marked, left_by, marks_after, marks_from, role_at, turn_if_marked, turn_of_name}
 use Rattle.kapi_aggregation.specs.declared.turn.Turn.{Turn}
 use Rattle.kapi_aggregation.proofs.Lists.{all_at, all_from, has_kept, has_mapped, itself, kept_of, mapped_of, same_text}
-use Rattle.kapi_aggregation.proofs.Marking.{roles_known}
 use Rattle.kapi_aggregation.proofs.Noting.{role_found}
 use Rattle.kapi_aggregation.proofs.Placed.{key_is}
 use Rattle.kapi_aggregation.proofs.Read.{keys_of_trees, read_order}
@@ -131,9 +130,9 @@ turn_covers t roles sorted covers turn is =
 
 -- what is kept after a turn covers the roles, as a call makes it
 pub next_covers : (old new : Tracked) (slice roles : List Labelled) (turn : Option Turn) → slice ≡ roles → IsInNameOrder roles
-    → turn ≡ first_some (turn_if_marked old.marks slice) slice → new.marks ≡ marks_after old.marks turn → new.takers ≡ old.takers → Covers old roles → Covers new roles
-next_covers old new slice roles turn same order is marks takers covers =
-    let left : new ≡ left_by old roles turn = λ i. record { marks = marks i; takers = takers i } in
+    → turn ≡ first_some (turn_if_marked old.marks slice) slice → new.marks ≡ marks_after old.marks turn → new.takers ≡ old.takers → new.givers ≡ old.givers → Covers old roles → Covers new roles
+next_covers old new slice roles turn same order is marks takers givers covers =
+    let left : new ≡ left_by old roles turn = λ i. record { marks = marks i; takers = takers i; givers = givers i } in
     rw left (turn_covers old roles order covers turn
     (is ∙ ap (λ (rs : List Labelled). first_some (turn_if_marked old.marks rs) rs) same ∙ found_where_covered old roles covers))
 
@@ -170,7 +169,7 @@ module _ (os : List (Key × Data)) (sorted : IsStrictlySortedBy key_cmp (keys_of
   abbrev roles : List Labelled
   roles = roles_in os
 
-  stored_role : (r : Labelled) → Has roles r → role_at os r.name ≡ Some r
+  pub stored_role : (r : Labelled) → Has roles r → role_at os r.name ≡ Some r
   stored_role r has =
       let from = mapped_of labelled_tree (filter (λ e. is_cluster_role e.0) os) r has in
       let entry = kept_of (λ (e : Key × Data). is_cluster_role e.0) os from.0 from.1.0 in
@@ -189,7 +188,7 @@ module _ (os : List (Key × Data)) (sorted : IsStrictlySortedBy key_cmp (keys_of
   role_place name = refl
 
   -- what stands at the place of a name is a role of that name
-  named_role : (name : List ℕ) (r : Labelled) → role_at os name ≡ Some r → (r.name ≡ name) × Has roles r
+  pub named_role : (name : List ℕ) (r : Labelled) → role_at os name ≡ Some r → (r.name ≡ name) × Has roles r
   named_role name r found = by_tree (lookup (is_key (role_key name)) os) refl found
     where
       by_tree : (o : Option Data) → lookup (is_key (role_key name)) os ≡ o → option_map (labelled_at name) o ≡ Some r → (r.name ≡ name) × Has roles r
@@ -256,17 +255,3 @@ marks_next s t is up covers =
     let os = (plain_of s).objects in
     marked_next os (rw (keys_of_trees (objects s)) is.ordered) t.marks up
     (λ r has d. (all_at (IsCovered t (roles_in os)) (roles_in os) r covers has).1 d) (read_order s (roles_in os) is refl)
-
--- what is kept after that turn covers them
-pub marks_cover : (s : State) (t new : Tracked) (turn : Option Turn) → IsStore s → IsStrictlySortedBy (slice_cmp nat_cmp) t.marks → turn ≡ first_some (turn_of_name (plain_of s).objects) t.marks
-    → new.marks ≡ marks_after t.marks turn → new.takers ≡ t.takers → Covers t (roles_in (plain_of s).objects) → Covers new (roles_in (plain_of s).objects)
-marks_cover s t new turn is up found marks takers covers =
-    let rs = roles_in (plain_of s).objects in
-    let left : new ≡ left_by t rs turn = λ i. record { marks = marks i; takers = takers i } in
-    rw left (turn_covers t rs (read_order s rs is refl) covers turn (found ∙ marks_next s t is up covers))
-
--- takers that are read anew cover the roles that they are read of
-pub anew_covers : (old new : Tracked) (roles : List Labelled) → new.marks ≡ old.marks → new.takers ≡ all_takers roles → Covers old roles → Covers new roles
-anew_covers old new roles marks takers covers =
-    all_from (IsCovered new roles) roles
-    (λ r has. (rw takers (roles_known [] roles r has), λ d. rw marks ((all_at (IsCovered old roles) roles r covers has).1 d)))

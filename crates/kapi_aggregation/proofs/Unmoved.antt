@@ -1,5 +1,5 @@
 -- Changes of no cluster role leave the cluster roles as they are; where no role is aggregated, no names are enough.
-use Rattle.std.proofs.Common.{◌≡◌, ◌==◌, ℕ, List, [], ◌∷◌, Bool, true, false, not, ◌||◌, length, Option, None, Some, is_some, refl, sym, ap, ◌∙◌, map}
+use Rattle.std.proofs.Common.{◌≡◌, ◌==◌, ℕ, List, [], ◌∷◌, Bool, true, false, not, ◌||◌, length, Option, None, Some, is_some, refl, sym, ap, ◌∙◌, subst, map}
 use Rattle.std.proofs.Math.Dec.{eqb-suc-zero}
 use Rattle.std.specs.List.{AllByRecursion, list_any}
 use Rattle.std.proofs.lemmas.Bool.{and_parts}
@@ -12,7 +12,7 @@ use Rattle.kapi_store.specs.declared.key.Key.{Key}
 use Rattle.kapi_aggregation.specs.Roles.{Labelled, is_aggregated, is_cluster_role, labelled_tree, roles_in, selectors_in}
 use Rattle.kapi_aggregation.specs.Turns.{differs, first_some, next}
 use Rattle.kapi_aggregation.specs.Unions.{same_rules, union_for}
-use Rattle.kapi_aggregation.specs.Marks.{Covers, IsCovered, IsKnown, NoneAggregated, Tracked, is_known, taker_of, turn_if_marked}
+use Rattle.kapi_aggregation.specs.Marks.{Covers, IsCovered, IsGiven, IsKnown, NoneAggregated, Tracked, is_known, taker_of, turn_if_marked}
 use Rattle.kapi_aggregation.proofs.Lists.{all_at, all_from, mapped_of, none_at}
 use Rattle.kapi_aggregation.specs.Members.{Has}
 use Rattle.kapi_aggregation.proofs.Placed.{placed_all_filter}
@@ -67,8 +67,8 @@ none_known t r none = by_rule r.role.aggregation_rule none
     by_rule None h = tt
     by_rule (Some rule) h = absurd (cc h)
 
--- where no role is aggregated, any names cover the cluster roles
-pub none_covered : (t : Tracked) (roles : List Labelled) → NoneAggregated roles → Covers t roles
-none_covered t roles none =
+-- where no role is aggregated, any names cover the cluster roles if no givers are known
+pub none_covered : (t : Tracked) (roles : List Labelled) → t.givers ≡ None → NoneAggregated roles → Covers t roles
+none_covered t roles unknown none =
     all_from (IsCovered t roles) roles
-    (λ r has. let fails = all_at (λ (q : Labelled). is_aggregated q ≡ false) roles r none has in (none_known t r fails, (λ d. absurd (none_differ roles r fails d))))
+    (λ r has. let fails = all_at (λ (q : Labelled). is_aggregated q ≡ false) roles r none has in ((none_known t r fails, subst (λ g. IsGiven g r) (sym unknown) tt), (λ d. absurd (none_differ roles r fails d))))

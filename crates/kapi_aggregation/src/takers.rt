@@ -1,20 +1,21 @@
 //! Which aggregated cluster roles may take rules from an object, by its labels.
 ghost use Rattle.std.specs.Prelude.{◌≡◌, ◌++◌, [], ◌∷◌, IfOk, OnErr, OnOk, map};
 ghost use Rattle.std.specs.BTreeSet.{insert_key};
+ghost use Rattle.kapi_store.specs.Plain.{plain_change};
 ghost use Rattle.kapi_store.specs.Stored.{stored_tree};
 ghost use Rattle.kapi_store.specs.Told.{labels_of};
-ghost use Rattle.kapi_aggregation.specs.Marks.{Keeps, KeepsTakers, all_takers, end_at, first_text, label_text as label_text_of, names_for as names_for_labels, start_at, taker_cmp, with_mark, with_names_at, with_takers};
+ghost use Rattle.kapi_aggregation.specs.Marks.{Keeps, KeepsTakers, all_givers, all_takers, end_at, first_text, label_text as label_text_of, names_for as names_for_labels, start_at, taker_cmp, with_all_left, with_giver, with_mark, with_names_at, with_takers};
 ghost use Rattle.kapi_aggregation.specs.Views.{labelled};
 
 use crate::roles::NamedRole;
 use kapi_model::{Label, Selector};
-use kapi_store::StoredObject;
+use kapi_store::{Change, StoredObject};
 use kapi_text::{Memory, Text, TryCopy};
 use std::alloc::Global;
 use std::collections::BTreeSet;
 
-/// An aggregated cluster role, at the label that one of its selectors lists first; the label is empty where the selector
-/// lists none.
+/// A cluster role at a label: one that takes rules, at the label that one of its selectors lists first, or at an empty one
+/// where the selector lists none; or one that gives rules, at a label that it has.
 #[derive(Debug, PartialEq, Eq, PartialOrd, Ord, Drop)]
 pub struct Taker {
     pub label: Text,
@@ -96,6 +97,66 @@ pub(crate) fn takers_of(alloc: Global, roles: &[NamedRole<'_>]) -> Result<BTreeS
     Ok(takers)
 }
 
+/// Puts in an object for one of its labels.
+fn put_label(
+    alloc: Global,
+    givers: &mut BTreeSet<Taker>,
+    name: &Text,
+    label: &Label,
+) -> Result<(), Memory>
+    ensures put { OnOk result (givers.new.keys ≡ with_giver givers.old.keys name.now (label.now ∷ [])) }
+    ensures kept { KeepsTakers givers.old.keys givers.new.keys }
+{
+    let label = label_text(alloc, label)?;
+    let name = name.copy(alloc)?;
+    givers.insert(Taker { label, name })?;
+    Ok(())
+}
+
+/// Puts in an object for each of its labels.
+fn put_labels(
+    alloc: Global,
+    givers: &mut BTreeSet<Taker>,
+    name: &Text,
+    object: &StoredObject,
+) -> Result<(), Memory>
+    ensures put { OnOk result (givers.new.keys ≡ with_giver givers.old.keys name.now (labels_of (stored_tree object.now))) }
+    ensures kept { KeepsTakers givers.old.keys givers.new.keys }
+{
+    for label in object.label_list() {
+        put_label(alloc, givers, name, label)?;
+    }
+    Ok(())
+}
+
+/// Puts in what the changes leave, for each of its labels.
+pub(crate) fn put_left(
+    alloc: Global,
+    givers: &mut BTreeSet<Taker>,
+    changes: &[Change],
+) -> Result<(), Memory>
+    ensures put { OnOk result (givers.new.keys ≡ with_all_left givers.old.keys (map plain_change changes.now)) }
+    ensures kept { KeepsTakers givers.old.keys givers.new.keys }
+{
+    for change in changes {
+        if let Some(object) = &change.new {
+            put_labels(alloc, givers, &change.key.name, object.get())?;
+        }
+    }
+    Ok(())
+}
+
+/// Some cluster roles, by their labels.
+pub(crate) fn givers_of(alloc: Global, roles: &[NamedRole<'_>]) -> Result<BTreeSet<Taker>, Memory>
+    ensures { IfOk result (λ s. s.keys ≡ all_givers (map labelled roles.now)) }
+{
+    let mut givers = BTreeSet::new(alloc);
+    for role in roles {
+        put_labels(alloc, &mut givers, role.name, role.object)?;
+    }
+    Ok(givers)
+}
+
 /// Where the cluster roles at a label begin.
 fn start(alloc: Global, label: &str) -> Result<Taker, Memory>
     ensures { IfOk result (λ t. t ≡ start_at label.now) }
@@ -132,6 +193,20 @@ fn put_names_at(
         put_name(alloc, names, &taker.name)?;
     }
     Ok(())
+}
+
+/// The names of the cluster roles at a label.
+pub(crate) fn names_at(
+    alloc: Global,
+    givers: &BTreeSet<Taker>,
+    label: &Label,
+) -> Result<BTreeSet<Text>, Memory>
+    ensures { IfOk result (λ s. s.keys ≡ with_names_at givers.now.keys [] (label_text_of label.now)) }
+{
+    let mut names = BTreeSet::new(alloc);
+    let label = label_text(alloc, label)?;
+    put_names_at(alloc, &mut names, givers, label.as_str())?;
+    Ok(names)
 }
 
 /// The names of the cluster roles that may take rules from the object: those with a selector that lists a label of the

@@ -5,12 +5,12 @@ ghost use Rattle.std.specs.List.{list_any};
 ghost use Rattle.std.specs.Ordering.{is_le, nat_cmp};
 ghost use Rattle.kapi_store.specs.Stored.{stored_tree};
 ghost use Rattle.kapi_store.specs.Plain.{plain_change, plain_of};
-ghost use Rattle.kapi_aggregation.specs.Marks.{Keeps, mark_all, mark_change, mark_changed, mark_object, mark_takers, marks_from, rule_left, turn_of_name};
+ghost use Rattle.kapi_aggregation.specs.Marks.{Keeps, mark_all, mark_change, mark_changed, mark_object, keys_if, mark_takers, marks_from, rule_left, turn_given};
 ghost use Rattle.kapi_aggregation.specs.Roles.{is_cluster_role as is_cluster_role_key, labels_in, takes_from as takes_from_labels};
 ghost use Rattle.kapi_aggregation.specs.Views.{labelled};
 
 use crate::roles::{ClusterRoles, NamedRole, is_cluster_role, role_named, roles_named};
-use crate::takers::{Taker, names_for, put_name, put_selectors, takers_of};
+use crate::takers::{Taker, givers_of, names_for, put_left, put_name, put_selectors, takers_of};
 use crate::turn::{Turn, turn_at, turn_in};
 use kapi_model::AggregationRule;
 use kapi_store::{Change, Store, StoredObject};
@@ -18,8 +18,9 @@ use kapi_text::{Memory, Text};
 use std::alloc::Global;
 use std::collections::BTreeSet;
 use std::marker::Model;
+use std::mem::replace;
 
-/// So many takers are kept at least before those that were are forgotten.
+/// So many takers and givers are kept at least before those that were are forgotten.
 const ROOM: usize = 64;
 
 /// The names of the cluster roles that may differ from their unions, and of those that take rules from others.
@@ -29,16 +30,18 @@ pub struct Tracker {
     marks: BTreeSet<Text>,
     /// The aggregated cluster roles by the labels that they ask for, and maybe some that were.
     takers: BTreeSet<Taker>,
-    /// With more takers than this those that were are forgotten.
+    /// The cluster roles by the labels that they have, and maybe some that were; none before the first turn.
+    givers: Option<BTreeSet<Taker>>,
+    /// With more takers and givers than this those that were are forgotten.
     room: usize,
 }
 
 impl Model for Tracker {
-    ghost use Rattle.kapi_aggregation.specs.Marks.{Tracked};
+    ghost use Rattle.kapi_aggregation.specs.Marks.{Tracked, keys_if};
 
     ghost Value = { Tracked };
 
-    ghost view = { λ t. record { marks = t.marks.keys; takers = t.takers.keys } };
+    ghost view = { λ t. record { marks = t.marks.keys; takers = t.takers.keys; givers = keys_if t.givers } };
 }
 
 /// Whether the role takes rules from the object, by its labels.
@@ -185,12 +188,17 @@ fn mark_by_changes(
     Ok(())
 }
 
-/// What the cluster role of the name is to become, where it is there and differs from its union.
-fn turn_named(alloc: Global, store: &Store, name: &Text) -> Result<Option<Turn>, Memory>
-    ensures { IfOk result (λ t. t ≡ turn_of_name (plain_of store.now).objects name.now) }
+/// What the cluster role of the name is to become, where it is there and differs from its union by the givers.
+fn turn_named(
+    alloc: Global,
+    store: &Store,
+    givers: &Option<BTreeSet<Taker>>,
+    name: &Text,
+) -> Result<Option<Turn>, Memory>
+    ensures { IfOk result (λ t. t ≡ turn_given (plain_of store.now).objects (keys_if givers.now) name.now) }
 {
     match role_named(alloc, store, name)? {
-        Some(role) => turn_in(alloc, store, &role),
+        Some(role) => turn_in(alloc, store, givers, &role),
         None => Ok(None),
     }
 }
@@ -204,7 +212,7 @@ impl Tracker {
     ghost use Rattle.kapi_store.specs.Plain.{plain_change, plain_of, trees_left_by};
     ghost use Rattle.kapi_aggregation.specs.Roles.{Labelled, roles_in};
     ghost use Rattle.kapi_aggregation.specs.Turns.{first_some, next as next_of};
-    ghost use Rattle.kapi_aggregation.specs.Marks.{Covers, CoversAsMuch, KeepsBoth, NoneAggregated, learn, learned, left_by, marks_after, noted, turn_if_marked as turn_of_marked, turn_of_name};
+    ghost use Rattle.kapi_aggregation.specs.Marks.{Covers, CoversAsMuch, KeepsAll, NoneAggregated, learn, learned, left_by, marks_after, givers_after, noted, turn_given, turn_if_marked as turn_of_marked};
     ghost use Rattle.kapi_aggregation.specs.Lent.{roles_of};
     ghost use Rattle.kapi_aggregation.specs.Views.{labelled};
 
@@ -219,6 +227,7 @@ impl Tracker {
             alloc,
             marks: BTreeSet::new(alloc),
             takers: BTreeSet::new(alloc),
+            givers: None,
             room: ROOM,
         }
     }
@@ -246,16 +255,17 @@ impl Tracker {
     #[tactic(auto, unfolding(crate::specs::Marks::noted))]
     fn note(&mut self, store: &Store, changes: &[Change]) -> Result<(), Memory>
         ensures noted { OnOk result (self.new ≡ noted (plain_of store.now).objects self.old (map plain_change changes.now)) }
-        ensures kept { KeepsBoth self.old self.new }
+        ensures kept { KeepsAll self.old self.new }
     {
         self.learn_all(changes)?;
+        self.learn_labels(changes)?;
         mark_by_changes(self.alloc, &mut self.marks, &self.takers, store, changes)
     }
 
     /// Keeps and marks the aggregated cluster roles that the changes leave.
     fn learn_all(&mut self, changes: &[Change]) -> Result<(), Memory>
         ensures learned { OnOk result (self.new ≡ learned self.old (map plain_change changes.now)) }
-        ensures kept { KeepsBoth self.old self.new }
+        ensures kept { KeepsAll self.old self.new }
     {
         for change in changes {
             self.learn(change)?;
@@ -263,9 +273,20 @@ impl Tracker {
         Ok(())
     }
 
+    /// Keeps what the changes leave, by its labels, where givers are known.
+    fn learn_labels(&mut self, changes: &[Change]) -> Result<(), Memory>
+        ensures learned { OnOk result (self.new ≡ record self.old { givers = givers_after self.old.givers (map plain_change changes.now) }) }
+        ensures kept { KeepsAll self.old self.new }
+    {
+        match &mut self.givers {
+            Some(givers) => put_left(self.alloc, givers, changes),
+            None => Ok(()),
+        }
+    }
+
     fn learn(&mut self, change: &Change) -> Result<(), Memory>
         ensures learned { OnOk result (self.new ≡ learn self.old (plain_change change.now)) }
-        ensures kept { KeepsBoth self.old self.new }
+        ensures kept { KeepsAll self.old self.new }
     {
         let Some(rule) = left_rule(change) else {
             return Ok(());
@@ -298,7 +319,7 @@ impl Tracker {
 
     /// The next turn for the cluster roles of the store. Where no role is marked, nothing is read; else the marked ones
     /// are, in the order of their names, and what they take rules from.
-    #[tactic(auto, using(crate::proofs::Turning::marks_next))]
+    #[tactic(auto, using(crate::proofs::Giving::given_next))]
     pub fn next_turn(&mut self, store: &Store) -> Result<Option<Turn>, Memory>
         ensures exact { IfOk result (λ t. Covers self.old (roles_in (plain_of store.now).objects) → t ≡ next_of (roles_in (plain_of store.now).objects)) }
         ensures covers { Covers self.old (roles_in (plain_of store.now).objects) → Covers self.new (roles_in (plain_of store.now).objects) }
@@ -307,36 +328,49 @@ impl Tracker {
             return Ok(None);
         }
         let _revision = store.revision();
-        self.forget_takers_that_were(store)?;
+        self.learn_anew(store)?;
         let turn = self.first_in(store)?;
         self.keep_marks_after(&turn);
         Ok(turn)
     }
 
-    /// Keeps those takers alone that are aggregated, where many takers are kept. It is done once in so many writes that the walk
-    /// over all cluster roles counts for nothing.
-    #[tactic(auto, using(crate::proofs::Turning::anew_covers))]
-    fn forget_takers_that_were(&mut self, store: &Store) -> Result<(), Memory>
+    /// Keeps those takers and givers alone that are there, where many are kept or givers are not known. It is done once in
+    /// so many writes that the walk over all cluster roles counts for nothing.
+    #[tactic(auto, using(crate::proofs::Giving::anew_covers))]
+    fn learn_anew(&mut self, store: &Store) -> Result<(), Memory>
         ensures marks { self.new.marks ≡ self.old.marks }
         ensures covers { Covers self.old (roles_in (plain_of store.now).objects) → Covers self.new (roles_in (plain_of store.now).objects) }
     {
-        if self.takers.len() <= self.room {
+        if !self.is_stale() {
             return Ok(());
         }
+        let _revision = store.revision();
         let roles = ClusterRoles::read(self.alloc, store)?;
-        self.takers = takers_of(self.alloc, roles.as_slice())?;
-        self.room = self.takers.len().saturating_mul(2).saturating_add(ROOM);
+        let takers = takers_of(self.alloc, roles.as_slice())?;
+        let givers = givers_of(self.alloc, roles.as_slice())?;
+        let count = takers.len().saturating_add(givers.len());
+        self.room = count.saturating_mul(2).saturating_add(ROOM);
+        self.takers = takers;
+        drop(replace(&mut self.givers, Some(givers)));
         Ok(())
+    }
+
+    /// Whether many takers and givers are kept, or givers are not known.
+    fn is_stale(&self) -> bool {
+        match &self.givers {
+            Some(givers) => self.takers.len().saturating_add(givers.len()) > self.room,
+            None => true,
+        }
     }
 
     /// What the first marked role that differs from its union is to become. Other roles are read for its union alone.
     fn first_in(&self, store: &Store) -> Result<Option<Turn>, Memory>
-        ensures first { IfOk result (λ t. t ≡ first_some (turn_of_name (plain_of store.now).objects) self.now.marks) }
+        ensures first { IfOk result (λ t. t ≡ first_some (turn_given (plain_of store.now).objects self.now.givers) self.now.marks) }
         ensures ordered { IsStrictlySortedBy (slice_cmp nat_cmp) self.now.marks }
     {
         let _count = self.marks.len();
         for name in &self.marks {
-            let turn = turn_named(self.alloc, store, name)?;
+            let turn = turn_named(self.alloc, store, &self.givers, name)?;
             if turn.is_some() {
                 return Ok(turn);
             }
@@ -382,6 +416,7 @@ impl Tracker {
     fn keep_marks_after(&mut self, turn: &Option<Turn>)
         ensures marks { self.new.marks ≡ marks_after self.old.marks turn.now }
         ensures takers { self.new.takers ≡ self.old.takers }
+        ensures givers { self.new.givers ≡ self.old.givers }
     {
         match turn {
             Some(turn) => drop_before(&mut self.marks, &turn.name),

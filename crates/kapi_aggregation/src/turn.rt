@@ -8,12 +8,13 @@ ghost use Rattle.kapi_store.specs.Plain.{plain_change, plain_of};
 ghost use Rattle.kapi_store.specs.State.{Fits};
 ghost use Rattle.kapi_text.specs.Gives.{Gives};
 ghost use Rattle.kapi_aggregation.specs.Rewriting.{rewriting, with_rules as with_rules_of};
-ghost use Rattle.kapi_aggregation.specs.Roles.{roles_in};
+ghost use Rattle.kapi_aggregation.specs.Marks.{keys_if, union_given};
 ghost use Rattle.kapi_aggregation.specs.Turns.{turn_at as turn_of, turn_to as turn_to_rules};
 ghost use Rattle.kapi_aggregation.specs.Views.{labelled};
 
 use crate::roles::{NamedRole, role_key};
 use crate::same::same_rules;
+use crate::takers::Taker;
 use crate::union::{union_for, union_in};
 use kapi_model::PolicyRule;
 use kapi_object::Object;
@@ -23,6 +24,7 @@ use kapi_store::{Ready, Store, StoreError, StoredObject};
 use kapi_text::{Memory, Sequence, Text, TryCopy};
 use serde_json::{Value, put};
 use std::alloc::Global;
+use std::collections::BTreeSet;
 
 /// The aggregated cluster role of the name is to have these rules in place of its own, which differ.
 #[derive(Debug, Drop)]
@@ -42,15 +44,16 @@ pub(crate) fn turn_at(
     turn_to(alloc, role, union_for(alloc, roles, role)?)
 }
 
-/// The same for a role of the store, of which those roles alone are read that its selectors match.
+/// The same for a role of the store, of which those roles alone are read that its selectors may match by the givers.
 pub(crate) fn turn_in(
     alloc: Global,
     store: &Store,
+    givers: &Option<BTreeSet<Taker>>,
     role: &NamedRole<'_>,
 ) -> Result<Option<Turn>, Memory>
-    ensures { IfOk result (λ t. t ≡ turn_of (roles_in (plain_of store.now).objects) (labelled role.now)) }
+    ensures { IfOk result (λ t. t ≡ turn_to_rules (labelled role.now) (union_given (plain_of store.now).objects (keys_if givers.now) (labelled role.now))) }
 {
-    turn_to(alloc, role, union_in(alloc, store, role)?)
+    turn_to(alloc, role, union_in(alloc, store, givers, role)?)
 }
 
 /// What an aggregated role is to become, where its rules are not these.

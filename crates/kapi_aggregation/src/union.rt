@@ -6,14 +6,17 @@ ghost use Rattle.kapi_store.specs.Plain.{plain_of};
 ghost use Rattle.kapi_aggregation.specs.Roles.{roles_in, selectors_of};
 ghost use Rattle.kapi_aggregation.specs.Unions.{is_meant as is_meant_by, rules_meant, union, union_for as union_for_role};
 ghost use Rattle.kapi_aggregation.specs.Lent.{roles_of};
+ghost use Rattle.kapi_aggregation.specs.Marks.{keys_if, rules_given, union_given};
 ghost use Rattle.kapi_aggregation.specs.Views.{labelled};
 
 use crate::found::each_once;
-use crate::roles::{ClusterRoles, NamedRole, roles_selected};
+use crate::roles::{ClusterRoles, NamedRole, roles_named, roles_selected};
+use crate::takers::{Taker, names_at};
 use kapi_model::{PolicyRule, Selector};
 use kapi_store::Store;
 use kapi_text::Memory;
 use std::alloc::Global;
+use std::collections::BTreeSet;
 
 /// The union of the cluster role of the name: the rules of the cluster roles that its selectors match, by the selectors
 /// in their order, then by name, without its own, each rule once, at its first place. It is empty where the role takes
@@ -51,27 +54,64 @@ pub(crate) fn union_for(
     each_once(alloc, meant(alloc, roles, role)?)
 }
 
-/// The union of a role of the store, of which those roles alone are read that the role's selectors match.
-#[tactic(auto, unfolding(crate::specs::Unions::union_for))]
+/// The union of a role of the store, from the roles that its selectors may match by the givers.
 pub(crate) fn union_in(
     alloc: Global,
     store: &Store,
+    givers: &Option<BTreeSet<Taker>>,
     role: &NamedRole<'_>,
 ) -> Result<Vec<PolicyRule>, Memory>
-    ensures { IfOk result (λ v. v.items ≡ union_for_role (roles_in (plain_of store.now).objects) (labelled role.now)) }
+    ensures { IfOk result (λ v. v.items ≡ union_given (plain_of store.now).objects (keys_if givers.now) (labelled role.now)) }
 {
-    each_once(alloc, meant_in(alloc, store, role)?)
+    each_once(alloc, meant_in(alloc, store, givers, role)?)
 }
 
 /// The rules of the roles of the store that the role's selectors match, by the selectors in their order.
-fn meant_in(alloc: Global, store: &Store, role: &NamedRole<'_>) -> Result<Vec<PolicyRule>, Memory>
-    ensures { IfOk result (λ v. v.items ≡ flat_map (rules_meant (roles_in (plain_of store.now).objects) (labelled role.now).name) (selectors_of (labelled role.now))) }
+fn meant_in(
+    alloc: Global,
+    store: &Store,
+    givers: &Option<BTreeSet<Taker>>,
+    role: &NamedRole<'_>,
+) -> Result<Vec<PolicyRule>, Memory>
+    ensures { IfOk result (λ v. v.items ≡ flat_map (rules_given (plain_of store.now).objects (keys_if givers.now) (labelled role.now).name) (selectors_of (labelled role.now))) }
 {
     let mut rules = Vec::new(alloc);
     for selector in role.selectors() {
-        add_selected(alloc, &mut rules, store, role.name.as_str(), selector)?;
+        add_given(
+            alloc,
+            &mut rules,
+            store,
+            givers,
+            role.name.as_str(),
+            selector,
+        )?;
     }
     Ok(rules)
+}
+
+/// Adds the rules of the roles of the store that the selector matches, but for the role of that name. Where the selector
+/// lists a label and the givers are known, those at the first label alone are read.
+fn add_given(
+    alloc: Global,
+    rules: &mut Vec<PolicyRule>,
+    store: &Store,
+    givers: &Option<BTreeSet<Taker>>,
+    name: &str,
+    selector: &Selector,
+) -> Result<(), Memory>
+    ensures { OnOk result (rules.new.items ≡ rules.old.items ++ rules_given (plain_of store.now).objects (keys_if givers.now) name.now selector.now) }
+{
+    match givers {
+        Some(givers) => match selector.match_labels.as_slice() {
+            [label, ..] => {
+                let names = names_at(alloc, givers, label)?;
+                let roles = roles_named(alloc, store, &names)?;
+                add_meant(alloc, rules, roles.as_slice(), name, selector)
+            }
+            [] => add_selected(alloc, rules, store, name, selector),
+        },
+        None => add_selected(alloc, rules, store, name, selector),
+    }
 }
 
 /// Adds the rules of the roles of the store that the selector matches, but for the role of that name.

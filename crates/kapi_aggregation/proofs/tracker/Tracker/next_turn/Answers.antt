@@ -1,5 +1,5 @@
 use Rattle.std.proofs.Common.{◌∙◌, sym}
-use Rattle.kapi_aggregation.proofs.Turning.{marks_cover}
+use Rattle.kapi_aggregation.proofs.Giving.{marks_cover}
 use Rattle.kapi_aggregation.proofs.Unmoved.{none_due}
 use Rattle.kapi_aggregation.proofs.tracker.Tracker.next_turn.Goals as goal
 
@@ -8,5 +8,5 @@ returns-then-not-has_marks-clause-exact c = none_due c.args.self.now _ (sym c.ha
 
 pub returns-clause-covers : goal.returns-clause-covers
 returns-clause-covers c = λ covers.
-    marks_cover c.args.store.now c.forget_takers_that_were.new.self c.keep_marks_after.new.self c.in_ok-turn.turn c.revision-revision.ensures.store c.in_ok-turn.ensures.ordered
-    c.in_ok-turn.ensures.first c.keep_marks_after.ensures.marks c.keep_marks_after.ensures.takers (c.in_ok-forget_takers_that_were.ensures.covers covers)
+    marks_cover c.args.store.now c.learn_anew.new.self c.keep_marks_after.new.self c.in_ok-turn.turn c.revision-revision.ensures.store c.in_ok-turn.ensures.ordered
+    c.in_ok-turn.ensures.first c.keep_marks_after.ensures.marks c.keep_marks_after.ensures.takers c.keep_marks_after.ensures.givers (c.in_ok-learn_anew.ensures.covers covers)
