@@ -4,3 +4,4 @@ pub mod Graphing
 pub mod Numbering
 pub mod Binding
 pub mod Asking
+pub mod Printing

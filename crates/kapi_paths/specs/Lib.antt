@@ -7,3 +7,5 @@ pub mod Numbers
 pub mod Graphs
 pub mod Asked
 pub mod Bound
+pub mod Gathered
+pub mod Printed

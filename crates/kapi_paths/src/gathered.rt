@@ -4,6 +4,7 @@ ghost use Rattle.std.specs.List.{flat_map};
 ghost use Rattle.kapi_policy.specs.Views.{binding_of};
 ghost use Rattle.kapi_paths.specs.Sources.{sources as sources_of, subjects_of};
 ghost use Rattle.kapi_paths.specs.Steps.{who_is as who_is_of};
+ghost use Rattle.kapi_paths.specs.Gathered as known;
 
 use crate::node::{Node, NodeKind, push_node};
 use crate::steps::Known;
@@ -56,82 +57,143 @@ pub fn sources(alloc: Global, bindings: &[Binding<'_>]) -> Result<Vec<Node>, Mem
 
 // ---- what is known
 
-#[derive(Drop)]
-struct Gathered {
-    namespaces: BTreeSet<Text>,
-    accounts: BTreeSet<NamespacedName>,
-    users: BTreeSet<Text>,
+fn push_account(
+    alloc: Global,
+    list: &mut Vec<NamespacedName>,
+    namespace: &str,
+    name: &str,
+) -> Result<(), Memory>
+    ensures { OnOk result (list.new.items ≡ list.old.items ++ known.account namespace.now name.now ∷ []) }
+{
+    let namespace = Text::copy_of(alloc, namespace)?;
+    let name = Text::copy_of(alloc, name)?;
+    list.push(NamespacedName { namespace, name })?;
+    Ok(())
 }
 
-impl Gathered {
-    fn add_account(&mut self, alloc: Global, namespace: &str, name: &str) -> Result<(), Memory> {
-        self.namespaces.insert(Text::copy_of(alloc, namespace)?)?;
-        let namespace = Text::copy_of(alloc, namespace)?;
-        let name = Text::copy_of(alloc, name)?;
-        self.accounts.insert(NamespacedName { namespace, name })?;
-        Ok(())
+fn push_default(
+    alloc: Global,
+    list: &mut Vec<NamespacedName>,
+    namespace: &str,
+) -> Result<(), Memory>
+    ensures { OnOk result (list.new.items ≡ list.old.items ++ known.default_in namespace.now) }
+{
+    if namespace.is_empty() {
+        return Ok(());
     }
-
-    fn add_subject(
-        &mut self,
-        alloc: Global,
-        namespace: &str,
-        subject: &Subject,
-    ) -> Result<(), Memory> {
-        match subject {
-            Subject::User(name) => {
-                if !name.as_str().starts_with("system:serviceaccount:") {
-                    self.users.insert(name.copy(alloc)?)?;
-                }
-                Ok(())
-            }
-            Subject::Group(_) => Ok(()),
-            Subject::ServiceAccount(account) => {
-                let place = account_namespace(account, namespace);
-                self.add_account(alloc, place, account.name.as_str())
-            }
-        }
-    }
-
-    fn add(&mut self, alloc: Global, binding: &Binding<'_>) -> Result<(), Memory> {
-        if !binding.namespace.is_empty() {
-            self.add_account(alloc, binding.namespace, "default")?;
-        }
-        for subject in binding.subjects {
-            self.add_subject(alloc, binding.namespace, subject)?;
-        }
-        Ok(())
-    }
+    push_account(alloc, list, namespace, "default")
 }
 
-fn texts(alloc: Global, set: &BTreeSet<Text>) -> Result<Sequence<Text>, Memory> {
+// The accounts that a cluster has, and that the namespaces of bindings have.
+fn defaults(alloc: Global, bindings: &[Binding<'_>]) -> Result<Vec<NamespacedName>, Memory>
+    ensures { IfOk result (λ v. v.items ≡ known.defaults (map binding_of bindings.now)) }
+{
     let mut list = Vec::new(alloc);
-    for text in set {
-        list.push(text.copy(alloc)?)?;
+    push_default(alloc, &mut list, "default")?;
+    push_default(alloc, &mut list, "kube-system")?;
+    for binding in bindings {
+        push_default(alloc, &mut list, binding.namespace)?;
     }
-    Ok(Sequence::new(list))
+    Ok(list)
+}
+
+fn push_known_account(
+    alloc: Global,
+    list: &mut Vec<NamespacedName>,
+    node: &Node,
+) -> Result<(), Memory>
+    ensures { OnOk result (list.new.items ≡ list.old.items ++ known.account_named node.now.kind node.now.place node.now.name) }
+{
+    match node.kind {
+        NodeKind::Account => push_account(alloc, list, node.place.as_str(), node.name.as_str()),
+        _ => Ok(()),
+    }
+}
+
+#[tactic(auto, unfolding(crate::specs::Gathered::is_account))]
+fn is_account(name: &str) -> bool
+    ensures { result ≡ known.is_account name.now }
+{
+    name.as_bytes().starts_with(b"system:serviceaccount:")
+}
+
+// A user, unless it is an account by its name.
+fn push_user(alloc: Global, list: &mut Vec<Text>, name: &Text) -> Result<(), Memory>
+    ensures { OnOk result (list.new.items ≡ list.old.items ++ known.user_named NodeKind.User name.now) }
+{
+    if is_account(name.as_str()) {
+        return Ok(());
+    }
+    list.push(name.copy(alloc)?)?;
+    Ok(())
+}
+
+fn push_known_user(alloc: Global, list: &mut Vec<Text>, node: &Node) -> Result<(), Memory>
+    ensures { OnOk result (list.new.items ≡ list.old.items ++ known.user_named node.now.kind node.now.name) }
+{
+    match node.kind {
+        NodeKind::User => push_user(alloc, list, &node.name),
+        _ => Ok(()),
+    }
+}
+
+fn accounts(
+    alloc: Global,
+    bindings: &[Binding<'_>],
+    subjects: &[Node],
+) -> Result<Vec<NamespacedName>, Memory>
+    requires { subjects.now ≡ sources_of (map binding_of bindings.now) }
+    ensures { IfOk result (λ v. v.items ≡ known.accounts (map binding_of bindings.now)) }
+{
+    let mut list = defaults(alloc, bindings)?;
+    for node in subjects {
+        push_known_account(alloc, &mut list, node)?;
+    }
+    Ok(list)
+}
+
+fn users(alloc: Global, subjects: &[Node]) -> Result<Vec<Text>, Memory>
+    ensures { IfOk result (λ v. v.items ≡ flat_map (λ n. known.user_named n.kind n.name) subjects.now) }
+{
+    let mut list = Vec::new(alloc);
+    for node in subjects {
+        push_known_user(alloc, &mut list, node)?;
+    }
+    Ok(list)
+}
+
+fn namespaces(alloc: Global, accounts: &[NamespacedName]) -> Result<Vec<Text>, Memory>
+    ensures { IfOk result (λ v. v.items ≡ map (λ a. a.namespace) accounts.now) }
+{
+    let mut list = Vec::new(alloc);
+    for account in accounts {
+        list.push(account.namespace.copy(alloc)?)?;
+    }
+    Ok(list)
+}
+
+// The items in their order, each once.
+fn in_order<T: Ord + Drop>(alloc: Global, list: Vec<T>) -> Result<Sequence<T>, Memory>
+    ensures { IfOk result (λ s. s ≡ known.in_order T.cmp list.items) }
+{
+    let mut set = BTreeSet::new(alloc);
+    for item in list {
+        set.insert(item)?;
+    }
+    Ok(Sequence::new(set.into_iter().collect(alloc)?))
 }
 
 /// The namespaces, accounts and users that the bindings name, with the account `default` of each namespace, and the namespaces
 /// `default` and `kube-system`.
-pub fn known_of(alloc: Global, bindings: &[Binding<'_>]) -> Result<Known, Memory> {
-    let mut gathered = Gathered {
-        namespaces: BTreeSet::new(alloc),
-        accounts: BTreeSet::new(alloc),
-        users: BTreeSet::new(alloc),
-    };
-    gathered.add_account(alloc, "default", "default")?;
-    gathered.add_account(alloc, "kube-system", "default")?;
-    for binding in bindings {
-        gathered.add(alloc, binding)?;
-    }
-    let mut accounts = Vec::new(alloc);
-    for account in &gathered.accounts {
-        accounts.push(account.copy(alloc)?)?;
-    }
+#[tactic(auto, unfolding(crate::specs::Gathered::known_of))]
+pub fn known_of(alloc: Global, bindings: &[Binding<'_>]) -> Result<Known, Memory>
+    ensures { IfOk result (λ k. k ≡ known.known_of (map binding_of bindings.now)) }
+{
+    let subjects = sources(alloc, bindings)?;
+    let accounts = accounts(alloc, bindings, subjects.as_slice())?;
     Ok(Known {
-        namespaces: texts(alloc, &gathered.namespaces)?,
-        accounts: Sequence::new(accounts),
-        users: texts(alloc, &gathered.users)?,
+        namespaces: in_order(alloc, namespaces(alloc, accounts.as_slice())?)?,
+        accounts: in_order(alloc, accounts)?,
+        users: in_order(alloc, users(alloc, subjects.as_slice())?)?,
     })
 }

@@ -7,16 +7,16 @@ mod graph;
 pub mod laws;
 mod node;
 mod path;
+mod printed;
 mod right;
 mod search;
 mod steps;
-mod told;
 
 pub use bound::Bound;
 pub use gathered::known_of;
 pub use node::{Node, NodeKind};
 pub use path::{Path, paths};
+pub use printed::answer_paths;
 pub use right::{Leads, Names, Right, is_kind, rights_without};
 pub use search::Search;
 pub use steps::{Known, Question, next};
-pub use told::answer_paths;

@@ -28,7 +28,8 @@ pub struct Path {
     pub nodes: Sequence<Node>,
 }
 
-fn is_listed(kind: NodeKind) -> bool
+/// Whether the kind is listed: all but roles.
+pub fn is_listed(kind: NodeKind) -> bool
     ensures { result ≡ graphs.is_listed kind }
 {
     match kind {
