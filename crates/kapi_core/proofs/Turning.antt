@@ -1,10 +1,12 @@
 -- A turn of the running machine is that of the model.
-use Rattle.std.proofs.Common.{◌≡◌, ℕ, false, List, [], Option, None, Some, Result, Ok, Err, refl, sym, ap, ◌∙◌, subst, Bool}
+use Rattle.std.proofs.Common.{arith, ◌≡◌, ◌==◌, ℕ, true, false, not, length, List, [], ◌∷◌, Option, None, Some, Result, Ok, Err, refl, sym, ap, ◌∙◌, subst, Bool}
 use Rattle.std.specs.declared.alloc.AllocError.{AllocError}
-use Rattle.kapi_aggregation.specs.Marks.{Covers, Tracked}
+use Rattle.std.proofs.lemmas.Bool.{eqb-true}
+use Rattle.kapi_aggregation.specs.Marks.{Covers, Tracked, turn_if_marked}
 use Rattle.kapi_aggregation.specs.Rewriting.{rewriting}
 use Rattle.kapi_aggregation.specs.Roles.{Labelled, roles_in}
-use Rattle.kapi_aggregation.specs.Turns.{next}
+use Rattle.kapi_aggregation.specs.Turns.{first_some, next}
+use Rattle.kapi_aggregation.proofs.Turning.{found_where_covered, none_unmarked}
 use Rattle.kapi_aggregation.specs.declared.turn.Turn.{Turn}
 use Rattle.kapi_store.specs.Faults.{StoreFault}
 use Rattle.kapi_store.specs.Plain.{Plain, PlainChange, plain_of}
@@ -45,6 +47,20 @@ IsDue s ms due = Covers ms (roles_at s) → due ≡ next (roles_at s)
 -- marks that cover the cluster roles of the store, if the others do
 abbrev pub StillCovers : State → Tracked → Tracked → Type 0
 StillCovers s ms ns = Covers ms (roles_at s) → Covers ns (roles_at s)
+
+no_marks : {X : Type 0} (xs : List X) → length xs ≡ 0 → xs ≡ []
+no_marks [] none = refl
+no_marks (x ∷ xs) none = absurd (omega (arith, none))
+
+twice_not : (b : Bool) → not (not b) ≡ true → b ≡ true
+twice_not true h = refl
+twice_not false h = h
+
+-- without a mark no turn is due
+pub unmarked_due : (s : State) (ms : Tracked) → not (not (length ms.marks == 0)) ≡ true → IsDue s ms None
+unmarked_due s ms none v =
+    let empty : ms.marks ≡ [] = no_marks ms.marks (eqb-true (length ms.marks) 0 (twice_not (length ms.marks == 0) none)) in
+    sym (none_unmarked (roles_at s) (roles_at s)) ∙ ap (λ marks. first_some (turn_if_marked marks (roles_at s)) (roles_at s)) (sym empty) ∙ found_where_covered ms (roles_at s) v
 
 -- no turn is due
 not_turned : (s : State) (o : PolicyObjects) (ms ns : Tracked) (es : List (ℕ × Connection)) (n : ℕ) (on : Bool) → IsDue s ms None → StillCovers s ms ns

@@ -1,4 +1,4 @@
-ghost use Rattle.std.specs.Prelude.{true, ℕ, ◌≡◌, ◌≤◌, ◌&&◌, nat_lt, nat_le, length, IfOk, IfSome, IsTrue, if◌then◌else◌};
+ghost use Rattle.std.specs.Prelude.{true, None, Ok, ℕ, ◌≡◌, ◌≤◌, ◌&&◌, nat_lt, nat_le, length, IfOk, IfSome, IsTrue, if◌then◌else◌};
 ghost use Rattle.std.specs.BTreeMap.{is_at};
 ghost use Rattle.std.specs.Map.{remove_entry};
 ghost use Rattle.std.specs.Ordering.{nat_cmp};
@@ -167,6 +167,29 @@ impl<P: Policy + Drop> Core<P> {
         ensures { P.content result.now ≡ self.now.policy }
     {
         &self.policy
+    }
+
+    /// The roles and bindings among the objects, as a policy that decides; all else is dropped. Allocates nothing.
+    pub fn into_policy(self) -> P
+        ensures { P.content result ≡ self.policy }
+    {
+        let Core {
+            alloc: _,
+            store: _,
+            policy,
+            tracker: _,
+            connections: _,
+            next_id: _,
+            rechecks: _,
+        } = self;
+        policy
+    }
+
+    /// Whether no cluster role may differ from its union, so that a turn does nothing. Allocates nothing.
+    pub fn is_quiet(&self) -> bool
+        ensures { IsTrue result → Turns self.now self.now (Ok None) }
+    {
+        !self.tracker.has_marks()
     }
 
     /// The current revision, which is that of the last change. Allocates nothing.

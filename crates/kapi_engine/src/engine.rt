@@ -25,6 +25,14 @@ pub fn load(alloc: Global, objects: &[u8]) -> Result<Engine, StartError>
     ensures { Gives fault_told (λ e. e) result (engine_of objects.now) }
 {
     let mut core = load_policy(alloc, objects)?;
+    if core.is_quiet() {
+        let policy = core.into_policy();
+        return Ok(Engine {
+            policy,
+            settled: true,
+        });
+    }
+    // The turn that is due is not part of what the objects make.
     let policy = core.policy().copy()?;
     let settled = is_settled(&mut core)?;
     Ok(Engine { policy, settled })
