@@ -11,6 +11,4 @@ mod starting;
 pub use fault::StartError;
 pub use laws::a_file_makes_a_machine_of_the_laws;
 pub use settled::is_settled;
-pub use starting::{
-    Started, load_alone, load_from, load_policy, start, start_policy, start_without_objects,
-};
+pub use starting::{Started, load_policy, start, start_policy, start_without_objects};

@@ -21,44 +21,6 @@ use std::sync::Wait;
 
 // ---- machines alone
 
-/// The machine whose revisions begin after `first` and whose resource types are those of the table, with the objects of a
-/// file, a JSON object a line. The turns that follow the objects are made, 64 at most.
-///
-/// # Errors
-/// `Line` at the first line that cannot be loaded, `Memory` where an allocation fails.
-pub fn load_from(
-    alloc: Global,
-    table: &Sequence<ResourceRow>,
-    objects: &[u8],
-    first: u64,
-) -> Result<Core<IndexedPolicy>, StartError>
-    requires table { fits table.now ≡ true }
-    requires first { first ≤ 281474976710650 }
-    ensures machine { Holds result (machine_from table.now first objects.now) }
-    ensures unopened { IfOk result (λ core. core.next_id ≡ 0) }
-{
-    load_into(alloc, opened(alloc, table, first)?, objects)
-}
-
-/// The machine that the objects of a file make alone, without those that every other machine begins with; the rest is as
-/// of `load_from`.
-///
-/// # Errors
-/// `Line` at the first line that cannot be loaded, `Memory` where an allocation fails.
-pub fn load_alone(
-    alloc: Global,
-    table: &Sequence<ResourceRow>,
-    objects: &[u8],
-    first: u64,
-) -> Result<Core<IndexedPolicy>, StartError>
-    requires table { fits table.now ≡ true }
-    requires first { first ≤ 281474976710650 }
-    ensures machine { Holds result (machine_alone table.now first objects.now) }
-    ensures unopened { IfOk result (λ core. core.next_id ≡ 0) }
-{
-    load_into(alloc, emptied(alloc, table, first)?, objects)
-}
-
 /// The machine that the objects of a policy make alone, of the resource types of the programs.
 ///
 /// # Errors
@@ -67,7 +29,8 @@ pub fn load_policy(alloc: Global, objects: &[u8]) -> Result<Core<IndexedPolicy>,
     ensures machine { Holds result (policy_machine objects.now) }
     ensures unopened { IfOk result (λ core. core.next_id ≡ 0) }
 {
-    load_alone(alloc, &program_table(alloc)?, objects, 0)
+    let table = program_table(alloc)?;
+    load_into(alloc, emptied(alloc, &table, 0)?, objects)
 }
 
 /// The machine that begins with the opening objects.
