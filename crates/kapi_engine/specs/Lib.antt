@@ -1,3 +1,4 @@
 pub mod Engines
 pub mod Decisions
 pub mod Manifests
+pub mod Paths

@@ -6,6 +6,7 @@ ghost use Rattle.kapi_access.specs.Risks.{risks};
 ghost use Rattle.kapi_access.specs.Answers.{gains_text, settled_line as settled_text, ways_text, who_text};
 ghost use Rattle.kapi_access.specs.Lines.{answered_lines, fault_told};
 ghost use Rattle.kapi_access.specs.Rights.{what_text};
+ghost use Rattle.kapi_engine.specs.Paths.{IsPathsText, is_json as is_json_form, settled_end as settled_end_of};
 ghost use Rattle.kapi_lines.specs.Lines.{lines_of};
 
 use crate::engine::Engine;
@@ -69,35 +70,45 @@ impl Engine {
     }
 
     /// Who can become whom: only paths to that node, as it is printed, unless the name is empty, and without the rights of
-    /// some kinds. As JSON the last line says whether the roles are settled, as text what was not looked at.
+    /// some kinds. As text the last line says what was not looked at, as JSON whether the roles are settled.
     pub fn paths(
         &self,
         alloc: Global,
         form: Form,
         to: &str,
         without: &[Text],
-    ) -> Result<Vec<u8>, Memory> {
-        let is_json = is_json(form);
+    ) -> Result<Vec<u8>, Memory>
+        ensures { IfOk result (λ v. IsPathsText self.now form to.now without.now v.items) }
+    {
         let bindings = self.policy.bindings()?;
         let mut text = answer_paths(
             alloc,
-            is_json,
+            is_json(form),
             &self.policy,
             bindings.as_slice(),
             to,
             without,
         )?;
-        if is_json {
-            text.extend_from_slice(settled_line(form, self.settled))?;
-        }
+        text.extend_from_slice(settled_end(form, self.settled))?;
         Ok(text)
     }
 }
 
-fn is_json(form: Form) -> bool {
+fn is_json(form: Form) -> bool
+    ensures { result ≡ is_json_form form }
+{
     match form {
         Form::Json => true,
         Form::Table | Form::Markdown => false,
+    }
+}
+
+fn settled_end(form: Form, settled: bool) -> &'static [u8]
+    ensures { result.now ≡ settled_end_of form settled }
+{
+    match form {
+        Form::Json => settled_line(Form::Json, settled),
+        Form::Table | Form::Markdown => &[],
     }
 }
 
