@@ -1,27 +1,17 @@
 -- The answers of an audit.
-use Rattle.std.specs.Prelude.{ℕ, List, [], ◌∷◌, ◌++◌, Option, None, Some, Result, Ok, Err, codes, ok_or, option_map}
+use Rattle.std.specs.Prelude.{ℕ, List, [], ◌∷◌, ◌++◌, Option, None, Some, Result, Ok, Err, ok_or, option_map}
 use Rattle.kapi_text.specs.Gives.{◌>>=◌}
 use Rattle.kapi_core.specs.Machine.{Machine, policy_of}
 use Rattle.kapi_core.specs.Table.{access_reviews_row}
 use Rattle.kapi_model.specs.declared.row.ResourceRow.{ResourceRow}
-use Rattle.kapi_policy.specs.Decided.{Decided, decided}
+use Rattle.kapi_policy.specs.Decided.{decided}
 use Rattle.kapi_policy.specs.Objects.{PolicyObjects}
-use Rattle.kapi_reviews.specs.Answers.{reason_of}
-use Rattle.kapi_lines.specs.Escapes.{escaped}
+use Rattle.kapi_engine.specs.Lines.{decision_line}
 use Rattle.kapi_audit.specs.Faults.{AuditError, policy_line, question_line}
 use Rattle.kapi_loading.specs.Faults.{FileFault, bad_line}
 use Rattle.kapi_lines.specs.Lines.{NumberedLine, lines_of}
 use Rattle.kapi_loading.specs.Loading.{machine_of, policy_machine}
-use Rattle.kapi_audit.specs.Questions.{question_of}
-
--- the line of a decision, by the reason that a review reports where it is allowed
-abbrev pub reason_line : Option (List ℕ) → List ℕ
-reason_line None = codes "denied\n"
-reason_line (Some reason) = (codes "allowed " ++ escaped reason) ++ codes "\n"
-
--- the line of a decision
-abbrev pub decision_line : Decided → List ℕ
-decision_line d = reason_line (reason_of d)
+use Rattle.kapi_engine.specs.Questions.{question_of}
 
 -- the line that answers a question by a policy; none where the line is no question
 abbrev pub answer_of : ResourceRow → PolicyObjects → List ℕ → Option (List ℕ)

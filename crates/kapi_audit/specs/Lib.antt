@@ -1,5 +1,4 @@
 pub mod Faults
-pub mod Questions
 pub mod Answers
 pub mod Reports
 pub mod Private

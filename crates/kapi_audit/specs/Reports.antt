@@ -10,8 +10,8 @@ use Rattle.kapi_model.specs.declared.row.ResourceRow.{ResourceRow}
 use Rattle.kapi_policy.specs.Decided.{decided}
 use Rattle.kapi_reviews.specs.declared.question.Question.{Question}
 use Rattle.kapi_script.specs.Scripts.{lines}
-use Rattle.kapi_audit.specs.Answers.{decision_line}
-use Rattle.kapi_audit.specs.Questions.{question_of}
+use Rattle.kapi_engine.specs.Lines.{decision_line}
+use Rattle.kapi_engine.specs.Questions.{question_of}
 use Rattle.kapi_audit.specs.declared.report.Report.{Report}
 use Rattle.kapi_audit.specs.declared.report.Report.TheVariants as told
 

@@ -7,8 +7,8 @@ ghost use Rattle.kapi_desk.specs.Boards.{Chair};
 ghost use Rattle.kapi_script.specs.Scripts.{lines};
 
 use crate::fault::AnswerFault;
-use crate::question::access_reviews;
 use crate::report::{make_report, write_report};
+use kapi_core::access_reviews;
 use kapi_desk::Seat;
 use kapi_model::ResourceRow;
 use std::alloc::Global;

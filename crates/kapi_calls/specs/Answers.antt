@@ -2,7 +2,7 @@
 use Rattle.std.specs.Prelude.{◌≡◌, ℕ, ◌<◌, ◌==◌, Bool, true, false, if◌then◌else◌, List, [], ◌++◌, length, drop, Result, Ok, Err}
 use Rattle.kapi_text.specs.Gives.{◌>>=◌}
 use Rattle.kapi_policy.specs.Decided.{Decided, allowed, decided, denied, masters}
-use Rattle.kapi_audit.specs.Answers.{decision_line}
+use Rattle.kapi_engine.specs.Lines.{decision_line}
 use Rattle.kapi_engine.specs.declared.engine.Engine.{Engine}
 use Rattle.kapi_calls.specs.declared.answering.Answer.{Answer}
 use Rattle.kapi_calls.specs.declared.fault.CallFault.{CallFault}

@@ -19,5 +19,5 @@ pub use kapi_answer::LoadError;
 pub use machine::{Core, LAST_CONNECTION, OPEN_CONNECTIONS};
 pub use opening::LAST_FIRST;
 pub use programs::program_table;
-pub use resource::{Resource, required_resources};
+pub use resource::{Resource, access_reviews, required_resources};
 pub use table::table_fits;

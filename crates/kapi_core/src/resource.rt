@@ -141,7 +141,7 @@ fn own_access_reviews() -> Resource
 }
 
 /// Reviews of what others may do.
-fn access_reviews() -> Resource
+pub fn access_reviews() -> Resource
     ensures { row_of result ≡ access_reviews_row }
 {
     Resource {

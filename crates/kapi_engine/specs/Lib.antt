@@ -1,4 +1,6 @@
 pub mod Engines
+pub mod Lines
+pub mod Questions
 pub mod Decisions
 pub mod Manifests
 pub mod Paths

@@ -8,12 +8,14 @@ mod deciding;
 mod engine;
 mod line;
 mod manifests;
+mod question;
 
 pub use answers::compare;
 pub use engine::{Engine, load};
 pub use kapi_access::{Compared, Form, Holder, Identities, LineFault, Scope, Shown, Wanted};
-pub use kapi_audit::{access_reviews, question_of};
+pub use kapi_core::access_reviews;
 pub use kapi_loading::StartError;
 pub use kapi_reviews::Question;
 pub use line::decision_line;
 pub use manifests::{ManifestsFault, load_manifests};
+pub use question::question_of;

@@ -2,7 +2,7 @@
 ghost use Rattle.std.specs.Prelude.{◌≡◌, ◌++◌, IfOk, OnOk};
 ghost use Rattle.kapi_policy.specs.Views.{decision_of};
 ghost use Rattle.kapi_lines.specs.Escapes.{escaped};
-ghost use Rattle.kapi_audit.specs.Answers.{decision_line as line_of_decision};
+ghost use Rattle.kapi_engine.specs.Lines.{decision_line as line_of_decision};
 
 use kapi_lines::write_escaped;
 use kapi_policy::Decision;

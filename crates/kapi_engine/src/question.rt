@@ -3,35 +3,19 @@
 ghost use Rattle.std.specs.Prelude.{◌≡◌, [], true, codes, IfOk, Some};
 ghost use Rattle.serde_json.specs.View.{view};
 ghost use Rattle.kapi_object.specs.Admission.{read_as};
-ghost use Rattle.kapi_core.specs.Table.{access_reviews_row, row_of};
 ghost use Rattle.kapi_object.specs.Order.{is_ordered};
 ghost use Rattle.kapi_reviews.specs.Questions.{at, question};
 ghost use Rattle.kapi_reviews.specs.declared.kind.ReviewKind.TheVariants as ReviewKind;
-ghost use Rattle.kapi_audit.specs.Questions as asks;
-ghost use Rattle.kapi_audit.specs.Questions.{review_of};
+ghost use Rattle.kapi_engine.specs.Questions as asks;
+ghost use Rattle.kapi_engine.specs.Questions.{review_of};
 
-use kapi_core::Resource;
-use kapi_model::{Identity, ResourceRow, Schema};
+use kapi_model::{Identity, ResourceRow};
 use kapi_object::{ObjectError, admitted_tree, member, read_tree};
 use kapi_policy::PlainPolicy;
 use kapi_reviews::{Question, ReviewError, ReviewKind, read_question, review};
 use kapi_text::{Memory, Sequence, Text};
 use serde_json::{Map, Value, put};
 use std::alloc::{AllocError, Global};
-
-/// The resource whose objects ask what a user may do.
-pub fn access_reviews() -> Resource
-    ensures { row_of result ≡ access_reviews_row }
-{
-    Resource {
-        group: "authorization.k8s.io",
-        plural: "subjectaccessreviews",
-        kind: "SubjectAccessReview",
-        namespaced: false,
-        has_status: false,
-        schema: Schema::Open,
-    }
-}
 
 /// The question that a line is; none where the line is no question. `row` is that of access reviews.
 #[tactic(auto, unfolding(crate::specs::Questions::question_of))]
