@@ -8,6 +8,7 @@ MEASURES = {
     "policies": Module(words=()),
     "load": Module("cc and wrk"),
     "library": Module("make library PREFIX=out/library"),
+    "kubernetes_authorizer": Module("make library PREFIX=out/library, golang-go, dpkg-dev and golang-github-modern-go-reflect2-dev"),
     "instructions": Module("valgrind"),
     "samples": Module("perf and wrk"),
     "cluster": Module("wrk, python3-kubernetes, KUBE_APISERVER and ETCD"),

@@ -1,4 +1,8 @@
-/* Processor time of a load and of a decision. usage: library OBJECTS BINDINGS SPACES DECISIONS     users are user0, user1 ..; SPACES namespaces n0, n1 .., or 0: cluster-wide */
+/* A load, and decisions. usage: library OBJECTS QUESTIONS SECONDS
+ *
+ * QUESTIONS has a question a line, with tabs between user, groups (commas between them), namespace, verb, API group, resource,
+ * subresource, name and path. All are asked once, and then over and over for so many seconds. Printed are the processor time of a
+ * decision, in us, and of the load, in ms, and a line with 1 for each question that is allowed, and 0 for each other. */
 #include <stdio.h>
 #include <stdlib.h>
 #include <string.h>
@@ -6,42 +10,88 @@
 
 #include "kapi.h"
 
-static kapi_text text(const char *from) {
-    kapi_text made = {from, strlen(from)};
+enum { FIELDS = 9, GROUPS = 16 };
+
+static char *read_file(const char *name, size_t *length) {
+    FILE *from = fopen(name, "rb");
+    if (from == NULL || fseek(from, 0, SEEK_END) != 0) exit(2);
+    *length = (size_t)ftell(from);
+    char *all = malloc(*length + 1);
+    rewind(from);
+    if (all == NULL || fread(all, 1, *length, from) != *length) exit(2);
+    fclose(from);
+    return all;
+}
+
+static double processor(void) { return (double)clock() / CLOCKS_PER_SEC; }
+
+/* The text up to a byte, which is passed over. */
+static kapi_text until(char **at, char byte) {
+    char *end = strchr(*at, byte);
+    if (end == NULL) exit(2);
+    kapi_text made = {*at, (size_t)(end - *at)};
+    *at = end + 1;
     return made;
 }
 
-int main(int count, char **words) {
-    if (count != 5) return 2;
-    FILE *from = fopen(words[1], "rb");
-    if (from == NULL || fseek(from, 0, SEEK_END) != 0) return 2;
-    size_t length = (size_t)ftell(from), line = 0, allowed = 0;
-    char *objects = malloc(length + 1), user[32], space[32];
-    rewind(from);
-    if (objects == NULL || fread(objects, 1, length, from) != length) return 2;
-    long bindings = atol(words[2]), spaces = atol(words[3]), decisions = atol(words[4]);
-    kapi_policy *policy = NULL;
-    clock_t begun = clock();
-    if (kapi_load(objects, length, &line, &policy) != KAPI_OK) return 1;
-    clock_t loaded = clock();
-    kapi_text groups[] = {text("system:authenticated")};
-    for (long at = 0; at < decisions; at++) {
-        kapi_question asked = kapi_call_of(0).question;
-        kapi_decision decision = KAPI_DENIED;
-        long who = at * 7919 % bindings;
-        snprintf(user, sizeof user, "user%ld", who);
-        snprintf(space, sizeof space, "n%ld", spaces == 0 ? 0 : who % spaces);
-        asked.user = text(user);
-        asked.groups.texts = groups;
-        asked.groups.length = 1;
-        asked.name_space = text(space);
-        asked.verb = text("get");
-        asked.resource = text(at % 2 == 0 ? "pods" : "secrets");
-        if (kapi_may(policy, &asked, &decision) != KAPI_OK) return 1;
-        allowed += decision != KAPI_DENIED;
+static kapi_texts groups_of(kapi_text listed) {
+    kapi_texts made = {NULL, 0};
+    kapi_text *groups = listed.length == 0 ? NULL : calloc(GROUPS, sizeof *groups);
+    const char *at = listed.bytes, *end = listed.bytes + listed.length;
+    for (; groups != NULL && at < end && made.length < GROUPS; made.length++) {
+        const char *comma = memchr(at, ',', (size_t)(end - at));
+        const char *stop = comma == NULL ? end : comma;
+        groups[made.length] = (kapi_text){at, (size_t)(stop - at)};
+        at = stop + 1;
     }
-    clock_t asked = clock();
+    made.texts = groups;
+    return made;
+}
+
+static kapi_question question_in(char **at) {
+    kapi_text fields[FIELDS];
+    for (int field = 0; field < FIELDS; field++) {
+        fields[field] = until(at, field == FIELDS - 1 ? '\n' : '\t');
+    }
+    kapi_question made = {fields[0], groups_of(fields[1]), fields[2], fields[3], fields[4], fields[5], fields[6], fields[7], fields[8]};
+    return made;
+}
+
+static char answer(const kapi_policy *policy, const kapi_question *asked) {
+    kapi_decision decision = KAPI_DENIED;
+    if (kapi_may(policy, asked, &decision) != KAPI_OK) exit(1);
+    return decision == KAPI_DENIED ? '0' : '1';
+}
+
+int main(int count, char **words) {
+    if (count != 4) return 2;
+    size_t length, asked_length, line = 0, questions = 0, asked = 0;
+    char *objects = read_file(words[1], &length), *text = read_file(words[2], &asked_length), *at = text;
+    double seconds = atof(words[3]);
+    text[asked_length] = 0;
+    for (size_t byte = 0; byte < asked_length; byte++) {
+        questions += text[byte] == '\n';
+    }
+    kapi_question *all = calloc(questions, sizeof *all);
+    char *said = calloc(questions + 1, 1);
+    if (all == NULL || said == NULL) return 2;
+    for (size_t number = 0; number < questions; number++) {
+        all[number] = question_in(&at);
+    }
+    kapi_policy *policy = NULL;
+    double begun = processor();
+    if (kapi_load(objects, length, &line, &policy) != KAPI_OK) return 1;
+    double loaded = processor();
+    for (size_t number = 0; number < questions; number++) {
+        said[number] = answer(policy, &all[number]);
+    }
+    double first = processor(), used = 0;
+    for (; used < seconds; used = processor() - first) {
+        for (int next = 0; next < 1000; next++, asked++) {
+            answer(policy, &all[asked % questions]);
+        }
+    }
     kapi_free(policy);
-    printf("%.6f %.6f %zu\n", (double)(loaded - begun) / CLOCKS_PER_SEC, (double)(asked - loaded) / CLOCKS_PER_SEC, allowed);
+    printf("%.4f %.2f\n%s\n", used * 1e6 / (double)asked, (loaded - begun) * 1e3, said);
     return 0;
 }
