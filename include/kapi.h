@@ -8,7 +8,7 @@
  *     A length in bytes is below 2^63.
  *   - A policy is one that kapi_load gave, and that was not freed since. No call takes a null policy but kapi_free.
  *   - Where an answer goes there is room for it, apart from all that the call reads.
- *   - A policy serves one call at a time. Another thread may use it only once that call has ended, and only where that is
+ *   - A policy serves one call at a time. It may go to another thread: only once its call has ended, and only if that is
  *     ordered, as by a lock. Threads that ask side by side load a policy each.
  *   - malloc, realloc and free are of one allocator, and align a block of n bytes to each power of two up to 16 that
  *     divides n. No call is made in a signal handler, or in a forked child of a program with threads.
@@ -38,14 +38,14 @@ extern "C" {
 #endif
 
 /* The number of this interface. It is raised with each change of a layout, a number or a meaning. */
-#define KAPI_ABI 1u
+#define KAPI_ABI 2u
 
 typedef uint32_t kapi_status;
 #define KAPI_OK 0u
 #define KAPI_NO_MEMORY 1u   /* memory ran out */
 #define KAPI_BAD_LINE 2u    /* a line holds no object that can be created */
 #define KAPI_NOT_TEXT 3u    /* a text is no UTF-8 */
-#define KAPI_NO_QUESTION 4u /* no such question: a resource with two slashes, or a `wants` that is not known */
+#define KAPI_NO_QUESTION 4u /* no such question: a resource with two slashes, a role that is not there, an unknown number */
 #define KAPI_NO_ROOM 5u     /* the text does not fit, and its length was written; or there is not a decision for each question */
 
 typedef uint32_t kapi_decision;
@@ -79,19 +79,39 @@ typedef struct kapi_question {
     kapi_text path;
 } kapi_question;
 
-/* What a call wants. */
-#define KAPI_WANTS_SETTLED 0u  /* 1 if each aggregated role has its union, else 0 */
+/* What a call wants, and the number that goes out. A settled policy has the union of each aggregated role. */
+#define KAPI_WANTS_SETTLED 0u  /* 1 if the policy is settled, else 0 */
 #define KAPI_WANTS_DECISION 1u
 #define KAPI_WANTS_LINE 2u     /* the decision, and its line as `kapi audit` writes it */
+/* A text in a form, and as the number whether the policy is settled. */
+#define KAPI_WANTS_WHO 3u          /* who may do what is asked, whoever the user is */
+#define KAPI_WANTS_WHO_ANYWHERE 4u /* the same in each namespace that has bindings, and cluster-wide */
+#define KAPI_WANTS_WHAT 5u         /* what the user with the groups has in the namespace, or everywhere if that is empty */
+#define KAPI_WANTS_RISKS 6u        /* who may gain more than the policy gives */
+#define KAPI_WANTS_PATHS 7u        /* who can become whom: only `other`, if that is not empty, and `without` some kinds of rights */
+/* What the user with the groups lacks of a role: `resource` is "Role" or "ClusterRole", `name` its name. A JSON list a line:
+ * verb, group, resource and a name if it has one; or verb and path. The number is 1 if nothing is missing, else 0. */
+#define KAPI_WANTS_MISSING 8u
+/* What the policy of the objects `other` gives that this one does not. The number is 1 if nobody gains and both are settled,
+ * else 0. At KAPI_BAD_LINE `length` is the first line that is not loaded. */
+#define KAPI_WANTS_GAINS 9u
+
+/* How a text is printed. */
+#define KAPI_FORM_TABLE 0u
+#define KAPI_FORM_MARKDOWN 1u
+#define KAPI_FORM_JSON 2u /* an object a line */
 
 typedef struct kapi_call {
     uint32_t wants;
-    kapi_question question; /* not read for KAPI_WANTS_SETTLED, but there all the same */
+    uint32_t form;          /* read from KAPI_WANTS_WHO on */
+    kapi_question question; /* there also if it is not read */
+    kapi_text other;
+    kapi_texts without;
 } kapi_call;
 
 typedef struct kapi_answer {
-    kapi_decision decision;
-    size_t length; /* of the text; at KAPI_NO_ROOM what it needs */
+    uint32_t decision; /* or another number */
+    size_t length;     /* of the text; at KAPI_NO_ROOM what it needs */
 } kapi_answer;
 
 /* ---- calls */
@@ -173,7 +193,8 @@ KAPI_ASSERT(offsetof(kapi_question, groups) == 16 && offsetof(kapi_question, nam
 KAPI_ASSERT(offsetof(kapi_question, verb) == 48 && offsetof(kapi_question, group) == 64);
 KAPI_ASSERT(offsetof(kapi_question, resource) == 80 && offsetof(kapi_question, subresource) == 96);
 KAPI_ASSERT(offsetof(kapi_question, name) == 112 && offsetof(kapi_question, path) == 128);
-KAPI_ASSERT(sizeof(kapi_call) == 152 && offsetof(kapi_call, question) == 8);
+KAPI_ASSERT(sizeof(kapi_call) == 184 && offsetof(kapi_call, form) == 4 && offsetof(kapi_call, question) == 8);
+KAPI_ASSERT(offsetof(kapi_call, other) == 152 && offsetof(kapi_call, without) == 168);
 KAPI_ASSERT(sizeof(kapi_answer) == 16 && offsetof(kapi_answer, length) == 8);
 
 #ifdef __cplusplus

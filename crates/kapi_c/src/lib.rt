@@ -27,9 +27,9 @@ pub struct Policy {
 /// The number of the interface, which is raised with each change of a layout, a number or a meaning.
 #[unsafe(no_mangle)]
 pub extern "C" fn kapi_abi() -> u32
-    ensures { result ≡ 1 }
+    ensures { result ≡ 2 }
 {
-    1
+    2
 }
 
 /// Loads a policy, which the caller then holds by the handle that is put out. The status is 0, or tells why not.

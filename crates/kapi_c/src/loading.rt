@@ -13,6 +13,13 @@ const NO_MEMORY: u32 = 1;
 /// The status where a line is not loaded.
 const BAD_LINE: u32 = 2;
 
+/// A value that another thread may have: the bound is proved of an engine where this is called.
+fn sendable<T: Send>(value: T) -> T
+    ensures { result ≡ value }
+{
+    value
+}
+
 /// The engine of objects on the heap, or the status of a load that fails.
 pub fn make_engine(
     alloc: Global,
@@ -30,7 +37,7 @@ pub fn make_engine(
         }
         Err(StartError::Memory) => return Err(NO_MEMORY),
     };
-    match Box::new(alloc, made) {
+    match Box::new(alloc, sendable(made)) {
         Ok(made) => Ok(made),
         Err(_refused) => Err(NO_MEMORY),
     }

@@ -10,6 +10,8 @@ use Rattle.kapi_calls.specs.declared.fault.CallFault.TheVariants as fault
 use Rattle.kapi_calls.specs.declared.passed.Call.{Call}
 use Rattle.kapi_calls.specs.declared.reading.Asked.{Asked}
 use Rattle.kapi_calls.specs.Faults.{code_of}
+use Rattle.kapi_calls.specs.Given.{Given}
+use Rattle.kapi_calls.specs.Lists.{listed, paths_given, settled_with}
 use Rattle.kapi_calls.specs.Questions.{question_of}
 
 -- the number of a decision: 0 denies
@@ -17,15 +19,6 @@ abbrev pub number_of : Decided → ℕ
 number_of denied = 0
 number_of (allowed g) = 1
 number_of masters = 2
-
-abbrev pub bit : Bool → ℕ
-bit true = 1
-bit false = 0
-
--- a number and a text
-pub record Given : Type 0 where
-  pub number : ℕ
-  pub text : List ℕ
 
 -- what is decided of what is asked
 abbrev pub decided_of : Engine → Asked → Decided
@@ -37,22 +30,28 @@ number_alone d = record { number = number_of d; text = [] }
 abbrev pub with_line : Decided → Given
 with_line d = record { number = number_of d; text = decision_line d }
 
--- what is answered: whether the roles are settled, a decision, or a decision and its line
-unfoldable pub given_of : Engine → Call → Result Given CallFault
-given_of engine call =
-    if call.wants == 0 then Ok (record { number = bit engine.settled; text = [] })
+-- what is answered: whether the roles are settled, a decision, a decision and its line, or a text. Of a text of paths nothing
+-- is said
+unfoldable pub given_of : List ℕ → Engine → Call → Result Given CallFault
+given_of paths engine call =
+    if call.wants == 0 then Ok (settled_with engine [])
     else (if call.wants == 1 then (question_of call.question >>= λ asked. Ok (number_alone (decided_of engine asked)))
     else (if call.wants == 2 then (question_of call.question >>= λ asked. Ok (with_line (decided_of engine asked)))
-    else Err fault.Question))
+    else (if call.wants == 7 then paths_given paths engine call
+    else listed engine call)))
 
 -- the number and the text stand where the caller said, and the room behind the text is as before
 abbrev pub IsWritten : Given → Answer → List ℕ → List ℕ → Type 0
 IsWritten g new room room' = (new ≡ record { decision = g.number; length = length g.text }) × (room' ≡ g.text ++ drop (length g.text) room)
 
--- the length that the text needs is told, and nothing else is written
+-- a length is told, and nothing else is written
+abbrev pub IsLength : ℕ → Answer → Answer → List ℕ → List ℕ → Type 0
+IsLength n old new room room' = (new ≡ record { decision = old.decision; length = n }) × (room' ≡ room)
+
+-- the length that the text needs is told
 abbrev pub IsShort : Given → Answer → Answer → List ℕ → List ℕ → Type 0
 IsShort g old new room room' =
-    (length room < length g.text) × (new ≡ record { decision = old.decision; length = length g.text }) × (room' ≡ room)
+    (length room < length g.text) × IsLength (length g.text) old new room room'
 
 abbrev pub IsKept : Answer → Answer → List ℕ → List ℕ → Type 0
 IsKept old new room room' = (new ≡ old) × (room' ≡ room)
@@ -79,9 +78,10 @@ abbrev pub Ends : Result Given CallFault → Answer → Answer → List ℕ → 
 Ends given old new room room' done = (g : Given) × (given ≡ Ok g) × IsWritten g new room room'
 Ends given old new room room' short = (g : Given) × (given ≡ Ok g) × IsShort g old new room room'
 Ends given old new room room' (failed fault.Memory) = IsKept old new room room'
+Ends given old new room room' (failed (fault.Line number)) = (given ≡ Err (fault.Line number)) × IsLength number old new room room'
 Ends given old new room room' (failed other) = (given ≡ Err other) × IsKept old new room room'
 
 -- the status says how the call ended, and the caller finds what then stands there
 abbrev pub IsAnswered : Engine → Call → Answer → Answer → List ℕ → List ℕ → ℕ → Type 0
 IsAnswered engine call old new room room' status =
-    (end : End) × (status ≡ status_of end) × Ends (given_of engine call) old new room room' end
+    (paths : List ℕ) × (end : End) × (status ≡ status_of end) × Ends (given_of paths engine call) old new room room' end

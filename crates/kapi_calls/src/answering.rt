@@ -1,12 +1,15 @@
 //! What is answered to a call, written where the caller said.
-ghost use Rattle.std.specs.Prelude.{◌≡◌, IfOk};
-ghost use Rattle.kapi_text.specs.Gives.{Gives};
+ghost use Rattle.std.specs.Prelude.{◌≡◌, ℕ, List, Result, IfOk};
+ghost use Rattle.kapi_text.specs.Gives.{Fails, Gives};
 ghost use Rattle.kapi_policy.specs.Views.{decision_of};
-ghost use Rattle.kapi_calls.specs.Answers.{IsAnswered, Stands, decided_of, given_of, number_alone, number_of, with_line as told_with_line};
-ghost use Rattle.kapi_calls.specs.Faults.{fault_told};
+ghost use Rattle.kapi_calls.specs.Answers.{Ends, IsAnswered, Stands, decided_of, failed, given_of, number_alone, number_of, with_line as told_with_line};
+ghost use Rattle.kapi_calls.specs.declared.fault.CallFault.{CallFault as AFault};
+ghost use Rattle.kapi_calls.specs.Faults.{code_of, fault_told};
+ghost use Rattle.kapi_calls.specs.Given.{Given};
 ghost use Rattle.kapi_calls.specs.Views.{told};
 
 use crate::fault::CallFault;
+use crate::listing::{list, paths, settled_with};
 use crate::passed::Call;
 use crate::reading::{Asked, read_question};
 use kapi_engine::{Engine, decision_line};
@@ -24,9 +27,9 @@ pub struct Answer {
 
 /// A number and a text.
 #[derive(Drop)]
-struct Found {
-    number: u32,
-    text: Vec<u8>,
+pub struct Found {
+    pub number: u32,
+    pub text: Vec<u8>,
 }
 
 /// The number of a decision: 0 denies.
@@ -73,23 +76,21 @@ fn with_line(alloc: Global, engine: &Engine, asked: &Asked) -> Result<Found, Mem
 /// What is answered.
 #[tactic(auto, unfolding(crate::specs::Answers::given_of))]
 fn find(alloc: Global, engine: &Engine, call: &Call<'_>) -> Result<Found, CallFault>
-    ensures { Gives fault_told told result (given_of engine.now call.now) }
+    ensures { (paths : List ℕ) × Gives fault_told told result (given_of paths engine.now call.now) }
 {
-    if call.wants == 0 {
-        return Ok(Found {
-            number: u32::from(engine.settled),
-            text: Vec::new(alloc),
-        });
+    match call.wants {
+        0 => Ok(settled_with(engine, Vec::new(alloc))),
+        1 => {
+            let asked = read_question(alloc, &call.question)?;
+            Ok(decided(engine, &asked, alloc))
+        }
+        2 => {
+            let asked = read_question(alloc, &call.question)?;
+            Ok(with_line(alloc, engine, &asked)?)
+        }
+        7 => paths(alloc, engine, call),
+        _ => list(alloc, engine, call),
     }
-    if call.wants == 1 {
-        let asked = read_question(alloc, &call.question)?;
-        return Ok(decided(engine, &asked, alloc));
-    }
-    if call.wants == 2 {
-        let asked = read_question(alloc, &call.question)?;
-        return Ok(with_line(alloc, engine, &asked)?);
-    }
-    Err(CallFault::Question)
 }
 
 /// Writes the number and the length of the text, and the text to the front of the room, if it fits; else the length alone.
@@ -106,8 +107,19 @@ fn write(found: &Found, answer: &mut Answer, room: &mut [u8]) -> bool
     true
 }
 
-/// Answers a call, and gives the status: 0 where it is answered. Else nothing is written but, where the room is too small,
-/// the length that it needs.
+/// Writes what stands for a fault, the line at most, and gives the status.
+fn refused(fault: CallFault, answer: &mut Answer) -> u32
+    ensures status { result ≡ code_of fault }
+    ensures answer { (given : Result Given AFault) → (room : List ℕ) → Fails (fault_told fault) given → Ends given answer.old answer.new room room (failed fault) }
+{
+    if let CallFault::Line(number) = fault {
+        answer.length = number;
+    }
+    fault.code()
+}
+
+/// Answers a call, and gives the status: 0 where it is answered. Else nothing is written but a length: where the room is too
+/// small, what it needs, and where other objects are not loaded, the line.
 pub fn answer_call(
     alloc: Global,
     engine: &Engine,
@@ -119,6 +131,6 @@ pub fn answer_call(
 {
     match find(alloc, engine, call) {
         Ok(found) => { if write(&found, answer, room) { 0 } else { 5 } }
-        Err(fault) => fault.code(),
+        Err(fault) => refused(fault, answer),
     }
 }

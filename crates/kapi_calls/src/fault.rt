@@ -7,6 +7,8 @@ use kapi_text::Memory;
 #[derive(Clone, Copy, Debug, PartialEq, Eq)]
 pub enum CallFault {
     Memory,
+    /// The line of this number of other objects is not loaded.
+    Line(usize),
     /// A text is no UTF-8.
     Text,
     /// What is asked is no question.
@@ -20,6 +22,7 @@ impl CallFault {
     {
         match self {
             CallFault::Memory => 1,
+            CallFault::Line(_number) => 2,
             CallFault::Text => 3,
             CallFault::Question => 4,
         }

@@ -5,6 +5,7 @@
 mod answering;
 mod batch;
 mod fault;
+mod listing;
 mod passed;
 mod reading;
 

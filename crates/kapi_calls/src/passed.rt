@@ -30,7 +30,17 @@ pub struct PassedQuestion<'a> {
 #[repr(C)]
 #[derive(Clone, Copy)]
 pub struct Call<'a> {
-    /// 0: whether the roles are settled, 1: a decision, 2: a decision and its line. Only the last two read the question.
+    /// Settled: whether each aggregated role has its union. 0: whether the policy is settled, 1: a decision, 2: a decision and
+    /// its line. From 3 on a text, and whether the policy is settled: 3: who may do something, 4: the same anywhere, 5: what
+    /// somebody has, 6: who may gain more, 7: who can become whom. 8: whether somebody lacks nothing of a role, and what they
+    /// lack. 9: whether other objects give nothing more, and both policies are settled, and what they give.
     pub wants: u32,
+    /// How a text is printed. 0: in columns, 1: as a table in Markdown, 2: as a JSON object a line.
+    pub form: u32,
+    /// Whose role is meant, `Role` or `ClusterRole` is the resource, and its name the name.
     pub question: PassedQuestion<'a>,
+    /// Other objects, or to whom paths lead.
+    pub other: &'a [u8],
+    /// The kinds of rights that paths leave out.
+    pub without: &'a [PassedText<'a>],
 }

@@ -23,7 +23,7 @@ pub struct Asked {
 
 /// The text that bytes are.
 #[tactic(auto, unfolding(crate::specs::Questions::text_of))]
-fn text_in(bytes: &[u8]) -> Result<&str, CallFault>
+pub fn text_in(bytes: &[u8]) -> Result<&str, CallFault>
     ensures { Gives fault_told (λ s. s.now) result (text_of bytes.now) }
 {
     match as_text(bytes) {
@@ -33,7 +33,7 @@ fn text_in(bytes: &[u8]) -> Result<&str, CallFault>
 }
 
 /// The text that bytes are, to keep.
-fn read_text(alloc: Global, bytes: &[u8]) -> Result<Text, CallFault>
+pub fn read_text(alloc: Global, bytes: &[u8]) -> Result<Text, CallFault>
     ensures { Gives fault_told (λ t. t) result (text_of bytes.now) }
 {
     let text = text_in(bytes)?;
@@ -81,7 +81,7 @@ fn split_at_slash(text: &str) -> (&str, &str)
 
 /// The user and the groups, with nothing added.
 #[tactic(auto, unfolding(crate::specs::Questions::identity_of))]
-fn read_identity(alloc: Global, passed: &PassedQuestion<'_>) -> Result<Identity, CallFault>
+pub fn read_identity(alloc: Global, passed: &PassedQuestion<'_>) -> Result<Identity, CallFault>
     ensures { Gives fault_told (λ i. i) result (identity_of passed.now) }
 {
     Ok(Identity {

@@ -15,6 +15,7 @@ use Rattle.kapi_calls.proofs.batch.decide_batch.Goals as goal
 failed_ends : (made : Result Engine FileFault) (questions : List PassedQuestion) (engine : Engine) (e : CallFault) (decisions : List ℕ) (at : ℕ) → made ≡ Ok engine
     → Fails (fault_told e) (numbers_of engine questions) → BatchEnds made questions decisions decisions at at (failed e)
 failed_ends made questions engine fault.Memory decisions at is fails = (refl, refl)
+failed_ends made questions engine (fault.Line number) decisions at is fails = (engine, is, fails, (refl, refl))
 failed_ends made questions engine fault.Text decisions at is fails = (engine, is, fails, (refl, refl))
 failed_ends made questions engine fault.Question decisions at is fails = (engine, is, fails, (refl, refl))
 

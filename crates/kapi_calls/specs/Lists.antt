@@ -1,0 +1,155 @@
+-- Answers about a whole policy.
+use Rattle.std.specs.Prelude.{ℕ, ◌==◌, Bool, true, false, not, ◌&&◌, if◌then◌else◌, List, [], ◌∷◌, ◌++◌, length, Option, Some, None, Result, Ok, Err}
+use Rattle.std.specs.List.{flat_map}
+use Rattle.serde_json.specs.Written.{compact_text}
+use Rattle.kapi_text.specs.Gives.{◌>>=◌}
+use Rattle.kapi_model.specs.Kinds.{role_kind}
+use Rattle.kapi_model.specs.declared.kinds.RoleKind.{RoleKind}
+use Rattle.kapi_model.specs.declared.role_ref.RoleRef.{RoleRef}
+use Rattle.kapi_rules.specs.declared.atom.Atom.{Atom}
+use Rattle.kapi_rules.specs.declared.point.Point.{Point}
+use Rattle.kapi_rules.specs.declared.point.Point.TheVariants as point
+use Rattle.kapi_policy.specs.Objects.{PolicyObjects}
+use Rattle.kapi_reply.specs.Status.{atom_list}
+use Rattle.kapi_access.specs.Answers.{gains_text, settled_line, ways_text, who_text}
+use Rattle.kapi_access.specs.Gained.{gained}
+use Rattle.kapi_access.specs.Rights.{what_text}
+use Rattle.kapi_access.specs.Risks.{risks}
+use Rattle.kapi_access.specs.declared.answer.Form.{Form}
+use Rattle.kapi_access.specs.declared.answer.Form.TheVariants as form
+use Rattle.kapi_access.specs.declared.answer.Shown.TheVariants as shown
+use Rattle.kapi_access.specs.declared.identities.Identities.TheVariants as whose
+use Rattle.kapi_access.specs.declared.question.Scope.{Scope}
+use Rattle.kapi_access.specs.declared.question.Scope.TheVariants as scope
+use Rattle.kapi_loading.specs.Faults.{FileFault, bad_line}
+use Rattle.kapi_loading.specs.declared.fault.StartError.{StartError}
+use Rattle.kapi_loading.specs.declared.fault.StartError.TheVariants as start
+use Rattle.kapi_engine.specs.Decisions.{missing_of}
+use Rattle.kapi_engine.specs.Engines.{engine_of}
+use Rattle.kapi_engine.specs.declared.engine.Engine.{Engine}
+use Rattle.kapi_calls.specs.declared.fault.CallFault.{CallFault}
+use Rattle.kapi_calls.specs.declared.fault.CallFault.TheVariants as fault
+use Rattle.kapi_calls.specs.declared.passed.Call.{Call}
+use Rattle.kapi_calls.specs.declared.passed.PassedQuestion.{PassedQuestion}
+use Rattle.kapi_calls.specs.declared.reading.Asked.{Asked}
+use Rattle.kapi_calls.specs.Given.{Given, bit}
+use Rattle.kapi_calls.specs.Questions.{identity_of, question_of, text_of, texts_of}
+
+-- a text, and whether the roles are settled
+abbrev pub settled_with : Engine → List ℕ → Given
+settled_with engine text = record { number = bit engine.settled; text = text }
+
+-- ---- who may do something
+
+-- a path is asked about cluster-wide, a resource anywhere, in its namespace, or cluster-wide if that is empty
+abbrev pub scope_of : Bool → List ℕ → Point → Scope
+scope_of anywhere namespace (point.Url u) = scope.Cluster
+scope_of anywhere namespace (point.Resource p) =
+    if anywhere then scope.Everywhere else (if length namespace == 0 then scope.Cluster else scope.Namespace namespace)
+
+-- who may do what is asked, whoever the user is
+abbrev pub who_of : Engine → Form → Bool → Asked → List ℕ
+who_of engine f anywhere asked =
+    who_text f engine.policy (record { scope = scope_of anywhere asked.namespace asked.point; point = asked.point })
+
+unfoldable pub who_given : Engine → Form → Bool → PassedQuestion → Result Given CallFault
+who_given engine f anywhere q = question_of q >>= λ asked. Ok (settled_with engine (who_of engine f anywhere asked))
+
+-- ---- what somebody has
+
+-- a namespace, unless it is empty
+abbrev pub within : List ℕ → Option (List ℕ)
+within namespace = if length namespace == 0 then None else Some namespace
+
+-- what the user has in the namespace, or everywhere if that is empty
+unfoldable pub what_given : Engine → Form → PassedQuestion → Result Given CallFault
+what_given engine f q =
+    identity_of q >>= λ identity. text_of q.namespace.now >>= λ namespace.
+    Ok (settled_with engine (what_text f engine.policy (record { identity = identity; within = within namespace })))
+
+-- ---- risks and paths
+
+-- who may gain more than the policy gives
+abbrev pub risks_given : Engine → Form → Given
+risks_given engine f = settled_with engine (ways_text f (risks engine.policy) ++ settled_line f engine.settled)
+
+-- the form of a number
+abbrev pub form_of : ℕ → Result Form CallFault
+form_of number =
+    if number == 0 then Ok form.Table
+    else (if number == 1 then Ok form.Markdown
+    else (if number == 2 then Ok form.Json
+    else Err fault.Question))
+
+-- some text of paths, if what is asked is texts
+unfoldable pub paths_given : List ℕ → Engine → Call → Result Given CallFault
+paths_given paths engine call =
+    form_of call.form >>= λ f. text_of call.other.now >>= λ to. texts_of call.without.now >>= λ without. Ok (settled_with engine paths)
+
+-- ---- what somebody lacks
+
+-- an atom as a JSON list on a line
+abbrev pub atom_line : Atom → List ℕ
+atom_line a = compact_text (atom_list a) ++ 10 ∷ []
+
+-- whether nothing is missing, and the lines of what is
+abbrev pub lacking_told : List Atom → Given
+lacking_told atoms = record { number = bit (length atoms == 0); text = flat_map atom_line atoms }
+
+-- a role of a kind and name
+abbrev pub role_of_kind : Option RoleKind → List ℕ → Result RoleRef CallFault
+role_of_kind (Some kind) name = Ok (record { kind = kind; name = name })
+role_of_kind None name = Err fault.Question
+
+-- the role that is meant
+unfoldable pub role_in : PassedQuestion → Result RoleRef CallFault
+role_in q = text_of q.resource.now >>= λ kind. text_of q.name.now >>= λ name. role_of_kind (role_kind kind) name
+
+-- what is missing of a role, if there is one
+abbrev pub missing_told : Option (List Atom) → Result Given CallFault
+missing_told (Some atoms) = Ok (lacking_told atoms)
+missing_told None = Err fault.Question
+
+-- what the user lacks of the role
+unfoldable pub missing_given : Engine → PassedQuestion → Result Given CallFault
+missing_given engine q =
+    identity_of q >>= λ identity. text_of q.namespace.now >>= λ namespace. role_in q >>= λ role.
+    missing_told (missing_of engine.policy identity namespace role)
+
+-- ---- what other objects give
+
+-- whether nobody gains and both policies are settled, and who gains what
+abbrev pub gains_told : Form → Engine → Engine → Given
+gains_told f before after = record {
+  number = bit (length (gained whose.Any before.policy after.policy) == 0 && before.settled && after.settled);
+  text = gains_text f shown.Rules (gained whose.Any before.policy after.policy);
+}
+
+-- the fault of objects that are not loaded
+abbrev pub other_fault : StartError → CallFault
+other_fault (start.Line number) = fault.Line number
+other_fault start.Memory = fault.Memory
+
+abbrev pub gains_over : Engine → Form → Result Engine FileFault → Result Given CallFault
+gains_over engine f (Ok after) = Ok (gains_told f engine after)
+gains_over engine f (Err (bad_line number)) = Err (fault.Line number)
+
+-- what the policy of the objects gives that this one does not
+unfoldable pub gains_given : Engine → Form → List ℕ → Result Given CallFault
+gains_given engine f objects = gains_over engine f (engine_of objects)
+
+-- ---- by what is wanted
+
+-- the text that is wanted in a form, of those but paths
+abbrev pub listed_in : Engine → Call → Form → Result Given CallFault
+listed_in engine call f =
+    if call.wants == 3 then who_given engine f false call.question
+    else (if call.wants == 4 then who_given engine f true call.question
+    else (if call.wants == 5 then what_given engine f call.question
+    else (if call.wants == 6 then Ok (risks_given engine f)
+    else (if call.wants == 8 then missing_given engine call.question
+    else (if call.wants == 9 then gains_given engine f call.other.now
+    else Err fault.Question)))))
+
+unfoldable pub listed : Engine → Call → Result Given CallFault
+listed engine call = form_of call.form >>= λ f. listed_in engine call f
