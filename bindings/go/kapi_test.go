@@ -60,3 +60,51 @@ func TestBadLine(t *testing.T) {
 		t.Error(err)
 	}
 }
+
+func TestLists(t *testing.T) {
+	policy, err := Load([]byte(objects))
+	if err != nil {
+		t.Fatal(err)
+	}
+	defer policy.Close()
+	has := func(lines string, err error) func(word string, is bool) {
+		return func(word string, is bool) {
+			if strings.Contains(lines, word) != is || err != nil {
+				t.Errorf("%q in %q: not %v, %v", word, lines, is, err)
+			}
+		}
+	}
+	logs := Question{Verb: "get", Resource: "pods/log", Namespace: "web"}
+	has(policy.Who(logs, false))(`"subject":"ann"`, true)
+	logs.Namespace = ""
+	has(policy.Who(logs, false))(`"subject":"ann"`, false)
+	has(policy.Who(logs, true))(`"subject":"ann"`, true)
+	has(policy.What("ann", nil, "web"))("pods/log", true)
+	has(policy.Risks())(`{"settled":true}`, true)
+	has(policy.Paths("", "escalate"))(`{"settled":true}`, true)
+	has(policy.Missing("bob", []string{"a", "b"}, "web", "Role", "logs"))(`["get","","pods/log"]`, true)
+	has(policy.Missing("ann", nil, "web", "Role", "logs"))("get", false)
+	if _, err := policy.Missing("ann", nil, "web", "Role", "none"); !errors.Is(err, ErrNoQuestion) {
+		t.Error(err)
+	}
+	if lines, nobody, err := policy.Gains([]byte(strings.ReplaceAll(objects, `"get"`, `"get","list"`))); nobody || !strings.Contains(lines, `["list","","pods/log"]`) || err != nil {
+		t.Error(lines, nobody, err)
+	}
+	var line BadLine
+	if _, nobody, err := policy.Gains([]byte(objects + "no object\n")); nobody || !errors.As(err, &line) || line != 4 {
+		t.Error(nobody, err)
+	}
+}
+
+func BenchmarkMay(b *testing.B) {
+	policy, err := Load([]byte(objects))
+	if err != nil {
+		b.Fatal(err)
+	}
+	defer policy.Close()
+	for at := 0; at < b.N; at++ {
+		if may, _ := policy.May(Question{User: "ann", Verb: "get", Resource: "pods/log", Namespace: "web"}); !may {
+			b.Fatal("denied")
+		}
+	}
+}

@@ -8,18 +8,21 @@ from __future__ import annotations
 
 import ctypes
 import enum
+import json
 import os
 import threading
 from dataclasses import dataclass
-from typing import Sequence, Union
+from typing import Any, Sequence, Union
 
 __all__ = ["BadLine", "Decision", "KapiError", "NoQuestion", "NotText", "Policy", "Question"]
 
 Text = Union[str, bytes]
+Line = dict[str, Any]
 
-ABI = 1
+ABI = 2
 OK, NO_MEMORY, BAD_LINE, NOT_TEXT, NO_QUESTION, NO_ROOM = range(6)
-WANTS_SETTLED, WANTS_DECISION, WANTS_LINE = range(3)
+WANTS_SETTLED, WANTS_DECISION, WANTS_LINE, WANTS_WHO, WANTS_WHO_ANYWHERE, WANTS_WHAT, WANTS_RISKS, WANTS_PATHS, WANTS_MISSING, WANTS_GAINS = range(10)
+FORM_JSON = 2
 
 
 class KapiError(Exception):
@@ -88,7 +91,10 @@ class _Question(ctypes.Structure):
 class _Call(ctypes.Structure):
     _fields_ = [
         ("wants", ctypes.c_uint32),
+        ("form", ctypes.c_uint32),
         ("question", _Question),
+        ("other", _Text),
+        ("without", _Texts),
     ]
 
 
@@ -129,8 +135,8 @@ def _texts(texts: Sequence[Text]) -> _Texts:
     return _Texts(array, len(texts))
 
 
-def _call(wants: int, question: Question | None = None) -> _Call:
-    call = _Call(wants=wants)
+def _call(wants: int, question: Question | None = None, other: Text = "", without: Sequence[Text] = ()) -> _Call:
+    call = _Call(wants=wants, form=FORM_JSON, other=_text(other), without=_texts(without))
     if question is not None:
         call.question = _Question(
             _text(question.user),
@@ -185,6 +191,31 @@ class Policy:
         """The line that `kapi audit` writes: `denied`, or `allowed` and the reason."""
         return self._ask(_call(WANTS_LINE, question))[1].decode().rstrip("\n")
 
+    def who(self, question: Question, anywhere: bool = False) -> list[Line]:
+        """Who may do what is asked, whoever its user is, in its namespace or, `anywhere`, in each: as `kapi who --json`."""
+        return self._lines(_call(WANTS_WHO_ANYWHERE if anywhere else WANTS_WHO, question))[1]
+
+    def what(self, user: Text, groups: Sequence[Text] = (), namespace: Text = "") -> list[Line]:
+        """What a user has, in a namespace or everywhere: as `kapi what --json`."""
+        return self._lines(_call(WANTS_WHAT, Question(user, "", groups=groups, namespace=namespace)))[1]
+
+    def risks(self) -> list[Line]:
+        """Who may gain more than the policy gives: as `kapi risks --json`."""
+        return self._lines(_call(WANTS_RISKS))[1]
+
+    def paths(self, to: Text = "", without: Sequence[Text] = ()) -> list[Line]:
+        """Who can become whom, or one whom `to` names, without the rights of some kinds: as `kapi paths --json`."""
+        return self._lines(_call(WANTS_PATHS, other=to, without=without))[1]
+
+    def missing(self, user: Text, kind: Text, role: Text, groups: Sequence[Text] = (), namespace: Text = "") -> list[list[str]]:
+        """What a user lacks of a role of the kind `Role` or `ClusterRole`: verb, group, resource and maybe a name, or verb and path."""
+        return self._lines(_call(WANTS_MISSING, Question(user, "", kind, groups=groups, namespace=namespace, name=role)))[1]
+
+    def gains(self, objects: Text) -> tuple[bool, list[Line]]:
+        """Whether other objects give nobody more, if both policies are settled; and who gains what, as `kapi compare --json`."""
+        number, lines = self._lines(_call(WANTS_GAINS, other=objects))
+        return number == 1, lines
+
     @property
     def settled(self) -> bool:
         """Whether each aggregated cluster role has all that it takes from others."""
@@ -197,6 +228,10 @@ class Policy:
             if handle:
                 _LIBRARY.kapi_drop(handle)
 
+    def _lines(self, call: _Call) -> tuple[int, list[Any]]:
+        number, text = self._ask(call)
+        return number, [json.loads(line) for line in text.splitlines()]
+
     def _ask(self, call: _Call) -> tuple[int, bytes]:
         answer, size = _Answer(), 1024
         with self._lock:
@@ -208,7 +243,7 @@ class Policy:
                 if status != NO_ROOM:
                     break
                 size = answer.length
-        _check(status)
+        _check(status, answer.length)
         return answer.decision, room.raw[: answer.length]
 
     def __enter__(self) -> Policy:

@@ -1,6 +1,7 @@
 """Tests of the package. usage: KAPI_LIBRARY=libkapi.so python3 -m unittest tests.test_kapi"""
 
 import unittest
+from dataclasses import replace
 
 from example import OBJECTS
 from kapi import BadLine, Decision, KapiError, NoQuestion, NotText, Policy, Question
@@ -24,6 +25,25 @@ class Answers(unittest.TestCase):
         self.assertTrue(self.policy.why(Question("ann", "get", "pods/log", namespace="web")).startswith("allowed "))
         self.assertEqual(self.policy.why(Question("bob", "get", "pods")), "denied")
         self.assertTrue(self.policy.settled)
+
+    def test_lists(self) -> None:
+        logs = Question("", "get", "pods/log", namespace="web")
+        self.assertEqual([it["subject"] for it in self.policy.who(logs)], ["system:masters", "ann"])
+        self.assertEqual(len(self.policy.who(replace(logs, namespace=""))), 1)
+        self.assertEqual(len(self.policy.who(replace(logs, namespace=""), anywhere=True)), 2)
+        self.assertEqual(self.policy.what("ann", namespace="web")[0]["rule"]["resources"], ["pods/log"])
+        self.assertEqual(self.policy.risks()[-1], {"settled": True})
+        self.assertEqual(self.policy.paths(without=["escalate"])[-1], {"settled": True})
+        self.assertEqual(self.policy.missing("bob", "Role", "logs", namespace="web"), [["get", "", "pods/log"]])
+        self.assertEqual(self.policy.missing("ann", "Role", "logs", namespace="web"), [])
+        with self.assertRaises(NoQuestion):
+            self.policy.missing("ann", "Role", "none", namespace="web")
+        self.assertEqual(self.policy.gains(OBJECTS), (True, []))
+        nobody, lines = self.policy.gains(OBJECTS.replace('"get"', '"get","list"'))
+        self.assertEqual((nobody, [it["atom"] for it in lines]), (False, [["list", "", "pods/log"]]))
+        with self.assertRaises(BadLine) as fault:
+            self.policy.gains(OBJECTS + "no object\n")
+        self.assertEqual(fault.exception.line, 4)
 
     def test_faults(self) -> None:
         with self.assertRaises(NotText):

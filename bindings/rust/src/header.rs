@@ -2,10 +2,18 @@
 
 use std::os::raw::c_char;
 
-pub const ABI: u32 = 1;
+pub const ABI: u32 = 2;
 pub const WANTS_SETTLED: u32 = 0;
 pub const WANTS_DECISION: u32 = 1;
 pub const WANTS_LINE: u32 = 2;
+pub const WANTS_WHO: u32 = 3;
+pub const WANTS_WHO_ANYWHERE: u32 = 4;
+pub const WANTS_WHAT: u32 = 5;
+pub const WANTS_RISKS: u32 = 6;
+pub const WANTS_PATHS: u32 = 7;
+pub const WANTS_MISSING: u32 = 8;
+pub const WANTS_GAINS: u32 = 9;
+pub const FORM_JSON: u32 = 2;
 
 #[repr(C)]
 pub struct Policy {
@@ -42,7 +50,10 @@ pub struct Question {
 #[repr(C)]
 pub struct Call {
     pub wants: u32,
+    pub form: u32,
     pub question: Question,
+    pub other: Text,
+    pub without: Texts,
 }
 
 #[repr(C)]
@@ -53,7 +64,7 @@ pub struct Answer {
 }
 
 const _: () = assert!(std::mem::size_of::<Question>() == 144);
-const _: () = assert!(std::mem::size_of::<Call>() == 152);
+const _: () = assert!(std::mem::size_of::<Call>() == 184);
 const _: () = assert!(std::mem::size_of::<Answer>() == 16);
 
 extern "C" {

@@ -68,11 +68,14 @@ pub struct Question<'a> {
     pub path: &'a str,
 }
 
-/// A policy that was loaded. It answers one call at a time, so a call takes it by `&mut`; no other thread may have it.
+/// A policy that was loaded. It answers one call at a time, so a call takes it by `&mut`. It may go to another thread.
 #[derive(Debug)]
 pub struct Policy {
     handle: NonNull<header::Policy>,
 }
+
+// SAFETY: it is proved of the library that what a handle points to may go to another thread.
+unsafe impl Send for Policy {}
 
 impl Policy {
     /// Loads objects, a JSON object a line.
@@ -96,44 +99,74 @@ impl Policy {
 
     /// The decision.
     pub fn decide(&mut self, question: &Question<'_>) -> Result<Decision, Error> {
-        Ok(self.ask(header::WANTS_DECISION, question)?.0)
+        Ok(decision(self.ask(header::WANTS_DECISION, question, b"", &[])?.0))
     }
 
     /// The decision, and the line that `kapi audit` writes of it.
     pub fn why(&mut self, question: &Question<'_>) -> Result<(Decision, String), Error> {
-        let (decision, line) = self.ask(header::WANTS_LINE, question)?;
-        let line = String::from_utf8(line).map_err(|_| Error::Text)?;
-        Ok((decision, line.trim_end_matches('\n').to_string()))
+        let (number, line) = self.ask(header::WANTS_LINE, question, b"", &[])?;
+        Ok((decision(number), line.trim_end_matches('\n').to_string()))
+    }
+
+    /// Who may do what is asked, whoever its user is, in its namespace or anywhere: as `kapi who --json`, an object a line.
+    pub fn who(&mut self, question: &Question<'_>, anywhere: bool) -> Result<String, Error> {
+        let wants = if anywhere { header::WANTS_WHO_ANYWHERE } else { header::WANTS_WHO };
+        Ok(self.ask(wants, question, b"", &[])?.1)
+    }
+
+    /// What a user with groups has in a namespace, or everywhere if that is empty: as `kapi what --json`.
+    pub fn what(&mut self, user: &str, groups: &[&str], namespace: &str) -> Result<String, Error> {
+        let question = Question { user, groups, namespace, ..Question::default() };
+        Ok(self.ask(header::WANTS_WHAT, &question, b"", &[])?.1)
+    }
+
+    /// Who may gain more than the policy gives: as `kapi risks --json`.
+    pub fn risks(&mut self) -> Result<String, Error> {
+        Ok(self.ask(header::WANTS_RISKS, &Question::default(), b"", &[])?.1)
+    }
+
+    /// Who can become whom, or only one, if `to` is not empty, without the rights of some kinds: as `kapi paths --json`.
+    pub fn paths(&mut self, to: &str, without: &[&str]) -> Result<String, Error> {
+        Ok(self.ask(header::WANTS_PATHS, &Question::default(), to.as_bytes(), without)?.1)
+    }
+
+    /// What the question's user lacks, in its namespace, of the role that its name names, a JSON list a line. Its resource is
+    /// the kind, `Role` or `ClusterRole`. A role that is not there is `Error::Question`.
+    pub fn missing(&mut self, question: &Question<'_>) -> Result<String, Error> {
+        Ok(self.ask(header::WANTS_MISSING, question, b"", &[])?.1)
+    }
+
+    /// Whether other objects give nobody more, if both policies are settled; and who gains what, as `kapi compare --json`.
+    pub fn gains(&mut self, objects: &[u8]) -> Result<(bool, String), Error> {
+        let (number, lines) = self.ask(header::WANTS_GAINS, &Question::default(), objects, &[])?;
+        Ok((number == 1, lines))
     }
 
     /// Whether each aggregated cluster role has all that it takes from others.
     pub fn is_settled(&mut self) -> Result<bool, Error> {
-        Ok(self.ask(header::WANTS_SETTLED, &Question::default())?.0 == Decision::Allowed)
+        Ok(self.ask(header::WANTS_SETTLED, &Question::default(), b"", &[])?.0 == 1)
     }
 
-    fn ask(&mut self, wants: u32, question: &Question<'_>) -> Result<(Decision, Vec<u8>), Error> {
-        let groups: Vec<header::Text> = question.groups.iter().map(|group| text(group)).collect();
-        let call = header::Call { wants, question: passed(question, &groups) };
+    fn ask(&mut self, wants: u32, question: &Question<'_>, other: &[u8], without: &[&str]) -> Result<(u32, String), Error> {
+        let groups: Vec<header::Text> = question.groups.iter().map(|it| text(it.as_bytes())).collect();
+        let without: Vec<header::Text> = without.iter().map(|it| text(it.as_bytes())).collect();
+        let question = passed(question, &groups);
+        let call = header::Call { wants, form: header::FORM_JSON, question, other: text(other), without: texts(&without) };
         let mut answer = header::Answer::default();
-        let mut room = vec![0; if wants == header::WANTS_LINE { 512 } else { 0 }];
+        let mut room = vec![0; if wants >= header::WANTS_LINE { 1024 } else { 0 }];
         loop {
             // SAFETY: the handle is this policy's, `&mut self` keeps other calls away, and all that is passed outlives the call.
             let status = unsafe {
                 header::kapi_ask(self.handle.as_ptr(), &call, &mut answer, room.as_mut_ptr().cast(), room.len())
             };
             if status != 5 {
-                check(status, 0)?;
+                check(status, answer.length)?;
                 break;
             }
             room.resize(answer.length, 0);
         }
         room.truncate(answer.length);
-        let decision = match answer.decision {
-            1 => Decision::Allowed,
-            2 => Decision::Masters,
-            _ => Decision::Denied,
-        };
-        Ok((decision, room))
+        Ok((answer.decision, String::from_utf8(room).map_err(|_| Error::Text)?))
     }
 }
 
@@ -144,21 +177,34 @@ impl Drop for Policy {
     }
 }
 
-fn text(text: &str) -> header::Text {
-    header::Text { bytes: text.as_ptr(), length: text.len() }
+fn decision(number: u32) -> Decision {
+    match number {
+        1 => Decision::Allowed,
+        2 => Decision::Masters,
+        _ => Decision::Denied,
+    }
+}
+
+fn text(bytes: &[u8]) -> header::Text {
+    header::Text { bytes: bytes.as_ptr(), length: bytes.len() }
+}
+
+fn texts(texts: &[header::Text]) -> header::Texts {
+    header::Texts { texts: texts.as_ptr(), length: texts.len() }
 }
 
 fn passed(question: &Question<'_>, groups: &[header::Text]) -> header::Question {
+    let of = |it: &str| text(it.as_bytes());
     header::Question {
-        user: text(question.user),
-        groups: header::Texts { texts: groups.as_ptr(), length: groups.len() },
-        name_space: text(question.namespace),
-        verb: text(question.verb),
-        group: text(question.group),
-        resource: text(question.resource),
-        subresource: text(question.subresource),
-        name: text(question.name),
-        path: text(question.path),
+        user: of(question.user),
+        groups: texts(groups),
+        name_space: of(question.namespace),
+        verb: of(question.verb),
+        group: of(question.group),
+        resource: of(question.resource),
+        subresource: of(question.subresource),
+        name: of(question.name),
+        path: of(question.path),
     }
 }
 

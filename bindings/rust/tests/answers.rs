@@ -25,3 +25,29 @@ fn decides() {
 fn names_a_bad_line() {
     assert_eq!(Policy::load(format!("{OBJECTS}no object\n").as_bytes()).unwrap_err(), Error::Line(4));
 }
+
+#[test]
+fn lists() {
+    let mut policy = Policy::load(OBJECTS.as_bytes()).unwrap();
+    let one = |lines: String, word: &str| assert!(lines.contains(word), "{lines}");
+    one(policy.who(&LOGS, false).unwrap(), "\"subject\":\"ann\"");
+    one(policy.who(&Question { namespace: "", ..LOGS }, true).unwrap(), "\"subject\":\"ann\"");
+    assert!(!policy.who(&Question { namespace: "", ..LOGS }, false).unwrap().contains("ann"));
+    one(policy.what("ann", &[], "web").unwrap(), "pods/log");
+    one(policy.risks().unwrap(), "{\"settled\":true}\n");
+    one(policy.paths("", &["escalate"]).unwrap(), "{\"settled\":true}\n");
+    let role = Question { user: "bob", namespace: "web", resource: "Role", name: "logs", ..Default::default() };
+    assert_eq!(policy.missing(&role).unwrap(), "[\"get\",\"\",\"pods/log\"]\n");
+    assert_eq!(policy.missing(&Question { user: "ann", ..role }).unwrap(), "");
+    assert_eq!(policy.missing(&Question { name: "none", ..role }), Err(Error::Question));
+    assert_eq!(policy.gains(OBJECTS.as_bytes()), Ok((true, String::new())));
+    assert_eq!(policy.gains(format!("{OBJECTS}no object\n").as_bytes()), Err(Error::Line(4)));
+    let (is_none, lines) = policy.gains(OBJECTS.replace("\"get\"", "\"get\",\"list\"").as_bytes()).unwrap();
+    assert!(!is_none && lines.contains("[\"list\",\"\",\"pods/log\"]"), "{lines}");
+}
+
+#[test]
+fn goes_to_another_thread() {
+    let mut policy = Policy::load(OBJECTS.as_bytes()).unwrap();
+    assert_eq!(std::thread::spawn(move || policy.may(&LOGS)).join().unwrap(), Ok(true));
+}
