@@ -93,6 +93,76 @@ static void asks(const kapi_policy *policy) {
     CHECK(kapi_may(policy, &asked, &decision) == KAPI_OK && decision == KAPI_MASTERS);
 }
 
+/* The text of an answer has that part, and its number is that. */
+static void tells(const kapi_policy *policy, const kapi_call *call, uint32_t number, const char *part) {
+    static char room[1 << 16];
+    kapi_answer answer = {7, 7};
+    CHECK(kapi_ask(policy, call, &answer, room, 8) == KAPI_NO_ROOM && answer.decision == 7 && answer.length < sizeof room);
+    CHECK(kapi_ask(policy, call, &answer, room, sizeof room) == KAPI_OK && answer.decision == number);
+    room[answer.length] = 0;
+    CHECK(strstr(room, part) != NULL);
+}
+
+static const char *const LATER =
+    "{\"apiVersion\":\"rbac.authorization.k8s.io/v1\",\"kind\":\"ClusterRole\",\"metadata\":{\"name\":\"all\"},\"rules\":[{\"apiGroups\":[\"\"],"
+    "\"resources\":[\"pods\"],\"verbs\":[\"list\"]}]}\n{\"apiVersion\":\"rbac.authorization.k8s.io/v1\",\"kind\":\"ClusterRoleBinding\",\"metadata\":"
+    "{\"name\":\"all\"},\"subjects\":[{\"apiGroup\":\"rbac.authorization.k8s.io\",\"kind\":\"User\",\"name\":\"cy\"}],\"roleRef\":{\"apiGroup\":"
+    "\"rbac.authorization.k8s.io\",\"kind\":\"ClusterRole\",\"name\":\"all\"}}\n";
+
+/* The call that wants this, of which each text is there. */
+static kapi_call wanting(uint32_t wants) {
+    kapi_call call = kapi_call_of(wants);
+    call.form = KAPI_FORM_JSON;
+    call.question = logs("ann");
+    if (wants == KAPI_WANTS_MISSING) {
+        call.question.user = text("bob");
+        call.question.resource = text("Role");
+        call.question.name = text("logs");
+    }
+    if (wants == KAPI_WANTS_GAINS) {
+        call.other = text(LATER);
+    }
+    return call;
+}
+
+static void lists(const kapi_policy *policy, const char *objects, size_t length) {
+    kapi_call call = wanting(KAPI_WANTS_WHO);
+    kapi_answer answer = {7, 7};
+    tells(policy, &call, 1, "\"subject\":\"ann\"");
+    call.form = KAPI_FORM_TABLE;
+    tells(policy, &call, 1, "User ann");
+    call.form = KAPI_FORM_MARKDOWN;
+    tells(policy, &call, 1, "| User ann |");
+    call.form = 3;
+    CHECK(kapi_ask(policy, &call, &answer, NULL, 0) == KAPI_NO_QUESTION && answer.decision == 7 && answer.length == 7);
+    call = wanting(KAPI_WANTS_WHO_ANYWHERE);
+    call.question.name_space = text("");
+    tells(policy, &call, 1, "\"subject\":\"ann\"");
+    call = wanting(KAPI_WANTS_WHAT);
+    tells(policy, &call, 1, "pods/log");
+    call = wanting(KAPI_WANTS_RISKS);
+    tells(policy, &call, 1, "{\"settled\":true}\n");
+    kapi_text escalate = text("escalate");
+    call = wanting(KAPI_WANTS_PATHS);
+    call.without.texts = &escalate;
+    call.without.length = 1;
+    tells(policy, &call, 1, "{\"settled\":true}\n");
+    call = wanting(KAPI_WANTS_MISSING);
+    tells(policy, &call, 0, "[\"get\",\"\",\"pods/log\"]\n");
+    call.question.user = text("ann");
+    CHECK(kapi_ask(policy, &call, &answer, NULL, 0) == KAPI_OK && answer.decision == 1 && answer.length == 0);
+    call.question.name = text("none");
+    answer.length = 7;
+    CHECK(kapi_ask(policy, &call, &answer, NULL, 0) == KAPI_NO_QUESTION && answer.length == 7);
+    call = wanting(KAPI_WANTS_GAINS);
+    tells(policy, &call, 0, "[\"list\",\"\",\"pods\"]");
+    call.other.bytes = objects;
+    call.other.length = length;
+    CHECK(kapi_ask(policy, &call, &answer, NULL, 0) == KAPI_OK && answer.decision == 1 && answer.length == 0);
+    call.other = text("\n\n{");
+    CHECK(kapi_ask(policy, &call, &answer, NULL, 0) == KAPI_BAD_LINE && answer.decision == 1 && answer.length == 3);
+}
+
 static void faults(const kapi_policy *policy) {
     kapi_decision decision = 7;
     kapi_call call = kapi_call_of(99);
@@ -171,6 +241,26 @@ static size_t refused_questions(const kapi_policy *policy) {
     }
 }
 
+static size_t refused_lists(const kapi_policy *policy) {
+    static char room[1 << 16];
+    size_t refused = 0;
+    for (uint32_t wants = KAPI_WANTS_WHO; wants <= KAPI_WANTS_GAINS; wants++) {
+        kapi_call call = wanting(wants);
+        kapi_status status = KAPI_NO_MEMORY;
+        for (fails_at = 1; status == KAPI_NO_MEMORY; fails_at++, refused++) {
+            kapi_answer answer = {7, 7};
+            size_t before = held;
+            calls = 0;
+            room[0] = '!';
+            status = kapi_ask(policy, &call, &answer, room, sizeof room);
+            CHECK(held == before && (status == KAPI_OK || (answer.decision == 7 && answer.length == 7 && room[0] == '!')));
+        }
+        CHECK(status == KAPI_OK);
+    }
+    fails_at = 0;
+    return refused - (KAPI_WANTS_GAINS - KAPI_WANTS_WHO + 1);
+}
+
 int main(int count, char **words) {
     CHECK(count == 2 && kapi_abi() == KAPI_ABI);
     size_t length, line = 7;
@@ -179,13 +269,14 @@ int main(int count, char **words) {
     CHECK(kapi_load(objects, length, &line, &policy) == KAPI_OK && policy != NULL && line == 7);
     CHECK(kapi_load("\n#\n{", 4, &line, &none) == KAPI_BAD_LINE && none == NULL && line == 3);
     asks(policy);
+    lists(policy, objects, length);
     faults(policy);
     decides_many(objects, length);
-    size_t loads = refusals(objects, length), questions = refused_questions(policy);
+    size_t loads = refusals(objects, length), questions = refused_questions(policy), listed = refused_lists(policy);
     kapi_free(policy);
     kapi_free(NULL);
     CHECK(held == 0);
     __real_free(objects);
-    printf("C: all as it should be; %zu refused allocations of a load and %zu of a question told by a status\n", loads, questions);
+    printf("C: all as it should be; %zu refused allocations of a load, %zu of a question and %zu of lists are a status\n", loads, questions, listed);
     return 0;
 }

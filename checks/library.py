@@ -4,9 +4,10 @@ usage: python3 -m checks.library PROGRAM [FOLDER [QUESTIONS [SEED]]]     the fol
 if left out, 10,000 questions and the seed 1; wants cc, and runs what valgrind, c++, cargo and go are there
 
 C: each export, each fault, each allocation refused in turn; with valgrind once more. What the shared object shows, and its size.
-Python: its tests; random questions over the policies of examples/ with the answers of the program; 8 threads with a policy each.
+Python: its tests; random questions over the policies of examples/ with the answers of the program, and lists; 8 threads with a policy each.
 Rust and Go: their tests. What is not there is named.
 """
+import importlib.util
 import json
 import os
 import pathlib
@@ -146,6 +147,38 @@ def compare(program, kapi, count, seed, room):
     return asked
 
 
+def compare_lists(program, kapi, room):
+    """How many lists are those that the commands print."""
+    lists, file, later = 0, room / "policy.jsonl", room / "later.jsonl"
+
+    def printed(*words):
+        return [json.loads(it) for it in subprocess.run([program, *words], capture_output=True, text=True).stdout.splitlines()]
+
+    def alike(ours, *words):
+        theirs = printed(*words)
+        assert ours == theirs, (words, ours, theirs)
+        return 1
+
+    later.write_text("\n".join(loaded(POLICIES[-1])[0]))
+    for name in POLICIES:
+        lines, objects = loaded(name)
+        file.write_text("\n".join(lines))
+        words = words_of(lines)
+        with kapi.Policy.load(objects) as policy:
+            lists += alike(policy.risks(), "risks", "--json", file)
+            lists += alike(policy.paths(without=["escalate"]), "paths", "--json", "--without", "escalate", file)
+            lists += alike(policy.gains(loaded(POLICIES[-1])[1])[1], "compare", "--json", file, later)
+            for resource, space in [(one, space) for one in words["resource"] if one and "*" not in one for space in words["namespace"]]:
+                asked = kapi.Question("", "get", resource, namespace=space)
+                where = ["--namespace", space] if space else ["--cluster"]
+                lists += alike(policy.who(asked), "who", "--json", *where, file, "get", resource)
+                lists += alike(policy.who(asked, anywhere=True), "who", "--json", file, "get", resource) if not space else 0
+            for user in words["user"]:
+                if user and not user.startswith("system:"):
+                    lists += alike(policy.what(user, ["system:authenticated"]), "what", "--json", file, user)
+    print(f"  {lists} lists are those of kapi who, what, risks, paths and compare")
+
+
 def ask_in_threads(kapi):
     _, objects = loaded(POLICIES[0])
     rng = random.Random(8)
@@ -165,6 +198,16 @@ def ask_in_threads(kapi):
     print(f"  {THREADS} threads with a policy each answer {len(questions)} questions alike")
 
 
+def install(room):
+    """Installs the package by pip, as a wheel, and loads it."""
+    if any(importlib.util.find_spec(it) is None for it in ("pip", "setuptools", "wheel")):
+        print("  pip, setuptools or wheel is not there: the package not installed")
+        return
+    shutil.copytree(ROOT / "bindings/python", room / "package")
+    run(sys.executable, "-m", "pip", "install", "-q", "--no-deps", "--no-index", "--no-build-isolation", "--target", room / "site", room / "package")
+    run(sys.executable, "-c", "import kapi; kapi.Policy.load('').close()", cwd=room, env=os.environ | {"PYTHONPATH": str(room / "site")})
+
+
 def main(program, folder="out/library", questions="10000", seed="1"):
     folder = pathlib.Path(folder).resolve()
     os.environ |= {"KAPI_LIBRARY": str(folder / "lib/libkapi.so"), "PKG_CONFIG_PATH": str(folder / "lib/pkgconfig"), "LD_LIBRARY_PATH": str(folder / "lib")}
@@ -179,7 +222,9 @@ def main(program, folder="out/library", questions="10000", seed="1"):
         print("Python")
         run(sys.executable, "-m", "unittest", "-q", "tests.test_kapi", cwd=ROOT / "bindings/python")
         asked = compare(program, kapi, int(questions), int(seed), room)
+        compare_lists(program, kapi, room)
         ask_in_threads(kapi)
+        install(room)
         print("Rust")
         if is_there("cargo", "the tests of the crate"):
             run("cargo", "test", "-q", "--offline", cwd=ROOT / "bindings/rust", env=os.environ | {"KAPI_LIB": str(folder / "lib"), "CARGO_TARGET_DIR": str(room / "target")})
