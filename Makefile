@@ -31,6 +31,7 @@ quick: profile ## change: plays all transcripts and runs the quick checks; prove
 test: ## change: the gate: every proof, the edits that must be refused, the tests and all transcripts (rt ci), then the quick checks
 	@rt ci
 	@sh tools/sources.sh > crates/kapi/out/proved
+	@if command -v cc > /dev/null && command -v objcopy > /dev/null; then sh tools/library.sh out/library; else echo 'The C library is left out: cc or objcopy is not there.'; fi
 	@$(PYTHON) -m checks $(PROVED)
 
 kapi: ## use: says where the program lies that was proved of these sources; without one, runs the gate

@@ -1,5 +1,6 @@
 """Runs the checks of a program. usage: python3 -m checks PROGRAM [NAME,NAME.. [WORD..]]     the quick ones that want python3 alone if none is named"""
 import importlib.util
+import pathlib
 import sys
 
 from tools.chosen import Module, main
@@ -21,7 +22,7 @@ CHECKS = {
     "hostile": Module(words=("window",)),
     "crafted": Module(),
     "growths": Module("cc"),
-    "library": Module("make library PREFIX=out/library"),
+    "library": Module("make library PREFIX=out/library", () if pathlib.Path("out/library/lib/libkapi.so").exists() else None),
     "pages": Module("curl and jq"),
     "kubectl": Module("kubectl"),
     "controller": Module("python3-kubernetes"),

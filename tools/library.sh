@@ -1,5 +1,5 @@
 #!/bin/sh
-# Proves the C library, unless that was done, and installs header, libkapi.a, libkapi.so and kapi.pc. usage: library.sh PREFIX     wants cc and objcopy
+# Builds the C library of what the gate proved, and installs header, libkapi.a, libkapi.so and kapi.pc. usage: library.sh PREFIX     wants cc and objcopy
 set -e
 cd "$(dirname "$0")/.."
 mkdir -p "${1:?usage: library.sh PREFIX}"
@@ -7,7 +7,25 @@ prefix=$(cd "$1" && pwd)
 archive=crates/kapi_c/out/libkapi_c.a
 command -v rt > /dev/null || { echo 'rt, the Rattle toolchain, is not on the PATH.' >&2; exit 1; }
 kit=$(dirname "$(dirname "$(readlink -f "$(command -v rt)")")")
-(cd crates/kapi_c && rt lib)
+# The gate proves a static library, but builds none. This proves it again, over the libraries that the gate left, and builds it.
+build() {
+    cd crates/kapi_c
+    set -- --crate-name kapi_c src/lib.rt --extern "std=$kit/rlibs/std.rlib" -L "dependency=$kit/rlibs"
+    for name in $(sed -n 's/^kapi_c staticlib: //p' ../../crates.txt); do
+        [ -d "../$name" ] && set -- "$@" --extern "$name=../$name/out/rlib/$name.rlib" || set -- "$@" --extern "$name=$kit/rlibs/$name.rlib"
+    done
+    for folder in ../*/out/rlib; do
+        set -- "$@" -L "dependency=$folder"
+    done
+    set -- "$@" --antt-project "$kit/rattle/logic/antt-project.json" --logic-built "$kit/logic_built" --toolchain "$kit/toolchain"
+    "$kit/bin/rattle" build "$@" --jobs 2 --links kapi_c= --crate-type staticlib --backend llvm -o out/libkapi_c.a > out/library.log 2>&1
+}
+sources=$(sh tools/sources.sh)
+if ! [ -f $archive ] || [ "$sources" != "$(cat crates/kapi_c/out/built 2> /dev/null)" ]; then
+    echo 'Proves the static library again, and builds it, in two to four minutes.' >&2
+    (build) || { tail -n 20 crates/kapi_c/out/library.log >&2; exit 1; }
+    echo "$sources" > crates/kapi_c/out/built
+fi
 room=$(mktemp -d)
 trap 'rm -rf "$room"' EXIT
 # One object of the proved code and of the kit's part in C. Only what begins with kapi_ can be seen from outside.
