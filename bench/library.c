@@ -2,10 +2,12 @@
  *
  * QUESTIONS has a question a line, with tabs between user, groups (commas between them), namespace, verb, API group, resource,
  * subresource, name and path. All are asked once, and then over and over for so many seconds. Printed are the processor time of a
- * decision, in us, and of the load, in ms, and a line with 1 for each question that is allowed, and 0 for each other. */
+ * decision, in us, and of the load, in ms, and the most memory until it ended, in MB, with the files' text; and a line with 1 for each
+ * question that is allowed, and 0 for each other. */
 #include <stdio.h>
 #include <stdlib.h>
 #include <string.h>
+#include <sys/resource.h>
 #include <time.h>
 
 #include "kapi.h"
@@ -82,6 +84,8 @@ int main(int count, char **words) {
     double begun = processor();
     if (kapi_load(objects, length, &line, &policy) != KAPI_OK) return 1;
     double loaded = processor();
+    struct rusage memory;
+    getrusage(RUSAGE_SELF, &memory);
     for (size_t number = 0; number < questions; number++) {
         said[number] = answer(policy, &all[number]);
     }
@@ -92,6 +96,6 @@ int main(int count, char **words) {
         }
     }
     kapi_free(policy);
-    printf("%.4f %.2f\n%s\n", used * 1e6 / (double)asked, (loaded - begun) * 1e3, said);
+    printf("%.4f %.2f %.1f\n%s\n", used * 1e6 / (double)asked, (loaded - begun) * 1e3, (double)memory.ru_maxrss / 1e3, said);
     return 0;
 }

@@ -64,9 +64,9 @@ def main(program, folder="out/library"):
         room = pathlib.Path(name)
         made = driver(folder, room)
         for count, spaces in SIZES:
-            (used, load), answers = run(made, *write(room, count, spaces), SECONDS)
+            (used, load, memory), answers = run(made, *write(room, count, spaces), SECONDS)
             assert answers.count("1") == QUESTIONS / 2, answers
-            print(f"{where(count, spaces)}: loaded in {load:,.1f} ms, a decision in {used:.2f} us", flush=True)
+            print(f"{where(count, spaces)}: loaded in {load:,.1f} ms and {memory:,.0f} MB with the text, a decision in {used:.2f} us", flush=True)
 
 
 if __name__ == "__main__":
