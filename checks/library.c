@@ -132,7 +132,7 @@ static void lists(const kapi_policy *policy, const char *objects, size_t length)
     call.form = KAPI_FORM_TABLE;
     tells(policy, &call, 1, "User ann");
     call.form = KAPI_FORM_MARKDOWN;
-    tells(policy, &call, 1, "| User ann |");
+    tells(policy, &call, 1, "| User ann ");
     call.form = 3;
     CHECK(kapi_ask(policy, &call, &answer, NULL, 0) == KAPI_NO_QUESTION && answer.decision == 7 && answer.length == 7);
     call = wanting(KAPI_WANTS_WHO_ANYWHERE);

@@ -7,9 +7,11 @@ prefix=$(cd "$1" && pwd)
 archive=crates/kapi_c/out/libkapi_c.a
 command -v rt > /dev/null || { echo 'rt, the Rattle toolchain, is not on the PATH.' >&2; exit 1; }
 kit=$(dirname "$(dirname "$(readlink -f "$(command -v rt)")")")
-# The gate proves a static library, but builds none. This proves it again, over the libraries that the gate left, and builds it.
+# The gate proves a static library, but builds none. This proves it again, over the libraries that the gate left, and builds it. A stamp is
+# of a library that another run left: then rt lib proves all that was not proved of these sources.
 build() {
     cd crates/kapi_c
+    ! ls ../*/out/rlib/stamp > /dev/null 2>&1 || { rt lib > out/library.log 2>&1; return; }
     set -- --crate-name kapi_c src/lib.rt --extern "std=$kit/rlibs/std.rlib" -L "dependency=$kit/rlibs"
     for name in $(sed -n 's/^kapi_c staticlib: //p' ../../crates.txt); do
         [ -d "../$name" ] && set -- "$@" --extern "$name=../$name/out/rlib/$name.rlib" || set -- "$@" --extern "$name=$kit/rlibs/$name.rlib"
