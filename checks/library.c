@@ -84,6 +84,9 @@ static void asks(const kapi_policy *policy) {
     CHECK(kapi_may(policy, &asked, &decision) == KAPI_OK && decision == KAPI_DENIED);
     asked = logs("bob");
     CHECK(kapi_may(policy, &asked, &decision) == KAPI_OK && decision == KAPI_DENIED);
+    asked = kapi_call_of(0).question;
+    CHECK(kapi_may(policy, &asked, &decision) == KAPI_OK && decision == KAPI_DENIED);
+    asked = logs("bob");
     kapi_text groups[1000];
     for (size_t at = 0; at < 1000; at++) {
         groups[at] = text(at == 999 ? "system:masters" : "a");
