@@ -6,10 +6,11 @@
  * DUTIES. Nothing checks them, and a call that breaks one may do anything.
  *   - A pointer with a length points to that many items, which nobody writes during the call. Null will do for no items.
  *     A length in bytes is below 2^63.
- *   - A policy is one that kapi_load gave, and that was not freed since. No call takes a null policy but kapi_free.
+ *   - A policy is a handle that kapi_load or kapi_share gave, and that was not freed since. No call takes a null policy but
+ *     kapi_free.
  *   - Where an answer goes there is room for it, apart from all that the call reads.
- *   - A policy serves one call at a time. It may go to another thread: only once its call has ended, and only if that is
- *     ordered, as by a lock. Threads that ask side by side load a policy each.
+ *   - A handle of a policy serves one call at a time. It may go to another thread: only once its call has ended, and only if
+ *     that is ordered, as by a lock. Threads that ask side by side have a handle each, by kapi_share.
  *   - malloc, realloc and free are of one allocator, and align a block of n bytes to each power of two up to 16 that
  *     divides n. No call is made in a signal handler, or in a forked child of a program with threads.
  *
@@ -19,8 +20,9 @@
  * but the line of KAPI_BAD_LINE and the length of KAPI_NO_ROOM, and the policy is as it was. No status is a decision: a
  * decision is written out, and 0 denies. Set it to 0 before the call, and no fault can be read as leave.
  *
- * OWNERSHIP. What is passed stays the caller's, and no call keeps a pointer to it. A policy is the caller's from KAPI_OK
- * of kapi_load to kapi_free, and never changes: load the changed objects, and free the old policy.
+ * OWNERSHIP. What is passed stays the caller's, and no call keeps a pointer to it. A handle is the caller's from KAPI_OK of
+ * kapi_load or kapi_share to kapi_free. A policy never changes: load the changed objects, and free the old handles. Its
+ * memory goes with the last.
  *
  * No call prints, waits, starts a thread, reads a file or ends the process.
  */
@@ -125,7 +127,10 @@ kapi_status kapi_load(const char *objects, size_t length, size_t *line, kapi_pol
 /* Answers a call. The text goes to the front of `room`, which has `size` bytes, with no NUL behind it. */
 kapi_status kapi_ask(const kapi_policy *policy, const kapi_call *call, kapi_answer *answer, char *room, size_t size);
 
-/* Frees a policy, which is not null. */
+/* Gives one more handle of a policy, for another thread: no copy. Each is freed on its own. */
+kapi_status kapi_share(const kapi_policy *policy, kapi_policy **other);
+
+/* Frees a handle, which is not null. */
 void kapi_drop(kapi_policy *policy);
 
 /* Loads a policy, decides each of `count` questions by it, and frees it: decisions[n] is that of questions[n]. `room` has to be
@@ -135,7 +140,7 @@ kapi_status kapi_decide(const char *objects, size_t length, const kapi_question 
 
 /* ---- calls that are made of these */
 
-/* Frees a policy. Null is none. */
+/* Frees a handle. Null is none. */
 static inline void kapi_free(kapi_policy *policy) {
     if (policy != NULL) {
         kapi_drop(policy);

@@ -6,7 +6,7 @@ use base.Fml.{Fml, ffalse, feq, fsep}
 use denote.Memory.{lone}
 use mir.Raw.{raw}
 use Rattle.kapi_loading.specs.Faults.{FileFault, bad_line}
-use Rattle.kapi_engine.specs.contracts.engine.Engine.{the_row}
+use Rattle.kapi_calls.specs.contracts.shared.Shared.{the_row}
 use Rattle.kapi_engine.specs.declared.engine.Engine.{Engine}
 
 -- the engine lies at the handle, and the block there may be freed

@@ -1,5 +1,5 @@
 //! The C library: `include/kapi.h` is its other side. Each export calls one function. A policy crosses as a pointer to a
-//! struct that C never sees into, which is an engine here.
+//! struct that C never sees into, which is a holder of an engine here.
 #![tactic(auto)]
 
 ghost use Rattle.std.specs.Prelude.{◌≡◌, ℕ, suc, MatchResult, Ok};
@@ -12,9 +12,8 @@ ghost use Rattle.kapi_c.specs.Handles.{IsLoaded, handed, holds_at};
 
 mod loading;
 
-use kapi_calls::{Answer, Call, PassedQuestion, answer_call, decide_batch};
-use kapi_engine::Engine;
-use loading::{let_go, make_engine, put};
+use kapi_calls::{Answer, Call, PassedQuestion, Shared, answer_shared, decide_batch};
+use loading::{let_go, make_another, make_engine, put};
 use std::alloc::Global;
 
 /// What a handle points to, as C knows it: nothing.
@@ -75,7 +74,25 @@ pub unsafe extern "C" fn kapi_ask(
     requires* { sem 𝓛 (holds_at policy held) }
     ensures* { sem 𝓛 (holds_at policy held) ∗ ⌜ IsAnswered held call.now answer.old answer.new room.old room.new result ⌝ }
 {
-    answer_call(alloc, &*(policy as *const Engine), call, answer, room)
+    answer_shared(alloc, &*(policy as *const Shared), call, answer, room)
+}
+
+/// Hands out one more handle of the policy, for another thread. The caller holds the first before and after, and the new
+/// one if the status is 0.
+#[unsafe(no_mangle)]
+pub unsafe extern "C" fn kapi_share(
+    alloc: Global,
+    policy: *const Policy,
+    other: &mut *mut Policy,
+) -> u32
+    ghost held: { Loaded }
+    requires* { sem 𝓛 (holds_at policy held) }
+    ensures* { sem 𝓛 (holds_at policy held) ∗ sem 𝓛 (handed result other.old other.new (Ok held)) }
+{
+    match make_another(alloc, &*(policy as *const Shared)) {
+        Ok(made) => put(other, Box::into_raw(made)),
+        Err(status) => status,
+    }
 }
 
 /// Frees a policy.
@@ -84,5 +101,5 @@ pub unsafe extern "C" fn kapi_drop(alloc: Global, policy: *mut Policy)
     ghost held: { Loaded }
     requires* { sem 𝓛 (holds_at policy held) }
 {
-    let_go(Box::from_raw(alloc, policy as *mut Engine));
+    let_go(Box::from_raw(alloc, policy as *mut Shared));
 }

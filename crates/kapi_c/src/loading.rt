@@ -4,7 +4,8 @@ ghost use Rattle.kapi_c.specs.Handles.{IsLoaded};
 ghost use Rattle.kapi_c.specs.Statuses.{status_in};
 
 use crate::Policy;
-use kapi_engine::{Engine, StartError, load};
+use kapi_calls::{Shared, share};
+use kapi_engine::{StartError, load};
 use std::alloc::Global;
 
 /// The status where memory runs out.
@@ -13,11 +14,14 @@ const NO_MEMORY: u32 = 1;
 /// The status where a line is not loaded.
 const BAD_LINE: u32 = 2;
 
-/// A value that another thread may have: the bound is proved of an engine where this is called.
-fn sendable<T: Send>(value: T) -> T
-    ensures { result ≡ value }
+/// A holder on the heap.
+fn boxed(alloc: Global, holder: Shared) -> Result<Box<Shared, Global>, u32>
+    ensures { MatchResult result (λ b. b.value ≡ holder) (λ status. status ≡ 1) }
 {
-    value
+    match Box::new(alloc, holder) {
+        Ok(made) => Ok(made),
+        Err(_refused) => Err(NO_MEMORY),
+    }
 }
 
 /// The engine of objects on the heap, or the status of a load that fails.
@@ -25,7 +29,7 @@ pub fn make_engine(
     alloc: Global,
     objects: &[u8],
     line: &mut usize,
-) -> Result<Box<Engine, Global>, u32>
+) -> Result<Box<Shared, Global>, u32>
     ensures made { MatchResult result (λ b. engine_of objects.now ≡ Ok b.value) (λ status. (n : ℕ) × (status ≡ suc n)) }
     ensures line { IsLoaded (engine_of objects.now) line.old line.new (status_in result) }
 {
@@ -37,14 +41,24 @@ pub fn make_engine(
         }
         Err(StartError::Memory) => return Err(NO_MEMORY),
     };
-    match Box::new(alloc, sendable(made)) {
-        Ok(made) => Ok(made),
+    match Shared::new(alloc, made) {
+        Ok(holder) => boxed(alloc, holder),
+        Err(_refused) => Err(NO_MEMORY),
+    }
+}
+
+/// One more holder of the same policy on the heap.
+pub fn make_another(alloc: Global, holder: &Shared) -> Result<Box<Shared, Global>, u32>
+    ensures { MatchResult result (λ b. b.value ≡ holder.now) (λ status. status ≡ 1) }
+{
+    match share(holder) {
+        Ok(other) => boxed(alloc, other),
         Err(_refused) => Err(NO_MEMORY),
     }
 }
 
 /// Puts a handle out, and gives the status of success.
-pub fn put(policy: &mut *mut Policy, at: *mut Engine) -> u32
+pub fn put(policy: &mut *mut Policy, at: *mut Shared) -> u32
     ensures handle { policy.new ≡ at }
     ensures status { result ≡ 0 }
 {
@@ -52,7 +66,7 @@ pub fn put(policy: &mut *mut Policy, at: *mut Engine) -> u32
     0
 }
 
-/// Drops an engine, and frees its block.
-pub fn let_go(engine: Box<Engine, Global>) {
-    drop(engine);
+/// Drops a holder, and frees its block.
+pub fn let_go(holder: Box<Shared, Global>) {
+    drop(holder);
 }

@@ -8,9 +8,11 @@ mod fault;
 mod listing;
 mod passed;
 mod reading;
+mod shared;
 
-pub use answering::{Answer, answer_call};
+pub use answering::Answer;
 pub use batch::decide_batch;
 pub use fault::CallFault;
 pub use passed::{Call, PassedQuestion, PassedText};
 pub use reading::{Asked, read_question};
+pub use shared::{Shared, answer_shared, share};
