@@ -244,6 +244,30 @@ static size_t refused_questions(const kapi_policy *policy) {
     }
 }
 
+/* Handles of one policy, which are freed in any order: the last answers when the first is freed. */
+static size_t shares(const char *objects, size_t length) {
+    kapi_policy *first = NULL, *second = NULL;
+    kapi_decision decision = 7;
+    kapi_question asked = logs("ann");
+    size_t line = 0, before = held, refused = 0;
+    CHECK(kapi_load(objects, length, &line, &first) == KAPI_OK);
+    for (fails_at = 1;; fails_at++, refused++) {
+        size_t kept = held;
+        calls = 0;
+        if (kapi_share(first, &second) == KAPI_OK) {
+            break;
+        }
+        CHECK(second == NULL && held == kept);
+    }
+    fails_at = 0;
+    CHECK(second != NULL && second != first);
+    kapi_free(first);
+    CHECK(kapi_may(second, &asked, &decision) == KAPI_OK && decision == KAPI_ALLOWED);
+    kapi_free(second);
+    CHECK(held == before);
+    return refused;
+}
+
 static size_t refused_lists(const kapi_policy *policy) {
     static char room[1 << 16];
     size_t refused = 0;
@@ -276,10 +300,11 @@ int main(int count, char **words) {
     faults(policy);
     decides_many(objects, length);
     size_t loads = refusals(objects, length), questions = refused_questions(policy), listed = refused_lists(policy);
+    size_t shared = shares(objects, length);
     kapi_free(policy);
     kapi_free(NULL);
     CHECK(held == 0);
     __real_free(objects);
-    printf("C: all as it should be; %zu refused allocations of a load, %zu of a question and %zu of lists are a status\n", loads, questions, listed);
+    printf("C: all as it should be; %zu refused allocations of a load, %zu of a question, %zu of lists and %zu of a share are a status\n", loads, questions, listed, shared);
     return 0;
 }

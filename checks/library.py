@@ -4,7 +4,7 @@ usage: python3 -m checks.library PROGRAM [FOLDER [QUESTIONS [SEED]]]     the fol
 if left out, 10,000 questions and the seed 1; wants cc, and runs what valgrind, c++, cargo and go are there
 
 C: each export, each fault, each allocation refused in turn; with valgrind once more. What the shared object shows, and its size.
-Python: its tests; random questions over the policies of examples/ with the answers of the program, and lists; 8 threads with a policy each.
+Python: its tests; random questions over the policies of examples/ with the answers of the program, and lists; 8 threads with a handle each.
 Rust and Go: their tests. What is not there is named.
 """
 import importlib.util
@@ -185,17 +185,20 @@ def ask_in_threads(kapi):
     questions = [question(rng, words_of(objects.splitlines()), kapi)[0] for _ in range(500)]
     found = [None] * THREADS
 
-    def work(at):
-        with kapi.Policy.load(objects) as policy:
+    def work(at, policy):
+        with policy:
             found[at] = [policy.why(it) for it in questions]
 
-    threads = [threading.Thread(target=work, args=(at,)) for at in range(THREADS)]
+    # Half of the threads load a policy, half have a handle of one that is closed then.
+    with kapi.Policy.load(objects) as first:
+        policies = [first.share() if at % 2 else kapi.Policy.load(objects) for at in range(THREADS)]
+    threads = [threading.Thread(target=work, args=it) for it in enumerate(policies)]
     for it in threads:
         it.start()
     for it in threads:
         it.join()
     assert found[0] and all(it == found[0] for it in found)
-    print(f"  {THREADS} threads with a policy each answer {len(questions)} questions alike")
+    print(f"  {THREADS} threads with a handle each answer {len(questions)} questions alike")
 
 
 def install(room):

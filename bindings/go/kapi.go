@@ -75,7 +75,7 @@ type Question struct {
 	Namespace, Verb, Group, Resource, Subresource, Name, Path string
 }
 
-// Policy is a policy that was loaded. One goroutine asks at a time: for more at once load a policy for each.
+// Policy is a policy that was loaded. One goroutine asks at a time: for more at once give each its own by Share.
 type Policy struct {
 	lock    sync.Mutex
 	handle  *C.kapi_policy
@@ -111,6 +111,21 @@ func Load(objects []byte) (*Policy, error) {
 	}
 	runtime.SetFinalizer(policy, (*Policy).Close)
 	return policy, nil
+}
+
+// Share gives the same policy for another goroutine. Nothing is copied, and each is closed on its own.
+func (policy *Policy) Share() (*Policy, error) {
+	policy.lock.Lock()
+	defer policy.lock.Unlock()
+	if policy.handle == nil {
+		return nil, ErrClosed
+	}
+	other := &Policy{}
+	if err := fault(C.kapi_share(policy.handle, &other.handle), 0); err != nil {
+		return nil, err
+	}
+	runtime.SetFinalizer(other, (*Policy).Close)
+	return other, nil
 }
 
 // May says whether the policy allows it, and false at each fault.

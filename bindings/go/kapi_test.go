@@ -4,6 +4,7 @@ import (
 	"errors"
 	"fmt"
 	"strings"
+	"sync"
 	"testing"
 )
 
@@ -93,6 +94,35 @@ func TestLists(t *testing.T) {
 	var line BadLine
 	if _, nobody, err := policy.Gains([]byte(objects + "no object\n")); nobody || !errors.As(err, &line) || line != 4 {
 		t.Error(nobody, err)
+	}
+}
+
+func TestShare(t *testing.T) {
+	policy, err := Load([]byte(objects))
+	if err != nil {
+		t.Fatal(err)
+	}
+	var group sync.WaitGroup
+	for at := 0; at < 8; at++ {
+		other, err := policy.Share()
+		if err != nil {
+			t.Fatal(err)
+		}
+		group.Add(1)
+		go func() {
+			defer group.Done()
+			defer other.Close()
+			for at := 0; at < 1000; at++ {
+				if may, err := other.May(Question{User: "ann", Verb: "get", Resource: "pods/log", Namespace: "web"}); !may || err != nil {
+					t.Error(may, err)
+				}
+			}
+		}()
+	}
+	policy.Close()
+	group.Wait()
+	if _, err := policy.Share(); !errors.Is(err, ErrClosed) {
+		t.Error(err)
 	}
 }
 

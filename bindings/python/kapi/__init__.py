@@ -110,6 +110,8 @@ def _library() -> ctypes.CDLL:
     library.kapi_load.argtypes = [ctypes.c_char_p, ctypes.c_size_t, ctypes.POINTER(ctypes.c_size_t), ctypes.POINTER(policy)]
     library.kapi_ask.restype = ctypes.c_uint32
     library.kapi_ask.argtypes = [policy, ctypes.POINTER(_Call), ctypes.POINTER(_Answer), ctypes.c_char_p, ctypes.c_size_t]
+    library.kapi_share.restype = ctypes.c_uint32
+    library.kapi_share.argtypes = [policy, ctypes.POINTER(policy)]
     library.kapi_drop.restype = None
     library.kapi_drop.argtypes = [policy]
     if library.kapi_abi() != ABI:
@@ -166,7 +168,7 @@ def _check(status: int, line: int = 0) -> None:
 
 
 class Policy:
-    """A policy that was loaded. A lock lets one thread ask at a time: for more at once load a policy for each."""
+    """A policy that was loaded. A lock lets one thread ask at a time: for more at once `share` it with each."""
 
     def __init__(self, handle: ctypes.c_void_p) -> None:
         self._handle = handle
@@ -178,6 +180,15 @@ class Policy:
         held, line, handle = _bytes(objects), ctypes.c_size_t(0), ctypes.c_void_p()
         _check(_LIBRARY.kapi_load(held, len(held), ctypes.byref(line), ctypes.byref(handle)), line.value)
         return cls(handle)
+
+    def share(self) -> Policy:
+        """The same policy for another thread. Nothing is copied, and each is closed on its own."""
+        handle = ctypes.c_void_p()
+        with self._lock:
+            if not self._handle:
+                raise KapiError("the policy is closed")
+            _check(_LIBRARY.kapi_share(self._handle, ctypes.byref(handle)))
+        return Policy(handle)
 
     def decide(self, question: Question) -> Decision:
         """The decision, denied unless the policy allows it."""

@@ -26,6 +26,14 @@ class Answers(unittest.TestCase):
         self.assertEqual(self.policy.why(Question("bob", "get", "pods")), "denied")
         self.assertTrue(self.policy.settled)
 
+    def test_shares(self) -> None:
+        logs = Question("ann", "get", "pods/log", namespace="web")
+        with self.policy.share() as other:
+            self.policy.close()
+            self.assertTrue(other.may(logs))
+        with self.assertRaises(KapiError):
+            self.policy.share()
+
     def test_lists(self) -> None:
         logs = Question("", "get", "pods/log", namespace="web")
         self.assertEqual([it["subject"] for it in self.policy.who(logs)], ["system:masters", "ann"])

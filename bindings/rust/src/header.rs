@@ -71,5 +71,6 @@ extern "C" {
     pub fn kapi_abi() -> u32;
     pub fn kapi_load(objects: *const c_char, length: usize, line: *mut usize, policy: *mut *mut Policy) -> u32;
     pub fn kapi_ask(policy: *const Policy, call: *const Call, answer: *mut Answer, room: *mut c_char, size: usize) -> u32;
+    pub fn kapi_share(policy: *const Policy, other: *mut *mut Policy) -> u32;
     pub fn kapi_drop(policy: *mut Policy);
 }

@@ -68,7 +68,8 @@ pub struct Question<'a> {
     pub path: &'a str,
 }
 
-/// A policy that was loaded. It answers one call at a time, so a call takes it by `&mut`. It may go to another thread.
+/// A policy that was loaded. It answers one call at a time, so a call takes it by `&mut`. It may go to another thread, and
+/// `share` gives each its own.
 #[derive(Debug)]
 pub struct Policy {
     handle: NonNull<header::Policy>,
@@ -89,6 +90,14 @@ impl Policy {
         // SAFETY: the slice and both places outlive the call, and lie apart.
         let status = unsafe { header::kapi_load(objects.as_ptr().cast(), objects.len(), &mut line, &mut handle) };
         check(status, line)?;
+        NonNull::new(handle).map(|handle| Policy { handle }).ok_or(Error::Memory)
+    }
+
+    /// The same policy for another thread. Nothing is copied.
+    pub fn share(&mut self) -> Result<Policy, Error> {
+        let mut handle = null_mut();
+        // SAFETY: the handle is this policy's, `&mut self` keeps other calls away, and the place outlives the call.
+        check(unsafe { header::kapi_share(self.handle.as_ptr(), &mut handle) }, 0)?;
         NonNull::new(handle).map(|handle| Policy { handle }).ok_or(Error::Memory)
     }
 

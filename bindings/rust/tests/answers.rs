@@ -47,7 +47,12 @@ fn lists() {
 }
 
 #[test]
-fn goes_to_another_thread() {
+fn is_shared_by_threads() {
     let mut policy = Policy::load(OBJECTS.as_bytes()).unwrap();
-    assert_eq!(std::thread::spawn(move || policy.may(&LOGS)).join().unwrap(), Ok(true));
+    let threads: Vec<_> = (0..8)
+        .map(|_| policy.share().unwrap())
+        .map(|mut mine| std::thread::spawn(move || (0..1000).all(|_| mine.may(&LOGS) == Ok(true))))
+        .collect();
+    drop(policy);
+    assert!(threads.into_iter().all(|it| it.join().unwrap()));
 }
