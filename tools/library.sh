@@ -25,6 +25,7 @@ build() {
 sources=$(sh tools/sources.sh)
 if ! [ -f $archive ] || [ "$sources" != "$(cat crates/kapi_c/out/built 2> /dev/null)" ]; then
     echo 'Proves the static library again, and builds it, in two to four minutes.' >&2
+    mkdir -p crates/kapi_c/out
     (build) || { tail -n 20 crates/kapi_c/out/library.log >&2; exit 1; }
     echo "$sources" > crates/kapi_c/out/built
 fi
