@@ -11,7 +11,7 @@ use Rattle.kapi_calls.specs.declared.passed.Call.{Call}
 use Rattle.kapi_calls.specs.declared.reading.Asked.{Asked}
 use Rattle.kapi_calls.specs.Faults.{code_of}
 use Rattle.kapi_calls.specs.Given.{Given}
-use Rattle.kapi_calls.specs.Lists.{listed, paths_given, settled_with}
+use Rattle.kapi_calls.specs.Lists.{ArePaths, listed, paths_given, settled_with}
 use Rattle.kapi_calls.specs.Questions.{question_of}
 
 -- the number of a decision: 0 denies
@@ -30,8 +30,7 @@ number_alone d = record { number = number_of d; text = [] }
 abbrev pub with_line : Decided → Given
 with_line d = record { number = number_of d; text = decision_line d }
 
--- what is answered: whether the roles are settled, a decision, a decision and its line, or a text. Of a text of paths nothing
--- is said
+-- what is answered: whether the roles are settled, a decision, a decision and its line, or a text; that of paths is given
 unfoldable pub given_of : List ℕ → Engine → Call → Result Given CallFault
 given_of paths engine call =
     if call.wants == 0 then Ok (settled_with engine [])
@@ -81,7 +80,12 @@ Ends given old new room room' (failed fault.Memory) = IsKept old new room room'
 Ends given old new room room' (failed (fault.Line number)) = (given ≡ Err (fault.Line number)) × IsLength number old new room room'
 Ends given old new room room' (failed other) = (given ≡ Err other) × IsKept old new room room'
 
+-- if paths are asked for and found, the text is theirs
+abbrev pub HasPaths : List ℕ → Engine → Call → End → Type 0
+HasPaths paths engine call (failed fault) = Unit {0}
+HasPaths paths engine call end = call.wants ≡ 7 → ArePaths paths engine call
+
 -- the status says how the call ended, and the caller finds what then stands there
 abbrev pub IsAnswered : Engine → Call → Answer → Answer → List ℕ → List ℕ → ℕ → Type 0
 IsAnswered engine call old new room room' status =
-    (paths : List ℕ) × (end : End) × (status ≡ status_of end) × Ends (given_of paths engine call) old new room room' end
+    (paths : List ℕ) × (end : End) × (status ≡ status_of end) × Ends (given_of paths engine call) old new room room' end × HasPaths paths engine call end

@@ -1,5 +1,5 @@
 -- Answers about a whole policy.
-use Rattle.std.specs.Prelude.{ℕ, ◌==◌, Bool, true, false, not, ◌&&◌, if◌then◌else◌, List, [], ◌∷◌, ◌++◌, length, Option, Some, None, Result, Ok, Err}
+use Rattle.std.specs.Prelude.{◌≡◌, ℕ, ◌==◌, Bool, true, false, not, ◌&&◌, if◌then◌else◌, List, [], ◌∷◌, ◌++◌, length, Option, Some, None, Result, Ok, Err}
 use Rattle.std.specs.List.{flat_map}
 use Rattle.serde_json.specs.Written.{compact_text}
 use Rattle.kapi_text.specs.Gives.{◌>>=◌}
@@ -26,6 +26,7 @@ use Rattle.kapi_loading.specs.declared.fault.StartError.{StartError}
 use Rattle.kapi_loading.specs.declared.fault.StartError.TheVariants as start
 use Rattle.kapi_engine.specs.Decisions.{missing_of}
 use Rattle.kapi_engine.specs.Engines.{engine_of}
+use Rattle.kapi_engine.specs.Paths.{IsPathsText}
 use Rattle.kapi_engine.specs.declared.engine.Engine.{Engine}
 use Rattle.kapi_calls.specs.declared.fault.CallFault.{CallFault}
 use Rattle.kapi_calls.specs.declared.fault.CallFault.TheVariants as fault
@@ -85,6 +86,12 @@ form_of number =
 unfoldable pub paths_given : List ℕ → Engine → Call → Result Given CallFault
 paths_given paths engine call =
     form_of call.form >>= λ f. text_of call.other.now >>= λ to. texts_of call.without.now >>= λ without. Ok (settled_with engine paths)
+
+-- the text is that of paths, where the call has a form, a name and kinds that are texts
+abbrev pub ArePaths : List ℕ → Engine → Call → Type 0
+ArePaths paths engine call =
+    (f : Form) (to : List ℕ) (without : List (List ℕ)) → form_of call.form ≡ Ok f → text_of call.other.now ≡ Ok to → texts_of call.without.now ≡ Ok without
+    → IsPathsText engine f to without paths
 
 -- ---- what somebody lacks
 

@@ -6,6 +6,7 @@ ghost use Rattle.kapi_calls.specs.Answers.{Ends, IsAnswered, Stands, decided_of,
 ghost use Rattle.kapi_calls.specs.declared.fault.CallFault.{CallFault as AFault};
 ghost use Rattle.kapi_calls.specs.Faults.{code_of, fault_told};
 ghost use Rattle.kapi_calls.specs.Given.{Given};
+ghost use Rattle.kapi_calls.specs.Lists.{ArePaths};
 ghost use Rattle.kapi_calls.specs.Views.{told};
 
 use crate::fault::CallFault;
@@ -76,7 +77,7 @@ fn with_line(alloc: Global, engine: &Engine, asked: &Asked) -> Result<Found, Mem
 /// What is answered.
 #[tactic(auto, unfolding(crate::specs::Answers::given_of))]
 fn find(alloc: Global, engine: &Engine, call: &Call<'_>) -> Result<Found, CallFault>
-    ensures { (paths : List ℕ) × Gives fault_told told result (given_of paths engine.now call.now) }
+    ensures { (paths : List ℕ) × Gives fault_told told result (given_of paths engine.now call.now) × IfOk result (λ _. call.now.wants ≡ 7 → ArePaths paths engine.now call.now) }
 {
     match call.wants {
         0 => Ok(settled_with(engine, Vec::new(alloc))),

@@ -113,7 +113,7 @@ fn risks(alloc: Global, engine: &Engine, form: Form) -> Result<Found, Memory>
 /// Who can become whom.
 #[tactic(auto, unfolding(crate::specs::Lists::paths_given))]
 pub fn paths(alloc: Global, engine: &Engine, call: &Call<'_>) -> Result<Found, CallFault>
-    ensures { (text : List ℕ) × Gives fault_told told result (lists.paths_given text engine.now call.now) }
+    ensures { (text : List ℕ) × Gives fault_told told result (lists.paths_given text engine.now call.now) × IfOk result (λ _. lists.ArePaths text engine.now call.now) }
 {
     let form = form_of(call.form)?;
     let to = text_in(call.other)?;
