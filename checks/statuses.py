@@ -377,7 +377,7 @@ def at_a_terminal(program, room):
         os.write(theirs, b".")  # So that there is something to read.
         shown = os.read(ours, 65536).decode().replace("\r\n", "\n")
         read = rf"(\d+ of {LONG} lines\n)+" if is_terminal else ""
-        wanted = read + r"empty: there is no role and no binding in it\n\."
+        wanted = read + r"empty: there is no role and no binding in it\n\.?"
         if (ran.returncode, ran.stdout) != (0, b"") or not re.fullmatch(wanted, shown):
             yield f"audit --log, {is_terminal=}: status {ran.returncode}, {ran.stdout}, {shown!r}"
         os.close(ours), os.close(theirs)
