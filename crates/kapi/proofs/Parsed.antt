@@ -52,7 +52,7 @@ never_check : (o : Option Ask) (kinds : List Text) (k : ErrorKind) → option_ma
 never_check None kinds k e = cc
 never_check (Some x) kinds k e = let both : Check x kinds ≡ Show k = cc e in cc both
 
--- a choice is no text to be shown where neither side is
+-- a choice is no text to be shown if neither side is
 one_of : (b : Bool) (x y : Option Asked) (k : ErrorKind) → (x ≡ Some (Show k) → ⊥) → (y ≡ Some (Show k) → ⊥) → (if b then x else y) ≡ Some (Show k) → ⊥
 one_of true x y k p q e = p e
 one_of false x y k p q e = q e

@@ -183,7 +183,7 @@ served_in rows =
     if has_manifests rows then (if is_some (first_of (codes "load") rows) then None else Some (Some (reading_by (codes "manifests") rows)))
     else (if is_some (first_of (codes "namespace") rows) then None else Some None)
 
--- the number of readers, 1 to 16; 2 where it is left out
+-- the number of readers, 1 to 16; 2 if it is left out
 abbrev pub readers_or_two : Option Text → Option ℕ
 readers_or_two None = Some 2
 readers_or_two (Some digits) = readers_of digits
@@ -212,12 +212,12 @@ files_in rows = do
     readers = readers;
   })
 
--- the port for questions, where one is named; nothing where the word is no port
+-- the port for questions, if one is named; nothing if the word is no port
 abbrev pub answer_of : Option Text → Option (Option ℕ)
 answer_of None = Some None
 answer_of (Some digits) = option_map (λ port. Some port) (port_of digits)
 
--- a server's first revision: 0 where none is named, none where the clock gives it; nothing where the word is neither
+-- a server's first revision: 0 if none is named, none if the clock gives it; nothing if the word is neither
 abbrev pub first_of_word : Option Text → Option (Option ℕ)
 first_of_word None = Some (Some 0)
 first_of_word (Some word) = if bytes_eq word (codes "clock") then Some None else option_map (λ n. Some n) (revision_of word)
@@ -395,7 +395,7 @@ asked_by name rows =
 
 -- ---- of the words
 
--- what the subcommand that the words name asks for, where clap finds no fault in them
+-- what the subcommand that the words name asks for, if clap finds no fault in them
 unfoldable pub asked : List Text → Option Asked
 asked words =
     if length (fault_of kapi words) == 0 then subcommand_of kapi words >>= (λ p. asked_by p.0 p.1) else None
@@ -522,7 +522,7 @@ abbrev pub Names : List Text → Command → Type 0
 Names words (command.Show text) = Shows words (kind_of text)
 Names words c = asked words ≡ Some (told c)
 
--- what was read is what is given, under its view, and the words are wrong where nothing is; out of memory says nothing
+-- what was read is what is given, under its view, and the words are wrong if nothing is; out of memory says nothing
 abbrev pub Reads : {X Y : Type 0} → (X → Y) → Result X CommandFault → Option Y → Type 0
 Reads view (Ok x) given = given ≡ Some (view x)
 Reads view (Err fault.Words) given = given ≡ None

@@ -22,7 +22,7 @@ abbrev pub machine_with : List ResourceRow → ℕ → Objects → Result Machin
 machine_with table first (objects.Lines lines) = machine_from table first lines.now
 machine_with table first (objects.Alone lines) = machine_alone table first lines.now
 
--- the machine behind that revision, or why none is; where there is no such revision, just the absence
+-- the machine behind that revision, or why none is; if there is no such revision, just the absence
 abbrev pub Begins : Result Started BeginError → Option ℕ → (ℕ → Result Machine FileFault) → Type 0
 Begins (Ok s) (Some first) machine = Starts (Ok s) (machine first)
 Begins (Err (error.Start e)) (Some first) machine = Starts (Err e) (machine first)

@@ -6,7 +6,7 @@ use Rattle.kapi.specs.Numbers.{listening_port_of}
 use Rattle.kapi.specs.declared.program.Listen.{Listen}
 
 infixl 10 ◌>>=◌
--- a step after another, where there is a value
+-- a step after another, if there is a value
 abbrev pub ◌>>=◌ : {A B : Type 0} → Option A → (A → Option B) → Option B
 o >>= f = option_and_then f o
 
@@ -24,7 +24,7 @@ listen_of free word = do
   identity ← named_identity parts.1
   Some (record { port = port; identity = identity })
 
--- what each word specifies, in the order of the words; none where one of the words specifies nothing
+-- what each word specifies, in the order of the words; none if one of the words specifies nothing
 abbrev pub listens_of : Bool → List (List ℕ) → Option (List Listen)
 listens_of free [] = Some []
 listens_of free (word ∷ words) = do
@@ -32,6 +32,6 @@ listens_of free (word ∷ words) = do
   listens ← listens_of free words
   Some (listen ∷ listens)
 
--- the list, where it has 1 to 16 elements
+-- the list, if it has 1 to 16 elements
 abbrev pub few : List Listen → Option (List Listen)
 few listens = if nat_le 1 (length listens) && nat_le (length listens) 16 then Some listens else None

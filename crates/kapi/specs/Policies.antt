@@ -30,24 +30,24 @@ pub data FilesError : Type 0 where
   second_line : ℕ → FilesError
   question_line : ℕ → FilesError
 
--- the line that a fault reports: nothing where it is out of memory
+-- the line that a fault reports: nothing if it is out of memory
 abbrev pub fault_told : FilesFault → Option FilesError
 fault_told (fault.First n) = Some (first_line n)
 fault_told (fault.Second n) = Some (second_line n)
 fault_told (fault.Question n) = Some (question_line n)
 fault_told fault.Memory = None
 
--- the fault where the first policy is not loaded
+-- the fault if the first policy is not loaded
 abbrev pub first_fault : StartError → FilesFault
 first_fault (start.Line n) = fault.First n
 first_fault start.Memory = fault.Memory
 
--- the fault where the second policy is not loaded
+-- the fault if the second policy is not loaded
 abbrev pub second_fault : StartError → FilesFault
 second_fault (start.Line n) = fault.Second n
 second_fault start.Memory = fault.Memory
 
--- the fault where a line is no question
+-- the fault if a line is no question
 abbrev pub question_fault : LineFault → FilesFault
 question_fault (lined.Question n) = fault.Question n
 question_fault lined.Memory = fault.Memory

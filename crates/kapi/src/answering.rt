@@ -9,7 +9,7 @@ use std::thread;
 use std::thread::Threads;
 use std::time::{Clock, Duration};
 
-/// The pause in milliseconds before the listener is waited for again where no client could be accepted.
+/// The pause in milliseconds before the listener is waited for again if no client could be accepted.
 const PAUSE: u64 = 100;
 
 /// Starts a thread for each seat. A thread takes the clients of the listener one after the other and answers their

@@ -124,7 +124,7 @@ fn reading(alloc: Global, words: &ArgMatches<'_>, files: &str) -> Result<Reading
     })
 }
 
-/// The values of that name, copied, in the order of the words; none where it has none.
+/// The values of that name, copied, in the order of the words; none if it has none.
 #[tactic(auto, using(crate::proofs::Reading::raw_values_rows))]
 fn each_copied(alloc: Global, words: &ArgMatches<'_>, name: &str) -> Result<Vec<String>, Memory>
     ensures { IfOk result (λ v. map string_bytes v.items ≡ unwrap_or (all_of name.now (rows_of (found_of words.now))) []) }
@@ -157,7 +157,7 @@ fn needed(alloc: Global, words: &ArgMatches<'_>, name: &str) -> Result<String, C
     Ok(String::from_str(alloc, value)?)
 }
 
-/// The value of that name, copied; empty where it has none.
+/// The value of that name, copied; empty if it has none.
 fn text_or_empty(alloc: Global, words: &ArgMatches<'_>, name: &str) -> Result<String, CommandFault>
     ensures { Reads (λ s. string_bytes s) result (Some (unwrap_or (first_of name.now (rows_of (found_of words.now))) [])) }
 {
@@ -282,7 +282,7 @@ fn who_question(alloc: Global, words: &ArgMatches<'_>) -> Result<WhoQuestion, Co
     }
 }
 
-/// The file of questions, where there is no word of a question beside it.
+/// The file of questions, if there is no word of a question beside it.
 fn who_file(alloc: Global, words: &ArgMatches<'_>, file: &str) -> Result<WhoQuestion, CommandFault>
     ensures { Reads question_told result (file_alone file.now (rows_of (found_of words.now))) }
 {
@@ -431,7 +431,7 @@ pub fn serves_manifests(words: &ArgMatches<'_>) -> bool
     value(words, "manifests").is_some() || is_given(words, "with-defaults")
 }
 
-/// The port for questions, where one is specified.
+/// The port for questions, if one is specified.
 pub fn answer(words: &ArgMatches<'_>) -> Option<Option<u16>>
     ensures { result ≡ answer_of (first_of (codes "answer") (rows_of (found_of words.now))) }
 {
@@ -441,7 +441,7 @@ pub fn answer(words: &ArgMatches<'_>) -> Option<Option<u16>>
     }
 }
 
-/// The first revision that is specified, 0 where none is, and none where it is the clock's.
+/// The first revision that is specified, 0 if none is, and none if it is the clock's.
 pub fn first(words: &ArgMatches<'_>) -> Option<Option<u64>>
     ensures told { result ≡ first_of_word (first_of (codes "first-revision") (rows_of (found_of words.now))) }
     ensures small { IfSome result (λ first. IfSome first (λ n. n ≤ 281474976710650)) }

@@ -185,7 +185,7 @@ fn files_in<R: Files + AllocGlobal + Clone + Drop>(
     Ok(names)
 }
 
-/// Whether a file of that name is read where its folder is.
+/// Whether a file of that name is read if its folder is.
 fn is_manifest(name: &str) -> bool {
     [".json", ".jsonl", ".yaml", ".yml"]
         .iter()

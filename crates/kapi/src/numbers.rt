@@ -4,7 +4,7 @@ ghost use Rattle.kapi.specs.Numbers.{clock_revision as revision_of_clock, listen
 
 use kapi_text::{are_digits, number};
 
-/// The number that the digits write, where it is within bounds.
+/// The number that the digits write, if it is within bounds.
 #[tactic(auto, unfolding(crate::specs::Numbers::number_of))]
 fn number_within(digits: &str, places: usize, least: u64, largest: u64) -> Option<u64>
     requires { places ≤ 18 }

@@ -79,7 +79,7 @@ fn second_fault(error: StartError) -> FilesFault
 /// The policy of the first file.
 ///
 /// # Errors
-/// `First` at the first line that is not loaded, `Memory` where an allocation fails.
+/// `First` at the first line that is not loaded, `Memory` if an allocation fails.
 pub fn load_first(alloc: Global, objects: &[u8]) -> Result<Engine, FilesFault>
     ensures { Gives fault_told (λ e. e) result (as_first (engine_of objects.now)) }
 {
@@ -91,7 +91,7 @@ pub fn load_first(alloc: Global, objects: &[u8]) -> Result<Engine, FilesFault>
 
 // ---- comparisons
 
-/// The policies of two files, side by side where a thread can be made.
+/// The policies of two files, side by side if a thread can be made.
 fn load_both<R: Threads + Sync>(
     alloc: Global,
     rt: &R,
@@ -153,7 +153,7 @@ fn compare_with(
 /// What the policy of one file allows those identities that the policy of another did not.
 ///
 /// # Errors
-/// `First` and `Second` at the first line of a file that is not loaded, `Memory` where an allocation fails.
+/// `First` and `Second` at the first line of a file that is not loaded, `Memory` if an allocation fails.
 pub fn compare_files<R: Threads + Sync>(
     alloc: Global,
     rt: &R,
@@ -177,7 +177,7 @@ pub fn compare_files<R: Threads + Sync>(
 /// Who may do what the words ask, by the policy that a file is.
 ///
 /// # Errors
-/// `First` at the first line that is not loaded, `Memory` where an allocation fails.
+/// `First` at the first line that is not loaded, `Memory` if an allocation fails.
 pub fn who_wanted(
     alloc: Global,
     form: Form,
@@ -225,7 +225,7 @@ fn who_lines(
 /// Who may do what each line of a file asks, by the policy that another is.
 ///
 /// # Errors
-/// `First` at the first line that is not loaded, else `Question` at the first that is no question, `Memory` where an
+/// `First` at the first line that is not loaded, else `Question` at the first that is no question, `Memory` if an
 /// allocation fails.
 pub fn who_file(
     alloc: Global,
@@ -244,7 +244,7 @@ pub fn who_file(
 /// What a user has by the policy that a file is.
 ///
 /// # Errors
-/// `First` at the first line that is not loaded, `Memory` where an allocation fails.
+/// `First` at the first line that is not loaded, `Memory` if an allocation fails.
 pub fn what_file(
     alloc: Global,
     form: Form,
@@ -264,7 +264,7 @@ pub fn what_file(
 /// Who may gain more than the policy of a file grants, and what holds of all others.
 ///
 /// # Errors
-/// `First` at the first line that is not loaded, `Memory` where an allocation fails.
+/// `First` at the first line that is not loaded, `Memory` if an allocation fails.
 pub fn risks_file(alloc: Global, form: Form, objects: &[u8]) -> Result<Answered, FilesFault>
     ensures { Gives fault_told answered_told result (files.risks_file form objects.now) }
 {
@@ -289,7 +289,7 @@ fn texts_of(alloc: Global, texts: &[String]) -> Result<Vec<Text>, Memory> {
 /// Who can become whom by the policy of a file.
 ///
 /// # Errors
-/// `First` at the first line that is not loaded, `Memory` where an allocation fails.
+/// `First` at the first line that is not loaded, `Memory` if an allocation fails.
 pub fn paths_file(
     alloc: Global,
     words: &PathsWords,

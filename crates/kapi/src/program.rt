@@ -173,7 +173,7 @@ pub struct ServeOptions {
     pub load: Option<String>,
     /// The manifests of the objects that are stored at first, in place of such a file.
     pub manifests: Option<Reading>,
-    /// The revision after which the server's begin, at most 281,474,976,710,650; none where the clock gives it.
+    /// The revision after which the server's begin, at most 281,474,976,710,650; none if the clock gives it.
     pub first_revision: Option<u64>,
     /// The rights of a watch are rechecked at each of its events.
     pub recheck: bool,

@@ -131,7 +131,7 @@ fn push_load<R: Files + Input + AllocGlobal + Clone + Drop>(
     Ok(())
 }
 
-/// The common kinds of Kubernetes, which have a name of their own where no file has it.
+/// The common kinds of Kubernetes, which have a name of their own if no file has it.
 fn common_kinds(alloc: Global) -> Result<Vec<Sequence<u8>>, Memory> {
     let mut bytes = Vec::new(alloc);
     bytes.extend_from_slice(kubernetes_kinds().as_bytes())?;

@@ -38,8 +38,8 @@ enum Opening {
     Manifests(ReadPolicy),
 }
 
-/// Serves the ports for as long as clients can be waited for. Status 1 where the file cannot be loaded or the clock
-/// gives no first revision, 3 where a port cannot be listened on, 4 where the wait fails.
+/// Serves the ports for as long as clients can be waited for. Status 1 if the file cannot be loaded or the clock
+/// gives no first revision, 3 if a port cannot be listened on, 4 where the wait fails.
 pub fn run_serve<
     R: Files
         + Input

@@ -6,7 +6,7 @@ use std::fmt::Display;
 use std::fs::{self, Files};
 use std::io::{self, BufWriter, Write};
 
-/// The bytes of a file; none where it cannot be read, after a line on standard error.
+/// The bytes of a file; none if it cannot be read, after a line on standard error.
 pub fn read_file<R: Files + Eprint + AllocGlobal>(
     rt: &R,
     file: &str,
@@ -27,7 +27,7 @@ pub fn print<R: Print + AllocGlobal>(rt: &R, text: &[u8]) -> io::Result<()> {
     writer.flush()
 }
 
-/// The reason below a fault, where there is one and memory for it.
+/// The reason below a fault, if there is one and memory for it.
 pub fn tell_reason<T: Display + Drop>(
     rt: &impl Eprint,
     reason: Result<Option<T>, Memory>,

@@ -73,7 +73,7 @@ module _ (objects : PolicyObjects) (identity : Identity) (test : PolicyRule → 
       and_false true = refl
       and_false false = refl
 
-  -- a rule that passes is given just where a line names the identity
+  -- a rule that passes is given exactly if a line names the identity
   pub given_named : (b : Binding) → list_any test (unwrap_or (given objects identity b) []) ≡ is_named (ways_of objects test b) identity
   unfolding given
   given_named b =

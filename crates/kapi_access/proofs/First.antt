@@ -99,7 +99,7 @@ module _ (l : Listed) where
         ∙ ap (λ t. t || list_any q more) (with_some list way)
         ∙ or_assoc (list_any q list) (q way) (list_any q more)
 
-    -- some first way passes just where some way does
+    -- some first way passes exactly if some way does
     pub first_some : (list : List Way) → list_any q (first_ways l list) ≡ list_any q list
     first_some list = folded_some [] list
 

@@ -236,7 +236,7 @@ module _ (which : Part) (p : Point) where
   all_more done (rule ∷ rules) =
       all_more (with_rule which done rule) rules ∙ ap (λ t. t || some_allows rules) (one_more done rule) ∙ or_assoc (some_allows done) (allows rule p) (some_allows rules)
 
--- a point is allowed by some rule just where some atom allows it
+-- a point is allowed by some rule exactly if some atom allows it
 pub together_allows : (atoms : List Atom) (p : Point) → list_any (λ rule. allows rule p) (together atoms) ≡ list_any (λ a. atom_allows a p) atoms
 unfolding together
 together_allows atoms p =

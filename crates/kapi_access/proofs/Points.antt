@@ -117,7 +117,7 @@ names_back other listed names.All none h = by_length (length listed == 0) (let i
     by_length b h = h
 names_back other listed (names.One name) none h = h
 
--- a rule that allows the request of an atom implies the atom, where the rule does not list the name
+-- a rule that allows the request of an atom implies the atom, if the rule does not list the name
 pub implies_back : (other : List ℕ) (rule : PolicyRule) (a : Atom) → list_any (λ x. bytes_eq x other) rule.resource_names ≡ false → can_match a ≡ true
     → allows rule (request_of other a) ≡ true → rule_implies rule a ≡ true
 unfolding request_of

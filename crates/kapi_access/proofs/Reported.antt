@@ -237,7 +237,7 @@ module _ (who : Identities) (before after : PolicyObjects) where
       never r =
           not_true _ new.1.0 (some_at (λ rule. rule_implies rule line.gain) own r.0 r.1.0 (implies_back (fresh own) r.0 line.gain (none_lists own r.0 r.1.0) new.0 r.1.1))
 
-  -- ---- nothing is listed just where nobody gains
+  -- ---- nothing is listed exactly if nobody gains
 
   by_list : (list : List Gained) → list ≡ [] → (identity : Identity) (namespace : List ℕ) (p : Point) → IsReported list identity namespace p → ⊥
   by_list list none identity namespace p r = subst (λ l. Has l r.line) none r.listed

@@ -80,7 +80,7 @@ in_too identities.Usual other (grantee.Group n) identity g meant is h = by_case 
         subst (λ (x : Identity). is_in g x ≡ true) (sym (is_anonymous identity meant (subst (λ x. is_in x identity ≡ true) (same n unauthenticated so) is))) there
     by_case false not_so there = by_name (or_cases (bytes_eq n g) (bytes_eq authenticated g || false) there) not_so
 
--- where a binding names its user, that is theirs
+-- if a binding names its user, that is theirs
 user_too : (who : Identities) (objects : PolicyObjects) (b : Binding) (to : Grantee) (identity : Identity) (n : List ℕ) → Has (all_bindings objects) b → Has (grantees b) (grantee.User n)
     → IsMeant who identity → matches to identity ≡ true → matches (grantee.User n) (alone who (stranger objects) to) ≡ true → matches (grantee.User n) identity ≡ true
 user_too identities.Any objects b (grantee.User m) identity n stands bound meant is h = subst (λ x. bytes_eq identity.user x ≡ true) (same m n h) is

@@ -40,7 +40,7 @@ module _ {Z : Type 0} (f : Binding → List Z) (objects : PolicyObjects) (namesp
   wide_count [] = refl
   wide_count (e ∷ es) = ap (λ l. f (cluster_binding e) ++ l) (wide_count es)
 
-  -- an entry counts where its namespace is that one, which is not empty
+  -- an entry counts if its namespace is that one, which is not empty
   one_more : (e : NamespacedName × RoleBinding) (left right : List (NamespacedName × RoleBinding)) (n c i : Bool) → (length e.0.namespace == 0) ≡ n → bytes_eq e.0.namespace namespace ≡ i → (i ≡ true → n ≡ c)
       → flat_map there (map namespace_binding left) ≡ (if c then [] else flat_map f (map namespace_binding right))
       → flat_map there (map namespace_binding (cond (not n) (e ∷ left) left)) ≡ (if c then [] else flat_map f (map namespace_binding (cond i (e ∷ right) right)))

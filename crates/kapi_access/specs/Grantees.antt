@@ -38,7 +38,7 @@ abbrev pub matches : Grantee → Identity → Bool
 matches (grantee.User name) identity = bytes_eq identity.user name
 matches (grantee.Group name) identity = is_in name identity
 
--- the rules of the binding's role, none where it does not exist
+-- the rules of the binding's role, none if it does not exist
 abbrev pub role_of : PolicyObjects → Binding → List PolicyRule
 role_of objects b = unwrap_or (rules_of objects b.role b.namespace) []
 

@@ -18,7 +18,7 @@ use Rattle.kapi_access.specs.declared.question.Wanted.{Wanted}
 pub data LineError : Type 0 where
   no_question : ℕ → LineError
 
--- the line that a fault tells: none where an allocation failed
+-- the line that a fault tells: none if an allocation failed
 abbrev pub fault_told : LineFault → Option LineError
 fault_told (fault.Question n) = Some (no_question n)
 fault_told fault.Memory = None

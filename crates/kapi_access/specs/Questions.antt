@@ -10,7 +10,7 @@ use Rattle.kapi_access.specs.declared.question.Scope.{Scope}
 use Rattle.kapi_access.specs.declared.question.Scope.TheVariants as scope
 use Rattle.kapi_access.specs.declared.question.Wanted.{Wanted}
 
--- what stands before the first such byte, or all where there is none
+-- what stands before the first such byte, or all if there is none
 abbrev pub before : ℕ → List ℕ → List ℕ
 before byte s = before_first (λ b. b == byte) s
 

@@ -15,7 +15,7 @@ abbrev pub row_line : Widths → Row → List ℕ
 row_line w r =
     padded w.first r.first ++ (padded w.second r.second ++ (padded w.third r.third ++ (padded w.fourth r.fourth ++ (r.last ++ 10 ∷ []))))
 
--- the widths, and more where the cells of a row are longer
+-- the widths, and more if the cells of a row are longer
 abbrev pub wider : Widths → Row → Widths
 wider w r = record {
   first = max w.first (length r.first);

@@ -1,4 +1,4 @@
--- Rules put together where that changes nothing of what they allow (Kubernetes API, `PolicyRule` of rbac.authorization.k8s.io/v1).
+-- Rules put together if that changes nothing of what they allow (Kubernetes API, `PolicyRule` of rbac.authorization.k8s.io/v1).
 use Rattle.std.specs.Prelude.{ℕ, suc, ◌==◌, Bool, not, ◌&&◌, if◌then◌else◌, List, [], ◌∷◌, ◌++◌, length, map}
 use Rattle.std.specs.List.{fold}
 use Rattle.std.specs.Cmp.Lexicographic.{pointwise}

@@ -80,7 +80,7 @@ fn listed_in(scope: &Scope) -> Listed
 
 /// Who may make the request in the scope, given all bindings of the policy: each user and group once, or everywhere once in each
 /// scope, with the first binding by which it may, and the first rule of its role that allows it. Members of `system:masters`, who
-/// may do everything, are listed only where they are bound.
+/// may do everything, are listed only if they are bound.
 pub fn who<'a, P: Policy>(
     alloc: Global,
     policy: &P,

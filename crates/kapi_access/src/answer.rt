@@ -241,7 +241,7 @@ pub fn answer_risks<P: Policy>(
     ways_text(alloc, form, list.as_slice())
 }
 
-/// The last line of risks: what holds of all who are not listed, where the roles are settled.
+/// The last line of risks: what holds of all who are not listed, if the roles are settled.
 pub fn settled_line(form: Form, settled: bool) -> &'static [u8]
     ensures { result.now ≡ answers.settled_line form settled }
 {

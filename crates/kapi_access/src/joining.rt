@@ -219,7 +219,7 @@ fn rules_of(alloc: Global, atoms: &[Atom]) -> Result<Vec<PolicyRule>, Memory>
     Ok(rules)
 }
 
-/// The atoms as rules, those put together that differ in one list alone: a point is allowed by some rule just where some atom
+/// The atoms as rules, those put together that differ in one list alone: a point is allowed by some rule exactly if some atom
 /// allows it.
 #[tactic(auto, unfolding(crate::specs::Together::together), using(crate::proofs::Joined::together_allows))]
 pub fn together(alloc: Global, atoms: &[Atom]) -> Result<Vec<PolicyRule>, Memory>

@@ -27,20 +27,20 @@ ghost use Rattle.kapi_access.specs.declared.identities.Identities.{Identities};
 ghost use Rattle.kapi_access.specs.Who.{IsEachOnce, is_named, is_named_in, who_anywhere, who_may};
 ghost use Rattle.kapi_access.specs.declared.first_ways.Listed.TheVariants as Listed;
 
-/// A request is allowed to an identity just where it is in `system:masters` or some line of those who may names it.
+/// A request is allowed to an identity exactly if it is in `system:masters` or some line of those who may names it.
 pub fn who_may_is_who_is_listed()
     ensures { (objects : PolicyObjects) (identity : Identity) (namespace : List ℕ) (p : Point)
         → may objects identity namespace p ≡ (is_master identity || is_named (who_may objects namespace p) identity) }
 {}
 
-/// A request is allowed to an identity in a namespace just where it is in `system:masters` or some line of those who may anywhere
-/// names it whose binding counts there; cluster-wide, which is the empty namespace, where some line with a cluster-wide binding does.
+/// A request is allowed to an identity in a namespace exactly if it is in `system:masters` or some line of those who may anywhere
+/// names it whose binding counts there; cluster-wide, which is the empty namespace, if some line with a cluster-wide binding does.
 pub fn who_may_is_who_is_listed_anywhere()
     ensures { (objects : PolicyObjects) (identity : Identity) (namespace : List ℕ) (p : Point)
         → may objects identity namespace p ≡ (is_master identity || is_named_in namespace (who_anywhere objects p) identity) }
 {}
 
-/// An identity may do nothing risky just where it is not in `system:masters` and no line of the risks names it. Who is unprivileged,
+/// An identity may do nothing risky exactly if it is not in `system:masters` and no line of the risks names it. Who is unprivileged,
 /// and so has the verb `impersonate` on no resource at all, is not listed either.
 pub fn risks_are_who_is_listed()
     ensures unlisted { (objects : PolicyObjects) (identity : Identity)
@@ -59,7 +59,7 @@ pub fn each_is_listed_once()
     ensures risks { (objects : PolicyObjects) → IsEachOnce Listed.Once (risks objects) }
 {}
 
-/// Where the policy is settled and everybody who writes is unprivileged, nobody gains what no actor held. It says nothing of a
+/// If the policy is settled and everybody who writes is unprivileged, nobody gains what no actor held. It says nothing of a
 /// writer who is not listed among the risks and has the verb `impersonate` on something that impersonation never asks for, as
 /// `configmaps`: the steps of a policy let such a writer act as anybody, although no server does.
 pub fn nobody_gains_where_the_unprivileged_write()
@@ -89,7 +89,7 @@ pub fn rules_cover_what_atoms_cover()
         → IsReportedByRule (grave_first (by_rule gains)) identity namespace p → IsReported gains identity namespace p }
 {}
 
-/// Nothing is listed just where no identity that is meant gains.
+/// Nothing is listed exactly if no identity that is meant gains.
 pub fn nothing_is_listed_where_nobody_gains()
     ensures nothing { (who : Identities) (before after : PolicyObjects) → gained who before after ≡ [] → GivesNothingTo who before after }
     ensures nobody { (who : Identities) (before after : PolicyObjects) → GivesNothingTo who before after → gained who before after ≡ [] }
@@ -107,7 +107,7 @@ pub fn what_stood_stays_out()
         → s.namespace ≡ b.namespace → s.subjects ≡ b.subjects → role_of before s ≡ role_of after b → gained_from who before after b ≡ [] }
 {}
 
-/// A request is allowed to an identity just where it is in `system:masters` or some rule that it has allows it, where the rule
+/// A request is allowed to an identity exactly if it is in `system:masters` or some rule that it has allows it, if the rule
 /// counts: rule by rule, in all lines, and in those that count in the namespace.
 pub fn what_one_has_is_what_one_may()
     ensures rules { (objects : PolicyObjects) (identity : Identity) (namespace : List ℕ) (p : Point)

@@ -126,7 +126,7 @@ fn answer_line<P: Policy>(
 /// Who may do what each line asks, given all bindings of the policy: the line and its answer, one behind the other.
 ///
 /// # Errors
-/// `Question` at the first line that is no question, `Memory` where memory runs out.
+/// `Question` at the first line that is no question, `Memory` if memory runs out.
 pub fn answer_lines<P: Policy>(
     alloc: Global,
     form: Form,

@@ -34,7 +34,7 @@ pub fn again<'a>(binding: &Binding<'a>) -> Binding<'a>
     }
 }
 
-/// The rules of the binding's role, none where it does not exist.
+/// The rules of the binding's role, none if it does not exist.
 pub fn rules_by<'a, P: Policy>(policy: &'a P, binding: &Binding<'_>) -> &'a [PolicyRule]
     ensures { result.now ≡ role_of (P.content policy.now) (binding_of binding.now) }
 {

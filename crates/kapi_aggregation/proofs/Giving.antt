@@ -181,7 +181,7 @@ module _ (os : List (Key × Data)) (sorted : IsStrictlySortedBy key_cmp (keys_of
     same_first givers given ns =
         ap (λ (f : Labelled → Option Turn). first_some (λ n. option_and_then f (role_at os n)) ns) (λ i r. same_turn_of givers given r i)
 
--- the turn that is found by the marks and the givers is the next one, where they cover the cluster roles
+-- the turn that is found by the marks and the givers is the next one, if they cover the cluster roles
 pub given_next : (s : State) (t : Tracked) → IsStore s → IsStrictlySortedBy (slice_cmp nat_cmp) t.marks → Covers t (roles_in (plain_of s).objects)
     → first_some (turn_given (plain_of s).objects t.givers) t.marks ≡ next (roles_in (plain_of s).objects)
 given_next s t is up covers =

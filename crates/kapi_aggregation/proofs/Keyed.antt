@@ -1,4 +1,4 @@
--- Keys of rules compare as equal where the rules are the same, so a set of them shows which rules a list has.
+-- Keys of rules compare as equal if the rules are the same, so a set of them shows which rules a list has.
 use Rattle.std.proofs.Common.{◌≡◌, ◌+◌, ℕ, List, [], ◌∷◌, ◌++◌, Bool, true, false, not, cond, if◌then◌else◌, ◌||◌, length, refl, sym, ap, subst, ◌∙◌, append-nil, arith}
 use Rattle.std.proofs.lemmas.List.{length-append}
 use Rattle.std.proofs.lemmas.Map.Text.{is_eq-slice_cmp}

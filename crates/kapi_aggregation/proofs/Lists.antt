@@ -98,7 +98,7 @@ filter_alike p q same (x ∷ xs) = rw (same x, filter_alike p q same xs) refl
 
 -- ---- tests
 
--- a conjunction that fails, where its first part holds
+-- a conjunction that fails, if its first part holds
 pub then_false : (a b : Bool) → a ≡ true → (a && b) ≡ false → b ≡ false
 then_false true b h k = k
 then_false false b h k = absurd (cc h)

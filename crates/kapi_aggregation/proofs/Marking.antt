@@ -275,7 +275,7 @@ listed_before : (o : Option Labelled) (rs : List Labelled) (r : Labelled) → Ha
 listed_before None rs r has = has
 listed_before (Some q) rs r has = inr has
 
--- a cluster role is read where its name is kept
+-- a cluster role is read if its name is kept
 pub taker_has : (os : List (Key × Data)) (names : List (List ℕ)) (name : List ℕ) (r : Labelled) → role_at os name ≡ Some r → is_marked names name ≡ true → Has (takers_in os names) r
 taker_has os [] name r found kept = absurd (cc kept)
 taker_has os (n ∷ names) name r found kept = by_name (is_eq (slice_cmp nat_cmp name n)) refl (taker_has os names name r found) kept
@@ -332,7 +332,7 @@ module _ (os : List (Key × Data)) (takers : List Taker) where
         by_case true k = changed_marks ms c was left (takes_object r (lookup (is_key c.key) os)) (takes_object r c.new) refl refl k
         by_case false k = absurd (cc k)
 
-    -- a role is marked, where it takes rules from one that is changed
+    -- a role is marked, if it takes rules from one that is changed
     pub all_mark : (ms : List (List ℕ)) (cs : List PlainChange) → AllByRecursion (λ c. AreKept (lookup (is_key c.key) os) × AreKept c.new) cs
         → list_any (is_moved os r) cs ≡ true → is_marked (mark_all os takers ms cs) r.name ≡ true
     all_mark ms [] kept h = absurd (cc h)

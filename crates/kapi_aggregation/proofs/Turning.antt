@@ -78,7 +78,7 @@ from_keeps (m ∷ ms) name n on h = by_case (is_eq (slice_cmp nat_cmp n m)) (is_
     by_case false true same kept rest g = rw same (rest g)
     by_case false false same kept rest g = rest g
 
--- where none is to be turned, no role differs
+-- if none is to be turned, no role differs
 none_differs : (roles rs : List Labelled) → first_some (turn_at roles) rs ≡ None → (r : Labelled) → Has rs r → differs roles r ≡ true → ⊥
 none_differs roles [] h r has d = absurd has
 none_differs roles (y ∷ rs) h r has d = by_case (differs roles y) refl (none_differs roles rs) h has
@@ -247,7 +247,7 @@ module _ (os : List (Key × Data)) (sorted : IsStrictlySortedBy key_cmp (keys_of
               let one : q ≡ r = (let both : Some q ≡ Some r = sym some ∙ stored in cc both) in
               let never : differs roles r ≡ false = rw (← one) same in cc (never, d))) order
 
--- the turn that is found by the marks is the next one, where they cover the cluster roles
+-- the turn that is found by the marks is the next one, if they cover the cluster roles
 pub marks_next : (s : State) (t : Tracked) → IsStore s → IsStrictlySortedBy (slice_cmp nat_cmp) t.marks → Covers t (roles_in (plain_of s).objects)
     → first_some (turn_of_name (plain_of s).objects) t.marks ≡ next (roles_in (plain_of s).objects)
 unfolding Marked

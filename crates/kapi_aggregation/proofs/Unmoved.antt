@@ -1,4 +1,4 @@
--- Changes of no cluster role leave the cluster roles as they are; where no role is aggregated, no names are enough.
+-- Changes of no cluster role leave the cluster roles as they are; if no role is aggregated, no names are enough.
 use Rattle.std.proofs.Common.{◌≡◌, ◌==◌, ℕ, List, [], ◌∷◌, Bool, true, false, not, ◌||◌, length, Option, None, Some, is_some, refl, sym, ap, ◌∙◌, subst, map}
 use Rattle.std.proofs.Math.Dec.{eqb-suc-zero}
 use Rattle.std.specs.List.{AllByRecursion, list_any}
@@ -22,7 +22,7 @@ use Rattle.kapi_aggregation.proofs.Turning.{found_where_covered, none_unmarked}
 is_of_roles : List PlainChange → Bool
 is_of_roles cs = list_any (λ c. is_cluster_role c.key) cs
 
--- a running change is of a cluster role where the model's is
+-- a running change is of a cluster role if the model's is
 as_data : (cs : List Change) → is_of_roles (map plain_change cs) ≡ list_any (λ c. is_cluster_role c.key) cs
 unfolding is_of_roles
 as_data [] = refl
@@ -46,7 +46,7 @@ pub unmoved_covers : (t : Tracked) (cs : List Change) (os : List (Key × Data)) 
     → Covers t (roles_in os) → Covers t (roles_in (placed_all (trees_left_by (map plain_change cs)) os))
 unmoved_covers t cs os none covers = rw (unmoved (map plain_change cs) os (as_data cs ∙ none)) covers
 
--- where no marks are enough, no turn is due
+-- if no marks are enough, no turn is due
 pub none_due : (t : Tracked) (roles : List Labelled) → not (length t.marks == 0) ≡ false → Covers t roles → None ≡ next roles
 none_due t roles none covers = by_marks t.marks refl none
   where
@@ -67,7 +67,7 @@ none_known t r none = by_rule r.role.aggregation_rule none
     by_rule None h = tt
     by_rule (Some rule) h = absurd (cc h)
 
--- where no role is aggregated, any names cover the cluster roles if no givers are known
+-- if no role is aggregated, any names cover the cluster roles if no givers are known
 pub none_covered : (t : Tracked) (roles : List Labelled) → t.givers ≡ None → NoneAggregated roles → Covers t roles
 none_covered t roles unknown none =
     all_from (IsCovered t roles) roles

@@ -53,7 +53,7 @@ with_mark marks name = if is_marked marks name then marks else insert_key (slice
 abbrev pub label_text : Label → List ℕ
 label_text l = (l.key ++ codes "=") ++ l.value
 
--- the label that stands first, as text; empty where there is none
+-- the label that stands first, as text; empty if there is none
 abbrev pub first_text : List Label → List ℕ
 first_text [] = []
 first_text (l ∷ ls) = label_text l

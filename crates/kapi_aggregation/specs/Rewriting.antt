@@ -41,7 +41,7 @@ pub record IsRewrite (turn : Turn) (old : Data) (c : PlainChange) : Type 0 where
   pub role : cluster_role_of new ≡ record (cluster_role_of old) { rules = turn.rules }
   pub labels : labels_in new ≡ labels_in old
 
--- the changes of a turn are one rewrite; there are none where the cluster role has these rules already
+-- the changes of a turn are one rewrite; there are none if the cluster role has these rules already
 abbrev pub AreRewrites : Turn → Data → List PlainChange → Type 0
 AreRewrites turn old [] = cluster_role_of old ≡ record (cluster_role_of old) { rules = turn.rules }
 AreRewrites turn old (c ∷ cs) = IsRewrite turn old c × (cs ≡ [])

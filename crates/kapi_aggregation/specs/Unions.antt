@@ -49,7 +49,7 @@ abbrev pub union_if : List Labelled → Option Labelled → List PolicyRule
 union_if roles None = []
 union_if roles (Some r) = union_for roles r
 
--- the union of the cluster role of a name; it is empty where that role takes nothing from others, or is not there
+-- the union of the cluster role of a name; it is empty if that role takes nothing from others, or is not there
 abbrev pub union : List Labelled → List ℕ → List PolicyRule
 union roles name = union_if roles (role_named roles name)
 

@@ -8,7 +8,7 @@ ghost use Rattle.kapi_aggregation.specs.Rewriting.{AreRewrites, rewriting, role_
 ghost use Rattle.kapi_aggregation.specs.declared.turn.Turn.{Turn};
 
 /// A turn writes its cluster role with the turn's rules in place of the role's own, and with its labels; it writes
-/// nothing where the role has these rules already.
+/// nothing if the role has these rules already.
 #[tactic(auto, using(crate::proofs::Rewritten::turn_rewrites_what_stands))]
 pub fn a_turn_changes_only_rules()
     ensures { (turn : Turn) (s : Plain) (changes : List PlainChange) → rewriting turn s ≡ Ok changes

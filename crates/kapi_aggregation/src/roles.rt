@@ -20,7 +20,7 @@ use kapi_text::{Memory, Sequence, Text, TryCopy};
 use std::alloc::Global;
 use std::collections::BTreeSet;
 
-/// A cluster role with its name. The rules are read only where they are asked for, since a write reads selectors and
+/// A cluster role with its name. The rules are read only if they are asked for, since a write reads selectors and
 /// labels alone.
 #[derive(Clone, Copy, Drop)]
 pub(crate) struct NamedRole<'a> {
@@ -29,7 +29,7 @@ pub(crate) struct NamedRole<'a> {
 }
 
 impl<'a> NamedRole<'a> {
-    /// The selectors of the cluster roles that this role takes its rules from; none where it is not aggregated.
+    /// The selectors of the cluster roles that this role takes its rules from; none if it is not aggregated.
     pub(crate) fn selectors(&self) -> &[Selector]
         ensures { result.now ≡ selectors_of (labelled self.now) }
     {

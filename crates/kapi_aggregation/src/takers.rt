@@ -15,7 +15,7 @@ use std::alloc::Global;
 use std::collections::BTreeSet;
 
 /// A cluster role at a label: one that takes rules, at the label that one of its selectors lists first, or at an empty one
-/// where the selector lists none; or one that gives rules, at a label that it has.
+/// if the selector lists none; or one that gives rules, at a label that it has.
 #[derive(Debug, PartialEq, Eq, PartialOrd, Ord, Drop)]
 pub struct Taker {
     pub label: Text,
@@ -44,7 +44,7 @@ fn label_text(alloc: Global, label: &Label) -> Result<Text, Memory>
     Ok(Text::new(text))
 }
 
-/// The label that stands first, as text; empty where there is none.
+/// The label that stands first, as text; empty if there is none.
 fn first_label(alloc: Global, labels: &[Label]) -> Result<Text, Memory>
     ensures { IfOk result (λ t. t ≡ first_text labels.now) }
 {

@@ -153,7 +153,7 @@ fn mark_by_change(
     mark_by_object(alloc, marks, takers, store, left_object(change))
 }
 
-/// Marks the roles that take rules from a changed one, where the change is of a cluster role.
+/// Marks the roles that take rules from a changed one, if the change is of a cluster role.
 fn mark_if_role(
     alloc: Global,
     marks: &mut BTreeSet<Text>,
@@ -233,10 +233,10 @@ impl Tracker {
     }
 
     /// Marks what some changes of the store affect, before they are made: the aggregated cluster roles that they leave,
-    /// and those that take rules from a changed one, as it is or as it is left. Where no change is of a cluster role,
+    /// and those that take rules from a changed one, as it is or as it is left. If no change is of a cluster role,
     /// nothing is read.
     ///
-    /// Names that are kept stay, so that changes which are not made do no harm; so do they where an allocation fails.
+    /// Names that are kept stay, so that changes which are not made do no harm; so do they if an allocation fails.
     pub fn note_write(&mut self, store: &Store, changes: &[Change]) -> Result<(), Memory>
         // what was covered is covered still, and so are the roles after the changes
         ensures covers { CoversAsMuch self.old self.new }
@@ -273,7 +273,7 @@ impl Tracker {
         Ok(())
     }
 
-    /// Keeps what the changes leave, by its labels, where givers are known.
+    /// Keeps what the changes leave, by its labels, if givers are known.
     fn learn_labels(&mut self, changes: &[Change]) -> Result<(), Memory>
         ensures learned { OnOk result (self.new ≡ record self.old { givers = givers_after self.old.givers (map plain_change changes.now) }) }
         ensures kept { KeepsAll self.old self.new }
@@ -300,7 +300,7 @@ impl Tracker {
     /// The aggregated cluster role of least name that differs from its union, with its union; none where none differs.
     ///
     /// Reads marked roles alone, in the order of their names. The marks before the returned role are dropped, and all
-    /// where none is returned. Where an allocation fails none is dropped.
+    /// if none is returned. If an allocation fails none is dropped.
     #[tactic(auto, using(crate::proofs::Turning::found_where_covered, crate::proofs::Turning::none_unmarked, crate::proofs::Turning::next_covers))]
     pub fn next(&mut self, roles: &ClusterRoles<'_>) -> Result<Option<Turn>, Memory>
         ensures turn { IfOk result (λ t. t ≡ first_some (turn_of_marked self.old.marks (roles_of roles.now)) (roles_of roles.now)) }
@@ -334,7 +334,7 @@ impl Tracker {
         Ok(turn)
     }
 
-    /// Keeps those takers and givers alone that are there, where many are kept or givers are not known. It is done once in
+    /// Keeps those takers and givers alone that are there, if many are kept or givers are not known. It is done once in
     /// so many writes that the walk over all cluster roles counts for nothing.
     #[tactic(auto, using(crate::proofs::Giving::anew_covers))]
     fn learn_anew(&mut self, store: &Store) -> Result<(), Memory>

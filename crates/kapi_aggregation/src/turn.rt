@@ -56,7 +56,7 @@ pub(crate) fn turn_in(
     turn_to(alloc, role, union_in(alloc, store, givers, role)?)
 }
 
-/// What an aggregated role is to become, where its rules are not these.
+/// What an aggregated role is to become, if its rules are not these.
 fn turn_to(
     alloc: Global,
     role: &NamedRole<'_>,
@@ -76,7 +76,7 @@ fn turn_to(
 /// Prepares the write of a turn: the object at the cluster role's place gets the turn's rules in place of its own.
 ///
 /// # Errors
-/// `Missing` where there is no such cluster role, `RevisionsUsedUp` where no revision is left.
+/// `Missing` if there is no such cluster role, `RevisionsUsedUp` if no revision is left.
 #[tactic(auto, unfolding(crate::specs::Rewriting::rewriting))]
 pub fn rewrite(alloc: Global, store: &Store, turn: &Turn) -> Result<Ready, StoreError>
     ensures gives { Gives fault_of (map plain_change) result (rewriting turn.now (plain_of store.now)) }

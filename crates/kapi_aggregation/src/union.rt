@@ -19,7 +19,7 @@ use std::alloc::Global;
 use std::collections::BTreeSet;
 
 /// The union of the cluster role of the name: the rules of the cluster roles that its selectors match, by the selectors
-/// in their order, then by name, without its own, each rule once, at its first place. It is empty where the role takes
+/// in their order, then by name, without its own, each rule once, at its first place. It is empty if the role takes
 /// nothing from others, or is not there.
 #[tactic(auto, using(crate::proofs::Named::named_mapped))]
 pub fn union_of(
@@ -89,7 +89,7 @@ fn meant_in(
     Ok(rules)
 }
 
-/// Adds the rules of the roles of the store that the selector matches, but for the role of that name. Where the selector
+/// Adds the rules of the roles of the store that the selector matches, but for the role of that name. If the selector
 /// lists a label and the givers are known, those at the first label alone are read.
 fn add_given(
     alloc: Global,

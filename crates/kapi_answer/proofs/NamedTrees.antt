@@ -47,7 +47,7 @@ none_given name (number n) is = absurd (cc is)
 none_given name (array ds) is = absurd (cc is)
 none_given name (object ms) is = absurd (cc is)
 
--- where only the empty namespace may be given, the metadata has none
+-- if only the empty namespace may be given, the metadata has none
 none_told : (name : List ℕ) (o : Option Data) → in_namespace [] name (text_given (option_and_then unless_null o)) ≡ Ok tt → unwrap_or (option_and_then as_str o) [] ≡ []
 none_told name None is = refl
 none_told name (Some d) is = none_given name d is
@@ -117,7 +117,7 @@ housed_by : (b : Bool) (k : Key) (namespace : List ℕ) (tree : Data) → metada
 housed_by true k namespace tree name is none = (text_here (codes "namespace") namespace tree ∙ sym is, text_there (codes "name") (codes "namespace") namespace tree refl ∙ name)
 housed_by false k namespace tree name is none = (none refl ∙ sym is, name)
 
--- where a tree may only give the resource type's namespace, it gives none for a resource type without
+-- if a tree may only give the resource type's namespace, it gives none for a resource type without
 none_outside : (row : ResourceRow) (namespace name : List ℕ) (tree : Data) → IsHome row namespace → in_namespace namespace name (given_of tree).namespace ≡ Ok tt
     → row.namespaced ≡ false → metadata_text (codes "namespace") tree ≡ []
 none_outside row namespace name tree home same is =

@@ -1,4 +1,4 @@
--- Refusals where the store refuses.
+-- Refusals if the store refuses.
 use Rattle.std.proofs.Common.{ℕ, List, Option, Some, None, Result, refl}
 use Rattle.std.specs.Option.{option_map}
 use Rattle.kapi_text.specs.Gives.{Fails, ◌>>=◌}

@@ -47,7 +47,7 @@ pub end_refused : (s : Plain) (w : PlainWatching) (e : Event) → e ≡ event.Re
 unfolding event_reply_of
 end_refused s w e is = ap (λ x. event_reply_of s w (event_of x)) (sym is)
 
--- where a start is not refused, a watch can start
+-- if a start is not refused, a watch can start
 not_refused : (s : Plain) (since : ℕ) (r : Result (Unit {0}) WatchFault) → started_or_refused s since r ≡ Ok tt → r ≡ Ok tt
 not_refused s since (Ok u) is = refl
 not_refused s since (Err fault) is = absurd (cc is)

@@ -84,13 +84,13 @@ place_in t = key_at t.row t.namespace t.name
 abbrev pub escalation_checked : Plain → Task → Key × Data → Result (Unit {0}) Refused
 escalation_checked s t new = escalated t.objects t.identity t.name new.0 (lookup (is_key new.0) s.objects) new.1
 
--- plans the creation of an object that passed its checks, where the identity may make the write
+-- plans the creation of an object that passed its checks, if the identity may make the write
 unfoldable pub to_be_created : Plain → Task → Key × Data → Result Plan Refused
 to_be_created s t new = do
   u ← escalation_checked s t new
   Ok (create new)
 
--- plans the replacement of an object that passed its checks, where the identity may make the write
+-- plans the replacement of an object that passed its checks, if the identity may make the write
 unfoldable pub to_be_replaced : Plain → Task → Key × Data → Result Plan Refused
 to_be_replaced s t new = do
   u ← escalation_checked s t new
@@ -151,7 +151,7 @@ pub data Passed : Type 0 where
 abbrev pub passes : Outcome → Result Passed Refused
 passes outcome = Ok (told outcome)
 
--- what becomes of a plan, where the store makes the write
+-- what becomes of a plan, if the store makes the write
 abbrev pub carried_out : Plain → Plan → Result Passed Refused
 carried_out s (tell outcome) = passes outcome
 carried_out s (watch w) = Ok (watching w)

@@ -13,6 +13,6 @@ use Rattle.kapi_request_info.specs.declared.attributes.Attributes.{Attributes}
 abbrev pub is_authorized : PolicyObjects → Identity → Attributes → Bool
 is_authorized objects identity a = is_allowed (decided objects identity a.namespace a.point)
 
--- authorization as a check: the request is refused where the identity may not do what it asks for
+-- authorization as a check: the request is refused if the identity may not do what it asks for
 unfoldable pub authorized : PolicyObjects → Identity → Attributes → Result (Unit {0}) Refused
 authorized objects identity a = if is_authorized objects identity a then Ok tt else Err (asked_for refusal.Forbidden)

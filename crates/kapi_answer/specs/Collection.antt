@@ -15,7 +15,7 @@ use Rattle.kapi_answer.specs.Create.{stored}
 use Rattle.kapi_answer.specs.Delete.{Deletion, deletable}
 use Rattle.kapi_answer.specs.Outcome.{Outcome, told}
 
--- the objects that a collection request selects, with their keys: in the namespace, or in all where it is empty
+-- the objects that a collection request selects, with their keys: in the namespace, or in all if it is empty
 abbrev pub chosen : Plain → ResourceRow → List ℕ → Filter → List (Key × Data)
 chosen s row namespace filter = listed_trees row namespace filter.selector filter.name s.objects
 

@@ -104,7 +104,7 @@ unfoldable pub valid : List ℕ → Result Data (List FieldFault) → Result Dat
 valid name (Ok tree) = Ok tree
 valid name (Err faults) = Err (named name (refusal.Invalid faults))
 
--- the tree without its status, where that is a subresource of its own (Kubernetes API conventions, 'Spec and Status')
+-- the tree without its status, if that is a subresource of its own (Kubernetes API conventions, 'Spec and Status')
 abbrev pub without_status : ResourceRow → Data → Data
 without_status row tree = if row.has_status then without_member (codes "status") tree else tree
 

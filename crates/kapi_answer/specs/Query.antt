@@ -19,7 +19,7 @@ use Rattle.kapi_answer.specs.declared.route.Action.{Action}
 use Rattle.kapi_answer.specs.declared.route.Action.TheVariants as action
 use Rattle.kapi_text.specs.Gives.{◌>>=◌}
 
--- the value of a key, empty where there is none
+-- the value of a key, empty if there is none
 unfoldable pub asked : List QueryPair → List ℕ → List ℕ
 asked query key = unwrap_or (query_value query key) []
 
@@ -75,11 +75,11 @@ selector_or_refused (Err fault) = Err bad_query
 unfoldable pub selector_asked : List QueryPair → Result Selector Refused
 selector_asked query = selector_or_refused (selector_of (asked query (codes "labelSelector")))
 
--- the name that a field selector selects; the filter of all names where it is empty
+-- the name that a field selector selects; the filter of all names if it is empty
 unfoldable pub name_selected : List ℕ → Result (List ℕ) Refused
 name_selected text = if length text == 0 then Ok [] else ok_or (selected_name text) bad_query
 
--- the name that is asked for; all names where it is empty
+-- the name that is asked for; all names if it is empty
 unfoldable pub name_asked : List QueryPair → Result (List ℕ) Refused
 name_asked query = name_selected (asked query (codes "fieldSelector"))
 
@@ -102,7 +102,7 @@ revision text = if nat_lt 0 (length text) && (nat_le (length text) 15 && list_al
 abbrev pub reached : ℕ → ℕ → Result (Unit {0}) Refused
 reached current asked = if nat_le asked current then Ok tt else Err (asked_for (refusal.NotYetReached (record { asked = asked; current = current })))
 
--- a revision that was reached, where a query value is one
+-- a revision that was reached, if a query value is one
 abbrev pub reached_if : ℕ → Option ℕ → Result (Unit {0}) Refused
 reached_if current None = Err bad_query
 reached_if current (Some asked) = reached current asked
@@ -123,7 +123,7 @@ listed current query = do
   v ← version_asked current query
   Ok filter
 
--- the revision that is asked for; 0 where none is
+-- the revision that is asked for; 0 if none is
 unfoldable pub revision_asked : List QueryPair → ℕ
 revision_asked query = unwrap_or (revision (asked query (codes "resourceVersion"))) 0
 

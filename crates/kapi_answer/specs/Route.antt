@@ -43,7 +43,7 @@ is_of_namespaces row = length row.group == 0 && bytes_eq row.plural (codes "name
 abbrev pub is_own_namespace : ResourceRow → Attributes → ResourcePoint → Bool
 is_own_namespace row a p = is_of_namespaces row && (nat_le 2 a.parts && bytes_eq p.name a.namespace)
 
--- where an object is named, the path has a namespace exactly where the resource type has namespaces
+-- if an object is named, the path has a namespace exactly if the resource type has namespaces
 abbrev pub has_right_namespace : ResourceRow → Attributes → ResourcePoint → Bool
 has_right_namespace row a p =
     if row.namespaced then not (length a.namespace == 0)
@@ -71,7 +71,7 @@ place_of row a p =
 abbrev pub is_of_reviews : ResourceRow → Bool
 is_of_reviews row = bytes_eq row.group (codes "authorization.k8s.io")
 
--- where reviews are made: in a namespace exactly where the resource type has namespaces; a review has no name
+-- where reviews are made: in a namespace exactly if the resource type has namespaces; a review has no name
 abbrev pub reviews_place : ResourceRow → Attributes → Option Place
 reviews_place row a = if a.parts == 1 && beq row.namespaced (not (length a.namespace == 0)) then Some place.Reviews else None
 

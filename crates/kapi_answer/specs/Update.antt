@@ -28,7 +28,7 @@ use Rattle.kapi_answer.specs.Outcome.{Outcome}
 unfoldable pub in_name : List ℕ → GivenText → Result (Unit {0}) Refused
 in_name name given = if is_as_in_path name given then Ok tt else Err (named name (refusal.BadRequest word.Name))
 
--- the tree with the old object's status, where the status is a subresource of its own
+-- the tree with the old object's status, if the status is a subresource of its own
 abbrev pub keeping_status : ResourceRow → Data → Data → Data
 keeping_status row old tree = if row.has_status then with_member_of (codes "status") old tree else tree
 
@@ -69,6 +69,6 @@ to_patch s row of k bytes = do
 abbrev pub told_after : Option Data → List PlainChange → Result Outcome Refused
 told_after old changes = Ok (record { code = status.Ok; content = content.Json; body = text_after old changes; changes = changes })
 
--- the replacement of the object at a key: where that changes something, a revision must be left
+-- the replacement of the object at a key: if that changes something, a revision must be left
 unfoldable pub replaces : Plain → Key × Data → Result Outcome Refused
 replaces s new = stored new.0.name (replacement_in_place s new.0 new.1) >>= told_after (lookup (is_key new.0) s.objects)

@@ -1,4 +1,4 @@
--- Watches: where one can start, and what each of its events sends (Kubernetes, 'Kubernetes API Concepts', 'Efficient
+-- Watches: if one can start, and what each of its events sends (Kubernetes, 'Kubernetes API Concepts', 'Efficient
 -- detection of changes').
 use Rattle.std.specs.Prelude.{◌≡◌, ℕ, Bool, not, ◌&&◌, if◌then◌else◌, List, ◌++◌, codes, Option, Some, Result, Ok, Err}
 use Rattle.serde_json.specs.Data.{Data}

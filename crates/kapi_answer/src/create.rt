@@ -70,7 +70,7 @@ pub fn check_body(
     at_place(alloc, row, namespace, key, body.object)
 }
 
-/// The object that a body was read as at its place, where it is valid.
+/// The object that a body was read as at its place, if it is valid.
 fn at_place(
     alloc: Global,
     row: &ResourceRow,
@@ -215,7 +215,7 @@ pub fn refused(name: Text, why: Refusal) -> CheckError
     CheckError::Refused(Refused::named(name, why))
 }
 
-/// The name that the body gives, where it is one that objects of the resource type may have.
+/// The name that the body gives, if it is one that objects of the resource type may have.
 #[tactic(auto, unfolding(crate::specs::Create::given_name))]
 fn check_given_name(alloc: Global, row: &ResourceRow, given: &GivenText) -> Result<Text, CheckError>
     ensures { Gives refused_by (λ t. t) result (given_name row.now given.now) }
@@ -308,7 +308,7 @@ pub fn namespace_on<'a>(row: &ResourceRow, namespace: &'a str) -> &'a str
     if row.namespaced { namespace } else { "" }
 }
 
-/// The object, where the body has no fault.
+/// The object, if the body has no fault.
 #[tactic(auto, unfolding(crate::specs::Create::valid))]
 pub fn check_validity(
     alloc: Global,
@@ -351,7 +351,7 @@ pub fn with_namespace(
     }
 }
 
-/// The object without its status, where that is a subresource of its own (Kubernetes API conventions, 'Spec and
+/// The object without its status, if that is a subresource of its own (Kubernetes API conventions, 'Spec and
 /// Status').
 fn without_status(row: &ResourceRow, object: Object) -> Object
     ensures { tree_of result ≡ creation.without_status row.now (tree_of object) }

@@ -10,7 +10,7 @@ use kapi_reply::{NamedRole, Refusal, Refused};
 use kapi_text::{Memory, Text, TryCopy};
 use std::alloc::{AllocError, Global};
 
-/// The error of a request that writes the object of that name, where the guard refuses the write.
+/// The error of a request that writes the object of that name, if the guard refuses the write.
 pub fn refused_for(
     alloc: Global,
     name: &str,

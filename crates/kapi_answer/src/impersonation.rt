@@ -13,7 +13,7 @@ use kapi_reply::{BadWord, CheckError, Refusal, Refused};
 use kapi_request_info::{Impersonation, ImpersonationError, impersonation};
 use std::alloc::Global;
 
-/// The identity as which a request with these header fields is made, where it is another than the caller (Kubernetes,
+/// The identity as which a request with these header fields is made, if it is another than the caller (Kubernetes,
 /// 'Authenticating', 'User impersonation').
 #[tactic(auto, unfolding(crate::specs::Impersonation::acts_as))]
 pub fn impersonate<P: Policy>(

@@ -17,7 +17,7 @@ pub fn what_an_answer_changes_was_granted()
         → AreGrantedAs objects identity (answer objects s identity item).changes }
 {}
 
-/// Where each stored object has the namespace and the name of its place, an answer changes what one write makes:
+/// If each stored object has the namespace and the name of its place, an answer changes what one write makes:
 /// nothing, or what a creation, a replacement or a removal makes, whose trees have the namespace and the name of their
 /// places too. An object that is loaded changes what a creation makes, whatever is stored.
 pub fn what_an_answer_changes_is_one_write()

@@ -33,7 +33,7 @@ fn push_text(alloc: Global, text: &mut Vec<u8>, value: &str) -> Result<(), Memor
     text.extend_from_slice(quoted.as_slice())
 }
 
-/// Writes an object as an item of an array: after a comma, where an item comes before it.
+/// Writes an object as an item of an array: after a comma, if an item comes before it.
 pub(crate) fn push_item(
     text: &mut Vec<u8>,
     later: bool,

@@ -42,7 +42,7 @@ pub fn list_text(
     Ok(text)
 }
 
-/// The `apiVersion` of objects of the resource type: with the group before the version, where the group has a name.
+/// The `apiVersion` of objects of the resource type: with the group before the version, if the group has a name.
 fn api_version(alloc: Global, row: &ResourceRow) -> Result<String, Memory>
     ensures { IfOk result (λ s. string_bytes s ≡ version_of row.now) }
 {

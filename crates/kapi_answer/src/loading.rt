@@ -87,7 +87,7 @@ fn read(alloc: Global, text: &[u8]) -> Result<Value, LoadError>
     }
 }
 
-/// The object that a tree is, where it could be created, and its place.
+/// The object that a tree is, if it could be created, and its place.
 #[tactic(auto, unfolding(crate::specs::Load::to_load))]
 fn check_load(alloc: Global, store: &Store, tree: Value) -> Result<NewObject, LoadError>
     requires ordered { is_ordered (view tree) ≡ true }
@@ -216,7 +216,7 @@ fn is_version(row: &ResourceRow, text: &str) -> bool
     )
 }
 
-/// The namespace of the place of an object, which must be named where the resource type has namespaces.
+/// The namespace of the place of an object, which must be named if the resource type has namespaces.
 #[tactic(auto, unfolding(crate::specs::Load::namespace_in))]
 fn namespace_in<'a>(row: &ResourceRow, given: &'a GivenText) -> Option<&'a str>
     ensures { option_map (λ s. s.now) result ≡ loading.namespace_in row.now given.now }

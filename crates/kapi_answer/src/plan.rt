@@ -93,7 +93,7 @@ fn plan_on<P: Policy>(
     }
 }
 
-/// Plans the update of an object, where the identity may write it.
+/// Plans the update of an object, if the identity may write it.
 #[tactic(auto, unfolding(crate::specs::Answer::planned_on))]
 fn plan_update<P: Policy>(
     alloc: Global,
@@ -111,7 +111,7 @@ fn plan_update<P: Policy>(
     plan_replace(alloc, policy, task, new)
 }
 
-/// Plans the patch of an object, where the identity may write it.
+/// Plans the patch of an object, if the identity may write it.
 #[tactic(auto, unfolding(crate::specs::Answer::planned_on))]
 fn plan_patch<P: Policy>(
     alloc: Global,
@@ -191,7 +191,7 @@ fn plan_creation<P: Policy>(
     }
 }
 
-/// Plans the creation of an object that passed its checks, where the identity may write it.
+/// Plans the creation of an object that passed its checks, if the identity may write it.
 #[tactic(auto, unfolding(crate::specs::Answer::to_be_created))]
 fn plan_create<P: Policy>(
     alloc: Global,
@@ -207,7 +207,7 @@ fn plan_create<P: Policy>(
     Ok(Plan::Create(new))
 }
 
-/// Plans the replacement of an object that passed its checks, where the identity may write it.
+/// Plans the replacement of an object that passed its checks, if the identity may write it.
 #[tactic(auto, unfolding(crate::specs::Answer::to_be_replaced))]
 fn plan_replace<P: Policy>(
     alloc: Global,

@@ -18,7 +18,7 @@ pub struct Filter {
     pub selector: Selector,
     /// The name, empty for all names.
     pub name: Text,
-    /// The revision after which a watch shows each change; 0 where it first shows the stored objects.
+    /// The revision after which a watch shows each change; 0 if it first shows the stored objects.
     pub since: u64,
 }
 
@@ -76,7 +76,7 @@ fn check_watch(alloc: Global, current: u64, query: &[QueryPair]) -> Result<Filte
     })
 }
 
-/// The revision that is asked for; 0 where none is.
+/// The revision that is asked for; 0 if none is.
 #[tactic(auto, unfolding(crate::specs::Query::revision_asked))]
 fn revision_asked(query: &[QueryPair]) -> u64
     ensures { result ≡ queries.revision_asked query.now }
@@ -99,7 +99,7 @@ fn check_write(alloc: Global, query: &[QueryPair]) -> Result<Filter, CheckError>
     Ok(everything(alloc))
 }
 
-/// The value of a key, empty where there is none.
+/// The value of a key, empty if there is none.
 #[tactic(auto, unfolding(crate::specs::Query::asked))]
 fn asked<'a>(query: &'a [QueryPair], key: &str) -> &'a str
     ensures { result.now ≡ queries.asked query.now key.now }
@@ -210,7 +210,7 @@ fn name_asked(query: &[QueryPair]) -> Result<&str, Refused>
     name_in(asked(query, "fieldSelector"))
 }
 
-/// The name that a field selector selects; all names where it is empty.
+/// The name that a field selector selects; all names if it is empty.
 #[tactic(auto, unfolding(crate::specs::Query::name_selected))]
 fn name_in(text: &str) -> Result<&str, Refused>
     ensures { Gives (λ e. Some e) (λ name. name.now) result (queries.name_selected text.now) }

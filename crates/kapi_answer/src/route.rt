@@ -14,7 +14,7 @@ use kapi_store::Store;
 /// Which part of an object is read or written.
 #[derive(Clone, Copy, Debug, PartialEq, Eq)]
 pub enum Part {
-    /// All but the status, where that is a subresource.
+    /// All but the status, if that is a subresource.
     Object,
     Status,
 }
@@ -142,7 +142,7 @@ pub fn is_of_reviews(row: &ResourceRow) -> bool
     row.group.as_str() == "authorization.k8s.io"
 }
 
-/// The place of reviews, which are made in a namespace exactly where the resource type has them, and have no name.
+/// The place of reviews, which are made in a namespace exactly if the resource type has them, and have no name.
 fn reviews_place(row: &ResourceRow, attributes: &Attributes) -> Option<Place>
     ensures { result ≡ routes.reviews_place row.now attributes.now }
 {
@@ -197,7 +197,7 @@ fn subresource_of(row: &ResourceRow, point: &ResourcePoint) -> Option<Place>
     }
 }
 
-/// Whether the path of an object has a namespace exactly where the resource type lives in namespaces.
+/// Whether the path of an object has a namespace exactly if the resource type lives in namespaces.
 fn has_right_namespace(row: &ResourceRow, attributes: &Attributes, point: &ResourcePoint) -> bool
     ensures { result ≡ routes.has_right_namespace row.now attributes.now point.now }
 {

@@ -122,7 +122,7 @@ fn check_replacement(
     in_place_of(alloc, row, part, key, old, body.object)
 }
 
-/// The object that a body was read as in place of the stored one, where it is valid.
+/// The object that a body was read as in place of the stored one, if it is valid.
 fn in_place_of(
     alloc: Global,
     row: &ResourceRow,
@@ -196,7 +196,7 @@ fn replacing(
     }
 }
 
-/// The object with the old one's status, where the status is a subresource of its own (Kubernetes API conventions,
+/// The object with the old one's status, if the status is a subresource of its own (Kubernetes API conventions,
 /// 'Spec and Status').
 fn keep_status(
     alloc: Global,

@@ -1,4 +1,4 @@
-//! Watches: where one can start, and what each of its events sends.
+//! Watches: if one can start, and what each of its events sends.
 ghost use Rattle.std.specs.Prelude.{◌≡◌, List, Ok, None, IfOk, option_map};
 ghost use Rattle.serde_json.specs.Data.{Data};
 ghost use Rattle.serde_json.specs.Written.{compact_text};
@@ -114,7 +114,7 @@ pub fn event_reply(
     }
 }
 
-/// What a watch with rechecked rights shows, where `on` is set: the loss of rights comes first. Allocates nothing.
+/// What a watch with rechecked rights shows, if `on` is set: the loss of rights comes first. Allocates nothing.
 #[tactic(auto, unfolding(crate::specs::Watch::rechecked))]
 pub fn recheck<'a, P: Policy>(
     policy: &P,
@@ -171,7 +171,7 @@ fn refused_reply(alloc: Global, watching: &Watching) -> Result<EventReply, Memor
     ended_reply(alloc, &status, watching.close)
 }
 
-/// What a watch sends where it cannot go on.
+/// What a watch sends if it cannot go on.
 fn expired_reply(alloc: Global, store: &Store, watching: &Watching) -> Result<EventReply, Memory>
     ensures { (history : List PlainChange) (s : Plain) (w : PlainWatching) → RefinesPlain store.now history s → RefinesWatching watching.now history s w
         → IfOk result (λ r. r ≡ ending_of w.close (expired_status s w.watch)) }

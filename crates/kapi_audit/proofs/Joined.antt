@@ -49,7 +49,7 @@ joined row seat others from lines (r ∷ rs) results (s ∷ ss) are same all is 
     let rest = joined row seat others (from + 1) lines rs (map Ok ss) ss are.2 (let whole = ap length is ∙ same in omega (arith, whole)) later refl in
     (named, subst (λ n. AreShares (from + 1) n others (map (f seat) lines) ss) (omega arith) rest)
 
--- each reader returned its share, where all have finished
+-- each reader returned its share, if all have finished
 pub joined_if : {V : Type 0} (items : V → List (List (Option (List ℕ)))) (row : ResourceRow) (seat : Chair) (others : ℕ) (lines : List Line) (rs : List Reader) (results : List (Result (List (Option (List ℕ))) SeatError))
     (result : Result V SeatError) → AreReaders seat 0 rs → length results ≡ length rs → AllCameBack row others lines rs results → IfOk result (λ v. map Ok (items v) ≡ results)
     → IfOk result (λ v. AreShares 0 (length rs) others (map (from_seat row seat) lines) (items v))

@@ -13,7 +13,7 @@ use Rattle.kapi_lines.specs.Lines.{NumberedLine, lines_of}
 use Rattle.kapi_loading.specs.Loading.{machine_of, policy_machine}
 use Rattle.kapi_engine.specs.Questions.{question_of}
 
--- the line that answers a question by a policy; none where the line is no question
+-- the line that answers a question by a policy; none if the line is no question
 abbrev pub answer_of : ResourceRow → PolicyObjects → List ℕ → Option (List ℕ)
 answer_of row policy line = option_map (λ q. decision_line (decided policy q.identity q.namespace q.point)) (question_of row line)
 

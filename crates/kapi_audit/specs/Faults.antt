@@ -16,7 +16,7 @@ pub data AuditError : Type 0 where
 abbrev pub Answered : Type 0
 Answered = Result (List ℕ) AuditError
 
--- what a fault reports of the files: nothing where it is out of memory, or a reader was refused
+-- what a fault reports of the files: nothing if it is out of memory, or a reader was refused
 abbrev pub fault_told : AuditFault → Option AuditError
 fault_told (fault.PolicyLine n) = Some (policy_line n)
 fault_told (fault.QuestionLine n) = Some (question_line n)

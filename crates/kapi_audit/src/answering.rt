@@ -92,7 +92,7 @@ fn answer_bytes<W: Write>(
     Ok(())
 }
 
-/// How many bytes were read into the buffer; none only where no byte is left.
+/// How many bytes were read into the buffer; none only if no byte is left.
 fn read_into<R: Read>(reader: &mut R, buffer: &mut [u8]) -> Result<usize, AnswerFault>
     requires { 0 < length buffer.old }
     ensures within { IfOk result (λ n. n ≤ length buffer.old) }
@@ -138,7 +138,7 @@ fn answer_all<R: Read, W: Write>(
 /// them.
 ///
 /// # Errors
-/// `Read` where the reader fails or returns 2^32 pieces or more; `Write` where the writer fails; `Memory` where an
+/// `Read` where the reader fails or returns 2^32 pieces or more; `Write` if the writer fails; `Memory` if an
 /// allocation fails outside a question.
 pub fn answer_run<R: Read, W: Write>(
     alloc: Global,

@@ -133,7 +133,7 @@ fn answer_seated<R: Threads + Wait + Sync, G: Gate + Sync>(
 ///
 /// # Errors
 /// `PolicyLine` at the first line of the policy that is not loaded, else `QuestionLine` at the first line that is no
-/// question; `Memory` where an allocation fails, and `Busy` where a reader answered by another policy than the whole
+/// question; `Memory` if an allocation fails, and `Busy` if a reader answered by another policy than the whole
 /// one.
 pub fn audit_run<R: Threads + Wait + Sync, G: Gate + Sync>(
     alloc: Global,

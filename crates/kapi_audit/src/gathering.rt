@@ -11,7 +11,7 @@ use kapi_lines::Line;
 use kapi_text::{Memory, Sequence};
 use std::alloc::Global;
 
-/// The line that answers a question; none where a line is no question.
+/// The line that answers a question; none if a line is no question.
 pub type Answer = Option<Sequence<u8>>;
 
 /// All answers of each share.

@@ -17,7 +17,7 @@ use std::alloc::{AllocError, Global};
 use std::thread;
 use std::thread::Threads;
 
-/// The shares, where every reader has finished its own.
+/// The shares, if every reader has finished its own.
 fn finished(
     alloc: Global,
     results: Vec<Result<Sequence<Answer>, SeatError>>,
@@ -40,7 +40,7 @@ fn push(shares: &mut Vec<Sequence<Answer>>, share: Sequence<Answer>) -> Result<(
     }
 }
 
-/// The shares of the readers. Each reader answers in a thread of its own, where one can be made.
+/// The shares of the readers. Each reader answers in a thread of its own, if one can be made.
 pub fn answer_in_threads<R: Threads + Sync, G: Gate + Sync>(
     alloc: Global,
     rt: &R,

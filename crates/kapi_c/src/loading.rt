@@ -8,10 +8,10 @@ use kapi_calls::{Shared, share};
 use kapi_engine::{StartError, load};
 use std::alloc::Global;
 
-/// The status where memory runs out.
+/// The status if memory runs out.
 const NO_MEMORY: u32 = 1;
 
-/// The status where a line is not loaded.
+/// The status if a line is not loaded.
 const BAD_LINE: u32 = 2;
 
 /// A holder on the heap.

@@ -87,7 +87,7 @@ unfoldable pub paths_given : List ℕ → Engine → Call → Result Given CallF
 paths_given paths engine call =
     form_of call.form >>= λ f. text_of call.other.now >>= λ to. texts_of call.without.now >>= λ without. Ok (settled_with engine paths)
 
--- the text is that of paths, where the call has a form, a name and kinds that are texts
+-- the text is that of paths, if the call has a form, a name and kinds that are texts
 abbrev pub ArePaths : List ℕ → Engine → Call → Type 0
 ArePaths paths engine call =
     (f : Form) (to : List ℕ) (without : List (List ℕ)) → form_of call.form ≡ Ok f → text_of call.other.now ≡ Ok to → texts_of call.without.now ≡ Ok without

@@ -28,7 +28,7 @@ texts_of = each passed_text
 abbrev pub has_slash : List ℕ → Bool
 has_slash s = list_any (λ b. b == 47) s
 
--- a resource and a subresource that a review takes: only the resource may have a slash, only one, and only where no
+-- a resource and a subresource that a review takes: only the resource may have a slash, only one, and only if no
 -- subresource is named
 abbrev pub are_plain : List ℕ → List ℕ → Bool
 are_plain resource subresource =

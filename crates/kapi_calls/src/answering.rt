@@ -119,7 +119,7 @@ fn refused(fault: CallFault, answer: &mut Answer) -> u32
     fault.code()
 }
 
-/// Answers a call, and gives the status: 0 where it is answered. Else nothing is written but a length: where the room is too
+/// Answers a call, and gives the status: 0 if it is answered. Else nothing is written but a length: if the room is too
 /// small, what it needs, and where other objects are not loaded, the line.
 pub fn answer_call(
     alloc: Global,

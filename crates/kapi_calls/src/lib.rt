@@ -1,4 +1,4 @@
-//! The calls of the C library: what a caller passes, read as a question, and what is answered, written where the caller
+//! The calls of the C library: what a caller passes, read as a question, and what is answered, written if the caller
 //! said. A status is no answer: a decision goes out beside it, and 0 denies.
 #![tactic(auto)]
 

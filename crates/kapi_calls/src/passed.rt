@@ -8,7 +8,7 @@ pub struct PassedText<'a> {
 }
 
 /// A question as a SubjectAccessReview has it (Kubernetes API, authorization.k8s.io/v1). No group is added to the groups.
-/// Where a path is named, it is asked about the path, and only user, groups and verb are read beside it.
+/// If a path is named, it is asked about the path, and only user, groups and verb are read beside it.
 #[repr(C)]
 #[derive(Clone, Copy)]
 pub struct PassedQuestion<'a> {
@@ -19,7 +19,7 @@ pub struct PassedQuestion<'a> {
     pub verb: &'a [u8],
     /// Empty: the core group.
     pub group: &'a [u8],
-    /// `RESOURCE/SUBRESOURCE` stands for the two, where no subresource is named.
+    /// `RESOURCE/SUBRESOURCE` stands for the two, if no subresource is named.
     pub resource: &'a [u8],
     pub subresource: &'a [u8],
     pub name: &'a [u8],

@@ -13,7 +13,7 @@ use kapi_rules::{Point, ResourcePoint, UrlPoint};
 use kapi_text::{Memory, Sequence, Text};
 use std::alloc::Global;
 
-/// Whether an identity may do something in a namespace, or cluster-wide where the namespace is empty.
+/// Whether an identity may do something in a namespace, or cluster-wide if the namespace is empty.
 #[derive(Debug, Drop)]
 pub struct Asked {
     pub identity: Identity,
@@ -101,7 +101,7 @@ fn path_point(alloc: Global, passed: &PassedQuestion<'_>) -> Result<Point, CallF
     }))
 }
 
-/// The point of texts, where a review takes them.
+/// The point of texts, if a review takes them.
 fn resource_of(
     alloc: Global,
     verb: Text,
@@ -130,7 +130,7 @@ fn resource_of(
     }))
 }
 
-/// Whether only the resource has a slash, one at most, and none where a subresource is named.
+/// Whether only the resource has a slash, one at most, and none if a subresource is named.
 fn are_plain(resource: &str, subresource: &str) -> bool
     ensures { result ≡ plain_parts resource.now subresource.now }
 {
@@ -155,7 +155,7 @@ fn resource_point(alloc: Global, passed: &PassedQuestion<'_>) -> Result<Point, C
 /// What the caller asks.
 ///
 /// # Errors
-/// `Text` where a text is no UTF-8, `Question` where a review refuses the resource, `Memory` where memory runs out.
+/// `Text` if a text is no UTF-8, `Question` if a review refuses the resource, `Memory` if memory runs out.
 #[tactic(auto, unfolding(crate::specs::Questions::question_of))]
 pub fn read_question(alloc: Global, passed: &PassedQuestion<'_>) -> Result<Asked, CallFault>
     ensures { Gives fault_told (λ q. q) result (question_of passed.now) }

@@ -64,7 +64,7 @@ fed_from es fs id piece c u (Err Full) there is ok same ended full memory = (c, 
 fed_from es fs id piece c u (Err Ended) there is ok same ended full memory = (inr (c, there, ended refl), unchanged es fs id c u there is (same Ended refl))
 fed_from es fs id piece c u (Err Memory) there is ok same ended full memory = (c, there, memory refl, unchanged es fs id c u there is (same Memory refl))
 
--- where an inbox is out of memory, it goes on and the bytes fit
+-- if an inbox is out of memory, it goes on and the bytes fit
 pub memory_fits : (r : Result (Unit {0}) FeedError) (ended : Bool) (n : ℕ) → (IsTrue ended → r ≡ Err Ended) → (IsFalse ended × (kept_limit < n) → r ≡ Err Full)
     → r ≡ Err Memory → n ≤ kept_limit
 memory_fits r true n if_ended if_full is = absurd (let both : Err Ended ≡ Err Memory = sym (if_ended refl) ∙ is in cc both)

@@ -42,13 +42,13 @@ Passes id m n sent w Pump =
     (n.changes ≡ m.changes) × (n.store ≡ m.store) × (is_expired m.store w.watch ≡ false) × (watch_on id n ≡ Some (pumped_on m w))
     × (sent ≡ lines_of (cons_option (pumped m.changes m.store w.watch) []))
 
--- no watch is shown where there is none
+-- no watch is shown if there is none
 no_watch : {A : Type 0} (id : ℕ) (n : Machine) → watch_on id n ≡ None → IsSome (watch_on id n) → A
 no_watch id n none some = let P : Option PlainWatching → Type 0 = IsSome in absurd (cc (subst P none some))
 
 -- ---- events that are no pump
 
--- the watch that a connection shows, where an event is about another
+-- the watch that a connection shows, if an event is about another
 elsewhere : (id k : ℕ) (m n : Machine) → Touches k m n → (k == id) ≡ false → watch_on id n ≡ watch_on id m
 elsewhere id k m n t differs = ap watch_of (t.others id (λ is. eqb-false k id differs (sym is)))
 
@@ -281,7 +281,7 @@ events_are_a_run on table first texts before events id w is shows =
     let r = events_run first id m events w (served_has on table first texts before) (served_numbered on table first texts before) is shows in
     record { between = r.between; holds = r.holds; still = r.still; sent = r.told }
 
--- what the run of a watch has shown, where nothing is due any more
+-- what the run of a watch has shown, if nothing is due any more
 still_none : (id : ℕ) (m : Machine) (events : List Event) (w v : PlainWatching) (began : PlainWatch) → IsRun id m events w → w.watch ≡ began → watch_on id (after m events) ≡ Some v
     → still_due (after m events).changes v.watch ≡ [] → still_due (after m events).changes (watch_after (run_on id m events) m.changes m.store began) ≡ []
 still_none id m events w v began r is now none =

@@ -28,7 +28,7 @@ unfolding rechecked
 off_shows_what_is_due m w off =
     ap (λ on. if on && not (may_go_on (policy_of m) w) then Some Refused else pumped m.changes m.store w.watch) off
 
--- where a watch is not allowed any more, the refusal is shown
+-- if a watch is not allowed any more, the refusal is shown
 on_shows : (m : Machine) (w : PlainWatching) → m.rechecks ≡ true → may_go_on (policy_of m) w ≡ false → shown_next m w ≡ Some Refused
 unfolding rechecked
 on_shows m w on denied =

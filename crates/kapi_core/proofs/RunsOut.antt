@@ -1,4 +1,4 @@
--- Where a step is out of memory, no answer was due that is given before any memory is taken.
+-- If a step is out of memory, no answer was due that is given before any memory is taken.
 use Rattle.std.proofs.Common.{◌≡◌, ℕ, nat_lt, nat_le, ◌&&◌, true, false, List, length, Option, Result, Ok, Err, IsErr, refl, Bool}
 use Rattle.std.specs.BTreeMap.{insert_entry}
 use Rattle.std.specs.Ordering.{nat_cmp}
@@ -35,7 +35,7 @@ pub turns_err : (old new : Running) (r : Result (Option Turned) AllocError) → 
 turns_err old new (Ok turned) h out = absurd (cc h)
 turns_err old new (Err error) h out = out
 
--- where there is room for a connection, it is opened
+-- if there is room for a connection, it is opened
 pub room_is_late : (s : State) (o : PolicyObjects) (ms : Tracked) (es : List (ℕ × Connection)) (n : ℕ) (on : Bool) (m : Machine) (identity : Identity) → (nat_lt (length es) open_connections && nat_le n last_connection) ≡ true
     → RefinesMachine s o ms es n on m → is_early (step m (event.Open identity)).0 ≡ false
 room_is_late s o ms es n on m identity room h =

@@ -124,7 +124,7 @@ watching_there history p r (Some q) (Some v) is h =
     let P : Watching → Type 0 = λ x. RefinesWatching x history p v in
     (v, refl, subst P same h)
 
--- where no watch runs, none is shown
+-- if no watch runs, none is shown
 pub watching_missing : (history : List PlainChange) (p : Plain) (o : Option Watching) (w : Option PlainWatching) → o ≡ None → AreWatching history p o w → w ≡ None
 watching_missing history p None None is h = refl
 watching_missing history p None (Some w) is h = absurd h

@@ -39,7 +39,7 @@ is_concerned m id revision = concern_some (later revision m.changes) (watch_on (
 abbrev pub fnv_step : ℕ → ℕ → ℕ
 fnv_step hash byte = bit_xor hash byte * 1099511628211 % 2 ^ 64
 
--- the fingerprint of a resource in a namespace; where that is empty, in all
+-- the fingerprint of a resource in a namespace; if that is empty, in all
 abbrev pub concern_of : List ℕ → List ℕ → List ℕ → ℕ
 concern_of group resource namespace = fold fnv_step (fold fnv_step (fold fnv_step 14695981039346656037 group) resource) namespace
 

@@ -43,7 +43,7 @@ pub record IsServed (m : Machine) (es : List Event) (who : Identity) : Type 0 wh
   pub named : Has es (event.Serve conn)
   pub connected : IsConnected m es conn who
 
--- where the aggregated cluster roles have their unions and all acting identities are unprivileged, the new policy
+-- if the aggregated cluster roles have their unions and all acting identities are unprivileged, the new policy
 -- allows no identity what the old one allowed neither to that identity nor to one of those acting
 abbrev pub NobodyGains : List Labelled → List Identity → PolicyObjects → PolicyObjects → Type 0
 NobodyGains roles acting old new =
@@ -55,7 +55,7 @@ NobodyGainsDuring m events =
     (front back : List Event) → front ++ back ≡ events
     → NobodyGains (roles_in (after m front).store.objects) (acting_in (after m front) back) (policy_of (after m front)) (policy_of (after (after m front) back))
 
--- where the aggregated cluster roles have their unions and all acting identities are unprivileged, what roles have now,
+-- if the aggregated cluster roles have their unions and all acting identities are unprivileged, what roles have now,
 -- what turns would add to aggregated ones, and what bindings give, is within what the acting identities held at the
 -- start, or was there then
 abbrev pub StaysHeld : List Identity → Machine → Machine → Type 0

@@ -19,7 +19,7 @@ use Rattle.kapi_core.specs.Running.{Running}
 use Rattle.kapi_core.specs.Refines.{Refines}
 use Rattle.kapi_core.specs.declared.event.Event.{Event}
 
--- the machine after the changes of a load, where it is not refused
+-- the machine after the changes of a load, if it is not refused
 abbrev pub loaded_if : Machine → Result (List PlainChange) LoadFault → Machine
 loaded_if m (Ok changes) = changed changes m
 loaded_if m (Err fault) = m
@@ -41,11 +41,11 @@ ServedIsAHistory = (on : Bool) (table : List ResourceRow) (first : ℕ) (texts :
 abbrev pub TurnsReplace : Type 0
 TurnsReplace = (turn : Turn) (s : Plain) (cs : List PlainChange) → AreNamed s.objects → rewriting turn s ≡ Ok cs → IsReplacement s cs
 
--- where all the changes of a machine that a running one refines are a history, they still are after some events
+-- if all the changes of a machine that a running one refines are a history, they still are after some events
 abbrev pub EventsGoOn : Type 0
 EventsGoOn = (core : Running) (m : Machine) (events : List Event) → Refines core m → IsHistory m.store.first m.changes → IsHistory m.store.first (after m events).changes
 
--- where all changes of a machine that a running one refines are a history, they still are after an object was loaded
+-- if all changes of a machine that a running one refines are a history, they still are after an object was loaded
 abbrev pub LoadsGoOn : Type 0
 LoadsGoOn = (core : Running) (m : Machine) (text : List ℕ) (cs : List PlainChange) → Refines core m → IsHistory m.store.first m.changes → loads m.store text ≡ Ok cs
     → IsHistory m.store.first (changed cs m).changes

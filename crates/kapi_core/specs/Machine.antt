@@ -161,12 +161,12 @@ after_event becomes.Watches id l w m = with_link id (watched_on l w m) m
 after_event becomes.Serves id l w m = with_link id (record l { watching = None }) m
 after_event becomes.Closes id l w m = without_link id m
 
--- what a watch shows is sent; where it shows nothing, the watch moves on
+-- what a watch shows is sent; if it shows nothing, the watch moves on
 unfoldable pub pump_shown : ℕ → Link → PlainWatching → Option EventReply → Machine → Answer × Machine
 pump_shown id l w None m = (told.Nothing, with_link id (watched_on l w m) m)
 pump_shown id l w (Some r) m = (told.Sent (event_output r), after_event r.after id l w m)
 
--- what a watch shows next: where rights are rechecked, first that the roles and bindings do not allow it any more
+-- what a watch shows next: if rights are rechecked, first that the roles and bindings do not allow it any more
 abbrev pub shown_next : Machine → PlainWatching → Option Shown
 shown_next m w = rechecked m.rechecks (policy_of m) w (pumped m.changes m.store w.watch)
 
@@ -180,7 +180,7 @@ unfoldable pub pump_step : ℕ → Option Link → Machine → Answer × Machine
 pump_step id None m = (told.Nothing, m)
 pump_step id (Some l) m = pump_watch id l l.watching m
 
--- the changes of a turn were made; or, where no revision is left, none
+-- the changes of a turn were made; or, if no revision is left, none
 abbrev pub after_turn : List ℕ → Result (List PlainChange) StoreFault → Machine → Answer × Machine
 after_turn name (Ok changes) m = (told.Turned (record { revision = m.store.revision + 1; name = name; policy_changes = policy_changes changes }), changed changes m)
 after_turn name (Err fault) m = (told.Nothing, m)
@@ -191,7 +191,7 @@ turned_by None m = (told.Nothing, m)
 turned_by (Some turn) m = after_turn turn.name (rewriting turn m.store) m
 
 -- the controller's next write: the aggregated cluster role of least name that differs from its union gets the union as
--- its rules; no write where no cluster role differs, and none where no revision is left
+-- its rules; no write where no cluster role differs, and none if no revision is left
 unfoldable pub turn_step : Machine → Answer × Machine
 turn_step m = turned_by (next (roles_in m.store.objects)) m
 

@@ -16,12 +16,12 @@ use Rattle.kapi_core.specs.Table.{namespaces_row, cluster_roles_row, cluster_rol
 abbrev pub cluster_key : ResourceRow → List ℕ → Key
 cluster_key row name = record { group = row.group; resource = row.plural; namespace = []; name = name }
 
--- the machine after a creation, where it is not refused
+-- the machine after a creation, if it is not refused
 abbrev pub written_if : Machine → Result (List PlainChange) StoreFault → Machine
 written_if m (Ok changes) = changed changes m
 written_if m (Err fault) = m
 
--- the machine after the creation of what a body is read as, where it is an object
+-- the machine after the creation of what a body is read as, if it is an object
 abbrev pub created_if : Machine → Key → Result Data BodyFault → Machine
 created_if m key (Ok tree) = written_if m (creation m.store key tree)
 created_if m key (Err fault) = m

@@ -17,7 +17,7 @@ use Rattle.kapi_core.specs.declared.event.Answer.TheVariants as told
 use Rattle.kapi_core.specs.declared.event.Event.{Event}
 use Rattle.kapi_core.specs.declared.event.Event.TheVariants as event
 
--- the watch that the connection of a number shows, where it shows one
+-- the watch that the connection of a number shows, if it shows one
 abbrev pub watch_on : ℕ → Machine → Option PlainWatching
 watch_on id m = option_and_then (λ l. l.watching) (link_at id m)
 

@@ -24,7 +24,7 @@ unfoldable pub SendsWhileAllowed : Machine → List Event → Type 0
 SendsWhileAllowed m [] = Unit {0}
 SendsWhileAllowed m (e ∷ es) = IsAllowedNow m e × SendsWhileAllowed (step m e).1 es
 
--- where rights are rechecked, every list of events sends on watches only what is allowed at its moment
+-- if rights are rechecked, every list of events sends on watches only what is allowed at its moment
 abbrev pub RechecksWatches : Machine → List Event → Type 0
 RechecksWatches m events = m.rechecks ≡ true → SendsWhileAllowed m events
 
@@ -32,6 +32,6 @@ RechecksWatches m events = m.rechecks ≡ true → SendsWhileAllowed m events
 abbrev pub StaysSwitched : Type 0
 StaysSwitched = (m : Machine) (events : List Event) → (after m events).rechecks ≡ m.rechecks
 
--- where rights are not rechecked, a watch shows what is due to it and nothing else
+-- if rights are not rechecked, a watch shows what is due to it and nothing else
 abbrev pub ShowsWhatIsDue : Type 0
 ShowsWhatIsDue = (m : Machine) (w : PlainWatching) → m.rechecks ≡ false → shown_next m w ≡ pumped m.changes m.store w.watch

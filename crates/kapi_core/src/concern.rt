@@ -25,7 +25,7 @@ fn continued(hash: u64, text: &str) -> u64
     hash
 }
 
-// The fingerprint of a resource in a namespace, or in all where the text is empty. Others may have the same.
+// The fingerprint of a resource in a namespace, or in all if the text is empty. Others may have the same.
 fn concern(group: &str, resource: &str, namespace: &str) -> u64
     ensures { result ≡ concern_of group.now resource.now namespace.now }
 {
@@ -52,8 +52,8 @@ fn add_concerns(numbers: &mut Vec<u64>, key: &Key) -> Result<(), Memory>
     Ok(())
 }
 
-/// The fingerprints of the watches that some changes may concern. None where any watch may be concerned: where a role or a
-/// binding is among them, by which rights may have gone, where they are many, and where there is no memory for the list.
+/// The fingerprints of the watches that some changes may concern. None if any watch may be concerned: if a role or a
+/// binding is among them, by which rights may have gone, if they are many, and where there is no memory for the list.
 pub fn concerns_of(alloc: Global, changes: &Changes<'_>) -> Option<Vec<u64>>
     ensures listed { IfSome result (λ v. v.items ≡ flat_map (λ c. concerns c.key) (changes_of changes.now)) }
     ensures others { IfSome result (λ v. list_any (λ c. is_of_policy c.key) (changes_of changes.now) ≡ false) }

@@ -33,7 +33,7 @@ pub fn nobody_gains_between_events()
     ensures running { (core : Running) (m : Machine) (events : List Event) → Refines core m → NobodyGainsDuring m events }
 {}
 
-/// From settled roles, where all who act are unprivileged: what roles have after events, what turns would add to
+/// From settled roles, if all who act are unprivileged: what roles have after events, what turns would add to
 /// aggregated cluster roles, and what bindings give, is within what those who act held before the events, or was there.
 /// It holds since the opening, and on every machine that a running one refines. So those who act hold nothing more.
 pub fn what_is_stored_stays_within()
@@ -95,7 +95,7 @@ pub fn what_is_sent_of_a_watch_makes_its_list()
     ensures first { FirstSentIsListed }
 {}
 
-/// No event turns the switch by which the rights of watches are rechecked. Where it is off a watch shows what is due to
+/// No event turns the switch by which the rights of watches are rechecked. If it is off a watch shows what is due to
 /// it, or that it cannot go on, and nothing else.
 pub fn the_switch_of_watches_stays()
     ensures stays { StaysSwitched }

@@ -136,8 +136,8 @@ impl<P: Policy + Drop> Core<P> {
     /// creation changed in the policy.
     ///
     /// # Errors
-    /// `UnknownKind` where no such apiVersion and kind are served, `Object` where it is no JSON object, has a fault, or
-    /// names no namespace though its kind has one, `Store` where its namespace does not exist, its place is taken, or
+    /// `UnknownKind` if no such apiVersion and kind are served, `Object` if it is no JSON object, has a fault, or
+    /// names no namespace though its kind has one, `Store` if its namespace does not exist, its place is taken, or
     /// no revision is left. After an error nothing has changed.
     pub fn load(&mut self, text: &[u8]) -> Result<PolicyStep, LoadError>
         ensures { Loads self.old self.new text.now result }
@@ -151,7 +151,7 @@ impl<P: Policy + Drop> Core<P> {
         )
     }
 
-    /// Sets whether the rights of each watch are rechecked at each of its events: where the current roles and bindings
+    /// Sets whether the rights of each watch are rechecked at each of its events: if the current roles and bindings
     /// do not allow it any more, the watch ends with that event. To be called before the first connection is opened;
     /// off at first. Allocates nothing.
     pub fn recheck_watches(&mut self, on: bool)
@@ -207,7 +207,7 @@ impl<P: Policy + Drop> Core<P> {
     /// Opens a connection for an identity.
     ///
     /// # Errors
-    /// `TooMany` where 256 connections are open or the numbers are used up, before anything is allocated.
+    /// `TooMany` if 256 connections are open or the numbers are used up, before anything is allocated.
     pub fn open(&mut self, identity: Identity) -> Result<ConnId, OpenError>
         ensures { Opens self.old self.new identity result }
     {
@@ -239,7 +239,7 @@ impl<P: Policy + Drop> Core<P> {
     /// Takes bytes in on a connection.
     ///
     /// # Errors
-    /// `Ended` where no such connection is open, else `Full` where the bytes not yet served would be more than
+    /// `Ended` if no such connection is open, else `Full` if the bytes not yet served would be more than
     /// 2,097,152; both before anything is allocated. After an error nothing has changed.
     pub fn feed(&mut self, conn: ConnId, piece: &[u8]) -> Result<(), FeedError>
         ensures { TakesIn self.old self.new conn piece.now result }
@@ -247,7 +247,7 @@ impl<P: Policy + Drop> Core<P> {
         feed_at(&mut self.connections, conn.0, piece)
     }
 
-    /// Answers the next complete request of a connection, or the first fault in its bytes; none where there is neither,
+    /// Answers the next complete request of a connection, or the first fault in its bytes; none if there is neither,
     /// and none while a watch of the connection runs.
     pub fn serve(&mut self, conn: ConnId) -> Result<Option<Output>, Memory>
         ensures { Sends self.old self.new (Event.Serve conn) result }
@@ -288,9 +288,9 @@ impl<P: Policy + Drop> Core<P> {
         }))
     }
 
-    /// Shows the next event of a connection's watch; none where it has no watch, and where there is nothing to show. A
-    /// watch that cannot go on, or whose rights were taken away where they are rechecked, ends with that event, and the
-    /// connection with it, where its request asked for that.
+    /// Shows the next event of a connection's watch; none if it has no watch, and where there is nothing to show. A
+    /// watch that cannot go on, or whose rights were taken away if they are rechecked, ends with that event, and the
+    /// connection with it, if its request asked for that.
     pub fn pump(&mut self, conn: ConnId) -> Result<Option<Output>, Memory>
         ensures { Sends self.old self.new (Event.Pump conn) result }
     {
@@ -329,8 +329,8 @@ impl<P: Policy + Drop> Core<P> {
         }
     }
 
-    /// The fingerprints of the watches that the changes after a revision may concern. None where any may be concerned: where
-    /// a role or a binding has changed, by which rights may have gone, where more than 64 objects have, and where some
+    /// The fingerprints of the watches that the changes after a revision may concern. None if any may be concerned: if
+    /// a role or a binding has changed, by which rights may have gone, if more than 64 objects have, and where some
     /// changes may be kept no longer, or there is no memory for the list.
     pub fn concerned_after(&self, revision: u64) -> Option<Vec<u64>>
         ensures { IfSome result (λ v. (m : Machine) → Refines self.now m → (id : ℕ) → is_concerned m id revision ≡ true → is_among v.items (concern_on (link_at id m)) ≡ true) }
@@ -342,7 +342,7 @@ impl<P: Policy + Drop> Core<P> {
     }
 
     /// Makes the controller's next write: the aggregated cluster role of least name whose rules are not its union gets
-    /// the union as its rules. None where there is no such role, or no revision is left.
+    /// the union as its rules. None if there is no such role, or no revision is left.
     pub fn turn(&mut self) -> Result<Option<Turned>, Memory>
         ensures { Turns self.old self.new result }
     {
@@ -376,7 +376,7 @@ fn closes(after: After) -> bool
     }
 }
 
-/// Takes out the connection of a number, where it is to be closed.
+/// Takes out the connection of a number, if it is to be closed.
 fn close_if(links: &mut BTreeMap<u64, Connection>, id: u64, close: bool)
     ensures { links.new.entries ≡ (if close then remove_entry (is_at (nat_cmp id)) links.old.entries else links.old.entries) }
 {

@@ -122,7 +122,7 @@ fn create_opening<P: Policy>(
     }
 }
 
-/// Creates an object, where its creation is not refused.
+/// Creates an object, if its creation is not refused.
 fn create_if<P: Policy>(
     alloc: Global,
     policy: &mut P,

@@ -15,7 +15,7 @@ use kapi_text::{Memory, Sequence, TryCopy};
 use std::alloc::AllocError;
 
 impl<P: Policy + Drop> Core<P> {
-    /// Makes one step. Where an allocation fails nothing has changed.
+    /// Makes one step. If an allocation fails nothing has changed.
     pub fn step(&mut self, event: &Event) -> Result<Answer, Memory>
         ensures { Steps self.old self.new event.now result }
     {
@@ -59,11 +59,11 @@ impl<P: Policy + Drop> Core<P> {
 
     /// Makes the steps of a list of events, one after the other, until an allocation fails.
     ///
-    /// Nobody gains by them what no actor held: where the aggregated cluster roles have their unions, and the
+    /// Nobody gains by them what no actor held: if the aggregated cluster roles have their unions, and the
     /// identities of all connections that are served are unprivileged by the policy as it is before, the policy as it
     /// is then allows no identity anything that it allowed before neither to that identity nor to one of those served.
     ///
-    /// Where the rights of watches are rechecked, whatever is sent on a watch is sent while the roles and bindings of
+    /// If the rights of watches are rechecked, whatever is sent on a watch is sent while the roles and bindings of
     /// that moment allow its identity to start it, or is the refusal that ends it.
     pub fn run(&mut self, events: &[Event]) -> Outputs
         ensures answers { (m : Machine) → Refines self.old m → result.answers ≡ answers_of m (take (length result.answers) events.now) }

@@ -57,7 +57,7 @@ pub fn load_object<P: Policy>(
     Ok(step)
 }
 
-/// Makes the write of a turn, and reports it; none where the store refuses it.
+/// Makes the write of a turn, and reports it; none if the store refuses it.
 pub fn make_turn<P: Policy>(
     alloc: Global,
     policy: &mut P,

@@ -39,7 +39,7 @@ waits_at (stage.Taken step) ops shelf shown h = inr (subst (λ l. (0 < length l)
 waits_at stage.Written ops shelf shown h = inr (subst (λ l. (0 < length l) × (0 < length (steps_among l))) (sym h.1) (omega arith, omega arith))
 waits_at stage.Noted ops shelf shown h = inr (subst (λ l. (0 < length l) × (0 < length (steps_among l))) (sym h.2) (omega arith, omega arith))
 
--- where no step waits, no operation does, and the book has the pages that are shown
+-- if no step waits, no operation does, and the book has the pages that are shown
 pub idle_at : (at : Stage) (ops : List Operation) (shelf : Shelf) (shown : List Page) → IsAt at ops shelf shown → steps_among ops ≡ [] → (ops ≡ []) × (shelf.pages ≡ shown)
 idle_at at ops shelf shown h none = ⊎_elim (λ (t : (ops ≡ []) × (steps_among ops ≡ []) × (shelf.pages ≡ shown)). (t.0, t.2)) (λ (t : (0 < length ops) × (0 < length (steps_among ops))). absurd (let k = ap length none in omega (arith, t.1, k))) (waits_at at ops shelf shown h)
 

@@ -4,7 +4,7 @@ use Rattle.kapi_policy.specs.declared.change.PolicyChange.{PolicyChange}
 use Rattle.kapi_policy.specs.Objects.{PolicyObjects}
 use Rattle.kapi_policy.specs.Steps.{after_changes}
 
--- the step that is published of the policy changes of one write, where there are some
+-- the step that is published of the policy changes of one write, if there are some
 abbrev pub step_of : List PolicyChange → List (List PolicyChange)
 step_of [] = []
 step_of (c ∷ cs) = (c ∷ cs) ∷ []

@@ -113,7 +113,7 @@ fn answer(version: &Version, question: &Question<'_, '_, '_>) -> Asked
     }
 }
 
-/// The answer of the published policy, or none where the desk is closed.
+/// The answer of the published policy, or none if the desk is closed.
 fn ask(reader: PolicyReader, question: Question<'_, '_, '_>) -> (PolicyReader, Option<Asked>)
     ensures reader { view_of result.0.place ≡ view_of reader.place }
     ensures pages { IfSome result.1 (λ a. ((view_of reader.place).knows ≡ true → a.pages.book ≡ (view_of reader.place).book) × (length a.pages.log ≡ a.count + 1)) }
@@ -142,7 +142,7 @@ impl Seat {
         }
     }
 
-    /// Takes the reported list for the seat's own where it is the longer one.
+    /// Takes the reported list for the seat's own if it is the longer one.
     pub fn learn(&mut self, told: &Told)
         requires { told.now.desk ≡ self.old.desk }
         ensures desk { self.new.desk ≡ self.old.desk }

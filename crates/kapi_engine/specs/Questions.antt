@@ -23,11 +23,11 @@ nobody = record { user = []; groups = [] }
 abbrev pub has_no_fault : Data → Bool
 has_no_fault tree = length (review_faults SubjectAccessReview tree) == 0
 
--- what a review asks, where it has no fault
+-- what a review asks, if it has no fault
 unfoldable pub asked_by : Data → Option Question
 asked_by tree = if has_no_fault tree then Some (question SubjectAccessReview [] nobody (at (codes "spec") tree)) else None
 
--- what a body that is read as a review asks, where it has no fault
+-- what a body that is read as a review asks, if it has no fault
 abbrev pub asked_if : Result Data BodyFault → Option Question
 asked_if (Ok tree) = asked_by tree
 asked_if (Err fault) = None

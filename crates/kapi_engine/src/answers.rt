@@ -31,7 +31,7 @@ impl Engine {
     /// Who may do what each line of a file asks, as `VERB RESOURCE [NAMESPACE [NAME]]`.
     ///
     /// # Errors
-    /// `Question` at the first line that is no question, `Memory` where an allocation fails.
+    /// `Question` at the first line that is no question, `Memory` if an allocation fails.
     pub fn who_lines(
         &self,
         alloc: Global,

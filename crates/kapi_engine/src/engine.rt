@@ -20,7 +20,7 @@ pub struct Engine {
 /// they are among the lines.
 ///
 /// # Errors
-/// `Line` at the first line that is not loaded, `Memory` where an allocation fails.
+/// `Line` at the first line that is not loaded, `Memory` if an allocation fails.
 pub fn load(alloc: Global, objects: &[u8]) -> Result<Engine, StartError>
     ensures { Gives fault_told (λ e. e) result (engine_of objects.now) }
 {

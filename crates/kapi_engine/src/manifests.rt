@@ -34,7 +34,7 @@ impl From<Memory> for ManifestsFault {
 /// empty; with `defaults`, Kubernetes' user-facing roles stand beneath the files.
 ///
 /// # Errors
-/// `Files` if a file is no manifests, `Object` at the first object that a server would not create, `Memory` where an
+/// `Files` if a file is no manifests, `Object` at the first object that a server would not create, `Memory` if an
 /// allocation fails.
 pub fn load_manifests(
     alloc: Global,

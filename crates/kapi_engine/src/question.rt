@@ -17,7 +17,7 @@ use kapi_text::{Memory, Sequence, Text};
 use serde_json::{Map, Value, put};
 use std::alloc::{AllocError, Global};
 
-/// The question that a line is; none where the line is no question. `row` is that of access reviews.
+/// The question that a line is; none if the line is no question. `row` is that of access reviews.
 #[tactic(auto, unfolding(crate::specs::Questions::question_of))]
 pub fn question_of(
     alloc: Global,
@@ -33,7 +33,7 @@ pub fn question_of(
     }
 }
 
-/// The question that the review with this `spec` asks, where a server takes it.
+/// The question that the review with this `spec` asks, if a server takes it.
 fn question_in(alloc: Global, row: &ResourceRow, spec: Value) -> Result<Option<Question>, Memory>
     requires ordered { is_ordered (view spec) ≡ true }
     ensures { IfOk result (λ q. q ≡ asks.asked_if (read_as row.now (Some (review_of (view spec))))) }
@@ -47,7 +47,7 @@ fn question_in(alloc: Global, row: &ResourceRow, spec: Value) -> Result<Option<Q
     }
 }
 
-/// The question that a review asks, where it has no fault.
+/// The question that a review asks, if it has no fault.
 #[tactic(auto, unfolding(crate::specs::Questions::asked_by))]
 fn question_by(alloc: Global, tree: &Value) -> Result<Option<Question>, Memory>
     ensures { IfOk result (λ q. q ≡ asks.asked_by (view tree.now)) }

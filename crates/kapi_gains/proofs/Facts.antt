@@ -1,4 +1,4 @@
--- What follows where all stays within what the acting identities held at the start.
+-- What follows if all stays within what the acting identities held at the start.
 use Rattle.std.proofs.Common.{◌≡◌, ◌⊎◌, inl, inr, ℕ, List, [], Bool, true, false, ◌||◌, refl}
 use Rattle.std.specs.List.{list_any}
 use Rattle.std.proofs.lemmas.Bool.{or_left, or_right}

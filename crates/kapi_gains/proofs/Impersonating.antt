@@ -24,12 +24,12 @@ user_asked : (user : List ℕ) → IsAsked (user_question user)
 unfolding user_question
 user_asked user = account_asked (service_account user) user
 
--- where the first question is reported if it is denied, no report means that it is allowed
+-- if the first question is reported if it is denied, no report means that it is allowed
 first_if : (q : Question) (rest : List Question) (b : Bool) → (length (map (λ q. q.point) (if not b then q ∷ rest else rest)) == 0) ≡ true → b ≡ true
 first_if q rest true h = refl
 first_if q rest false h = let never : false ≡ true = sym (eqb-suc-zero (length (map (λ q. q.point) rest))) ∙ h in cc never
 
--- where another identity is acted as, nothing is reported as denied
+-- if another identity is acted as, nothing is reported as denied
 told_if : (b : Bool) (points : List Point) (it other : Identity) → (if b then Ok it else Err points) ≡ Ok other → b ≡ true
 told_if true points it other h = refl
 told_if false points it other h = cc h

@@ -63,7 +63,7 @@ module _ (os : List (Key × Data)) (turn : Turn) (old new : Data) (sorted : AreI
       (ap next (labelled_are os sorted) ∙ comes) rewritten)
 
 module _ (acting : List Identity) (turn : Turn) where
-  -- the changes of a turn, where its cluster role is stored
+  -- the changes of a turn, if its cluster role is stored
   rewrites_reach : (os : List (Key × Data)) (old : Data) → AreInOrder os → next (roles_in os) ≡ Some turn → lookup (is_key (role_key turn.name)) os ≡ Some old
       → (changes : List PlainChange) → AreRewrites turn old changes → ObjectsReach acting os (placed_all (trees_left_by changes) os)
   unfolding placed_all

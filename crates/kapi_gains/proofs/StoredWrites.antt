@@ -1,4 +1,4 @@
--- The changes of a write are a run, where they are granted to its caller, or to the identity that the caller acts as.
+-- The changes of a write are a run, if they are granted to its caller, or to the identity that the caller acts as.
 use Rattle.std.proofs.Common.{◌≡◌, inl, List, [], ◌∷◌, Option, Some, None, refl, sym, ap, ◌∙◌, subst}
 use Rattle.std.specs.List.{AllByRecursion}
 use Rattle.serde_json.specs.Data.{Data}

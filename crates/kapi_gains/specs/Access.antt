@@ -14,7 +14,7 @@ use Rattle.kapi_policy.specs.Laws.{is_allowed}
 use Rattle.kapi_policy.specs.Objects.{PolicyObjects}
 use Rattle.kapi_guard.specs.Exempt.{binding, escalating}
 
--- the point is allowed to the identity in the namespace, or cluster-wide where the namespace is empty
+-- the point is allowed to the identity in the namespace, or cluster-wide if the namespace is empty
 abbrev pub may : PolicyObjects → Identity → List ℕ → Point → Bool
 may objects identity namespace p = is_allowed (decided objects identity namespace p)
 

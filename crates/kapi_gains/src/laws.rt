@@ -43,7 +43,7 @@ pub fn what_a_turn_writes_stays_within()
         → IsGuarded acting start → AreBy acting steps → Runs start steps now → TurnsStayWithin acting start.objects now.objects now.labels }
 {}
 
-/// The writes of a run pass the check, and its turns are the next ones; where none is next, the policy is settled.
+/// The writes of a run pass the check, and its turns are the next ones; if none is next, the policy is settled.
 pub fn checks_and_turns_make_runs()
     ensures writes { (objects : PolicyObjects) (identity : Identity) (write : PolicyWrite)
         → checked objects identity write ≡ Ok tt → grant objects identity write ≡ true }

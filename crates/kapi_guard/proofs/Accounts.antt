@@ -3,7 +3,7 @@ use Rattle.std.proofs.Common.{◌≡◌, ℕ, ◌+◌, List, [], ◌∷◌, leng
 use Rattle.std.specs.List.{list_any, position_or_len}
 use Rattle.kapi_guard.specs.Impersonation.{account_in}
 
--- where no element is the first that passes, none passes
+-- if no element is the first that passes, none passes
 none_passes : (p : ℕ → Bool) (xs : List ℕ) → position_or_len p xs ≡ length xs → list_any p xs ≡ false
 none_passes p [] = λ h. refl
 none_passes p (x ∷ xs) =

@@ -1,4 +1,4 @@
--- Nothing is missing just where each atom is implied.
+-- Nothing is missing exactly if each atom is implied.
 use Rattle.std.proofs.Common.{◌≡◌, ◌==◌, Bool, true, false, not, ◌&&◌, ◌⊎◌, inl, inr, List, [], ◌∷◌, ◌++◌, length, refl, sym, ap, ◌∙◌}
 use Rattle.std.proofs.Math.Dec.{eqb-suc-zero}
 use Rattle.std.proofs.lemmas.Bool.{and_parts, or_cases, or_left, and_from}
@@ -45,7 +45,7 @@ all_same : {X : Type 0} (p q : X → Bool) (xs : List X) → ((x : X) → p x �
 all_same p q [] same = refl
 all_same p q (x ∷ xs) same = rw (same x, all_same p q xs same) refl
 
--- an atom is not missing just where a held atom implies it
+-- an atom is not missing exactly if a held atom implies it
 held_or_missing : (own : List PolicyRule) (a : Atom) → not (is_missing own a) ≡ list_any (λ h. implies h a) (flat_map atoms own)
 unfolding rule_implies
 held_or_missing own a =
@@ -69,7 +69,7 @@ all_weaker p q [] weaker h = h
 all_weaker p q (x ∷ xs) weaker h =
     let parts = and_parts _ _ h in and_from _ _ (weaker x parts.0) (all_weaker p q xs weaker parts.1)
 
--- where some of the first imply one of the middle, which each of the middle leads on from
+-- if some of the first imply one of the middle, which each of the middle leads on from
 onward_from : (b : Atom) (own middle : List Atom) → list_all (λ m. list_any (λ h. implies h m) own) middle ≡ true
     → list_any (λ m. implies m b) middle ≡ true → list_any (λ h. implies h b) own ≡ true
 onward_from b own [] each some = absurd cc

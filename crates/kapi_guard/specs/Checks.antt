@@ -29,7 +29,7 @@ abbrev pub holds_found : List PolicyRule → Option (List PolicyRule) → Bool
 holds_found own None = false
 holds_found own (Some rules) = holds_all own rules
 
--- full authority is held where a cluster role takes its rules from others
+-- full authority is held if a cluster role takes its rules from others
 abbrev pub holds_authority : List PolicyRule → WrittenObject → Bool
 holds_authority own o = not (is_aggregated o) || holds_all own full_authority
 
@@ -46,7 +46,7 @@ abbrev pub implies_each : List PolicyRule → List PolicyRule → Bool
 implies_each own rules = list_all (λ a. list_any (λ h. implies h a) (flat_map atoms own)) (flat_map atoms rules)
 
 -- the object stays within what the identity holds in its scope: its rules exist, and each of their atoms is implied by
--- one that is held; each atom of full authority is held too where a cluster role takes its rules from others
+-- one that is held; each atom of full authority is held too if a cluster role takes its rules from others
 pub record IsWithin (objects : PolicyObjects) (identity : Identity) (o : WrittenObject) : Type 0 where
   pub rules : List PolicyRule
   pub found : wanted objects o ≡ Some rules
@@ -78,15 +78,15 @@ role_kept o = if keeps_role o then Ok tt else Err role_ref_changed
 abbrev pub none_missing : List PolicyRule → List PolicyRule → Result (Unit {0}) Fault
 none_missing own rules = if holds_all own rules then Ok tt else Err (lacks (missing own rules))
 
--- where a cluster role takes its rules from others no atom of full authority is missing, or all that are
+-- if a cluster role takes its rules from others no atom of full authority is missing, or all that are
 abbrev pub authority_held : List PolicyRule → WrittenObject → Result (Unit {0}) Fault
 authority_held own o = if holds_authority own o then Ok tt else Err (lacks_authority (missing own full_authority))
 
--- the rules are held, and full authority where it is needed
+-- the rules are held, and full authority if it is needed
 unfoldable pub all_held : List PolicyRule → WrittenObject → List PolicyRule → Result (Unit {0}) Fault
 all_held own o rules = none_missing own rules >>= λ u. authority_held own o
 
--- the rules exist and are held, and full authority where it is needed
+-- the rules exist and are held, and full authority if it is needed
 unfoldable pub rules_held : PolicyObjects → Identity → WrittenObject → Option (List PolicyRule) → Result (Unit {0}) Fault
 rules_held objects identity o None = Err role_not_found
 rules_held objects identity o (Some rules) = all_held (held objects identity (scope o)) o rules

@@ -20,7 +20,7 @@ use Rattle.kapi_guard.specs.declared.questions.Question.{Question}
 
 -- ---- service accounts
 
--- the account of a namespace and a name, where they are a DNS label and a DNS subdomain
+-- the account of a namespace and a name, if they are a DNS label and a DNS subdomain
 abbrev pub named_account : List ℕ → List ℕ → Option ServiceAccount
 named_account namespace name = if is_dns_label namespace && is_dns_subdomain name then Some (record { namespace = namespace; name = name }) else None
 
@@ -45,7 +45,7 @@ abbrev pub impersonating : List ℕ → List ℕ → Point
 impersonating resource name =
     point.Resource (record { verb = codes "impersonate"; group = []; resource = resource; subresource = []; name = name })
 
--- whether the point is allowed in a namespace, or cluster-wide where the namespace is empty
+-- whether the point is allowed in a namespace, or cluster-wide if the namespace is empty
 abbrev pub question_about : List ℕ → List ℕ → List ℕ → Question
 question_about namespace resource name = record { namespace = namespace; point = impersonating resource name }
 
@@ -76,7 +76,7 @@ denied objects identity qs = map (λ q. q.point) (filter (is_denied objects iden
 
 -- ---- the effective identity
 
--- the identity in one group more, where it is not in it
+-- the identity in one group more, if it is not in it
 abbrev pub with_group : List ℕ → Identity → Identity
 with_group group who = if is_in group who then who else record who { groups = who.groups ++ group ∷ [] }
 
@@ -115,7 +115,7 @@ abbrev pub denied_in : ImpersonationRefused → Option (List Point)
 denied_in (refused.Missing points) = Some points
 denied_in refused.Memory = None
 
--- the effective identity where nothing is denied, else all points that are denied
+-- the effective identity if nothing is denied, else all points that are denied
 unfoldable pub impersonated : PolicyObjects → Identity → Impersonation → Result Identity (List Point)
 impersonated objects identity wanted =
     if length (denied objects identity (questions wanted)) == 0 then Ok (effective wanted)

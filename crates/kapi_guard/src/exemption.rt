@@ -9,7 +9,7 @@ use kapi_rules::{Point, ResourcePoint};
 use kapi_text::{Memory, Text};
 use std::alloc::Global;
 
-/// Whether the identity may write without holding the rules: where it may escalate the roles that the request asks for,
+/// Whether the identity may write without holding the rules: if it may escalate the roles that the request asks for,
 /// or bind the role that a binding refers to. Members of `system:masters` may do both.
 pub fn is_exempt<P: Policy>(
     alloc: Global,

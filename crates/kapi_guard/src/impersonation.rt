@@ -13,9 +13,9 @@ use kapi_request_info::Impersonation;
 use kapi_text::{Memory, Sequence, Text, TryCopy};
 use std::alloc::Global;
 
-/// The effective identity of a request: its user and groups, where the identity may impersonate each of them.
+/// The effective identity of a request: its user and groups, if the identity may impersonate each of them.
 ///
-/// A user `system:serviceaccount:NAMESPACE:NAME` is impersonated as that service account. Where no groups are named it
+/// A user `system:serviceaccount:NAMESPACE:NAME` is impersonated as that service account. If no groups are named it
 /// has those of service accounts. The anonymous user is unauthenticated besides, every other is authenticated.
 #[tactic(auto, unfolding(crate::specs::Impersonation::impersonated))]
 pub fn check_impersonation<P: Policy>(

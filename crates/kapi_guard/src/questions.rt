@@ -11,7 +11,7 @@ use kapi_rules::{Point, ResourcePoint};
 use kapi_text::{Memory, Text, TryCopy};
 use std::alloc::Global;
 
-/// Whether a point is allowed in a namespace, or cluster-wide where the namespace is empty.
+/// Whether a point is allowed in a namespace, or cluster-wide if the namespace is empty.
 #[derive(Debug, Drop)]
 pub struct Question {
     pub namespace: Text,

@@ -29,7 +29,7 @@ fn account_in(alloc: Global, text: &str) -> Result<Option<ServiceAccount>, Memor
     }
 }
 
-/// The account of a namespace and a name, where they are a DNS label and a DNS subdomain.
+/// The account of a namespace and a name, if they are a DNS label and a DNS subdomain.
 fn account(alloc: Global, namespace: &str, name: &str) -> Result<Option<ServiceAccount>, Memory>
     ensures { IfOk result (λ o. o ≡ named_account namespace.now name.now) }
 {

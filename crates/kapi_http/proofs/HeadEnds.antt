@@ -240,7 +240,7 @@ never_head bytes n method e more head rest reads = by_cases (cases bytes)
     by_cases (inr (inl large)) = let same = sym large ∙ e in absurd cc
     by_cases (inr (inr g)) = let same = sym g.settles ∙ e in absurd cc
 
--- where the head is too large, the bytes begin with none within the limits, whatever follows
+-- if the head is too large, the bytes begin with none within the limits, whatever follows
 pub too_large : (bytes : List ℕ) (n : ℕ) (method : List ℕ) → settled bytes ≡ refused n method refusal.HeadTooLarge
     → (more rest : List ℕ) (head : RequestHead) → ReadsRequest (bytes ++ more) head rest → IsTooLarge head
 too_large bytes n method e more rest head reads =

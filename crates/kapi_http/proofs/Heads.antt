@@ -223,7 +223,7 @@ head_of_whole bytes h reads =
     (bytes_eq-Decides bytes (print_request h)).1 (reads.1 ∙ append-nil (print_request h)) in
     ap (if_printed bytes) same ∙ rw (valid, printed) refl
 
--- where the bytes are no head, nothing is read
+-- if the bytes are no head, nothing is read
 pub head_of_none : (bytes : List ℕ) → ((h : RequestHead) → ¬ (ReadsRequest bytes h [])) → head_of bytes ≡ None
 head_of_none bytes none = by_answer (head_of bytes) refl
   where

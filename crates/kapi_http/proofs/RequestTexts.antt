@@ -149,7 +149,7 @@ one_request text other more rest r s is that same =
 
 -- ---- the requests of a connection
 
--- where no request is read, none is a front
+-- if no request is read, none is a front
 no_request : (bytes : List ℕ) → ((r : HttpRequest) → first bytes ≡ Some (Ok r) → ⊥) → HasNone bytes
 no_request bytes none text more r is same = none r (ap first same ∙ text_request text more r is)
 

@@ -32,7 +32,7 @@ abbrev pub back : (ℕ → Bool) → List ℕ → List ℕ
 back test [] = []
 back test (b ∷ bytes) = if test b then back test bytes else b ∷ bytes
 
--- the line end at the front: CRLF where a CR comes first, else LF
+-- the line end at the front: CRLF if a CR comes first, else LF
 abbrev pub end_at : List ℕ → LineEnd
 end_at bytes = if slice_index bytes 0 == carriage_return then crlf else lf
 
@@ -91,7 +91,7 @@ abbrev pub from_method : List LineEnd → List ℕ → RequestHead
 from_method blank bytes =
     from_target blank (front is_token_byte bytes) (drop 1 (back is_token_byte bytes))
 
--- the parts of a head, where the bytes are a head; the parts of other bytes are arbitrary
+-- the parts of a head, if the bytes are a head; the parts of other bytes are arbitrary
 unfoldable pub parts : List ℕ → RequestHead
 parts bytes = from_method (ends_in false (front is_newline bytes)) (back is_newline bytes)
 
@@ -106,11 +106,11 @@ is_head h =
     && ((nat_lt 0 (length h.target) && list_all is_uri_byte h.target)
     && (is_utf8 h.target && (nat_le h.minor 1 && list_all is_field h.fields)))
 
--- what the head says, where the bytes are the head as printed
+-- what the head says, if the bytes are the head as printed
 abbrev pub if_printed : List ℕ → RequestHead → Option Says
 if_printed bytes h = if is_head h && bytes_eq bytes (print_request h) then Some (says h) else None
 
--- what the bytes say, where they are one request head, with the empty lines before it, and no more
+-- what the bytes say, if they are one request head, with the empty lines before it, and no more
 unfoldable pub head_of : List ℕ → Option Says
 head_of bytes = if_printed bytes (parts bytes)
 

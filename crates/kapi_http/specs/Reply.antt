@@ -26,7 +26,7 @@ framing_line false (Some body) = codes "Content-Length: " ++ decimal (length bod
 abbrev pub further : Method → List ℕ
 further method = codes ", " ++ method_text method
 
--- the Allow line: the methods that are served at the path, where some are named
+-- the Allow line: the methods that are served at the path, if some are named
 abbrev pub allow_line : List Method → List ℕ
 allow_line [] = []
 allow_line (method ∷ methods) = codes "Allow: " ++ method_text method ++ flat_map further methods ++ codes "\r\n"
@@ -36,7 +36,7 @@ abbrev pub close_line : Bool → List ℕ
 close_line true = codes "Connection: close\r\n"
 close_line false = []
 
--- the bytes of a body, none where there is no body
+-- the bytes of a body, none if there is no body
 abbrev pub body_bytes : Option (List ℕ) → List ℕ
 body_bytes None = []
 body_bytes (Some body) = body

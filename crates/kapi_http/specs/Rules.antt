@@ -24,7 +24,7 @@ method_named name =
     else if bytes_eq name (codes "DELETE") then Some Delete
     else None
 
--- a body of that size, where it is within the limit
+-- a body of that size, if it is within the limit
 abbrev pub within_limit : ℕ → Result Framing Refusal
 within_limit size = if nat_le size body_limit then Ok (Sized size) else Err refusal.BodyTooLarge
 

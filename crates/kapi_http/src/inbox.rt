@@ -36,7 +36,7 @@ pub struct Inbox {
     bytes: Vec<u8>,
     start: usize,
     progress: Progress,
-    // The parts of the head at `start`, where it is whole.
+    // The parts of the head at `start`, if it is whole.
     parts: HeadParts,
     ended: bool,
 }
@@ -102,7 +102,7 @@ impl Inbox {
         Ok(())
     }
 
-    /// The first request or fault of the bytes, which stay; None where neither is whole, and after a fault was taken
+    /// The first request or fault of the bytes, which stay; None if neither is whole, and after a fault was taken
     /// out.
     pub fn next(&self) -> Result<Option<Result<HttpRequest, HttpFault>>, Memory>
         ensures { IfOk result (λ o. o ≡ next_of self.now) }

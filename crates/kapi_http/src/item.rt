@@ -30,7 +30,7 @@ pub const LINE_LIMIT: usize = 64;
 pub enum Decision {
     /// The head is not whole yet.
     Waits,
-    /// The request is refused; its head has so many bytes, where it is whole and within the limits, and else 0 bytes.
+    /// The request is refused; its head has so many bytes, if it is whole and within the limits, and else 0 bytes.
     Refused(usize, Refusal),
     /// The head has so many bytes, and the request so many in all.
     Accepted(usize, usize),
@@ -45,7 +45,7 @@ pub struct Progress {
     pub decision: Decision,
 }
 
-/// Reads on where the head or the body of `kept` is not whole: `progress` is of its bytes before the last `more`.
+/// Reads on if the head or the body of `kept` is not whole: `progress` is of its bytes before the last `more`.
 pub fn continued(progress: Progress, kept: &[u8], more: usize, parts: &mut HeadParts) -> Progress
     requires more { more ≤ length kept.now }
     requires fits { length kept.now ≤ 2097152 }

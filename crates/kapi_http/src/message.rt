@@ -129,7 +129,7 @@ pub struct HttpRequest {
 #[derive(Debug, Drop)]
 pub struct HttpFault {
     pub code: StatusCode,
-    /// What is wrong where the code is 400 (`head`, `host`, `length` or `chunk`), the method where it is 405, else
+    /// What is wrong if the code is 400 (`head`, `host`, `length` or `chunk`), the method if it is 405, else
     /// empty.
     pub word: Text,
     /// The request is a HEAD, so that its reply has no body.
@@ -165,14 +165,14 @@ pub enum Refusal {
 #[derive(Debug, Drop)]
 pub struct Reply {
     pub code: StatusCode,
-    /// The body is plain text, and JSON where this is false.
+    /// The body is plain text, and JSON if this is false.
     pub plain: bool,
-    /// The methods of the Allow line; where there are none, there is no such line.
+    /// The methods of the Allow line; if there are none, there is no such line.
     pub allow: Sequence<Method>,
     /// A Transfer-Encoding line takes the place of Content-Length, and the body is written as it is.
     pub chunked: bool,
     /// The connection closes after the reply.
     pub close: bool,
-    /// The body; where there is none, there is no Content-Length line either, as in a reply to HEAD.
+    /// The body; if there is none, there is no Content-Length line either, as in a reply to HEAD.
     pub body: Option<Sequence<u8>>,
 }

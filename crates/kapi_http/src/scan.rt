@@ -71,7 +71,7 @@ fn lines_at(place: Place, byte: u8) -> usize
     }
 }
 
-// How many bytes come before the next LF, or all where there is none.
+// How many bytes come before the next LF, or all if there is none.
 fn line_rest(bytes: &[u8]) -> usize
     ensures exact { result ≡ position_or_len (λ b. b == 10) bytes.now }
     ensures within { result ≤ length bytes.now }

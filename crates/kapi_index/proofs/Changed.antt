@@ -30,7 +30,7 @@ pub map_err : {T E : Type 0} (r : Result T E) (P Q : Type 0) → (P → Q) → O
 map_err (Ok x) P Q f h = tt
 map_err (Err e) P Q f h = f h
 
--- what is said of the names at a key, where it is that one and where it is another
+-- what is said of the names at a key, if it is that one and where it is another
 by_key : (key : List ℕ) (names : Option (List (List ℕ))) (old new : Sets) → Puts key names old new → (P : List (List ℕ) → Bool → Type 0) (k : List ℕ)
     → (k ≡ key → P (unwrap_or names []) true) → P (names_at old k) false → P (names_at new k) (bytes_eq key k)
 by_key key names old new puts P k here there = by_test (bytes_eq key k) refl

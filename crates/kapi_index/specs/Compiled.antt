@@ -12,7 +12,7 @@ use Rattle.kapi_index.specs.declared.words.Words.{Words}
 use Rattle.kapi_index.specs.declared.words.Words.TheVariants.{All, Listed}
 use Rattle.kapi_index.specs.declared.compiled_rule.CompiledRule.{CompiledRule}
 
--- entries that list verbs, groups or resources: where `*` is one of them, all
+-- entries that list verbs, groups or resources: if `*` is one of them, all
 abbrev pub compiled_words : List (List ℕ) → Words
 compiled_words entries = if list_any (λ e. bytes_eq e star) entries then All else Listed entries
 

@@ -4,7 +4,7 @@ use Rattle.std.specs.Int.{bit_at}
 use Rattle.std.specs.List.{list_any}
 use Rattle.std.specs.Str.{bytes_eq}
 
--- the last byte of a text, or the given one where it is empty
+-- the last byte of a text, or the given one if it is empty
 abbrev pub last_byte : ℕ → List ℕ → ℕ
 last_byte b [] = b
 last_byte b (c ∷ text) = last_byte c text

@@ -16,7 +16,7 @@ use Rattle.kapi_index.specs.Listed.{AreKeys, AreOrdered, has_name, is_key, names
 use Rattle.kapi_index.specs.Prepared.{groups_of, users_of}
 use Rattle.kapi_index.specs.declared.scope.Bound.{Bound}
 
--- what is seen of a scope: its namespace, empty where it is cluster-wide, and its bindings by name
+-- what is seen of a scope: its namespace, empty if it is cluster-wide, and its bindings by name
 pub record Scoped : Type 0 where
   pub namespace : List ℕ
   pub bindings : List (List ℕ × RoleBinding)

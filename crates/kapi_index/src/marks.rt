@@ -8,7 +8,7 @@ ghost use Rattle.kapi_index.specs.Marks.{AreMarked, last_byte, mixed as mixed_of
 use kapi_text::{Sequence, Text, is_joined};
 use std::marker::Model;
 
-// The last byte of a text, or the given one where it is empty.
+// The last byte of a text, or the given one if it is empty.
 #[tactic(auto, using(crate::proofs::Places::last_appended))]
 fn last_of(first: u8, text: &[u8]) -> u8
     ensures { result ≡ last_byte first text.now }

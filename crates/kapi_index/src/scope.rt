@@ -31,7 +31,7 @@ pub type Bindings = BTreeMap<Text, Bound>;
 /// looking up a user and the user's groups.
 const FEW_LOOKS: usize = 8;
 
-/// The bindings of one namespace by name, or, where the namespace is empty, the cluster-wide ones.
+/// The bindings of one namespace by name, or, if the namespace is empty, the cluster-wide ones.
 #[derive(Drop)]
 pub struct Scope {
     alloc: Global,
@@ -226,7 +226,7 @@ fn first_name<'a>(
     found
 }
 
-/// Whether a walk over the bindings takes few looks. It looks itself at no more bindings than that, and at none where they
+/// Whether a walk over the bindings takes few looks. It looks itself at no more bindings than that, and at none if they
 /// are more.
 #[tactic(auto, using(crate::proofs::Looks::a_look_for_each))]
 fn takes_few_looks(bindings: &Bindings) -> bool
@@ -276,7 +276,7 @@ impl Scope {
         }
     }
 
-    /// The namespace, empty where the bindings are cluster-wide.
+    /// The namespace, empty if the bindings are cluster-wide.
     pub fn namespace(&self) -> &str
         ensures { result.now ≡ self.now.namespace }
     {

@@ -60,7 +60,7 @@ are_known (row ∷ rows) h =
     let parts = and_parts (is_further row) (list_all is_further rows) h in
     and_from (is_known row) (list_all is_known rows) (or_left (is_further row) _ parts.0) (are_known rows parts.1)
 
--- a table that can be served can be with more rows where they join it
+-- a table that can be served can be with more rows if they join it
 pub fits_more : (table rows : List ResourceRow) → fits table ≡ true → list_all is_further rows ≡ true → fits (table ++ rows) ≡ is_joined table rows
 fits_more table rows fit further =
     let parts = and_parts (list_all (has_row table) required_rows) _ fit in

@@ -102,7 +102,7 @@ files_next text o p q xs i x below all first =
     grown_next o p q (bad_pieces (text (get_or xs i x))) (sum_of bad_pieces (map text (drop (i + 1) xs))) _ (objects_of (text (get_or xs i x))) (objects_in_all (map text (drop (i + 1) xs))) _
     (ap (sum_of bad_pieces) rest) (ap objects_in_all rest) all first
 
--- a table does not grow where a piece is at fault
+-- a table does not grow if a piece is at fault
 pub refused : (old new : Gathered) (n : ℕ) → new.rows ≡ old.rows → length new.faults.items ≡ length old.faults.items + n
     → kept new ≡ option_and_then (grown n []) (kept old)
 unfolding rows_of

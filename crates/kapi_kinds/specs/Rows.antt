@@ -19,7 +19,7 @@ use Rattle.kapi_manifests.specs.Kinds.{kind_of, text_or_empty, version_of}
 use Rattle.kapi_kinds.specs.declared.named.Named.{Named}
 
 infixl 10 ◌>>=◌
--- a value that depends on another, where there is one
+-- a value that depends on another, if there is one
 abbrev pub ◌>>=◌ : {A B : Type 0} → Option A → (A → Option B) → Option B
 o >>= f = option_and_then f o
 
@@ -30,7 +30,7 @@ open_resource group version plural kind namespaced has_status =
 
 -- ---- a line as `kubectl api-resources` names a kind
 
--- what a member is; this one where it is absent
+-- what a member is; this one if it is absent
 abbrev pub unless_absent : {X : Type 0} → X → (Data → Option X) → Option Data → Option X
 unless_absent x f None = Some x
 unless_absent x f (Some d) = f d
@@ -124,7 +124,7 @@ is_added row =
 abbrev pub if_added : ResourceRow → Option ResourceRow
 if_added row = if is_added row then Some row else None
 
--- the resource type that an object names, where it is of one of the two forms and the resource type may be added
+-- the resource type that an object names, if it is of one of the two forms and the resource type may be added
 unfoldable pub row_in : Data → Option ResourceRow
 row_in d = option_and_then if_added (form_in d)
 

@@ -13,7 +13,7 @@ use Rattle.kapi_kinds.specs.declared.table.Gathered.{Gathered}
 use Rattle.kapi_kinds.specs.declared.table.Kinds.{Kinds}
 use Rattle.kapi_kinds.specs.declared.table.Kinds.TheVariants as kinds
 
--- the resource types that objects name, where each names one
+-- the resource types that objects name, if each names one
 unfoldable pub rows_of : List Data → Option (List ResourceRow)
 rows_of [] = Some []
 rows_of (d ∷ ds) = option_and_then (λ row. option_map (λ rows. row ∷ rows) (rows_of ds)) (row_in d)
@@ -22,11 +22,11 @@ rows_of (d ∷ ds) = option_and_then (λ row. option_map (λ rows. row ∷ rows)
 abbrev pub rows_read : ℕ → List Data → Option (List ResourceRow)
 rows_read bad ds = if (bad == 0) then rows_of ds else None
 
--- the resource types that files name, where each piece is the text of an object and each object names one
+-- the resource types that files name, if each piece is the text of an object and each object names one
 abbrev pub rows_in : List (List ℕ) → Option (List ResourceRow)
 rows_in files = rows_read (sum_of bad_pieces files) (objects_in_all files)
 
--- the table of the programs with these rows, where it can be served
+-- the table of the programs with these rows, if it can be served
 abbrev pub if_fits : List ResourceRow → Option (List ResourceRow)
 if_fits rows = if fits (program_rows ++ rows) then Some (program_rows ++ rows) else None
 
@@ -52,7 +52,7 @@ kept g = if (length g.faults.items == 0) then Some g.rows.items else None
 abbrev pub is_joined : List ResourceRow → List ResourceRow → Bool
 is_joined table rows = rows_differ rows && not (list_any (λ row. list_any (λ other. is_like other row) table) rows)
 
--- the table with more rows, where they join it
+-- the table with more rows, if they join it
 abbrev pub added : List ResourceRow → List ResourceRow → Option (List ResourceRow)
 added rows table = if is_joined table rows then Some (table ++ rows) else None
 

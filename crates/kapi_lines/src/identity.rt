@@ -9,7 +9,7 @@ use kapi_model::Identity;
 use kapi_text::{Memory, Sequence, Text};
 use std::alloc::Global;
 
-/// The identity of `USER` or `USER,GROUP,..`; none, before any allocation, where a name is empty or no UTF-8.
+/// The identity of `USER` or `USER,GROUP,..`; none, before any allocation, if a name is empty or no UTF-8.
 #[tactic(auto, unfolding(crate::specs::Identities::named_identity))]
 pub fn read_identity(alloc: Global, names: &[u8]) -> Result<Option<Identity>, Memory>
     ensures told { IfOk result (λ i. i ≡ named_identity names.now) }

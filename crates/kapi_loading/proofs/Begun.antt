@@ -22,7 +22,7 @@ published_first core desk m stands opening none free = (refl, free, (λ i. after
 abbrev pub no_seat : Chair
 no_seat = record { desk = record { number = 0; log_name = 0; cells_name = 0 }; opening = no_objects; seen = [] }
 
--- a fault that is handed on, where there is no core
+-- a fault that is handed on, if there is no core
 pub core_fault : (result : Result Running StartError) (e : StartError) (given : Result Machine FileFault) → IsErrAnd result (λ f. f ≡ e) → Fails (fault_told e) given → Holds result given
 core_fault (Ok core) e given is h = absurd is
 core_fault (Err f) e given is h = subst (λ x. Fails (fault_told x) given) (sym is) h

@@ -7,7 +7,7 @@ use Rattle.kapi_loading.specs.declared.fault.StartError.TheVariants as fault
 pub data FileFault : Type 0 where
   bad_line : ℕ → FileFault
 
--- the fault that an error reports: none where it is out of memory
+-- the fault that an error reports: none if it is out of memory
 abbrev pub fault_told : StartError → Option FileFault
 fault_told (fault.Line n) = Some (bad_line n)
 fault_told fault.Memory = None

@@ -20,7 +20,7 @@ use Rattle.kapi_lines.specs.Lines.{NumberedLine, lines_of}
 use Rattle.kapi_loading.specs.declared.fault.StartError.{StartError}
 use Rattle.kapi_loading.specs.declared.fault.StartError.TheVariants as fault
 
--- why no machine is made where a line of this number is not loaded
+-- why no machine is made if a line of this number is not loaded
 abbrev pub load_fault : ℕ → LoadError → StartError
 load_fault number error.Memory = fault.Memory
 load_fault number _ = fault.Line number

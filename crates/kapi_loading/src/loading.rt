@@ -58,7 +58,7 @@ fn load_lines<S: Steps>(
     Ok(())
 }
 
-/// Why no machine is made where a line of this number is not loaded.
+/// Why no machine is made if a line of this number is not loaded.
 fn fault_at(number: usize, error: LoadError) -> StartError
     ensures { result ≡ load_fault number error }
 {

@@ -24,7 +24,7 @@ use std::sync::Wait;
 /// The machine that the objects of a policy make alone, of the resource types of the programs.
 ///
 /// # Errors
-/// `Line` at the first line that cannot be loaded, `Memory` where an allocation fails.
+/// `Line` at the first line that cannot be loaded, `Memory` if an allocation fails.
 pub fn load_policy(alloc: Global, objects: &[u8]) -> Result<Core<IndexedPolicy>, StartError>
     ensures machine { Holds result (policy_machine objects.now) }
     ensures unopened { IfOk result (λ core. core.next_id ≡ 0) }
@@ -86,7 +86,7 @@ pub struct Started {
 /// at most.
 ///
 /// # Errors
-/// `Line` at the first line that cannot be loaded, `Memory` where an allocation fails.
+/// `Line` at the first line that cannot be loaded, `Memory` if an allocation fails.
 pub fn start<R: Wait>(
     alloc: Global,
     rt: &R,
@@ -110,7 +110,7 @@ pub fn start<R: Wait>(
 /// of `start`.
 ///
 /// # Errors
-/// `Line` at the first line that cannot be loaded, `Memory` where an allocation fails.
+/// `Line` at the first line that cannot be loaded, `Memory` if an allocation fails.
 pub fn start_without_objects<R: Wait>(
     alloc: Global,
     rt: &R,
@@ -133,7 +133,7 @@ pub fn start_without_objects<R: Wait>(
 /// The machine that the objects of a policy make alone, of the resource types of the programs; the rest is as of `start`.
 ///
 /// # Errors
-/// `Line` at the first line that cannot be loaded, `Memory` where an allocation fails.
+/// `Line` at the first line that cannot be loaded, `Memory` if an allocation fails.
 pub fn start_policy<R: Wait>(
     alloc: Global,
     rt: &R,

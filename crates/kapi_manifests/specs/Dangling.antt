@@ -14,7 +14,7 @@ use Rattle.kapi_manifests.specs.declared.sorted.Manifest.{Manifest}
 unfoldable pub role_key : List ℕ → List ℕ → List ℕ → List ℕ
 role_key kind namespace name = kind ++ (codes "/" ++ (namespace ++ (codes "/" ++ name)))
 
--- the namespace of a role of that kind, where objects beside it are in this one
+-- the namespace of a role of that kind, if objects beside it are in this one
 abbrev pub home_of : List ℕ → List ℕ → List ℕ
 home_of kind namespace = if bytes_eq kind (codes "Role") then namespace else codes ""
 
@@ -37,7 +37,7 @@ abbrev pub named_key : Data → List ℕ
 named_key d =
     role_key (reference_text (codes "kind") d) (home_of (reference_text (codes "kind") d) (metadata_text (codes "namespace") d)) (reference_text (codes "name") d)
 
--- the keys with that of an object, where it is a role
+-- the keys with that of an object, if it is a role
 abbrev pub with_role : Names → Data → Origin → Names
 with_role keys d origin = if is_role d then with_name keys (own_key d) origin else keys
 

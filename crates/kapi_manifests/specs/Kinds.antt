@@ -5,7 +5,7 @@ use Rattle.std.specs.Str.{bytes_eq}
 use Rattle.serde_json.specs.Data.{Data, string}
 use Rattle.serde_json.specs.Find.{get, as_array}
 
--- the text that a value is; empty where it is none
+-- the text that a value is; empty if it is none
 abbrev pub text_or_empty : Option Data → List ℕ
 text_or_empty (Some (string s)) = s
 text_or_empty _ = codes ""

@@ -1,4 +1,4 @@
--- Where a reader of a file stands: an object begins at a brace and ends at the brace that closes it, where braces in
+-- Where a reader of a file stands: an object begins at a brace and ends at the brace that closes it, if braces in
 -- strings do not count (RFC 8259, 'Objects' and 'Strings'). Between objects are white space and comments, which go from
 -- `#` to the end of the line; any other line begins no object.
 use Rattle.std.specs.Prelude.{ℕ, ◌+◌, ◌-◌, ◌==◌, ◌||◌, nat_le, Bool, true, false, if◌then◌else◌}

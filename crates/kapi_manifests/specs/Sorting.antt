@@ -13,7 +13,7 @@ abbrev pub is_for_policy : Scope → Bool
 is_for_policy Policy = true
 is_for_policy All = false
 
--- an object that lives in a namespace and names none, where this one is given
+-- an object that lives in a namespace and names none, if this one is given
 abbrev pub sort_without_namespace : List ℕ → Sort
 sort_without_namespace given = if length given == 0 then sort.Homeless else sort.Placed
 
@@ -27,7 +27,7 @@ sort_of_object scope given d =
     if is_for_policy scope && not (is_policy d) then sort.Skipped
     else (if is_homeless d then sort_without_namespace given else sort.Loaded)
 
--- what an object is, where objects without a namespace get the one that is given
+-- what an object is, if objects without a namespace get the one that is given
 unfoldable pub sort_of : Scope → List ℕ → Data → Sort
 sort_of scope given d =
     if (length (kind_of d) == 0) || (length (version_of d) == 0) then sort.Nameless
@@ -51,12 +51,12 @@ named kind version d = object (put (codes "kind") (string kind) (put (codes "api
 abbrev pub item_of : List ℕ → List ℕ → Data → Data
 item_of kind version d = if (length kind == 0) || not (length (kind_of d) == 0) then d else named kind version d
 
--- the object, where it is a namespace that is loaded
+-- the object, if it is a namespace that is loaded
 abbrev pub namespace_if : Sort → Data → List Data
 namespace_if sort.Namespace d = d ∷ []
 namespace_if _ d = []
 
--- the object as it is loaded, where it is and is no namespace
+-- the object as it is loaded, if it is and is no namespace
 abbrev pub object_if : Sort → List ℕ → Data → List Data
 object_if sort.Loaded given d = d ∷ []
 object_if sort.Placed given d = placed given d ∷ []

@@ -44,7 +44,7 @@ default_roles =
     ∷ default_role (codes "system:aggregate-to-admin") AGGREGATE_TO_ADMIN.now ∷ default_role (codes "system:aggregate-to-edit") AGGREGATE_TO_EDIT.now
     ∷ default_role (codes "system:aggregate-to-view") AGGREGATE_TO_VIEW.now ∷ []
 
--- what stands beneath files: what every policy begins with, and the default roles where they are asked for
+-- what stands beneath files: what every policy begins with, and the default roles if they are asked for
 abbrev pub standing_objects : Bool → List StandingObject
 standing_objects defaults = standing_roles ++ (if defaults then default_roles else [])
 

@@ -13,11 +13,11 @@ use Rattle.kapi_manifests.specs.declared.sorted.Manifest.{Manifest}
 unfoldable pub word_of : List ℕ → List ℕ → List ℕ
 word_of what word = what ++ (codes " " ++ word)
 
--- the text that a value is; empty where it is none
+-- the text that a value is; empty if it is none
 abbrev pub text_of : Data → List ℕ
 text_of d = text_or_empty (Some d)
 
--- the elements of the list at a key; none where there is no list
+-- the elements of the list at a key; none if there is no list
 abbrev pub elements : List ℕ → Data → List Data
 elements key d = items_or_none (option_and_then as_array (get key d))
 
@@ -44,7 +44,7 @@ unfoldable pub with_subjects : Names → List Data → Origin → Names
 with_subjects names [] origin = names
 with_subjects names (s ∷ ss) origin = with_subjects (with_word names (word_of (text_at (codes "kind") s) (text_at (codes "name") s)) origin) ss origin
 
--- the namespace that an object is or names; empty where there is none
+-- the namespace that an object is or names; empty if there is none
 abbrev pub namespace_named : Data → List ℕ
 namespace_named d = if is_namespace d then metadata_text (codes "name") d else metadata_text (codes "namespace") d
 
@@ -59,6 +59,6 @@ unfoldable pub with_objects : Names → List Manifest → Names
 with_objects names [] = names
 with_objects names (m ∷ ms) = with_objects (with_object names (view m.object) m.origin) ms
 
--- the words that those beneath, namespaces and other objects name; none where they are not wanted
+-- the words that those beneath, namespaces and other objects name; none if they are not wanted
 abbrev pub words_if : Bool → List Manifest → List Manifest → List Manifest → Names
 words_if wanted others namespaces objects = if wanted then with_objects (with_objects (with_objects [] others) namespaces) objects else []

@@ -39,7 +39,7 @@ abbrev pub faults_in_all : Scope → List ℕ → List (List ℕ) → ℕ
 faults_in_all scope given texts = sum_of bad_pieces texts + faults_among scope given (objects_in_all texts)
 
 -- what is loaded of namespaces and other objects: the namespaces, beside those that every policy has; those that the
--- objects live in besides; the roles and bindings that stand beneath, where the objects have no others; the objects
+-- objects live in besides; the roles and bindings that stand beneath, if the objects have no others; the objects
 pub record Loaded (defaults : Bool) (namespaces : List Manifest) (objects : List Manifest) (ds : List Data) : Type 0 where
   pub homes : List Manifest
   pub are_homes : map data_of homes ≡ standing_among (map data_of namespaces) standing_namespaces ++ map data_of namespaces
@@ -62,7 +62,7 @@ pub record IsDangling (defaults : Bool) (origins : List Origin) (objects : List 
   pub are_others : map data_of others ≡ standing_among [] (standing_objects defaults)
   pub all : origins ≡ dangling others objects
 
--- the words that objects name, and those beneath them; none where they are not wanted
+-- the words that objects name, and those beneath them; none if they are not wanted
 pub record AreNamed (defaults words : Bool) (names : Names) (namespaces objects : List Manifest) : Type 0 where
   pub others : List Manifest
   pub are_others : map data_of others ≡ standing_among [] (standing_objects defaults)

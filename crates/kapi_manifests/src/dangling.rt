@@ -106,14 +106,14 @@ fn role_key(alloc: Global, kind: &str, namespace: &str, name: &str) -> Result<Te
     Ok(Text::new(format!(in alloc; "{kind}/{namespace}/{name}")?))
 }
 
-/// The namespace of a role of that kind, where objects beside it are in this one.
+/// The namespace of a role of that kind, if objects beside it are in this one.
 fn home<'a>(kind: &str, namespace: &'a str) -> &'a str
     ensures { result.now ≡ home_of kind.now namespace.now }
 {
     if kind == "Role" { namespace } else { "" }
 }
 
-/// The text at a key of the reference to a role; empty where there is none.
+/// The text at a key of the reference to a role; empty if there is none.
 fn reference_text<'a>(binding: &'a Value, key: &str) -> &'a str
     ensures { result.now ≡ loose.reference_text key.now (view binding.now) }
 {
@@ -123,7 +123,7 @@ fn reference_text<'a>(binding: &'a Value, key: &str) -> &'a str
     }
 }
 
-/// Keeps a binding, where its role is of none of the keys.
+/// Keeps a binding, if its role is of none of the keys.
 fn push_dangling(
     alloc: Global,
     found: &mut Vec<Dangling>,

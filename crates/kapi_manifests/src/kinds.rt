@@ -6,7 +6,7 @@ ghost use Rattle.kapi_manifests.specs.Kinds as kinds;
 
 use serde_json::Value;
 
-/// The text at a key; empty where there is none.
+/// The text at a key; empty if there is none.
 pub fn text_at<'a>(object: &'a Value, key: &str) -> &'a str
     ensures { result.now ≡ kinds.text_at key.now (view object.now) }
 {
@@ -16,7 +16,7 @@ pub fn text_at<'a>(object: &'a Value, key: &str) -> &'a str
     }
 }
 
-/// The text at a key of the metadata; empty where there is none.
+/// The text at a key of the metadata; empty if there is none.
 pub fn metadata_text<'a>(object: &'a Value, key: &str) -> &'a str
     ensures { result.now ≡ kinds.metadata_text key.now (view object.now) }
 {

@@ -76,7 +76,7 @@ fn named_item(alloc: Global, kind: &str, version: &str, item: Value) -> Result<V
     named(alloc, kind, version, item)
 }
 
-/// The items of a list as they stand; none where it has none.
+/// The items of a list as they stand; none if it has none.
 fn items_of(alloc: Global, list: Value) -> Vec<Value>
     ensures { map view result.items ≡ items_in (view list) }
 {

@@ -39,7 +39,7 @@ pub struct Prepared {
     pub words: Words,
     /// How many objects of a kind are passed over.
     pub skipped: BTreeMap<Text, usize>,
-    /// What is wrong, in order. Where something is, the lines are those of the other objects.
+    /// What is wrong, in order. If something is, the lines are those of the other objects.
     pub faults: Vec<Fault>,
 }
 

@@ -155,7 +155,7 @@ fn is_yaml(text: &[u8], spans: &[Span]) -> bool
     }
 }
 
-/// The first byte; 0 where there is none.
+/// The first byte; 0 if there is none.
 fn first_byte(text: &[u8]) -> u8
     ensures { result ≡ slice_index text.now 0 }
 {

@@ -25,7 +25,7 @@ pub enum Scope {
 #[derive(Clone, Copy, Debug)]
 pub struct Options<'a> {
     pub scope: Scope,
-    /// The namespace of objects that name none and live in one; empty where none is given.
+    /// The namespace of objects that name none and live in one; empty if none is given.
     pub namespace: &'a str,
     /// Whether Kubernetes' user-facing roles stand beneath the files.
     pub defaults: bool,

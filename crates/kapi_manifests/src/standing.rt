@@ -77,7 +77,7 @@ fn standing_roles() -> [Standing; 4]
     ]
 }
 
-/// Those that stand where the objects of files are these.
+/// Those that stand if the objects of files are these.
 pub fn standing_beside(
     alloc: Global,
     begun: &[Standing],
@@ -141,7 +141,7 @@ fn push_text(alloc: Global, found: &mut Vec<Manifest>, text: &str) -> Result<(),
     }
 }
 
-/// An error only where memory is refused.
+/// An error only if memory is refused.
 fn memory_only(error: &Error) -> Result<(), Memory>
     ensures { OnOk result (¬ IsMemory error.now) }
 {

@@ -68,7 +68,7 @@ sorted_by_keys ls ordered k d low within =
     let a = get_or ls k d in let b = get_or ls (k + 1) d in
     not_behind (label_cmp b a) (label_cmp a b) (label_total.antisymm b a) (Less-from_sorted label_cmp ls k (k + 1) d ordered (omega arith) within)
 
--- what a binary search finds in labels in order is the value of the first label of the key, and of none where it finds a gap
+-- what a binary search finds in labels in order is the value of the first label of the key, and of none if it finds a gap
 pub found_in_order : (ls : List Label) (key : List ℕ) (r : Result ℕ ℕ) → AreInOrder ls → IsSearchInRange r (length ls)
     → IsBinarySearchResult (λ l. slice_cmp nat_cmp l.key key) ls r
     → MatchResult r (λ i. (d : Label) → value_in ls key ≡ Some (get_or ls i d).value) (λ i. value_in ls key ≡ None)

@@ -3,7 +3,7 @@ use Rattle.std.proofs.Common.{◌≡◌, ℕ, ◌+◌, ◌<◌, List, [], ◌∷
 use Rattle.std.specs.List.{list_any, position_or_len, before_first, after_first}
 use Rattle.kapi_model.specs.Names.{is_dns_subdomain, is_label_name, is_label_key}
 
--- where no element is the first that passes, none passes
+-- if no element is the first that passes, none passes
 none_passes : (p : ℕ → Bool) (xs : List ℕ) → position_or_len p xs ≡ length xs → list_any p xs ≡ false
 none_passes p [] = λ h. refl
 none_passes p (x ∷ xs) =
@@ -12,7 +12,7 @@ none_passes p (x ∷ xs) =
       | false ↦ λ h. none_passes p xs (omega arith)
     ]
 
--- where an element is the first that passes, some passes
+-- if an element is the first that passes, some passes
 some_passes : (p : ℕ → Bool) (xs : List ℕ) → position_or_len p xs < length xs → list_any p xs ≡ true
 some_passes p [] = λ h. absurd (omega arith)
 some_passes p (x ∷ xs) =

@@ -1,4 +1,4 @@
--- Lists that are made one element after another, where a fault may stop it; and the values in a selector's text.
+-- Lists that are made one element after another, if a fault may stop it; and the values in a selector's text.
 use Rattle.std.proofs.Common.{◌≡◌, ℕ, ◌+◌, ◌-◌, ◌<◌, ◌≤◌, List, [], ◌∷◌, ◌++◌, length, get_or, take, drop, false, Option, Some, None, Result, Ok, Err, refl, sym, ap, ◌∙◌, append_assoc, arith}
 use Rattle.std.proofs.Math.Dec.{eqb-suc-zero}
 use Rattle.std.proofs.lemmas.List.{append-nil, take_rest}
@@ -136,7 +136,7 @@ values_end xs rest all is inv = sym inv ∙ ap (λ r. before xs (values_left r))
 
 -- ---- what is left
 
--- how many tokens are left, and one more where a comma comes before them
+-- how many tokens are left, and one more if a comma comes before them
 abbrev pub size_left : Option (List Token) → ℕ
 size_left None = 0
 size_left (Some ts) = length ts + 1

@@ -56,12 +56,12 @@ tokens (b ∷ c ∷ rest) =
 pub data Fault : Type 0 where
   syntax : Fault
 
--- the fault that an error reports; none where it is out of memory
+-- the fault that an error reports; none if it is out of memory
 abbrev pub fault_of : SelectorError → Option Fault
 fault_of error.Syntax = Some syntax
 fault_of error.Memory = None
 
--- a requirement, where its key and its values obey the rules of labels
+-- a requirement, if its key and its values obey the rules of labels
 abbrev pub checked : List ℕ → Operator → List (List ℕ) → Result Requirement Fault
 checked key operator values =
     if is_label_key key && list_all is_label_value values
@@ -83,7 +83,7 @@ abbrev pub without : Option (List ℕ) → Result Requirement Fault
 without None = Err syntax
 without (Some key) = checked key DoesNotExist []
 
--- the one value where there is a word
+-- the one value if there is a word
 abbrev pub sole : Option (List ℕ) → Result (List (List ℕ)) Fault
 sole None = Err syntax
 sole (Some v) = Ok (v ∷ [])
@@ -143,7 +143,7 @@ abbrev pub onto_first : Token → List (List Token) → List (List Token)
 onto_first t [] = []
 onto_first t (piece ∷ pieces) = (t ∷ piece) ∷ pieces
 
--- whether the tokens behind a token are in parentheses, where the token may be
+-- whether the tokens behind a token are in parentheses, if the token may be
 abbrev pub is_inside : Bool → Token → Bool
 is_inside inside Open = true
 is_inside inside Close = false
@@ -164,7 +164,7 @@ unfoldable pub requirements : List (List Token) → Result (List Requirement) Fa
 requirements [] = Ok []
 requirements (piece ∷ pieces) = requirement piece >>= λ first. (requirements pieces >>= λ others. Ok (first ∷ others))
 
--- the requirements of all tokens: none where there is no token
+-- the requirements of all tokens: none if there is no token
 abbrev pub all_required : List Token → Result (List Requirement) Fault
 all_required ts = if length ts == 0 then Ok [] else requirements (pieces false ts)
 

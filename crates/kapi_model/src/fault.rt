@@ -6,9 +6,9 @@ use std::alloc::{AllocError, Global};
 /// What is wrong with a member of an object.
 #[derive(Clone, Copy, Debug, PartialEq, Eq)]
 pub enum FaultKind {
-    /// The member is absent, or empty, where it must not be.
+    /// The member is absent, or empty, if it must not be.
     Required,
-    /// The member is given where it must be absent or empty.
+    /// The member is given if it must be absent or empty.
     NotAllowedHere,
     /// The member is of another JSON type.
     WrongType,

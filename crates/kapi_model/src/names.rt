@@ -102,7 +102,7 @@ pub fn check_rbac_name(name: &str) -> bool
     !name.is_empty() && name != "." && name != ".." && !has_slash_or_percent(name.as_bytes())
 }
 
-/// Whether a text is a key of a label or an annotation: a name, after a DNS subdomain and `/` where there is a slash
+/// Whether a text is a key of a label or an annotation: a name, after a DNS subdomain and `/` if there is a slash
 /// (Kubernetes, 'Labels and Selectors').
 #[tactic(auto, unfolding(crate::specs::Names::is_label_key))]
 pub fn check_label_key(key: &str) -> bool

@@ -72,7 +72,7 @@ fn first_piece<'a, 'b>(tokens: &'b [Token<'a>]) -> (&'b [Token<'a>], Option<&'b 
     (tokens, None)
 }
 
-/// Whether the tokens behind a token are in parentheses, where the token may be.
+/// Whether the tokens behind a token are in parentheses, if the token may be.
 fn is_inside(inside: bool, token: &Token<'_>) -> bool
     ensures { result ≡ meaning.is_inside inside token.now }
 {

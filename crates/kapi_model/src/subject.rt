@@ -1,7 +1,7 @@
 use kapi_text::{Text, TryCopy};
 use std::alloc::{AllocError, Global};
 
-/// A service account; its namespace is empty where none is given.
+/// A service account; its namespace is empty if none is given.
 #[derive(Debug, Drop)]
 pub struct ServiceAccount {
     pub namespace: Text,

@@ -27,7 +27,7 @@ use Rattle.kapi_object.specs.declared.table.Table.TheVariants as table
 
 -- ---- the metadata
 
--- entries without faults have none where they are kept
+-- entries without faults have none if they are kept
 entries_kept : (sort : Entries) (field k : List ℕ) (o : Option Data) (ms : Members) → get_member k ms ≡ None → entries_faults sort field o ≡ []
     → entries_faults sort field (option_and_then unless_null (get_member k (put_entries k o ms))) ≡ []
 unfolding entries_faults

@@ -1,4 +1,4 @@
--- An object that has, by its table, what is kept of another has no fault where the other has none.
+-- An object that has, by its table, what is kept of another has no fault if the other has none.
 use Rattle.std.proofs.Common.{◌≡◌, ◌∙◌, ℕ, suc, zero, List, [], ◌∷◌, Bool, true, false, not, ◌&&◌, ◌||◌, Option, Some, None, refl, ap, subst, is_some, if◌then◌else◌, length, ◌==◌, bytes_eq}
 use Rattle.std.proofs.Math.Dec.{eqb-suc-zero}
 use Rattle.std.proofs.lemmas.Slice.Eq.{bytes_eq-Decides}

@@ -45,7 +45,7 @@ under_urls : (q : List ℕ) (r : PolicyRule) → bytes_eq q (codes "nonResourceU
 unfolding rule_tree
 under_urls q r h = ap (option_and_then unless_null) (put_if_other q (codes "nonResourceURLs") (list_value (write_items string r.non_resource_urls)) (with_names r) h)
 
--- where the key had no value, the list is there
+-- if the key had no value, the list is there
 texts_here : (k : List ℕ) (ss : List (List ℕ)) (ms : Members) → get_member k ms ≡ None → option_and_then unless_null (get_member k (put_texts k ss ms)) ≡ list_value (write_items string ss)
 texts_here k ss ms h = ap (option_and_then unless_null) (put_if_here k (list_value (write_items string ss)) ms h) ∙ list_there (write_items string ss)
 

@@ -1,4 +1,4 @@
--- What is kept of the metadata is what stays of it where the rest is removed.
+-- What is kept of the metadata is what stays of it if the rest is removed.
 use Rattle.std.proofs.Common.{◌≡◌, ◌∙◌, ℕ, List, [], ◌∷◌, Bool, true, false, not, if◌then◌else◌, Option, Some, None, is_some, unwrap_or, filter, refl, sym, ap, subst, cond, codes, bytes_eq, String, Global, string_bytes}
 use Rattle.std.proofs.lemmas.Map.Text.{is_eq-slice_cmp}
 use Rattle.std.proofs.lemmas.Slice.Eq.{bytes_eq-Decides}
@@ -52,7 +52,7 @@ not_found k l e ns h is =
     let before : precedes k (member l e ns) ≡ true = rw is (precedes_too k l ns is (key_first l e ns h)) in
     none_found k (member l e ns) before
 
--- what is found of the others, where the keys of the first are the same
+-- what is found of the others, if the keys of the first are the same
 same_after : (q k l : List ℕ) (d e : Data) (ms ns : Members) → in_order (member k d ms) ≡ true → in_order (member l e ns) ≡ true → k ≡ l
     → get_member q (member k d ms) ≡ get_member q (member l e ns) → get_member q ms ≡ get_member q ns
 same_after q k l d e ms ns hm hn key same =

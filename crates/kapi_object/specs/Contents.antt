@@ -1,6 +1,6 @@
 -- What roles and bindings are read as, and how they are written (Kubernetes API, rbac.authorization.k8s.io/v1, and
 -- `LabelSelector` of meta/v1): lists but `verbs`, `rules` and `clusterRoleSelectors`, and texts that may be empty, are
--- left out where they are empty; a resource type keeps of a body, beside its metadata, what is read of it, written.
+-- left out if they are empty; a resource type keeps of a body, beside its metadata, what is read of it, written.
 use Rattle.std.specs.Prelude.{ℕ, List, [], ◌∷◌, length, ◌==◌, if◌then◌else◌, Option, Some, None, map, option_map, unwrap_or, codes}
 use Rattle.serde_json.specs.Data.{Data, string, array, object, Items, no_items, item, Members, no_members, member, put}
 use Rattle.serde_json.specs.View.{items_of}
@@ -23,14 +23,14 @@ use Rattle.kapi_model.specs.declared.subject.Subject.TheVariants.{User, Group, S
 use Rattle.kapi_model.specs.Kinds.{rbac_group, role_kind, role_kind_text, subject_kind, subject_kind_text, operator_of, operator_text}
 use Rattle.kapi_object.specs.Tree.{is_empty, is_empty_object, member_of, members_or_none, put_if}
 
--- ---- what a tree holds, where it has no fault
+-- ---- what a tree holds, if it has no fault
 
 -- the text that a value is; anything else is as the empty text
 abbrev pub text_of : Data → List ℕ
 text_of (string s) = s
 text_of _ = []
 
--- the text that a value is, where there is one; a missing value is as the empty text
+-- the text that a value is, if there is one; a missing value is as the empty text
 abbrev pub text_if : Option Data → List ℕ
 text_if None = []
 text_if (Some d) = text_of d

@@ -21,6 +21,6 @@ given_of tree = record {
   resource_version = text_given (metadata_member (codes "resourceVersion") tree);
 }
 
--- what a body of a resource type specifies: a namespace only where the resource type has namespaces
+-- what a body of a resource type specifies: a namespace only if the resource type has namespaces
 unfoldable pub given_on : ResourceRow → Data → Given
 given_on row tree = if row.namespaced then given_of tree else record (given_of tree) { namespace = Absent }

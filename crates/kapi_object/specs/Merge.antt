@@ -9,7 +9,7 @@ abbrev pub without : List ℕ → Members → Members
 without name no_members = no_members
 without name (member other value ms) = if bytes_eq name other then ms else member other value (without name ms)
 
--- the value of a name; null where there is none, which is no object either
+-- the value of a name; null if there is none, which is no object either
 abbrev pub value_at : List ℕ → Members → Data
 value_at name ms = unwrap_or (get_member name ms) null
 
@@ -17,7 +17,7 @@ value_at name ms = unwrap_or (get_member name ms) null
 abbrev pub members_or_none : Data → Members
 members_or_none d = unwrap_or (as_object d) no_members
 
--- a name takes its new value, and is taken out where the patch has null for it
+-- a name takes its new value, and is taken out if the patch has null for it
 abbrev pub changed : List ℕ → Data → Data → Members → Members
 changed name null value ms = without name ms
 changed name patch value ms = put name value ms

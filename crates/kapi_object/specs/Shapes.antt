@@ -42,12 +42,12 @@ chosen (Three w p v q r) d = if passes w d then p else (if passes v d then q els
 abbrev pub Says : Type 0
 Says = Table → List ℕ → Data → List FieldFault
 
--- what is wrong with a value where none may be
+-- what is wrong with a value if none may be
 abbrev pub forbidden_faults : List ℕ → Option Data → List FieldFault
 forbidden_faults path None = []
 forbidden_faults path (Some d) = fault path NotAllowedHere ∷ []
 
--- what is wrong with an element where one may be
+-- what is wrong with an element if one may be
 abbrev pub element_faults : (List ℕ → Data → List FieldFault) → Need → List ℕ → Option Data → List FieldFault
 element_faults f n path None = need_faults n true path
 element_faults f n path (Some d) = f path d

@@ -9,7 +9,7 @@ use Rattle.serde_json.specs.Read.{read}
 unfoldable pub json_object : List ℕ → Option Data
 json_object text = if is_utf8 text then option_map object (option_and_then as_object (read text)) else None
 
--- the value, or none where it is null
+-- the value, or none if it is null
 abbrev pub unless_null : Data → Option Data
 unless_null null = None
 unless_null d = Some d
@@ -27,11 +27,11 @@ member_of key d = option_and_then unless_null (get key d)
 abbrev pub members_or_none : Option Data → Members
 members_or_none o = unwrap_or (option_and_then as_object o) no_members
 
--- the members of an object's `metadata`; none where it is missing or no object
+-- the members of an object's `metadata`; none if it is missing or no object
 abbrev pub metadata_of : Data → Members
 metadata_of tree = members_or_none (get (codes "metadata") tree)
 
--- the value at a key of an object's `metadata`; none where the metadata is missing or no object
+-- the value at a key of an object's `metadata`; none if the metadata is missing or no object
 abbrev pub in_metadata : List ℕ → Data → Option Data
 in_metadata key tree = option_and_then (get key) (get (codes "metadata") tree)
 
@@ -73,7 +73,7 @@ abbrev pub without_member : List ℕ → Data → Data
 without_member key (object ms) = object (without key ms)
 without_member key d = d
 
--- the tree with another's value at a key, and without the key where the other has none; anything but an object has no
+-- the tree with another's value at a key, and without the key if the other has none; anything but an object has no
 -- other members
 abbrev pub with_member_of : List ℕ → Data → Data → Data
 with_member_of key other tree = object (put_if key (get key other) (without key (members_or_none (Some tree))))

@@ -52,7 +52,7 @@ is_right rule.RbacGroup s = bytes_eq s rbac_group
 is_right rule.RbacGroupOrEmpty s = length s == 0 || bytes_eq s rbac_group
 is_right rule.Empty s = length s == 0
 
--- what is wrong where a text is absent
+-- what is wrong if a text is absent
 abbrev pub absent_text_faults : TextRule → List ℕ → List FieldFault
 absent_text_faults r path = if is_required r then fault path Required ∷ [] else []
 
@@ -62,7 +62,7 @@ given_text_faults r path s =
     if is_required r && length s == 0 then fault path Required ∷ []
     else (if is_right r s then [] else fault path BadValue ∷ [])
 
--- what is wrong with a value where a text is expected
+-- what is wrong with a value if a text is expected
 unfoldable pub text_faults : TextRule → List ℕ → Option Data → List FieldFault
 text_faults r path None = absent_text_faults r path
 text_faults r path (Some (string s)) = given_text_faults r path s
@@ -72,7 +72,7 @@ text_faults r path (Some _) = fault path WrongType ∷ []
 abbrev pub text_faults_at : TextRule → List ℕ → List ℕ → Data → List FieldFault
 text_faults_at r path key d = text_faults r (member_path path key) (member_of key d)
 
--- what is wrong with a text at an element, where null is a value
+-- what is wrong with a text at an element, if null is a value
 abbrev pub text_item_faults : TextRule → List ℕ → Data → List FieldFault
 text_item_faults r path d = text_faults r path (Some d)
 
@@ -89,7 +89,7 @@ unfoldable pub items_faults : (List ℕ → Data → List FieldFault) → List �
 items_faults f path index no_items = []
 items_faults f path index (item d ds) = f (item_path path index) d ++ items_faults f path (index + 1) ds
 
--- what is wrong with a value where a list is expected: first with the list, then with its elements
+-- what is wrong with a value if a list is expected: first with the list, then with its elements
 unfoldable pub list_faults : (List ℕ → Data → List FieldFault) → Need → List ℕ → Option Data → List FieldFault
 list_faults f n path None = need_faults n true path
 list_faults f n path (Some (array ds)) = need_faults n (is_empty ds) path ++ items_faults f path 0 ds

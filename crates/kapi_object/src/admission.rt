@@ -113,7 +113,7 @@ fn given_on(alloc: Global, row: &ResourceRow, tree: &Value) -> Result<Given, Mem
     }
 }
 
-/// The `apiVersion` of the resource type's objects: with the group before the version, where the group has a name.
+/// The `apiVersion` of the resource type's objects: with the group before the version, if the group has a name.
 fn api_version(alloc: Global, row: &ResourceRow) -> Result<String, Memory>
     ensures { IfOk result (λ s. string_bytes s ≡ version_of row.now) }
 {
@@ -206,7 +206,7 @@ fn admit(
 /// The tree of the object of a resource type that a JSON object is, as the resource type keeps it.
 ///
 /// The Open schema keeps the members of the body as they are, but for `apiVersion` and `kind`, which are filled in
-/// where they are missing, and `metadata`, of which name, namespace, resource version, labels and annotations are kept.
+/// if they are missing, and `metadata`, of which name, namespace, resource version, labels and annotations are kept.
 /// A resource type of roles or bindings keeps the members of its kind alone (Kubernetes API,
 /// rbac.authorization.k8s.io/v1).
 #[tactic(auto, unfolding(crate::specs::Admission::read_as))]
@@ -222,7 +222,7 @@ pub fn admitted_tree(alloc: Global, row: &ResourceRow, tree: Value) -> Result<Va
     ensures whole { IfOk result (λ v. written.has_float (view v) ≡ false) }
     ensures ordered { IfOk result (λ v. is_ordered (view v) ≡ true) }
 
-    // and is no deeper than what is read, where the tree is not
+    // and is no deeper than what is read, if the tree is not
     ensures nests { IfOk result (λ v. depth (view tree) ≤ max_depth → depth (view v) ≤ max_depth) }
 {
     if has_float(&tree) {

@@ -8,7 +8,7 @@ use kapi_text::{Memory, Text, TryCopy};
 use serde_json::Value;
 use std::alloc::{AllocError, Global};
 
-/// The value of a member where a text is expected.
+/// The value of a member if a text is expected.
 #[derive(Debug, Drop)]
 pub enum GivenText {
     /// No value, or null.

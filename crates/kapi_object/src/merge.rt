@@ -67,7 +67,7 @@ fn merge_member(
     put(members, alloc, name, value)
 }
 
-/// The value of a name, or the other value where there is none.
+/// The value of a name, or the other value if there is none.
 fn value_or<'a>(members: &'a Map<String, Value>, name: &str, other: &'a Value) -> &'a Value
     ensures { view result.now ≡ unwrap_or (get_member name.now (members_view members.now.entries)) (view other.now) }
 {

@@ -106,7 +106,7 @@ fn push_members_faults(
     Ok(())
 }
 
-/// Adds what is wrong with the value where entries are expected.
+/// Adds what is wrong with the value if entries are expected.
 #[tactic(auto, unfolding(crate::specs::Faults::entries_faults))]
 pub fn push_entries_faults(
     alloc: Global,
@@ -140,7 +140,7 @@ fn push_faults_in(
     }
 }
 
-/// Adds what is wrong with the value where the metadata is expected.
+/// Adds what is wrong with the value if the metadata is expected.
 fn push_value_fault(
     alloc: Global,
     faults: &mut Vec<FieldFault>,

@@ -85,7 +85,7 @@ impl Object {
         }
     }
 
-    /// The object with another's status, and without one where the other has none (Kubernetes API conventions, 'Spec
+    /// The object with another's status, and without one if the other has none (Kubernetes API conventions, 'Spec
     /// and Status').
     pub fn with_status_of(self, alloc: Global, other: &Object) -> Result<Object, Memory>
         ensures { IfOk result (λ o. tree_of o ≡ trees.with_member_of (codes "status") (tree_of other.now) (tree_of self)) }
@@ -104,7 +104,7 @@ impl Object {
         })
     }
 
-    /// The object with a copy of one text set in its metadata; nothing is copied where the text is there already.
+    /// The object with a copy of one text set in its metadata; nothing is copied if the text is there already.
     fn with_copied_text(self, alloc: Global, key: &str, text: &str) -> Result<Object, Memory>
         ensures { IfOk result (λ o. tree_of o ≡ trees.with_text key.now text.now (tree_of self)) }
     {

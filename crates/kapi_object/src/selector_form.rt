@@ -77,7 +77,7 @@ fn labels_of_members(alloc: Global, members: &Map<String, Value>) -> Result<Vec<
     Ok(labels)
 }
 
-/// The labels that the member of a key is; none where it is absent.
+/// The labels that the member of a key is; none if it is absent.
 pub fn read_labels(alloc: Global, tree: &Value, key: &str) -> Result<Sequence<Label>, Memory>
     ensures { IfOk result (λ s. s ≡ labels_in (members_or_none (member_of key.now (view tree.now)))) }
 {

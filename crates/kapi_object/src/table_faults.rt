@@ -154,7 +154,7 @@ impl<'a, L: Level> Element for Inner<'a, L> {
     }
 }
 
-/// Adds a fault where a key has a value that may have none.
+/// Adds a fault if a key has a value that may have none.
 fn push_forbidden_faults_at(
     alloc: Global,
     faults: &mut Vec<FieldFault>,

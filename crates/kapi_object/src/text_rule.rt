@@ -96,7 +96,7 @@ fn push_given_text_faults(
     }
 }
 
-/// Adds what is wrong with a value where a text is expected.
+/// Adds what is wrong with a value if a text is expected.
 #[tactic(auto, unfolding(crate::specs::Typed::text_faults))]
 pub fn push_text_faults(
     alloc: Global,
@@ -113,7 +113,7 @@ pub fn push_text_faults(
     }
 }
 
-/// Adds what is wrong where a text is absent.
+/// Adds what is wrong if a text is absent.
 fn push_absent_text_faults(
     alloc: Global,
     faults: &mut Vec<FieldFault>,

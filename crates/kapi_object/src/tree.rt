@@ -82,7 +82,7 @@ fn take_entry(members: &mut Map<String, Value>, key: &str) -> Option<(String, Va
     members.remove_entry(key)
 }
 
-/// Takes the metadata out of the members of an object, with their key; without members where there are none.
+/// Takes the metadata out of the members of an object, with their key; without members if there are none.
 pub fn take_metadata(
     alloc: Global,
     members: &mut Map<String, Value>,
@@ -106,7 +106,7 @@ pub fn put_entry(members: &mut Map<String, Value>, key: String, value: Value) ->
     Ok(())
 }
 
-/// Sets the member of a key in its place; the key is copied only where it is new.
+/// Sets the member of a key in its place; the key is copied only if it is new.
 fn set_member(
     alloc: Global,
     members: &mut Map<String, Value>,
@@ -203,7 +203,7 @@ pub fn without_member(tree: Value, key: &str) -> Value
     }
 }
 
-/// The tree with another's value at a key, and without the key where the other has none.
+/// The tree with another's value at a key, and without the key if the other has none.
 pub fn with_member_of(alloc: Global, tree: Value, key: &str, other: &Value) -> Result<Value, Memory>
     requires { is_ordered (view tree) ≡ true }
     ensures { IfOk result (λ v. view v ≡ trees.with_member_of key.now (view other.now) (view tree)) }

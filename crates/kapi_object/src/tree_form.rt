@@ -121,7 +121,7 @@ pub fn write_items<T: ToTree>(alloc: Global, values: &[T]) -> Result<Vec<Value>,
     Ok(items)
 }
 
-/// Puts a text at a key, also where it is empty.
+/// Puts a text at a key, also if it is empty.
 pub fn put_string(
     alloc: Global,
     members: &mut Map<String, Value>,

@@ -123,7 +123,7 @@ fn push_array_faults<E: Element>(
     push_items_faults(alloc, faults, element, path, items)
 }
 
-/// Adds what is wrong with a value where a list is expected.
+/// Adds what is wrong with a value if a list is expected.
 #[tactic(auto, unfolding(crate::specs::Typed::list_faults))]
 fn push_list_faults<E: Element>(
     alloc: Global,

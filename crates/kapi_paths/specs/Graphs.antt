@@ -43,7 +43,7 @@ pub record IsGraph (step : Node → List Node) (nodes : List Node) (rows : List 
 
 -- ---- paths
 
--- who is listed where not everything is reached: all but those who hold a role
+-- who is listed if not everything is reached: all but those who hold a role
 abbrev pub is_listed : NodeKind → Bool
 is_listed kind.Role = false
 is_listed kind.ClusterRole = false

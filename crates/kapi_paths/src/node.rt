@@ -10,9 +10,9 @@ pub enum NodeKind {
     Everything,
     /// Each user that a binding names.
     EveryUser,
-    /// All in a namespace, or in each where that is empty.
+    /// All in a namespace, or in each if that is empty.
     All,
-    /// The service accounts of a namespace, or of each where that is empty.
+    /// The service accounts of a namespace, or of each if that is empty.
     Accounts,
     /// What a namespace asks of its pods.
     Limits,
@@ -21,7 +21,7 @@ pub enum NodeKind {
     Account,
     /// Whoever holds a Role in a namespace.
     Role,
-    /// Whoever holds a ClusterRole in a namespace, or cluster-wide where that is empty.
+    /// Whoever holds a ClusterRole in a namespace, or cluster-wide if that is empty.
     ClusterRole,
 }
 

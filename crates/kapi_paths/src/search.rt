@@ -229,7 +229,7 @@ impl<'g> Search<'g> {
         Ok(path)
     }
 
-    /// The nodes of a shortest chain to the node, the start apart, or none where no chain leads there.
+    /// The nodes of a shortest chain to the node, the start apart, or none if no chain leads there.
     pub fn path_to(&self, alloc: Global, to: usize) -> Result<Option<Vec<usize>>, Memory>
         ensures chain { IfOk result (λ o. IfSome o (λ p. IsChain self.now.graph self.now.start p.items to)) }
         ensures shortest { IfOk result (λ o. IfSome o (λ p. (path : List ℕ) → IsChain self.now.graph self.now.start path to → length p.items ≤ length path)) }

@@ -342,7 +342,7 @@ fn push_by_rules(
     Ok(())
 }
 
-/// The rules of a role that is held in the namespace, none where it does not exist.
+/// The rules of a role that is held in the namespace, none if it does not exist.
 pub fn rules_held<'a, P: Policy>(policy: &'a P, role: &RoleRef, place: &str) -> &'a [PolicyRule]
     ensures { result.now ≡ unwrap_or (rules_of (P.content policy.now) role.now place.now) [] }
 {

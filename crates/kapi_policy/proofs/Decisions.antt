@@ -40,7 +40,7 @@ is_some_if false n = refl
 pub is_some_position : {X : Type 0} (p : X → Bool) (xs : List X) → is_some (position p xs) ≡ list_any p xs
 is_some_position p xs = is_some_if (nat_lt (position_or_len p xs) (length xs)) _ ∙ place_is_below p xs
 
--- ---- allowed just where a held rule allows
+-- ---- allowed exactly if a held rule allows
 
 is_some_or : {X : Type 0} (a b : Option X) → is_some (option_or a b) ≡ (is_some a || is_some b)
 is_some_or None b = refl

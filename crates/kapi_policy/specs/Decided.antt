@@ -52,7 +52,7 @@ rules_of_kind objects role_kind.ClusterRole name namespace = cluster_rules_in (l
 unfoldable pub rules_of : PolicyObjects → RoleRef → List ℕ → Option (List PolicyRule)
 rules_of objects role namespace = rules_of_kind objects role.kind role.name namespace
 
--- a binding of either kind, its namespace empty where it is a ClusterRoleBinding
+-- a binding of either kind, its namespace empty if it is a ClusterRoleBinding
 pub record Binding : Type 0 where
   pub kind : BindingKind
   pub namespace : List ℕ
@@ -91,7 +91,7 @@ bindings_in objects namespace =
     map cluster_binding objects.cluster_role_bindings
     ++ (if length namespace == 0 then [] else bindings_of namespace objects.role_bindings)
 
--- the rules that a binding grants the identity: its role's, where a subject matches the identity and the role exists
+-- the rules that a binding grants the identity: its role's, if a subject matches the identity and the role exists
 unfoldable pub given : PolicyObjects → Identity → Binding → Option (List PolicyRule)
 given objects identity b =
     if list_any (λ s. subject_matches s b.namespace identity) b.subjects then rules_of objects b.role b.namespace else None
@@ -113,7 +113,7 @@ pub data Decided : Type 0 where
   masters : Decided
   denied : Decided
 
--- the grant that names a binding and a rule of its role, where there is such a rule
+-- the grant that names a binding and a rule of its role, if there is such a rule
 abbrev pub granted_at : Binding → Option ℕ → Option Granted
 granted_at b None = None
 granted_at b (Some index) = Some (record { kind = b.kind; binding = b.name; role = b.role; rule = index })

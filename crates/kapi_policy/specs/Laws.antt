@@ -24,7 +24,7 @@ is_allowed (allowed g) = true
 is_allowed masters = true
 is_allowed denied = false
 
--- the rules that a binding grants the identity, none where it grants none
+-- the rules that a binding grants the identity, none if it grants none
 abbrev pub rules_by : PolicyObjects → Identity → Binding → List PolicyRule
 rules_by objects identity b = unwrap_or (given objects identity b) []
 

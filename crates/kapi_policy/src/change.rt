@@ -33,7 +33,7 @@ pub enum PolicyKey {
 /// One change of the policy objects.
 #[derive(Debug, Drop)]
 pub enum PolicyChange {
-    /// Puts the object at its place, also where there is one.
+    /// Puts the object at its place, also if there is one.
     Put(PolicyPut),
     /// Removes the object at the place, if there is one.
     Delete(PolicyKey),

@@ -13,7 +13,7 @@ ghost use Rattle.kapi_policy.specs.declared.change.PolicyChange.{PolicyChange};
 ghost use Rattle.kapi_policy.specs.declared.change.PolicyKey.{PolicyKey};
 ghost use Rattle.kapi_policy.specs.declared.change.PolicyPut.{PolicyPut};
 
-/// A request is allowed just where the identity is of the group `system:masters` or holds a rule there that allows it.
+/// A request is allowed exactly if the identity is of the group `system:masters` or holds a rule there that allows it.
 pub fn held_rules_are_what_allows()
     ensures { (objects : PolicyObjects) (identity : Identity) (namespace : List ℕ) (point : Point)
         → is_allowed (decided objects identity namespace point)

@@ -15,7 +15,7 @@ use kapi_rules::Point;
 use kapi_text::Memory;
 
 /// Roles and bindings, and what they allow (Kubernetes, 'Using RBAC Authorization'). Contracts see a policy as its
-/// objects alone. Where a namespace is asked for, the empty one asks cluster-wide.
+/// objects alone. If a namespace is asked for, the empty one asks cluster-wide.
 pub trait Policy {
     /// The roles and bindings.
     ghost content: { Self → PolicyObjects };
@@ -35,7 +35,7 @@ pub trait Policy {
     fn held(&self, identity: &Identity, namespace: &str) -> Result<Vec<PolicyRule>, Memory>
         ensures { IfOk result (λ v. v.items ≡ held_by (content self.now) identity.now namespace.now) };
 
-    /// The rules that the bindings grant the identity in the namespace, in no promised order. Where many bindings have the
+    /// The rules that the bindings grant the identity in the namespace, in no promised order. If many bindings have the
     /// same role, its rules need not come for each.
     fn held_once(&self, identity: &Identity, namespace: &str) -> Result<Vec<PolicyRule>, Memory>
         ensures { IfOk result (λ v. AreSameRules v.items (held_by (content self.now) identity.now namespace.now)) };

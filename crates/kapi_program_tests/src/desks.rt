@@ -141,7 +141,7 @@ fn ask_often(mut seat: Seat, ann: &Identity, pods: &Point) -> Reader {
     Reader { seat, wrong }
 }
 
-/// Puts the binding `b` where the number is even, and deletes it where it is odd.
+/// Puts the binding `b` if the number is even, and deletes it if it is odd.
 fn turned(alloc: Global, number: u32) -> Result<PolicyChange, AllocError> {
     if number % 2 == 0 {
         binding_is_put(alloc, "b")

@@ -45,7 +45,7 @@ pub fn feed(alloc: Global, conn: u64, piece: &[u8]) -> Result<Event, Memory> {
     Ok(Event::Feed(ConnId(conn), Sequence::new(Vec::from_slice(alloc, piece)?)))
 }
 
-/// The bytes that an event sends, none where it sends nothing.
+/// The bytes that an event sends, none if it sends nothing.
 pub fn sent(
     alloc: Global,
     core: &mut Core<IndexedPolicy>,

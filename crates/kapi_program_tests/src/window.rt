@@ -44,7 +44,7 @@ fn watched(
     exchange(alloc, core, conn, text.as_bytes())
 }
 
-/// How many events a watch shows before it shows nothing, where each is a change of an object.
+/// How many events a watch shows before it shows nothing, if each is a change of an object.
 fn count_modified(
     alloc: Global,
     core: &mut Core<IndexedPolicy>,

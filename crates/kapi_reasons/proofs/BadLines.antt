@@ -7,7 +7,7 @@ use Rattle.kapi_reasons.specs.Private.Lines.{has_bad}
 use Rattle.kapi_script.specs.Events.{line_event}
 use Rattle.kapi_script.specs.Scripts.{first_bad, first_bad_from, line_of}
 
--- there is a bad line exactly where one of those that are not skipped is no event
+-- there is a bad line exactly if one of those that are not skipped is no event
 bad_from : (n : ℕ) (ls : List (List ℕ)) → is_some (first_bad_from n ls) ≡ has_bad (numbered_from n ls)
 unfolding first_bad_from line_of numbered_from
 bad_from n [] = refl

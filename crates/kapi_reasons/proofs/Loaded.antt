@@ -51,7 +51,7 @@ pub all_loaded : (m : Machine) (lines : List Line) (i : ℕ) (core : Running) �
 unfolding loaded
 all_loaded m lines i core past (k, said, stands) = ap is_err (said ∙ ap (λ ls. loaded k (map line_of ls)) (drop_all i lines past))
 
--- a file makes no machine exactly where one of its lines is not loaded
+-- a file makes no machine exactly if one of its lines is not loaded
 pub made_fails : (table : List ResourceRow) (first : ℕ) (objects : List ℕ) → is_err (machine_from table first objects) ≡ is_err (loaded (opening table first) (lines_of objects))
 unfolding machine_from
 made_fails table first objects = by_result (loaded (opening table first) (lines_of objects))

@@ -36,7 +36,7 @@ pub fn begun_empty(
     Core::without_objects(alloc, table.copy(alloc)?, PlainPolicy::new(alloc), 0)
 }
 
-/// Why the machine refuses to create what the bytes are at a target; none where it does not refuse.
+/// Why the machine refuses to create what the bytes are at a target; none if it does not refuse.
 pub fn refusal(
     core: &mut Core<PlainPolicy>,
     target: &str,

@@ -20,7 +20,7 @@ const EVENTS: &str =
 /// Why a line that ends with CR is none.
 const CARRIAGE_RETURN: &str = "the line ends with CR LF; a line of a script ends with LF alone";
 
-/// Why the first line of a script that is no event is none; nothing where all lines are events, empty or comments.
+/// Why the first line of a script that is no event is none; nothing if all lines are events, empty or comments.
 #[tactic(auto, using(crate::proofs::BadLines::bad_is_first))]
 pub fn script_reason(alloc: Global, script: &[u8]) -> Result<Option<&'static str>, Memory>
     ensures bad { IfOk result (λ reason. is_some reason ≡ is_some (first_bad script.now)) }
@@ -46,7 +46,7 @@ fn first_reason(lines: &[Line<'_>]) -> Option<&'static str>
     None
 }
 
-/// Why a line is no event; nothing where it is one.
+/// Why a line is no event; nothing if it is one.
 #[tactic(auto, unfolding(kapi_script::specs::Events::line_event))]
 pub fn event_reason(line: &[u8]) -> Option<&'static str>
     ensures bad { is_some result ≡ is_none (line_event line.now) }
@@ -90,7 +90,7 @@ fn word_reason(line: &[u8]) -> &'static str
     }
 }
 
-/// Why names are those of no identity; nothing where they are.
+/// Why names are those of no identity; nothing if they are.
 #[tactic(auto, unfolding(kapi_script::specs::Events::open_event, kapi_lines::specs::Identities::named_identity))]
 pub fn names_reason(names: &[u8]) -> Option<&'static str>
     ensures bad { is_some result ≡ is_none (open_event names.now) }
@@ -109,7 +109,7 @@ fn are_names(names: &str) -> bool
     names.split(',').all(|name| !name.is_empty())
 }
 
-/// Why the text behind `feed ` is no connection and text; nothing where it is.
+/// Why the text behind `feed ` is no connection and text; nothing if it is.
 #[tactic(auto, unfolding(kapi_script::specs::Events::feed_event))]
 fn feed_reason(rest: &[u8]) -> Option<&'static str>
     ensures bad { is_some result ≡ is_none (feed_event rest.now) }
@@ -131,7 +131,7 @@ fn space_at(rest: &[u8]) -> Option<usize>
     rest.iter().position(|byte| *byte == b' ')
 }
 
-/// Why a connection and a text are not both right; nothing where they are.
+/// Why a connection and a text are not both right; nothing if they are.
 fn fed_reason(digits: &[u8], text: &[u8]) -> Option<&'static str>
     ensures bad { is_some result ≡ is_none (fed (connection digits.now) (unescaped text.now)) }
     ensures line { IfSome result (λ r. is_reason r.now ≡ true) }
@@ -152,7 +152,7 @@ fn fed_reason(digits: &[u8], text: &[u8]) -> Option<&'static str>
 /// The largest number of digits of a connection's number.
 const NUMBER_DIGITS: usize = 18;
 
-/// Why digits are not the number of a connection; nothing where they are.
+/// Why digits are not the number of a connection; nothing if they are.
 #[tactic(auto, unfolding(kapi_script::specs::Events::connection))]
 fn connection_reason(digits: &[u8]) -> Option<&'static str>
     ensures bad { is_some result ≡ is_none (connection digits.now) }

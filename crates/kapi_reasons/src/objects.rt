@@ -182,7 +182,7 @@ fn row_of<'a>(table: &'a [ResourceRow], object: &Value) -> Option<&'a ResourceRo
     table.iter().find(|row| row.kind.as_str() == kind)
 }
 
-/// The namespace that an object names; empty where it names none.
+/// The namespace that an object names; empty if it names none.
 fn namespace_of(object: &Value) -> &str {
     match object.get("metadata") {
         Some(metadata) => text_at(metadata, "namespace"),

@@ -15,7 +15,7 @@ use std::alloc::Global;
 const REVIEWS: &str = "/apis/authorization.k8s.io/v1/subjectaccessreviews";
 
 /// Why the line of this number of a file of questions is no `spec` of a SubjectAccessReview; the first line is 1.
-/// Nothing where the file has no line of this number that is neither empty nor a comment.
+/// Nothing if the file has no line of this number that is neither empty nor a comment.
 pub fn question_reason(
     alloc: Global,
     questions: &[u8],

@@ -9,7 +9,7 @@ use kapi_text::Memory;
 use serde_json::Value;
 use std::alloc::{AllocError, Global};
 
-/// Why a reply refuses: the fields at fault where it names some, else its message; none where it does not refuse.
+/// Why a reply refuses: the fields at fault if it names some, else its message; none if it does not refuse.
 pub fn refusal_words(alloc: Global, reply: &[u8]) -> Result<Option<String>, Memory> {
     let Some(status) = failure(alloc, reply)? else {
         return Ok(None);
@@ -53,7 +53,7 @@ fn causes(status: &Value) -> Option<&Vec<Value>> {
     status.get("details")?.get("causes")?.as_array()
 }
 
-/// The text at a key; empty where there is none.
+/// The text at a key; empty if there is none.
 pub fn text_at<'a>(tree: &'a Value, key: &str) -> &'a str
     ensures { result.now ≡ text_or_none (get key.now (view tree.now)) }
 {
@@ -76,7 +76,7 @@ fn push_causes(words: &mut String, causes: &[Value]) -> Result<(), Memory> {
     Ok(())
 }
 
-/// A message in words, where the server's is one for programs.
+/// A message in words, if the server's is one for programs.
 fn plain_message(message: &str) -> &str {
     match message {
         "bad request: json" => "it is no JSON object",

@@ -72,7 +72,7 @@ open_line names = codes "open " ++ names
 abbrev pub opens : PlainDraft → ℕ → List ℕ → PlainDraft
 opens d n names = record (event d n (open_line names)) { opened = d.opened ++ names ∷ []; taken = Some (length d.opened) }
 
--- a connection is taken, and opened where there is none
+-- a connection is taken, and opened if there is none
 abbrev pub acted_on : PlainDraft → ℕ → List ℕ → Option ℕ → PlainDraft
 acted_on d n names None = opens d n names
 acted_on d n names (Some k) = record d { taken = Some k; fields = false }
@@ -98,11 +98,11 @@ pumped_on d l (Some k) = event d l.number (number_line (codes "pump ") k)
 abbrev pub pumped : PlainDraft → NumberedLine → PlainDraft
 pumped d l = pumped_on d l d.taken
 
--- the rights of watches are rechecked, where no event comes before the line
+-- the rights of watches are rechecked, if no event comes before the line
 abbrev pub rechecked : PlainDraft → NumberedLine → PlainDraft
 rechecked d l = if length d.script == 0 then record d { rechecks = true; fields = false } else raw d l.number l.text
 
--- the case has a file of kinds, where no event comes before the line
+-- the case has a file of kinds, if no event comes before the line
 abbrev pub with_kinds : PlainDraft → NumberedLine → List ℕ → PlainDraft
 with_kinds d l name =
     if length d.script == 0 then record d { kinds = d.kinds ++ record { number = l.number; name = name } ∷ []; fields = false } else raw d l.number l.text

@@ -33,7 +33,7 @@ abbrev pub number_or : Option Event → ℕ
 number_or None = 0
 number_or (Some e) = e.number
 
--- the transcript's line of the event of this number; 0 where there is none
+-- the transcript's line of the event of this number; 0 if there is none
 abbrev pub number_at : List Event → ℕ → ℕ
 number_at script n = number_or (nth script n)
 
@@ -57,7 +57,7 @@ abbrev pub text_or : Option Event → List ℕ
 text_or None = []
 text_or (Some e) = e.text
 
--- the line of a script of this number; nothing where there is none
+-- the line of a script of this number; nothing if there is none
 abbrev pub event_text : List Event → ℕ → List ℕ
 event_text script n = text_or (nth script n)
 

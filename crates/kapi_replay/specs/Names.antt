@@ -12,6 +12,6 @@ is_white b = b == 32 || (b == 9 || b == 13)
 abbrev pub is_name : List ℕ → Bool
 is_name name = not (length name == 0) && (not (is_white (slice_index name 0)) && not (is_white (slice_index name (length name - 1))))
 
--- all names are names; texts that are no UTF-8 name nobody, and are refused where a connection is opened
+-- all names are names; texts that are no UTF-8 name nobody, and are refused if a connection is opened
 unfoldable pub are_names : List ℕ → Bool
 are_names names = not (is_utf8 names) || list_all (λ name. is_name name) (names_in names)

@@ -13,7 +13,7 @@ use Rattle.kapi_replay.specs.declared.failure.Failure.{Failure}
 use Rattle.kapi_replay.specs.declared.failure.Failure.TheVariants as failure
 use Rattle.kapi_replay.specs.declared.failure.Outcome.{Outcome}
 
--- the line of this number, from 1; nothing where there is none
+-- the line of this number, from 1; nothing if there is none
 abbrev pub line_at : List (List ℕ) → ℕ → List ℕ
 line_at lines n = unwrap_or (nth lines n) []
 

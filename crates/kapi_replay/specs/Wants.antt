@@ -15,12 +15,12 @@ abbrev pub reply_with : List ℕ → List ℕ → Option Wanted
 reply_with code [] = Some (wants.Reply code [])
 reply_with code (b ∷ text) = if b == 32 then Some (wants.Reply code text) else None
 
--- `CODE` or `CODE TEXT`, where a code is three digits
+-- `CODE` or `CODE TEXT`, if a code is three digits
 abbrev pub reply_of : List ℕ → Option Wanted
 reply_of rest =
     if nat_lt (length rest) 3 then None else (if list_all is_ascii_digit (take 3 rest) then reply_with (take 3 rest) (drop 3 rest) else None)
 
--- what a line wants; nothing where it is of another form
+-- what a line wants; nothing if it is of another form
 unfoldable pub wanted_of : List ℕ → Option Wanted
 wanted_of l =
     if begins l (codes "= ") then reply_of (drop 2 l)

@@ -79,7 +79,7 @@ impl Draft {
         Ok(())
     }
 
-    /// Takes the connection of an identity, and opens it where there is none.
+    /// Takes the connection of an identity, and opens it if there is none.
     fn take(&mut self, alloc: Global, number: usize, names: Sequence<u8>) -> Result<(), Memory>
         ensures { OnOk result (draft_of self.new ≡ cased.acted (draft_of self.old) number names) }
     {

@@ -44,7 +44,7 @@ fn push_line(text: &mut Vec<u8>, line: &[u8]) -> Result<(), Memory>
     Ok(())
 }
 
-/// The answer to the event of this number; nothing where there is none.
+/// The answer to the event of this number; nothing if there is none.
 fn answer_at(answers: &[Sequence<u8>], number: usize) -> &[u8]
     ensures { result.now ≡ line_at answers.now number }
 {
@@ -54,7 +54,7 @@ fn answer_at(answers: &[Sequence<u8>], number: usize) -> &[u8]
     }
 }
 
-/// The transcript's line of the event of this number; 0 where there is none.
+/// The transcript's line of the event of this number; 0 if there is none.
 pub fn number_at(script: &[Event], number: usize) -> usize
     ensures { result ≡ fails.number_at script.now number }
 {
@@ -64,7 +64,7 @@ pub fn number_at(script: &[Event], number: usize) -> usize
     }
 }
 
-/// Adds a failure where an answer is not as wanted.
+/// Adds a failure if an answer is not as wanted.
 fn check_want(
     alloc: Global,
     failures: &mut Vec<Failure>,
@@ -116,7 +116,7 @@ pub fn only(alloc: Global, failure: Failure) -> Result<Vec<Failure>, Memory>
     Ok(failures)
 }
 
-/// The line of a script of this number; nothing where there is none.
+/// The line of a script of this number; nothing if there is none.
 fn event_text(script: &[Event], number: usize) -> &[u8]
     ensures { result.now ≡ fails.event_text script.now number }
 {

@@ -170,11 +170,11 @@ fn keep(outcomes: &mut Vec<Outcome>, outcome: Outcome) -> Result<(), Memory>
 }
 
 /// Plays transcripts, each of whose cases begins on a machine of its own, and writes the report of each, or where
-/// `rewrites` is set each transcript with lines that want the answers that came where others are wanted. Returns what
+/// `rewrites` is set each transcript with lines that want the answers that came if others are wanted. Returns what
 /// became of each.
 ///
 /// # Errors
-/// `Write` where the writer fails, `Memory` where an allocation fails outside an event.
+/// `Write` if the writer fails, `Memory` if an allocation fails outside an event.
 pub fn replay_run<R: Wait, W: Write>(
     alloc: Global,
     rt: &R,

@@ -12,7 +12,7 @@ use kapi_lines::{nth, split_lines};
 use kapi_text::{Memory, Sequence, Text};
 use std::alloc::Global;
 
-/// The line of this number, from 1; nothing where there is none.
+/// The line of this number, from 1; nothing if there is none.
 pub fn line_at(lines: &[Sequence<u8>], number: usize) -> &[u8]
     ensures { result.now ≡ reports.line_at lines.now number }
 {
@@ -201,7 +201,7 @@ fn report(alloc: Global, lines: &[Sequence<u8>], outcome: &Outcome) -> Result<Ve
     Ok(text)
 }
 
-/// The answer that came in place of the one that a failure's line wants, where it is this line.
+/// The answer that came in place of the one that a failure's line wants, if it is this line.
 fn answer_for(number: usize, failure: &Failure) -> Option<&[u8]>
     ensures { option_map (λ s. s.now) result ≡ reports.answer_for number failure.now }
 {

@@ -22,7 +22,7 @@ pub enum Wanted {
     Line(Sequence<u8>),
 }
 
-/// What a line wants; nothing where it is of another form.
+/// What a line wants; nothing if it is of another form.
 #[tactic(auto, unfolding(crate::specs::Wants::wanted_of))]
 pub fn parse_wanted(alloc: Global, line: &[u8]) -> Result<Option<Wanted>, Memory>
     ensures { IfOk result (λ w. w ≡ wanted_of line.now) }
@@ -83,7 +83,7 @@ pub fn is_met(alloc: Global, wanted: &Wanted, line: &[u8]) -> Result<bool, Memor
     }
 }
 
-/// Whether the bytes that an answer sent are as wanted; nothing is met where it sent none.
+/// Whether the bytes that an answer sent are as wanted; nothing is met if it sent none.
 fn is_met_by_sent(alloc: Global, wanted: &Wanted, line: &[u8]) -> Result<bool, Memory>
     ensures { IfOk result (λ b. b ≡ wants.is_met_by wanted.now (sent_of line.now)) }
 {

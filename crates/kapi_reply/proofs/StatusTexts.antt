@@ -59,7 +59,7 @@ details_by false false true false d group kind name = refl
 details_by false false false true d group kind name = refl
 details_by false false false false d group kind name = refl
 
--- the details are empty exactly where all is left out
+-- the details are empty exactly if all is left out
 empty_by : (c g k n : Bool) (d : Data) (group kind name : List ℕ)
     → (members_len (with_name n name (with_kind k kind (with_group g group (with_list c d)))) == 0) ≡ (c && (g && (k && n)))
 empty_by true true true true d group kind name = refl

@@ -35,7 +35,7 @@ asked_for why = record { name = None; why = why }
 abbrev pub named : List ℕ → Refusal → Refused
 named name why = record { name = Some name; why = why }
 
--- the refusal that an error reports; none where it is out of memory
+-- the refusal that an error reports; none if it is out of memory
 abbrev pub refused_by : CheckError → Option Refused
 refused_by (error.Refused r) = Some r
 refused_by error.Memory = None
@@ -60,7 +60,7 @@ name_of (point.Url u) = []
 abbrev pub name_in : Asked → Refused → List ℕ
 name_in asked r = unwrap_or r.name (name_of asked.attributes.point)
 
--- the subject of a failure about an object of that name; none where the request is about no resource
+-- the subject of a failure about an object of that name; none if the request is about no resource
 unfoldable pub subject_of : Point → List ℕ → Option Subject
 subject_of (point.Resource p) name = Some (record { group = p.group; resource = p.resource; name = name })
 subject_of (point.Url u) name = None
@@ -118,13 +118,13 @@ bad_request text = failed status.BadRequest (codes "BadRequest") (codes "bad req
 abbrev pub not_allowed : List ℕ → List Method → Failed
 not_allowed text allow = record (failed status.MethodNotAllowed (codes "MethodNotAllowed") (text ++ codes " is not served here")) { allow = allow }
 
--- the failure where an object or a resource is not found
+-- the failure if an object or a resource is not found
 unfoldable pub not_found : Asked → List ℕ → Sought → Failed
 not_found asked name sought.Object = failed status.NotFound (codes "NotFound") (said_of asked name (codes " not found"))
 not_found asked name sought.Namespace =
     failed status.NotFound (codes "NotFound") (codes "namespaces " ++ asked.attributes.namespace ++ codes " not found")
 
--- the failure where a binding refers to a role that does not exist
+-- the failure if a binding refers to a role that does not exist
 abbrev pub role_not_found : NamedRole → Failed
 role_not_found role = failed status.NotFound (codes "NotFound") (role.resource ++ codes " " ++ role.name ++ codes " not found")
 
@@ -133,7 +133,7 @@ abbrev pub invalid : Asked → List ℕ → List Data → Failed
 invalid asked name causes =
     record (failed status.UnprocessableContent (codes "Invalid") (said_of asked name (codes " is invalid"))) { causes = causes }
 
--- the failure where a revision is not reached yet (Kubernetes, 'Kubernetes API Concepts', 'Resource versions')
+-- the failure if a revision is not reached yet (Kubernetes, 'Kubernetes API Concepts', 'Resource versions')
 abbrev pub not_yet_reached : Revisions → Failed
 not_yet_reached r =
     failed status.GatewayTimeout (codes "Timeout") (codes "resourceVersion " ++ (decimal r.asked ++ (codes " is above the current " ++ decimal r.current)))

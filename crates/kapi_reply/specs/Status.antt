@@ -24,7 +24,7 @@ pub record Subject : Type 0 where
   pub name : List ℕ
 
 -- a failure: its code, one word for programs (which may be empty), its message, its causes, and the methods that are
--- served in place of the one that was not (none where that is not the matter)
+-- served in place of the one that was not (none if that is not the matter)
 pub record Failed : Type 0 where
   pub code : StatusCode
   pub reason : List ℕ
@@ -94,7 +94,7 @@ point_list (point.Resource p) =
     array (item (string p.verb) (item (string p.group) (item (string p.resource) (item (string p.subresource) (item (string p.name) no_items)))))
 point_list (point.Url u) = array (item (string u.verb) (item (string u.path) no_items))
 
--- an atom on a resource as a list of texts: its name is left out where it speaks of all names
+-- an atom on a resource as a list of texts: its name is left out if it speaks of all names
 abbrev pub resource_atom_list : ResourceAtom → Data
 resource_atom_list a = array (item (string a.verb) (item (string a.group) (item (string a.resource) (name_item a.names))))
 
@@ -128,6 +128,6 @@ field_cause field words = object
 abbrev pub invalid_field : FieldFault → Data
 invalid_field f = field_cause f.field (cause_text f.cause)
 
--- the cause where a binding is to refer to another role
+-- the cause if a binding is to refer to another role
 abbrev pub changed_role_ref : Data
 changed_role_ref = field_cause (codes "roleRef") (codes "may not change")

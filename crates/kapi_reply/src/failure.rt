@@ -69,14 +69,14 @@ pub fn failure_of(
     }
 }
 
-/// The failure where nothing is served of the resource that is asked for.
+/// The failure if nothing is served of the resource that is asked for.
 fn no_such_resource(alloc: Global) -> Result<Failure, Memory>
     ensures { IfOk result (λ f. failure_data f ≡ table.failed StatusCode.NotFound (codes "NotFound") (codes "no such resource")) }
 {
     failed(alloc, StatusCode::NotFound, "NotFound", "no such resource")
 }
 
-/// The failure where a revision is asked for that is not reached yet.
+/// The failure if a revision is asked for that is not reached yet.
 fn not_yet_reached(alloc: Global, revisions: Revisions) -> Result<Failure, Memory>
     ensures { IfOk result (λ f. failure_data f ≡ table.not_yet_reached revisions) }
 {
@@ -242,7 +242,7 @@ fn joined(alloc: Global, first: &str, second: &str, third: &str) -> Result<Strin
     Ok(text)
 }
 
-/// The failure where an object or a namespace is not found.
+/// The failure if an object or a namespace is not found.
 #[tactic(auto, unfolding(crate::specs::Refusals::not_found))]
 fn not_found(alloc: Global, asked: Asked<'_>, name: &str, what: Sought) -> Result<Failure, Memory>
     ensures { IfOk result (λ f. failure_data f ≡ table.not_found (asked_data asked.entry) name.now what) }
@@ -257,7 +257,7 @@ fn not_found(alloc: Global, asked: Asked<'_>, name: &str, what: Sought) -> Resul
     Ok(with_message(alloc, StatusCode::NotFound, "NotFound", message))
 }
 
-/// The failure where a binding refers to a role that does not exist.
+/// The failure if a binding refers to a role that does not exist.
 fn role_not_found(alloc: Global, role: &NamedRole) -> Result<Failure, Memory>
     ensures { IfOk result (λ f. failure_data f ≡ table.role_not_found role.now) }
 {
@@ -274,7 +274,7 @@ fn already_exists(alloc: Global, asked: Asked<'_>, name: &str) -> Result<Failure
     Ok(with_message(alloc, StatusCode::Conflict, "AlreadyExists", message))
 }
 
-/// The failure where the object is at another version than the body gives.
+/// The failure if the object is at another version than the body gives.
 #[tactic(auto, unfolding(crate::specs::Refusals::failure_of))]
 fn other_version(
     alloc: Global,
@@ -310,7 +310,7 @@ fn faulty(
     invalid(alloc, asked, name, invalid_fields(alloc, faults)?)
 }
 
-/// The failure where a binding is to refer to another role.
+/// The failure if a binding is to refer to another role.
 #[tactic(auto, unfolding(crate::specs::Refusals::failure_of))]
 fn role_ref_changed(alloc: Global, asked: Asked<'_>, name: &str) -> Result<Failure, Memory>
     ensures { IfOk result (λ f. failure_data f ≡ table.failure_of (asked_data asked.entry) name.now Refusal.RoleRefChanged) }
@@ -347,7 +347,7 @@ fn said_of(alloc: Global, asked: Asked<'_>, name: &str, words: &str) -> Result<S
     Ok(text)
 }
 
-/// The subject of a failure about an object of that name; none where the request is about no resource.
+/// The subject of a failure about an object of that name; none if the request is about no resource.
 #[tactic(auto, unfolding(crate::specs::Refusals::subject_of))]
 pub fn subject_of<'a>(point: &'a Point, name: &'a str) -> Option<Subject<'a>>
     ensures { option_map subject_data result ≡ table.subject_of point.entry.now name.entry.now }

@@ -106,7 +106,7 @@ pub struct OldRevision {
     pub begins: u64,
 }
 
-/// A refused request: the name of the object that it is about, where that is not the one of its path, and the reason.
+/// A refused request: the name of the object that it is about, if that is not the one of its path, and the reason.
 #[derive(Debug, Drop)]
 pub struct Refused {
     pub name: Option<Text>,

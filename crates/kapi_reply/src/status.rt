@@ -19,7 +19,7 @@ use std::alloc::Global;
 /// The room that the text of most points and atoms does not outgrow.
 const PARTS_ROOM: usize = 128;
 
-/// The subject of a failure: a resource request's group, resource and name, each left out where it is empty.
+/// The subject of a failure: a resource request's group, resource and name, each left out if it is empty.
 #[derive(Clone, Copy)]
 pub struct Subject<'a> {
     pub group: &'a str,
@@ -109,7 +109,7 @@ fn atom_text(alloc: Global, atom: &Atom) -> Result<String, Memory>
     Ok(text_of(out))
 }
 
-/// Writes the parts of an atom as a JSON list: its name is left out where it speaks of all names.
+/// Writes the parts of an atom as a JSON list: its name is left out if it speaks of all names.
 fn write_atom(out: &mut Writer, atom: &Atom) -> Result<(), Memory>
     ensures tokens { OnOk result (out.new.tokens ≡ out.old.tokens ++ data_tokens (status_object.atom_list atom.now)) }
     ensures before { OnOk result (out.new.before ≡ out.old.before) }
@@ -152,7 +152,7 @@ fn text_list(alloc: Global, texts: &[&str]) -> Result<Value, Memory>
     Ok(Value::Array(text_items(alloc, texts)?))
 }
 
-/// The parts of an atom as a JSON list: its name is left out where it speaks of all names.
+/// The parts of an atom as a JSON list: its name is left out if it speaks of all names.
 pub fn atom_list(alloc: Global, atom: &Atom) -> Result<Value, Memory>
     ensures { IfOk result (λ v. view v ≡ status_object.atom_list atom.now) }
 {
@@ -207,7 +207,7 @@ fn field_cause(alloc: Global, field: &str, words: &'static str) -> Result<Cause,
     }))
 }
 
-/// The cause where a binding is to refer to another role.
+/// The cause if a binding is to refer to another role.
 pub fn changed_role_ref(alloc: Global) -> Result<Cause, Memory>
     ensures { IfOk result (λ c. cause_data c ≡ status_object.changed_role_ref) }
 {

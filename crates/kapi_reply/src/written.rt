@@ -41,7 +41,7 @@ fn write_head(out: &mut Writer, code: StatusCode) -> Result<(), Memory>
     write_number(out, code.number())
 }
 
-/// Writes the details, where there is something to tell: the causes and the subject.
+/// Writes the details, if there is something to tell: the causes and the subject.
 #[tactic(auto, unfolding(crate::specs::Private::Tokens::details_tokens))]
 fn write_details(
     out: &mut Writer,
@@ -128,7 +128,7 @@ fn is_nameless(subject: Option<Subject<'_>>) -> bool
     }
 }
 
-/// Writes the members of the subject, each left out where it is empty.
+/// Writes the members of the subject, each left out if it is empty.
 #[tactic(auto, unfolding(crate::specs::Private::Tokens::subject_tokens))]
 fn write_subject(out: &mut Writer, subject: Option<Subject<'_>>) -> Result<(), Memory>
     ensures tokens { OnOk result (out.new.tokens ≡ out.old.tokens ++ subject_tokens (option_map subject_data subject.entry)) }
@@ -144,7 +144,7 @@ fn write_subject(out: &mut Writer, subject: Option<Subject<'_>>) -> Result<(), M
     }
 }
 
-/// Writes the causes, where there are some.
+/// Writes the causes, if there are some.
 #[tactic(auto, unfolding(crate::specs::Private::Tokens::causes_tokens))]
 fn write_causes(out: &mut Writer, causes: &[Cause]) -> Result<(), Memory>
     ensures tokens { OnOk result (out.new.tokens ≡ out.old.tokens ++ causes_tokens (map_of cause_data causes.now)) }

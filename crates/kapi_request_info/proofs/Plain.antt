@@ -221,7 +221,7 @@ named_more : (found : List (List ℕ)) (part : List ℕ) → list_all names_some
     → list_all names_something (found ++ part ∷ []) ≡ true
 named_more found part h k = list_all-append names_something found (part ∷ []) ∙ rw (h, k) refl
 
--- what is behind the last slash is a segment, where it is not empty
+-- what is behind the last slash is a segment, if it is not empty
 pub plain_last : (found : List (List ℕ)) (rest : List ℕ) → (length rest == 0) ≡ false → slice_split (λ b. b == 47) rest ≡ rest ∷ []
     → list_all names_something found ≡ true
     → plain_from found rest ≡ (if names_something rest then Ok (found ++ rest ∷ []) else Err bad_path)

@@ -51,7 +51,7 @@ rooted : (b : Bool) (path : List ℕ) → list_all is_target_byte path ≡ true 
 rooted true path h = refl
 rooted false path h = h
 
--- the text is clean, where there is one
+-- the text is clean, if there is one
 abbrev IsClean : Option (List ℕ) → Type 0
 IsClean (Some text) = list_all is_target_byte text ≡ true
 IsClean None = Unit {0}

@@ -146,7 +146,7 @@ unfolding segments texts
 segments_written set s names is_set are =
     rw (pieces_written set s names is_set are.2, kept_segments (s ∷ names) are.0, are.0, whole_written set (s ∷ names) is_set, are.1)
 
--- where what comes first passes no test, the first that passes is what follows
+-- if what comes first passes no test, the first that passes is what follows
 first_after : (p : ℕ → Bool) (xs : List ℕ) (y : ℕ) (ys : List ℕ) → All (λ x. p x ≡ false) xs → p y ≡ true → position_or_len p (xs ++ y ∷ ys) ≡ length xs
 first_after p [] y ys none found = rw found
 first_after p (x ∷ xs) y ys none found =
@@ -176,7 +176,7 @@ queryless set names is_set = All-weaker IsOfPath (λ b. (b == 63) ≡ false) no_
 root_kept : (b : ℕ) (s : List ℕ) → path_or_root (b ∷ s) ≡ b ∷ s
 root_kept b s = rw (eqb-suc-zero (length s))
 
--- the two parts of a text from its path on, where they are known
+-- the two parts of a text from its path on, if they are known
 parts_known : (text path query : List ℕ) (b : ℕ) → before_first (λ b. b == 63) text ≡ b ∷ path → after_first (λ b. b == 63) text ≡ query
     → path_and_query (Some text) ≡ Ok (b ∷ path, query)
 parts_known text path query b before after = rw (before, after, root_kept b path)

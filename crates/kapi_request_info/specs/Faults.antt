@@ -9,7 +9,7 @@ pub data TargetFault : Type 0 where
   bad_escape : TargetFault
   bad_query : TargetFault
 
--- the fault that an error reports; none where it is out of memory
+-- the fault that an error reports; none if it is out of memory
 abbrev pub fault_of : InfoError → Option TargetFault
 fault_of error.BadPath = Some bad_path
 fault_of error.BadEscape = Some bad_escape

@@ -13,7 +13,7 @@ use Rattle.kapi_request_info.specs.declared.impersonated.ImpersonationError.TheV
 pub data Misuse : Type 0 where
   bad_headers : Misuse
 
--- the misuse that an error reports; none where it is out of memory
+-- the misuse that an error reports; none if it is out of memory
 abbrev pub misuse_of : ImpersonationError → Option Misuse
 misuse_of error.BadHeaders = Some bad_headers
 misuse_of error.Memory = None
@@ -34,7 +34,7 @@ is_other h = is_impersonation h && not (names_someone h)
 abbrev pub is_name : List ℕ → Bool
 is_name value = not (length value == 0) && is_utf8 value
 
--- a value, where it is a name
+-- a value, if it is a name
 abbrev pub name_in : List ℕ → Result (List ℕ) Misuse
 name_in value = if is_name value then Ok value else Err bad_headers
 

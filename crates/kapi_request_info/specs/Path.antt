@@ -35,7 +35,7 @@ unfoldable pub has_whole_escapes : List ℕ → Bool
 has_whole_escapes [] = true
 has_whole_escapes (b ∷ rest) = if b == 37 && not (begins_with_digits rest) then false else has_whole_escapes rest
 
--- the bytes, where they are UTF-8
+-- the bytes, if they are UTF-8
 abbrev pub text_in : List ℕ → Option (List ℕ)
 text_in bytes = if is_utf8 bytes then Some bytes else None
 

@@ -12,7 +12,7 @@ use Rattle.kapi_request_info.specs.declared.query.QueryPair.{QueryPair}
 use Rattle.kapi_request_info.specs.Query.{query_value}
 use Rattle.kapi_request_info.specs.Selector.{selected_name}
 
--- the part at an index, empty where there is none
+-- the part at an index, empty if there is none
 abbrev pub part : List (List ℕ) → ℕ → List ℕ
 part parts index = unwrap_or (slice_get parts index) []
 
@@ -47,7 +47,7 @@ watched_where None = Ok false
 abbrev pub watched : List QueryPair → Result Bool TargetFault
 watched query = watched_where (query_value query (codes "watch"))
 
--- the name that the field selector of a query asks for, empty where there is none
+-- the name that the field selector of a query asks for, empty if there is none
 abbrev pub selector_name : List QueryPair → List ℕ
 selector_name query = unwrap_or (option_and_then selected_name (query_value query (codes "fieldSelector"))) []
 
@@ -119,7 +119,7 @@ url_attributes method path segments query = record {
   query = query;
 }
 
--- a path is about a resource where it is /api/VERSION/.. or /apis/GROUP/VERSION/..
+-- a path is about a resource if it is /api/VERSION/.. or /apis/GROUP/VERSION/..
 unfoldable pub attributes_by : Method → List ℕ → List (List ℕ) → List QueryPair → Result Attributes TargetFault
 attributes_by method path (first ∷ second ∷ third ∷ fourth ∷ more) query =
     if bytes_eq first (codes "api") then resource_attributes method [] second (third ∷ fourth ∷ more) query

@@ -18,11 +18,11 @@ path_on target =
     else if starts_with nat_eq target (codes "http://") then Some (behind_authority (drop (length (codes "http://")) target))
     else None
 
--- the path, or `/` where it is absent (RFC 9110 section 4.2.3)
+-- the path, or `/` if it is absent (RFC 9110 section 4.2.3)
 abbrev pub path_or_root : List ℕ → List ℕ
 path_or_root path = if length path == 0 then codes "/" else path
 
--- the path, and the query behind the first `?`, which is empty where there is none (RFC 3986 section 3.4)
+-- the path, and the query behind the first `?`, which is empty if there is none (RFC 3986 section 3.4)
 abbrev pub path_and_query : Option (List ℕ) → Result (List ℕ × List ℕ) TargetFault
 path_and_query (Some text) = Ok (path_or_root (before_first (λ b. b == 63) text), after_first (λ b. b == 63) text)
 path_and_query None = Err bad_path

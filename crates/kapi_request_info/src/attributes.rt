@@ -16,12 +16,12 @@ use thiserror::Error;
 /// The attributes of a request, from its method and target (Kubernetes, 'Authorization Overview', request attributes).
 #[derive(Debug, Drop)]
 pub struct Attributes {
-    /// The namespace, empty where the request is about none.
+    /// The namespace, empty if the request is about none.
     pub namespace: Text,
     pub point: Point,
-    /// The version, empty where the request is about no resource.
+    /// The version, empty if the request is about no resource.
     pub version: Text,
-    /// How many segments the path has from the resource on; 0 where the request is about no resource.
+    /// How many segments the path has from the resource on; 0 if the request is about no resource.
     pub parts: usize,
     /// All pairs of the query, decoded, in order.
     pub query: Sequence<QueryPair>,

@@ -119,7 +119,7 @@ fn meant(
     }
 }
 
-/// No impersonation, where no groups are named; groups without a user are an error.
+/// No impersonation, if no groups are named; groups without a user are an error.
 fn nobody(groups: &[Text]) -> Result<Option<Impersonation>, ImpersonationError>
     ensures { Gives misuse_of (λ o. o) result (fields.nobody groups.now) }
 {

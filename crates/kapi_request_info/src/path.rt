@@ -288,7 +288,7 @@ fn text_or_fault(bytes: &[u8]) -> Result<&str, InfoError>
     }
 }
 
-/// The bytes as a text, where they are UTF-8.
+/// The bytes as a text, if they are UTF-8.
 pub fn text_in(bytes: &[u8]) -> Option<&str>
     ensures { option_copied result ≡ text_in_of bytes.now }
 {

@@ -6,7 +6,7 @@ ghost use Rattle.kapi_request_info.specs.Query.{query_pairs as query_pairs_of, q
 use kapi_text::{Memory, Sequence, Text, TryCopy};
 use std::alloc::{AllocError, Global};
 
-/// A key of a query and its value, both decoded; the value is empty where there is no `=`.
+/// A key of a query and its value, both decoded; the value is empty if there is no `=`.
 #[derive(Debug, Drop)]
 pub struct QueryPair {
     pub key: Text,

@@ -102,7 +102,7 @@ fn is_namespace_subresource(segment: &str) -> bool
     segment == "status" || segment == "finalize"
 }
 
-/// The part at an index, empty where there is none.
+/// The part at an index, empty if there is none.
 fn part<'a>(parts: &'a [Segment<'_>], index: usize) -> &'a str
     ensures { result.now ≡ part_of parts.now index }
 {
@@ -177,7 +177,7 @@ fn is_watched_by(value: &str) -> Result<bool, InfoError>
     }
 }
 
-/// The name that the field selector of a query asks for, empty where there is none.
+/// The name that the field selector of a query asks for, empty if there is none.
 fn selector_name(query: &[QueryPair]) -> &str
     ensures { result.now ≡ selector_name_of query.now }
 {

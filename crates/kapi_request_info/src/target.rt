@@ -8,7 +8,7 @@ ghost use Rattle.kapi_request_info.specs.Target.{is_target_byte as is_target_byt
 
 use crate::attributes::InfoError;
 
-/// The path of a target and its query, which is empty where there is none.
+/// The path of a target and its query, which is empty if there is none.
 #[tactic(auto, unfolding(crate::specs::Target::split_target))]
 pub fn split_target(target: &[u8]) -> Result<(&[u8], &[u8]), InfoError>
     ensures { Gives fault_of (λ p. (p.0.now, p.1.now)) result (split_target_of target.now) }
@@ -63,7 +63,7 @@ fn behind_authority(rest: &[u8]) -> &[u8]
     }
 }
 
-/// The text before the first `?`, and the query behind it, which is empty where there is none (RFC 3986 section 3.4).
+/// The text before the first `?`, and the query behind it, which is empty if there is none (RFC 3986 section 3.4).
 #[tactic(auto, using(crate::proofs::Queries::before_no_query, crate::proofs::Queries::after_no_query))]
 fn split_query(text: &[u8]) -> (&[u8], &[u8])
     ensures before { result.0.now ≡ before_first (λ b. b == 63) text.now }
@@ -79,7 +79,7 @@ fn split_query(text: &[u8]) -> (&[u8], &[u8])
     }
 }
 
-/// The path, or `/` where it is absent (RFC 9110 section 4.2.3).
+/// The path, or `/` if it is absent (RFC 9110 section 4.2.3).
 fn path_or_root(path: &[u8]) -> &[u8]
     ensures { result.now ≡ path_or_root_of path.now }
 {

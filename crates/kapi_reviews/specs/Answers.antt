@@ -68,7 +68,7 @@ reason_of denied = None
 unfoldable pub decision_tree : Decided → Data
 decision_tree d = object (put_if (codes "reason") (option_map string (reason_of d)) (put (codes "allowed") (boolean (is_allowed d)) no_members))
 
--- a list of texts, which is written where it is empty too
+-- a list of texts, which is written if it is empty too
 abbrev pub put_list : List ℕ → List (List ℕ) → Members → Members
 put_list key ss ms = put key (array (write_items string ss)) ms
 
@@ -80,7 +80,7 @@ is_url_rule r = not (length r.non_resource_urls == 0)
 unfoldable pub url_rule_tree : PolicyRule → Data
 url_rule_tree r = object (put_list (codes "verbs") r.verbs (put_list (codes "nonResourceURLs") r.non_resource_urls no_members))
 
--- any other rule as it is written: its names only where there are some
+-- any other rule as it is written: its names only if there are some
 unfoldable pub resource_rule_tree : PolicyRule → Data
 resource_rule_tree r =
     object (put_list (codes "verbs") r.verbs

@@ -22,7 +22,7 @@ is_told (Some _) = true
 abbrev pub has_slash : List ℕ → Bool
 has_slash s = list_any (λ b. b == 47) s
 
--- the text before the first slash, or all of it where there is none
+-- the text before the first slash, or all of it if there is none
 abbrev pub before_slash : List ℕ → List ℕ
 before_slash s = before_first (λ b. b == 47) s
 
@@ -40,7 +40,7 @@ subresource_in d =
     if length (text_at (codes "subresource") d) == 0 then after_slash (text_at (codes "resource") d)
     else text_at (codes "subresource") d
 
--- a resource has no slash, or one where no subresource is named
+-- a resource has no slash, or one if no subresource is named
 abbrev pub is_right_resource : Data → Bool
 is_right_resource d =
     not (has_slash (text_at (codes "resource") d))
@@ -50,7 +50,7 @@ is_right_resource d =
 abbrev pub is_right_subresource : Data → Bool
 is_right_subresource d = not (has_slash (text_at (codes "subresource") d))
 
--- the namespace of a local review is the one of its path, where any is named
+-- the namespace of a local review is the one of its path, if any is named
 abbrev pub is_right_namespace : ReviewKind → List ℕ → Data → Bool
 is_right_namespace kind namespace d =
     not (is_local kind)

@@ -79,17 +79,17 @@ resource_faults kind namespace needed (Some d) = given_resource_faults kind name
 abbrev pub forbids_url : ReviewKind → Data → Bool
 forbids_url kind spec = is_local kind || has (codes "resourceAttributes") spec
 
--- what is wrong with the attributes of a path where they may be
+-- what is wrong with the attributes of a path if they may be
 abbrev pub given_url_faults : Data → List FieldFault
 given_url_faults (object ms) = url_member_faults (object ms)
 given_url_faults _ = fault url_path WrongType ∷ []
 
--- what is wrong with the attributes of a path; where they may not be, their members are not checked
+-- what is wrong with the attributes of a path; if they may not be, their members are not checked
 unfoldable pub url_faults : Bool → Option Data → List FieldFault
 url_faults forbidden None = []
 url_faults forbidden (Some d) = if forbidden then fault url_path NotAllowedHere ∷ [] else given_url_faults d
 
--- a user must be named where no group is
+-- a user must be named if no group is
 abbrev pub user_rule : Data → TextRule
 user_rule spec = if is_given (member_of (codes "groups") spec) then rule.Any else rule.NotEmpty
 

@@ -59,7 +59,7 @@ pub fn resource_and_subresource(attributes: &Value) -> (&str, &str)
     }
 }
 
-/// Whether the resource has no slash, or one where no subresource is named.
+/// Whether the resource has no slash, or one if no subresource is named.
 pub fn is_right_resource(attributes: &Value) -> bool
     ensures { result ≡ told.is_right_resource (view attributes.now) }
 {
@@ -75,7 +75,7 @@ pub fn is_right_subresource(attributes: &Value) -> bool
     !has_slash(text_in(attributes, "subresource"))
 }
 
-/// Whether the namespace of a local review is the one that it is in, where any is named.
+/// Whether the namespace of a local review is the one that it is in, if any is named.
 pub fn is_right_namespace(kind: ReviewKind, namespace: &str, attributes: &Value) -> bool
     ensures { result ≡ told.is_right_namespace kind namespace.now (view attributes.now) }
 {

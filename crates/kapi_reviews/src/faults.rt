@@ -21,7 +21,7 @@ const RESOURCE: &str = "spec.resourceAttributes";
 /// The path of the attributes of a URL.
 const URL: &str = "spec.nonResourceAttributes";
 
-/// Adds a fault where a key has another value than a text, or a text that was not found right.
+/// Adds a fault if a key has another value than a text, or a text that was not found right.
 #[tactic(auto, unfolding(crate::specs::Faults::judged_faults))]
 fn push_judged_faults(
     alloc: Global,
@@ -175,7 +175,7 @@ fn forbids_url(kind: ReviewKind, spec: &Value) -> bool
     kind.is_local() || has(spec, "resourceAttributes")
 }
 
-/// Adds what is wrong with the attributes of a path where they may be.
+/// Adds what is wrong with the attributes of a path if they may be.
 fn push_given_url_faults(
     alloc: Global,
     faults: &mut Vec<FieldFault>,
@@ -211,7 +211,7 @@ fn push_url_faults(
     }
 }
 
-/// The rule of the user: one must be named where no group is.
+/// The rule of the user: one must be named if no group is.
 fn user_rule(spec: &Value) -> TextRule
     ensures { result ≡ wrong.user_rule (view spec.now) }
 {
@@ -307,7 +307,7 @@ fn push_spec_faults(
     }
 }
 
-/// The namespace that a review is in; the empty text where it names none.
+/// The namespace that a review is in; the empty text if it names none.
 pub fn namespace_of(tree: &Value) -> &str
     ensures { result.now ≡ wrong.namespace_of (view tree.now) }
 {

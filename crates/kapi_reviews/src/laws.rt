@@ -14,7 +14,7 @@ pub fn the_resource_that_is_asked_about_has_no_slash()
     ensures { (kind : ReviewKind) (caller : Identity) (tree : Data) → HasPlainResource (asked kind caller tree).point }
 {}
 
-/// A review of access says that what it asks is allowed just where the identity that it asks about is of the group
+/// A review of access says that what it asks is allowed exactly if the identity that it asks about is of the group
 /// `system:masters`, or holds a rule there that allows it.
 pub fn what_is_held_is_said_to_be_allowed()
     ensures { (objects : PolicyObjects) (caller : Identity) (kind : ReviewKind) (tree d : Data)

@@ -15,7 +15,7 @@ use kapi_text::{Memory, Text, TryCopy};
 use serde_json::Value;
 use std::alloc::Global;
 
-/// Whether an identity may do something in a namespace, or cluster-wide where the namespace is empty.
+/// Whether an identity may do something in a namespace, or cluster-wide if the namespace is empty.
 #[derive(Debug, Drop)]
 pub struct Question {
     pub identity: Identity,

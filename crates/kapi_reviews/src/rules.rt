@@ -17,7 +17,7 @@ fn is_url_rule(rule: &PolicyRule) -> bool
     !rule.non_resource_urls.as_slice().is_empty()
 }
 
-/// Puts a list of texts at a key, also where it is empty.
+/// Puts a list of texts at a key, also if it is empty.
 fn put_list(
     alloc: Global,
     members: &mut Map<String, Value>,

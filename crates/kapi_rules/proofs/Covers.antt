@@ -40,7 +40,7 @@ word_onward x y z h k = by_case (or_cases (bytes_eq x star) (bytes_eq x y) h)
 
 -- ---- resources
 
--- the first slash of a joined text is the joining one, where the first text has none
+-- the first slash of a joined text is the joining one, if the first text has none
 slash_joined : (resource subresource : List ℕ) → after_slash resource ≡ None → after_slash (resource ++ 47 ∷ subresource) ≡ Some subresource
 slash_joined [] subresource plain = refl
 slash_joined (b ∷ resource) subresource plain = by_byte (b == 47) refl (slash_joined resource subresource)

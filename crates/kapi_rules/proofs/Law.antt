@@ -23,7 +23,7 @@ any_weaker p q (x ∷ xs) weaker h = by_case (or_cases (p x) (list_any p xs) h) 
     by_case (inl here) more = rw (weaker x here) refl
     by_case (inr there) more = or_right (q x) (list_any q xs) (more there)
 
--- where no element passes the one test, what each that passes the other leads to
+-- if no element passes the one test, what each that passes the other leads to
 any_leads : {X : Type 0} (p q : X → Bool) (c : Bool) (xs : List X) → ((x : X) → p x ≡ false → q x ≡ true → c ≡ true)
     → list_any p xs ≡ false → list_any q xs ≡ true → c ≡ true
 any_leads p q c [] leads none some = absurd cc

@@ -1,4 +1,4 @@
--- A rule by its atoms: some atom passes a test made of tests of the parts just where each list has an entry that passes
+-- A rule by its atoms: some atom passes a test made of tests of the parts exactly if each list has an entry that passes
 -- its own.
 use Rattle.std.proofs.Common.{◌≡◌, ℕ, Bool, true, false, ◌&&◌, ◌||◌, List, [], ◌∷◌, length, map, refl, ap, ◌∙◌}
 use Rattle.std.proofs.Math.Dec.{eqb-suc-zero}
@@ -106,7 +106,7 @@ module _ (v g r : List ℕ → Bool) (n : Names → Bool) (rule : PolicyRule) wh
       ∙ any_same _ _ rule.non_resource_urls (λ url. any_map (of_resource v g r n) (λ verb. url_atom verb url) rule.verbs ∙ any_never rule.verbs)
       ∙ any_never rule.non_resource_urls
 
-  -- an atom on a resource passes just where each list has an entry that does
+  -- an atom on a resource passes exactly if each list has an entry that does
   pub resource_part : list_any (of_resource v g r n) (atoms rule)
       ≡ (list_any v rule.verbs && (list_any g rule.api_groups && (list_any r rule.resources && list_any n (names_of rule.resource_names))))
   unfolding atoms
@@ -137,7 +137,7 @@ module _ (v u : List ℕ → Bool) (rule : PolicyRule) where
       ∙ any_same _ _ rule.non_resource_urls (λ url. any_map (of_url v u) (λ verb. url_atom verb url) rule.verbs ∙ any_before (u url) v rule.verbs)
       ∙ any_after (list_any v rule.verbs) u rule.non_resource_urls
 
-  -- an atom on a URL passes just where each list has an entry that does
+  -- an atom on a URL passes exactly if each list has an entry that does
   pub url_part : list_any (of_url v u) (atoms rule) ≡ (list_any v rule.verbs && list_any u rule.non_resource_urls)
   unfolding atoms
   url_part =
@@ -159,7 +159,7 @@ names_covered (x ∷ xs) (names.One name) =
 
 -- ---- what the parts say
 
--- a rule allows a point just where one of its atoms does
+-- a rule allows a point exactly if one of its atoms does
 pub allowed_by_atom : (rule : PolicyRule) (p : Point) → list_any (λ a. atom_allows a p) (atoms rule) ≡ allows rule p
 allowed_by_atom rule (point.Resource p) =
     any_same _ _ (atoms rule) split
@@ -177,7 +177,7 @@ allowed_by_atom rule (point.Url p) =
     split (atom.Resource a) = refl
     split (atom.Url a) = refl
 
--- an atom of a rule implies another just where each part of that is covered by an entry of the rule
+-- an atom of a rule implies another exactly if each part of that is covered by an entry of the rule
 pub rule_implies_resource : (rule : PolicyRule) (b : ResourceAtom) → rule_implies rule (atom.Resource b) ≡ lists_cover rule (atom.Resource b)
 unfolding rule_implies
 rule_implies_resource rule b =

@@ -42,7 +42,7 @@ without_stars_append (x ∷ text) =
     cases true false = refl
     cases false t = refl
 
--- where another byte is the last, nothing is dropped
+-- if another byte is the last, nothing is dropped
 pub without_stars_kept : (front : List ℕ) (b : ℕ) → (b == 42) ≡ false → without_stars (front ++ b ∷ []) ≡ front ++ b ∷ []
 without_stars_kept [] b other = rw other refl
 without_stars_kept (x ∷ front) b other =

@@ -1,4 +1,4 @@
--- The atoms of a rule, and when one implies another. Kubernetes breaks rules down alike where it checks for escalation
+-- The atoms of a rule, and when one implies another. Kubernetes breaks rules down alike if it checks for escalation
 -- ('Using RBAC Authorization', Restrictions on role creation or update).
 use Rattle.std.specs.Prelude.{ℕ, ◌==◌, Bool, true, false, ◌&&◌, ◌||◌, if◌then◌else◌, List, [], ◌∷◌, ◌++◌, length, map, Option, Some, None}
 use Rattle.std.specs.List.{flat_map, list_any}
@@ -21,7 +21,7 @@ resource_atom verb group resource names =
 abbrev pub url_atom : List ℕ → List ℕ → Atom
 url_atom verb url = atom.Url (record { verb = verb; url = url })
 
--- all names once where the list is empty, and else each name of the list
+-- all names once if the list is empty, and else each name of the list
 abbrev pub names_of : List (List ℕ) → List Names
 names_of listed = if length listed == 0 then names.All ∷ [] else map names.One listed
 
@@ -74,7 +74,7 @@ is_one_of listed (names.One name) = list_any (λ n. bytes_eq n name) listed
 abbrev pub listed_cover : List (List ℕ) → Names → Bool
 listed_cover listed covered = length listed == 0 || is_one_of listed covered
 
--- an atom implies another of its sort where each part covers the other's
+-- an atom implies another of its sort if each part covers the other's
 abbrev pub implies : Atom → Atom → Bool
 implies (atom.Resource a) (atom.Resource b) =
     word_matches a.verb b.verb
@@ -106,7 +106,7 @@ lists_cover rule (atom.Resource b) =
 lists_cover rule (atom.Url b) =
     list_any (λ e. word_matches e b.verb) rule.verbs && list_any (λ e. url_matches e b.url) rule.non_resource_urls
 
--- the list of names of an atom: none where it has all names
+-- the list of names of an atom: none if it has all names
 abbrev pub only_names : Names → List (List ℕ)
 only_names names.All = []
 only_names (names.One name) = name ∷ []

@@ -17,7 +17,7 @@ abbrev pub subresource_matches : List ℕ → List ℕ → List ℕ → Bool
 subresource_matches entry resource subresource =
     word_matches entry (resource ++ 47 ∷ subresource) || bytes_eq entry (42 ∷ 47 ∷ subresource)
 
--- an entry that lists resources: where there is no subresource, `*` or the very resource
+-- an entry that lists resources: if there is no subresource, `*` or the very resource
 abbrev pub resource_matches : List ℕ → List ℕ → List ℕ → Bool
 resource_matches entry resource subresource =
     if length subresource == 0 then word_matches entry resource else subresource_matches entry resource subresource

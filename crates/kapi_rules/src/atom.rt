@@ -77,7 +77,7 @@ impl TryCopy for Atom {
     }
 }
 
-/// The atoms of a rule: for each group, each resource, each verb and each name (or once for all names, where none is
+/// The atoms of a rule: for each group, each resource, each verb and each name (or once for all names, if none is
 /// listed); then for each URL and each verb.
 #[tactic(auto, unfolding(crate::specs::Atoms::atoms))]
 pub fn atoms(alloc: Global, rule: &PolicyRule) -> Result<Vec<Atom>, Memory>

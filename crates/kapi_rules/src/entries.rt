@@ -110,7 +110,7 @@ pub fn without_stars(text: &[u8]) -> &[u8]
     front
 }
 
-// The text before the last byte where that is a star; without it the text has no stars at its end.
+// The text before the last byte if that is a star; without it the text has no stars at its end.
 #[tactic(auto, using(crate::proofs::Texts::without_stars_kept))]
 fn before_last_star(text: &[u8]) -> Option<&[u8]>
     ensures { MatchOption result (without_last_stars text.now ≡ text.now) (λ front. text.now ≡ front.now ++ 42 ∷ []) }

@@ -17,7 +17,7 @@ pub fn implying_is_a_preorder()
     ensures onward { (a b c : Atom) → atom_implies a b ≡ true → atom_implies b c ≡ true → atom_implies a c ≡ true }
 {}
 
-/// An atom allows every point that an implied atom allows, where the point's resource has no slash.
+/// An atom allows every point that an implied atom allows, if the point's resource has no slash.
 pub fn implying_atoms_allow_more()
     ensures { (a b : Atom) (p : Point) → HasPlainResource p → atom_implies a b ≡ true → atom_allows b p ≡ true → atom_allows a p ≡ true }
 {}
@@ -29,7 +29,7 @@ pub fn resources_with_slashes_are_not_covered()
     ensures held { rule_allows (get_on (codes "*/b")) (get_of (codes "a/b")) ≡ false }
 {}
 
-/// A rule allows a point just where one of its atoms does, and an atom allows what a rule of that atom alone does.
+/// A rule allows a point exactly if one of its atoms does, and an atom allows what a rule of that atom alone does.
 pub fn rules_are_their_atoms()
     ensures parts { (rule : PolicyRule) (p : Point) → list_any (λ a. atom_allows a p) (atoms_of rule) ≡ rule_allows rule p }
     ensures alone { (a : Atom) (p : Point) → rule_allows (rule_of a) p ≡ atom_allows a p }

@@ -8,7 +8,7 @@ pub enum Point {
     Url(UrlPoint),
 }
 
-/// A verb on a resource. The group is empty for the core group, the subresource and the name where there is none.
+/// A verb on a resource. The group is empty for the core group, the subresource and the name if there is none.
 #[derive(Debug, Drop)]
 pub struct ResourcePoint {
     pub verb: Text,

@@ -21,7 +21,7 @@ unfoldable pub connection : List ℕ → Option ConnId
 connection s =
     if nat_lt 0 (length s) && (nat_le (length s) 18 && list_all is_ascii_digit s) then Some (record { 0 = digits_value 10 s }) else None
 
--- the bytes of a text come in on a connection, where both are right
+-- the bytes of a text come in on a connection, if both are right
 abbrev pub fed : Option ConnId → Option (List ℕ) → Option Event
 fed None piece = None
 fed (Some conn) piece = option_map (λ bytes. event.Feed conn bytes) piece
@@ -35,7 +35,7 @@ feed_at s (Some at) = fed (connection (take at s)) (unescaped (drop 1 (drop at s
 unfoldable pub feed_event : List ℕ → Option Event
 feed_event s = feed_at s (position (λ b. b == 32) s)
 
--- the event of a line; none where it has no known form
+-- the event of a line; none if it has no known form
 unfoldable pub line_event : List ℕ → Option Event
 line_event s =
     if begins s (codes "open ") then open_event (drop 5 s)

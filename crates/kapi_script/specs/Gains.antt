@@ -8,7 +8,7 @@ use Rattle.kapi_core.specs.declared.event.Event.{Event}
 use Rattle.kapi_model.specs.declared.row.ResourceRow.{ResourceRow}
 use Rattle.kapi_script.specs.Scripts.{Line, bad, is_bad, is_refused, line_of, lines, skipped, start, told}
 
--- the event that a line makes; none where it runs out of memory
+-- the event that a line makes; none if it runs out of memory
 abbrev pub made_by : Line → Bool → List Event
 made_by skipped refused = []
 made_by bad refused = []

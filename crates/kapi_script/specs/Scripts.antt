@@ -33,7 +33,7 @@ is_bad skipped = false
 is_bad bad = true
 is_bad (told e) = false
 
--- what is written for a line, and the machine after it; where it runs out of memory, the event was not made
+-- what is written for a line, and the machine after it; if it runs out of memory, the event was not made
 abbrev pub written_for : Line → Bool → Machine → List ℕ
 written_for skipped refused m = []
 written_for bad refused m = []

@@ -8,7 +8,7 @@ use kapi_lines::{is_escaped, read_identity, unescape};
 use kapi_text::{Memory, Sequence, are_digits, number};
 use std::alloc::Global;
 
-/// The event of a script's line; none where the line has no known form, before anything is allocated.
+/// The event of a script's line; none if the line has no known form, before anything is allocated.
 #[tactic(auto, unfolding(crate::specs::Events::line_event))]
 pub fn parse_line(alloc: Global, line: &[u8]) -> Result<Option<Event>, Memory>
     ensures event { IfOk result (λ o. o ≡ line_event line.now) }

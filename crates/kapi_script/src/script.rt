@@ -210,12 +210,12 @@ fn end_script<P: Policy + Drop, W: Write>(
 /// given policy, which is still empty, and writes the answers as they are made.
 ///
 /// From any line of the script on, and wherever an allocation fails, nobody gains by the lines that follow what no
-/// actor held: where the aggregated cluster roles then have their unions, and all identities acting in the lines are
+/// actor held: if the aggregated cluster roles then have their unions, and all identities acting in the lines are
 /// unprivileged.
 ///
 /// # Errors
 /// `BadLine` at the first line of no known form; `Read` where the reader fails or returns 2^32 pieces or more;
-/// `Write` where the writer fails; `Memory` where an allocation fails outside an event.
+/// `Write` if the writer fails; `Memory` if an allocation fails outside an event.
 pub fn script_run<P: Policy + Drop, R: Read, W: Write>(
     alloc: Global,
     table: Sequence<ResourceRow>,
@@ -298,7 +298,7 @@ fn play_all<P: Policy + Drop, R: Read, W: Write>(
     Err(ScriptFault::Read)
 }
 
-/// How many bytes were read into the buffer; none only where no byte is left.
+/// How many bytes were read into the buffer; none only if no byte is left.
 fn read_into<R: Read>(reader: &mut R, buffer: &mut [u8]) -> Result<usize, ScriptFault>
     requires { 0 < length buffer.old }
     ensures within { IfOk result (λ n. n ≤ length buffer.old) }

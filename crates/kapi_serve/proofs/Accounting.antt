@@ -34,7 +34,7 @@ account_same ds es ls ms visits_same talks_same a = record {
   theirs = subst (λ vs. AreTheirs vs a.given) (sym visits_same) a.theirs;
 }
 
--- the account holds where nothing comes
+-- the account holds if nothing comes
 holds_nothing : (n : ℕ) (s : List Seat) → Holds n s [] []
 unfolding visits talks present AreTheirs read_from accepted_by fed_to answered_to
 holds_nothing n s = record {
@@ -99,12 +99,12 @@ holds_ended n p x f b ds es ls ms up sits l h =
           ((passes c away).0 ∙ none.0, (passes c away).1 ∙ none.1);
     }
 
--- a choice is nothing, where it is nothing or the rest is
+-- a choice is nothing, if it is nothing or the rest is
 if_nothing : (b : Bool) (xs : List ℕ) → (b ≡ false → xs ≡ []) → (if b then [] else xs) ≡ []
 if_nothing true xs h = refl
 if_nothing false xs h = h refl
 
--- nothing is read from a slot where a client connects, nor from another of which nothing comes
+-- nothing is read from a slot if a client connects, nor from another of which nothing comes
 opened_nothing : (slot k : ℕ) (who : Identity) (es : List Entry) → ((slot == k) ≡ false → (read_from k es ≡ []) × (accepted_by k es ≡ []))
     → (read_from k (entry.Opened slot who ∷ es) ≡ []) × (accepted_by k (entry.Opened slot who ∷ es) ≡ [])
 unfolding read_from accepted_by

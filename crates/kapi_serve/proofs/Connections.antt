@@ -58,7 +58,7 @@ stays_both l m n one other = record { links = other.links ∙ one.links; next = 
 
 -- ---- no request
 
--- where a machine answers nothing, none does
+-- if a machine answers nothing, none does
 pub no_request : (id : ℕ) (l : Option Link) (m : Machine) → answer.Nothing ≡ (serve_step id l m).0 → HasNoRequest id l
 unfolding serve_step serve_beside serve_item after_serve
 no_request id None m h = λ n. refl

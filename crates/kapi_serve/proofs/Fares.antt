@@ -79,13 +79,13 @@ unfoldable pub AllFare : List Seat → List Entry → List Made → Type 0
 AllFare [] es ms = Unit {0}
 AllFare (x ∷ xs) es ms = Fares x es ms × AllFare xs es ms
 
--- a piece is the last one where the same is read last
+-- a piece is the last one if the same is read last
 one_by : (refused : List ℕ) (f : List ℕ → List Entry → List ℕ) (es ds : List Entry) → ((last : List ℕ) → f last es ≡ f last ds) → (refused ≡ []) ⊎ ((last : List ℕ) → refused ≡ f last es)
     → (refused ≡ []) ⊎ ((last : List ℕ) → refused ≡ f last ds)
 one_by refused f es ds same (inl none) = inl none
 one_by refused f es ds same (inr is) = inr (λ last. is last ∙ same last)
 
--- a client fares so where nothing comes
+-- a client fares so if nothing comes
 fares_nothing : (x : Seat) → Fares x [] []
 unfolding read_from accepted_by fed_to answered_to closes
 fares_nothing x = record { refused = []; read = refl; one = inl refl; only_closed = λ h. refl; left = x.owed; owed = append-nil x.owed }

@@ -1,4 +1,4 @@
--- What was read, accepted, fed and answered, where lists are joined.
+-- What was read, accepted, fed and answered, if lists are joined.
 use Rattle.std.proofs.Common.{◌≡◌, ℕ, ◌==◌, Bool, true, false, ◌||◌, if◌then◌else◌, List, [], ◌∷◌, ◌++◌, refl, sym, ap, ◌∙◌, append_assoc}
 use Rattle.std.proofs.lemmas.Bool.{eq-eqb, eqb-false, ne_eqb, or_parts}
 use Rattle.kapi_core.specs.declared.event.Answer.{Answer}
@@ -100,7 +100,7 @@ visits_on slot (entry.Ended s ∷ es) fs on = elim on [ ]
 
 -- ---- the end of a slot
 
--- after the end of a slot nothing comes of it, where nothing did before, and the other slots go on as before
+-- after the end of a slot nothing comes of it, if nothing did before, and the other slots go on as before
 pub read_end : (slot : ℕ) (b : Bool) (fs : List Entry) → read_from slot fs ≡ [] → read_from slot (end_of slot b ++ fs) ≡ []
 unfolding read_from
 read_end slot true fs none = rw (eq-eqb slot slot refl)

@@ -33,6 +33,6 @@ came_by ls os i slot happened below same at s identity said =
     subst (λ ds. (port : ℕ) × Has ds (port, identity)) same
     (has_door ls i identity below (λ d. same_identity (slice_index_or ls i d).identity identity slot s happened (at d) said))
 
--- a client came by a port, where the ports are the same
+-- a client came by a port, if the ports are the same
 pub came_same : (ls os : List Listener) (happened : Option PortEvent) → doors ls ≡ doors os → CameByDoor ls happened → CameByDoor os happened
 came_same ls os happened same came s identity said = subst (λ ds. (port : ℕ) × Has ds (port, identity)) same (came s identity said)

@@ -46,15 +46,15 @@ grows m (e ∷ es) = omega (arith, grows_by m e, grows (step m e).1 es)
 
 -- ---- answers
 
--- where lists are the same, their first elements are
+-- if lists are the same, their first elements are
 pub first_same : (x y : Answer) (xs ys : List Answer) → x ∷ xs ≡ y ∷ ys → x ≡ y
 first_same x y xs ys e = cc
 
--- where lists are the same, the rests of the lists are
+-- if lists are the same, the rests of the lists are
 pub rest_same : (x y : Answer) (xs ys : List Answer) → x ∷ xs ≡ y ∷ ys → xs ≡ ys
 rest_same x y xs ys e = cc
 
--- where all answers are the machine's, the later ones are those of the machine after the first
+-- if all answers are the machine's, the later ones are those of the machine after the first
 pub told_later : (m : Machine) (ms ns : List Made) → answers_of (ms ++ ns) ≡ answers m (events_of (ms ++ ns))
     → answers_of ns ≡ answers (after m (events_of ms)) (events_of ns)
 unfolding answers after

@@ -15,7 +15,7 @@ use Rattle.kapi_serve.specs.Private.Clients.{freed, freed_on, others, seat_of, s
 abbrev pub IsAt : ℕ → List Seat → List Seat → Seat → List Seat → Type 0
 IsAt index seats front x back = (seats ≡ front ++ x ∷ back) × (length front ≡ index)
 
--- the first client, or the given one where there is none
+-- the first client, or the given one if there is none
 abbrev head_of : Seat → List Seat → Seat
 head_of x [] = x
 head_of x (y ∷ ys) = y
@@ -107,7 +107,7 @@ freed_found (x ∷ xs) ds slot i is below holds =
     let p = position-Some (λ y. y.slot == slot) cs i c (sym is) in
     holds x ∙ freed_first cs slot i c p.0 (get_or_default cs i x c below) p.1 p.2
 
--- where no client is on a slot, none is freed
+-- if no client is on a slot, none is freed
 pub freed_none : (cs : List Client) (slot : ℕ) → IsFree slot (seats_of cs) → cs ≡ freed_on slot cs
 unfolding IsFree
 freed_none [] slot free = refl

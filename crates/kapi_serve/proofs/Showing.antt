@@ -7,7 +7,7 @@ use Rattle.kapi_desk.specs.Boards.{Board}
 use Rattle.kapi_desk.specs.Steps.{step_of}
 use Rattle.kapi_serve.specs.Publishes.{IsPrompt, Publishes, Takes, all_steps, unpublished}
 
--- nothing waits where none is pending
+-- nothing waits if none is pending
 pub none_waits : (ws : List (List PolicyChange)) (b : Bool) → ((b ≡ true) ↔ (0 < length ws)) → b ≡ false → ws ≡ []
 none_waits [] b iff off = refl
 none_waits (w ∷ ws) b iff off = let on : b ≡ true = iff.1 (omega arith) in absurd (cc)

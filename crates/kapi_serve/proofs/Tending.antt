@@ -339,7 +339,7 @@ passes_out a b e out = λ m r. (m, (out m r).0, stays_none m)
 pub owed_sent : (p : Pending) → IsSent p → owed p ≡ []
 owed_sent p sent = λ j. drop_all p.sent p.head sent.0 j ++ joined (sent.1 j)
 
--- where less than a mebibyte is owed, less is counted
+-- if less than a mebibyte is owed, less is counted
 under_limit : (p : Pending) → IsCounted p → length (owed p) < 1048576 → p.count < 1048576
 under_limit p counted less = omega (arith, counted, less)
 

@@ -64,7 +64,7 @@ visits (entry.Ended slot ∷ rest) = visits rest
 
 -- ---- what was made of the machine
 
--- what an event feeds to a connection, where it is taken in
+-- what an event feeds to a connection, if it is taken in
 abbrev pub fed_by : ConnId → Event → Answer → List ℕ
 fed_by conn (event.Feed c piece) answer.Done = if c.0 == conn.0 then piece else []
 fed_by conn _ _ = []
@@ -120,7 +120,7 @@ talks (m ∷ rest) = talk_if m.event m.answer rest ++ talks rest
 -- ---- the account
 
 -- a client's connection is opened for its identity; what was read from the client was fed to the connection, but for
--- the last piece, where it did not take that in, which closes it; what the client accepted is a beginning of what was
+-- the last piece, if it did not take that in, which closes it; what the client accepted is a beginning of what was
 -- answered
 pub record Fits (v : Visit) (t : Talk) : Type 0 where
   pub identity : v.identity ≡ t.identity

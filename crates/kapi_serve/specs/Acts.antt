@@ -52,7 +52,7 @@ pub record Deals (x y : Seat) (entries : List Entry) (made : List Made) : Type 0
   pub read : read_from x.slot entries ≡ fed_to x.conn made
   pub owed : x.owed ++ answered_to x.conn made ≡ accepted_by x.slot entries ++ y.owed
 
--- the end of a slot, or nothing where it is opened again
+-- the end of a slot, or nothing if it is opened again
 abbrev pub end_of : ℕ → Bool → List Entry
 end_of slot true = entry.Ended slot ∷ []
 end_of slot false = []

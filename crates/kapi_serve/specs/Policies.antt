@@ -9,7 +9,7 @@ use Rattle.kapi_desk.specs.Steps.{after}
 use Rattle.kapi_loading.specs.Loading.{Publishes}
 use Rattle.kapi_policy.specs.declared.change.PolicyChange.{PolicyChange}
 
--- where a desk had published the policy of the machine, each list of steps that was published since is the policy that
+-- if a desk had published the policy of the machine, each list of steps that was published since is the policy that
 -- the machine had after some of the events: a reader of the list decides as the machine did then
 abbrev pub PublishesPolicies : Running → Board → Board → List Event → Type 0
 PublishesPolicies core board next events =

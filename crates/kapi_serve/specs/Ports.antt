@@ -6,7 +6,7 @@ use Rattle.kapi_serve.specs.declared.port.PortEvent.{PortEvent}
 use Rattle.kapi_serve.specs.declared.port.PortEvent.TheVariants as event
 use Rattle.kapi_serve.specs.declared.port.PortFault.{PortFault}
 
--- what the calls on ports read and wrote so far, and evidence that all of them reported it, where they did
+-- what the calls on ports read and wrote so far, and evidence that all of them reported it, if they did
 pub record Report : Type 1 where
   pub tells : Type 0
   pub history : List Entry
@@ -15,7 +15,7 @@ pub record Report : Type 1 where
 abbrev pub untold : Report
 untold = record { tells = ⊥; history = [] }
 
--- where a call is reported, those before it were, and these entries were put behind the others
+-- if a call is reported, those before it were, and these entries were put behind the others
 abbrev pub Adds : Report → Report → List Entry → Type 0
 Adds old new entries = new.tells → old.tells × (new.history ≡ old.history ++ entries)
 

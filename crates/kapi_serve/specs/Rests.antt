@@ -13,7 +13,7 @@ use Rattle.kapi_serve.specs.Private.Pieces.{owed}
 abbrev pub IsAnswered : Machine → ConnId → Type 0
 IsAnswered m conn = (step m (event.Serve conn)).0 ≡ answer.Nothing
 
--- what a client is owed was offered to its slot, which takes no more now; where less than a mebibyte is owed, its
+-- what a client is owed was offered to its slot, which takes no more now; if less than a mebibyte is owed, its
 -- requests are answered, and it was closed if its bytes have ended; a closed one is there while its slot takes no bytes
 pub record Rests (m : Machine) (c : Client) : Type 0 where
   pub offered : c.blocked ≡ false → owed c.pending ≡ []

@@ -35,7 +35,7 @@ impl Awake {
         self.numbers.reserve(count.saturating_add(1))
     }
 
-    /// Takes a connection in, if it is not there. Nothing is allocated where there is room.
+    /// Takes a connection in, if it is not there. Nothing is allocated if there is room.
     pub(crate) fn add(&mut self, id: ConnId) -> Result<(), Memory>
         ensures there { OnOk result (Contains self.new.numbers.items id.0) }
         ensures others { (number : ℕ) → Has self.old.numbers.items number → Has self.new.numbers.items number }

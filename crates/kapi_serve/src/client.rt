@@ -105,7 +105,7 @@ impl Client {
         self.watching.is_none() || self.shown
     }
 
-    /// Whether the connection has a watch that is one of those; where there is no list of them, whether it has one.
+    /// Whether the connection has a watch that is one of those; if there is no list of them, whether it has one.
     fn is_called(&self, concerned: &Option<Vec<u64>>) -> bool
         ensures { result ≡ is_called_of (option_map (λ v. v.items) concerned.now) self.now.watching }
     {
@@ -126,7 +126,7 @@ impl Client {
         }
     }
 
-    /// The same as `is_called`, where the marks tell most of those that are not.
+    /// The same as `is_called`, if the marks tell most of those that are not.
     pub(crate) fn is_called_by(&self, marks: &[bool; MARKS], concerned: &Option<Vec<u64>>) -> bool
         requires { AreMarked (option_map (λ v. v.items) concerned.now) marks.now }
         ensures { result ≡ is_called_of (option_map (λ v. v.items) concerned.now) self.now.watching }

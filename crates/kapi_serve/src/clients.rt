@@ -101,7 +101,7 @@ impl Clients {
         }
     }
 
-    /// Opens a connection for a client; its slot is ended where there is no room for it.
+    /// Opens a connection for a client; its slot is ended if there is no room for it.
     pub(crate) fn open<P: Policy + Drop, Q: Ports>(
         &mut self,
         core: &mut Core<P>,
@@ -359,7 +359,7 @@ impl Clients {
         Progress::Made
     }
 
-    /// Wakes each connection whose watch is one of those, or each with a watch, where there is no list of them. False where
+    /// Wakes each connection whose watch is one of those, or each with a watch, if there is no list of them. False if
     /// memory does not suffice for all.
     fn rouse_all(&mut self, concerned: &Option<Vec<u64>>) -> bool
         ensures seats { seats_of self.new.list.items ≡ seats_of self.old.list.items }
@@ -378,7 +378,7 @@ impl Clients {
         all
     }
 
-    /// The place of the next connection, from a place on, whose watch is one of those, or which has one where there is no
+    /// The place of the next connection, from a place on, whose watch is one of those, or which has one if there is no
     /// list of them. Most watches see nothing of a change, so what is done for each of them is this look alone.
     #[tactic(auto, using(crate::proofs::Tending::called_kept))]
     fn first_called(
@@ -403,7 +403,7 @@ impl Clients {
         None
     }
 
-    /// The fingerprints of the watches that the changes since the last waking may concern, or none where all are to be woken:
+    /// The fingerprints of the watches that the changes since the last waking may concern, or none if all are to be woken:
     /// once in a while they are, so that none falls behind the changes that are kept.
     fn concerned<P: Policy + Drop>(&self, core: &Core<P>) -> Option<Vec<u64>>
         ensures { IfSome result (λ v. (m : Machine) → Refines core.now m → (id : ℕ) → is_concerned m id self.now.woken ≡ true → is_among v.items (concern_on (link_at id m)) ≡ true) }
@@ -414,7 +414,7 @@ impl Clients {
         core.concerned_after(self.woken)
     }
 
-    /// Wakes a connection whose watch is one of those, or which has one where there is no list of them. False where memory
+    /// Wakes a connection whose watch is one of those, or which has one if there is no list of them. False if memory
     /// does not suffice.
     #[tactic(auto, using(crate::proofs::Tending::called_set))]
     fn rouse(&mut self, index: usize) -> bool

@@ -6,7 +6,7 @@ ghost use Rattle.kapi_serve.specs.Private.ClientsMatch.{AreMarked};
 /// The number of marks.
 pub(crate) const MARKS: usize = 64;
 
-/// The marks of the fingerprints that are called: those of a list, or all where there is no list of them.
+/// The marks of the fingerprints that are called: those of a list, or all if there is no list of them.
 pub(crate) fn marks_of(concerned: &Option<Vec<u64>>) -> [bool; MARKS]
     ensures { AreMarked (option_map (λ v. v.items) concerned.now) result }
 {

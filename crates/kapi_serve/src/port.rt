@@ -46,13 +46,13 @@ pub trait Ports {
     ghost use Rattle.std.specs.Prelude.{ℕ};
     ghost use Rattle.kapi_serve.specs.Ports.{Report, untold};
 
-    /// What the calls read and wrote so far, with evidence that all of them reported it, where they did.
+    /// What the calls read and wrote so far, with evidence that all of them reported it, if they did.
     ghost report: { Self → Report } = { λ ports. untold };
 
     /// How often a slot has failed.
     ghost failures: { Self → ℕ };
 
-    /// The next event; none where there will be none any more.
+    /// The next event; none if there will be none any more.
     fn next(&mut self) -> Option<PortEvent>
         ensures told { Adds (report self.old) (report self.new) (opened result) };
 
@@ -69,8 +69,8 @@ pub trait Ports {
         ensures told { Adds (report self.old) (report self.new) (took slot bytes.now result) }
         ensures failed { result ≡ Err fault.Failed → failures self.old < failures self.new };
 
-    /// Whether a step of a slot that found no memory, so often in a row, may be made again: not yet where that would block,
-    /// and never where the slot is broken.
+    /// Whether a step of a slot that found no memory, so often in a row, may be made again: not yet if that would block,
+    /// and never if the slot is broken.
     fn retry(&mut self, _slot: usize, _refused: u32) -> Result<(), PortFault>
         ensures told { Adds (report self.old) (report self.new) [] }
         ensures failed { result ≡ Err fault.Failed → failures self.old < failures self.new }

@@ -71,7 +71,7 @@ impl Publishing {
         self.show(rt, desk, step);
     }
 
-    /// Publishes a step, or keeps it where the desk is out of memory.
+    /// Publishes a step, or keeps it if the desk is out of memory.
     #[tactic(auto, using(crate::proofs::Showing::shows_taken_or_kept))]
     fn show<R: Wait>(&mut self, rt: &R, desk: &mut Desk, step: PolicyStep)
         requires waiting { desk.old.waiting ≡ [] }
@@ -118,7 +118,7 @@ impl Publishing {
         progress
     }
 
-    /// Makes a turn, if one is due and may be made. Where there is no memory for it, it is tried again later.
+    /// Makes a turn, if one is due and may be made. If there is no memory for it, it is tried again later.
     fn make_turn<R: Wait, P: Policy + Drop>(
         &mut self,
         rt: &R,

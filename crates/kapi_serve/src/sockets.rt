@@ -90,7 +90,7 @@ impl<C: Clock + Drop> Sockets<C> {
         Ok(listened)
     }
 
-    /// Accepts one client, if one waits and a slot is free. Where none is, a client that takes nothing loses its slot.
+    /// Accepts one client, if one waits and a slot is free. If none is, a client that takes nothing loses its slot.
     fn accept(&mut self) -> Option<PortEvent>
         ensures doors { doors self.new.listeners.items ≡ doors self.old.listeners.items }
         ensures identity { CameByDoor self.old.listeners.items result }
@@ -109,7 +109,7 @@ impl<C: Clock + Drop> Sockets<C> {
         None
     }
 
-    /// Accepts a client of this listener; where none comes, the listener has no more turns in this round.
+    /// Accepts a client of this listener; if none comes, the listener has no more turns in this round.
     fn accept_or_pause(&mut self, index: usize, slot: usize) -> Option<PortEvent>
         requires listener { index < vec_len self.old.listeners }
         requires slot { slot < vec_len self.old.slots.streams }
@@ -201,7 +201,7 @@ impl<C: Clock + Drop> Sockets<C> {
         }
     }
 
-    /// The fault of a stream's error. A slot fails only where that can be counted.
+    /// The fault of a stream's error. A slot fails only if that can be counted.
     fn fault(&mut self, error: Option<io::Error>) -> PortFault
         ensures failed { result ≡ fault.Failed → self.old.failures < self.new.failures }
         ensures waits { (e : AnError) → error ≡ Some e → error_kind e ≡ kind.WouldBlock → result ≡ fault.WouldBlock }

@@ -17,7 +17,7 @@ const READ_SHARE: usize = 2_048;
 /// The number of bytes that are written to a client before the others have their turn.
 const WRITE_SHARE: usize = 32_768;
 
-/// The number of seconds that a client may take nothing of what is written to it, where others need its socket.
+/// The number of seconds that a client may take nothing of what is written to it, if others need its socket.
 const PATIENCE: u64 = 60;
 
 /// The socket of a client, and what is left of its share.

@@ -60,7 +60,7 @@ impl Read for Questions<'_> {
     }
 }
 
-/// A seat, and its reports; none where they could not be read.
+/// A seat, and its reports; none if they could not be read.
 #[derive(Drop)]
 struct Asked {
     seat: Seat,
@@ -81,7 +81,7 @@ fn ask(alloc: Global, mut seat: Seat, over: &AtomicBool) -> Asked {
     Asked { seat, told }
 }
 
-/// The number at the front of a line, where the line is the report for ann after so many changes.
+/// The number at the front of a line, if the line is the report for ann after so many changes.
 fn number_of(line: &str) -> Option<u64> {
     let (number, decision) = line.split_once(' ')?;
     let number = number.parse::<u64>().ok()?;

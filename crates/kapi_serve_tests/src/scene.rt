@@ -76,7 +76,7 @@ impl Part {
         )
     }
 
-    /// The reply to the object's deletion, where its creation had this revision.
+    /// The reply to the object's deletion, if its creation had this revision.
     fn deleted(&self, alloc: Global, revision: u64) -> Result<String, AllocError> {
         let (resource, name) = (self.resource, self.name);
         let body = format!(in alloc;

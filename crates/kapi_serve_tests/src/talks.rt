@@ -31,7 +31,7 @@ fn answers_are_written(rt: HostRuntime) -> Result<(), Fail> {
     Ok(())
 }
 
-/// The number of clients that got a true beginning of the whole; 3 where some client got other bytes.
+/// The number of clients that got a true beginning of the whole; 3 if some client got other bytes.
 fn cut_short(whole: &Memory, ports: &Memory) -> u32 {
     let mut count = 0u32;
     for slot in 0..2 {

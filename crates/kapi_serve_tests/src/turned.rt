@@ -124,7 +124,7 @@ fn turns_are_shown_to_a_watcher_and_to_who_asks(rt: HostRuntime) -> Result<(), F
 /// The least number of calls on the ports in `watched`.
 const CALLS: usize = 12;
 
-/// Which of so many calls change what is got where they have this mishap.
+/// Which of so many calls change what is got if they have this mishap.
 fn changed_by<R: Wait>(
     alloc: Global,
     rt: &R,

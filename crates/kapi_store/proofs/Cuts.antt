@@ -12,7 +12,7 @@ use Rattle.kapi_store.specs.Private.Cut.{HasOther, is_digit, is_near, past_digit
 
 -- ---- a part that stands once in a text
 
--- where the first and the last place of a part are one, it is each place of it
+-- if the first and the last place of a part are one, it is each place of it
 pub around_one : (s part front back a b : List ℕ) (last : ℕ) → SplitsAroundMatch (FindsText part) s front back → MatchBeginsAt (RFindsText part) s last
     → last ≡ length front → s ≡ a ++ (part ++ b) → (front ≡ a) × (back ≡ b)
 around_one s part front back a b last first end same is =

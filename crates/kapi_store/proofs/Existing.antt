@@ -42,7 +42,7 @@ exists_beside p q (Some name) k x made h =
     let test = is_key (namespace_key name) in
     ap (λ os. is_some (lookup test os)) made ∙ inserted_there key_cmp test k x p.objects h
 
--- after a change of one object: where that is removed, none is known
+-- after a change of one object: if that is removed, none is known
 pub exists_after : (p q : Plain) (before after : Option (List ℕ)) (k : Key) (o : Option StoredObject) → q.objects ≡ placed k (option_map stored_tree o) p.objects
     → (o ≡ None → after ≡ None) → ((x : StoredObject) → o ≡ Some x → after ≡ before) → Exists before p → Exists after q
 exists_after p q before after k None made removed stays h =

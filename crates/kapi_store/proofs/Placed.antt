@@ -1,4 +1,4 @@
--- What becomes of a hidden slot where something is placed.
+-- What becomes of a hidden slot if something is placed.
 use Rattle.std.proofs.Common.{◌≡◌, Bool, true, false, cond, List, [], ◌∷◌, Option, None, Some, IsSome, option_map, refl, sym, ap, ◌∙◌, subst}
 use Rattle.std.specs.List.Sorted.{IsStrictlySortedBy}
 use Rattle.std.specs.Cmp.{IsEquivalence, eq_by_cmp_equiv}

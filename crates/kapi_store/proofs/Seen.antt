@@ -38,7 +38,7 @@ module _ {X : Type 0} where
       empty true is none = hidden_is hidden e.0 is
       empty false is none = absurd (cc none)
 
-  -- a key has a slot where it is seen to have one
+  -- a key has a slot if it is seen to have one
   pub seen_slot : (hidden : Option Hidden) (k : Key) (es : List (Key × X)) → is_some (lookup (is_key k) (map (seen hidden) es)) ≡ is_some (lookup (is_key k) es)
   seen_slot hidden k [] = refl
   seen_slot hidden k (e ∷ es) =

@@ -83,7 +83,7 @@ module _ {X : Type 0} where
   lookup_visible hidden k es =
       lookup-filter-keys (is_key k) (λ l. not (hides hidden l)) (not (hides hidden k)) (λ l is. ap (λ q. not (hides hidden q)) (sym (same_key k l is))) es
 
-  -- where a visible entry is, there is its slot, which is not hidden
+  -- if a visible entry is, there is its slot, which is not hidden
   pub slot_there : (hidden : Option Hidden) (k : Key) (x : X) (es : List (Key × X)) → lookup (is_key k) (visible hidden es) ≡ Some x → IsSome (lookup (is_key k) es) × (hides hidden k ≡ false)
   slot_there hidden k x es is =
       elim (hides hidden k) as (λ b. cond (not b) (lookup (is_key k) es) None ≡ Some x → IsSome (lookup (is_key k) es) × (b ≡ false)) [
@@ -91,13 +91,13 @@ module _ {X : Type 0} where
         | false ↦ λ e. (let P : Option X → Type 0 = λ o. IsSome o in subst P (sym e) refl, refl)
       ] (sym (lookup_visible hidden k es) ∙ is)
 
-  -- where no slot is hidden, all are visible
+  -- if no slot is hidden, all are visible
   pub all_visible : (es : List (Key × X)) → visible None es ≡ es
   unfolding visible
   all_visible [] = refl
   all_visible (e ∷ es) = ap (λ os. e ∷ os) (all_visible es)
 
-  -- where the hidden key has no slot, all are visible
+  -- if the hidden key has no slot, all are visible
   visible_absent : (h : Hidden) (es : List (Key × X)) → lookup (is_key h.key) es ≡ None → visible (Some h) es ≡ es
   unfolding visible
   visible_absent h [] none = refl

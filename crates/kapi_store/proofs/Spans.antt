@@ -90,7 +90,7 @@ first_below_end row [] name = rw (same row.group, after_is_past row.plural) refl
 first_below_end row (b ∷ bs) [] = rw (same row.group, same row.plural, after_is_past (b ∷ bs)) refl
 first_below_end row (b ∷ bs) (c ∷ cs) = rw (same row.group, same row.plural, same (b ∷ bs), after_is_past (c ∷ cs)) refl
 
--- a test that fails where another does
+-- a test that fails if another does
 fails_too : (a b : Bool) → (a ≡ true → b ≡ true) → b ≡ false → a ≡ false
 fails_too true b h k = absurd (cc (h refl, k))
 fails_too false b h k = refl

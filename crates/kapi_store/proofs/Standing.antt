@@ -56,7 +56,7 @@ any_trees : (p : Key → Bool) (os : List (Key × StoredObject)) → list_any (�
 any_trees p [] = refl
 any_trees p (e ∷ os) = ap (λ b. p e.0 || b) (any_trees p os)
 
--- a namespace holds an object where it holds one of a resource type
+-- a namespace holds an object if it holds one of a resource type
 pub holds_by_rows : (s : State) (namespace : List ℕ) → list_any (row_holds (objects s) namespace) s.table ≡ holds_objects (plain_of s) namespace
 holds_by_rows s namespace =
     all_rows namespace s.table (objects s) ∙ any_trees (λ k. is_namespaced s.table k && bytes_eq k.namespace namespace) (objects s)

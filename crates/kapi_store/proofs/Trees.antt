@@ -55,7 +55,7 @@ placed_all_trees (c ∷ cs) os =
 pub lookup_trees : (k : Key) (os : List (Key × StoredObject)) → lookup (is_key k) (trees os) ≡ option_map stored_tree (lookup (is_key k) os)
 lookup_trees k os = lookup-map_values stored_tree (is_key k) os
 
--- an object is there where its tree is
+-- an object is there if its tree is
 pub has_object_trees : (k : Key) (os : List (Key × StoredObject)) → is_some (lookup (is_key k) (trees os)) ≡ is_some (lookup (is_key k) os)
 has_object_trees k os = ap is_some (lookup_trees k os) ∙ is_some_map (lookup (is_key k) os)
   where

@@ -12,7 +12,7 @@ use Rattle.kapi_model.specs.declared.selector.Selector.{Selector}
 use Rattle.kapi_store.specs.declared.key.Key.{Key}
 use Rattle.kapi_store.specs.declared.listing.Listed.{Listed}
 
--- a text is the one that is asked for; where an empty text is asked for, any text is
+-- a text is the one that is asked for; if an empty text is asked for, any text is
 abbrev pub is_asked : List ℕ → List ℕ → Bool
 is_asked [] text = true
 is_asked (b ∷ bs) text = bytes_eq (b ∷ bs) text

@@ -73,7 +73,7 @@ pub record RefinesPlain (s : State) (history : List PlainChange) (p : Plain) : T
 abbrev pub window_start : Plain → ℕ
 window_start s = max (s.revision - window_limit) s.first
 
--- the changes of a history after a revision; none where some of them may be kept no longer (Kubernetes, 'Efficient
+-- the changes of a history after a revision; none if some of them may be kept no longer (Kubernetes, 'Efficient
 -- detection of changes': 410 Gone)
 unfoldable pub changes_after : List PlainChange → Plain → ℕ → Result (List PlainChange) (Unit {0})
 changes_after history s revision =
@@ -88,7 +88,7 @@ has_object k s = is_some (lookup (is_key k) s.objects)
 abbrev pub is_namespaced : List ResourceRow → Key → Bool
 is_namespaced table k = list_any (λ row. bytes_eq row.group k.group && (bytes_eq row.plural k.resource && row.namespaced)) table
 
--- whether the key's namespace exists, where it is in one
+-- whether the key's namespace exists, if it is in one
 unfoldable pub has_namespace : Key → Plain → Bool
 has_namespace k s = if is_namespaced s.table k then has_object (namespace_key k.namespace) s else true
 
@@ -133,7 +133,7 @@ replaceable s k version = admitted (lookup (is_key k) s.objects) version
 abbrev pub replacement_at : Key → Data → Data → ℕ → PlainChange
 replacement_at k old tree revision = record { revision = revision; key = k; old = Some old; new = Some (replaced_tree revision old tree) }
 
--- the changes of a replacement of the stored tree: none where the new tree, with the old stamps, equals the stored one
+-- the changes of a replacement of the stored tree: none if the new tree, with the old stamps, equals the stored one
 abbrev pub replaced : Plain → Key → Data → Data → Result (List PlainChange) StoreFault
 replaced s k tree old =
     if same_tree (with_stamps_of old tree) old then Ok [] else

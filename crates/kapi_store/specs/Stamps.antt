@@ -19,7 +19,7 @@ uid_of revision = codes "00000000-0000-4000-8000-" ++ hex_digits 12 revision
 abbrev pub created_tree : ℕ → Data → Data
 created_tree revision tree = stamped_tree (uid_of revision) (decimal revision) tree
 
--- the text at a key of a tree's metadata; empty where there is none
+-- the text at a key of a tree's metadata; empty if there is none
 abbrev pub metadata_text : List ℕ → Data → List ℕ
 metadata_text key tree = unwrap_or (option_and_then as_str (in_metadata key tree)) []
 
@@ -31,7 +31,7 @@ uid_in tree = metadata_text (codes "uid") tree
 abbrev pub version_in : Data → List ℕ
 version_in tree = metadata_text (codes "resourceVersion") tree
 
--- a tree where nothing else is changed: with the old one's unique id and version
+-- a tree if nothing else is changed: with the old one's unique id and version
 abbrev pub with_stamps_of : Data → Data → Data
 with_stamps_of old tree = stamped_tree (uid_in old) (version_in old) tree
 

@@ -21,7 +21,7 @@ pub record State : Type 0 where
   pub window : List Change
 
 module _ {K X : Type 0} where
-  -- an entry in front, where its slot is not empty
+  -- an entry in front, if its slot is not empty
   abbrev pub held : K → Option X → List (K × X) → List (K × X)
   held k None os = os
   held k (Some x) os = (k, x) ∷ os
@@ -48,7 +48,7 @@ pub record Same (s t : State) : Type 0 where
   pub table : t.table ≡ s.table
   pub first : t.first ≡ s.first
 
--- the first change's key has a slot, where the change leaves an object
+-- the first change's key has a slot, if the change leaves an object
 unfoldable pub HasSlot : List (Key × Option StoredObject) → List Change → Type 0
 HasSlot slots [] = Unit {0}
 HasSlot slots (c ∷ cs) = IsSome c.new → IsSome (lookup (is_key c.key) slots)

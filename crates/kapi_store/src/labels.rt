@@ -38,7 +38,7 @@ fn labels_among_members(alloc: Global, members: &Map<String, Value>) -> Result<V
     Ok(labels)
 }
 
-/// The labels of a tree that are texts, in the order of their keys; allocates nothing where there is none.
+/// The labels of a tree that are texts, in the order of their keys; allocates nothing if there is none.
 pub(crate) fn labels_of(alloc: Global, tree: &Value) -> Result<Sequence<Label>, Memory>
     ensures { IfOk result (λ s. s ≡ labels_of_tree (view tree.now)) }
 {

@@ -32,7 +32,7 @@ pub(crate) struct Selection<'a> {
     pub name: &'a str,
 }
 
-/// Whether a text is the one that is asked for; where an empty text is asked for, any text is.
+/// Whether a text is the one that is asked for; if an empty text is asked for, any text is.
 pub fn is_asked(asked: &str, text: &Text) -> bool
     ensures { result ≡ is_asked_of asked.now text.now }
 {

@@ -123,7 +123,7 @@ pub fn is_known(known: &Option<Text>, namespace: &Text) -> bool
     }
 }
 
-/// Keeps the name of the key's namespace, which exists, where the key is in one.
+/// Keeps the name of the key's namespace, which exists, if the key is in one.
 pub fn keep_namespace(
     alloc: Global,
     table: &[ResourceRow],
@@ -138,7 +138,7 @@ pub fn keep_namespace(
     Ok(())
 }
 
-/// Forgets the namespace that is known to exist where a change removes an object, which it may be.
+/// Forgets the namespace that is known to exist if a change removes an object, which it may be.
 pub fn forget_if_removed(known: &mut Option<Text>, change: &Change)
     ensures removed { change.now.new ≡ None → known.new ≡ None }
     ensures stays { (o : StoredObject) → change.now.new ≡ Some o → known.new ≡ known.old }

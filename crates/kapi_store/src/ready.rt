@@ -16,7 +16,7 @@ pub struct Ready {
     list: Vec<Change>,
     /// The map's share of the first change's new object; no other change has a new object.
     kept: Option<Shared>,
-    /// The first change's new object as a tree, where there is one: so the policy need not read its text.
+    /// The first change's new object as a tree, if there is one: so the policy need not read its text.
     tree: Option<Object>,
 }
 
@@ -69,7 +69,7 @@ impl Ready {
         }
     }
 
-    /// The object that the first change leaves, as a tree; none where it leaves none.
+    /// The object that the first change leaves, as a tree; none if it leaves none.
     pub fn left(&self) -> Option<&Object>
         ensures { IsLeft (option_copied result) self.now }
     {

@@ -63,7 +63,7 @@ pub fn share_at(
     }
 }
 
-/// Shows the hidden slot where it is that of the key, and gives its object.
+/// Shows the hidden slot if it is that of the key, and gives its object.
 fn reveal(hidden: &mut Option<Hidden>, key: &Key) -> Option<Shared>
     ensures shown { hides hidden.old key.now ≡ true → (hidden.new ≡ None) × (result ≡ option_map (λ h. h.object) hidden.old) }
     ensures other { hides hidden.old key.now ≡ false → (hidden.new ≡ hidden.old) × (result ≡ None) }
@@ -99,7 +99,7 @@ fn fill_slot(slots: &mut BTreeMap<Key, Shared>, key: &Key, object: Shared)
     *slot = object;
 }
 
-/// Puts the object into its slot, or takes the slot out where there is no object. A hidden slot is shown: where it holds
+/// Puts the object into its slot, or takes the slot out if there is no object. A hidden slot is shown: if it holds
 /// the object already, nothing else is done.
 #[tactic(auto, unfolding(crate::specs::Changes::placed))]
 pub fn place(
@@ -135,7 +135,7 @@ fn sweep(slots: &mut BTreeMap<Key, Shared>, hidden: Option<Hidden>)
     }
 }
 
-/// Makes a hidden slot for a new object at the key, where no object is, in place of the slot that an earlier write left
+/// Makes a hidden slot for a new object at the key, if no object is, in place of the slot that an earlier write left
 /// hidden. The objects stay.
 pub fn reserve_slot(
     alloc: Global,

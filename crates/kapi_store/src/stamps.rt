@@ -48,7 +48,7 @@ pub(crate) fn created(alloc: Global, object: Object, revision: u64) -> Result<Wr
     Written::stamped(alloc, object, revision, revision)
 }
 
-/// The object where nothing else is changed: with the old one's unique id and version.
+/// The object if nothing else is changed: with the old one's unique id and version.
 pub fn with_stamps_of(alloc: Global, object: Object, old: &Shared) -> Result<Object, Memory>
     ensures { IfOk result (λ o. tree_of o ≡ with_stamps_of_tree (stored_tree old.now) (tree_of object)) }
 {
@@ -90,7 +90,7 @@ fn in_place_of(
     Ok(written)
 }
 
-/// The object in the place of the old one, at the version of a revision; none where all else of it is that of the old
+/// The object in the place of the old one, at the version of a revision; none if all else of it is that of the old
 /// one. Texts that differ in more than a number tell so at once, and the object is written once.
 pub(crate) fn replacing(
     alloc: Global,

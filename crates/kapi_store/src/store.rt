@@ -142,7 +142,7 @@ impl Store {
         }
     }
 
-    /// The objects of a resource that are in the namespace and of the name, or in all and of any where the text is
+    /// The objects of a resource that are in the namespace and of the name, or in all and of any if the text is
     /// empty, and whose labels the selector matches (Kubernetes, 'Labels and Selectors'), in the order of their keys.
     ///
     /// The call reads the objects between the first and the last key that may be listed, and no others. For a resource
@@ -167,7 +167,7 @@ impl Store {
         selection.list_in(self.alloc, &self.slots, &self.hidden)
     }
 
-    /// The revision of the last change, or the first one where there is none. Allocates nothing.
+    /// The revision of the last change, or the first one if there is none. Allocates nothing.
     pub fn revision(&self) -> u64
         ensures number { result ≡ self.now.revision }
         ensures store { IsStore self.now }
@@ -182,7 +182,7 @@ impl Store {
         self.first.max(self.revision.saturating_sub(WINDOW as u64))
     }
 
-    /// The changes after a revision, the oldest first; none where some of them may be kept no longer: where the
+    /// The changes after a revision, the oldest first; none if some of them may be kept no longer: if the
     /// revision is below the first one, or below the current one less `WINDOW`. Allocates nothing.
     pub fn changes_after(&self, revision: u64) -> Result<Changes<'_>, TooOld>
         ensures too_old { IsErr result ↔ (revision < max (self.now.revision - window_limit) self.now.first) }
@@ -207,7 +207,7 @@ impl Store {
         self.get(key).is_some()
     }
 
-    /// Whether the key's namespace exists, where it is in one.
+    /// Whether the key's namespace exists, if it is in one.
     #[tactic(auto, unfolding(crate::specs::Plain::has_namespace))]
     pub fn has_namespace(&self, key: &Key) -> Result<bool, Memory>
         ensures { IfOk result (λ b. b ≡ has_namespace_of key.now (plain_of self.now)) }
@@ -218,7 +218,7 @@ impl Store {
         Ok(self.has_object(&Key::of_namespace(self.alloc, &key.namespace)?))
     }
 
-    /// Checks that an object can be created at the key; refused, in this order, where its namespace is missing
+    /// Checks that an object can be created at the key; refused, in this order, if its namespace is missing
     /// (`NoNamespace`) and where an object is at the key (`Exists`).
     #[tactic(auto, unfolding(crate::specs::Plain::free_place))]
     pub fn check_place(&self, key: &Key) -> Result<(), StoreError>
@@ -245,7 +245,7 @@ impl Store {
         Ok(())
     }
 
-    /// The object at the key, which a write with this given version may replace; refused, in this order, where there
+    /// The object at the key, which a write with this given version may replace; refused, in this order, if there
     /// is none (`Missing`) and where the version is no text, or a text that is neither empty nor the current version
     /// (`Conflict`).
     pub fn replaceable(&self, key: &Key, given: &GivenText) -> Result<&Shared, StoreError>
@@ -261,8 +261,8 @@ impl Store {
     /// Prepares the creation of an object: makes every allocation that it needs, and leaves objects, revision and
     /// changes.
     ///
-    /// The object gets the uid and the resourceVersion of the next revision. Refused, in this order, where its
-    /// namespace is missing (`NoNamespace`), where an object is at the key (`Exists`), and where no revision
+    /// The object gets the uid and the resourceVersion of the next revision. Refused, in this order, if its
+    /// namespace is missing (`NoNamespace`), if an object is at the key (`Exists`), and where no revision
     /// is left (`RevisionsUsedUp`).
     pub fn create(&mut self, key: Key, object: Object) -> Result<Ready, StoreError>
         ensures gives { Gives fault_of (map plain_change) result (creation (plain_of self.old) key (tree_of object)) }
@@ -291,9 +291,9 @@ impl Store {
 
     /// Prepares the replacement of the object at the key: makes every allocation that it needs, and changes nothing.
     ///
-    /// The new object gets the old one's uid and the next revision as its resourceVersion. Where it is the old object
+    /// The new object gets the old one's uid and the next revision as its resourceVersion. If it is the old object
     /// but for uid and resourceVersion, nothing would change: the write then has no changes and takes no revision.
-    /// Refused, in this order, where no object is at the key (`Missing`), where the object's own resourceVersion does
+    /// Refused, in this order, if no object is at the key (`Missing`), if the object's own resourceVersion does
     /// not admit the write (`Conflict`), and where no revision is left for a change (`RevisionsUsedUp`).
     pub fn replace(&self, key: Key, object: Object) -> Result<Ready, StoreError>
         ensures gives { Gives fault_of (map plain_change) result (replacement (plain_of self.now) key (tree_of object)) }
@@ -390,7 +390,7 @@ impl Store {
         keys.iter().all(|key| self.has_object(key))
     }
 
-    /// Checks that the objects at the keys can be removed; refused, in this order, where one of them does not exist
+    /// Checks that the objects at the keys can be removed; refused, in this order, if one of them does not exist
     /// (`Missing`) and where one is a namespace that holds an object (`NamespaceNotEmpty`).
     #[tactic(auto, unfolding(crate::specs::Plain::removable))]
     fn check_removal(&self, keys: &[Key]) -> Result<(), StoreError>
@@ -408,7 +408,7 @@ impl Store {
     /// Prepares the removal of the objects at the keys, one revision each: makes every allocation that it needs, and
     /// changes nothing. The empty list changes nothing.
     ///
-    /// Refused, in this order, where one of the objects does not exist (`Missing`), where one is a namespace that
+    /// Refused, in this order, if one of the objects does not exist (`Missing`), if one is a namespace that
     /// holds an object, be it one of those to be removed (`NamespaceNotEmpty`), and where fewer revisions are left
     /// than there are keys (`RevisionsUsedUp`).
     pub fn remove(&self, keys: Vec<Key>) -> Result<Ready, StoreError>

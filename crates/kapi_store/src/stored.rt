@@ -184,7 +184,7 @@ impl StoredObject {
         self.labels.as_slice()
     }
 
-    /// The rule by which the object takes rules from others, where it is such a cluster role; allocates nothing.
+    /// The rule by which the object takes rules from others, if it is such a cluster role; allocates nothing.
     pub fn aggregation_rule(&self) -> Option<&AggregationRule>
         ensures { option_copied result ≡ aggregation_in (stored_tree self.now) }
     {

@@ -45,7 +45,7 @@ impl Window {
         })
     }
 
-    /// Keeps one change more, in the place of the oldest where the ring is full. Allocates nothing.
+    /// Keeps one change more, in the place of the oldest if the ring is full. Allocates nothing.
     pub(crate) fn note(&mut self, change: Change)
         ensures { self.new ≡ last_of WINDOW (self.old ++ change ∷ []) }
     {

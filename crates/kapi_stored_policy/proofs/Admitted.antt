@@ -159,7 +159,7 @@ skips q k d ms h =
 other_than : (q k l : List ℕ) → bytes_eq q k ≡ false → bytes_eq k l ≡ true → bytes_eq q l ≡ false
 other_than q k l h is = ap (bytes_eq q) (sym ((bytes_eq-Decides k l).0 is)) ∙ h
 
--- another member stays where one is taken out
+-- another member stays if one is taken out
 pub without_other : (q k : List ℕ) (ms : Members) → bytes_eq q k ≡ false → get_member q (without k ms) ≡ get_member q ms
 without_other q k no_members h = refl
 without_other q k (member l d ms) h = by_case (bytes_eq k l) refl (without_other q k ms h)

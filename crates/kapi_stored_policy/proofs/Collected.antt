@@ -19,7 +19,7 @@ below_all k l is [] h = tt
 below_all k l is (y ∷ ys) h = (key_total.trans k l y is h.0, below_all k l is ys h.1)
 
 module _ {K X : Type 0} (pick : Key → Option K) (read : Data → X) where
-  -- ---- where the key is no place of the kind
+  -- ---- if the key is no place of the kind
 
   -- two entries of one key
   skipped : (k l : Key) → key_cmp k l ≡ Equal → pick k ≡ None → (x : X) (es : List (K × X)) → entry_if (pick l) x es ≡ es
@@ -50,7 +50,7 @@ module _ {K X : Type 0} (pick : Key → Option K) (read : Data → X) where
 -- places are in the order of the keys at which they are
 module _ {K X : Type 0} (pick : Key → Option K) (read : Data → X) (cmp : K → K → Ordering)
     (keeps : (k l : Key) (q r : K) → pick k ≡ Some q → pick l ≡ Some r → cmp q r ≡ key_cmp k l) where
-  -- ---- where the key is a place of the kind
+  -- ---- if the key is a place of the kind
 
   above : (k : Key) (q : K) → pick k ≡ Some q → (os : List (Key × Data)) → AllByRecursion (λ l. key_cmp k l ≡ Less) (keys_of os)
       → AllByRecursion (λ r. cmp q r ≡ Less) (keys_of (collected pick read os))

@@ -44,7 +44,7 @@ nothing [] h = refl
 nothing (b ∷ s) h = absurd (let never = sym (eqb-suc-zero (length s)) ∙ h in cc never)
 
 module _ (k : Key) (of : PolicyKind) (group : k.group ≡ rbac_group) where
-  -- the key's group, resource and namespace, where it is of that kind
+  -- the key's group, resource and namespace, if it is of that kind
   is_one : (one : PolicyKind) → Some one ≡ Some of → k.resource ≡ resource_of one → IsIn one k.namespace → IsPlace of k
   is_one one h resource inside = let P : PolicyKind → Type 0 = λ p. IsPlace p k in let it : one ≡ of = cc h in subst P it (group, resource, inside)
 

@@ -125,6 +125,6 @@ pub stored_reads : {X : Type 0} (f : Data → X) (os : List (Key × Data)) (k : 
 stored_reads f os k of d h is at =
     let P : Option PolicyKind → Type 0 = λ o. IsSoundAt o d in sound_reads f of d (subst P at (found_sound k os d h is))
 
--- an object of a resource type has no faults where its kind is stored
+-- an object of a resource type has no faults if its kind is stored
 pub object_sound : (row : ResourceRow) (of : PolicyKind) (d : Data) → row.schema ≡ schema_of of → IsObjectOf row d → IsSoundAt (Some of) d
 object_sound row of d is h = ap (λ s. faults_on s d) (sym is) ∙ h.clean

@@ -21,7 +21,7 @@ use Rattle.kapi_stored_policy.specs.declared.kind.PolicyKind.TheVariants as kind
 -- ---- the policy
 
 module _ {K X : Type 0} where
-  -- an entry in front, where there is a place
+  -- an entry in front, if there is a place
   abbrev pub entry_if : Option K → X → List (K × X) → List (K × X)
   entry_if None x es = es
   entry_if (Some k) x es = (k, x) ∷ es
@@ -31,39 +31,39 @@ module _ {K X : Type 0} where
   collected place read [] = []
   collected place read (e ∷ os) = entry_if (place e.0) (read e.1) (collected place read os)
 
--- the place of a role, where the kind is that of roles
+-- the place of a role, if the kind is that of roles
 abbrev pub role_at : Option PolicyKind → Key → Option NamespacedName
 role_at (Some kind.Role) k = Some (place_of k)
 role_at _ k = None
 
--- the place of a role binding, where the kind is that of role bindings
+-- the place of a role binding, if the kind is that of role bindings
 abbrev pub role_binding_at : Option PolicyKind → Key → Option NamespacedName
 role_binding_at (Some kind.RoleBinding) k = Some (place_of k)
 role_binding_at _ k = None
 
--- the name of a cluster role, where the kind is that of cluster roles
+-- the name of a cluster role, if the kind is that of cluster roles
 abbrev pub cluster_role_at : Option PolicyKind → Key → Option (List ℕ)
 cluster_role_at (Some kind.ClusterRole) k = Some k.name
 cluster_role_at _ k = None
 
--- the name of a cluster role binding, where the kind is that of cluster role bindings
+-- the name of a cluster role binding, if the kind is that of cluster role bindings
 abbrev pub cluster_role_binding_at : Option PolicyKind → Key → Option (List ℕ)
 cluster_role_binding_at (Some kind.ClusterRoleBinding) k = Some k.name
 cluster_role_binding_at _ k = None
 
--- the place of a role, where the key is one of a role
+-- the place of a role, if the key is one of a role
 abbrev pub role_place : Key → Option NamespacedName
 role_place k = role_at (policy_kind k) k
 
--- the place of a role binding, where the key is one of a role binding
+-- the place of a role binding, if the key is one of a role binding
 abbrev pub role_binding_place : Key → Option NamespacedName
 role_binding_place k = role_binding_at (policy_kind k) k
 
--- the name of a cluster role, where the key is one of a cluster role
+-- the name of a cluster role, if the key is one of a cluster role
 abbrev pub cluster_role_place : Key → Option (List ℕ)
 cluster_role_place k = cluster_role_at (policy_kind k) k
 
--- the name of a cluster role binding, where the key is one of a cluster role binding
+-- the name of a cluster role binding, if the key is one of a cluster role binding
 abbrev pub cluster_role_binding_place : Key → Option (List ℕ)
 cluster_role_binding_place k = cluster_role_binding_at (policy_kind k) k
 
@@ -97,7 +97,7 @@ abbrev pub change_at : PolicyKind → Key → Option Data → PolicyChange
 change_at of k (Some tree) = change.Put (put_at of k tree)
 change_at of k None = change.Delete (key_at of k)
 
--- what a write that leaves a tree, or none, changes at a key: nothing where the key is no place of a policy object
+-- what a write that leaves a tree, or none, changes at a key: nothing if the key is no place of a policy object
 abbrev pub changes_at : Option PolicyKind → Key → Option Data → List PolicyChange
 changes_at (Some of) k left = change_at of k left ∷ []
 changes_at None k left = []

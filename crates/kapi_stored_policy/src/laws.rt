@@ -55,7 +55,7 @@ pub fn an_object_is_sound_at_its_place()
     ensures { (row : ResourceRow) (of : PolicyKind) (tree : Data) → row.schema ≡ schema_of of → IsObjectOf row tree → IsSoundAt (Some of) tree }
 {}
 
-/// No write of the store leaves a role or binding with faults, where none had any and what is written has none.
+/// No write of the store leaves a role or binding with faults, if none had any and what is written has none.
 #[tactic(auto, using(crate::proofs::Sound::creation_sound, crate::proofs::Sound::replacement_sound, crate::proofs::Sound::removal_sound))]
 pub fn writes_leave_roles_and_bindings_sound()
     ensures creation { (s : Plain) (k : Key) (tree : Data) → AreSound s.objects → IsSoundAt (policy_kind k) tree

@@ -22,7 +22,7 @@ use Rattle.kapi_reviews.specs.declared.question.Question.{Question}
 abbrev pub entry_of : List ℕ → List ℕ → List ℕ
 entry_of resource subresource = if length subresource == 0 then resource else resource ++ 47 ∷ subresource
 
--- that name; all names where the request has none
+-- that name; all names if the request has none
 abbrev pub names_used : List ℕ → Names
 names_used name = if length name == 0 then names.All else names.One name
 

@@ -246,7 +246,7 @@ fn push_event(alloc: Global, uses: &mut Vec<Question>, line: &Line<'_>) -> Resul
 /// The uses that the lines of an audit log show, in their order.
 ///
 /// # Errors
-/// `Question` at the first line that is no event, `Memory` where memory runs out.
+/// `Question` at the first line that is no event, `Memory` if memory runs out.
 pub fn read_events(alloc: Global, lines: &[Line<'_>]) -> Result<Vec<Question>, LineFault>
     ensures { Gives fault_told (λ v. v.items) result (shows.uses_in [] (map line_of lines.now)) }
 {

@@ -29,7 +29,7 @@ pub fn every_use_is_allowed()
 {}
 
 /// Every policy that allows all uses allows what is suggested: those of an identity that is in each group in which its user used
-/// something, where no rule lists the empty name.
+/// something, if no rule lists the empty name.
 pub fn less_would_not_do()
     ensures given { (uses : List Question) (other : PolicyObjects) (identity : Identity) (namespace : List ℕ) (p : Point)
         → ArePlain uses → Allows other uses → ListsNoEmptyName other → HasItsGroups uses identity → HasPlainResource p

@@ -1,13 +1,13 @@
 -- The result of a fallible call: that of its definition, unless it is out of memory.
 use Rattle.std.specs.Prelude.{◌≡◌, Option, Some, None, Result, Ok, Err}
 
--- a call failed with that fault, where the definition returns it; nothing is said where it is out of memory
+-- a call failed with that fault, if the definition returns it; nothing is said where it is out of memory
 abbrev pub Fails : {Y F : Type 0} → Option F → Result Y F → Type 0
 Fails None given = Unit {0}
 Fails (Some fault) given = given ≡ Err fault
 
 -- what was returned, under its view, is what the definition returns; a view of the errors reports the fault of each,
--- and none where out of memory
+-- and none if out of memory
 abbrev pub Gives : {X Y E F : Type 0} → (E → Option F) → (X → Y) → Result X E → Result Y F → Type 0
 Gives fault view (Ok x) given = given ≡ Ok (view x)
 Gives fault view (Err e) given = Fails (fault e) given

@@ -3,9 +3,9 @@ ghost use Rattle.std.specs.Prelude.{◌≡◌, IfOk, length, take};
 use std::alloc::{AllocError, Global};
 use std::marker::Model;
 
-/// A value that can be copied where there is memory for the copy, which then equals its source.
+/// A value that can be copied if there is memory for the copy, which then equals its source.
 pub trait TryCopy {
-    /// The copy, or `AllocError` where an allocation fails.
+    /// The copy, or `AllocError` if an allocation fails.
     fn copy(&self, alloc: Global) -> Result<Self, AllocError>
         ensures { IfOk result (λ x. x ≡ self.now) };
 }
@@ -16,7 +16,7 @@ impl TryCopy for u8 {
     }
 }
 
-/// A vector that contracts see as its list: two sequences are equal where their items are.
+/// A vector that contracts see as its list: two sequences are equal if their items are.
 #[derive(Debug, Drop)]
 pub struct Sequence<T> {
     items: Vec<T>,

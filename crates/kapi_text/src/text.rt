@@ -6,7 +6,7 @@ use std::alloc::{AllocError, Global};
 use std::cmp::Ordering;
 use std::marker::Model;
 
-/// A text that contracts see as its bytes: two texts are equal where their bytes are. A copy of at most 16 bytes lies in
+/// A text that contracts see as its bytes: two texts are equal if their bytes are. A copy of at most 16 bytes lies in
 /// the value itself, so it takes no allocation.
 #[derive(Debug)]
 pub struct Text {
@@ -46,7 +46,7 @@ impl Text {
         }
     }
 
-    /// An owned text with the same bytes; allocates nothing where there are at most 16.
+    /// An owned text with the same bytes; allocates nothing if there are at most 16.
     pub fn copy_of(alloc: Global, text: &str) -> Result<Text, AllocError>
         ensures { IfOk result (λ t. t ≡ text.now) }
     {

@@ -25,7 +25,7 @@ module _ {X Y : Type 0} (f : X → Option Y) where
   first_found v (Some z) x xs e is = rw (sym e) refl
   first_found v None x xs e is = cc
 
-  -- where the first item has no event, the first event is that of the others
+  -- if the first item has no event, the first event is that of the others
   pub first_passed : {Z : Type 0} (v : Z → Y) (found : Option Z) (x : X) (xs : List X) → option_map v found ≡ f x → is_some found ≡ false
       → slice_get (filter_map f xs) 0 ≡ slice_get (filter_map f (x ∷ xs)) 0
   first_passed v None x xs e is = rw (sym e) refl
@@ -116,7 +116,7 @@ module _ {X Y : Type 0} (number : X → ℕ) (f : X → Option (ℕ × Y)) (own 
         rest = ap (filter_map f) (past_no e.0 x xs (omega arith)) ∙ b.rest;
       }
 
-  -- what is behind the first event is behind the first item, where that has one
+  -- what is behind the first event is behind the first item, if that has one
   behind_here : (limit before : ℕ) (x : X) (xs : List X) (e : ℕ × Y) (es : List (ℕ × Y)) → limit < number x → Follow number before (x ∷ xs)
       → f x ≡ Some e → filter_map f (past limit xs) ≡ es → Behind limit before (x ∷ xs) e es
   unfolding Follow

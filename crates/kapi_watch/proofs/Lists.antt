@@ -91,7 +91,7 @@ after_first (c ∷ xs) ys os k m = after_first xs ys (placed c.key c.new os) (ke
 pub history_keeps : (first : ℕ) (h : List PlainChange) → IsHistory first h → Keeps (objects_after h)
 history_keeps first h k = let P : List PlainChange → Type 0 = AreMadeOf [] in (after_first h [] [] keeps_none (subst P (sym (append-nil h)) k.made)).keeps
 
--- the tree at a key has that key's namespace and name, where all do
+-- the tree at a key has that key's namespace and name, if all do
 pub standing_is_named : (k : Key) (tree : Data) (os : List (Key × Data)) → AllByRecursion (λ e. IsNamedBy e.0 e.1) os → lookup (is_key k) os ≡ Some tree → IsNamedBy k tree
 standing_is_named k tree os named is = lookup_all key_cmp key_total key_same (λ e. IsNamedBy e.0 e.1) k tree os named is
 
@@ -122,7 +122,7 @@ module _ (scope : Scope) where
         | false ↦ λ is. filter_insert_other key_cmp key_total key_same takes k tree os s is
       ] refl
 
-  -- where the object of a key is not selected, nothing is taken out there
+  -- if the object of a key is not selected, nothing is taken out there
   selected_none : (k : Key) (tree : Data) → selected scope k (Some tree) ≡ None → takes (k, tree) ≡ false
   selected_none k tree none =
       elim (takes (k, tree)) as (λ b. (if b then Some tree else None) ≡ None → b ≡ false) [ true ↦ λ e. absurd (cc e) | false ↦ λ e. refl ] none
@@ -296,7 +296,7 @@ first_is_the_list store h more s scope stands k = counted_first_is_the_list h mo
 
 -- ---- what was shown
 
--- where nothing is due any more, what was shown is what was due
+-- if nothing is due any more, what was shown is what was due
 shown_is_due : (ts : List Step) (h : List PlainChange) (s : Plain) (w : PlainWatch) → HoldsOn ts h s w → still_due (history_after ts h) (watch_after ts h s w) ≡ []
     → shown_over ts h s w ≡ still_due (history_after ts h) w
 shown_is_due ts h s w holds none = sym (shows ts h s w holds ∙ ap (λ l. shown_over ts h s w ++ l) none ∙ append-nil (shown_over ts h s w))

@@ -160,7 +160,7 @@ module _ {K X : Type 0} where
             | false ↦ filter_sorted es s.1
           ]
 
-      -- some entries, where an entry among them is written
+      -- some entries, if an entry among them is written
       pub filter_insert : (k : K) (x : X) (es : List (K × X)) → IsStrictlySortedBy cmp (keys_of es) → p (k, x) ≡ true → filter p (insert_entry cmp es k x) ≡ insert_entry cmp (filter p es) k x
       unfolding IsStrictlySortedBy
       filter_insert k x [] s passing = rw passing refl
@@ -186,7 +186,7 @@ module _ {K X : Type 0} where
             | false ↦ sym (remove_absent (is_at (cmp k)) (filter p es) (none_below cmp k (filter p es) (filter_keys p (λ y. cmp k y ≡ Less) es (below_rest k e es s is))))
           ]
 
-      -- some entries, where an entry that is not among them is written
+      -- some entries, if an entry that is not among them is written
       pub filter_insert_other : (k : K) (x : X) (es : List (K × X)) → IsStrictlySortedBy cmp (keys_of es) → p (k, x) ≡ false
           → filter p (insert_entry cmp es k x) ≡ remove_entry (is_at (cmp k)) (filter p es)
       unfolding IsStrictlySortedBy
@@ -211,7 +211,7 @@ module _ {K X : Type 0} where
             | false ↦ rest
           ]
 
-      -- some entries, where one is taken away
+      -- some entries, if one is taken away
       pub filter_remove : (k : K) (es : List (K × X)) → IsStrictlySortedBy cmp (keys_of es) → filter p (remove_entry (is_at (cmp k)) es) ≡ remove_entry (is_at (cmp k)) (filter p es)
       unfolding IsStrictlySortedBy
       filter_remove k [] s = refl
@@ -229,7 +229,7 @@ module _ {K X : Type 0} where
             | false ↦ rest
           ]
 
-      -- where the entry of a key is not among some entries, none of them has the key
+      -- if the entry of a key is not among some entries, none of them has the key
       pub filter_absent : (k : K) (es : List (K × X)) → IsStrictlySortedBy cmp (keys_of es) → ((x : X) → lookup (is_at (cmp k)) es ≡ Some x → p (k, x) ≡ false) → lookup (is_at (cmp k)) (filter p es) ≡ None
       unfolding IsStrictlySortedBy
       filter_absent k [] s h = refl

@@ -207,7 +207,7 @@ pub listed_second : {X : Type 0} (key : X → Key) (object : X → StoredObject)
 listed_second key object [] = refl
 listed_second key object (l ∷ ls) = ap (λ ts. stored_tree (object l) ∷ ts) (listed_second key object ls)
 
--- whether a watch can start from a revision that is not 0, where that is above the current one, or is not
+-- whether a watch can start from a revision that is not 0, if that is above the current one, or is not
 abbrev startable_if : Plain → ℕ → Bool → Result (Unit {0}) WatchFault
 startable_if s revision above = if above then Err TooLarge else if is_gone s revision then Err TooOld else Ok tt
 

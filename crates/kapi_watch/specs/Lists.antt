@@ -66,7 +66,7 @@ abbrev pub FirstIsTheList : Type 0
 FirstIsTheList = (store : State) (h more : List PlainChange) (s : Plain) (scope : Scope) → RefinesPlain store h s → IsHistory s.first (h ++ more)
     → all_on_top scope [] (still_due (h ++ more) (started_now s scope)) ≡ list_now scope (h ++ more)
 
--- where nothing is due any more to a watch from a revision on, what it has shown while the window holds is the list now
+-- if nothing is due any more to a watch from a revision on, what it has shown while the window holds is the list now
 -- on top of the list at that revision
 abbrev pub ShownIsTheList : Type 0
 ShownIsTheList = (first : ℕ) (ts : List Step) (h : List PlainChange) (s : Plain) (scope : Scope) (revision : ℕ) → IsHistory first (history_after ts h)

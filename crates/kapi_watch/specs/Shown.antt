@@ -21,7 +21,7 @@ pub data Shown : Type 0 where
   Expired : Shown
   Refused : Shown
 
--- the tree, where there is one that the watch selects
+-- the tree, if there is one that the watch selects
 abbrev pub selected : Scope → Key → Option Data → Option Data
 selected s k None = None
 selected s k (Some tree) = if is_listed s.row s.namespace s.selector s.name k tree then Some tree else None

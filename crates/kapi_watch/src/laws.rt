@@ -5,7 +5,7 @@ ghost use Rattle.kapi_watch.specs.Running.{StandsAtFirst};
 ghost use Rattle.kapi_watch.specs.Runs.{ShowsWhatIsDue, StaysOverWrites, EndsAtTheCurrent};
 
 /// While the window holds, whatever is written and whenever the watch is pumped, what was due to it is what it has
-/// shown, in order, and then what is still due: no event is shown twice or left out. Where it shows nothing, nothing is
+/// shown, in order, and then what is still due: no event is shown twice or left out. If it shows nothing, nothing is
 /// due any more, and it has reached the current revision.
 pub fn nothing_is_shown_twice_or_left_out()
     ensures due { ShowsWhatIsDue }

@@ -32,7 +32,7 @@ pub struct Found<'a> {
     pub event: Event<'a>,
 }
 
-/// Whether the key is in the namespace that is asked for; where an empty one is asked for, any is. Most others are of
+/// Whether the key is in the namespace that is asked for; if an empty one is asked for, any is. Most others are of
 /// another length, which is seen without a call.
 fn is_in_namespace(namespace: &str, key: &Key) -> bool
     ensures { result ≡ is_asked_of namespace.now key.now.namespace }
@@ -72,7 +72,7 @@ impl Scope {
                 && (self.row.group == key.group && is_asked(self.name.as_str(), &key.name)))
     }
 
-    /// The object at a key within the scope, where there is one that is watched.
+    /// The object at a key within the scope, if there is one that is watched.
     #[tactic(auto, unfolding(kapi_store::specs::Listing::is_listed))]
     fn selected<'a>(&self, key: &Key, object: &'a Option<Shared>) -> Option<&'a StoredObject>
         requires { is_within_of self.now.row self.now.namespace self.now.name key.now ≡ true }
@@ -84,7 +84,7 @@ impl Scope {
         }
     }
 
-    /// The object that goes by a change: one that was watched, where none is that is there after the change.
+    /// The object that goes by a change: one that was watched, if none is that is there after the change.
     fn removed<'a>(&self, change: &'a Change, old: &'a StoredObject) -> Option<Removed<'a>>
         requires was { option_map stored_tree change.now.old ≡ Some (stored_tree old.now) }
         requires watched { selected_of self.now change.now.key (Some (stored_tree old.now)) ≡ Some (stored_tree old.now) }

@@ -53,7 +53,7 @@ fn objects_of(alloc: Global, listed: &[Listed<'_>]) -> Result<Sequence<Shared>, 
     Ok(Sequence::new(objects))
 }
 
-/// The event of what was found; where changes are gone, the end of the watch.
+/// The event of what was found; if changes are gone, the end of the watch.
 fn event_in<'a>(found: &Result<Option<Found<'a>>, TooOld>) -> Option<Event<'a>>
     ensures { option_map event_of result ≡ shown_in (looked found.now) }
 {
@@ -69,7 +69,7 @@ impl Watch {
     ghost use Rattle.kapi_watch.specs.Private.Looked.{position_after};
     ghost use Rattle.kapi_watch.specs.Running.{IsFresh, RefinesWatch, at_place, watch_data};
 
-    /// A watch of the objects of a resource that are in the namespace and of the name, or in all and of any where the
+    /// A watch of the objects of a resource that are in the namespace and of the name, or in all and of any if the
     /// text is empty, and whose labels the selector matches.
     ///
     /// Without a revision, or with 0, it shows the stored objects first and then each change after them; with
@@ -174,10 +174,10 @@ impl Watch {
     }
 
     /// What the watch shows next, if there is anything, and the place that it has then: at the revision of that event,
-    /// or at the current one where there is nothing to show; a watch that is at its end keeps its place. Allocates
+    /// or at the current one if there is nothing to show; a watch that is at its end keeps its place. Allocates
     /// nothing, and changes nothing: `shown` moves the watch on.
     ///
-    /// The objects that were there at its start come first. Then, where changes after its position may be kept no
+    /// The objects that were there at its start come first. Then, if changes after its position may be kept no
     /// longer, comes the end of the watch; else the first event that these changes show. Each change is examined once,
     /// and nothing else of the store. A watch that was stopped shows nothing.
     pub fn next<'a>(&'a self, store: &'a Store) -> Next<'a>
@@ -225,7 +225,7 @@ impl Watch {
         }
     }
 
-    /// What the changes after the position show first; refused where some of them may be kept no longer.
+    /// What the changes after the position show first; refused if some of them may be kept no longer.
     fn look<'a>(&self, store: &'a Store) -> Result<Option<Found<'a>>, TooOld>
         ensures { (history : List PlainChange) (s : Plain) → RefinesPlain store.now history s
             → looked result ≡ first_in self.now.scope (changes_after history s self.now.position) }

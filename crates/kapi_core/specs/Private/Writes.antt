@@ -22,13 +22,13 @@ abbrev pub Writes : State → PolicyObjects → Tracked → State → PolicyObje
 Writes s o ms t u ns changes = (cs : List PlainChange) (p : Plain) → RefinesPlain s cs p → o ≡ policy_objects p.objects → Covers ms (roles_in p.objects)
     → RefinesPlain t (cs ++ changes) (written changes p) × (u ≡ policy_objects (written changes p).objects) × Covers ns (roles_in (written changes p).objects)
 
--- what becomes of a store, a policy and the marks where an object is loaded; where it is refused nothing is changed
+-- what becomes of a store, a policy and the marks if an object is loaded; if it is refused nothing is changed
 abbrev pub LoadsInto : State → PolicyObjects → Tracked → State → PolicyObjects → Tracked → List ℕ → Result (List PolicyChange) LoadError → Type 0
 LoadsInto s o ms t u ns text (Ok made) =
     (changes : List PlainChange) × (loads (plain_of s) text ≡ Ok changes) × (made ≡ policy_changes changes) × Writes s o ms t u ns changes
 LoadsInto s o ms t u ns text (Err e) = Fails (fault_told e) (loads (plain_of s) text) × Same s t × (u ≡ o) × CoversAsMuch ms ns
 
--- what becomes of a store, a policy and the marks where a turn is made; where its write is refused nothing is changed
+-- what becomes of a store, a policy and the marks if a turn is made; if its write is refused nothing is changed
 abbrev pub TurnsInto : State → PolicyObjects → Tracked → State → PolicyObjects → Tracked → Turn → Result (Option Turned) AllocError → Type 0
 TurnsInto s o ms t u ns turn (Ok (Some turned)) =
     (changes : List PlainChange) × (rewriting turn (plain_of s) ≡ Ok changes)

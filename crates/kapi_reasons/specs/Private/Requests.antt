@@ -21,7 +21,7 @@ place row namespace = if row.namespaced then root row ++ (codes "/namespaces/" +
 abbrev pub collection : ResourceRow → List ℕ → List ℕ
 collection row namespace = place row namespace ++ (codes "/" ++ row.plural)
 
--- the text that a value is; empty where it is none
+-- the text that a value is; empty if it is none
 abbrev pub text_or_none : Option Data → List ℕ
 text_or_none None = []
 text_or_none (Some (string s)) = s

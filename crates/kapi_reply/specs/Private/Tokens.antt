@@ -16,11 +16,11 @@ data_tokens d = json_tokens (outline d)
 abbrev pub text_tokens : List ℕ → List ℕ → List Token
 text_tokens k text = key k ∷ string text ∷ []
 
--- the tokens of a member whose value is a text; none where the text is empty
+-- the tokens of a member whose value is a text; none if the text is empty
 unfoldable pub some_text_tokens : List ℕ → List ℕ → List Token
 some_text_tokens k text = if length text == 0 then [] else text_tokens k text
 
--- the tokens of the causes; none where there is no cause
+-- the tokens of the causes; none if there is no cause
 unfoldable pub causes_tokens : List Data → List Token
 causes_tokens causes = if length causes == 0 then [] else key (codes "causes") ∷ data_tokens (array (items_of causes))
 
@@ -35,7 +35,7 @@ unfoldable pub is_nameless : Option Subject → Bool
 is_nameless None = true
 is_nameless (Some s) = (length s.group == 0) && ((length s.resource == 0) && (length s.name == 0))
 
--- the tokens of the details; none where nothing is to be told
+-- the tokens of the details; none if nothing is to be told
 unfoldable pub details_tokens : Option Subject → List Data → List Token
 details_tokens s causes =
     if (length causes == 0) && is_nameless s then []

@@ -91,14 +91,14 @@ pub record IsQuiet (c : Client) : Type 0 where
   pub shown : c.pending.count < 1048576 → is_some c.watching ≡ true → c.shown ≡ true
   pub owed : c.blocked ≡ false → owed c.pending ≡ []
 
--- where a change after the revision may concern the watch of the client, that may have something to show
+-- if a change after the revision may concern the watch of the client, that may have something to show
 abbrev pub IsRoused : Machine → ℕ → Client → Type 0
 IsRoused m revision c = is_concerned m c.id.0 revision ≡ true → c.shown ≡ false
 
 abbrev pub AreRoused : Machine → ℕ → List Client → Type 0
 AreRoused m revision cs = (i : ℕ) → i < length cs → HoldsAt (λ c. IsRoused m revision c) cs i
 
--- there is a watch, whose fingerprint is one of those where there is a list of them
+-- there is a watch, whose fingerprint is one of those if there is a list of them
 abbrev pub is_called : Option (List ℕ) → Option ℕ → Bool
 is_called None watching = is_some watching
 is_called (Some numbers) watching = is_among numbers watching
@@ -157,12 +157,12 @@ IsOfNone position cs = position < length cs.awake.numbers.items → AllByRecursi
 abbrev pub AreDue : Machine → List Client → List ℕ → Type 0
 AreDue m cs rest = AllByRecursion (λ c. Rests m c ⊎ Has rest c.id.0) cs
 
--- the awake connection at a place was visited; where nothing could be done, its client rests
+-- the awake connection at a place was visited; if nothing could be done, its client rests
 abbrev pub Visits : Running → Running → Clients → Clients → ℕ → Type 0 → Type 0
 Visits old new cs ds place still = (m : Machine) → Refines old m → ClientsMatch m cs
     → (n : Machine) × Refines new n × AllMatch n ds.list.items cs.awake.numbers.items
     × (still → AreDue m cs.list.items (drop place cs.awake.numbers.items) → AreDue n ds.list.items (drop (suc place) cs.awake.numbers.items))
 
--- the clients were gone over; where nothing could be done, all rest
+-- the clients were gone over; if nothing could be done, all rest
 abbrev pub Settles : Running → Running → Clients → Clients → Type 0 → Type 0
 Settles old new cs ds still = (m : Machine) → Refines old m → ClientsMatch m cs → (n : Machine) × Refines new n × ClientsMatch n ds × (still → AreAtRest n ds.list.items)

@@ -12,12 +12,12 @@ abbrev pub looked : Result (Option Found) TooOld → Result (Option (ℕ × Show
 looked (Ok found) = Ok (option_map found_of found)
 looked (Err e) = Err tt
 
--- what changes show first, where there are such
+-- what changes show first, if there are such
 abbrev pub first_in : Scope → Result (List PlainChange) (Unit {0}) → Result (Option (ℕ × Shown)) (Unit {0})
 first_in scope (Ok cs) = Ok (slice_get (shown_all scope cs) 0)
 first_in scope (Err e) = Err e
 
--- the revision of a watch after the look: that of what was found, or the current one; where changes are gone, it stays
+-- the revision of a watch after the look: that of what was found, or the current one; if changes are gone, it stays
 abbrev pub position_after : Plain → ℕ → Result (Option (ℕ × Shown)) (Unit {0}) → ℕ
 position_after s position (Ok (Some e)) = e.0
 position_after s position (Ok None) = s.revision

@@ -1,4 +1,4 @@
--- Where all are called, each has a mark.
+-- If all are called, each has a mark.
 use Rattle.std.proofs.Common.{◌%◌, true, arith}
 use Rattle.std.proofs.lemmas.List.{get_or-replicate}
 use Rattle.kapi_serve.proofs.marks.marks_of.Goals as goal

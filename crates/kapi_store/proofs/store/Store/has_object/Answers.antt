@@ -5,7 +5,7 @@ use Rattle.kapi_store.specs.State.{objects}
 use Rattle.kapi_store.proofs.Trees.{has_object_trees}
 use Rattle.kapi_store.proofs.store.Store.has_object.Goals as goal
 
--- there is a value where there is a reference to it
+-- there is a value if there is a reference to it
 is_some_copied : {X : Type 0} (o : Option (Bor X)) → is_some o ≡ is_some (option_copied o)
 is_some_copied None = refl
 is_some_copied (Some x) = refl
