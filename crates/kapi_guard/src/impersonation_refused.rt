@@ -8,7 +8,7 @@ use thiserror::Error;
 /// Why an impersonation is refused.
 #[derive(Debug, Drop, Error)]
 pub enum ImpersonationRefused {
-    /// These points are denied: that of the user, then those of the groups, in their order.
+    /// The points that are denied: the one of the user, then the ones of the groups, in their order.
     #[error("impersonation is denied")]
     Missing(Sequence<Point>),
     #[error("out of memory")]

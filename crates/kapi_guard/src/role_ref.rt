@@ -5,7 +5,7 @@ ghost use Rattle.kapi_guard.specs.Writes.{is_same_kind as are_same_kinds, is_sam
 use crate::write::{Versions, WrittenObject};
 use kapi_model::{ClusterRoleBinding, RoleBinding, RoleKind, RoleRef};
 
-/// Whether a binding that is written refers to the role that it referred to.
+/// Whether a written binding refers to the same role as before.
 pub fn keeps_role(object: &WrittenObject) -> bool
     ensures { result ≡ keeps_role_of object.now }
 {

@@ -37,7 +37,7 @@ never_ends s at sum going e = let is : s ≡ Whole = e.0 in let over : is_over s
 
 -- ---- one byte
 
--- behind a byte that is no data, and that is not the last of a sent body that is too long
+-- behind a byte that is no data, nor the last byte of a sent body above the limit
 out_step : (s t : ChunkState) (at sum b : ℕ) (bytes : List ℕ) → next_state s sum b ≡ t → in_data s ≡ false → is_over s ≡ false → Ends s at sum (b ∷ bytes)
     → Ends t (at + 1) sum bytes × (joined (mk s at sum) (b ∷ bytes) ≡ joined (mk t (at + 1) sum) bytes)
 unfolding chunked joined

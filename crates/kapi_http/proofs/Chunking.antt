@@ -74,7 +74,7 @@ data_bounded c (b ∷ bytes) h = by_spot (is_over c.spot) refl (data_bounded (ch
 pub chunks_within : (bytes : List ℕ) → (chunked no_chunks bytes).at ≤ length bytes
 chunks_within bytes = let front = chunked_take no_chunks bytes in omega (arith, front.1, front.2)
 
--- a body that is open goes on, and one that is not does not
+-- exactly an open body goes on
 pub open_goes_on : (s : ChunkState) → ending_of s ≡ ending.Open → is_over s ≡ false
 open_goes_on (SizeLine digits size) e = refl
 open_goes_on (SizeCr size) e = refl

@@ -88,7 +88,7 @@ line_scan p going enters quiet (b ∷ text) end r n l stop none =
     ∙ same_scan LineStart (n + 1 + length text + length (print_end end)) (n + length (b ∷ text) + length (print_end end)) (l + 1) (l + 1) r (omega arith) refl
     )
 
--- a byte that is neither CR nor LF begins a line that is not empty
+-- a byte other than CR and LF begins a line with content
 enters_leading : (b : ℕ) → is_newline b ≡ false → next_place Leading b ≡ Inside
 enters_leading b e = grind (arith, nat_tests)
 

@@ -267,7 +267,7 @@ head_texts bytes line spans h is e =
       names = fields_text bytes h.fields spans is.fields (ap (λ (s : Says). s.fields) e);
     }
 
--- the answer of a parser that finds a head, or knows that there is none
+-- the answer of a parser: the head that it found, or certainty that there is none
 pub read_exact : (bytes : List ℕ) (o : Option RequestSpans) (spans : List HeaderSpan)
     → IfSome o (λ r. (h : RequestHead) × ReadsRequest bytes h [] × (said bytes r (take r.headers spans) ≡ says h))
     → (IsNone o → (h : RequestHead) → ¬ (ReadsRequest bytes h []))

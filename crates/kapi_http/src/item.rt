@@ -19,7 +19,7 @@ use kapi_text::{Memory, Sequence, Text};
 use std::alloc::Global;
 use std::str;
 
-/// The most bytes that a head may have, with the empty lines before it and the one that ends it.
+/// The most bytes of a head, together with the empty lines before it and the empty line at its end.
 pub const HEAD_LIMIT: usize = 16384;
 
 /// The most lines between the request line and the empty line.

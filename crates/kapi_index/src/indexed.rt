@@ -26,7 +26,7 @@ use std::alloc::Global;
 use std::collections::BTreeMap;
 use std::marker::Model;
 
-/// A policy that finds bindings by user, group and service account, so that a decision does not grow with their number.
+/// A policy that finds bindings by user, group and service account: a decision does not grow with their number.
 #[derive(Drop)]
 pub struct IndexedPolicy {
     alloc: Global,

@@ -51,7 +51,7 @@ fn is_group(subject: &Subject) -> bool {
     }
 }
 
-// The number of subjects that are groups, so that a list of them is as long as it must be.
+// The number of subjects that are groups: the capacity of a list of them.
 fn group_count(subjects: &[Subject]) -> usize {
     subjects.iter().filter(|subject| is_group(subject)).count()
 }

@@ -114,7 +114,7 @@ name_row all text n =
     each true rule = refl
     each false rule = refl
 
--- the held rules that cover all resources with that text behind their first slash
+-- the held rules that cover all resources with this text behind their first slash
 abbrev pub behind : List Stopper → ℕ → Option (List ℕ) → Bool
 behind all n None = false
 behind all n (Some sub) = at (map (λ s. s.is_held && list_any (is_any_with sub) s.rule.resources) all) n

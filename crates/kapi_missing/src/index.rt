@@ -26,7 +26,7 @@ pub struct Rules<'a> {
     pub resources: Sets<'a>,
     pub names: Sets<'a>,
     pub urls: Sets<'a>,
-    /// Those that list no names.
+    /// The rules that list no names.
     pub nameless: Numbers,
     /// Held ones that list `*`, or no names.
     pub any_verb: Numbers,

@@ -109,7 +109,7 @@ fn push_under<'i>(row: &mut Vec<&'i Numbers>, sets: &'i Sets<'_>, text: &[u8]) -
     Ok(())
 }
 
-// The rules that list the word, and those that meet any word.
+// The rules that list the word, and the rules that meet any word.
 fn push_word<'i>(
     row: &mut Vec<&'i Numbers>,
     any: &'i Numbers,

@@ -47,7 +47,7 @@ pub struct Class {
     pub left: usize,
 }
 
-// Those of the rules that meet all the entries.
+// The rules that meet all the entries.
 fn meeting_all(alloc: Global, rules: &[u64], entries: &[Entry<'_, '_>]) -> Result<Vec<u64>, Memory>
     ensures { IfOk result (λ v. (all others : ListValue Stopper) (test : Stopper → Bool) → Sees all test rules.now → AreRows (all ++ others) entries.now
         → Sees all (λ s. test s && list_all (λ i. meets i s) (entries_in entries.now)) v.items) }
@@ -365,7 +365,7 @@ fn push_last<'a>(
     Ok(())
 }
 
-/// The atoms that are left of the lists behind what is chosen, if those rules meet that.
+/// The atoms that are left of the lists behind the chosen entries, if these rules meet the chosen ones.
 #[cycle(push)]
 pub fn push<'a>(
     alloc: Global,

@@ -39,7 +39,7 @@ pub place_found : (key : List ℕ) (es : List Entry) (r : Option (MutBor Value))
     → option_map (λ x. view x.now) r ≡ get_member key (members_view es)
 place_found key es r h = view_of_mut r ∙ ap (option_map view) h ∙ view-lookup key es
 
--- a value that takes the place of the one that was found
+-- a value in place of the found one
 pub members_view_set : (key : List ℕ) (v : Value) (old : Data) (es : List Entry) → in_order (members_view es) ≡ true → Some old ≡ get_member key (members_view es)
     → members_view (set_value (is_at (λ k. slice_cmp nat_cmp key (string_bytes k))) es v) ≡ put key (view v) (members_view es)
 members_view_set key v old [] h there = absurd (cc there)

@@ -17,7 +17,7 @@ pub json_object_read : (text : List ℕ) (d : Data) → IsUtf8 text → read tex
 unfolding json_object
 json_object_read text d u r o = rw (is_utf8-from_IsUtf8 text u, r) (object_only d o)
 
--- bytes that are not UTF-8, or that nothing was read of, are no JSON object
+-- bytes are no JSON object if they are not UTF-8 or nothing was read of them
 pub json_object_none : (text : List ℕ) → (IsUtf8 text → read text ≡ None) → json_object text ≡ None
 unfolding json_object
 json_object_none text h =

@@ -43,7 +43,7 @@ put_front k d (member l e ms) p =
     let less : slice_cmp nat_cmp k l ≡ Less = is_less (slice_cmp nat_cmp k l) (first_so (is_lt (slice_cmp nat_cmp k l)) (precedes k ms) p) in
     rw less refl
 
--- a value that is put beside a member that was taken out
+-- a value that is put next to a removed member
 pub put_without : (m k : List ℕ) (d : Data) (ms : Members) → in_order ms ≡ true → bytes_eq m k ≡ false → put k d (without m ms) ≡ without m (put k d ms)
 put_without m k d no_members h apart = rw apart refl
 put_without m k d (member l e ms) h apart =

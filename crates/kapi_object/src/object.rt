@@ -32,7 +32,7 @@ impl Object {
     ghost use Rattle.kapi_object.specs.Order.{is_ordered, in_order};
     ghost use Rattle.kapi_object.specs.Tree as trees;
 
-    /// The object that an ordered tree without floats is, which is no deeper than one that is read.
+    /// The object of an ordered tree without floats, no deeper than a tree that is read.
     pub fn new(tree: Value) -> Object
         requires whole { has_float (view tree) ≡ false }
         requires ordered { is_ordered (view tree) ≡ true }

@@ -1,4 +1,4 @@
-/// The keys of the members that tables have rows for, and the words that they compare with.
+/// The keys of the members with rows in tables, and the words that rows compare with.
 #[derive(Clone, Copy)]
 pub enum Word {
     Rules,

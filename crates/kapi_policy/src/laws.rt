@@ -26,7 +26,7 @@ pub fn the_first_rule_is_named()
         → decided objects identity namespace point ≡ allowed g → NamesFirst objects identity namespace point g }
 {}
 
-/// The rules that are held cluster-wide are held in every namespace, before those that are held there alone.
+/// The rules that are held cluster-wide are held in every namespace, before the rules of the namespace alone.
 pub fn rules_held_cluster_wide_come_first()
     ensures { (objects : PolicyObjects) (identity : Identity) (namespace : List ℕ)
         → (more : List PolicyRule) × (held_by objects identity namespace ≡ held_by objects identity [] ++ more) }

@@ -3,7 +3,7 @@ use Rattle.std.specs.Prelude.{Option, Some, None}
 use Rattle.kapi_request_info.specs.declared.attributes.InfoError.{InfoError}
 use Rattle.kapi_request_info.specs.declared.attributes.InfoError.TheVariants as error
 
--- a form that is no path, an escape that is none, a query value that is no Boolean
+-- no path by its form, no escape, a query value other than a Boolean
 pub data TargetFault : Type 0 where
   bad_path : TargetFault
   bad_escape : TargetFault

@@ -35,7 +35,7 @@ pub found_from : {X : Type 0} (p q : X → Bool) → ((x : X) → p x ≡ true �
 found_from p q wider xs n none =
     sym (ap (find p) (sym (take-append-drop n xs)) ∙ find-append p (take n xs) (drop n xs) ∙ ap (λ o. option_or o (find p (drop n xs))) (none_found p q wider (take n xs) none))
 
--- the text is that of a row, whose position a name has that had none
+-- the text is that of a row; its name had no position and has the position of the row now
 pub put_first : (old new : BTreeMap (List ℕ) ℕ) (plural key : List ℕ) (position : ℕ) → key ≡ plural → is_some (first_at old plural) ≡ false
     → Updates (slice_cmp nat_cmp) old new key (Some position) → StartsAlso old new plural position
 put_first old new plural key position is none updates p = by_case (bytes_eq plural p) refl

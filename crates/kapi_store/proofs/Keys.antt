@@ -23,7 +23,7 @@ key_total = laws.total-law
 bytes_same : (xs ys : List ℕ) → slice_cmp nat_cmp xs ys ≡ Equal → xs ≡ ys
 bytes_same xs ys h = (bytes_eq-Decides xs ys).0 (sym (is_eq-slice_cmp xs ys) ∙ ap is_eq h)
 
--- texts that differ decide, and those that are the same leave it to what follows
+-- texts decide if they differ; equal texts leave it to what follows
 text_first : (xs ys : List ℕ) (o : Ordering) → ordering_then (slice_cmp nat_cmp xs ys) o ≡ cond (bytes_eq xs ys) o (slice_cmp nat_cmp xs ys)
 text_first xs ys o = by_case (slice_cmp nat_cmp xs ys) ∙ ap (λ b. cond b o (slice_cmp nat_cmp xs ys)) (is_eq-slice_cmp xs ys)
   where

@@ -1,4 +1,4 @@
--- The labels that are kept of a tree have the values of those that it has.
+-- The kept labels of a tree have the values of the labels in the tree.
 use Rattle.std.proofs.Common.{◌≡◌, ◌∙◌, ℕ, List, true, if◌then◌else◌, Option, Some, None, is_some, refl, sym, ap, bytes_eq, codes}
 use Rattle.std.proofs.lemmas.Map.Text.{is_eq-slice_cmp}
 use Rattle.std.proofs.lemmas.Slice.Eq.{bytes_eq-Decides}

@@ -117,7 +117,7 @@ module _ {K X : Type 0} (q r : K → Bool) (p : K × X → Bool) (in_range : (e 
         ]
       ] refl
 
-  -- to take out slots that are out of range leaves one that passes a test of those in range
+  -- to take out slots out of range leaves each slot in range that passes a test
   pub any_between : (es : List (K × X)) → list_any p (filter (λ e. q e.0) (filter (λ e. r e.0) es)) ≡ list_any p (filter (λ e. q e.0) es)
   any_between [] = refl
   any_between (e ∷ es) =

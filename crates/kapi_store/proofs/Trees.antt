@@ -51,7 +51,7 @@ placed_all_trees [] os = refl
 placed_all_trees (c ∷ cs) os =
     placed_all_trees cs (placed c.key c.new os) ∙ ap (placed_all (trees_left_by (map plain_change cs))) (placed_trees c.key c.new os)
 
--- the tree that is found is that of the object that is found
+-- the tree that is found belongs to the object that is found
 pub lookup_trees : (k : Key) (os : List (Key × StoredObject)) → lookup (is_key k) (trees os) ≡ option_map stored_tree (lookup (is_key k) os)
 lookup_trees k os = lookup-map_values stored_tree (is_key k) os
 

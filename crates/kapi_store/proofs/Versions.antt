@@ -111,7 +111,7 @@ version_alone old tree d n h is =
     ap (with_text (codes "resourceVersion") (decimal n)) (sym (text_set_again (codes "uid") (uid_in old) d h (text_there (in_metadata (codes "uid") d) (uid_in old) (old_uid old tree d is))))
     ∙ ap (stamped_tree (uid_in old) (decimal n)) is
 
--- an object that has a version, with another one set, is at that version
+-- an object with a version is at another version after that is set
 pub versioned_again : (v : List ℕ) (n : ℕ) (d : Data) → is_ordered d ≡ true → option_and_then as_str (in_metadata (codes "resourceVersion") d) ≡ Some v
     → with_text (codes "resourceVersion") (decimal n) d ≡ at_version n d
 versioned_again v n d h versioned =

@@ -1,4 +1,4 @@
-//! The version in an object's text: texts that differ in one number alone, and a text around the one version that it has.
+//! The version in an object's text: texts that differ in one number alone, and the text around its one version.
 
 ghost use Rattle.std.specs.Prelude.{◌≡◌, ◌++◌, ℕ, List, None, IfOk, IfSome, string_bytes};
 ghost use Rattle.kapi_store.specs.Private.Cut.{HasOther, is_digit as is_digit_of, is_near as is_near_to, past_digits as past_digits_of, version_text as version_text_of};

@@ -32,7 +32,7 @@ module _ {X Y : Type 0} (f : X → Option Y) where
   first_passed v (Some z) x xs e is = cc
 
 module _ {X : Type 0} (p : X → Bool) where
-  -- an item that passes is the first place from its index on that does
+  -- an item that passes is the first place from its index on to do so
   pub place_here : (xs : List X) (i : ℕ) (x : X) → slice_get xs i ≡ Some x → p x ≡ true → position_or_len p (drop i xs) ≡ 0
   place_here xs i x at is = rw (drop_front xs i x at, is) refl
 

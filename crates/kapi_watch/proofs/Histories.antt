@@ -42,7 +42,7 @@ next_one : (s : Plain) (c : PlainChange) → c.revision ≡ s.revision + 1 → c
 unfolding AreMadeOf Follow
 next_one s c is old new = record { made = (old, new, tt); next = (is, tt) }
 
--- changes that come next go on with the history that made the store's objects, and that its revision counts
+-- changes that come next go on with the history of the store's objects, which its revision counts
 pub counted_goes_on : (h cs : List PlainChange) (s : Plain) → s.objects ≡ placed_all (trees_left_by h) [] → s.revision ≡ s.first + length h → IsHistory s.first h → AreNext s cs
     → IsHistory s.first (h ++ cs)
 counted_goes_on h cs s made counted k n =

@@ -84,7 +84,7 @@ FirstShownIsTheList = (store : State) (ts : List Step) (h : List PlainChange) (s
 abbrev pub StoreShowsTheList : Type 0
 StoreShowsTheList = (store : State) (h : List PlainChange) (s : Plain) (scope : Scope) → RefinesPlain store h s → list_now scope h ≡ listed scope (plain_of store).objects
 
--- the list at a revision is the one that the store showed when that was the current one, whatever was changed since
+-- the list at a revision: what the store showed while that revision was the current one, whatever was changed since
 abbrev pub StoreShowedTheList : Type 0
 StoreShowedTheList = (store : State) (h more : List PlainChange) (s : Plain) (scope : Scope) → RefinesPlain store h s → IsHistory s.first (h ++ more)
     → list_at scope store.revision (h ++ more) ≡ listed scope (plain_of store).objects

@@ -51,6 +51,6 @@ abbrev pub StaysOverWrites : Type 0
 StaysOverWrites = (r : Watch) (h : List PlainChange) (s : Plain) (w : PlainWatch) (cs : List PlainChange) → Follow (λ c. c.revision) s.revision cs
     → RefinesWatch r h s w → RefinesWatch r (h ++ cs) (written cs s) w
 
--- a watch that shows nothing has shown all that is due, and is at the current revision
+-- a watch with nothing to show has shown all that is due, and is at the current revision
 abbrev pub EndsAtTheCurrent : Type 0
 EndsAtTheCurrent = (h : List PlainChange) (s : Plain) (w : PlainWatch) → pumped h s w ≡ None → (still_due h w ≡ []) × ((after_pump h s w).position ≡ s.revision)

@@ -26,8 +26,7 @@ abbrev pub selected : Scope → Key → Option Data → Option Data
 selected s k None = None
 selected s k (Some tree) = if is_listed s.row s.namespace s.selector s.name k tree then Some tree else None
 
--- what is shown of a change at a revision, by the object that was selected before it and the one that is selected after
--- it
+-- what is shown of a change at a revision, by the selected object before it and the selected object after it
 abbrev pub shown_by : ℕ → Option Data → Option Data → Option Shown
 shown_by revision None None = None
 shown_by revision None (Some new) = Some (Added new)

@@ -10,8 +10,8 @@ use Rattle.kapi_watch.specs.declared.error.WatchError.TheVariants as error
 use Rattle.kapi_watch.specs.declared.scope.Scope.{Scope}
 use Rattle.kapi_watch.specs.Shown.{Shown, Added, Expired, shown_of}
 
--- a watch: what it selects, the objects that are shown first, the revision at which it started, how many events it has
--- shown, and the revision that it has reached
+-- a watch: what it selects, the objects that are shown first, the revision at which it started, how many events it
+-- has shown, and the revision up to which it has looked
 pub record PlainWatch : Type 0 where
   pub scope : Scope
   pub first : List Data

@@ -6,7 +6,7 @@ ghost use Rattle.kapi_store.specs.Stored.{stored_tree};
 use kapi_store::StoredObject;
 use kapi_text::Text;
 
-/// An object that a watch sees go, with its text at the revision of that change.
+/// An object that a watch sees go, with its text at the revision of the change.
 #[derive(Clone, Copy, Debug)]
 pub struct Removed<'a> {
     pub object: &'a StoredObject,

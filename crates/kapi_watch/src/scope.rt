@@ -84,7 +84,7 @@ impl Scope {
         }
     }
 
-    /// The object that goes by a change: one that was watched, if none is that is there after the change.
+    /// The object that goes by a change: it was watched before, and nothing watched is there after the change.
     fn removed<'a>(&self, change: &'a Change, old: &'a StoredObject) -> Option<Removed<'a>>
         requires was { option_map stored_tree change.now.old ≡ Some (stored_tree old.now) }
         requires watched { selected_of self.now change.now.key (Some (stored_tree old.now)) ≡ Some (stored_tree old.now) }

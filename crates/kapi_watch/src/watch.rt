@@ -15,7 +15,7 @@ use kapi_store::{Listed, Shared, Store, TooOld};
 use kapi_text::{Memory, Sequence};
 use std::alloc::Global;
 
-/// A watch of a store: the objects that it selects, the objects that it shows first, and its place.
+/// A watch of a store: which objects it selects, which ones it shows first, and its place.
 #[derive(Debug, Drop)]
 pub struct Watch {
     scope: Scope,
@@ -197,7 +197,7 @@ impl Watch {
         self.next_of_running(store)
     }
 
-    /// What a watch that was not stopped shows next, and the place that it has then.
+    /// What a running watch shows next, and its place after that.
     fn next_of_running<'a>(&'a self, store: &'a Store) -> Next<'a>
         ensures event { (history : List PlainChange) (s : Plain) (w : PlainWatch) → RefinesPlain store.now history s
             → RefinesWatch self.now history s w → option_map event_of result.event ≡ pumped history s w }

@@ -30,7 +30,7 @@ once rule = record {
   non_resource_urls = once_each rule.non_resource_urls;
 }
 
--- an atom that a held rule implies, or that an earlier wanted rule has
+-- an atom of an earlier wanted rule, or implied by a held one
 abbrev pub is_stopped : List PolicyRule → List PolicyRule → Atom → Bool
 is_stopped held before a = list_any (λ h. rule_implies h a) held || list_any (λ w. list_any (same_atom a) (atoms w)) before
 

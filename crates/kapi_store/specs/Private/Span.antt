@@ -1,4 +1,4 @@
--- The range of keys of all objects that a list may show, or that a namespace holds.
+-- The range of keys of all objects of a list or of a namespace.
 use Rattle.std.specs.Prelude.{ℕ, zero, Bool, ◌&&◌, List, [], ◌∷◌, ◌++◌}
 use Rattle.std.specs.List.{list_any}
 use Rattle.std.specs.Str.{bytes_eq}

@@ -1,4 +1,4 @@
--- What a watch that has shown the objects that are shown first finds among the changes.
+-- What a watch finds among the changes once it has shown its first objects.
 use Rattle.std.specs.Prelude.{ℕ, List, Option, None, Some, Result, Ok, Err, option_map, slice_get}
 use Rattle.kapi_store.specs.declared.error.TooOld.{TooOld}
 use Rattle.kapi_store.specs.Plain.{Plain, PlainChange}
