@@ -10,13 +10,13 @@ use Rattle.kapi_reply.specs.declared.refusal.Refused.{Refused}
 use Rattle.kapi_reviews.specs.Kinds.{kind_of}
 use Rattle.kapi_reviews.specs.Reviews.{reviewed}
 use Rattle.kapi_reviews.specs.declared.kind.ReviewKind.{ReviewKind}
-use Rattle.kapi_answer.specs.Route.{is_of_reviews}
+use Rattle.kapi_answer.specs.Route.{is_review_group}
 use Rattle.kapi_answer.specs.Create.{Admitted, admitted, with_namespace_on, in_namespace, valid}
 use Rattle.kapi_answer.specs.Outcome.{Outcome, told}
 
 -- the kind of the reviews that a resource type takes, if any
 unfoldable pub review_kind : ResourceRow → Option ReviewKind
-review_kind row = if is_of_reviews row then kind_of row.kind else None
+review_kind row = if is_review_group row then kind_of row.kind else None
 
 -- where reviews live in namespaces, the body gives no other namespace than the path's; a name in the body is ignored
 unfoldable pub in_review_namespace : ResourceRow → List ℕ → GivenText → Result (Unit {0}) Refused

@@ -68,8 +68,8 @@ place_of row a p =
     else (if a.parts == 3 then subresource_of row p else None)))
 
 -- the resource type is one of reviews (Kubernetes API, authorization.k8s.io/v1)
-abbrev pub is_of_reviews : ResourceRow → Bool
-is_of_reviews row = bytes_eq row.group (codes "authorization.k8s.io")
+abbrev pub is_review_group : ResourceRow → Bool
+is_review_group row = bytes_eq row.group (codes "authorization.k8s.io")
 
 -- where reviews are made: in a namespace exactly if the resource type has namespaces; a review has no name
 abbrev pub reviews_place : ResourceRow → Attributes → Option Place
@@ -77,7 +77,7 @@ reviews_place row a = if a.parts == 1 && beq row.namespaced (not (length a.names
 
 -- the place of a path for a resource type
 unfoldable pub place_on : ResourceRow → Attributes → ResourcePoint → Option Place
-place_on row a p = if is_of_reviews row then reviews_place row a else place_of row a p
+place_on row a p = if is_review_group row then reviews_place row a else place_of row a p
 
 -- a collection is read at once or watched, as its verb says
 abbrev pub read_action : List ℕ → Action

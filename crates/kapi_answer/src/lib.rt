@@ -41,6 +41,6 @@ pub use plan::plan_for;
 pub use prepared::Prepared;
 pub use query::{Filter, check_query};
 pub use respond::answer;
-pub use route::{Action, Part, ResourceRoute, Route, find_route, is_of_reviews};
+pub use route::{Action, Part, ResourceRoute, Route, find_route, is_review_group};
 pub use update::replace;
 pub use watch::{After, EventReply, Watching, event_reply, recheck};

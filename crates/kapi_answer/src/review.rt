@@ -15,7 +15,7 @@ use crate::create::{
     Admitted, check_namespace, check_validity, read_body, refused, with_namespace,
 };
 use crate::outcome::Outcome;
-use crate::route::is_of_reviews;
+use crate::route::is_review_group;
 use crate::task::Task;
 use kapi_http::StatusCode;
 use kapi_model::{Identity, ResourceRow};
@@ -31,7 +31,7 @@ use std::alloc::Global;
 pub fn review_kind(row: &ResourceRow) -> Option<ReviewKind>
     ensures { result ≡ reviews.review_kind row.now }
 {
-    if is_of_reviews(row) {
+    if is_review_group(row) {
         ReviewKind::read(row.kind.as_str())
     } else {
         None

@@ -128,7 +128,7 @@ fn route_on_row<'a>(
 fn place_on(row: &ResourceRow, attributes: &Attributes, point: &ResourcePoint) -> Option<Place>
     ensures { result ≡ routes.place_on row.now attributes.now point.now }
 {
-    if is_of_reviews(row) {
+    if is_review_group(row) {
         reviews_place(row, attributes)
     } else {
         place_of(row, attributes, point)
@@ -136,8 +136,8 @@ fn place_on(row: &ResourceRow, attributes: &Attributes, point: &ResourcePoint) -
 }
 
 /// Whether the resource type is one of reviews (Kubernetes API, authorization.k8s.io/v1).
-pub fn is_of_reviews(row: &ResourceRow) -> bool
-    ensures { result ≡ routes.is_of_reviews row.now }
+pub fn is_review_group(row: &ResourceRow) -> bool
+    ensures { result ≡ routes.is_review_group row.now }
 {
     row.group.as_str() == "authorization.k8s.io"
 }

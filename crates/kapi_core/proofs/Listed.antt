@@ -2,7 +2,7 @@
 use Rattle.std.proofs.Common.{◌≡◌, ℕ, Bool, List, [], ◌++◌, sym, ap, ◌∙◌, subst}
 use Rattle.kapi_model.specs.declared.row.ResourceRow.{ResourceRow}
 use Rattle.kapi_store.specs.Plain.{PlainChange}
-use Rattle.kapi_watch.proofs.Lists.{counted_first_is_the_list, counted_first_shown, counted_showed, due_is_the_list, shown_is_the_list}
+use Rattle.kapi_watch.proofs.Lists.{counted_first_is_the_list, counted_first_shown, counted_showed, due_rebuilds_list, shown_rebuilds_list}
 use Rattle.kapi_watch.specs.Histories.{IsHistory}
 use Rattle.kapi_watch.specs.Lists.{all_on_top, list_at, list_now, listed}
 use Rattle.kapi_watch.specs.Runs.{HoldsOn, Step, history_after, shown_over, still_due, watch_after}
@@ -25,7 +25,7 @@ pub due_is_listed : DueIsListed
 due_is_listed on table first texts events scope revision =
     let m : Machine = served on table first texts events in
     let h : HasHistory first m = served_has on table first texts events in
-    due_is_the_list first m.changes scope revision h.history ∙ now_is_listed first m scope h
+    due_rebuilds_list first m.changes scope revision h.history ∙ now_is_listed first m scope h
 
 module _ (m : Machine) (events : List Event) (h : HasHistory m.store.first m) where
   abbrev n : Machine
@@ -61,7 +61,7 @@ module _ (m : Machine) (events : List Event) (h : HasHistory m.store.first m) wh
     shown_listed scope revision holds none =
         let P : List PlainChange → Type 0 = λ cs. still_due cs (watch_after ts m.changes m.store (started_at scope revision)) ≡ [] in
         let Q : List PlainChange → Type 0 = λ cs. all_on_top scope (list_at scope revision cs) (shown_over ts m.changes m.store (started_at scope revision)) ≡ list_now scope cs in
-        subst Q between (shown_is_the_list m.store.first ts m.changes m.store scope revision between_history holds (subst P (sym between) none)) ∙ now_is_listed m.store.first n scope goes
+        subst Q between (shown_rebuilds_list m.store.first ts m.changes m.store scope revision between_history holds (subst P (sym between) none)) ∙ now_is_listed m.store.first n scope goes
 
     first_shown_listed : (scope : Scope) → HoldsOn ts m.changes m.store (started_now m.store scope)
         → still_due n.changes (watch_after ts m.changes m.store (started_now m.store scope)) ≡ []

@@ -7,7 +7,7 @@ use Rattle.kapi_model.specs.Kinds.{rbac_group}
 use Rattle.kapi_model.specs.declared.row.ResourceRow.{ResourceRow}
 use Rattle.kapi_model.specs.declared.row.Schema.{Schema}
 use Rattle.kapi_model.specs.declared.row.Schema.TheVariants as schema
-use Rattle.kapi_answer.specs.Route.{is_of_reviews}
+use Rattle.kapi_answer.specs.Route.{is_review_group}
 use Rattle.kapi_core.specs.declared.resource.Resource.{Resource}
 
 -- a resource as a resource type of a table: all are of version v1
@@ -106,7 +106,7 @@ has_row table row = list_any (is_row row) table
 
 -- a resource type of an open schema in another group than reviews
 abbrev pub is_further : ResourceRow → Bool
-is_further row = is_schema row.schema schema.Open && not (is_of_reviews row)
+is_further row = is_schema row.schema schema.Open && not (is_review_group row)
 
 -- a further resource type, or one of those that each table has
 abbrev pub is_known : ResourceRow → Bool

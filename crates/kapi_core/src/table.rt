@@ -4,7 +4,7 @@ ghost use Rattle.kapi_core.specs.Table as tables;
 ghost use Rattle.kapi_core.specs.Table.{fits, required_rows, row_of};
 
 use crate::resource::{Resource, required_resources};
-use kapi_answer::is_of_reviews;
+use kapi_answer::is_review_group;
 use kapi_model::{ResourceRow, Schema};
 
 /// Whether a table of resources can be served: it has the resource types of `namespaces`, of the four kinds of the
@@ -50,7 +50,7 @@ fn is_known(row: &ResourceRow) -> bool
 fn is_further(row: &ResourceRow) -> bool
     ensures { result ≡ tables.is_further row.now }
 {
-    is_schema(row.schema, Schema::Open) && !is_of_reviews(row)
+    is_schema(row.schema, Schema::Open) && !is_review_group(row)
 }
 
 fn is_required(row: &ResourceRow) -> bool

@@ -28,7 +28,7 @@ pub const NO_LINE: RequestSpans = RequestSpans {
 };
 
 /// The parts before any head was read.
-pub const NO_PARTS: HeadParts = HeadParts {
+pub const EMPTY_HEAD: HeadParts = HeadParts {
     line: NO_LINE,
     method: Method::Get,
     fields: [EMPTY_HEADER_SPAN; 64],

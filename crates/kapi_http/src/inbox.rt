@@ -2,7 +2,7 @@
 
 ghost use Rattle.std.specs.Prelude.{◌≡◌, ◌+◌, ◌<◌, ◌≤◌, ◌++◌, [], ◌↔◌, IfOk, IsFalse, IsTrue, OnOk, OnErr, Some, Ok, false, length};
 
-use crate::head::{HeadParts, NO_PARTS};
+use crate::head::{EMPTY_HEAD, HeadParts};
 use crate::item::{Decision, Progress, advance, continued, item};
 use crate::message::{HttpFault, HttpRequest};
 use crate::scan::BEGIN;
@@ -72,7 +72,7 @@ impl Inbox {
             bytes: Vec::new(alloc),
             start: 0,
             progress: NOTHING_READ,
-            parts: NO_PARTS,
+            parts: EMPTY_HEAD,
             ended: false,
         }
     }

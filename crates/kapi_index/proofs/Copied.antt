@@ -16,7 +16,7 @@ use Rattle.kapi_model.specs.declared.binding.RoleBinding.{RoleBinding}
 use Rattle.kapi_model.specs.declared.role.Role.{Role}
 use Rattle.kapi_index.proofs.Finds.{name_total}
 use Rattle.kapi_index.proofs.Spread.{insert_text}
-use Rattle.kapi_index.specs.Contents.{AreNamed, AreSpread, Part, bindings_in, by_text, in_all, part, parts, placed, roles_in}
+use Rattle.kapi_index.specs.Contents.{AreNamed, AreDistinct, Part, bindings_in, by_text, in_all, part, parts, placed, roles_in}
 use Rattle.kapi_index.specs.Scopes.{bare}
 use Rattle.kapi_index.specs.declared.scope.Bound.{Bound}
 use Rattle.kapi_index.specs.declared.spaces.Namespace.{Namespace}
@@ -52,7 +52,7 @@ parts_put (e ∷ es) name w =
 
 -- one namespace more is copied
 pub space_more : (old new : List (String Global × Namespace)) (key name : String Global) (copy space : Namespace) (left rest es : List (String Global × Namespace))
-    → left ≡ (name, space) ∷ rest → parts (by_text old) ++ parts (by_text left) ≡ parts (by_text es) → AreSpread (by_text es) → part copy ≡ part space → string_bytes key ≡ string_bytes name
+    → left ≡ (name, space) ∷ rest → parts (by_text old) ++ parts (by_text left) ≡ parts (by_text es) → AreDistinct (by_text es) → part copy ≡ part space → string_bytes key ≡ string_bytes name
     → new ≡ insert_entry (λ a b. slice_cmp nat_cmp (string_bytes a) (string_bytes b)) old key copy → parts (by_text new) ++ parts (by_text rest) ≡ parts (by_text es)
 space_more old new key name copy space left rest es step whole spread same named put =
     one_more name_cmp name_total (parts (by_text old)) (string_bytes name) (part space) (parts (by_text rest)) (parts (by_text es)) (parts (by_text new))
@@ -93,7 +93,7 @@ same_roles a b same = roles_of_parts a ∙ ap roles_of same ∙ sym (roles_of_pa
 pub same_bindings : (a b : List (List ℕ × Namespace)) → parts a ≡ parts b → in_all bindings_in a ≡ in_all bindings_in b
 same_bindings a b same = bindings_of_parts a ∙ ap bindings_of same ∙ sym (bindings_of_parts b)
 
-pub same_spread : (a b : List (List ℕ × Namespace)) → parts a ≡ parts b → AreSpread b → AreSpread a
+pub same_spread : (a b : List (List ℕ × Namespace)) → parts a ≡ parts b → AreDistinct b → AreDistinct a
 same_spread a b same spread = record {
   sorted = subst (IsStrictlySortedBy name_cmp) (sym (keys_parts b) ∙ ap keys_of (sym same) ∙ keys_parts a) spread.sorted;
   named = to_names a (subst named_parts (sym same) (from_names b spread.named));

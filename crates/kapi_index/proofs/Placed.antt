@@ -11,7 +11,7 @@ use Rattle.std.specs.declared.string.String.{String}
 use Rattle.std.specs.declared.alloc.Global.{Global}
 use Rattle.kapi_policy.specs.Objects.{name_cmp, place_cmp}
 use Rattle.kapi_index.proofs.Spread.{insert_text, lookup_text, named_at, none_taken, put_in_all, same_in_all, set_is_put, set_text, spread_put, taken_in_all}
-use Rattle.kapi_index.specs.Contents.{AreSpread, by_text, in_all, in_one}
+use Rattle.kapi_index.specs.Contents.{AreDistinct, by_text, in_all, in_one}
 use Rattle.kapi_index.specs.declared.spaces.Namespace.{Namespace}
 
 abbrev pub Spaces : Type 0
@@ -22,11 +22,11 @@ at_text ns spaces = lookup (is_at (λ k. slice_cmp nat_cmp ns (string_bytes k)))
 
 -- the namespace was put anew under its name
 pub record IsPut (ns : List ℕ) (o : Option Namespace) (w : Namespace) (old new : Spaces) : Type 0 where
-  pub spread : AreSpread (by_text old)
+  pub spread : AreDistinct (by_text old)
   pub stood : o ≡ lookup (is_at (name_cmp ns)) (by_text old)
   pub put : by_text new ≡ insert_entry name_cmp (by_text old) ns w
 
-pub was_set : (ns bs : List ℕ) (v w : Namespace) (old new : Spaces) → bs ≡ ns → AreSpread (by_text old) → Some v ≡ at_text bs old
+pub was_set : (ns bs : List ℕ) (v w : Namespace) (old new : Spaces) → bs ≡ ns → AreDistinct (by_text old) → Some v ≡ at_text bs old
     → new ≡ set_value (is_at (λ k. slice_cmp nat_cmp bs (string_bytes k))) old w → IsPut ns (Some v) w old new
 was_set ns bs v w old new same spread found set =
     subst (λ n. IsPut n (Some v) w old new) same (record {
@@ -35,7 +35,7 @@ was_set ns bs v w old new same spread found set =
       put = ap by_text set ∙ set_text bs old w ∙ set_is_put bs v w (by_text old) spread.sorted (sym (found ∙ lookup_text bs old));
     })
 
-pub was_made : (ns : List ℕ) (k : String Global) (w : Namespace) (old new : Spaces) → AreSpread (by_text old) → lookup (is_at (name_cmp ns)) (by_text old) ≡ None
+pub was_made : (ns : List ℕ) (k : String Global) (w : Namespace) (old new : Spaces) → AreDistinct (by_text old) → lookup (is_at (name_cmp ns)) (by_text old) ≡ None
     → string_bytes k ≡ ns → new ≡ insert_entry (λ a b. slice_cmp nat_cmp (string_bytes a) (string_bytes b)) old k w → IsPut ns None w old new
 was_made ns k w old new spread absent same made = record {
   spread = spread;
@@ -43,7 +43,7 @@ was_made ns k w old new spread absent same made = record {
   put = ap by_text made ∙ insert_text old k w ∙ ap (λ n. insert_entry name_cmp (by_text old) n w) same;
 }
 
-pub spread_after : (ns : List ℕ) (o : Option Namespace) (w : Namespace) (old new : Spaces) → IsPut ns o w old new → w.bound.namespace ≡ ns → AreSpread (by_text new)
+pub spread_after : (ns : List ℕ) (o : Option Namespace) (w : Namespace) (old new : Spaces) → IsPut ns o w old new → w.bound.namespace ≡ ns → AreDistinct (by_text new)
 spread_after ns o w old new is named = spread_put (by_text old) (by_text new) ns w is.spread named is.put
 
 -- a stored namespace is under its name

@@ -19,7 +19,7 @@ use Rattle.kapi_policy.specs.declared.change.NamespacedName.{NamespacedName}
 use Rattle.kapi_policy.proofs.Sets.{put_keeps}
 use Rattle.kapi_text.proofs.Booleans.{turned}
 use Rattle.kapi_index.proofs.Finds.{name_total}
-use Rattle.kapi_index.specs.Contents.{AreNamed, AreSpread, by_text, in_all, in_one, placed}
+use Rattle.kapi_index.specs.Contents.{AreNamed, AreDistinct, by_text, in_all, in_one, placed}
 use Rattle.kapi_index.specs.declared.spaces.Namespace.{Namespace}
 
 pub below_more : (k l : List ℕ) (ks : List (List ℕ)) → name_cmp k l ≡ Less → AllByRecursion (λ y. name_cmp l y ≡ Less) ks → AllByRecursion (λ y. name_cmp k y ≡ Less) ks
@@ -86,7 +86,7 @@ named_put (s ∷ spaces) ns w named is =
       | Greater ↦ λ at. (named.0, named_put spaces ns w named.1 is)
     ] refl
 
-pub spread_put : (spaces after : List (List ℕ × Namespace)) (ns : List ℕ) (w : Namespace) → AreSpread spaces → w.bound.namespace ≡ ns → after ≡ insert_entry name_cmp spaces ns w → AreSpread after
+pub spread_put : (spaces after : List (List ℕ × Namespace)) (ns : List ℕ) (w : Namespace) → AreDistinct spaces → w.bound.namespace ≡ ns → after ≡ insert_entry name_cmp spaces ns w → AreDistinct after
 spread_put spaces after ns w spread is put =
     rw put (record { sorted = put_keeps name_cmp name_total spaces ns w spread.sorted; named = named_put spaces ns w spread.named is })
 

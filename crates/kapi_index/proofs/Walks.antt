@@ -26,7 +26,7 @@ use Rattle.kapi_policy.specs.declared.decision.BindingKind.TheVariants as kind
 use Rattle.kapi_text.proofs.Booleans.{turned}
 use Rattle.kapi_index.proofs.Placed.{Spaces, at_text}
 use Rattle.kapi_index.proofs.Spread.{in_space, lookup_text, named_at}
-use Rattle.kapi_index.specs.Contents.{AreSpread, binding_at, bindings_in, by_text, cluster_wide, grant_of, in_all, in_one, placed, roles_in}
+use Rattle.kapi_index.specs.Contents.{AreDistinct, binding_at, bindings_in, by_text, cluster_wide, grant_of, in_all, in_one, placed, roles_in}
 use Rattle.kapi_index.specs.Scopes.{Scoped, left, means}
 use Rattle.kapi_index.specs.declared.spaces.Namespace.{Namespace}
 
@@ -122,20 +122,20 @@ bindings_placed : (ns : List ℕ) (es : List (List ℕ × RoleBinding)) → map 
 bindings_placed ns [] = refl
 bindings_placed ns (e ∷ es) = rw (bindings_placed ns es) refl
 
-bindings_there : (ns : List ℕ) (spaces : Spaces) → AreSpread (by_text spaces)
+bindings_there : (ns : List ℕ) (spaces : Spaces) → AreDistinct (by_text spaces)
     → bindings_of ns (in_all bindings_in (by_text spaces)) ≡ map (binding_at kind.RoleBinding ns) (in_one bindings_in (at_text ns spaces))
 bindings_there ns spaces spread =
     ap (map namespace_binding) (in_space bindings_in ns (by_text spaces) spread.sorted)
     ∙ bindings_placed ns (in_one bindings_in (lookup (is_at (name_cmp ns)) (by_text spaces)))
     ∙ ap (λ o. map (binding_at kind.RoleBinding ns) (in_one bindings_in o)) (sym (lookup_text ns spaces))
 
-pub bindings_found : (ns : List ℕ) (spaces : Spaces) (v : Namespace) → AreSpread (by_text spaces) → Some v ≡ at_text ns spaces
+pub bindings_found : (ns : List ℕ) (spaces : Spaces) (v : Namespace) → AreDistinct (by_text spaces) → Some v ≡ at_text ns spaces
     → bindings_of ns (in_all bindings_in (by_text spaces)) ≡ map (binding_at kind.RoleBinding v.bound.namespace) v.bound.bindings
 bindings_found ns spaces v spread found =
     bindings_there ns spaces spread ∙ ap (λ o. map (binding_at kind.RoleBinding ns) (in_one bindings_in o)) (sym found)
     ∙ ap (λ n. map (binding_at kind.RoleBinding n) v.bound.bindings) (sym (named_at (by_text spaces) ns v spread.named (sym (found ∙ lookup_text ns spaces))))
 
-pub bindings_absent : (ns : List ℕ) (spaces : Spaces) → AreSpread (by_text spaces) → None ≡ at_text ns spaces → bindings_of ns (in_all bindings_in (by_text spaces)) ≡ []
+pub bindings_absent : (ns : List ℕ) (spaces : Spaces) → AreDistinct (by_text spaces) → None ≡ at_text ns spaces → bindings_of ns (in_all bindings_in (by_text spaces)) ≡ []
 bindings_absent ns spaces spread none = bindings_there ns spaces spread ∙ ap (λ o. map (binding_at kind.RoleBinding ns) (in_one bindings_in o)) (sym none)
 
 -- ---- roles
@@ -152,7 +152,7 @@ lookup_placed : {X : Type 0} (ns name : List ℕ) (es : List (List ℕ × X)) �
 lookup_placed ns name [] = refl
 lookup_placed ns name (e ∷ es) = rw (turned e.0 name, is_eq-slice_cmp name e.0, lookup_placed ns name es) refl
 
-roles_there : (ns name : List ℕ) (spaces : Spaces) → AreSpread (by_text spaces)
+roles_there : (ns name : List ℕ) (spaces : Spaces) → AreDistinct (by_text spaces)
     → lookup (is_place ns name) (in_all roles_in (by_text spaces)) ≡ lookup (is_at (name_cmp name)) (in_one roles_in (at_text ns spaces))
 roles_there ns name spaces spread =
     lookup_both (is_in ns) (λ k. bytes_eq k.name name) (in_all roles_in (by_text spaces))
@@ -160,12 +160,12 @@ roles_there ns name spaces spread =
     ∙ lookup_placed ns name (in_one roles_in (lookup (is_at (name_cmp ns)) (by_text spaces)))
     ∙ ap (λ o. lookup (is_at (name_cmp name)) (in_one roles_in o)) (sym (lookup_text ns spaces))
 
-pub role_found : (ns name : List ℕ) (spaces : Spaces) (v : Namespace) → AreSpread (by_text spaces) → Some v ≡ at_text ns spaces
+pub role_found : (ns name : List ℕ) (spaces : Spaces) (v : Namespace) → AreDistinct (by_text spaces) → Some v ≡ at_text ns spaces
     → rules_in (lookup (is_at (name_cmp name)) v.roles.entries) ≡ rules_in (lookup (is_place ns name) (in_all roles_in (by_text spaces)))
 role_found ns name spaces v spread found =
     ap rules_in (ap (λ o. lookup (is_at (name_cmp name)) (in_one roles_in o)) found ∙ sym (roles_there ns name spaces spread))
 
-pub role_absent : (ns name : List ℕ) (spaces : Spaces) → AreSpread (by_text spaces) → None ≡ at_text ns spaces
+pub role_absent : (ns name : List ℕ) (spaces : Spaces) → AreDistinct (by_text spaces) → None ≡ at_text ns spaces
     → None ≡ rules_in (lookup (is_place ns name) (in_all roles_in (by_text spaces)))
 role_absent ns name spaces spread none =
     ap rules_in (ap (λ o. lookup (is_at (name_cmp name)) (in_one roles_in o)) none ∙ sym (roles_there ns name spaces spread))

@@ -49,7 +49,7 @@ AreNamed [] = Unit {0}
 AreNamed (s ∷ spaces) = (s.1.bound.namespace ≡ s.0) × AreNamed spaces
 
 -- the namespaces are in order, each under its name
-pub record AreSpread (spaces : List (List ℕ × Namespace)) : Type 0 where
+pub record AreDistinct (spaces : List (List ℕ × Namespace)) : Type 0 where
   pub sorted : IsStrictlySortedBy name_cmp (keys_of spaces)
   pub named : AreNamed spaces
 
@@ -81,7 +81,7 @@ grant_of objects point b = granted_at b (position (λ rule. allows rule point) (
 -- the cluster-wide bindings have no namespace, and the namespaces are in order, each under its name
 pub record IsWhole (cluster : Scoped) (spaces : List (List ℕ × Namespace)) : Type 0 where
   pub cluster_wide : cluster.namespace ≡ []
-  pub spread : AreSpread spaces
+  pub spread : AreDistinct spaces
 
 -- the bindings of a namespace that count somewhere: all, unless its name is empty
 unfoldable pub bindings_of_space : List ℕ → Namespace → List Binding

@@ -4,7 +4,7 @@ ghost use Rattle.std.specs.BTreeMap.{insert_entry, is_at};
 ghost use Rattle.std.specs.Map.{lookup, remove_entry};
 ghost use Rattle.kapi_policy.specs.Decided.{bindings_of, is_place, rules_in};
 ghost use Rattle.kapi_policy.specs.Objects.{name_cmp, place_cmp};
-ghost use Rattle.kapi_index.specs.Contents.{AreSpread, binding_at, bindings_in, by_text, in_all, part, parts, roles_in};
+ghost use Rattle.kapi_index.specs.Contents.{AreDistinct, binding_at, bindings_in, by_text, in_all, part, parts, roles_in};
 
 use crate::roles::PreparedRole;
 use crate::rules::CompiledRules;
@@ -53,12 +53,12 @@ fn put_first_role(
     place: &NamespacedName,
     role: PreparedRole,
 ) -> Result<(), Memory>
-    requires spread { AreSpread (by_text spaces.old.entries) }
+    requires spread { AreDistinct (by_text spaces.old.entries) }
     requires absent { lookup (is_at (name_cmp place.now.namespace)) (by_text spaces.old.entries) ≡ None }
     ensures done { OnOk result (in_all roles_in (by_text spaces.new.entries) ≡ insert_entry place_cmp (in_all roles_in (by_text spaces.old.entries)) place.now role) }
     ensures kept { OnErr result (in_all roles_in (by_text spaces.new.entries) ≡ in_all roles_in (by_text spaces.old.entries)) }
     ensures bindings { in_all bindings_in (by_text spaces.new.entries) ≡ in_all bindings_in (by_text spaces.old.entries) }
-    ensures spread { AreSpread (by_text spaces.new.entries) }
+    ensures spread { AreDistinct (by_text spaces.new.entries) }
 {
     let mut space = empty(alloc, &place.namespace)?;
     let name = place.name.copy(alloc)?;
@@ -75,11 +75,11 @@ pub fn put_role(
     place: &NamespacedName,
     role: PreparedRole,
 ) -> Result<(), Memory>
-    requires spread { AreSpread (by_text spaces.old.entries) }
+    requires spread { AreDistinct (by_text spaces.old.entries) }
     ensures done { OnOk result (in_all roles_in (by_text spaces.new.entries) ≡ insert_entry place_cmp (in_all roles_in (by_text spaces.old.entries)) place.now role) }
     ensures kept { OnErr result (in_all roles_in (by_text spaces.new.entries) ≡ in_all roles_in (by_text spaces.old.entries)) }
     ensures bindings { in_all bindings_in (by_text spaces.new.entries) ≡ in_all bindings_in (by_text spaces.old.entries) }
-    ensures spread { AreSpread (by_text spaces.new.entries) }
+    ensures spread { AreDistinct (by_text spaces.new.entries) }
 {
     let name = place.name.copy(alloc)?;
     match spaces.get_mut(place.namespace.as_str()) {
@@ -95,12 +95,12 @@ fn put_first_binding(
     place: &NamespacedName,
     binding: RoleBinding,
 ) -> Result<(), Memory>
-    requires spread { AreSpread (by_text spaces.old.entries) }
+    requires spread { AreDistinct (by_text spaces.old.entries) }
     requires absent { lookup (is_at (name_cmp place.now.namespace)) (by_text spaces.old.entries) ≡ None }
     ensures done { OnOk result (in_all bindings_in (by_text spaces.new.entries) ≡ insert_entry place_cmp (in_all bindings_in (by_text spaces.old.entries)) place.now binding) }
     ensures kept { OnErr result (in_all bindings_in (by_text spaces.new.entries) ≡ in_all bindings_in (by_text spaces.old.entries)) }
     ensures roles { in_all roles_in (by_text spaces.new.entries) ≡ in_all roles_in (by_text spaces.old.entries) }
-    ensures spread { AreSpread (by_text spaces.new.entries) }
+    ensures spread { AreDistinct (by_text spaces.new.entries) }
 {
     let mut space = empty(alloc, &place.namespace)?;
     space.bound.put(&place.name, binding)?;
@@ -116,11 +116,11 @@ pub fn put_binding(
     place: &NamespacedName,
     binding: RoleBinding,
 ) -> Result<(), Memory>
-    requires spread { AreSpread (by_text spaces.old.entries) }
+    requires spread { AreDistinct (by_text spaces.old.entries) }
     ensures done { OnOk result (in_all bindings_in (by_text spaces.new.entries) ≡ insert_entry place_cmp (in_all bindings_in (by_text spaces.old.entries)) place.now binding) }
     ensures kept { OnErr result (in_all bindings_in (by_text spaces.new.entries) ≡ in_all bindings_in (by_text spaces.old.entries)) }
     ensures roles { in_all roles_in (by_text spaces.new.entries) ≡ in_all roles_in (by_text spaces.old.entries) }
-    ensures spread { AreSpread (by_text spaces.new.entries) }
+    ensures spread { AreDistinct (by_text spaces.new.entries) }
 {
     match spaces.get_mut(place.namespace.as_str()) {
         Some(space) => space.bound.put(&place.name, binding),
@@ -130,10 +130,10 @@ pub fn put_binding(
 
 /// Takes the role at a place out, if there is one.
 pub fn take_role(spaces: &mut Spaces, place: &NamespacedName)
-    requires spread { AreSpread (by_text spaces.old.entries) }
+    requires spread { AreDistinct (by_text spaces.old.entries) }
     ensures done { in_all roles_in (by_text spaces.new.entries) ≡ remove_entry (is_at (place_cmp place.now)) (in_all roles_in (by_text spaces.old.entries)) }
     ensures bindings { in_all bindings_in (by_text spaces.new.entries) ≡ in_all bindings_in (by_text spaces.old.entries) }
-    ensures spread { AreSpread (by_text spaces.new.entries) }
+    ensures spread { AreDistinct (by_text spaces.new.entries) }
 {
     match spaces.get_mut(place.namespace.as_str()) {
         Some(space) => drop(space.roles.remove(&place.name)),
@@ -143,10 +143,10 @@ pub fn take_role(spaces: &mut Spaces, place: &NamespacedName)
 
 /// Takes the binding at a place out, if there is one.
 pub fn take_binding(spaces: &mut Spaces, place: &NamespacedName)
-    requires spread { AreSpread (by_text spaces.old.entries) }
+    requires spread { AreDistinct (by_text spaces.old.entries) }
     ensures done { in_all bindings_in (by_text spaces.new.entries) ≡ remove_entry (is_at (place_cmp place.now)) (in_all bindings_in (by_text spaces.old.entries)) }
     ensures roles { in_all roles_in (by_text spaces.new.entries) ≡ in_all roles_in (by_text spaces.old.entries) }
-    ensures spread { AreSpread (by_text spaces.new.entries) }
+    ensures spread { AreDistinct (by_text spaces.new.entries) }
 {
     match spaces.get_mut(place.namespace.as_str()) {
         Some(space) => space.bound.take(&place.name),
@@ -169,7 +169,7 @@ fn rules_named<'a>(
 
 /// The rules of the role of a name in a namespace, if it is there.
 pub fn rules_at<'a>(spaces: &'a Spaces, name: &Text, namespace: &str) -> Option<&'a CompiledRules>
-    requires spread { AreSpread (by_text spaces.now.entries) }
+    requires spread { AreDistinct (by_text spaces.now.entries) }
     ensures { option_copied result ≡ rules_in (lookup (is_place namespace.now name.now) (in_all roles_in (by_text spaces.now.entries))) }
 {
     match spaces.get(namespace) {
@@ -180,7 +180,7 @@ pub fn rules_at<'a>(spaces: &'a Spaces, name: &Text, namespace: &str) -> Option<
 
 /// The bindings of a namespace, if it is there.
 pub fn scope_in<'a>(spaces: &'a Spaces, namespace: &str) -> Option<&'a Scope>
-    requires spread { AreSpread (by_text spaces.now.entries) }
+    requires spread { AreDistinct (by_text spaces.now.entries) }
     ensures { MatchOption result (bindings_of namespace.now (in_all bindings_in (by_text spaces.now.entries)) ≡ []) (λ s. bindings_of namespace.now (in_all bindings_in (by_text spaces.now.entries)) ≡ map (binding_at BindingKind.RoleBinding s.now.namespace) s.now.bindings) }
 {
     match spaces.get(namespace) {
@@ -199,7 +199,7 @@ fn copy_space(alloc: Global, space: &Namespace) -> Result<Namespace, Memory>
 
 /// Owned namespaces with the same roles and bindings.
 pub fn copy_spaces(alloc: Global, spaces: &Spaces) -> Result<Spaces, Memory>
-    requires spread { AreSpread (by_text spaces.now.entries) }
+    requires spread { AreDistinct (by_text spaces.now.entries) }
     ensures { IfOk result (λ s. parts (by_text s.entries) ≡ parts (by_text spaces.now.entries)) }
 {
     let mut copied = BTreeMap::new(alloc);

@@ -85,10 +85,10 @@ abbrev pub is_namespaces : ResourceRow → Bool
 is_namespaces row = length row.group == 0 && bytes_eq row.plural (codes "namespaces")
 
 -- the rule of names by a schema: names of roles and bindings are path segments ('Using RBAC Authorization')
-abbrev pub is_name_by : Schema → ResourceRow → List ℕ → Bool
-is_name_by Open row s = if is_namespaces row then is_dns_label s else is_dns_subdomain s
-is_name_by _ row s = is_path_segment s
+abbrev pub is_name_for : Schema → ResourceRow → List ℕ → Bool
+is_name_for Open row s = if is_namespaces row then is_dns_label s else is_dns_subdomain s
+is_name_for _ row s = is_path_segment s
 
 -- the rule of names for the objects of a resource type (Kubernetes, 'Object Names and IDs')
 unfoldable pub is_name_on : ResourceRow → List ℕ → Bool
-is_name_on row s = is_name_by row.schema row s
+is_name_on row s = is_name_for row.schema row s

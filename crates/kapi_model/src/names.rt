@@ -1,6 +1,6 @@
 ghost use Rattle.std.specs.Prelude.{◌≡◌, ◌==◌, ◌||◌};
 ghost use Rattle.std.specs.List.{list_all, list_any, slice_split};
-ghost use Rattle.kapi_model.specs.Names.{is_dns_label, is_dns_subdomain, is_path_segment, is_label_key, is_label_value, is_name_by, is_name_on};
+ghost use Rattle.kapi_model.specs.Names.{is_dns_label, is_dns_subdomain, is_path_segment, is_label_key, is_label_value, is_name_for, is_name_on};
 ghost use Rattle.kapi_model.specs.declared.row.Schema.TheVariants as Schemas;
 ghost use Rattle.kapi_model.specs.Names as rule;
 
@@ -135,7 +135,7 @@ pub fn check_name(row: &ResourceRow, name: &str) -> bool
 }
 
 fn check_open_name(row: &ResourceRow, name: &str) -> bool
-    ensures { result ≡ is_name_by Schemas.Open row.now name.now }
+    ensures { result ≡ is_name_for Schemas.Open row.now name.now }
 {
     if row.group.as_str().is_empty() && row.plural.as_str() == "namespaces" {
         check_namespace_name(name)

@@ -17,7 +17,7 @@ use Rattle.kapi_store.specs.Plain.{Plain, PlainChange, trees_left_by}
 use Rattle.kapi_store.specs.declared.key.Key.{Key}
 use Rattle.kapi_watch.specs.declared.scope.Scope.{Scope}
 use Rattle.kapi_watch.specs.Histories.{IsNamedBy, AreMadeOf, IsHistory}
-use Rattle.kapi_watch.specs.Lists.{objects_after, up_to, listed, list_at, list_now, place_in, on_top, all_on_top, DueIsTheList, FirstIsTheList, ShownIsTheList, FirstShownIsTheList, StoreShowsTheList, StoreShowedTheList}
+use Rattle.kapi_watch.specs.Lists.{objects_after, up_to, listed, list_at, list_now, place_in, on_top, all_on_top, DueRebuildsList, FirstRebuildsList, ShownRebuildsList, FirstShownRebuildsList, StoreShowsTheList, StoreShowedTheList}
 use Rattle.kapi_watch.specs.Runs.{Step, Made, Pump, HoldsOn, history_after, watch_after, shown_over, still_due}
 use Rattle.kapi_store.specs.Gone.{at_version}
 use Rattle.kapi_watch.specs.Shown.{Shown, Added, selected, shown_by, shown_of}
@@ -241,9 +241,9 @@ objects_parted first revision h numbered =
     ∙ ap (λ ws. placed_all ws []) (sym (map-append (λ c. (c.key, c.new)) (up_to revision h) (later revision h)))
     ∙ ap objects_after (parted (λ c. c.revision) revision first h numbered)
 
-pub due_is_the_list : DueIsTheList
+pub due_rebuilds_list : DueRebuildsList
 unfolding due
-due_is_the_list first h scope revision k =
+due_rebuilds_list first h scope revision k =
     let P : List PlainChange → Type 0 = AreMadeOf [] in
     let at : After (objects_after (up_to revision h)) (later revision h) = after_first (up_to revision h) (later revision h) [] keeps_none (subst P (sym (parted (λ c. c.revision) revision first h k.numbered)) k.made) in
     makes scope (later revision h) (objects_after (up_to revision h)) at.keeps at.made
@@ -289,10 +289,10 @@ counted_first_is_the_list h more s scope made counted k =
     ap (all_on_top scope []) (map-append (λ e. e.1) front back)
     ∙ on_top_append scope [] (events_in front) (events_in back)
     ∙ ap (λ list. all_on_top scope list (events_in back)) (first_made s.revision scope s.objects keeps ∙ start)
-    ∙ due_is_the_list s.first (h ++ more) scope s.revision k
+    ∙ due_rebuilds_list s.first (h ++ more) scope s.revision k
 
-pub first_is_the_list : FirstIsTheList
-first_is_the_list store h more s scope stands k = counted_first_is_the_list h more s scope stands.made stands.counted k
+pub first_rebuilds_list : FirstRebuildsList
+first_rebuilds_list store h more s scope stands k = counted_first_is_the_list h more s scope stands.made stands.counted k
 
 -- ---- what was shown
 
@@ -301,10 +301,10 @@ shown_is_due : (ts : List Step) (h : List PlainChange) (s : Plain) (w : PlainWat
     → shown_over ts h s w ≡ still_due (history_after ts h) w
 shown_is_due ts h s w holds none = sym (shows ts h s w holds ∙ ap (λ l. shown_over ts h s w ++ l) none ∙ append-nil (shown_over ts h s w))
 
-pub shown_is_the_list : ShownIsTheList
-shown_is_the_list first ts h s scope revision k holds none =
+pub shown_rebuilds_list : ShownRebuildsList
+shown_rebuilds_list first ts h s scope revision k holds none =
     ap (all_on_top scope (list_at scope revision (history_after ts h))) (shown_is_due ts h s (started_at scope revision) holds none)
-    ∙ due_is_the_list first (history_after ts h) scope revision k
+    ∙ due_rebuilds_list first (history_after ts h) scope revision k
 
 -- the changes that are made in a run
 made_in : List Step → List PlainChange
@@ -328,5 +328,5 @@ counted_first_shown ts h s scope made counted k holds none =
     ap (all_on_top scope []) (shown_is_due ts h s (started_now s scope) holds none)
     ∙ subst P (sym all) (counted_first_is_the_list h (made_in ts) s scope made counted (subst Q all k))
 
-pub first_shown_is_the_list : FirstShownIsTheList
-first_shown_is_the_list store ts h s scope stands k holds none = counted_first_shown ts h s scope stands.made stands.counted k holds none
+pub first_shown_rebuilds_list : FirstShownRebuildsList
+first_shown_rebuilds_list store ts h s scope stands k holds none = counted_first_shown ts h s scope stands.made stands.counted k holds none

@@ -56,27 +56,27 @@ abbrev pub all_on_top : Scope → List (Key × Data) → List Shown → List (Ke
 all_on_top scope list events = fold (on_top scope) list events
 
 -- what is due to a watch from a revision on, on top of the list at that revision, is the list now
-abbrev pub DueIsTheList : Type 0
-DueIsTheList = (first : ℕ) (h : List PlainChange) (scope : Scope) (revision : ℕ) → IsHistory first h
+abbrev pub DueRebuildsList : Type 0
+DueRebuildsList = (first : ℕ) (h : List PlainChange) (scope : Scope) (revision : ℕ) → IsHistory first h
     → all_on_top scope (list_at scope revision h) (still_due h (started_at scope revision)) ≡ list_now scope h
 
 -- what is due to a watch that was started on a store and shows first what was listed then is the list now, on top of
 -- nothing and whatever was changed since
-abbrev pub FirstIsTheList : Type 0
-FirstIsTheList = (store : State) (h more : List PlainChange) (s : Plain) (scope : Scope) → RefinesPlain store h s → IsHistory s.first (h ++ more)
+abbrev pub FirstRebuildsList : Type 0
+FirstRebuildsList = (store : State) (h more : List PlainChange) (s : Plain) (scope : Scope) → RefinesPlain store h s → IsHistory s.first (h ++ more)
     → all_on_top scope [] (still_due (h ++ more) (started_now s scope)) ≡ list_now scope (h ++ more)
 
 -- if nothing is due any more to a watch from a revision on, what it has shown while the window holds is the list now
 -- on top of the list at that revision
-abbrev pub ShownIsTheList : Type 0
-ShownIsTheList = (first : ℕ) (ts : List Step) (h : List PlainChange) (s : Plain) (scope : Scope) (revision : ℕ) → IsHistory first (history_after ts h)
+abbrev pub ShownRebuildsList : Type 0
+ShownRebuildsList = (first : ℕ) (ts : List Step) (h : List PlainChange) (s : Plain) (scope : Scope) (revision : ℕ) → IsHistory first (history_after ts h)
     → HoldsOn ts h s (started_at scope revision) → still_due (history_after ts h) (watch_after ts h s (started_at scope revision)) ≡ []
     → all_on_top scope (list_at scope revision (history_after ts h)) (shown_over ts h s (started_at scope revision)) ≡ list_now scope (history_after ts h)
 
 -- where nothing is due any more to a watch that shows first what is listed, what it has shown while the window holds is
 -- the list now on top of nothing
-abbrev pub FirstShownIsTheList : Type 0
-FirstShownIsTheList = (store : State) (ts : List Step) (h : List PlainChange) (s : Plain) (scope : Scope) → RefinesPlain store h s → IsHistory s.first (history_after ts h)
+abbrev pub FirstShownRebuildsList : Type 0
+FirstShownRebuildsList = (store : State) (ts : List Step) (h : List PlainChange) (s : Plain) (scope : Scope) → RefinesPlain store h s → IsHistory s.first (history_after ts h)
     → HoldsOn ts h s (started_now s scope) → still_due (history_after ts h) (watch_after ts h s (started_now s scope)) ≡ []
     → all_on_top scope [] (shown_over ts h s (started_now s scope)) ≡ list_now scope (history_after ts h)
 

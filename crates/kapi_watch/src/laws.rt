@@ -1,6 +1,6 @@
 //! Laws of watches, over all changes ever and all runs.
 ghost use Rattle.kapi_watch.specs.Histories.{GoesOn, IsCreation, IsRemoval, IsReplacement, NoChangeIsAHistory};
-ghost use Rattle.kapi_watch.specs.Lists.{DueIsTheList, FirstIsTheList, FirstShownIsTheList, ShownIsTheList, StoreShowedTheList, StoreShowsTheList};
+ghost use Rattle.kapi_watch.specs.Lists.{DueRebuildsList, FirstRebuildsList, FirstShownRebuildsList, ShownRebuildsList, StoreShowedTheList, StoreShowsTheList};
 ghost use Rattle.kapi_watch.specs.Running.{StandsAtFirst};
 ghost use Rattle.kapi_watch.specs.Runs.{ShowsWhatIsDue, StaysOverWrites, EndsAtTheCurrent};
 
@@ -26,10 +26,10 @@ pub fn writes_leave_what_a_watch_stands_for()
 /// selects. This holds of all that is due to it, and of what it has shown while the window holds, once nothing is due
 /// any more. A watch that shows the objects first makes the list on top of nothing.
 pub fn what_a_watch_shows_makes_the_list()
-    ensures due { DueIsTheList }
-    ensures shown { ShownIsTheList }
-    ensures first { FirstIsTheList }
-    ensures first_shown { FirstShownIsTheList }
+    ensures due { DueRebuildsList }
+    ensures shown { ShownRebuildsList }
+    ensures first { FirstRebuildsList }
+    ensures first_shown { FirstShownRebuildsList }
 {}
 
 /// The list now is what the store lists; the list at a revision is what it listed when that was its current revision.
