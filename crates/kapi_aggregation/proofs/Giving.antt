@@ -1,5 +1,5 @@
--- The cluster roles that are known by a label include those that a selector of it matches, so that the turn that is found
--- among them is the next one.
+-- The cluster roles known by a label include each role that a selector of the label matches, so the turn found among
+-- them is the next one.
 use Rattle.std.proofs.Common.{◌≡◌, inl, inr, ℕ, List, [], ◌∷◌, ◌++◌, Bool, true, false, cond, not, Option, Some, None, option_and_then, option_map, refl, sym, ap, ◌∙◌, subst, map}
 use Rattle.std.proofs.lemmas.Bool.{and_parts}
 use Rattle.std.proofs.lemmas.List.Kept.{IsStrictlySortedBy-filter}
@@ -199,7 +199,7 @@ marks_cover s t new turn is up found marks takers givers covers =
 
 -- ---- what is read anew
 
--- the labels that are kept of a stored cluster role have the values of those that it has
+-- the labels kept of a stored cluster role have the values of its own labels
 labels_kept : (os : List (Key × StoredObject)) (r : Labelled) → Has (roles_in (trees os)) r → value_in (label_list r.labels) ≡ label_in r.labels
 labels_kept os r has =
     let role = mapped_of labelled_tree (filter (λ e. is_cluster_role e.0) (trees os)) r has in
@@ -207,7 +207,7 @@ labels_kept os r has =
     let P : Labelled → Type 0 = λ q. value_in (label_list q.labels) ≡ label_in q.labels in
     subst P (ap labelled_tree entry.1.1 ∙ role.1.1) (values_kept (stored_tree entry.0.1) (told_ordered entry.0.1.text entry.0.1.reads))
 
--- takers and givers that are read anew cover the roles that they are read of
+-- takers and givers read anew from the roles cover the roles
 pub anew_covers : (s : State) (old new : Tracked) → new.marks ≡ old.marks → new.takers ≡ all_takers (roles_in (plain_of s).objects) → new.givers ≡ Some (all_givers (roles_in (plain_of s).objects))
     → Covers old (roles_in (plain_of s).objects) → Covers new (roles_in (plain_of s).objects)
 anew_covers s old new marks takers givers covers =

@@ -221,7 +221,7 @@ module _ (ts : List Taker) (tree : Data) (kept : value_in (labels_of tree) ≡ l
           let found : is_text (value_in (labels_of tree) l.key) l.value ≡ true = ap (λ (f : List ℕ → Option (List ℕ)). is_text (f l.key) l.value) kept ∙ (and_parts (has_label (labels_in tree) l) _ all).0 in
           labels_have ts (with_names_at ts [] []) (labels_of tree) l n (label_there (labels_of tree) l found) (subst (λ ks. is_known ts (record { label = first_text ks; name = n }) ≡ true) is known)
 
-  -- one that takes rules from the object is among those that may
+  -- a role that takes rules from the object is among the names found by the object's labels
   pub may_take : (r : Labelled) → IsKnown ts r → takes_from r (labels_in tree) ≡ true → is_marked (names_for ts (labels_of tree)) r.name ≡ true
   may_take r known h =
       let some = any_of (λ (s : Selector). matches s (labels_in tree)) (selectors_of r) h in
@@ -261,7 +261,7 @@ abbrev pub takes_object : Labelled → Option Data → Bool
 takes_object r None = false
 takes_object r (Some tree) = takes_from r (labels_in tree)
 
--- the labels that are kept of an object, if there is one, have the values of those that it has
+-- the labels kept of an object, if there is one, have the values of its own labels
 abbrev pub AreKept : Option Data → Type 0
 AreKept None = Unit {0}
 AreKept (Some tree) = value_in (labels_of tree) ≡ label_in (labels_in tree)

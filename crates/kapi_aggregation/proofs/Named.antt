@@ -6,7 +6,7 @@ use Rattle.kapi_aggregation.specs.Roles.{role_named}
 use Rattle.kapi_aggregation.specs.Views.{labelled}
 use Rattle.kapi_aggregation.specs.declared.roles.NamedRole.{NamedRole}
 
--- the role that is found is seen as the one that its name finds
+-- finding a role by its name among the views returns the view of the role found by its name
 pub named_mapped : (roles : List NamedRole) (name : List ℕ)
     → role_named (map labelled roles) name ≡ option_map labelled (find (λ r. bytes_eq r.name.now name) roles)
 named_mapped [] name = refl

@@ -116,7 +116,7 @@ on_from roles (y ∷ rs) turn sorted is r has d = by_case (differs roles y) refl
     by_case false here rest found (inl same) = absurd (let never : differs roles r ≡ false = rw (← same) here in cc)
     by_case false here rest found (inr there) = rest found there
 
--- the marks that stay after the turn are of all that differ
+-- each role that differs is marked after the turn as well
 marks_stay : (t : Tracked) (roles : List Labelled) → IsInNameOrder roles → Covers t roles → (turn : Option Turn) → turn ≡ next roles
     → (r : Labelled) → Has roles r → differs roles r ≡ true → is_marked (marks_after t.marks turn) r.name ≡ true
 marks_stay t roles sorted covers None is r has d = absurd (none_differs roles roles (sym is) r has d)

@@ -1,4 +1,4 @@
--- What a tracker keeps: the cluster roles that take rules from others, and the names of those that may differ.
+-- What a tracker keeps: the aggregated cluster roles, and the names of the roles that may differ from their unions.
 use Rattle.std.specs.Prelude.{◌≡◌, ℕ, List, [], ◌∷◌, ◌++◌, Bool, true, false, if◌then◌else◌, Option, Some, None, codes, option_and_then, option_map}
 use Rattle.std.specs.Cmp.Lexicographic.{slice_cmp}
 use Rattle.std.specs.Ordering.{nat_cmp, is_le, ordering_then}
@@ -32,8 +32,8 @@ use Rattle.kapi_aggregation.specs.declared.turn.Turn.{Turn}
 abbrev pub keys_if : Option (BTreeSet Taker) → Option (List Taker)
 keys_if s = option_map (λ k. k.keys) s
 
--- the names of the cluster roles that may differ from their unions, cluster roles that include each aggregated one, and
--- cluster roles that include each one with a label, if they are known
+-- `marks`: the names of the cluster roles that may differ from their unions; `takers`: cluster roles, among them each
+-- aggregated one; `givers`: cluster roles, among them each one with a label, if they are known
 pub record Tracked : Type 0 where
   pub marks : List (List ℕ)
   pub takers : List Taker
@@ -233,7 +233,7 @@ IsCovered t roles r = (IsKnown t.takers r × IsGiven t.givers r) × (differs rol
 abbrev pub Covers : Tracked → List Labelled → Type 0
 Covers t roles = AllByRecursion (IsCovered t roles) roles
 
--- names that cover all that others cover
+-- the new tracker covers all roles that the old one covers
 abbrev pub CoversAsMuch : Tracked → Tracked → Type 0
 CoversAsMuch old new = (roles : List Labelled) → Covers old roles → Covers new roles
 

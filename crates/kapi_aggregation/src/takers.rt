@@ -14,8 +14,8 @@ use kapi_text::{Memory, Text, TryCopy};
 use std::alloc::Global;
 use std::collections::BTreeSet;
 
-/// A cluster role at a label: one that takes rules, at the label that one of its selectors lists first, or at an empty one
-/// if the selector lists none; or one that gives rules, at a label that it has.
+/// A cluster role at a label. A role that takes rules is at the first label of one of its selectors, or at an empty one
+/// if the selector lists none; a role that gives rules is at one of its own labels.
 #[derive(Debug, PartialEq, Eq, PartialOrd, Ord, Drop)]
 pub struct Taker {
     pub label: Text,

@@ -20,19 +20,19 @@ use std::collections::BTreeSet;
 use std::marker::Model;
 use std::mem::replace;
 
-/// So many takers and givers are kept at least before those that were are forgotten.
+/// Up to this many takers and givers, at the least, outdated ones are kept.
 const ROOM: usize = 64;
 
-/// The names of the cluster roles that may differ from their unions, and of those that take rules from others.
+/// The names of the cluster roles that may differ from their unions, and of the aggregated ones.
 #[derive(Debug, Drop)]
 pub struct Tracker {
     alloc: Global,
     marks: BTreeSet<Text>,
-    /// The aggregated cluster roles by the labels that they ask for, and maybe some that were.
+    /// The aggregated cluster roles by the labels that they ask for; may include outdated entries.
     takers: BTreeSet<Taker>,
-    /// The cluster roles by the labels that they have, and maybe some that were; none before the first turn.
+    /// The cluster roles by the labels that they have; may include outdated entries. `None` before the first turn.
     givers: Option<BTreeSet<Taker>>,
-    /// With more takers and givers than this those that were are forgotten.
+    /// With more takers and givers than this, outdated ones are forgotten.
     room: usize,
 }
 
@@ -171,7 +171,7 @@ fn mark_if_role(
     }
 }
 
-/// Marks the roles that take rules from the cluster roles that the changes change.
+/// Marks the roles that take rules from the changed cluster roles.
 fn mark_by_changes(
     alloc: Global,
     marks: &mut BTreeSet<Text>,
@@ -232,11 +232,11 @@ impl Tracker {
         }
     }
 
-    /// Marks what some changes of the store affect, before they are made: the aggregated cluster roles that they leave,
-    /// and those that take rules from a changed one, as it is or as it is left. If no change is of a cluster role,
-    /// nothing is read.
+    /// Marks what some changes of the store affect, before they are made: the aggregated cluster roles they write, and
+    /// the roles that take rules from a changed cluster role, as it is before or after the change. If no change is of
+    /// a cluster role, nothing is read.
     ///
-    /// Names that are kept stay, so that changes which are not made do no harm; so do they if an allocation fails.
+    /// Names already kept stay, also if an allocation fails, so changes which are not made do no harm.
     pub fn note_write(&mut self, store: &Store, changes: &[Change]) -> Result<(), Memory>
         // what was covered is covered still, and so are the roles after the changes
         ensures covers { CoversAsMuch self.old self.new }

@@ -44,7 +44,8 @@ pub(crate) fn turn_at(
     turn_to(alloc, role, union_for(alloc, roles, role)?)
 }
 
-/// The same for a role of the store, of which those roles alone are read that its selectors may match by the givers.
+/// What an aggregated role of the store that differs from its union is to become. Only the roles which its selectors
+/// may match, by the givers, are read.
 pub(crate) fn turn_in(
     alloc: Global,
     store: &Store,

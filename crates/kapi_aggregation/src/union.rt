@@ -89,8 +89,8 @@ fn meant_in(
     Ok(rules)
 }
 
-/// Adds the rules of the roles of the store that the selector matches, but for the role of that name. If the selector
-/// lists a label and the givers are known, those at the first label alone are read.
+/// Adds the rules of the store's roles that the selector matches, but for the role `name`. If the selector lists
+/// a label and the givers are known, only the givers at its first label are read.
 fn add_given(
     alloc: Global,
     rules: &mut Vec<PolicyRule>,
@@ -114,7 +114,7 @@ fn add_given(
     }
 }
 
-/// Adds the rules of the roles of the store that the selector matches, but for the role of that name.
+/// Adds the rules of the store's roles that the selector matches, but for the role `name`.
 #[tactic(auto, using(crate::proofs::Read::selected_meant))]
 fn add_selected(
     alloc: Global,
@@ -144,7 +144,7 @@ fn meant(
     Ok(rules)
 }
 
-/// Adds the rules of the roles that the selector matches, but for the role of that name.
+/// Adds the rules of the given roles that the selector matches, but for the role `name`.
 fn add_meant(
     alloc: Global,
     rules: &mut Vec<PolicyRule>,
@@ -162,7 +162,7 @@ fn add_meant(
     Ok(())
 }
 
-/// Whether the selector matches a role that is not the one of that name.
+/// Whether the selector matches the role, and the role has another name than `name`.
 fn is_meant(role: &NamedRole<'_>, name: &str, selector: &Selector) -> bool
     ensures { result ≡ is_meant_by name.now selector.now (labelled role.now) }
 {

@@ -42,7 +42,7 @@ writes_goes pages v e old number len counted pre false is =
       rw is tt,
     )
 
--- whatever the book is, the exchange writes the page behind all that were seen, or finds that the book is longer
+-- whatever the book is, the exchange writes the page after all seen pages, or finds that the book is longer
 pub writes_moves : (v : List Page) (e : Page) (old : ℕ) → length v ≡ old + 1
     → Moves AreCounted shown moved 0 (v, (no_nib, None)) (λ n. either (n == old) (old + 1) n) (Written (step 0 old (old + 1) e) (v, (no_nib, None)))
 writes_moves v e old len cs pages kept pre away =

@@ -10,25 +10,25 @@ use Rattle.kapi_desk.specs.declared.decision.SeatDecision.{SeatDecision}
 use Rattle.kapi_desk.specs.declared.decision.SeatDecision.TheVariants.{Allowed, Masters, Denied}
 use Rattle.kapi_desk.specs.declared.decision.SeatGrant.{SeatGrant}
 
--- a desk: which one it is, the policy that it opened with, the published steps, and those that wait
+-- a desk: which one it is, the policy that it opened with, the published steps, and the waiting steps
 pub record Board : Type 0 where
   pub desk : Book
   pub opening : PolicyObjects
   pub list : List (List PolicyChange)
   pub waiting : List (List PolicyChange)
 
--- a seat or a list of reported steps: which desk it is of, the policy that this opened with, and the published steps
+-- a seat or a list of reported steps: which desk it is of, the policy at the desk's opening, and the published steps
 -- that it has seen
 pub record Chair : Type 0 where
   pub desk : Book
   pub opening : PolicyObjects
   pub seen : List (List PolicyChange)
 
--- a seat of that desk that has seen nothing
+-- a seat of the desk with no published step seen
 abbrev pub fresh : Board → Chair
 fresh board = record { desk = board.desk; opening = board.opening; seen = [] }
 
--- a seat or a list of that desk that has seen all published steps
+-- a seat or a list of the desk with all published steps seen
 abbrev pub informed : Board → Chair
 informed board = record { desk = board.desk; opening = board.opening; seen = board.list }
 

@@ -1,6 +1,6 @@
-//! The book of a desk: the policy that the desk opened with, and the steps that it published, a page each. It only
-//! grows, and who has seen its first pages has a token of that. Pages exist in proofs alone, and tokens take no memory.
-//! What the book has in memory is the number of its steps.
+//! The book of a desk: the policy that the desk opened with, and the published steps, a page each. It only grows, and
+//! whoever has seen its first pages has a token of that. Pages exist in proofs alone, and tokens take no memory. What
+//! the book has in memory is the number of its steps.
 ghost use Rattle.std.specs.Prelude.{◌≡◌, ◌+◌, ◌≤◌, [], ◌∷◌, ◌++◌, length, MatchBool};
 ghost use mathlib.Core.List.{IsPrefix};
 ghost use Rattle.kapi_desk.specs.Pages.{opening_page, step_page};

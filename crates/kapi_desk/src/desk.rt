@@ -48,7 +48,7 @@ enum Stage {
 }
 
 /// Publishes steps of changes of a policy, for seats to see. Contracts see which desk it is, the policy that it opened
-/// with, the published steps and the steps that wait. It is not `Drop`: end it by `close`.
+/// with, the published steps and the waiting steps. It is not `Drop`: end it by `close`.
 pub struct Desk {
     alloc: Global,
     writer: PolicyWriter,
@@ -84,7 +84,7 @@ fn open<R: Wait>(rt: &R, writer: PolicyWriter) -> Result<PolicyWriter, Memory>
     }
 }
 
-/// The writer that has published the step that waits, whose page is noted.
+/// Publishes the waiting step, whose page is noted, and returns the writer with the outcome.
 fn shown<R: Wait>(rt: &R, writer: PolicyWriter) -> (PolicyWriter, Result<(), AllocError>)
     requires paged { IsPaged writer.desk.shown.value }
     requires noted { (shelf : Shelf) × (shelf.book ≡ writer.desk.shown.value.pages.book) × IsNoted (drop writer.behind writer.log.items) shelf writer.desk.shown.value.pages.log }

@@ -61,7 +61,7 @@ impl Told {
     }
 }
 
-/// One reader of a desk's published policy. Contracts see which desk it is of, the policy that this opened with and the
+/// One reader of a desk's published policy. Contracts see which desk it is of, the policy at the desk's opening and the
 /// published steps that the seat has seen.
 #[derive(Drop)]
 pub struct Seat {

@@ -80,7 +80,7 @@ is_held objects identity namespace a by =
     (has_part (λ b. unwrap_or (given objects identity b) []) (bindings_in objects namespace) by.one rule.0 by.counts
     (rw (given_is objects identity by.one by.role.rules by.meant by.role.found) rule.1.0)) rule.1.1
 
--- a binding that counts in a namespace is of that namespace or of none
+-- a binding that counts in a namespace is of the namespace itself or of none
 pub where_bound : (objects : PolicyObjects) (namespace : List ℕ) (b : Binding) → Has (bindings_in objects namespace) b → (b.namespace ≡ []) ⊎ (b.namespace ≡ namespace)
 unfolding bindings_in
 where_bound objects namespace b has = by_kind (has_either (map cluster_binding objects.cluster_role_bindings) (if length namespace == 0 then [] else bindings_of namespace objects.role_bindings) b has)
@@ -120,7 +120,7 @@ atom_from_may objects identity namespace p allowed = by_case (is_master identity
     by_case true is h = inl is
     by_case false is h = inr (passing (λ a. atom_allows a p) (flat_map atoms (held objects identity namespace)) (rules_by_atoms (held objects identity namespace) p ∙ h))
 
--- an identity that holds rules holds an atom that implies each of theirs
+-- whoever holds all of the rules holds, for each of their atoms, an atom that implies it
 pub wanted_is_implied : (own rules : List PolicyRule) (a : Atom) → holds_all own rules ≡ true → HasAtom rules a → (h : Atom) × (HasAtom own h × (implies h a ≡ true))
 wanted_is_implied own rules a all has =
     passing (λ h. implies h a) (flat_map atoms own)

@@ -41,7 +41,7 @@ equal_tested r h = ap is_eq h
 pub name_exact : (a b : List ℕ) → name_cmp a b ≡ Equal → a ≡ b
 name_exact a b h = same a b (sym (name_found a b) ∙ equal_tested (name_cmp a b) h)
 
--- a place that is found is the one that is looked for
+-- a found place has the namespace and the name that are looked for
 pub same_place : (namespace name : List ℕ) (place : NamespacedName) → is_place namespace name place ≡ true → (place.namespace ≡ namespace) × (place.name ≡ name)
 same_place namespace name place h =
     let both = and_parts (bytes_eq place.namespace namespace) (bytes_eq place.name name) h in

@@ -164,7 +164,7 @@ module _ (acting : List Identity) (start old : PolicyObjects) (before : Labels) 
     none_exempt request_name (written.RoleBinding place versions) = no_binding acting start old before facts unprivileged who place.namespace versions.new.role_ref acts
     none_exempt request_name (written.ClusterRoleBinding name versions) = no_binding acting start old before facts unprivileged who [] versions.new.role_ref acts
 
-    -- a write that is granted to an acting identity is held by that identity
+    -- an acting identity holds each write that is granted to it
     granted_is_held : (w : PolicyWrite) → grant old who w ≡ true
         → (holds_found (held old who (scope w.object)) (wanted old w.object) ≡ true) × (holds_authority (held old who (scope w.object)) w.object ≡ true)
     unfolding grant

@@ -1,4 +1,4 @@
-//! Laws of the policy that the stored objects are, each the clause of a function that does nothing.
+//! Laws of the policy in the stored objects, each the clause of a function that does nothing.
 ghost use Rattle.std.specs.Prelude.{◌≡◌, ◌∷◌, [], List, Ok, Some};
 ghost use Rattle.serde_json.specs.Data.{Data};
 ghost use Rattle.kapi_model.specs.declared.identity.Identity.{Identity};
@@ -18,8 +18,8 @@ ghost use Rattle.kapi_gains.specs.States.{labelled_roles};
 ghost use Rattle.kapi_gains.specs.Runs.{ObjectsReach};
 ghost use Rattle.kapi_gains.specs.StoredStates.{AreInOrder, labels_at};
 
-/// Changes that are granted to an identity make a run of the policy, by that identity or one that acts as it: from the
-/// policy of the objects before the changes to that of the objects after them.
+/// Changes granted to an identity make a run of the policy, by the identity itself or one that acts as it: from the
+/// policy of the objects before the changes to the policy of the objects after them.
 #[tactic(auto, using(crate::proofs::StoredWrites::granted_reach))]
 pub fn granted_changes_are_a_run()
     ensures { (who other : Identity) (changes : List PlainChange) (os : List (Key × Data)) → AreInOrder os → ActsAs (policy_objects os) who other

@@ -114,7 +114,7 @@ said_of asked name words = resource_of asked.attributes.point ++ codes " " ++ na
 abbrev pub bad_request : List ℕ → Failed
 bad_request text = failed status.BadRequest (codes "BadRequest") (codes "bad request: " ++ text)
 
--- the failure of a method that is not served, with the methods that are
+-- the failure of a method that is not served, with the served methods
 abbrev pub not_allowed : List ℕ → List Method → Failed
 not_allowed text allow = record (failed status.MethodNotAllowed (codes "MethodNotAllowed") (text ++ codes " is not served here")) { allow = allow }
 

@@ -23,8 +23,8 @@ pub record Subject : Type 0 where
   pub resource : List ℕ
   pub name : List ℕ
 
--- a failure: its code, one word for programs (which may be empty), its message, its causes, and the methods that are
--- served in place of the one that was not (none if that is not the matter)
+-- a failure: its code, one word for programs (which may be empty), its message, its causes, and the served methods if
+-- the method of the request is not served (else none)
 pub record Failed : Type 0 where
   pub code : StatusCode
   pub reason : List ℕ

@@ -148,7 +148,7 @@ pub fn bad_request(alloc: Global, word: &str) -> Result<Failure, Memory>
     Ok(with_message(alloc, StatusCode::BadRequest, "BadRequest", message))
 }
 
-/// The failure of a method that is not served, with the methods that are.
+/// The failure of a method that is not served, with the served methods.
 fn not_allowed(alloc: Global, method: &str, allow: &'static [Method]) -> Result<Failure, Memory>
     ensures { IfOk result (λ f. failure_data f ≡ table.not_allowed method.now allow.now) }
 {

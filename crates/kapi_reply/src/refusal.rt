@@ -99,14 +99,14 @@ pub struct Revisions {
     pub current: u64,
 }
 
-/// A revision that was asked for, and the one at which the window of the changes that are kept begins.
+/// A revision that was asked for, and the revision at which the window of the kept changes begins.
 #[derive(Clone, Copy, Debug, PartialEq, Eq)]
 pub struct OldRevision {
     pub asked: u64,
     pub begins: u64,
 }
 
-/// A refused request: the name of the object that it is about, if that is not the one of its path, and the reason.
+/// A refused request: the name of the object it is about, if that is not the name in its path, and the reason.
 #[derive(Debug, Drop)]
 pub struct Refused {
     pub name: Option<Text>,
@@ -180,7 +180,7 @@ impl BadWord {
     }
 }
 
-/// A check that failed, or that ran out of memory.
+/// A check that refused the request or ran out of memory.
 #[derive(Debug, Drop, Error)]
 pub enum CheckError {
     #[error("the request is refused")]

@@ -51,7 +51,7 @@ pub struct Failure {
     pub message: String,
     /// What was missing or wrong; may be empty.
     pub causes: Vec<Cause>,
-    /// The methods that are served in place of the one that was not; else empty.
+    /// The served methods, if the method of the request is not served; else empty.
     pub allow: &'static [Method],
 }
 

@@ -1,4 +1,4 @@
--- A question that is written as the `spec` of a review is read again as that question.
+-- A question that is written as the `spec` of a review is read back unchanged.
 use Rattle.std.proofs.Common.{◌≡◌, ◌∙◌, ℕ, List, [], ◌∷◌, true, false, if◌then◌else◌, None, codes, bytes_eq, refl, ap, sym, length, ◌==◌}
 use Rattle.std.proofs.Math.Dec.{eqb-suc-zero}
 use Rattle.std.specs.Option.{option_and_then}

@@ -17,7 +17,7 @@ use Rattle.kapi_reviews.specs.Questions.{at, question}
 one_more : (p : ℕ → Bool) (x : ℕ) (xs : List ℕ) (n : ℕ) → p x ≡ false → list_any p (take n xs) ≡ false → list_any p (take (1 + n) (x ∷ xs)) ≡ false
 one_more p x xs n h rest = let e : 1 + n ≡ suc n = omega arith in rw e (rw h rest)
 
--- of a list that is taken up to its first element that passes, none passes
+-- of the elements before the first one that passes, none passes
 none_before : (p : ℕ → Bool) (xs : List ℕ) → list_any p (take (position_or_len p xs) xs) ≡ false
 none_before p [] = refl
 none_before p (x ∷ xs) =

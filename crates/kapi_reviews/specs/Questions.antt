@@ -20,7 +20,7 @@ abbrev pub asked_identity : ReviewKind → Identity → Data → Identity
 asked_identity kind caller spec =
     if tells_subject kind then record { user = text_at (codes "user") spec; groups = texts_at (codes "groups") spec } else caller
 
--- the namespace that the attributes name, in a local review the one that it is in
+-- the namespace in the attributes; for a local review the namespace of the review itself
 abbrev pub asked_namespace : ReviewKind → List ℕ → Data → List ℕ
 asked_namespace kind namespace d = if is_local kind then namespace else text_at (codes "namespace") d
 

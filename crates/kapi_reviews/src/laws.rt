@@ -14,8 +14,8 @@ pub fn the_resource_that_is_asked_about_has_no_slash()
     ensures { (kind : ReviewKind) (caller : Identity) (tree : Data) → HasPlainResource (asked kind caller tree).point }
 {}
 
-/// A review of access says that what it asks is allowed exactly if the identity that it asks about is of the group
-/// `system:masters`, or holds a rule there that allows it.
+/// A review of access says `allowed` exactly if the identity it asks about is of the group `system:masters`, or holds a
+/// rule in the namespace of the question that allows what is asked.
 pub fn what_is_held_is_said_to_be_allowed()
     ensures { (objects : PolicyObjects) (caller : Identity) (kind : ReviewKind) (tree d : Data)
         → asks_rules kind ≡ false → reviewed objects caller kind tree ≡ Ok d

@@ -28,7 +28,7 @@ newcomer = record { knows = false; book = record { number = 0; log_name = 0; cel
 abbrev pub reader_of : Book → View
 reader_of book = record { knows = true; book = book }
 
--- the copy that is shown has its pages, which are of the book that all know
+-- the shown copy has the policy and the number of its pages, and each view that knows a book knows the book of these
 abbrev pub IsShown : Version → List View → Type 0
 IsShown x views = IsPaged x × ((seat : ℕ) (v : View) → get_elem? views seat ≡ some v → v.knows ≡ true → v.book ≡ x.pages.book)
 
