@@ -67,7 +67,7 @@ module _ (l : Listed) where
       new n g ∙ ap (λ t. (bytes_eq n (within l way) && same_grantee g way.to) || t) (old n g) ∙ sym (told_more list way n g)
       ∙ ap (λ (ways : List Way). is_told (record { listed = l; list = ways }) n g) (sym is)
 
-  -- a test that sees of a way its grantee and where that is listed
+  -- a test that sees only a way's grantee, and where it is listed
   module _ (q : Way → Bool) (alike : (a b : Way) → a.to ≡ b.to → within l a ≡ within l b → q a ≡ q b) where
     some_told : (list : List Way) (way : Way) → told list way ≡ true → q way ≡ true → list_any q list ≡ true
     some_told list way has passes =

@@ -22,7 +22,7 @@ use Rattle.kapi_aggregation.specs.Members.{Has}
 use Rattle.kapi_access.specs.declared.grantee.Grantee.{Grantee}
 use Rattle.kapi_access.specs.Grantees.{grantees, matches, role_of}
 
--- a binding that counts in the namespace gives the rule to a grantee that the identity is
+-- a binding that counts in the namespace gives the rule to the identity, as a user or by a group
 pub record HoldsBy (objects : PolicyObjects) (identity : Identity) (namespace : List ℕ) (rule : PolicyRule) : Type 0 where
   pub by : Binding
   pub stands : Has (all_bindings objects) by

@@ -1,4 +1,4 @@
--- Rules that others of their role cover, and the places that bindings refer to.
+-- Rules covered by others of their role, and the places that bindings refer to.
 use Rattle.std.proofs.Common.{◌≡◌, inl, inr, ℕ, ◌+◌, ◌<◌, Bool, true, false, cond, not, ◌&&◌, ◌||◌, ◌==◌, if◌then◌else◌, List, [], ◌∷◌, ◌++◌, length, map, take, get_or, Option, Some, None, refl, sym, ap, subst, ◌∙◌, add-one, append-nil}
 use Rattle.std.proofs.Math.Dec.{eqb-suc-zero}
 use Rattle.std.proofs.Math.Seq.{take-suc}
@@ -73,7 +73,7 @@ nothing_left (x ∷ list) h = absurd (let never = sym (eqb-suc-zero (length list
 covers_is : (one other : PolicyRule) → covers one other ≡ true → CoversAll (one ∷ []) (other ∷ [])
 covers_is one other h = none_missing (one ∷ []) (other ∷ []) (nothing_left (missing (one ∷ []) (other ∷ [])) h)
 
--- the first that stands for a rule is one of the list that does
+-- the index is of a rule in the list, which stands for the given one
 record IsFirst (i : ℕ) (rule : PolicyRule) (list : List (ℕ × PolicyRule)) (j : ℕ) : Type 0 where
   pub other : PolicyRule
   pub listed : Has list (j, other)

@@ -7,7 +7,7 @@ pub fold_last : {X Y : Type 0} (f : Y → X → Y) (start : Y) (list : List X) (
 fold_last f start [] last = refl
 fold_last f start (x ∷ list) last = fold_last f (f start x) list last
 
--- rows of those that pass a test, and then of those that pass another
+-- rows of what passes one test, and then of what passes another
 pub in_two_parts : {X Y : Type 0} (f : X → Y) (p q : X → Bool) (xs first second : List X) (none one two : List Y) → none ≡ [] → one ≡ none ++ map f (filter p first)
     → two ≡ one ++ map f (filter q second) → first ≡ xs → second ≡ xs → two ≡ map f (filter p xs ++ filter q xs)
 in_two_parts f p q xs first second none one two n o t a b =

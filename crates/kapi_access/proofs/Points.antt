@@ -79,7 +79,7 @@ covers_whole e r (Some (c ∷ s)) is some h =
 
 -- ---- the request
 
--- the name that an atom asks for, or that one
+-- the name that an atom asks for, or the other one if it asks for all
 pub name_in : List ℕ → Names → List ℕ
 name_in other names.All = other
 name_in other (names.One name) = name

@@ -87,7 +87,7 @@ is_new own rule a can lacks has =
     has_kept can_match (missing own (rule ∷ [])) a
     (has_same (missing own (rule ∷ [])) a (listed_exactly own (rule ∷ []) a ∙ and_from _ _ lacks (some_at (same_atom a) (flat_map atoms (rule ∷ [])) a (subst (λ l. Has l a) (sym (atoms_alone rule)) has) ((same_decides a a).1 refl)))) can
 
--- a rule that implies an atom allows what that allows
+-- a rule allows all that an atom does which it implies
 implied_allows : (rule : PolicyRule) (a : Atom) (p : Point) → HasPlainResource p → rule_implies rule a ≡ true → atom_allows a p ≡ true → allows rule p ≡ true
 unfolding rule_implies
 implied_allows rule a p plain implied h =

@@ -115,7 +115,7 @@ some_name (n ∷ listed) = (n, or_right _ _ (or_left (bytes_eq n n) _ (itself n)
 DangerBy : PolicyRule → Type 0
 DangerBy rule = (p : Point) × (Danger p × (allows rule p ≡ true))
 
--- a rule with that resource, in a group that it lists
+-- a rule with the verb `impersonate` allows it on each resource and group that it lists
 on_resource : (rule : PolicyRule) (group resource : List ℕ) → has_word rule.verbs (codes "impersonate") ≡ true → has_word rule.api_groups group ≡ true → has_word rule.resources resource ≡ true
     → allows rule (point.Resource (record { verb = codes "impersonate"; group = group; resource = resource; subresource = []; name = (some_name rule.resource_names).0 })) ≡ true
 on_resource rule group resource verb there is = and_from _ _ verb (and_from _ _ there (and_from _ _ is (some_name rule.resource_names).1))

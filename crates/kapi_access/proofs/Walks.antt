@@ -31,7 +31,7 @@ pub flat_map_map : {X Y Z : Type 0} (f : Y → List Z) (g : X → Y) (xs : List 
 flat_map_map f g [] = refl
 flat_map_map f g (x ∷ xs) = ap (λ l. f (g x) ++ l) (flat_map_map f g xs)
 
--- the bindings that count in a namespace are those of all that count there
+-- what the bindings of a namespace give is what all bindings give, without those that do not count there
 module _ {Z : Type 0} (f : Binding → List Z) (objects : PolicyObjects) (namespace : List ℕ) where
   abbrev there : Binding → List Z
   there b = if counts namespace b then f b else []

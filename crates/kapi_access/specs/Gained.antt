@@ -25,7 +25,7 @@ use Rattle.kapi_access.specs.Together.{together}
 use Rattle.kapi_access.specs.Usual.{IsMeant, IsUsual}
 use Rattle.kapi_access.specs.Who.{same_grantee}
 
--- a user or group that gains an atom, with the binding and the index of its role's rule that give it
+-- a user or group that gains an atom, and by what: a binding, and the index of a rule of its role
 pub record Gained : Type 0 where
   pub to : Grantee
   pub binding : Binding
@@ -101,14 +101,14 @@ GivesNothingTo identities.Usual before after =
 
 -- ---- by rules
 
--- the atoms that a user or group gains by the rule of that index
+-- the atoms that a user or group gains by a binding and one rule of its role, given by its index
 pub record GainedAtoms : Type 0 where
   pub to : Grantee
   pub binding : Binding
   pub rule : ℕ
   pub atoms : List Atom
 
--- a user or group that gains what a rule allows, with the binding and the index of its role's rule that give it
+-- a user or group that gains what a rule allows, and by what: a binding, and the index of a rule of its role
 pub record GainedRule : Type 0 where
   pub to : Grantee
   pub binding : Binding

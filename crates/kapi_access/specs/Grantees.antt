@@ -33,7 +33,7 @@ whom namespace (ServiceAccount a) = account (namespace_of a namespace) a.name
 abbrev pub grantees : Binding → List Grantee
 grantees b = flat_map (whom b.namespace) b.subjects
 
--- the identity is that user, or in that group
+-- the identity is the user, or in the group
 abbrev pub matches : Grantee → Identity → Bool
 matches (grantee.User name) identity = bytes_eq identity.user name
 matches (grantee.Group name) identity = is_in name identity
@@ -61,7 +61,7 @@ abbrev pub usual_member : List ℕ → List ℕ → Identity
 usual_member other group =
     if bytes_eq group unauthenticated then anonymous else record { user = other; groups = group ∷ authenticated ∷ [] }
 
--- the identity that is that user, or another user in that group, and in no group more than such an identity must be in
+-- the user, or another user in the group, in no group beyond those that such an identity must be in
 abbrev pub alone : Identities → List ℕ → Grantee → Identity
 alone identities.Any other (grantee.User name) = record { user = name; groups = [] }
 alone identities.Any other (grantee.Group name) = record { user = other; groups = name ∷ [] }

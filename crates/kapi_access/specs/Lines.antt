@@ -37,7 +37,7 @@ head form.Table l = head_words l
 head form.Markdown l = 10 ∷ (head_words l ++ 10 ∷ [])
 head form.Json l = compact_text (head_tree l) ++ 10 ∷ []
 
--- the answer to a line that is that question
+-- the answer to a line with its question, or the fault of a line without one
 abbrev pub answered_by : Form → PolicyObjects → NumberedLine → Option Wanted → Result (List ℕ) LineError
 answered_by f objects l (Some w) = Ok (head f l ++ who_text f objects w)
 answered_by f objects l None = Err (no_question l.number)

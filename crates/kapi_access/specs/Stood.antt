@@ -13,7 +13,7 @@ use Rattle.kapi_aggregation.specs.Members.{Has}
 use Rattle.kapi_aggregation.specs.Unions.{same_rules}
 use Rattle.kapi_access.specs.Grantees.{role_of}
 
--- both are that user, that group or that service account
+-- both are the same user, group or service account
 abbrev pub same_subject : Subject → Subject → Bool
 same_subject (User a) (User b) = bytes_eq a b
 same_subject (Group a) (Group b) = bytes_eq a b

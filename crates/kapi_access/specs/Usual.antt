@@ -33,7 +33,7 @@ asked_as user groups = record { user = user; groups = groups ++ usual_groups use
 abbrev pub anonymous : Identity
 anonymous = record { user = anonymous_user; groups = unauthenticated ∷ [] }
 
--- another user, in each of the groups that it has by itself, and not in that of the anonymous one
+-- a user other than the anonymous one, in each group that it has by itself, and not in the anonymous user's group
 pub record IsAuthenticated (identity : Identity) : Type 0 where
   pub known : bytes_eq identity.user anonymous_user ≡ false
   pub apart : is_in unauthenticated identity ≡ false

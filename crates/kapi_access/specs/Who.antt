@@ -36,7 +36,7 @@ ways_of objects test b = ways_by b (position test (role_of objects b))
 abbrev pub ways : PolicyObjects → (PolicyRule → Bool) → List Binding → List Way
 ways objects test bindings = flat_map (ways_of objects test) bindings
 
--- both are that user, or both that group
+-- both are the same user, or the same group
 abbrev pub same_grantee : Grantee → Grantee → Bool
 same_grantee (grantee.User a) (grantee.User b) = bytes_eq a b
 same_grantee (grantee.Group a) (grantee.Group b) = bytes_eq a b

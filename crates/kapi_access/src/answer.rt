@@ -57,7 +57,7 @@ fn atom_rows(alloc: Global, gains: &[Gain<'_>]) -> Result<Vec<Row>, Memory>
     Ok(rows)
 }
 
-// The rows of the gains that are as grave as that.
+// The rows of the grave gains, or of the others.
 fn push_rule_rows(
     alloc: Global,
     rows: &mut Vec<Row>,

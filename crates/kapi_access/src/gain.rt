@@ -21,7 +21,7 @@ use kapi_rules::Atom;
 use kapi_text::{Memory, TryCopy};
 use std::alloc::Global;
 
-/// A user or group that gains an atom, with the binding and the index of its role's rule that give it.
+/// A user or group that gains an atom, and by what: a binding, and a rule of its role.
 #[derive(Drop)]
 pub struct Gain<'a> {
     pub to: Grantee,

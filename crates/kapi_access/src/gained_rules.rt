@@ -15,7 +15,7 @@ use kapi_rules::Atom;
 use kapi_text::{Memory, TryCopy};
 use std::alloc::Global;
 
-/// The atoms that a user or group gains by the rule of that index.
+/// The atoms that a user or group gains by a binding and one rule of its role, given by its index.
 #[derive(Drop)]
 struct GainedAtoms<'a> {
     to: Grantee,
@@ -24,7 +24,7 @@ struct GainedAtoms<'a> {
     atoms: Vec<Atom>,
 }
 
-/// A user or group that gains what a rule allows, with the binding and the index of its role's rule that give it.
+/// A user or group that gains what a rule allows, and by what: a binding, and a rule of its role.
 #[derive(Drop)]
 pub struct GainedRule<'a> {
     pub to: Grantee,

@@ -3,6 +3,6 @@
 pub enum Identities {
     /// All that can be: any user, in any groups or in none.
     Any,
-    /// Those that authentication gives: each user with the groups that it has by itself (Kubernetes, 'Authenticating').
+    /// As authentication gives them: each user with the groups that it has by itself (Kubernetes, 'Authenticating').
     Usual,
 }

@@ -75,7 +75,7 @@ pub fn every_gain_is_reported()
         → may after identity namespace p ≡ true → may before identity namespace p ≡ false → IsReported (gained who before after) identity namespace p }
 {}
 
-/// Each line is a gain: an identity that is meant and that it names may make a request that its atom allows, and could not before.
+/// Each line is a gain: somebody of those meant, whom it names, may make a request of its atom, and could not before.
 pub fn each_line_is_a_gain()
     ensures { (who : Identities) (before after : PolicyObjects) (line : Gained) → Has (gained who before after) line → IsGained who before after line }
 {}
@@ -95,8 +95,9 @@ pub fn nothing_is_listed_where_nobody_gains()
     ensures nobody { (who : Identities) (before after : PolicyObjects) → GivesNothingTo who before after → gained who before after ≡ [] }
 {}
 
-/// What stood stays out: a rule that a binding gave has nothing new for its grantees, and a binding with its role's rules no line;
-/// nor has one that gives the same rules to the same subjects in the same namespace as one that stood.
+/// What stood before is no gain: a rule of a binding has nothing new for its grantees, and a binding whose role has its
+/// rules as before has no line. Nor has one under a new name that gives the same rules to the same subjects in the same
+/// namespace.
 pub fn what_stood_stays_out()
     ensures rules { (who : Identities) (before : PolicyObjects) (b : Binding) (to : Grantee) (rule : PolicyRule)
         → Has (all_bindings before) b → Has (grantees b) to → Has (role_of before b) rule
@@ -118,8 +119,8 @@ pub fn what_one_has_is_what_one_may()
         → may objects identity namespace p ≡ (is_master identity || list_any (λ l. allows_at namespace p l.0) (lines_within (Some namespace) (what_lines objects identity))) }
 {}
 
-/// A rule that is listed as covered allows nothing that the other does not; and each rule that an earlier one covers, or a later one
-/// that it does not cover itself, is listed.
+/// A rule is listed as covered only if the other allows all that it does. Each rule is listed if an earlier one covers
+/// it, or a later one that it does not cover itself.
 pub fn covered_rules_can_go()
     ensures covered { (rules : List PolicyRule) (c : Covered) → Has (covered rules) c → IsCovered rules c }
     ensures listed { (rules : List PolicyRule) (i j : ℕ) (rule other : PolicyRule) → Has (enumerate_from 0 rules) (i, rule) → Has (enumerate_from 0 rules) (j, other)

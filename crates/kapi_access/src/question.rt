@@ -94,7 +94,7 @@ fn deployments() -> KindNames
     }
 }
 
-/// The kinds that Kapi keeps, by the names that `kubectl api-resources` gives.
+/// The kinds that Kapi keeps, by their names in `kubectl api-resources`.
 #[tactic(auto, unfolding(crate::specs::Questions::kinds))]
 fn kinds() -> [KindNames; 11]
     ensures { map kind_of result ≡ asks.kinds }

@@ -134,7 +134,7 @@ fn push_right(
 
 // ---- lines
 
-/// Whether a rule that counts in the namespace, or everywhere where that is empty, is asked for.
+/// Whether rules of the namespace are asked for; those of the whole cluster, under an empty one, always are.
 fn is_within(within: &Option<Text>, namespace: &str) -> bool
     ensures { result ≡ is_within_of within.now namespace.now }
 {

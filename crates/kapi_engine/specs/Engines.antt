@@ -11,6 +11,6 @@ use Rattle.kapi_engine.specs.declared.engine.Engine.{Engine}
 abbrev pub engine_on : Machine → Engine
 engine_on m = record { policy = policy_of m; settled = is_settled m }
 
--- the policy of the machine that objects make alone, or the first line that is not loaded
+-- the policy of a machine of these objects alone, or the first line that is not loaded
 unfoldable pub engine_of : List ℕ → Result Engine FileFault
 engine_of objects = policy_machine objects >>= λ m. Ok (engine_on m)

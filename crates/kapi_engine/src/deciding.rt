@@ -14,8 +14,8 @@ use kapi_text::Memory;
 use std::alloc::Global;
 
 impl Engine {
-    /// Whether the identity may do this in the namespace, or cluster-wide if that is empty, and the first rule that allows
-    /// it. Allocates nothing.
+    /// Whether the identity may do this in the namespace (cluster-wide if empty), and the first rule that allows it.
+    /// Allocates nothing.
     pub fn decide<'a>(&'a self, identity: &Identity, namespace: &str, point: &Point) -> Decision<'a>
         ensures { decision_of result ≡ decided self.now.policy identity.now namespace.now point.now }
     {
@@ -38,7 +38,7 @@ impl Engine {
         Ok(decisions)
     }
 
-    /// The permissions of a role that the identity does not have in the namespace, or cluster-wide if that is empty; none if a
+    /// The permissions of a role that the identity does not have in the namespace (cluster-wide if empty); none if a
     /// binding there would find no such role.
     #[tactic(auto, unfolding(crate::specs::Decisions::missing_of))]
     pub fn missing(

@@ -15,9 +15,8 @@ pub struct Engine {
 }
 
 /// The policy of objects alone, a JSON object a line, a namespace before what lives in it; empty lines and those that begin
-/// with `#` are skipped. It is the policy of a server that begins with these objects in place of its own, as with
-/// `--manifests`, so what is decided by it is what that server decides. The five opening objects of other servers count if
-/// they are among the lines.
+/// with `#` are skipped. A server that begins with these objects in place of its own, as with `--manifests`, decides
+/// the same. The five opening objects of other servers count if they are among the lines.
 ///
 /// # Errors
 /// `Line` at the first line that is not loaded, `Memory` if an allocation fails.

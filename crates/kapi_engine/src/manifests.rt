@@ -30,7 +30,7 @@ impl From<Memory> for ManifestsFault {
 }
 
 /// The policy of files of manifests, each with JSON objects and Lists of them one after the other; objects that are no
-/// part of a policy are passed over. An object that names no namespace and lives in one is in `namespace`, unless that is
+/// part of a policy are passed over. An object that lives in a namespace and names none is in `namespace`, unless it is
 /// empty; with `defaults`, Kubernetes' user-facing roles stand beneath the files.
 ///
 /// # Errors

@@ -84,7 +84,7 @@ is_served version = is_true (get (codes "served") version)
 abbrev pub has_status : Data → Bool
 has_status version = is_some (option_and_then as_object (pointer (codes "/subresources/status") version))
 
--- the resource type that a definition names, of its first version that is served
+-- the resource type that a definition names, of its first served version
 unfoldable pub definition_in : Data → Option ResourceRow
 definition_in d = do
   group ← option_and_then as_str (pointer (codes "/spec/group") d)

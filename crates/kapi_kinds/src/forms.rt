@@ -15,7 +15,7 @@ use kapi_text::{Memory, Text};
 use serde_json::{Map, Value};
 use std::alloc::Global;
 
-/// The resource type that an object names, or why it names none that may be added to a table.
+/// The resource type that an object names, or why it names none for a table.
 #[tactic(auto, unfolding(crate::specs::Rows::row_in))]
 pub fn named_in<'a>(alloc: Global, object: &'a Value) -> Result<Result<Named<'a>, Reason>, Memory>
     ensures { IfOk result (λ r. option_map row_named (result_ok r) ≡ rows.row_in (view object.now)) }

@@ -35,7 +35,7 @@ known namespaces = with_names [] namespaces
 unfoldable pub home : Data → List ℕ
 home d = if lives_in_namespace (kind_of d) then metadata_text (codes "namespace") d else codes ""
 
--- the names with one more that is needed, from the first place that needs it
+-- the names with one more, unless it is empty, from the first place that needs it
 abbrev pub with_need : Names → List ℕ → Origin → Names
 with_need names name origin =
     if (length name == 0) then names else (if has names name then names else with_name names name origin)
@@ -56,6 +56,6 @@ namespace_of name =
 abbrev pub made_if : Names → List ℕ → List Data
 made_if names name = if has names name then [] else namespace_of name ∷ []
 
--- the namespaces that objects live in and that are not among these, in the order of their names
+-- the namespaces in which objects live, but the given ones, in the order of their names
 abbrev pub made : List Manifest → List Manifest → List Data
 made namespaces objects = flat_map (λ need. made_if (known namespaces) need.0) (needed_from [] objects)

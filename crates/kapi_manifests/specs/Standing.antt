@@ -37,7 +37,7 @@ standing_roles =
 abbrev pub default_role : List ℕ → List ℕ → StandingObject
 default_role name text = record { kind = codes "ClusterRole"; name = name; text = text }
 
--- the roles that a cluster gives its users, and those that they are put together of (Kubernetes, 'User-facing roles')
+-- the roles that a cluster gives its users, and the parts of which they are made (Kubernetes, 'User-facing roles')
 unfoldable pub default_roles : List StandingObject
 default_roles =
     default_role (codes "admin") ADMIN.now ∷ default_role (codes "edit") EDIT.now ∷ default_role (codes "view") VIEW.now

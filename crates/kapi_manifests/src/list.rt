@@ -104,8 +104,7 @@ struct ListCursor {
     brackets: usize,
 }
 
-/// The numbers of the lines in which the objects begin that stand in lists among the members of an object, which itself
-/// begins in that line.
+/// The numbers of the lines in which the items of an object's lists begin. The object itself begins in `line`.
 fn item_lines(alloc: Global, line: usize, text: &[u8]) -> Result<Vec<usize>, Memory> {
     let mut lines = Vec::new(alloc);
     let mut cursor = ListCursor {

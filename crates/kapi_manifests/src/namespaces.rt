@@ -14,8 +14,8 @@ use serde_json::Value;
 use std::alloc::Global;
 use std::collections::BTreeMap;
 
-/// The namespaces that objects live in and that are not among these, in the order of their names. Each begins where the
-/// first object begins that lives in it.
+/// The namespaces in which objects live, but the given ones, in the order of their names. Each begins where the first
+/// object in it begins.
 pub fn made_namespaces(
     alloc: Global,
     namespaces: &[Manifest],

@@ -169,7 +169,7 @@ fn homes(alloc: Global, namespaces: Vec<Manifest>) -> Result<Vec<Manifest>, Memo
     Ok(homes)
 }
 
-/// The lines of the namespaces, of those that are made, of the roles and bindings that stand, and of the objects.
+/// The lines of the namespaces, given and made, of the standing roles and bindings, and of the objects.
 fn write_lines(
     alloc: Global,
     standing: &[Standing],

@@ -77,7 +77,7 @@ fn standing_roles() -> [Standing; 4]
     ]
 }
 
-/// Those that stand if the objects of files are these.
+/// The standing objects whose kind and name none of the files' objects has.
 pub fn standing_beside(
     alloc: Global,
     begun: &[Standing],

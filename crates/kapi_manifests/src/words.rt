@@ -15,8 +15,8 @@ use serde_json::Value;
 use std::alloc::Global;
 use std::collections::BTreeMap;
 
-/// Words that are named, each behind what it is, as `verb get`, `resource pods`, `namespace shop` and `User ann`, and where
-/// the first object begins that names it.
+/// Words of objects, each behind what it is, as `verb get`, `resource pods`, `namespace shop` and `User ann`, and where
+/// the first object that names it begins.
 #[derive(Debug, Drop)]
 pub struct Words {
     pub named: BTreeMap<Text, Origin>,

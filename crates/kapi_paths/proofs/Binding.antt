@@ -48,7 +48,7 @@ pub some_has : {X : Type 0} (p : X → Bool) (xs : List X) → list_any p xs ≡
 some_has p [] h = absurd (cc h)
 some_has p (x ∷ xs) h = ⊎_elim (λ k. (x, inl refl, k)) (λ k. let found = some_has p xs k in (found.0, inr found.1, found.2)) (or_cases (p x) (list_any p xs) h)
 
--- a subject that matches is that of the identity's user or of one of its groups
+-- a subject that matches stands for the identity's user or one of its groups
 pub matched_key : (s : Subject) (namespace : List ℕ) (identity : Identity) → subject_matches s namespace identity ≡ true
     → (key_of namespace s ≡ node kind.User [] identity.user) ⊎ ((g : List ℕ) × Has identity.groups g × (key_of namespace s ≡ node kind.Group [] g))
 matched_key (subject.User name) namespace identity h = inl (ap (node kind.User []) (sym (same identity.user name h)))

@@ -36,11 +36,11 @@ abbrev pub user_named : NodeKind → List ℕ → List (List ℕ)
 user_named kind.User name = if is_account name then [] else name ∷ []
 user_named other name = []
 
--- the accounts that a cluster has, and that the namespaces of bindings have
+-- the account `default` of the namespaces `default` and `kube-system`, and of each namespace of a binding
 abbrev pub defaults : List Binding → List NamespacedName
 defaults bindings = default_in (codes "default") ++ default_in (codes "kube-system") ++ flat_map (λ b. default_in b.namespace) bindings
 
--- the same, and those that are bound
+-- the accounts `default`, and those that bindings name
 abbrev pub accounts : List Binding → List NamespacedName
 accounts bindings = defaults bindings ++ flat_map (λ n. account_named n.kind n.place n.name) (sources bindings)
 

@@ -122,7 +122,7 @@ abbrev pub reason : PolicyObjects → Known → List Row → Node → Node → O
 reason objects known rows role to =
     first_some (reason_in known rows role.place to) (enumerate_from 0 (rules_at objects role.kind role.place role.name))
 
--- a step for that reason, from a role that the binding gives; without a reason to what a node has in it
+-- a step for a reason, from a role that the binding gives; without one, to what a node has in it
 abbrev pub step_for : List ℕ → Node → Node → Option Reason → Step
 step_for binding from to None = record { right = node_text from; by = []; to = node_text to }
 step_for binding from to (Some r) =

@@ -84,7 +84,7 @@ fn push_default(
     push_account(alloc, list, namespace, "default")
 }
 
-// The accounts that a cluster has, and that the namespaces of bindings have.
+// The account `default` of the namespaces `default` and `kube-system`, and of each namespace of a binding.
 fn defaults(alloc: Global, bindings: &[Binding<'_>]) -> Result<Vec<NamespacedName>, Memory>
     ensures { IfOk result (λ v. v.items ≡ known.defaults (map binding_of bindings.now)) }
 {

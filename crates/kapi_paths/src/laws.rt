@@ -7,7 +7,7 @@ ghost use Rattle.kapi_paths.specs.Steps.{identity_of};
 ghost use Rattle.kapi_paths.specs.declared.node.Node.{Node as Who};
 ghost use Rattle.kapi_paths.specs.declared.steps.Known.{Known};
 
-/// The policy allows a user, group or account alone a request of a right in a namespace, or cluster-wide if that is empty, exactly
+/// The policy allows a user, group or account alone a request of a right in a namespace (cluster-wide if empty) exactly
 /// if a step leads it to everything, or to a role there or cluster-wide with a rule that has the right.
 pub fn a_step_is_there_where_a_request_is_allowed()
     ensures { (objects : PolicyObjects) (known : Known) (rows : List Row) (x : Who) (place : List ℕ) (row : Row) → is_subject x.kind ≡ true

@@ -35,7 +35,7 @@ struct Step {
     to: Text,
 }
 
-/// A right that leads from a role to a node, and the index of the rule that has it.
+/// A right that leads from a role to a node, and the index of its rule.
 #[derive(Clone, Copy)]
 struct Reason {
     rule: usize,

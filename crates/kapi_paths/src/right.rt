@@ -174,7 +174,7 @@ fn account_groups() -> [Group; 5]
             names: Names::Unnamed,
             leads: Leads::Accounts,
         },
-        // The same of a workload that is there: another account is put into its pods' template.
+        // A change of a workload can put another account into its pods' template.
         Group {
             kind: "changes",
             verbs: &["update", "patch"],

@@ -146,7 +146,7 @@ fn push_if_wide(alloc: Global, list: &mut Vec<Node>, place: &str) -> Result<(), 
     }
 }
 
-// Those of the names, or without names all of the kind.
+// The nodes of the names, or all of the kind if no name is listed.
 fn push_by_names(
     alloc: Global,
     list: &mut Vec<Node>,

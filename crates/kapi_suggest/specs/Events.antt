@@ -119,7 +119,7 @@ with_shown uses n shown.NoEvent = Err (no_question n)
 abbrev pub with_line : List Question → NumberedLine → Result (List Question) LineError
 with_line uses l = with_shown uses l.number (shown_in l.text)
 
--- the uses and those that the lines show, or the first line that is no event
+-- the uses before and those of the lines, or the first line that is no event
 unfoldable pub uses_in : List Question → List NumberedLine → Result (List Question) LineError
 uses_in uses [] = Ok uses
 uses_in uses (l ∷ ls) = with_line uses l >>= λ more. uses_in more ls

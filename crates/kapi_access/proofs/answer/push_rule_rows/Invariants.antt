@@ -5,7 +5,7 @@ use Rattle.kapi_access.specs.Risks.{is_grave}
 use Rattle.kapi_access.specs.Views.{gained_rule_of}
 use Rattle.kapi_access.proofs.answer.push_rule_rows.Given as goal
 
--- the rows of the gains so far that are as grave as that
+-- the rows of the grave gains so far, or of the others
 abbrev pub invariant-loop-gain : goal.invariant-loop-gain
 invariant-loop-gain l =
     l.rows.items

@@ -17,7 +17,7 @@ push_paths-requires-clause-inside g c =
     let step = next_of (g.P.Policy.content c.args.asked.now.policy.now) c.args.asked.now.bindings.now c.args.asked.now.known.now (map row_of c.args.asked.now.rights.now) in
     subst (λ (rows : List (List ℕ)). IsInside rows) (sym c.as_slice.ensures.value) (graph_inside step c.rows.new.numbered c.in_ok-rows.rows.items c.in_ok-rows.ensures.rows)
 
--- everything is the first node of a list that begins as another that begins with it
+-- everything stays the first node of a list that grows twice
 first_is : (one two three : List Node) → one ≡ everything ∷ [] → Begins one two → Begins two three → slice_get three 0 ≡ Some everything
 first_is one two three e a b = begins_at two three b 0 everything (begins_at one two a 0 everything (ap (λ l. slice_get l 0) e))
 
