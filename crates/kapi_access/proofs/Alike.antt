@@ -13,7 +13,7 @@ use Rattle.kapi_aggregation.specs.Members.{Has}
 use Rattle.kapi_access.specs.declared.identities.Identities.{Identities}
 use Rattle.kapi_access.specs.Gained.{Gained, gained_from}
 use Rattle.kapi_access.specs.Grantees.{role_of}
-use Rattle.kapi_access.specs.Stood.{AreAmong, comes_before, first_gives_same, from_place, gives_same, same_subject, same_subjects}
+use Rattle.kapi_access.specs.Earlier.{AreAmong, comes_before, first_gives_same, from_place, gives_same, same_subject, same_subjects}
 use Rattle.kapi_access.proofs.Reported.{bindings_alike}
 
 same_subject_is : (a b : Subject) → same_subject a b ≡ true → a ≡ b

@@ -15,7 +15,7 @@ use Rattle.kapi_policy.specs.Objects.{PolicyObjects}
 use Rattle.kapi_gains.proofs.Elements.{part_of, passing}
 use Rattle.kapi_aggregation.specs.Members.{Has}
 use Rattle.kapi_access.specs.declared.grantee.Grantee.TheVariants as grantee
-use Rattle.kapi_access.specs.Grantees.{grantees, stranger, user_in, users_in, whom}
+use Rattle.kapi_access.specs.Grantees.{grantees, unbound_user, user_in, users_in, whom}
 
 -- a part is not longer than the whole
 part_fits : {X : Type 0} (f : X → List ℕ) (xs : List X) (x : X) → Has xs x → length (f x) ≤ length (flat_map f xs)
@@ -34,21 +34,21 @@ abbrev begins_so : List ℕ → Bool
 begins_so [] = false
 begins_so (b ∷ text) = b == 120
 
--- no binding names the stranger
-pub nobody_is_stranger : (objects : PolicyObjects) (b : Binding) (name : List ℕ) → Has (all_bindings objects) b → Has (grantees b) (grantee.User name) → bytes_eq (stranger objects) name ≡ false
-nobody_is_stranger objects b name stands bound = false_from_ne_true _ (λ h. by_subject s.0 s.1.0 s.1.1 (same (stranger objects) name h))
+-- no binding names the unbound user
+pub nobody_is_unbound_user : (objects : PolicyObjects) (b : Binding) (name : List ℕ) → Has (all_bindings objects) b → Has (grantees b) (grantee.User name) → bytes_eq (unbound_user objects) name ≡ false
+nobody_is_unbound_user objects b name stands bound = false_from_ne_true _ (λ h. by_subject s.0 s.1.0 s.1.1 (same (unbound_user objects) name h))
   where
     s : (s : Subject) × (Has b.subjects s × Has (whom b.namespace s) (grantee.User name))
     s = part_of (whom b.namespace) b.subjects (grantee.User name) bound
 
-    by_account : (rest : List ℕ) (c : Bool) → Has (if c then [] else grantee.User (codes "system:serviceaccount:" ++ rest) ∷ []) (grantee.User name) → stranger objects ≡ name → ⊥
+    by_account : (rest : List ℕ) (c : Bool) → Has (if c then [] else grantee.User (codes "system:serviceaccount:" ++ rest) ∷ []) (grantee.User name) → unbound_user objects ≡ name → ⊥
     by_account rest true never is = absurd never
     by_account rest false (inr never) is = absurd never
     by_account rest false (inl named) is =
         let user : codes "system:serviceaccount:" ++ rest ≡ name = cc named in
         let first : true ≡ false = ap begins_so (is ∙ sym user) in absurd (cc first)
 
-    by_subject : (s : Subject) → Has b.subjects s → Has (whom b.namespace s) (grantee.User name) → stranger objects ≡ name → ⊥
+    by_subject : (s : Subject) → Has b.subjects s → Has (whom b.namespace s) (grantee.User name) → unbound_user objects ≡ name → ⊥
     by_subject (User n) has (inl named) is =
         let user : n ≡ name = cc named in
         apart (users_in (all_bindings objects)) n

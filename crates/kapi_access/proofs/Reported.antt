@@ -32,7 +32,7 @@ use Rattle.kapi_access.specs.declared.identities.Identities.TheVariants as ident
 use Rattle.kapi_access.specs.Usual.{IsMeant}
 use Rattle.kapi_access.proofs.Usual.{alone_is_meant, alone_matches, in_too, matches_too}
 use Rattle.kapi_access.specs.Gained.{Gained, GivesNothingTo, IsGained, IsReported, can_match, gained, gained_by, gained_from, lines_by, lines_of, new_atoms}
-use Rattle.kapi_access.specs.Grantees.{alone, grantees, matches, role_of, stranger, whom}
+use Rattle.kapi_access.specs.Grantees.{alone, grantees, matches, role_of, unbound_user, whom}
 
 -- ---- lists
 
@@ -107,9 +107,9 @@ within n scope namespace (inr other) (inr one) = inr (one ∙ other)
 
 -- what the grantee alone holds where a binding counts is held there by each identity that it is
 held_too : (who : Identities) (objects : PolicyObjects) (to : Grantee) (identity : Identity) (scope namespace : List ℕ) (rule : PolicyRule) → IsMeant who identity → matches to identity ≡ true
-    → (scope ≡ []) ⊎ (scope ≡ namespace) → Has (held objects (alone who (stranger objects) to) scope) rule → Has (held objects identity namespace) rule
+    → (scope ≡ []) ⊎ (scope ≡ namespace) → Has (held objects (alone who (unbound_user objects) to) scope) rule → Has (held objects identity namespace) rule
 held_too who objects to identity scope namespace rule among meant there has =
-    let h = holds_by objects (alone who (stranger objects) to) scope rule has in
+    let h = holds_by objects (alone who (unbound_user objects) to) scope rule has in
     holds objects identity namespace rule
     (record {
       by = h.by;
@@ -125,27 +125,27 @@ module _ (who : Identities) (before after : PolicyObjects) where
   -- ---- lines
 
   line_of : (b : Binding) (to : Grantee) (n : ℕ) (rule : PolicyRule) (a : Atom) → Has (all_bindings after) b → Has (grantees b) to → Has (enumerate_from 0 (role_of after b)) (n, rule)
-      → is_master (alone who (stranger before) to) ≡ false → Has (new_atoms (held before (alone who (stranger before) to) b.namespace) rule) a
+      → is_master (alone who (unbound_user before) to) ≡ false → Has (new_atoms (held before (alone who (unbound_user before) to) b.namespace) rule) a
       → Has (gained who before after) (record { to = to; binding = b; rule = n; gain = a })
   unfolding gained gained_from
   line_of b to n rule a stands bound numbered plain new =
       has_part (gained_from who before after) (all_bindings after) b _ stands
       (has_part (gained_by who before after b) (grantees b) to _ bound
-      (rw plain (has_part (lines_by (held before (alone who (stranger before) to) b.namespace) to b) (enumerate_from 0 (role_of after b)) (n, rule) _ numbered
-      (has_mapped (λ (a : Atom). record { to = to; binding = b; rule = n; gain = a }) (new_atoms (held before (alone who (stranger before) to) b.namespace) rule) a new))))
+      (rw plain (has_part (lines_by (held before (alone who (unbound_user before) to) b.namespace) to b) (enumerate_from 0 (role_of after b)) (n, rule) _ numbered
+      (has_mapped (λ (a : Atom). record { to = to; binding = b; rule = n; gain = a }) (new_atoms (held before (alone who (unbound_user before) to) b.namespace) rule) a new))))
 
   -- what stands behind a line
   record Behind (line : Gained) : Type 0 where
     pub stands : Has (all_bindings after) line.binding
     pub bound : Has (grantees line.binding) line.to
-    pub plain : is_master (alone who (stranger before) line.to) ≡ false
+    pub plain : is_master (alone who (unbound_user before) line.to) ≡ false
     pub rule : PolicyRule
     pub listed : Has (role_of after line.binding) rule
-    pub new : Has (new_atoms (held before (alone who (stranger before) line.to) line.binding.namespace) rule) line.gain
+    pub new : Has (new_atoms (held before (alone who (unbound_user before) line.to) line.binding.namespace) rule) line.gain
 
   behind : (line : Gained) → Has (gained who before after) line → Behind line
   unfolding gained gained_from
-  behind line has = by_master (is_master (alone who (stranger before) to.0)) refl to.1.1
+  behind line has = by_master (is_master (alone who (unbound_user before) to.0)) refl to.1.1
     where
       b : (b : Binding) × (Has (all_bindings after) b × Has (gained_from who before after b) line)
       b = part_of (gained_from who before after) (all_bindings after) line has
@@ -153,12 +153,12 @@ module _ (who : Identities) (before after : PolicyObjects) where
       to : (to : Grantee) × (Has (grantees b.0) to × Has (gained_by who before after b.0 to) line)
       to = part_of (gained_by who before after b.0) (grantees b.0) line b.1.1
 
-      by_master : (m : Bool) → is_master (alone who (stranger before) to.0) ≡ m
-          → Has (if m then [] else lines_of (held before (alone who (stranger before) to.0) b.0.namespace) to.0 b.0 (role_of after b.0)) line → Behind line
+      by_master : (m : Bool) → is_master (alone who (unbound_user before) to.0) ≡ m
+          → Has (if m then [] else lines_of (held before (alone who (unbound_user before) to.0) b.0.namespace) to.0 b.0 (role_of after b.0)) line → Behind line
       by_master true is never = absurd never
       by_master false is there =
-          let numbered = part_of (lines_by (held before (alone who (stranger before) to.0) b.0.namespace) to.0 b.0) (enumerate_from 0 (role_of after b.0)) line there in
-          let a = mapped_of (λ (a : Atom). record { to = to.0; binding = b.0; rule = numbered.0.0; gain = a }) (new_atoms (held before (alone who (stranger before) to.0) b.0.namespace) numbered.0.1) line numbered.1.1 in
+          let numbered = part_of (lines_by (held before (alone who (unbound_user before) to.0) b.0.namespace) to.0 b.0) (enumerate_from 0 (role_of after b.0)) line there in
+          let a = mapped_of (λ (a : Atom). record { to = to.0; binding = b.0; rule = numbered.0.0; gain = a }) (new_atoms (held before (alone who (unbound_user before) to.0) b.0.namespace) numbered.0.1) line numbered.1.1 in
           subst (λ (l : Gained). Behind l) a.1.1 (record { stands = b.1.0; bound = to.1.0; plain = is; rule = numbered.0.1; listed = numbered_of 0 (role_of after b.0) numbered.0 numbered.1.0; new = a.1.0 })
 
   -- ---- every gain is reported
@@ -168,7 +168,7 @@ module _ (who : Identities) (before after : PolicyObjects) where
   every_gain_is_reported identity namespace p among plain now not_before =
       record {
         line = record { to = h.to; binding = h.by; rule = numbered.0; gain = a.0 };
-        listed = line_of h.by h.to numbered.0 r.0 a.0 h.stands h.bound numbered.1 (false_from_ne_true _ (λ is. absurd (let allowed = masters_may before identity namespace p (in_too who (stranger before) h.to identity (codes "system:masters") among h.meant is) in cc)))
+        listed = line_of h.by h.to numbered.0 r.0 a.0 h.stands h.bound numbered.1 (false_from_ne_true _ (λ is. absurd (let allowed = masters_may before identity namespace p (in_too who (unbound_user before) h.to identity (codes "system:masters") among h.meant is) in cc)))
             (is_new _ r.0 a.0 (matched_can a.0 p plain a.1.1) lacks a.1.0);
         meant = h.meant;
         there = h.there;
@@ -190,9 +190,9 @@ module _ (who : Identities) (before after : PolicyObjects) where
       a : (a : Atom) × (Has (atoms r.0) a × (atom_allows a p ≡ true))
       a = passing (λ a. atom_allows a p) (atoms r.0) (allowed_by_atom r.0 p ∙ r.1.1)
 
-      lacks : is_missing (held before (alone who (stranger before) h.to) h.by.namespace) a.0 ≡ true
+      lacks : is_missing (held before (alone who (unbound_user before) h.to) h.by.namespace) a.0 ≡ true
       lacks = not_false _ (λ implied.
-          let own = passing (λ rule. rule_implies rule a.0) (held before (alone who (stranger before) h.to) h.by.namespace) implied in
+          let own = passing (λ rule. rule_implies rule a.0) (held before (alone who (unbound_user before) h.to) h.by.namespace) implied in
           absurd (let allowed = may_by before identity namespace p own.0 (held_too who before h.to identity h.by.namespace namespace own.0 among h.meant h.there own.1.0) (implied_allows own.0 a.0 p plain own.1.1 a.1.1) in cc))
 
   -- ---- each line is a gain
@@ -204,7 +204,7 @@ module _ (who : Identities) (before after : PolicyObjects) where
         among = alone_is_meant who before line.to;
         request = request;
         plain = plain_request (fresh own) line.gain;
-        meant = alone_matches who (stranger before) line.to;
+        meant = alone_matches who (unbound_user before) line.to;
         by_atom = by_atom;
         now = now;
         not_before = false_from_ne_true _ (λ allowed. never (rule_of_may before own_identity line.binding.namespace request allowed by.plain));
@@ -214,7 +214,7 @@ module _ (who : Identities) (before after : PolicyObjects) where
       by = behind line has
 
       own_identity : Identity
-      own_identity = alone who (stranger before) line.to
+      own_identity = alone who (unbound_user before) line.to
 
       own : List PolicyRule
       own = held before own_identity line.binding.namespace
@@ -230,7 +230,7 @@ module _ (who : Identities) (before after : PolicyObjects) where
 
       now : may after own_identity line.binding.namespace request ≡ true
       now = may_by after own_identity line.binding.namespace request by.rule
-          (holds after own_identity line.binding.namespace by.rule (record { by = line.binding; stands = by.stands; there = inr refl; to = line.to; bound = by.bound; meant = alone_matches who (stranger before) line.to; listed = by.listed }))
+          (holds after own_identity line.binding.namespace by.rule (record { by = line.binding; stands = by.stands; there = inr refl; to = line.to; bound = by.bound; meant = alone_matches who (unbound_user before) line.to; listed = by.listed }))
           (sym (allowed_by_atom by.rule request) ∙ some_at (λ a. atom_allows a request) (atoms by.rule) line.gain new.1.1 by_atom)
 
       never : ((rule : PolicyRule) × (Has own rule × (allows rule request ≡ true))) → ⊥
@@ -268,11 +268,11 @@ nobody_gains_anything identities.Usual before after nothing =
 
 -- a rule that a binding gives has nothing new for its grantees
 pub rules_that_stood : (who : Identities) (before : PolicyObjects) (b : Binding) (to : Grantee) (rule : PolicyRule) → Has (all_bindings before) b → Has (grantees b) to → Has (role_of before b) rule
-    → new_atoms (held before (alone who (stranger before) to) b.namespace) rule ≡ []
+    → new_atoms (held before (alone who (unbound_user before) to) b.namespace) rule ≡ []
 rules_that_stood who before b to rule stands bound listed = none_has _ (λ a has.
-    let own = holds before (alone who (stranger before) to) b.namespace rule (record { by = b; stands = stands; there = inr refl; to = to; bound = bound; meant = alone_matches who (stranger before) to; listed = listed }) in
-    let new = new_of (held before (alone who (stranger before) to) b.namespace) rule a has in
-    not_true _ new.1.0 (some_at (λ rule. rule_implies rule a) (held before (alone who (stranger before) to) b.namespace) rule own (own_is_implied rule a new.1.1)))
+    let own = holds before (alone who (unbound_user before) to) b.namespace rule (record { by = b; stands = stands; there = inr refl; to = to; bound = bound; meant = alone_matches who (unbound_user before) to; listed = listed }) in
+    let new = new_of (held before (alone who (unbound_user before) to) b.namespace) rule a has in
+    not_true _ new.1.0 (some_at (λ rule. rule_implies rule a) (held before (alone who (unbound_user before) to) b.namespace) rule own (own_is_implied rule a new.1.1)))
 
 -- a binding gives nobody anything new where one that stood gave its subjects its role's rules in its namespace
 pub bindings_alike : (who : Identities) (before after : PolicyObjects) (s b : Binding) → Has (all_bindings before) s → s.namespace ≡ b.namespace → s.subjects ≡ b.subjects → role_of before s ≡ role_of after b
@@ -280,19 +280,19 @@ pub bindings_alike : (who : Identities) (before after : PolicyObjects) (s b : Bi
 unfolding gained_from
 bindings_alike who before after s b stands same_namespace same_subjects same_rules = none_has _ (λ line has.
     let to = part_of (gained_by who before after b) (grantees b) line has in
-    by_master to.0 (subst (λ l. Has l to.0) (sym same_grantees) to.1.0) (is_master (alone who (stranger before) to.0)) line to.1.1)
+    by_master to.0 (subst (λ l. Has l to.0) (sym same_grantees) to.1.0) (is_master (alone who (unbound_user before) to.0)) line to.1.1)
   where
     same_grantees : grantees s ≡ grantees b
     same_grantees = ap (λ n. flat_map (whom n) s.subjects) same_namespace ∙ ap (λ l. flat_map (whom b.namespace) l) same_subjects
 
-    by_master : (to : Grantee) → Has (grantees s) to → (m : Bool) (line : Gained) → Has (if m then [] else lines_of (held before (alone who (stranger before) to) b.namespace) to b (role_of after b)) line → ⊥
+    by_master : (to : Grantee) → Has (grantees s) to → (m : Bool) (line : Gained) → Has (if m then [] else lines_of (held before (alone who (unbound_user before) to) b.namespace) to b (role_of after b)) line → ⊥
     by_master to bound true line never = never
     by_master to bound false line there =
-        let numbered = part_of (lines_by (held before (alone who (stranger before) to) b.namespace) to b) (enumerate_from 0 (role_of after b)) line there in
+        let numbered = part_of (lines_by (held before (alone who (unbound_user before) to) b.namespace) to b) (enumerate_from 0 (role_of after b)) line there in
         let listed = subst (λ l. Has l numbered.0.1) (sym same_rules) (numbered_of 0 (role_of after b) numbered.0 numbered.1.0) in
-        let none : new_atoms (held before (alone who (stranger before) to) b.namespace) numbered.0.1 ≡ [] =
-        subst (λ n. new_atoms (held before (alone who (stranger before) to) n) numbered.0.1 ≡ []) same_namespace (rules_that_stood who before s to numbered.0.1 stands bound listed) in
-        let a = mapped_of (λ (a : Atom). record { to = to; binding = b; rule = numbered.0.0; gain = a }) (new_atoms (held before (alone who (stranger before) to) b.namespace) numbered.0.1) line numbered.1.1 in
+        let none : new_atoms (held before (alone who (unbound_user before) to) b.namespace) numbered.0.1 ≡ [] =
+        subst (λ n. new_atoms (held before (alone who (unbound_user before) to) n) numbered.0.1 ≡ []) same_namespace (rules_that_stood who before s to numbered.0.1 stands bound listed) in
+        let a = mapped_of (λ (a : Atom). record { to = to; binding = b; rule = numbered.0.0; gain = a }) (new_atoms (held before (alone who (unbound_user before) to) b.namespace) numbered.0.1) line numbered.1.1 in
         subst (λ l. Has l a.0) none a.1.0
 
 -- a binding that stood with its role's rules gives nothing new

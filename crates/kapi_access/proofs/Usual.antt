@@ -19,9 +19,9 @@ use Rattle.kapi_access.specs.declared.grantee.Grantee.{Grantee}
 use Rattle.kapi_access.specs.declared.grantee.Grantee.TheVariants as grantee
 use Rattle.kapi_access.specs.declared.identities.Identities.{Identities}
 use Rattle.kapi_access.specs.declared.identities.Identities.TheVariants as identities
-use Rattle.kapi_access.specs.Grantees.{alone, grantees, matches, stranger, usual_member}
+use Rattle.kapi_access.specs.Grantees.{alone, grantees, matches, unbound_user, usual_member}
 use Rattle.kapi_access.specs.Usual.{IsMeant, IsUsual, anonymous_user, authenticated, anonymous, unauthenticated, usual_groups}
-use Rattle.kapi_access.proofs.Fresh.{nobody_is_stranger}
+use Rattle.kapi_access.proofs.Fresh.{nobody_is_unbound_user}
 
 -- ---- the groups of usual identities
 
@@ -82,22 +82,22 @@ in_too identities.Usual other (grantee.Group n) identity g meant is h = by_case 
 
 -- if a binding names its user, that is theirs
 user_too : (who : Identities) (objects : PolicyObjects) (b : Binding) (to : Grantee) (identity : Identity) (n : List ℕ) → Has (all_bindings objects) b → Has (grantees b) (grantee.User n)
-    → IsMeant who identity → matches to identity ≡ true → matches (grantee.User n) (alone who (stranger objects) to) ≡ true → matches (grantee.User n) identity ≡ true
+    → IsMeant who identity → matches to identity ≡ true → matches (grantee.User n) (alone who (unbound_user objects) to) ≡ true → matches (grantee.User n) identity ≡ true
 user_too identities.Any objects b (grantee.User m) identity n stands bound meant is h = subst (λ x. bytes_eq identity.user x ≡ true) (same m n h) is
-user_too identities.Any objects b (grantee.Group m) identity n stands bound meant is h = absurd (let never = nobody_is_stranger objects b n stands bound in cc)
+user_too identities.Any objects b (grantee.Group m) identity n stands bound meant is h = absurd (let never = nobody_is_unbound_user objects b n stands bound in cc)
 user_too identities.Usual objects b (grantee.User m) identity n stands bound meant is h = subst (λ x. bytes_eq identity.user x ≡ true) (same m n h) is
 user_too identities.Usual objects b (grantee.Group m) identity n stands bound meant is h = by_case (bytes_eq m unauthenticated) refl h
   where
-    by_case : (t : Bool) → bytes_eq m unauthenticated ≡ t → matches (grantee.User n) (if t then anonymous else record { user = stranger objects; groups = m ∷ authenticated ∷ [] }) ≡ true → bytes_eq identity.user n ≡ true
+    by_case : (t : Bool) → bytes_eq m unauthenticated ≡ t → matches (grantee.User n) (if t then anonymous else record { user = unbound_user objects; groups = m ∷ authenticated ∷ [] }) ≡ true → bytes_eq identity.user n ≡ true
     by_case true so there =
         subst (λ (x : Identity). matches (grantee.User n) x ≡ true) (sym (is_anonymous identity meant (subst (λ x. is_in x identity ≡ true) (same m unauthenticated so) is))) there
-    by_case false not_so there = absurd (let never = nobody_is_stranger objects b n stands bound in cc)
+    by_case false not_so there = absurd (let never = nobody_is_unbound_user objects b n stands bound in cc)
 
 -- whom a binding gives its role, and that it is, they are
 pub matches_too : (who : Identities) (objects : PolicyObjects) (b : Binding) (by to : Grantee) (identity : Identity) → Has (all_bindings objects) b → Has (grantees b) by
-    → IsMeant who identity → matches to identity ≡ true → matches by (alone who (stranger objects) to) ≡ true → matches by identity ≡ true
+    → IsMeant who identity → matches to identity ≡ true → matches by (alone who (unbound_user objects) to) ≡ true → matches by identity ≡ true
 matches_too who objects b (grantee.User n) to identity stands bound meant is h = user_too who objects b to identity n stands bound meant is h
-matches_too who objects b (grantee.Group n) to identity stands bound meant is h = in_too who (stranger objects) to identity n meant is h
+matches_too who objects b (grantee.Group n) to identity stands bound meant is h = in_too who (unbound_user objects) to identity n meant is h
 
 -- ---- it is one of the identities
 
@@ -117,14 +117,14 @@ user_is_usual n = by_case (bytes_eq n anonymous_user) refl
     by_case false is =
         inr (record { known = is; apart = rw is (no_account_apart (service_account n)); grouped = each_in (usual_groups n) (usual_groups n) (λ g has. has) })
 
-stranger_is_no_account : (objects : PolicyObjects) → service_account (stranger objects) ≡ None
+stranger_is_no_account : (objects : PolicyObjects) → service_account (unbound_user objects) ≡ None
 unfolding service_account
 stranger_is_no_account objects = refl
 
-member_is_usual : (objects : PolicyObjects) (n : List ℕ) → IsUsual (usual_member (stranger objects) n)
+member_is_usual : (objects : PolicyObjects) (n : List ℕ) → IsUsual (usual_member (unbound_user objects) n)
 member_is_usual objects n = by_case (bytes_eq n unauthenticated) refl
   where
-    by_case : (t : Bool) → bytes_eq n unauthenticated ≡ t → IsUsual (if t then anonymous else record { user = stranger objects; groups = n ∷ authenticated ∷ [] })
+    by_case : (t : Bool) → bytes_eq n unauthenticated ≡ t → IsUsual (if t then anonymous else record { user = unbound_user objects; groups = n ∷ authenticated ∷ [] })
     by_case true is = inl refl
     by_case false is =
         inr (record { known = refl; apart = rw is refl; grouped = rw (stranger_is_no_account objects) (both (or_right (bytes_eq n authenticated) true refl)) })
@@ -132,7 +132,7 @@ member_is_usual objects n = by_case (bytes_eq n unauthenticated) refl
         both : (bytes_eq n authenticated || true) ≡ true → ((bytes_eq n authenticated || true) && true) ≡ true
         both h = rw h refl
 
-pub alone_is_meant : (who : Identities) (objects : PolicyObjects) (to : Grantee) → IsMeant who (alone who (stranger objects) to)
+pub alone_is_meant : (who : Identities) (objects : PolicyObjects) (to : Grantee) → IsMeant who (alone who (unbound_user objects) to)
 alone_is_meant identities.Any objects to = tt
 alone_is_meant identities.Usual objects (grantee.User n) = user_is_usual n
 alone_is_meant identities.Usual objects (grantee.Group n) = member_is_usual objects n

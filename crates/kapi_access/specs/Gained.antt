@@ -20,7 +20,7 @@ use Rattle.kapi_gains.specs.Access.{GivesNothing, may}
 use Rattle.kapi_access.specs.declared.grantee.Grantee.{Grantee}
 use Rattle.kapi_access.specs.declared.identities.Identities.{Identities}
 use Rattle.kapi_access.specs.declared.identities.Identities.TheVariants as identities
-use Rattle.kapi_access.specs.Grantees.{alone, grantees, matches, role_of, stranger}
+use Rattle.kapi_access.specs.Grantees.{alone, grantees, matches, role_of, unbound_user}
 use Rattle.kapi_access.specs.Together.{together}
 use Rattle.kapi_access.specs.Usual.{IsMeant, IsUsual}
 use Rattle.kapi_access.specs.Who.{same_grantee}
@@ -63,7 +63,7 @@ gained_as before own to b rules =
 
 -- what the grantee gains by the binding
 abbrev pub gained_by : Identities → PolicyObjects → PolicyObjects → Binding → Grantee → List Gained
-gained_by who before after b to = gained_as before (alone who (stranger before) to) to b (role_of after b)
+gained_by who before after b to = gained_as before (alone who (unbound_user before) to) to b (role_of after b)
 
 -- what the grantees of a binding gain by it
 unfoldable pub gained_from : Identities → PolicyObjects → PolicyObjects → Binding → List Gained

@@ -53,8 +53,8 @@ abbrev pub users_in : List Binding → List ℕ
 users_in bindings = flat_map (λ b. flat_map user_in b.subjects) bindings
 
 -- a user whom no binding names: the name is longer than all of theirs
-abbrev pub stranger : PolicyObjects → List ℕ
-stranger objects = 120 ∷ users_in (all_bindings objects)
+abbrev pub unbound_user : PolicyObjects → List ℕ
+unbound_user objects = 120 ∷ users_in (all_bindings objects)
 
 -- another user in the group, and in the one of all users with credentials; the group of those without has the anonymous user alone
 abbrev pub usual_member : List ℕ → List ℕ → Identity

@@ -5,7 +5,7 @@ pub mod Told
 pub mod Risks
 pub mod Gained
 pub mod Views
-pub mod Stood
+pub mod Earlier
 pub mod Scoped
 pub mod Given
 pub mod Dangling

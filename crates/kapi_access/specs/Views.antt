@@ -4,7 +4,7 @@ use Rattle.kapi_model.specs.declared.policy_rule.PolicyRule.{PolicyRule}
 use Rattle.kapi_policy.specs.Decided.{Binding}
 use Rattle.kapi_policy.specs.Objects.{PolicyObjects}
 use Rattle.kapi_policy.specs.Views.{binding_of}
-use Rattle.kapi_access.specs.declared.gain.Gain.{Gain}
+use Rattle.kapi_access.specs.declared.gained.Gain.{Gain}
 use Rattle.kapi_access.specs.declared.way.Way.{Way as ByWay}
 use Rattle.kapi_rules.specs.declared.atom.Atom.{Atom}
 use Rattle.kapi_access.specs.declared.grantee.Grantee.{Grantee}

@@ -3,7 +3,7 @@ ghost use Rattle.std.specs.Prelude.{◌≡◌, ◌∷◌, ◌++◌, map, string_
 ghost use Rattle.std.specs.List.{flat_map};
 ghost use Rattle.kapi_policy.specs.All.{all_bindings};
 ghost use Rattle.kapi_policy.specs.Views.{binding_of};
-ghost use Rattle.kapi_access.specs.Grantees.{alone as alone_of, stranger as stranger_of, user_in, usual_member as usual_member_of};
+ghost use Rattle.kapi_access.specs.Grantees.{alone as alone_of, unbound_user as unbound_user_of, user_in, usual_member as usual_member_of};
 ghost use Rattle.kapi_access.specs.Usual.{asked_as as asked_as_of, usual_groups as usual_groups_of};
 ghost use Rattle.kapi_access.specs.declared.identities.Identities.TheVariants as identities;
 
@@ -50,13 +50,13 @@ fn longest(alloc: Global, bindings: &[Binding<'_>]) -> Result<Text, Memory>
 }
 
 /// A user whom no binding names, given all bindings of the policy.
-pub fn stranger<P: Policy>(
+pub fn unbound_user<P: Policy>(
     alloc: Global,
     policy: &P,
     bindings: &[Binding<'_>],
 ) -> Result<Text, Memory>
     requires { map binding_of bindings.now ≡ all_bindings (P.content policy.now) }
-    ensures { IfOk result (λ t. t ≡ stranger_of (P.content policy.now)) }
+    ensures { IfOk result (λ t. t ≡ unbound_user_of (P.content policy.now)) }
 {
     let text = longest(alloc, bindings)?;
     Ok(text)

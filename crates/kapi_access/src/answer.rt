@@ -13,7 +13,7 @@ ghost use Rattle.kapi_access.specs.Members as members;
 
 use crate::allowed::who;
 use crate::cells::{gain_row, gained_rule_row, gains_head, masters_row, way_row, ways_head};
-use crate::gain::{Gain, compare};
+use crate::gained::{Gain, compare};
 use crate::gained_rules::{GainedRule, by_rule};
 use crate::identities::Identities;
 use crate::members::{push_gain, push_way};

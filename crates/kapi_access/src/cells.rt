@@ -7,7 +7,7 @@ ghost use Rattle.kapi_lines.specs.Escapes.{escaped};
 ghost use Rattle.kapi_policy.specs.Views.{binding_of};
 ghost use Rattle.kapi_access.specs.Cells as cells;
 
-use crate::gain::Gain;
+use crate::gained::Gain;
 use crate::gained_rules::GainedRule;
 use crate::grantee::Grantee;
 use crate::question::split_at_slash;

@@ -5,7 +5,7 @@ ghost use Rattle.kapi_access.specs.Gained.{by_rule as by_rule_of, is_alike as is
 ghost use Rattle.kapi_access.specs.Views.{gain_of, gained_atoms_of, gained_rule_of};
 ghost use Rattle.kapi_access.specs.Who.{same_grantee as same_grantee_of};
 
-use crate::gain::Gain;
+use crate::gained::Gain;
 use crate::grantee::Grantee;
 use crate::joining::together;
 use crate::way::again;

@@ -20,7 +20,7 @@ ghost use Rattle.kapi_access.specs.Dangling.{IsCovered, covered, stands_for};
 ghost use Rattle.kapi_access.specs.Answers.{grave_first};
 ghost use Rattle.kapi_access.specs.Gained.{Gained, GivesNothingTo, IsGained, IsReported, IsReportedByRule, by_rule, gained, gained_from, new_atoms};
 ghost use Rattle.kapi_access.specs.Given.{allows_at, lines_within, what, what_lines};
-ghost use Rattle.kapi_access.specs.Grantees.{alone, grantees, role_of, stranger};
+ghost use Rattle.kapi_access.specs.Grantees.{alone, grantees, role_of, unbound_user};
 ghost use Rattle.kapi_access.specs.Risks.{IsWithoutRisk, risks};
 ghost use Rattle.kapi_access.specs.Usual.{IsMeant};
 ghost use Rattle.kapi_access.specs.declared.identities.Identities.{Identities};
@@ -101,7 +101,7 @@ pub fn nothing_is_listed_where_nobody_gains()
 pub fn what_stood_stays_out()
     ensures rules { (who : Identities) (before : PolicyObjects) (b : Binding) (to : Grantee) (rule : PolicyRule)
         → Has (all_bindings before) b → Has (grantees b) to → Has (role_of before b) rule
-        → new_atoms (held before (alone who (stranger before) to) b.namespace) rule ≡ [] }
+        → new_atoms (held before (alone who (unbound_user before) to) b.namespace) rule ≡ [] }
     ensures bindings { (who : Identities) (before after : PolicyObjects) (b : Binding)
         → Has (all_bindings before) b → role_of after b ≡ role_of before b → gained_from who before after b ≡ [] }
     ensures alike { (who : Identities) (before after : PolicyObjects) (s b : Binding) → Has (all_bindings before) s

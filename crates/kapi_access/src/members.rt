@@ -9,7 +9,7 @@ ghost use Rattle.kapi_access.specs.Cells as cells;
 ghost use Rattle.kapi_access.specs.Members as members;
 
 use crate::cells::{binding_kind, subject_kind, subject_name};
-use crate::gain::Gain;
+use crate::gained::Gain;
 use crate::grantee::Grantee;
 use crate::way::Way;
 use kapi_object::tree_form::put_string;

@@ -2,9 +2,9 @@ use Rattle.std.proofs.Common.{arith}
 use Rattle.std.proofs.lemmas.Grind.{common_steps}
 use Rattle.kapi_policy.specs.All.{all_bindings}
 use Rattle.kapi_policy.specs.Views.{binding_of}
-use Rattle.kapi_access.specs.Stood.{bindings_at}
+use Rattle.kapi_access.specs.Earlier.{bindings_at}
 use Rattle.kapi_access.proofs.Alike.{still_among}
-use Rattle.kapi_access.proofs.gain.gains.Goals as goal
+use Rattle.kapi_access.proofs.gained.gains.Goals as goal
 
 pub push_unless_stood-requires-clause-stood : goal.push_unless_stood-requires-clause-stood
 push_unless_stood-requires-clause-stood g c =

@@ -1,7 +1,7 @@
 use Rattle.std.proofs.Common.{◌≡◌, length}
 use Rattle.kapi_policy.specs.Views.{binding_of}
-use Rattle.kapi_access.specs.Stood.{bindings_at, from_place}
-use Rattle.kapi_access.proofs.stood.from_place.Given as goal
+use Rattle.kapi_access.specs.Earlier.{bindings_at, from_place}
+use Rattle.kapi_access.proofs.earlier.from_place.Given as goal
 
 abbrev pub invariant-loop-rest : goal.invariant-loop-rest
 invariant-loop-rest l = from_place (binding_of l.binding) (bindings_at l.rest) ≡ from_place (binding_of l.binding) (bindings_at l.stood)

@@ -1,7 +1,7 @@
 //! Bindings that gave the same before.
 ghost use Rattle.std.specs.Prelude.{◌≡◌};
 ghost use Rattle.kapi_policy.specs.Views.{binding_of};
-ghost use Rattle.kapi_access.specs.Stood.{bindings_at, comes_before as is_before, first_gives_same as first_gives, from_place as from_place_of, gives_same as gives_as, same_subject as same_subject_as, same_subjects as same_subjects_as};
+ghost use Rattle.kapi_access.specs.Earlier.{bindings_at, comes_before as is_before, first_gives_same as first_gives, from_place as from_place_of, gives_same as gives_as, same_subject as same_subject_as, same_subjects as same_subjects_as};
 
 use crate::way::rules_by;
 use kapi_aggregation::same_rules;

@@ -4,7 +4,7 @@ use Rattle.kapi_policy.specs.Decided.{Binding}
 use Rattle.kapi_policy.specs.Views.{binding_of}
 use Rattle.kapi_access.proofs.Walks.{flat_map_map}
 use Rattle.kapi_access.specs.Grantees.{user_in, users_in}
-use Rattle.kapi_access.proofs.alone.stranger.Goals as goal
+use Rattle.kapi_access.proofs.alone.unbound_user.Goals as goal
 
 pub returns : goal.returns
 returns g c =

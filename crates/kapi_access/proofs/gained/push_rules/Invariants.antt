@@ -3,7 +3,7 @@ use Rattle.std.specs.List.{enumerate_from, flat_map}
 use Rattle.kapi_policy.specs.Views.{binding_of}
 use Rattle.kapi_access.specs.Gained.{lines_by}
 use Rattle.kapi_access.specs.Views.{gain_of}
-use Rattle.kapi_access.proofs.gain.push_rules.Given as goal
+use Rattle.kapi_access.proofs.gained.push_rules.Given as goal
 
 abbrev pub invariant-loop-index : goal.invariant-loop-index
 invariant-loop-index l =

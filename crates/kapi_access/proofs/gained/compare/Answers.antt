@@ -1,6 +1,6 @@
 use Rattle.std.proofs.Common.{◌∙◌}
 use Rattle.kapi_access.proofs.Walks.{gained_by_all}
-use Rattle.kapi_access.proofs.gain.compare.Goals as goal
+use Rattle.kapi_access.proofs.gained.compare.Goals as goal
 
 pub returns : goal.returns
 returns g c =

@@ -1,6 +1,6 @@
 use Rattle.std.proofs.Common.{◌≡◌, length}
-use Rattle.kapi_access.specs.Stood.{same_subjects}
-use Rattle.kapi_access.proofs.stood.same_subjects.Given as goal
+use Rattle.kapi_access.specs.Earlier.{same_subjects}
+use Rattle.kapi_access.proofs.earlier.same_subjects.Given as goal
 
 abbrev pub invariant-loop-left : goal.invariant-loop-left
 invariant-loop-left l = same_subjects l.left l.right ≡ same_subjects l.a l.b

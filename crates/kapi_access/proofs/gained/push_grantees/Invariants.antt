@@ -4,7 +4,7 @@ use Rattle.kapi_policy.specs.Views.{binding_of}
 use Rattle.kapi_access.specs.Gained.{gained_as}
 use Rattle.kapi_access.specs.Grantees.{alone}
 use Rattle.kapi_access.specs.Views.{gain_of}
-use Rattle.kapi_access.proofs.gain.push_grantees.Given as goal
+use Rattle.kapi_access.proofs.gained.push_grantees.Given as goal
 
 abbrev pub invariant-loop-to : goal.invariant-loop-to
 invariant-loop-to g l =

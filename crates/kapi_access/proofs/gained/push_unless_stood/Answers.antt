@@ -1,9 +1,9 @@
 use Rattle.std.proofs.Common.{map, sym, ◌∙◌}
 use Rattle.kapi_policy.specs.Views.{binding_of}
-use Rattle.kapi_access.specs.Stood.{bindings_at}
+use Rattle.kapi_access.specs.Earlier.{bindings_at}
 use Rattle.kapi_access.specs.Views.{gain_of}
 use Rattle.kapi_access.proofs.Alike.{first_gains_nothing, nothing_more}
-use Rattle.kapi_access.proofs.gain.push_unless_stood.Goals as goal
+use Rattle.kapi_access.proofs.gained.push_unless_stood.Goals as goal
 
 pub returns-then-first_gives_same : goal.returns-then-first_gives_same
 returns-then-first_gives_same g c =

@@ -5,14 +5,14 @@ ghost use Rattle.kapi_rules.specs.Atoms.{after_slash};
 ghost use Rattle.kapi_policy.specs.All.{all_bindings};
 ghost use Rattle.kapi_policy.specs.Views.{binding_of};
 ghost use Rattle.kapi_access.specs.Gained.{can_match as can_match_of, gained, gained_as, gained_from, is_nothing, lines_by, lines_of};
-ghost use Rattle.kapi_access.specs.Grantees.{alone as alone_of, stranger as stranger_of};
-ghost use Rattle.kapi_access.specs.Stood.{AreAmong, bindings_at};
+ghost use Rattle.kapi_access.specs.Grantees.{alone as alone_of, unbound_user as unbound_user_of};
+ghost use Rattle.kapi_access.specs.Earlier.{AreAmong, bindings_at};
 ghost use Rattle.kapi_access.specs.Views.{gain_of, line_for};
 
-use crate::alone::{Alone, stranger};
+use crate::alone::{Alone, unbound_user};
+use crate::earlier::{first_gives_same, from_place};
 use crate::grantee::{Grantee, grantees};
 use crate::identities::Identities;
-use crate::stood::{first_gives_same, from_place};
 use crate::way::{again, rules_by};
 use kapi_missing::missing;
 use kapi_model::{Identity, PolicyRule};
@@ -196,7 +196,7 @@ fn push_gained_from<'a, P: Policy, Q: Policy>(
     after: &Q,
     binding: &Binding<'a>,
 ) -> Result<(), Memory>
-    requires { alone.now.other ≡ stranger_of (P.content before.now) }
+    requires { alone.now.other ≡ unbound_user_of (P.content before.now) }
     ensures { OnOk result (map gain_of list.new.items ≡ map gain_of list.old.items ++ gained_from alone.now.identities (P.content before.now) (Q.content after.now) (binding_of binding.now)) }
 {
     let grantees = grantees(alloc, binding)?;
@@ -222,7 +222,7 @@ fn push_unless_stood<'a, P: Policy, Q: Policy>(
     after: &Q,
     binding: &Binding<'a>,
 ) -> Result<(), Memory>
-    requires stranger { alone.now.other ≡ stranger_of (P.content before.now) }
+    requires unbound_user { alone.now.other ≡ unbound_user_of (P.content before.now) }
     requires stood { AreAmong (bindings_at stood.now) (all_bindings (P.content before.now)) }
     ensures { OnOk result (map gain_of list.new.items ≡ map gain_of list.old.items ++ gained_from alone.now.identities (P.content before.now) (Q.content after.now) (binding_of binding.now)) }
 {
@@ -241,7 +241,7 @@ fn gains<'a, P: Policy, Q: Policy>(
     after: &Q,
     bindings: &[Binding<'a>],
 ) -> Result<Vec<Gain<'a>>, Memory>
-    requires stranger { alone.now.other ≡ stranger_of (P.content before.now) }
+    requires unbound_user { alone.now.other ≡ unbound_user_of (P.content before.now) }
     requires stood { bindings_at stood.now ≡ all_bindings (P.content before.now) }
     ensures { IfOk result (λ v. map gain_of v.items ≡ flat_map (λ b. gained_from alone.now.identities (P.content before.now) (Q.content after.now) (binding_of b)) bindings.now) }
 {
@@ -269,7 +269,7 @@ pub fn compare<'a, P: Policy, Q: Policy>(
     requires after { map binding_of bindings.now ≡ all_bindings (Q.content after.now) }
     ensures { IfOk result (λ v. map gain_of v.items ≡ gained identities (P.content before.now) (Q.content after.now)) }
 {
-    let other = stranger(alloc, before, stood)?;
+    let other = unbound_user(alloc, before, stood)?;
     let alone = Alone { identities, other };
     let list = gains(alloc, before, &alone, stood, after, bindings)?;
     Ok(list)

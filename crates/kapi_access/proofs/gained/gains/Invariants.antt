@@ -3,9 +3,9 @@ use Rattle.std.specs.List.{flat_map}
 use Rattle.kapi_policy.specs.All.{all_bindings}
 use Rattle.kapi_policy.specs.Views.{binding_of}
 use Rattle.kapi_access.specs.Gained.{gained_from}
-use Rattle.kapi_access.specs.Stood.{AreAmong, bindings_at}
+use Rattle.kapi_access.specs.Earlier.{AreAmong, bindings_at}
 use Rattle.kapi_access.specs.Views.{gain_of}
-use Rattle.kapi_access.proofs.gain.gains.Given as goal
+use Rattle.kapi_access.proofs.gained.gains.Given as goal
 
 abbrev pub invariant-loop-binding : goal.invariant-loop-binding
 invariant-loop-binding g l = record {
