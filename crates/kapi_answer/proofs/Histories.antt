@@ -113,7 +113,7 @@ valid_is name (Err faults) tree is = absurd (cc is)
 abbrev IsNew : Plain → Key × Data → Type 0
 IsNew s new = (free_place s new.0 ≡ Ok tt) × IsNamedBy new.0 new.1
 
--- the tree of an object that is put in place of another is named by that place
+-- the tree of an object put in place of another is named by the place
 abbrev IsOther : Key × Data → Type 0
 IsOther new = IsNamedBy new.0 new.1
 

@@ -40,8 +40,8 @@ use Rattle.kapi_watch.specs.Watches.{PlainWatch}
 use Rattle.kapi_answer.specs.Watch.{PlainWatching, since_served, watch_of}
 use Rattle.kapi_answer.specs.Update.{replaces, to_patch, to_update}
 
--- what a request that passes all checks but the store's leads to: an answer without a change, a watch that starts, a
--- new object at its place, an object in place of the stored one, or objects that are to be deleted
+-- what a request that passes all checks but the store's leads to: an answer without a change, the start of a watch, a
+-- new object at its place, an object in place of the stored one, or the deletion of objects
 pub data Plan : Type 0 where
   tell : Outcome → Plan
   watch : PlainWatch → Plan
@@ -163,7 +163,7 @@ carried_out s (delete deletion) = removes s deletion >>= passes
 unfoldable pub checked : PolicyObjects → Plain → Identity → HttpRequest → Attributes → Result Passed Refused
 checked objects s identity request a = planned objects s identity request a >>= carried_out s
 
--- what is sent, the changes that are made, and the watch that starts, whose head is sent
+-- what is sent, the changes made, and the started watch, whose head is sent
 pub record Answered : Type 0 where
   pub reply : WrittenReply
   pub changes : List PlainChange

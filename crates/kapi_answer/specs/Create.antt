@@ -85,7 +85,7 @@ key_at row namespace name = record { group = row.group; resource = row.plural; n
 abbrev pub key_of : ResourceRow → List ℕ → List ℕ → Key
 key_of row namespace name = key_at row (namespace_on row namespace) name
 
--- the refusal that reports a fault of the store, about the object of that name
+-- the refusal that reports a fault of the store
 unfoldable pub refusal_of : StoreFault → Refusal
 refusal_of Exists = refusal.AlreadyExists
 refusal_of NoNamespace = refusal.NotFound sought.Namespace

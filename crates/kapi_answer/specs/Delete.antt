@@ -50,7 +50,7 @@ subject_at k = record { group = k.group; resource = k.resource; name = k.name }
 abbrev pub deletion_text : Key → Data → List ℕ
 deletion_text k tree = compact_text (deleted_status (subject_at k) (uid_in tree))
 
--- the object that is stored at the place that is asked for
+-- the stored object at the key; refused if there is none
 abbrev pub existing : Plain → Key → Result Data Refused
 existing s k = ok_or (lookup (is_key k) s.objects) (asked_for (refusal.NotFound sought.Object))
 

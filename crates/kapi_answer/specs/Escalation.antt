@@ -32,7 +32,7 @@ role_sought (written.ClusterRoleBinding name versions) = role_named versions.new
 role_sought (written.Role place versions) = record { resource = []; name = [] }
 role_sought (written.ClusterRole name versions) = record { resource = []; name = [] }
 
--- the refusal that reports a fault that the guard finds in a write
+-- the refusal that reports a fault found by the guard in a write
 unfoldable pub refusal_of : WrittenObject → Fault → Refusal
 refusal_of w role_ref_changed = refusal.RoleRefChanged
 refusal_of w role_not_found = refusal.RoleNotFound (role_sought w)
@@ -46,7 +46,7 @@ told name w (Err fault) = Err (named name (refusal_of w fault))
 
 -- ---- the check
 
--- the identity may make the write of the object of that name that a request of that name asks for
+-- the identity may make the write of the object `name` that a request for `request_name` asks for
 unfoldable pub guarded : PolicyObjects → Identity → List ℕ → List ℕ → WrittenObject → Result (Unit {0}) Refused
 guarded objects identity request_name name w = told name w (checked objects identity (record { request_name = request_name; object = w }))
 

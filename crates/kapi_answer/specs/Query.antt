@@ -51,7 +51,7 @@ no_continuation query = unset (codes "continue") query
 unfoldable pub no_initial_events : List QueryPair → Result (Unit {0}) Refused
 no_initial_events query = unset (codes "sendInitialEvents") query
 
--- another match than with any version that is not older than the one that is asked for
+-- the `resourceVersionMatch` is set, and is not `NotOlderThan`
 abbrev pub is_other_match : List ℕ → Bool
 is_other_match text = nat_lt 0 (length text) && not (bytes_eq text (codes "NotOlderThan"))
 

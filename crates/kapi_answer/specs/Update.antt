@@ -32,8 +32,8 @@ in_name name given = if is_as_in_path name given then Ok tt else Err (named name
 abbrev pub keeping_status : ResourceRow → Data → Data → Data
 keeping_status row old tree = if row.has_status then with_member_of (codes "status") old tree else tree
 
--- the tree that is stored once a part of the old object is replaced by that of another: the object with its path's name
--- and namespace and the old status, or the old object with the other's status
+-- the tree that is stored once a part of the old object is replaced by the same part of another: the other object with
+-- its path's name and namespace and the old status, or the old object with the other's status
 unfoldable pub replacing : Part → ResourceRow → Key → Data → Data → Data
 replacing part.Object row k old tree = keeping_status row old (with_namespace_on row k.namespace (with_text (codes "name") k.name tree))
 replacing part.Status row k old tree = with_member_of (codes "status") tree old

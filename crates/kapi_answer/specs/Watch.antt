@@ -81,7 +81,7 @@ after_end close = if close then after.Closes else after.Serves
 abbrev pub subject_of : Scope → Subject
 subject_of scope = record { group = scope.row.group; resource = scope.row.plural; name = scope.name }
 
--- the Status object that reports that a watch cannot go on
+-- the Status object that ends a watch which cannot go on
 abbrev pub expired_status : Plain → PlainWatch → Data
 expired_status s w = status_of (Some (subject_of w.scope)) (expired (record { asked = w.position; begins = window_start s }))
 

@@ -97,7 +97,7 @@ fn check_place(alloc: Global, store: &Store, key: &Key) -> Result<(), CheckError
     }
 }
 
-/// The refusal that reports a fault of the store, about the object of that name.
+/// The refusal that reports a fault of the store, about the object `name`.
 #[tactic(auto, unfolding(crate::specs::Create::refusal_of))]
 pub fn refused_by_store(name: Text, error: StoreError) -> CheckError
     ensures { refused_by result ≡ option_map (λ fault. table.named name (refusal_of fault)) (fault_of error) }
@@ -215,7 +215,7 @@ pub fn refused(name: Text, why: Refusal) -> CheckError
     CheckError::Refused(Refused::named(name, why))
 }
 
-/// The name that the body gives, if it is one that objects of the resource type may have.
+/// The name that the body gives, if objects of the resource type may have it.
 #[tactic(auto, unfolding(crate::specs::Create::given_name))]
 fn check_given_name(alloc: Global, row: &ResourceRow, given: &GivenText) -> Result<Text, CheckError>
     ensures { Gives refused_by (λ t. t) result (given_name row.now given.now) }

@@ -44,7 +44,7 @@ pub fn check_delete(
     })
 }
 
-/// The object that is stored at the place that is asked for.
+/// The stored object at the key; refused if there is none.
 pub fn existing<'a>(store: &'a Store, key: &Key) -> Result<&'a StoredObject, Refused>
     ensures { Gives (λ r. Some r) (λ o. stored_tree o.now) result (deletions.existing (plain_of store.now) key.now) }
 {

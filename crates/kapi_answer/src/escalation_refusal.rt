@@ -10,7 +10,7 @@ use kapi_reply::{NamedRole, Refusal, Refused};
 use kapi_text::{Memory, Text, TryCopy};
 use std::alloc::{AllocError, Global};
 
-/// The error of a request that writes the object of that name, if the guard refuses the write.
+/// The error of a request that writes the object `name`, if the guard refuses the write.
 pub fn refused_for(
     alloc: Global,
     name: &str,
@@ -23,7 +23,7 @@ pub fn refused_for(
     Ok(Refused::named(Text::copy_of(alloc, name)?, why))
 }
 
-/// The refusal that reports a fault that the guard finds in a write.
+/// The refusal that reports a fault found by the guard in a write.
 #[tactic(auto, unfolding(crate::specs::Escalation::refusal_of))]
 fn refusal_of(
     alloc: Global,

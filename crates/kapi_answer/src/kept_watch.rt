@@ -7,8 +7,8 @@ use kapi_watch::Place;
 use std::alloc::Global;
 use std::marker::Model;
 
-/// The watch that a connection shows, in a block of its own: an answer that starts none, and a connection that shows
-/// none, are moved without the room for it.
+/// The watch that a connection shows, in a block of its own: answers and connections without a watch are moved without
+/// the room for one.
 #[derive(Drop)]
 pub struct KeptWatch {
     block: Box<Watching>,

@@ -58,7 +58,7 @@ impl From<Memory> for LoadError {
     }
 }
 
-/// Prepares the creation of the object that a text is, at the place that it names itself.
+/// Prepares the creation of the object in a text, at the place that the object names.
 #[tactic(auto, unfolding(crate::specs::Load::loads))]
 pub fn load(alloc: Global, store: &mut Store, text: &[u8]) -> Result<Ready, LoadError>
     ensures same { Same store.old store.new }

@@ -44,7 +44,7 @@ pub struct NewObject {
     pub object: Object,
 }
 
-/// An object that is to be written in place of the one that is stored.
+/// An object that is to be written, and the stored one it replaces.
 #[derive(Drop)]
 pub struct Replacement {
     pub new: NewObject,

@@ -244,7 +244,7 @@ fn check_version(current: u64, query: &[QueryPair]) -> Result<(), Refused>
     check_version_text(current, asked(query, "resourceVersion"))
 }
 
-/// Checks that a revision that is asked for was reached; an empty text asks for none.
+/// Checks that the requested revision was reached; an empty text requests none.
 #[tactic(auto, unfolding(crate::specs::Query::version_reached))]
 fn check_version_text(current: u64, text: &str) -> Result<(), Refused>
     ensures { result ≡ queries.version_reached current text.now }

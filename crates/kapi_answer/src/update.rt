@@ -155,7 +155,7 @@ fn check_name(alloc: Global, name: &Text, given: &GivenText) -> Result<(), Check
     Err(refused(name, Refusal::BadRequest(BadWord::Name)))
 }
 
-/// The stored object, with its tree where that was read, if the version that the body gives admits a write.
+/// The stored object, with its tree if already read, provided the body's `resourceVersion` admits a write.
 fn replaceable(
     alloc: Global,
     store: &Store,
@@ -173,7 +173,7 @@ fn replaceable(
     }
 }
 
-/// The object that is stored once a part of the old one is replaced by that of another.
+/// The object that is stored once a part of the old one is replaced by the same part of `object`.
 #[tactic(auto, unfolding(crate::specs::Update::replacing))]
 fn replacing(
     alloc: Global,

@@ -1,4 +1,4 @@
--- An identity that acts in a list of events is on a connection that one of them serves.
+-- An identity that acts in a list of events is on a connection served by one of them.
 use Rattle.std.proofs.Common.{◌≡◌, ◌⊎◌, inl, inr, ℕ, List, [], ◌∷◌, Bool, true, false, cond, Option, Some, None, refl, sym, ap, ◌∙◌, subst}
 use Rattle.std.specs.BTreeMap.{insert_entry, is_at}
 use Rattle.std.specs.Cmp.{Equal-is, ranked}

@@ -1,4 +1,5 @@
--- What an event changes: the changes that it writes, the connection that it moves, and what stays. Each law of all events is one of these fields.
+-- What an event changes: the changes it writes, the connection it moves, and what stays. Each law of all events is
+-- a field of `Effect`.
 use Rattle.std.proofs.Common.{◌≡◌, ℕ, ◌+◌, suc, List, [], ◌∷◌, ◌++◌, length, nat_lt, nat_le, Bool, true, false, ◌&&◌, if◌then◌else◌, Option, Some, None, option_map, Result, Ok, Err, refl, sym, ap, ◌∙◌, arith, append-nil}
 use Rattle.std.specs.BTreeMap.{insert_entry, is_at}
 use Rattle.std.specs.Map.{remove_entry, set_value}

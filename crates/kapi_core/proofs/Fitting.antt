@@ -82,7 +82,7 @@ row_is a b h =
       namespaced = same_bool a.namespaced b.namespaced form.0;
     }
 
--- a resource type that comes before one unlike it is not found by that one's group and plural
+-- a resource type is not found by the group and plural of a later one, if it is unlike all later ones
 first_not_told : (r row : ResourceRow) (later : List ResourceRow) → has_row later r ≡ true → list_any (λ other. is_like row other) later ≡ false
     → tells r.group r.plural row ≡ false
 first_not_told r row [] has none = absurd (cc has)

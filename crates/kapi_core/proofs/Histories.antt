@@ -242,7 +242,7 @@ served_has on table first texts events =
 pub served_is_a_history : ServedIsAHistory
 served_is_a_history on table first texts events = (served_has on table first texts events).history
 
--- a machine that a running one refines has the history that its changes are
+-- a machine refined by a running one, whose changes are a history, has that history
 stands_has : (core : Running) (m : Machine) → Refines core m → IsHistory m.store.first m.changes → HasHistory m.store.first m
 stands_has core m stands k = record { begins = refl; objects = stands.store.made; counted = stands.store.counted; history = k }
 

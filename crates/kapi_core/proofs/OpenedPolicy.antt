@@ -1,4 +1,4 @@
--- The policy that every machine begins with, and the identities that are unprivileged in it.
+-- The policy that every machine begins with, and its unprivileged identities.
 use Rattle.std.proofs.Common.{◌≡◌, ◌≤◌, ℕ, ◌+◌, List, [], ◌∷◌, ◌++◌, Bool, true, false, if◌then◌else◌, ◌==◌, length, map, refl, sym, ap, ◌∙◌, subst, codes}
 use Rattle.std.specs.Fmt.{decimal}
 use Rattle.std.specs.List.{flat_map, list_any}

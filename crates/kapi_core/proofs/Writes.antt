@@ -28,7 +28,7 @@ nothing_writes s o ms cs p stands is covers =
 abbrev pub CoversWritten : State → Tracked → Tracked → List PlainChange → Type 0
 CoversWritten s ms ns changes = Covers ms (roles_in (plain_of s).objects) → Covers ns (roles_in (placed_all (trees_left_by changes) (plain_of s).objects))
 
--- a write that the policy follows, and that was noted
+-- after a noted write that the policy follows, store, policy and marks refine and cover the written objects
 pub writes : (s t : State) (o u : PolicyObjects) (ms ns : Tracked) (changes : List PlainChange)
     → ((cs : List PlainChange) (p : Plain) → RefinesPlain s cs p → RefinesPlain t (cs ++ changes) (written changes p))
     → u ≡ after_changes (policy_changes changes) o → CoversWritten s ms ns changes → Writes s o ms t u ns changes

@@ -12,11 +12,11 @@ use Rattle.kapi_policy.specs.Objects.{PolicyObjects}
 abbrev pub word : List ℕ → List (List ℕ)
 word text = text ∷ []
 
--- the rule that allows everything that is done to resources
+-- the rule that allows every verb on every resource
 abbrev pub any_resource : PolicyRule
 any_resource = record { verbs = word (codes "*"); api_groups = word (codes "*"); resources = word (codes "*"); resource_names = []; non_resource_urls = [] }
 
--- the rule that allows everything that is done to paths
+-- the rule that allows every verb on every path
 abbrev pub any_path : PolicyRule
 any_path = record { verbs = word (codes "*"); api_groups = []; resources = []; resource_names = []; non_resource_urls = word (codes "*") }
 

@@ -97,7 +97,7 @@ EventsAreARun = (on : Bool) (table : List ResourceRow) (first : ℕ) (texts : Li
     let m : Machine = served on table first texts before in
     watch_on id m ≡ Some w → WatchesOn id m events → IsRun id m events w
 
--- what was sent of a watch that began at a revision, on top of the list at that revision, is what is listed now, once
+-- what was sent of a watch from a revision on, on top of the list at that revision, is what is listed now, once
 -- nothing is due any more
 abbrev pub SentIsListed : Type 0
 SentIsListed = (on : Bool) (table : List ResourceRow) (first : ℕ) (texts : List (List ℕ)) (before events : List Event) (id : ℕ) (w v : PlainWatching) (scope : Scope) (revision : ℕ) →

@@ -5,8 +5,8 @@ use kapi_answer::KeptWatch;
 use kapi_http::{HttpFault, HttpRequest, Inbox};
 use kapi_model::Identity;
 
-/// An open connection: the identity that makes its requests, the bytes not served yet, and the watch that it shows, if
-/// any. While a watch runs no request is served.
+/// An open connection: the identity that makes its requests, the bytes not served yet, and its running watch, if any.
+/// While a watch runs no request is served.
 #[derive(Drop)]
 pub struct Connection {
     pub identity: Identity,

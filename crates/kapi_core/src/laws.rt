@@ -51,7 +51,7 @@ pub fn the_opening_is_settled()
     ensures unprivileged { (who : Identity) → is_master who ≡ false → IsUnprivileged opening_policy who }
 {}
 
-/// An identity that acts in a list of events is on a connection that one of them serves: open before, or opened by one.
+/// An identity that acts in a list of events is on a connection served by one of them: open before, or opened by one.
 #[tactic(auto, using(crate::proofs::Acting::acts_served))]
 pub fn who_acts_is_served()
     ensures { (m : Machine) (events : List Event) (who : Identity) → Has (acting_in m events) who → IsServed m events who }
@@ -74,9 +74,9 @@ pub fn the_changes_of_a_machine_are_a_history()
 {}
 
 /// What a watch of a machine from a revision on shows, on top of the list at that revision, is what the machine lists
-/// now, for the objects that it selects. This holds of all that is due to it, and of what it has shown while the window
-/// holds, once nothing is due any more. A watch that shows the objects first makes that list on top of nothing. The
-/// list at a revision is what the machine listed when that was its current revision.
+/// now, for the objects the watch selects. This holds of all that is due to it, and of what it has shown while the
+/// window holds, once nothing is due any more. A watch that shows the objects first makes the same list on top of
+/// nothing. The list at a revision is what the machine listed when that was its current revision.
 pub fn what_a_watch_of_the_machine_shows_makes_its_list()
     ensures due { DueIsListed }
     ensures shown { ShownIsListed }
@@ -88,7 +88,7 @@ pub fn what_a_watch_of_the_machine_shows_makes_its_list()
 /// Events over which a connection shows a watch are a run of the watch, in which the window holds, and what is sent on
 /// the connection is what the watch shows. What a client was sent of a watch from a revision on, on top of the list at
 /// that revision, is what the machine lists now, once nothing is due to the client any more; what the client was sent
-/// of a watch that shows the objects first is that list.
+/// of a watch that shows the objects first is the same list.
 pub fn what_is_sent_of_a_watch_makes_its_list()
     ensures run { EventsAreARun }
     ensures sent { SentIsListed }

@@ -37,8 +37,8 @@ pub const OPEN_CONNECTIONS: usize = 256;
 /// The last number that a connection may have.
 pub const LAST_CONNECTION: u64 = 999_999_999_999_999_999;
 
-/// The machine: the objects, the roles and bindings among them as a policy that decides, the marks of the cluster roles
-/// that may differ from their unions, and the open connections.
+/// The machine: the objects, the policy of the roles and bindings among them, the marks of the cluster roles that may
+/// differ from their unions, and the open connections.
 pub struct Core<P: Policy + Drop> {
     alloc: Global,
     store: Store,
@@ -288,9 +288,9 @@ impl<P: Policy + Drop> Core<P> {
         }))
     }
 
-    /// Shows the next event of a connection's watch; none if it has no watch, and where there is nothing to show. A
-    /// watch that cannot go on, or whose rights were taken away if they are rechecked, ends with that event, and the
-    /// connection with it, if its request asked for that.
+    /// Shows the next event of a connection's watch; none if it has no watch, or if there is nothing to show. A watch
+    /// that cannot go on, or whose rights were taken away if they are rechecked, ends with the event, and the
+    /// connection with it, if its request asked for this.
     pub fn pump(&mut self, conn: ConnId) -> Result<Option<Output>, Memory>
         ensures { Sends self.old self.new (Event.Pump conn) result }
     {

@@ -59,12 +59,12 @@ impl<P: Policy + Drop> Core<P> {
 
     /// Makes the steps of a list of events, one after the other, until an allocation fails.
     ///
-    /// Nobody gains by them what no actor held: if the aggregated cluster roles have their unions, and the
-    /// identities of all connections that are served are unprivileged by the policy as it is before, the policy as it
-    /// is then allows no identity anything that it allowed before neither to that identity nor to one of those served.
+    /// Nobody gains by the events what no actor held: if the aggregated cluster roles have their unions, and the
+    /// identities of all served connections are unprivileged by the policy before the events, the policy after them
+    /// allows an identity only what the policy before allowed to it or to one of the served identities.
     ///
     /// If the rights of watches are rechecked, whatever is sent on a watch is sent while the roles and bindings of
-    /// that moment allow its identity to start it, or is the refusal that ends it.
+    /// the moment allow its identity to start it, or is the refusal that ends it.
     pub fn run(&mut self, events: &[Event]) -> Outputs
         ensures answers { (m : Machine) → Refines self.old m → result.answers ≡ answers_of m (take (length result.answers) events.now) }
         ensures state { (m : Machine) → Refines self.old m → Refines self.new (after m (take (length result.answers) events.now)) }
@@ -88,7 +88,7 @@ impl<P: Policy + Drop> Core<P> {
         }
     }
 
-    /// Makes room for an answer first, so that a step that was made is always reported.
+    /// Makes the step of an event and appends its answer. Room for it is made first, so each step made is reported.
     fn step_into(&mut self, answers: &mut Vec<Answer>, event: &Event) -> Result<(), Memory>
         ensures made { OnOk result (Pushes self.old self.new event.now answers.old.items answers.new.items) }
         ensures kept { OnErr result (Keeps self.old self.new) }

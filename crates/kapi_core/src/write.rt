@@ -42,7 +42,7 @@ pub fn make_write<P: Policy>(
     Ok(changes)
 }
 
-/// Creates the object that a text is, at the place that it names itself, and answers what that changed in the policy.
+/// Creates the object in a text, at the place that the object names, and returns the changes of the policy.
 pub fn load_object<P: Policy>(
     alloc: Global,
     policy: &mut P,

@@ -16,8 +16,8 @@ use Rattle.kapi_store.specs.State.{Same, State}
 use Rattle.kapi_stored_policy.specs.Reading.{policy_changes, policy_objects}
 use Rattle.kapi_core.specs.declared.event.Turned.{Turned}
 
--- a store and a policy that refined some objects, and marks that covered their cluster roles, refine and cover what
--- these changes make of those objects
+-- if the old store and policy refine some objects, and the old marks cover their cluster roles, the new ones refine and
+-- cover what the changes make of the objects
 abbrev pub Writes : State → PolicyObjects → Tracked → State → PolicyObjects → Tracked → List PlainChange → Type 0
 Writes s o ms t u ns changes = (cs : List PlainChange) (p : Plain) → RefinesPlain s cs p → o ≡ policy_objects p.objects → Covers ms (roles_in p.objects)
     → RefinesPlain t (cs ++ changes) (written changes p) × (u ≡ policy_objects (written changes p).objects) × Covers ns (roles_in (written changes p).objects)
