@@ -48,7 +48,7 @@ pub audited_objects : {X : Type 0} (items : X → List ℕ) (result : Result X A
 unfolding answers_alone
 audited_objects items result policy questions asked is h = subst (λ ls. Gives fault_told items result (answers_on (policy_machine policy) ls)) is h
 
--- the machine that the objects make is settled if that of the core is
+-- if a result reports whether a machine refined by the core is settled, it reports this of the given machine
 pub settled_as : {X E : Type 0} (result : Result X E) (told : X → Bool) (core : Running) (desk : Board) (given : Result Machine FileFault)
     → (m : Machine) × (given ≡ Ok m) × Publishes core desk m → ((m : Machine) → Refines core m → IfOk result (λ x. told x ≡ is_settled m))
     → (m : Machine) → given ≡ Ok m → IfOk result (λ x. told x ≡ is_settled m)

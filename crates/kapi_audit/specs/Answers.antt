@@ -31,6 +31,6 @@ answers_on (Err (bad_line n)) asked = Err (policy_line n)
 unfoldable pub answers : List ResourceRow → List ℕ → List ℕ → Result (List ℕ) AuditError
 answers table policy questions = answers_on (machine_of table policy) (lines_of questions)
 
--- the answers by the policy that the objects of a file are alone, without those that every other machine begins with
+-- the answers by the policy of a file's objects alone, without the objects that every other machine begins with
 unfoldable pub answers_alone : List ℕ → List ℕ → Result (List ℕ) AuditError
 answers_alone policy questions = answers_on (policy_machine policy) (lines_of questions)

@@ -132,7 +132,7 @@ fn answer_seated<R: Threads + Wait + Sync, G: Gate + Sync>(
 /// threads. The text has a line for each question, in their order, whatever the number of readers is.
 ///
 /// # Errors
-/// `PolicyLine` at the first line of the policy that is not loaded, else `QuestionLine` at the first line that is no
+/// `PolicyLine` at the first policy line that is not loaded, else `QuestionLine` at the first line which is no
 /// question; `Memory` if an allocation fails, and `Busy` if a reader answered by another policy than the whole
 /// one.
 pub fn audit_run<R: Threads + Wait + Sync, G: Gate + Sync>(

@@ -1,4 +1,4 @@
--- The machine that a file makes is one that the laws of machines speak of.
+-- The laws of machines hold of the machine that a file makes.
 use Rattle.std.specs.Prelude.{◌≡◌, ℕ, Bool, false, List, map, replicate, Ok}
 use Rattle.kapi_core.specs.Histories.{served}
 use Rattle.kapi_core.specs.Machine.{Machine, with_rechecks}

@@ -44,7 +44,7 @@ turned (suc k) m = turned k (step m event.Turn).1
 abbrev pub made_of : Machine → List NumberedLine → Result Machine FileFault
 made_of m lines = loaded m lines >>= λ k. Ok (turned 64 k)
 
--- the machine that a file of objects makes of the one that opens over a table at revision `first`, or the first line at fault
+-- the machine that a file of objects makes of the opening one over a table at `first`, or the first line at fault
 unfoldable pub machine_from : List ResourceRow → ℕ → List ℕ → Result Machine FileFault
 machine_from table first objects = made_of (opening table first) (lines_of objects)
 
@@ -56,7 +56,7 @@ machine_alone table first objects = made_of (empty table first) (lines_of object
 abbrev pub policy_machine : List ℕ → Result Machine FileFault
 policy_machine objects = machine_alone program_rows 0 objects
 
--- the machine that a file of objects makes of the opening one at revision 0, or the first line that is not loaded
+-- the machine that a file of objects makes of the opening one at revision 0, or the first line at fault
 abbrev pub machine_of : List ResourceRow → List ℕ → Result Machine FileFault
 machine_of table objects = machine_from table 0 objects
 

@@ -9,12 +9,12 @@ use Rattle.kapi_loading.specs.Loading.{Publishes}
 use Rattle.kapi_loading.specs.declared.fault.StartError.{StartError}
 use Rattle.kapi_loading.specs.declared.starting.Started.{Started}
 
--- a core that refines the machine that is given, or why none is
+-- a core that refines the given machine, or why no machine is given
 abbrev pub Holds : Result Running StartError → Result Machine FileFault → Type 0
 Holds (Ok core) given = (m : Machine) × (given ≡ Ok m) × Refines core m
 Holds (Err e) given = Fails (fault_told e) given
 
--- a core that refines the machine that is given, whose policy the desk has published, or why none is
+-- a core that refines the given machine, whose policy the desk has published, or why no machine is given
 abbrev pub Starts : Result Started StartError → Result Machine FileFault → Type 0
 Starts (Ok s) given = (m : Machine) × (given ≡ Ok m) × Publishes s.core s.desk m
 Starts (Err e) given = Fails (fault_told e) given

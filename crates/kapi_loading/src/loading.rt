@@ -21,7 +21,7 @@ pub const TURNS: usize = 64;
 
 /// What is done with the changes of the policy while a machine loads.
 pub trait Steps {
-    /// The changes that were taken made the policy these roles and bindings, and a desk that publishes them gives such seats.
+    /// By the changes taken the policy became these roles and bindings; a desk that publishes them gives such seats.
     ghost Follows: { Chair → Self → PolicyObjects → Type 0 };
 
     /// Takes what a line or a turn changed in the policy, which may be nothing.

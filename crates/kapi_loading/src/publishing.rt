@@ -10,7 +10,7 @@ use kapi_text::Memory;
 use std::alloc::AllocError;
 use std::sync::Wait;
 
-/// A desk that publishes each step that changes something.
+/// A desk that publishes each step with a change.
 pub struct Publishing<'a, R> {
     pub rt: &'a R,
     pub desk: Desk,

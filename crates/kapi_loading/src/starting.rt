@@ -74,7 +74,7 @@ fn load_into(
 
 // ---- machines with a desk
 
-/// A machine, the desk that publishes its policy, and the seats of that desk.
+/// A machine, the desk that publishes its policy, and the seats of the desk.
 pub struct Started {
     pub core: Core<IndexedPolicy>,
     pub desk: Desk,
@@ -106,8 +106,8 @@ pub fn start<R: Wait>(
     start_on(alloc, rt, opened(alloc, table, first)?, objects, seats)
 }
 
-/// The machine that the objects of a file make alone, without those that every other machine begins with; the rest is as
-/// of `start`.
+/// Like `start`, but the machine has the objects of the file alone, without the objects that every other machine begins
+/// with.
 ///
 /// # Errors
 /// `Line` at the first line that cannot be loaded, `Memory` if an allocation fails.

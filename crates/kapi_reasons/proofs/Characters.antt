@@ -45,6 +45,6 @@ and_true : (a b : Bool) → b ≡ true → (a && b) ≡ a
 and_true true b h = h
 and_true false b h = refl
 
--- a text that goes on with a character that is no control character
+-- a character that is no control character, put at the end, changes nothing in whether all of the text is shown
 pub shown_more : (text : List ℕ) (c : ℕ) → is_control c ≡ false → list_all is_shown (text ++ encode_utf8 c) ≡ list_all is_shown text
 shown_more text c h = list_all-append is_shown text (encode_utf8 c) ∙ and_true (list_all is_shown text) (list_all is_shown (encode_utf8 c)) (encode_shown c h)

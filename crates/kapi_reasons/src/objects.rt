@@ -20,8 +20,8 @@ use kapi_text::{Memory, Sequence};
 use serde_json::Value;
 use std::alloc::{AllocError, Global};
 
-/// Why the first line of a file of objects that is not loaded is not, on a machine of that table whose revisions begin
-/// after `first`; nothing if all lines are loaded. It is asked of a machine that has loaded the lines before.
+/// Why the first faulty line of a file of objects is not loaded, on a machine of the table whose revisions begin after
+/// `first`; `None` if all lines are loaded. The reason is found on a machine that has loaded the lines before.
 #[tactic(auto, using(crate::proofs::Loaded::made_fails))]
 pub fn object_reason(
     alloc: Global,
