@@ -14,8 +14,8 @@ use Rattle.kapi_request_info.specs.Faults.{TargetFault, bad_path, bad_escape, ba
 use Rattle.kapi_request_info.specs.declared.attributes.Attributes.{Attributes}
 use Rattle.kapi_reply.specs.Refusals.{Asked}
 use Rattle.kapi_reply.specs.Replies.{fault_reply, content_reply, refusal_reply, target_reply, watch_reply}
-use Rattle.kapi_reply.specs.declared.refusal.BadWord.{BadWord}
-use Rattle.kapi_reply.specs.declared.refusal.BadWord.TheVariants as word
+use Rattle.kapi_reply.specs.declared.refusal.BadRequestReason.{BadRequestReason}
+use Rattle.kapi_reply.specs.declared.refusal.BadRequestReason.TheVariants as word
 use Rattle.kapi_reply.specs.declared.refusal.Refused.{Refused}
 use Rattle.kapi_reply.specs.declared.reply.WrittenReply.{WrittenReply}
 use Rattle.kapi_reviews.specs.declared.kind.ReviewKind.{ReviewKind}
@@ -183,8 +183,8 @@ answer_passed identity a close (watching w) = record {
   watch = Some (record { watch = w; close = close; identity = identity; attributes = a });
 }
 
--- the `BadWord` of a fault of a target
-abbrev pub target_word : TargetFault → BadWord
+-- the `BadRequestReason` of a fault of a target
+abbrev pub target_word : TargetFault → BadRequestReason
 target_word bad_path = word.Target
 target_word bad_escape = word.Escape
 target_word bad_query = word.Query

@@ -18,7 +18,7 @@ use Rattle.kapi_object.specs.declared.given.GivenText.TheVariants as given
 use Rattle.kapi_model.specs.declared.row.ResourceRow.{ResourceRow}
 use Rattle.kapi_reply.specs.Refusals.{asked_for, named}
 use Rattle.kapi_reply.specs.declared.reply.Content.TheVariants as content
-use Rattle.kapi_reply.specs.declared.refusal.BadWord.TheVariants as word
+use Rattle.kapi_reply.specs.declared.refusal.BadRequestReason.TheVariants as word
 use Rattle.kapi_reply.specs.declared.refusal.Refusal.{Refusal}
 use Rattle.kapi_reply.specs.declared.refusal.Refusal.TheVariants as refusal
 use Rattle.kapi_reply.specs.declared.refusal.Refused.{Refused}

@@ -10,7 +10,7 @@ use Rattle.kapi_object.specs.Tree.{is_empty, is_empty_object, json_object, membe
 use Rattle.kapi_reply.specs.Refusals.{asked_for}
 use Rattle.kapi_reply.specs.Status.{Subject, deleted_status}
 use Rattle.kapi_reply.specs.declared.reply.Content.TheVariants as content
-use Rattle.kapi_reply.specs.declared.refusal.BadWord.TheVariants as word
+use Rattle.kapi_reply.specs.declared.refusal.BadRequestReason.TheVariants as word
 use Rattle.kapi_reply.specs.declared.refusal.Refusal.TheVariants as refusal
 use Rattle.kapi_reply.specs.declared.refusal.Refused.{Refused}
 use Rattle.kapi_reply.specs.declared.refusal.Sought.TheVariants as sought

@@ -8,7 +8,7 @@ use Rattle.std.specs.Str.Parse.{digits_value}
 use Rattle.kapi_model.specs.SelectorText.{Fault, selector_of}
 use Rattle.kapi_model.specs.declared.selector.Selector.{Selector}
 use Rattle.kapi_reply.specs.Refusals.{asked_for}
-use Rattle.kapi_reply.specs.declared.refusal.BadWord.TheVariants as word
+use Rattle.kapi_reply.specs.declared.refusal.BadRequestReason.TheVariants as word
 use Rattle.kapi_reply.specs.declared.refusal.Refusal.TheVariants as refusal
 use Rattle.kapi_reply.specs.declared.refusal.Refused.{Refused}
 use Rattle.kapi_request_info.specs.Query.{query_value}

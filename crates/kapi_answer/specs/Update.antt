@@ -12,7 +12,7 @@ use Rattle.kapi_object.specs.declared.given.GivenText.{GivenText}
 use Rattle.kapi_object.specs.Merge.{merged}
 use Rattle.kapi_reply.specs.Refusals.{asked_for, named}
 use Rattle.kapi_reply.specs.declared.reply.Content.TheVariants as content
-use Rattle.kapi_reply.specs.declared.refusal.BadWord.TheVariants as word
+use Rattle.kapi_reply.specs.declared.refusal.BadRequestReason.TheVariants as word
 use Rattle.kapi_reply.specs.declared.refusal.Refusal.TheVariants as refusal
 use Rattle.kapi_reply.specs.declared.refusal.Refused.{Refused}
 use Rattle.kapi_answer.specs.declared.route.Part.{Part}

@@ -22,7 +22,7 @@ use crate::outcome::{NewObject, Outcome};
 use kapi_http::StatusCode;
 use kapi_model::{FaultKind, FieldFault, ResourceRow, check_name};
 use kapi_object::{Given, GivenText, Object, ObjectError, admit_tree, read_tree};
-use kapi_reply::{BadWord, CheckError, Content, Refusal, Refused, Sought};
+use kapi_reply::{BadRequestReason, CheckError, Content, Refusal, Refused, Sought};
 use kapi_store::{Change, Key, Shared, Store, StoreError, StoredObject};
 use kapi_text::{Memory, Sequence, Text, TryCopy};
 use serde_json::Value;
@@ -173,7 +173,7 @@ pub fn read_body(alloc: Global, row: &ResourceRow, body: &[u8]) -> Result<Admitt
     match read_tree(alloc, body) {
         Ok(tree) => admit(alloc, row, tree),
         Err(ObjectError::Memory) => Err(CheckError::Memory),
-        Err(_other) => Err(bad_request(BadWord::Json)),
+        Err(_other) => Err(bad_request(BadRequestReason::Json)),
     }
 }
 
@@ -193,16 +193,16 @@ pub fn admit(alloc: Global, row: &ResourceRow, tree: Value) -> Result<Admitted, 
             given,
             object: Err(faults),
         }),
-        Err(ObjectError::NotJson) => Err(bad_request(BadWord::Json)),
-        Err(ObjectError::Float) => Err(bad_request(BadWord::Float)),
-        Err(ObjectError::WrongKind) => Err(bad_request(BadWord::Kind)),
-        Err(ObjectError::WrongVersion) => Err(bad_request(BadWord::Version)),
+        Err(ObjectError::NotJson) => Err(bad_request(BadRequestReason::Json)),
+        Err(ObjectError::Float) => Err(bad_request(BadRequestReason::Float)),
+        Err(ObjectError::WrongKind) => Err(bad_request(BadRequestReason::Kind)),
+        Err(ObjectError::WrongVersion) => Err(bad_request(BadRequestReason::Version)),
         Err(ObjectError::Memory) => Err(CheckError::Memory),
     }
 }
 
 /// A refusal of the whole request.
-pub fn bad_request(word: BadWord) -> CheckError
+pub fn bad_request(word: BadRequestReason) -> CheckError
     ensures { refused_by result ≡ Some (asked_for (Refusal.BadRequest word)) }
 {
     CheckError::Refused(Refused::asked_for(Refusal::BadRequest(word)))
@@ -275,7 +275,7 @@ pub fn check_namespace(
         return Ok(());
     }
     let name = name.copy(alloc)?;
-    Err(refused(name, Refusal::BadRequest(BadWord::Namespace)))
+    Err(refused(name, Refusal::BadRequest(BadRequestReason::Namespace)))
 }
 
 /// Whether a name or a namespace that the body gives is the path's.

@@ -18,7 +18,9 @@ use kapi_http::StatusCode;
 use kapi_object::tree::has_no_members;
 use kapi_object::tree_form::is_empty;
 use kapi_object::{ObjectError, member, read_tree};
-use kapi_reply::{BadWord, CheckError, Content, Refusal, Refused, Sought, Subject, deletion_text};
+use kapi_reply::{
+    BadRequestReason, CheckError, Content, Refusal, Refused, Sought, Subject, deletion_text,
+};
 use kapi_store::{Key, Store, StoredObject};
 use kapi_text::{Memory, TryCopy};
 use serde_json::Value;
@@ -77,9 +79,9 @@ pub fn check_options(alloc: Global, body: &[u8]) -> Result<(), CheckError>
     }
     match read_tree(alloc, body) {
         Ok(options) if asks_for_nothing(&options) => Ok(()),
-        Ok(_options) => Err(bad_request(BadWord::Option)),
+        Ok(_options) => Err(bad_request(BadRequestReason::Option)),
         Err(ObjectError::Memory) => Err(CheckError::Memory),
-        Err(_other) => Err(bad_request(BadWord::Json)),
+        Err(_other) => Err(bad_request(BadRequestReason::Json)),
     }
 }
 

@@ -9,7 +9,7 @@ use kapi_guard::{ImpersonationRefused, check_impersonation};
 use kapi_http::Header;
 use kapi_model::Identity;
 use kapi_policy::Policy;
-use kapi_reply::{BadWord, CheckError, Refusal, Refused};
+use kapi_reply::{BadRequestReason, CheckError, Refusal, Refused};
 use kapi_request_info::{Impersonation, ImpersonationError, impersonation};
 use std::alloc::Global;
 
@@ -28,7 +28,7 @@ pub fn impersonate<P: Policy>(
         Ok(None) => Ok(None),
         Ok(Some(wanted)) => Ok(Some(act_as(alloc, policy, identity, &wanted)?)),
         Err(ImpersonationError::BadHeaders) => Err(CheckError::Refused(Refused::asked_for(
-            Refusal::BadRequest(BadWord::Impersonation),
+            Refusal::BadRequest(BadRequestReason::Impersonation),
         ))),
         Err(ImpersonationError::Memory) => Err(CheckError::Memory),
     }

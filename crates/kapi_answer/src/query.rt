@@ -7,7 +7,7 @@ ghost use Rattle.kapi_text.specs.Gives.{Gives};
 
 use crate::route::Action;
 use kapi_model::{Selector, SelectorError};
-use kapi_reply::{BadWord, CheckError, Refusal, Refused, Revisions};
+use kapi_reply::{BadRequestReason, CheckError, Refusal, Refused, Revisions};
 use kapi_request_info::{QueryPair, query_value, selected_name};
 use kapi_text::{Sequence, Text, are_digits, number};
 use std::alloc::Global;
@@ -110,13 +110,13 @@ fn asked<'a>(query: &'a [QueryPair], key: &str) -> &'a str
 fn bad_option() -> Refused
     ensures { result ≡ queries.bad_option }
 {
-    Refused::asked_for(Refusal::BadRequest(BadWord::Option))
+    Refused::asked_for(Refusal::BadRequest(BadRequestReason::Option))
 }
 
 fn bad_query() -> Refused
     ensures { result ≡ queries.bad_query }
 {
-    Refused::asked_for(Refusal::BadRequest(BadWord::Query))
+    Refused::asked_for(Refusal::BadRequest(BadRequestReason::Query))
 }
 
 fn refuse_option(query: &[QueryPair], key: &str) -> Result<(), Refused>

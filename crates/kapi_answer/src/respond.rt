@@ -27,8 +27,8 @@ use kapi_http::{HttpFault, HttpRequest};
 use kapi_model::Identity;
 use kapi_policy::Policy;
 use kapi_reply::{
-    Asked, BadWord, CheckError, Refused, content_reply, fault_reply, refusal_reply, target_reply,
-    watch_reply,
+    Asked, BadRequestReason, CheckError, Refused, content_reply, fault_reply, refusal_reply,
+    target_reply, watch_reply,
 };
 use kapi_request_info::{Attributes, InfoError, info};
 use kapi_store::Store;
@@ -71,15 +71,15 @@ fn answer_request<P: Policy>(
 {
     match info(alloc, request.method, request.target.as_str()) {
         Ok(attributes) => answer_asked(alloc, policy, store, identity, request, &attributes),
-        Err(InfoError::BadPath) => refuse_target(alloc, BadWord::Target, request.close),
-        Err(InfoError::BadEscape) => refuse_target(alloc, BadWord::Escape, request.close),
-        Err(InfoError::BadQuery) => refuse_target(alloc, BadWord::Query, request.close),
+        Err(InfoError::BadPath) => refuse_target(alloc, BadRequestReason::Target, request.close),
+        Err(InfoError::BadEscape) => refuse_target(alloc, BadRequestReason::Escape, request.close),
+        Err(InfoError::BadQuery) => refuse_target(alloc, BadRequestReason::Query, request.close),
         Err(InfoError::Memory) => Err(AllocError),
     }
 }
 
 /// The answer to a request whose target has a fault.
-fn refuse_target(alloc: Global, word: BadWord, close: bool) -> Result<Prepared, Memory>
+fn refuse_target(alloc: Global, word: BadRequestReason, close: bool) -> Result<Prepared, Memory>
     ensures { IfOk result (λ p. p ≡ record { reply = replies.target_reply word close; write = None; watch = None }) }
 {
     Ok(Prepared::told(target_reply(alloc, word, close)?))

@@ -29,7 +29,7 @@ use crate::route::Part;
 use kapi_http::StatusCode;
 use kapi_model::{FieldFault, ResourceRow};
 use kapi_object::{GivenText, Object, ObjectError, merge_patch, read_tree};
-use kapi_reply::{BadWord, CheckError, Content, Refusal};
+use kapi_reply::{BadRequestReason, CheckError, Content, Refusal};
 use kapi_store::{Key, Store};
 use kapi_text::{Memory, Sequence, Text, TryCopy};
 use serde_json::Value;
@@ -79,7 +79,7 @@ fn read_patch(alloc: Global, body: &[u8]) -> Result<Value, CheckError>
     match read_tree(alloc, body) {
         Ok(patch) => Ok(patch),
         Err(ObjectError::Memory) => Err(CheckError::Memory),
-        Err(_other) => Err(bad_request(BadWord::Json)),
+        Err(_other) => Err(bad_request(BadRequestReason::Json)),
     }
 }
 
@@ -152,7 +152,7 @@ fn check_name(alloc: Global, name: &Text, given: &GivenText) -> Result<(), Check
         return Ok(());
     }
     let name = name.copy(alloc)?;
-    Err(refused(name, Refusal::BadRequest(BadWord::Name)))
+    Err(refused(name, Refusal::BadRequest(BadRequestReason::Name)))
 }
 
 /// The stored object, with its tree if already read, provided the body's `resourceVersion` admits a write.

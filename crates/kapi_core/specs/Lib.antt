@@ -12,4 +12,4 @@ pub mod OpeningPolicy
 pub mod Histories
 pub mod Pumps
 pub mod Rechecks
-pub mod Concerns
+pub mod Fingerprints

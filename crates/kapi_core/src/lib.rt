@@ -1,9 +1,9 @@
 //! The machine: events in, answers out.
 #![tactic(auto)]
 
-mod concern;
 mod connection;
 mod event;
+mod fingerprint;
 pub mod laws;
 mod links;
 mod machine;

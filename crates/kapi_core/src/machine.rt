@@ -2,7 +2,7 @@ ghost use Rattle.std.specs.Prelude.{true, None, Ok, ℕ, ◌≡◌, ◌≤◌, �
 ghost use Rattle.std.specs.BTreeMap.{is_at};
 ghost use Rattle.std.specs.Map.{remove_entry};
 ghost use Rattle.std.specs.Ordering.{nat_cmp};
-ghost use Rattle.kapi_core.specs.Concerns.{concern_on, is_among, is_concerned};
+ghost use Rattle.kapi_core.specs.Fingerprints.{fingerprint_on, is_among, is_concerned};
 ghost use Rattle.kapi_core.specs.Machine.{Machine, is_last, link_at, with_rechecks};
 ghost use Rattle.kapi_core.specs.Limits.{last_first};
 ghost use Rattle.kapi_core.specs.Opening.{empty, opening};
@@ -13,9 +13,9 @@ ghost use Rattle.kapi_core.specs.declared.event.Event.TheVariants as Event;
 ghost use Rattle.kapi_core.specs.declared.event.Answer.TheVariants as Answer;
 ghost use Rattle.kapi_policy.specs.Objects.{no_objects};
 
-use crate::concern::{concern_of_scope, concerns_of};
 use crate::connection::Connection;
 use crate::event::{ConnId, OpenError, Output, Turned};
+use crate::fingerprint::{fingerprint_of_scope, fingerprints_of};
 use crate::links::{advance_watch, close_at, feed_at, finish_request};
 use crate::opening::open_objects;
 use crate::write::{load_object, make_turn, make_write};
@@ -317,14 +317,14 @@ impl<P: Policy + Drop> Core<P> {
     }
 
     /// The fingerprint of the watch that runs on a connection, if one does. Allocates nothing.
-    pub fn concern(&self, conn: ConnId) -> Option<u64>
-        ensures { (m : Machine) → Refines self.now m → result ≡ concern_on (link_at conn.0 m) }
+    pub fn fingerprint(&self, conn: ConnId) -> Option<u64>
+        ensures { (m : Machine) → Refines self.now m → result ≡ fingerprint_on (link_at conn.0 m) }
     {
         let Some(connection) = self.connections.get(&conn.0) else {
             return None;
         };
         match &connection.watching {
-            Some(watching) => Some(concern_of_scope(watching.get().watch.scope())),
+            Some(watching) => Some(fingerprint_of_scope(watching.get().watch.scope())),
             None => None,
         }
     }
@@ -332,11 +332,11 @@ impl<P: Policy + Drop> Core<P> {
     /// The fingerprints of the watches that the changes after a revision may concern. None if any may be concerned: if
     /// a role or a binding has changed, by which rights may have gone, if more than 64 objects have, and where some
     /// changes may be kept no longer, or there is no memory for the list.
-    pub fn concerned_after(&self, revision: u64) -> Option<Vec<u64>>
-        ensures { IfSome result (λ v. (m : Machine) → Refines self.now m → (id : ℕ) → is_concerned m id revision ≡ true → is_among v.items (concern_on (link_at id m)) ≡ true) }
+    pub fn fingerprints_after(&self, revision: u64) -> Option<Vec<u64>>
+        ensures { IfSome result (λ v. (m : Machine) → Refines self.now m → (id : ℕ) → is_concerned m id revision ≡ true → is_among v.items (fingerprint_on (link_at id m)) ≡ true) }
     {
         match self.store.changes_after(revision) {
-            Ok(changes) => concerns_of(self.alloc, &changes),
+            Ok(changes) => fingerprints_of(self.alloc, &changes),
             Err(_too_old) => None,
         }
     }

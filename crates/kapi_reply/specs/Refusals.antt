@@ -11,8 +11,8 @@ use Rattle.kapi_http.specs.declared.message.StatusCode.TheVariants as status
 use Rattle.kapi_request_info.specs.declared.attributes.Attributes.{Attributes}
 use Rattle.kapi_rules.specs.declared.point.Point.{Point}
 use Rattle.kapi_rules.specs.declared.point.Point.TheVariants as point
-use Rattle.kapi_reply.specs.declared.refusal.BadWord.{BadWord}
-use Rattle.kapi_reply.specs.declared.refusal.BadWord.TheVariants as word
+use Rattle.kapi_reply.specs.declared.refusal.BadRequestReason.{BadRequestReason}
+use Rattle.kapi_reply.specs.declared.refusal.BadRequestReason.TheVariants as word
 use Rattle.kapi_reply.specs.declared.refusal.CheckError.{CheckError}
 use Rattle.kapi_reply.specs.declared.refusal.CheckError.TheVariants as error
 use Rattle.kapi_reply.specs.declared.refusal.NamedRole.{NamedRole}
@@ -66,7 +66,7 @@ subject_of (point.Resource p) name = Some (record { group = p.group; resource = 
 subject_of (point.Url u) name = None
 
 -- the word of a bad request
-abbrev pub word_text : BadWord → List ℕ
+abbrev pub word_text : BadRequestReason → List ℕ
 word_text word.Target = codes "target"
 word_text word.Escape = codes "escape"
 word_text word.Query = codes "query"

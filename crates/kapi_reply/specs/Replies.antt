@@ -8,7 +8,7 @@ use Rattle.kapi_http.specs.declared.message.Method.{Method}
 use Rattle.kapi_http.specs.declared.message.Reply.{Reply}
 use Rattle.kapi_http.specs.declared.message.StatusCode.{StatusCode}
 use Rattle.kapi_http.specs.declared.message.StatusCode.TheVariants as status
-use Rattle.kapi_reply.specs.declared.refusal.BadWord.{BadWord}
+use Rattle.kapi_reply.specs.declared.refusal.BadRequestReason.{BadRequestReason}
 use Rattle.kapi_reply.specs.declared.refusal.Refused.{Refused}
 use Rattle.kapi_reply.specs.declared.reply.Content.{Content}
 use Rattle.kapi_reply.specs.declared.reply.Content.TheVariants as content
@@ -53,7 +53,7 @@ refusal_reply asked close r =
     failure_reply (subject_of asked.attributes.point (name_in asked r)) close (failure_of asked (name_in asked r) r.why)
 
 -- the reply to a request whose target has a fault: nothing is known of its attributes
-abbrev pub target_reply : BadWord → Bool → WrittenReply
+abbrev pub target_reply : BadRequestReason → Bool → WrittenReply
 target_reply w close = failure_reply None close (bad_request (word_text w))
 
 -- the body that reports a fault, which the reply to a HEAD request has not (RFC 9110 section 9.3.2)

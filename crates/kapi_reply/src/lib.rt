@@ -9,7 +9,8 @@ mod tokens;
 mod written;
 
 pub use refusal::{
-    BadWord, CheckError, NamedRole, OldRevision, Place, Refusal, Refused, Revisions, Sought,
+    BadRequestReason, CheckError, NamedRole, OldRevision, Place, Refusal, Refused, Revisions,
+    Sought,
 };
 pub use reply::{
     Asked, Content, WrittenReply, content_reply, deletion_text, expired_text, fault_reply,

@@ -25,7 +25,7 @@ pub enum Place {
 
 /// What is bad in a bad request (400).
 #[derive(Clone, Copy, Debug, PartialEq, Eq)]
-pub enum BadWord {
+pub enum BadRequestReason {
     Target,
     Escape,
     Query,
@@ -54,7 +54,7 @@ pub enum Sought {
 /// Why a request is refused. The first check that fails decides.
 #[derive(Debug, Drop)]
 pub enum Refusal {
-    BadRequest(BadWord),
+    BadRequest(BadRequestReason),
     /// The caller may not impersonate: these points are denied, that of the user first, then those of the groups.
     Impersonation(Sequence<Point>),
     /// Authorization denies the request's point.
@@ -156,7 +156,7 @@ impl Place {
     }
 }
 
-impl BadWord {
+impl BadRequestReason {
     ghost use Rattle.std.specs.Prelude.{◌≡◌};
     ghost use Rattle.kapi_reply.specs.Refusals.{word_text};
 
@@ -165,17 +165,17 @@ impl BadWord {
         ensures { result.now ≡ word_text self }
     {
         match self {
-            BadWord::Target => "target",
-            BadWord::Escape => "escape",
-            BadWord::Query => "query",
-            BadWord::Impersonation => "impersonation",
-            BadWord::Json => "json",
-            BadWord::Float => "float",
-            BadWord::Kind => "kind",
-            BadWord::Version => "version",
-            BadWord::Name => "name",
-            BadWord::Namespace => "namespace",
-            BadWord::Option => "option",
+            BadRequestReason::Target => "target",
+            BadRequestReason::Escape => "escape",
+            BadRequestReason::Query => "query",
+            BadRequestReason::Impersonation => "impersonation",
+            BadRequestReason::Json => "json",
+            BadRequestReason::Float => "float",
+            BadRequestReason::Kind => "kind",
+            BadRequestReason::Version => "version",
+            BadRequestReason::Name => "name",
+            BadRequestReason::Namespace => "namespace",
+            BadRequestReason::Option => "option",
         }
     }
 }

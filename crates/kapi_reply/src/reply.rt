@@ -9,7 +9,7 @@ ghost use Rattle.kapi_reply.specs.Status.{deleted_status, status_of};
 ghost use Rattle.kapi_reply.specs.Views.{asked_data, failure_data, subject_data};
 
 use crate::failure::{bad_request, expired, failure_of, failure_of_fault, name_of, subject_of};
-use crate::refusal::{BadWord, OldRevision, Refused};
+use crate::refusal::{BadRequestReason, OldRevision, Refused};
 use crate::status::{Failure, Subject};
 use crate::written::{write_deletion, write_status};
 use json::Writer;
@@ -163,7 +163,11 @@ fn name_in<'a>(asked: Asked<'a>, refused: &'a Refused) -> &'a str
 }
 
 /// The reply to a request whose target has a fault: nothing is known of its attributes.
-pub fn target_reply(alloc: Global, word: BadWord, close: bool) -> Result<WrittenReply, Memory>
+pub fn target_reply(
+    alloc: Global,
+    word: BadRequestReason,
+    close: bool,
+) -> Result<WrittenReply, Memory>
     ensures { IfOk result (λ o. o ≡ replies.target_reply word close) }
 {
     let failure = bad_request(alloc, word.as_str())?;

@@ -11,7 +11,7 @@ use Rattle.kapi_model.specs.declared.identity.Identity.{Identity}
 use Rattle.kapi_serve.specs.declared.port.Entry.{Entry}
 use Rattle.kapi_serve.specs.declared.port.Entry.TheVariants as entry
 use Rattle.kapi_serve.specs.Account.{Account, AreTheirs, Made, Talk, Visit, accepted_by, answered_to, closes, fed_to, last_read, present, read_from, talks, visits}
-use Rattle.kapi_serve.specs.Acts.{Act, Deals, Follows, IsFree, Leaves, Seat, answers_of, end_of, ends, entries_in, events_of, loses, made_in, opens, serves, shuns, turns}
+use Rattle.kapi_serve.specs.Acts.{Act, Exchange, Follows, IsFree, Leaves, Seat, answers_of, end_of, ends, entries_in, events_of, loses, made_in, opens, serves, rejects, turns}
 use Rattle.kapi_serve.proofs.Flows.{differs_back, talks_on, visits_end, visits_on}
 use Rattle.kapi_serve.proofs.Numbers.{first_same, grows, grows_by, opened_next, rest_same, told_later}
 use Rattle.kapi_serve.proofs.Seats.{IsNew, Sits, id_is_below, id_is_new, ids, ids_more, ids_same, ids_with, less_differs, new_at, new_if_free, new_more, new_without, next_is_new, nobody_sits, sits_left, sits_more, sits_served, sits_up, slot_is_new, slots, slots_more, slots_same, slots_with}
@@ -45,7 +45,7 @@ holds_nothing n s = record {
 }
 
 -- something is done for a client
-holds_served : (n p : ℕ) (x y : Seat) (f b : List Seat) (ds es : List Entry) (ls ms : List Made) → n ≤ p → Sits n (f ++ x ∷ b) → Deals x y ds ls
+holds_served : (n p : ℕ) (x y : Seat) (f b : List Seat) (ds es : List Entry) (ls ms : List Made) → n ≤ p → Sits n (f ++ x ∷ b) → Exchange x y ds ls
     → Holds p (f ++ y ∷ b) es ms → Holds n (f ++ x ∷ b) (ds ++ es) (ls ++ ms)
 unfolding AllFare
 holds_served n p x y f b ds es ls ms up sits d h =
@@ -246,7 +246,7 @@ holds (opens slot who conn ∷ acts) m s t sits follows told =
     holds acts p u t seated follows.2 (rest_same (answer.Opened conn) (step m (event.Open who)).0 (answers_of ms) (answers p (events_of ms)) told) in
     holds_opened m.next_id s slot who conn es ms sits does.0 next.0
     (subst (λ v. Holds (m.next_id + 1) v es ms) does.1 (subst (λ k. Holds k u es ms) next.1 h))
-holds (shuns slot who ∷ acts) m s t sits follows told =
+holds (rejects slot who ∷ acts) m s t sits follows told =
     let u : List Seat = follows.0 in
     let does = follows.1 in
     let es : List Entry = entries_in acts in

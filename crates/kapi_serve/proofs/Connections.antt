@@ -11,7 +11,7 @@ use Rattle.kapi_core.proofs.Numbered.{event_touches, found_gone, found_new, foun
 use Rattle.kapi_watch.specs.Shown.{Shown}
 use Rattle.kapi_watch.specs.Watches.{after_pump, due, is_expired, moved}
 use Rattle.kapi_watch.specs.declared.scope.Scope.{Scope}
-use Rattle.kapi_core.specs.Concerns.{concern_of, concern_of_watch, concern_on}
+use Rattle.kapi_core.specs.Fingerprints.{fingerprint_of, fingerprint_of_watch, fingerprint_on}
 use Rattle.kapi_core.specs.Limits.{kept_limit}
 use Rattle.kapi_core.specs.Machine.{Link, Machine, after_event, after_serve, changed, ended_if, feed_step, is_last, link_at, new_link, open_step, output_of, policy_of, pump_shown, pump_step, pump_watch, rest_after, serve_beside, serve_item, serve_step, shown_next, step, unserved, watched_on, with_link, with_new_link}
 use Rattle.kapi_core.specs.declared.event.Answer.{Answer}
@@ -120,9 +120,9 @@ pumped_request m conn h none = by_link (link_at conn.0 m) refl h none
 -- ---- watches
 
 -- a pump that shows nothing leaves the watch what it is
-pub pumped_concern : (m : Machine) (conn : ConnId) → answer.Nothing ≡ (step m (event.Pump conn)).0 → concern_on (link_at conn.0 m) ≡ concern_on (link_at conn.0 (step m (event.Pump conn)).1)
+pub pumped_fingerprint : (m : Machine) (conn : ConnId) → answer.Nothing ≡ (step m (event.Pump conn)).0 → fingerprint_on (link_at conn.0 m) ≡ fingerprint_on (link_at conn.0 (step m (event.Pump conn)).1)
 unfolding step pump_step pump_watch pump_shown
-pumped_concern m conn h = by_link (link_at conn.0 m) refl h
+pumped_fingerprint m conn h = by_link (link_at conn.0 m) refl h
   where
     id : ℕ
     id = conn.0
@@ -136,35 +136,35 @@ pumped_concern m conn h = by_link (link_at conn.0 m) refl h
         by_end false (Some e) = refl
 
     by_shown : (l : Link) (w : PlainWatching) (o : Option EventReply) → link_at id m ≡ Some l → l.watching ≡ Some w → answer.Nothing ≡ (pump_shown id l w o m).0
-        → concern_on (Some l) ≡ concern_on (link_at id (pump_shown id l w o m).1)
+        → fingerprint_on (Some l) ≡ fingerprint_on (link_at id (pump_shown id l w o m).1)
     by_shown l w None is runs h =
-        ap (option_map concern_of_watch) runs
-        ∙ ap (λ (s : Scope). Some (concern_of s.row.group s.row.plural s.namespace)) (sym (same_scope w))
-        ∙ sym (ap concern_on (found_own id (watched_on l w m) m (there id m l is)))
+        ap (option_map fingerprint_of_watch) runs
+        ∙ ap (λ (s : Scope). Some (fingerprint_of s.row.group s.row.plural s.namespace)) (sym (same_scope w))
+        ∙ sym (ap fingerprint_on (found_own id (watched_on l w m) m (there id m l is)))
     by_shown l w (Some r) is runs h = absurd (cc)
 
-    by_watch : (l : Link) (w : Option PlainWatching) → link_at id m ≡ Some l → l.watching ≡ w → answer.Nothing ≡ (pump_watch id l w m).0 → concern_on (Some l) ≡ concern_on (link_at id (pump_watch id l w m).1)
-    by_watch l None is runs h = sym (ap concern_on is)
+    by_watch : (l : Link) (w : Option PlainWatching) → link_at id m ≡ Some l → l.watching ≡ w → answer.Nothing ≡ (pump_watch id l w m).0 → fingerprint_on (Some l) ≡ fingerprint_on (link_at id (pump_watch id l w m).1)
+    by_watch l None is runs h = sym (ap fingerprint_on is)
     by_watch l (Some w) is runs h = by_shown l w (option_map (event_reply_of m.store w) (shown_next m w)) is runs h
 
-    by_link : (o : Option Link) → link_at id m ≡ o → answer.Nothing ≡ (pump_step id o m).0 → concern_on o ≡ concern_on (link_at id (pump_step id o m).1)
-    by_link None is h = sym (ap concern_on is)
+    by_link : (o : Option Link) → link_at id m ≡ o → answer.Nothing ≡ (pump_step id o m).0 → fingerprint_on o ≡ fingerprint_on (link_at id (pump_step id o m).1)
+    by_link None is h = sym (ap fingerprint_on is)
     by_link (Some l) is h = by_watch l l.watching is refl h
 
 -- a piece that is fed leaves the watch what it is
-pub fed_concern : (m : Machine) (conn : ConnId) (piece : List ℕ) → concern_on (link_at conn.0 m) ≡ concern_on (link_at conn.0 (step m (event.Feed conn piece)).1)
+pub fed_fingerprint : (m : Machine) (conn : ConnId) (piece : List ℕ) → fingerprint_on (link_at conn.0 m) ≡ fingerprint_on (link_at conn.0 (step m (event.Feed conn piece)).1)
 unfolding step feed_step
-fed_concern m conn piece = by_link (link_at conn.0 m) refl
+fed_fingerprint m conn piece = by_link (link_at conn.0 m) refl
   where
-    by_fit : (l : Link) (b : Bool) (p q : Answer × Machine) → concern_on (Some l) ≡ concern_on (link_at conn.0 p.1) → concern_on (Some l) ≡ concern_on (link_at conn.0 q.1)
-        → concern_on (Some l) ≡ concern_on (link_at conn.0 (if b then p else q).1)
+    by_fit : (l : Link) (b : Bool) (p q : Answer × Machine) → fingerprint_on (Some l) ≡ fingerprint_on (link_at conn.0 p.1) → fingerprint_on (Some l) ≡ fingerprint_on (link_at conn.0 q.1)
+        → fingerprint_on (Some l) ≡ fingerprint_on (link_at conn.0 (if b then p else q).1)
     by_fit l true p q one other = one
     by_fit l false p q one other = other
 
-    by_link : (o : Option Link) → link_at conn.0 m ≡ o → concern_on o ≡ concern_on (link_at conn.0 (feed_step conn.0 piece o m).1)
-    by_link None is = sym (ap concern_on is)
+    by_link : (o : Option Link) → link_at conn.0 m ≡ o → fingerprint_on o ≡ fingerprint_on (link_at conn.0 (feed_step conn.0 piece o m).1)
+    by_link None is = sym (ap fingerprint_on is)
     by_link (Some l) is = by_fit l (nat_le (length (unserved l) + length piece) kept_limit) (answer.Done, with_link conn.0 (record l { sent = l.sent ++ piece }) m) (answer.Full, m)
-        (sym (ap concern_on (found_own conn.0 (record l { sent = l.sent ++ piece }) m (there conn.0 m l is)))) (sym (ap concern_on is))
+        (sym (ap fingerprint_on (found_own conn.0 (record l { sent = l.sent ++ piece }) m (there conn.0 m l is)))) (sym (ap fingerprint_on is))
 
 -- ---- a connection ends
 
@@ -253,11 +253,11 @@ opened_request m who conn is =
     (subst (λ o. HasNoRequest m.next_id o) (sym (found_new m.next_id (new_link who) m)) (fresh_request m.next_id who)) refl is
 
 -- and no watch
-pub opened_concern : (m : Machine) (who : Identity) (conn : ConnId) → answer.Opened conn ≡ (step m (event.Open who)).0 → None ≡ concern_on (link_at m.next_id (step m (event.Open who)).1)
+pub opened_fingerprint : (m : Machine) (who : Identity) (conn : ConnId) → answer.Opened conn ≡ (step m (event.Open who)).0 → None ≡ fingerprint_on (link_at m.next_id (step m (event.Open who)).1)
 unfolding step open_step
-opened_concern m who conn is =
-    opens_if _ (answer.Opened (record { 0 = m.next_id }), with_new_link m.next_id (new_link who) m) (answer.TooMany, m) conn (λ n. None ≡ concern_on (link_at m.next_id n))
-    (sym (ap concern_on (found_new m.next_id (new_link who) m))) refl is
+opened_fingerprint m who conn is =
+    opens_if _ (answer.Opened (record { 0 = m.next_id }), with_new_link m.next_id (new_link who) m) (answer.TooMany, m) conn (λ n. None ≡ fingerprint_on (link_at m.next_id n))
+    (sym (ap fingerprint_on (found_new m.next_id (new_link who) m))) refl is
 
 -- ---- what is answered
 

@@ -9,7 +9,7 @@ use Rattle.kapi_model.specs.declared.identity.Identity.{Identity}
 use Rattle.kapi_serve.specs.declared.port.Entry.{Entry}
 use Rattle.kapi_serve.specs.declared.port.Entry.TheVariants as entry
 use Rattle.kapi_serve.specs.Account.{Made, accepted_by, answered_to, closes, fed_to, last_read, read_from}
-use Rattle.kapi_serve.specs.Acts.{AreTo, Deals, Leaves, Seat, StayOn, end_of}
+use Rattle.kapi_serve.specs.Acts.{AreTo, Exchange, Leaves, Seat, StayOn, end_of}
 use Rattle.kapi_serve.proofs.Flows.{accepted_end, accepted_end_off, accepted_off, accepted_on, answered_more, answered_off, closes_later, closes_still, differs_back, fed_more, fed_off, last_end, last_end_off, last_off, last_on, last_piece, read_end, read_end_off, read_off, read_on}
 use Rattle.kapi_serve.proofs.Seats.{IsNew, Sits, id_is_new, ids, new_back, new_front, slot_is_new, slots}
 
@@ -161,7 +161,7 @@ one_left slot refused before rest es ended on are (inr last_one) = inr (λ last.
     sym (ap (λ r. last_read slot last r) are ∙ last_on slot last before (end_of slot ended ++ es) on ∙ last_end slot ended (last_read slot last before) es last_one.2 ∙ own))
 
 -- a client for whom something is done
-pub fares_dealt : (x y : Seat) (ds es : List Entry) (ls ms : List Made) → Deals x y ds ls → Fares y es ms → Fares x (ds ++ es) (ls ++ ms)
+pub fares_dealt : (x y : Seat) (ds es : List Entry) (ls ms : List Made) → Exchange x y ds ls → Fares y es ms → Fares x (ds ++ es) (ls ++ ms)
 fares_dealt x y ds es ls ms d f =
     let read : read_from x.slot es ≡ fed_to x.conn ms ++ f.refused =
     ap (λ k. read_from k es) (sym d.slot) ∙ f.read ∙ ap (λ c. fed_to c ms ++ f.refused) d.conn in

@@ -21,7 +21,7 @@ use Rattle.kapi_model.specs.declared.identity.Identity.{Identity}
 use Rattle.kapi_policy.specs.declared.change.PolicyChange.{PolicyChange}
 use Rattle.kapi_desk.specs.Boards.{Board}
 use Rattle.kapi_serve.specs.Account.{Made}
-use Rattle.kapi_serve.specs.Acts.{Act, Deals, Does, Follows, IsFree, Leaves, Seat, answers_of, ends, entries_in, entries_of, events_of, loses, made_in, made_of, opens, serves, shuns, turns}
+use Rattle.kapi_serve.specs.Acts.{Act, Exchange, Applies, Follows, IsFree, Leaves, Seat, answers_of, ends, entries_in, entries_of, events_of, loses, made_in, made_of, opens, serves, rejects, turns}
 use Rattle.kapi_serve.specs.Advances.{Advances, ServerState, Runs, Serves, step_in, steps_in}
 use Rattle.kapi_serve.specs.Ports.{Adds, Report, opened}
 use Rattle.kapi_serve.specs.Private.Clients.{others, seat_of, seats_of}
@@ -125,7 +125,7 @@ entries_one : (a : Act) → entries_in (a ∷ []) ≡ entries_of a
 unfolding entries_in
 entries_one a = append-nil (entries_of a)
 
-follows_one : (s t : List Seat) (a : Act) → Does s a t → Follows s (a ∷ []) t
+follows_one : (s t : List Seat) (a : Act) → Applies s a t → Follows s (a ∷ []) t
 unfolding Follows
 follows_one s t a does = (t, does, refl)
 
@@ -232,7 +232,7 @@ goes_after a b d e p q s t r z k x adds goes =
 -- ---- one act
 
 -- an act, whose step is put behind the others
-goes_act : (m n : ServerState) (act : Act) → Runs m.core n.core (made_of act) → Publishes m.desk n.desk m.kept n.kept (steps_in (answers_of (made_of act))) → Does m.seats act n.seats → Adds m.report n.report (entries_of act) → Advances m n
+goes_act : (m n : ServerState) (act : Act) → Runs m.core n.core (made_of act) → Publishes m.desk n.desk m.kept n.kept (steps_in (answers_of (made_of act))) → Applies m.seats act n.seats → Adds m.report n.report (entries_of act) → Advances m n
 goes_act m n act runs shows does adds = record {
   acts = act ∷ [];
   runs = subst (λ xs. Runs m.core n.core xs) (sym (made_one act)) runs;
@@ -242,7 +242,7 @@ goes_act m n act runs shows does adds = record {
 }
 
 -- an act whose events change no policy
-goes_quiet : (m : ServerState) (b : Running) (t : List Seat) (r : Report) (act : Act) → Runs m.core b (made_of act) → steps_in (answers_of (made_of act)) ≡ [] → Does m.seats act t → Adds m.report r (entries_of act)
+goes_quiet : (m : ServerState) (b : Running) (t : List Seat) (r : Report) (act : Act) → Runs m.core b (made_of act) → steps_in (answers_of (made_of act)) ≡ [] → Applies m.seats act t → Adds m.report r (entries_of act)
     → Advances m (record m { core = b; seats = t; report = r })
 goes_quiet m b t r act runs quiet does adds = goes_act m (record m { core = b; seats = t; report = r }) act runs (shows_as m.desk m.desk m.kept m.kept _ _ (sym quiet) (shows_nothing m.desk m.kept)) does adds
 
@@ -269,7 +269,7 @@ makes_nothing a b ev o makes none = subst (λ x. Makes a b ev (sent_if x)) none 
 
 -- a step of a client, whose changes are published
 goes_sent : (m : ServerState) (b : Running) (e : Board) (q : Option (List PolicyChange)) (t front back : List Seat) (x y : Seat) (ev : Event) (out : Output) → m.seats ≡ front ++ x ∷ back → t ≡ front ++ y ∷ back
-    → Makes m.core b ev (answer.Sent out) → Publishes m.desk e m.kept q (step_of out.policy_changes) → Deals x y [] (record { event = ev; answer = answer.Sent out } ∷ []) → Advances m (record m { core = b; desk = e; kept = q; seats = t })
+    → Makes m.core b ev (answer.Sent out) → Publishes m.desk e m.kept q (step_of out.policy_changes) → Exchange x y [] (record { event = ev; answer = answer.Sent out } ∷ []) → Advances m (record m { core = b; desk = e; kept = q; seats = t })
 goes_sent m b e q t front back x y ev out is to makes shows deals =
     goes_act m (record m { core = b; desk = e; kept = q; seats = t }) (serves x y [] (record { event = ev; answer = answer.Sent out } ∷ [])) (runs_one m.core b ev (answer.Sent out) makes)
     (shows_as m.desk e m.kept q _ _ (sym (steps_one (answer.Sent out))) shows) (front, back, is, to, deals) (adds_nothing m.report)
@@ -290,7 +290,7 @@ goes_shown m b e q t front back x y o out is to makes some shows slot conn owed 
 
 -- one quiet event of a client
 goes_for : (m : ServerState) (b : Running) (t front back : List Seat) (x y : Seat) (e : Event) (z : Answer) → m.seats ≡ front ++ x ∷ back → t ≡ front ++ y ∷ back → Makes m.core b e z → step_in z ≡ []
-    → Deals x y [] (record { event = e; answer = z } ∷ []) → Advances m (record m { core = b; seats = t })
+    → Exchange x y [] (record { event = e; answer = z } ∷ []) → Advances m (record m { core = b; seats = t })
 goes_for m b t front back x y e z is to makes none deals =
     goes_quiet m b t m.report (serves x y [] (record { event = e; answer = z } ∷ [])) (runs_one m.core b e z makes) (steps_one z ∙ none) (front, back, is, to, deals) (adds_nothing m.report)
 
@@ -332,7 +332,7 @@ goes_lost m b t q r slot who free to keeps first second = goes_quiet m b t r (lo
 pub goes_unopened : (m : ServerState) (b : Running) (t : List Seat) (q r : Report) (slot : ℕ) (who : Identity) (o : OpenError) → IsFree slot m.seats → t ≡ m.seats → Opens m.core b who (Err o)
     → Adds m.report q (entry.Opened slot who ∷ []) → Adds q r (entry.Ended slot ∷ []) → Advances m (record m { core = b; seats = t; report = r })
 goes_unopened m b t q r slot who refused.TooMany free to made first second =
-    goes_quiet m b t r (shuns slot who) (runs_one m.core b (event.Open who) answer.TooMany made) (steps_one answer.TooMany) (free, to) (adds_on m.report q r (entry.Opened slot who ∷ []) (entry.Ended slot ∷ []) first second)
+    goes_quiet m b t r (rejects slot who) (runs_one m.core b (event.Open who) answer.TooMany made) (steps_one answer.TooMany) (free, to) (adds_on m.report q r (entry.Opened slot who ∷ []) (entry.Ended slot ∷ []) first second)
 goes_unopened m b t q r slot who refused.Memory free to out first second = goes_lost m b t q r slot who free to (λ n y. (out n y).0) first second
 
 -- a piece of a client was fed

@@ -12,7 +12,7 @@ use Rattle.kapi_aggregation.specs.Members.{Has}
 use Rattle.kapi_core.proofs.Effects.{number_of}
 use Rattle.kapi_answer.specs.Watch.{PlainWatching}
 use Rattle.kapi_watch.specs.Watches.{later}
-use Rattle.kapi_core.specs.Concerns.{concern_of_watch, concern_on, concern_some, is_among, is_concerned, watch_on}
+use Rattle.kapi_core.specs.Fingerprints.{fingerprint_of_watch, fingerprint_on, fingerprint_some, is_among, is_concerned, watch_on}
 use Rattle.kapi_core.specs.Machine.{Link, Machine, link_at, step}
 use Rattle.kapi_core.specs.Refines.{Keeps as Same, Makes, Opens, Refines, RunsOut, TakesIn, sent_if, turned_if}
 use Rattle.kapi_core.specs.Running.{Running}
@@ -40,7 +40,7 @@ use Rattle.kapi_serve.specs.Private.Pieces.{IsCounted, IsSent, joined, owed}
 use Rattle.kapi_serve.specs.Private.Progresses.{both}
 use Rattle.kapi_serve.specs.Private.ClientsMatch.{AllMatch, AreCalled, AreDue, AreRoused, Finishes, GoesOn, HasNoRequest, IsAwakeOrQuiet, IsNew, IsNumbered, IsQuiet, IsServed, Keeps, PassesBy, Rise, Stays, MatchesConnection, Tends, Waits, is_called}
 use Rattle.kapi_serve.specs.Rests.{AreAtRest, Rests}
-use Rattle.kapi_serve.proofs.Connections.{answered_nothing, answered_same, closed_gone, fed_concern, goes_both, goes_event, goes_none, gone_request, opened_concern, opened_request, pumped_concern, pumped_request, request_answered, served_gone, shown_gone, stays_both, stays_none, turn_stays, unfed_stays, unserved_stays}
+use Rattle.kapi_serve.proofs.Connections.{answered_nothing, answered_same, closed_gone, fed_fingerprint, goes_both, goes_event, goes_none, gone_request, opened_fingerprint, opened_request, pumped_fingerprint, pumped_request, request_answered, served_gone, shown_gone, stays_both, stays_none, turn_stays, unfed_stays, unserved_stays}
 use Rattle.kapi_serve.proofs.Numbers.{opened_next}
 use Rattle.kapi_serve.proofs.Standing.{each_at, each_both, each_left, each_more, each_only, each_put, each_kept, each_set, each_to, has_at, has_inside, has_next, has_removed, remove_past, rise_left, rise_more, rise_set}
 
@@ -124,7 +124,7 @@ suits_same m n c same next s = record {
   ending = s.ending;
   counted = s.counted;
   below = let less : c.id.0 < m.next_id = s.below in omega (arith, less, next);
-  watching = s.watching ∙ sym (ap concern_on same);
+  watching = s.watching ∙ sym (ap fingerprint_on same);
 }
 
 pub suits_kept : (m : Machine) (c d : Client) → Keeps c d → MatchesConnection m c → MatchesConnection m d
@@ -134,19 +134,19 @@ suits_kept m c d k s = record {
   ending = λ e. k.fed ∙ s.ending (sym k.phase ∙ e);
   counted = k.counted s.counted;
   below = subst (λ i. i.0 < m.next_id) (sym k.id) s.below;
-  watching = subst (λ i. d.watching ≡ concern_on (link_at i.0 m)) (sym k.id) (k.watching ∙ s.watching);
+  watching = subst (λ i. d.watching ≡ fingerprint_on (link_at i.0 m)) (sym k.id) (k.watching ∙ s.watching);
 }
 
 -- the connection of a client went on, and bytes came since a request was looked for
 suits_fed : (m n : Machine) (c d : Client) → GoesOn c.id.0 m n → MatchesConnection m c → d.id ≡ c.id → d.fed ≡ true → (d.phase ≡ phase.Closed → link_at c.id.0 n ≡ None) → IsCounted d.pending
-    → d.watching ≡ concern_on (link_at c.id.0 n) → MatchesConnection n d
+    → d.watching ≡ fingerprint_on (link_at c.id.0 n) → MatchesConnection n d
 suits_fed m n c d g s same fed closed counted told = record {
   unfed = λ e. absurd (true≢false (sym fed ∙ e));
   closed = λ e. subst (λ i. link_at i.0 n ≡ None) (sym same) (closed e);
   ending = λ e. fed;
   counted = counted;
   below = subst (λ i. i.0 < n.next_id) (sym same) (let less : c.id.0 < m.next_id = s.below in omega (arith, less, g.next));
-  watching = subst (λ i. d.watching ≡ concern_on (link_at i.0 n)) (sym same) told;
+  watching = subst (λ i. d.watching ≡ fingerprint_on (link_at i.0 n)) (sym same) told;
 }
 
 -- nothing was done
@@ -166,7 +166,7 @@ closes_if false p q is going closed = absurd (going (sym is ∙ closed))
 tends_sent : (a b : Running) (c d : Client) (e : Event) (out : Output) → Makes a b e (answer.Sent out) → ((m : Machine) → number_of m e ≡ c.id.0)
     → ((m : Machine) → answer.Sent out ≡ (step m e).0 → out.close ≡ true → IsNumbered m → link_at c.id.0 (step m e).1 ≡ None)
     → d.id ≡ c.id → d.fed ≡ true → d.phase ≡ (if out.close then phase.Closed else c.phase) → (c.phase ≡ phase.Closed → ⊥) → (IsCounted c.pending → IsCounted d.pending)
-    → ((n : Machine) → Refines b n → d.watching ≡ concern_on (link_at c.id.0 n)) → Tends a b c d
+    → ((n : Machine) → Refines b n → d.watching ≡ fingerprint_on (link_at c.id.0 n)) → Tends a b c d
 tends_sent a b c d e out makes number gone same fed becomes going counted told = λ m r n s.
     let g = goes_event m e c.id.0 (number m) n in
     ((step m e).1, (makes m r).1, g, same, suits_fed m (step m e).1 c d g s same fed (λ closed. gone m (makes m r).0 (closes_if out.close d.phase c.phase becomes going closed) n) (counted s.counted) (told (step m e).1 (makes m r).1))
@@ -180,7 +180,7 @@ made_nothing a b e o makes none = subst (λ x. Makes a b e (sent_if x)) none mak
 -- a client is answered
 pub tends_served : (a b : Running) (c f d : Client) (o : Option Output) (out : Output) → Keeps c f → Makes a b (event.Serve f.id) (sent_if o) → o ≡ Some out → c.fed ≡ true → (f.phase ≡ phase.Closed → ⊥)
     → d.id ≡ f.id → d.fed ≡ f.fed → d.phase ≡ (if out.close then phase.Closed else f.phase) → (IsCounted f.pending → IsCounted d.pending)
-    → ((n : Machine) → Refines b n → d.watching ≡ concern_on (link_at f.id.0 n)) → Tends a b c d
+    → ((n : Machine) → Refines b n → d.watching ≡ fingerprint_on (link_at f.id.0 n)) → Tends a b c d
 tends_served a b c f d o out k makes some fed going same still becomes counted told = λ m r n s.
     let t = tends_sent a b f d (event.Serve f.id) out (made_sent a b (event.Serve f.id) o out makes some) (λ m. refl) (λ m h close n. served_gone m f.id out h close n) same (still ∙ k.fed ∙ fed) becomes going counted told m r n (suits_kept m c f k s) in
     (t.0, t.1, subst (λ i. GoesOn i.0 m t.0) k.id t.2, t.3 ∙ k.id, t.4)
@@ -188,7 +188,7 @@ tends_served a b c f d o out k makes some fed going same still becomes counted t
 -- a client is shown an event
 pub tends_shown : (a b : Running) (c f d : Client) (o : Option Output) (out : Output) → Keeps c f → Makes a b (event.Pump f.id) (sent_if o) → o ≡ Some out → (f.phase ≡ phase.Closed → ⊥)
     → d.id ≡ f.id → d.fed ≡ true → d.phase ≡ (if out.close then phase.Closed else f.phase) → (IsCounted f.pending → IsCounted d.pending)
-    → ((n : Machine) → Refines b n → d.watching ≡ concern_on (link_at f.id.0 n)) → Tends a b c d
+    → ((n : Machine) → Refines b n → d.watching ≡ fingerprint_on (link_at f.id.0 n)) → Tends a b c d
 tends_shown a b c f d o out k makes some going same fed becomes counted told = λ m r n s.
     let t = tends_sent a b f d (event.Pump f.id) out (made_sent a b (event.Pump f.id) o out makes some) (λ m. refl) (λ m h close n. shown_gone m f.id out h close n) same fed becomes going counted told m r n (suits_kept m c f k s) in
     (t.0, t.1, subst (λ i. GoesOn i.0 m t.0) k.id t.2, t.3 ∙ k.id, t.4)
@@ -210,7 +210,7 @@ tends_unshown a b c f o k makes none going = λ m r n s.
         ending = own.ending;
         counted = own.counted;
         below = let less : f.id.0 < m.next_id = own.below in omega (arith, less, g.next);
-        watching = own.watching ∙ pumped_concern m f.id (made m r).0;
+        watching = own.watching ∙ pumped_fingerprint m f.id (made m r).0;
       },
     )
 
@@ -239,7 +239,7 @@ tends_unserved a b x c f d o p k makes none going (inl q) = λ m r n s.
         ending = λ e. absurd (closed_not_ending e);
         counted = own.counted;
         below = under;
-        watching = sym (ap concern_on gone);
+        watching = sym (ap fingerprint_on gone);
       }),
     )
 tends_unserved a b x c f d o p k makes none going (inr q) = λ m r n s.
@@ -488,22 +488,22 @@ called_set o cs n e below unshown before = called_next o (set cs n e) n (λ d. s
 
 -- the clients whose watches a change may concern are called
 pub roused_by : (m : Machine) (revision : ℕ) (o : Option (List ℕ)) (cs : List Client) (aw : List ℕ) → AllMatch m cs aw → AreCalled o (length cs) cs
-    → ((ns : List ℕ) → o ≡ Some ns → (id : ℕ) → is_concerned m id revision ≡ true → is_among ns (concern_on (link_at id m)) ≡ true) → AreRoused m revision cs
+    → ((ns : List ℕ) → o ≡ Some ns → (id : ℕ) → is_concerned m id revision ≡ true → is_among ns (fingerprint_on (link_at id m)) ≡ true) → AreRoused m revision cs
 roused_by m revision o cs aw s called listed i below d concerned =
     let c : Client = get_or cs i d in
     let suits : MatchesConnection m c = each_at (λ x. MatchesConnection m x) cs i d s.suit below in
     called i below d (subst (λ w. is_called o w ≡ true) (sym suits.watching) (by_list c.id.0 o listed concerned))
   where
-    some_watch : (l : Option Link) → concern_some (later revision m.changes) (watch_on l) ≡ true → is_some (concern_on l) ≡ true
+    some_watch : (l : Option Link) → fingerprint_some (later revision m.changes) (watch_on l) ≡ true → is_some (fingerprint_on l) ≡ true
     some_watch None h = absurd (cc h)
     some_watch (Some l) h = by_watch l.watching h
       where
-        by_watch : (w : Option PlainWatching) → concern_some (later revision m.changes) w ≡ true → is_some (option_map concern_of_watch w) ≡ true
+        by_watch : (w : Option PlainWatching) → fingerprint_some (later revision m.changes) w ≡ true → is_some (option_map fingerprint_of_watch w) ≡ true
         by_watch None h = absurd (cc h)
         by_watch (Some w) h = refl
 
-    by_list : (id : ℕ) (o : Option (List ℕ)) → ((ns : List ℕ) → o ≡ Some ns → (id : ℕ) → is_concerned m id revision ≡ true → is_among ns (concern_on (link_at id m)) ≡ true)
-        → is_concerned m id revision ≡ true → is_called o (concern_on (link_at id m)) ≡ true
+    by_list : (id : ℕ) (o : Option (List ℕ)) → ((ns : List ℕ) → o ≡ Some ns → (id : ℕ) → is_concerned m id revision ≡ true → is_among ns (fingerprint_on (link_at id m)) ≡ true)
+        → is_concerned m id revision ≡ true → is_called o (fingerprint_on (link_at id m)) ≡ true
     by_list id None listed h = some_watch (link_at id m) h
     by_list id (Some ns) listed h = listed ns refl id h
 
@@ -571,7 +571,7 @@ on_opened a b cs ds aw who id makes fresh = λ m r s.
       ending = λ ending. absurd (open_not_ending (sym new.quiet.phase ∙ ending));
       counted = new.counted;
       below = let up : n.next_id ≡ m.next_id + 1 = next.1 in omega (arith, at, up);
-      watching = new.unwatched ∙ subst (λ k. None ≡ concern_on (link_at k n)) (sym at) (opened_concern m who id told);
+      watching = new.unwatched ∙ subst (λ k. None ≡ fingerprint_on (link_at k n)) (sym at) (opened_fingerprint m who id told);
     } in
     (n, (makes m r).1, subst (λ xs. AllMatch n xs aw) (sym fresh.1) (stands_more m n cs aw e s g at suits new.quiet))
 
@@ -620,7 +620,7 @@ on_fed a b cs aw i c id piece below is same has reading makes = λ m r s.
       n,
       (makes m r).1,
       stands_set m n cs aw aw i c (record c { fed = true }) s below (subst (λ x. GoesOn x.id.0 m n) is g) (ap (λ x. x.id) is)
-          (suits_fed m n c (record c { fed = true }) g own refl refl (λ closed. absurd (open_not_closed (sym going ∙ closed))) own.counted (own.watching ∙ subst (λ k. concern_on (link_at k.0 m) ≡ concern_on (link_at k.0 n)) same (fed_concern m id piece))) (subst (λ x. Has aw x.id.0) (sym is) has) (λ k h. h),
+          (suits_fed m n c (record c { fed = true }) g own refl refl (λ closed. absurd (open_not_closed (sym going ∙ closed))) own.counted (own.watching ∙ subst (λ k. fingerprint_on (link_at k.0 m) ≡ fingerprint_on (link_at k.0 n)) same (fed_fingerprint m id piece))) (subst (λ x. Has aw x.id.0) (sym is) has) (λ k h. h),
     )
 
 -- a piece of a client is not taken in

@@ -44,7 +44,7 @@ AreTo conn [] = Unit {0}
 AreTo conn (m ∷ rest) = IsTo conn m.event × AreTo conn rest
 
 -- what was read from a client was fed to its connection, and what it accepted was owed to it first
-pub record Deals (x y : Seat) (entries : List Entry) (made : List Made) : Type 0 where
+pub record Exchange (x y : Seat) (entries : List Entry) (made : List Made) : Type 0 where
   pub slot : y.slot ≡ x.slot
   pub conn : y.conn ≡ x.conn
   pub on : StayOn x.slot entries
@@ -76,7 +76,7 @@ pub data Act : Type 0 where
   -- a client gets a connection
   opens : ℕ → Identity → ConnId → Act
   -- a client is rejected, as there are too many connections
-  shuns : ℕ → Identity → Act
+  rejects : ℕ → Identity → Act
   -- a client is dropped, as no memory can be allocated for it
   loses : ℕ → Identity → Act
   -- something is done for a client
@@ -89,7 +89,7 @@ pub data Act : Type 0 where
 -- what an act adds to the history of the ports
 abbrev pub entries_of : Act → List Entry
 entries_of (opens slot who conn) = entry.Opened slot who ∷ []
-entries_of (shuns slot who) = entry.Opened slot who ∷ entry.Ended slot ∷ []
+entries_of (rejects slot who) = entry.Opened slot who ∷ entry.Ended slot ∷ []
 entries_of (loses slot who) = entry.Opened slot who ∷ entry.Ended slot ∷ []
 entries_of (serves x y entries made) = entries
 entries_of (ends x entries made) = entries
@@ -98,20 +98,20 @@ entries_of (turns answer) = []
 -- the events that an act makes
 abbrev pub made_of : Act → List Made
 made_of (opens slot who conn) = record { event = event.Open who; answer = answer.Opened conn } ∷ []
-made_of (shuns slot who) = record { event = event.Open who; answer = answer.TooMany } ∷ []
+made_of (rejects slot who) = record { event = event.Open who; answer = answer.TooMany } ∷ []
 made_of (loses slot who) = []
 made_of (serves x y entries made) = made
 made_of (ends x entries made) = made
 made_of (turns a) = record { event = event.Turn; answer = a } ∷ []
 
 -- the clients after an act
-abbrev pub Does : List Seat → Act → List Seat → Type 0
-Does s (opens slot who conn) t = IsFree slot s × (t ≡ s ++ record { slot = slot; conn = conn; owed = [] } ∷ [])
-Does s (shuns slot who) t = IsFree slot s × (t ≡ s)
-Does s (loses slot who) t = IsFree slot s × (t ≡ s)
-Does s (serves x y entries made) t = (front : List Seat) × (back : List Seat) × (s ≡ front ++ x ∷ back) × (t ≡ front ++ y ∷ back) × Deals x y entries made
-Does s (ends x entries made) t = (front : List Seat) × (back : List Seat) × (s ≡ front ++ x ∷ back) × (t ≡ front ++ back) × Leaves x entries made
-Does s (turns answer) t = t ≡ s
+abbrev pub Applies : List Seat → Act → List Seat → Type 0
+Applies s (opens slot who conn) t = IsFree slot s × (t ≡ s ++ record { slot = slot; conn = conn; owed = [] } ∷ [])
+Applies s (rejects slot who) t = IsFree slot s × (t ≡ s)
+Applies s (loses slot who) t = IsFree slot s × (t ≡ s)
+Applies s (serves x y entries made) t = (front : List Seat) × (back : List Seat) × (s ≡ front ++ x ∷ back) × (t ≡ front ++ y ∷ back) × Exchange x y entries made
+Applies s (ends x entries made) t = (front : List Seat) × (back : List Seat) × (s ≡ front ++ x ∷ back) × (t ≡ front ++ back) × Leaves x entries made
+Applies s (turns answer) t = t ≡ s
 
 -- the history that acts add
 unfoldable pub entries_in : List Act → List Entry
@@ -126,7 +126,7 @@ made_in (a ∷ rest) = made_of a ++ made_in rest
 -- the clients after some acts
 unfoldable pub Follows : List Seat → List Act → List Seat → Type 0
 Follows s [] t = t ≡ s
-Follows s (a ∷ rest) t = (u : List Seat) × Does s a u × Follows u rest t
+Follows s (a ∷ rest) t = (u : List Seat) × Applies s a u × Follows u rest t
 
 -- the events without their answers
 abbrev pub events_of : List Made → List Event

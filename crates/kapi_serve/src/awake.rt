@@ -8,15 +8,15 @@ use std::alloc::Global;
 
 /// Connections in the order of their numbers.
 #[derive(Drop)]
-pub(crate) struct Awake {
+pub(crate) struct ReadySet {
     numbers: Vec<u64>,
 }
 
-impl Awake {
-    pub(crate) fn new(alloc: Global) -> Awake
+impl ReadySet {
+    pub(crate) fn new(alloc: Global) -> ReadySet
         ensures { result.numbers.items ≡ [] }
     {
-        Awake {
+        ReadySet {
             numbers: Vec::new(alloc),
         }
     }

@@ -3,7 +3,7 @@ ghost use Rattle.std.specs.VecDeque.{deque_len, deque_capacity};
 ghost use Rattle.kapi_serve.specs.Private.Clients.{seat_of};
 ghost use Rattle.kapi_serve.specs.Private.ServerStates.{AdvancesFor, Writes, stage};
 ghost use Rattle.kapi_serve.specs.Private.Pieces.{IsCounted, IsSent, owed};
-ghost use Rattle.kapi_core.specs.Concerns.{is_among};
+ghost use Rattle.kapi_core.specs.Fingerprints.{is_among};
 ghost use Rattle.kapi_core.specs.Refines.{Makes};
 ghost use Rattle.kapi_core.specs.declared.event.Answer.TheVariants as answer;
 ghost use Rattle.kapi_core.specs.declared.event.Event.TheVariants as event;
@@ -233,7 +233,7 @@ impl Client {
         }
         match core.serve(self.id) {
             Ok(Some(output)) => {
-                self.watching = core.concern(self.id);
+                self.watching = core.fingerprint(self.id);
                 self.shown = false;
                 self.send(rt, desk, publishing, output);
                 Progress::Made
@@ -271,7 +271,7 @@ impl Client {
         match core.pump(self.id) {
             Ok(Some(output)) => {
                 self.fed = true;
-                self.watching = core.concern(self.id);
+                self.watching = core.fingerprint(self.id);
                 self.shown = false;
                 self.send(rt, desk, publishing, output);
                 Progress::Made

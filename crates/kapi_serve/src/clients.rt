@@ -1,6 +1,6 @@
 ghost use Rattle.std.specs.Prelude.{◌≡◌, ◌⊎◌, ◌<◌, ◌≤◌, ◌+◌, ℕ, List, Option, [], ◌∷◌, ◌++◌, drop, true, None, IfSome, OnOk, ◌==◌, length, map, option_map, set, suc, false, vec_len, vec_capacity};
 ghost use Rattle.std.specs.List.{HoldsAt, position};
-ghost use Rattle.kapi_core.specs.Concerns.{concern_on, is_among, is_concerned};
+ghost use Rattle.kapi_core.specs.Fingerprints.{fingerprint_on, is_among, is_concerned};
 ghost use Rattle.kapi_core.specs.Machine.{Machine, link_at};
 ghost use Rattle.kapi_core.specs.Refines.{Refines};
 ghost use Rattle.kapi_serve.specs.Acts.{IsFree};
@@ -12,7 +12,7 @@ ghost use Rattle.kapi_serve.specs.declared.client.Phase.TheVariants as phase;
 ghost use Rattle.kapi_serve.specs.declared.port.Entry.TheVariants as entry;
 ghost use Rattle.kapi_serve.specs.declared.progress.Progress.TheVariants as progress;
 
-use crate::awake::Awake;
+use crate::awake::ReadySet;
 use crate::client::{Client, Phase};
 use crate::marks::{MARKS, marks_of};
 use crate::pending::Pending;
@@ -36,7 +36,7 @@ pub(crate) struct Clients {
     alloc: Global,
     pub(crate) list: Vec<Client>,
     /// The connections at which something may be done before their slots report anything, or the objects change.
-    pub(crate) awake: Awake,
+    pub(crate) awake: ReadySet,
     /// The revision of the objects when the connections were last woken whose watches may have something to show.
     pub(crate) woken: u64,
     /// The revision when all connections with a watch last were.
@@ -64,7 +64,7 @@ impl Clients {
         Clients {
             alloc,
             list: Vec::new(alloc),
-            awake: Awake::new(alloc),
+            awake: ReadySet::new(alloc),
             woken: 0,
             roused: 0,
             tried: 0,
@@ -406,12 +406,12 @@ impl Clients {
     /// The fingerprints of the watches that the changes since the last waking may concern, or none if all are to be woken:
     /// once in a while they are, so that none falls behind the changes that are kept.
     fn concerned<P: Policy + Drop>(&self, core: &Core<P>) -> Option<Vec<u64>>
-        ensures { IfSome result (λ v. (m : Machine) → Refines core.now m → (id : ℕ) → is_concerned m id self.now.woken ≡ true → is_among v.items (concern_on (link_at id m)) ≡ true) }
+        ensures { IfSome result (λ v. (m : Machine) → Refines core.now m → (id : ℕ) → is_concerned m id self.now.woken ≡ true → is_among v.items (fingerprint_on (link_at id m)) ≡ true) }
     {
         if core.revision().saturating_sub(self.roused) >= WAKE_ALL_AFTER {
             return None;
         }
-        core.concerned_after(self.woken)
+        core.fingerprints_after(self.woken)
     }
 
     /// Wakes a connection whose watch is one of those, or which has one if there is no list of them. False if memory

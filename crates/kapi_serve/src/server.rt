@@ -53,7 +53,7 @@ pub fn serve_loop<R: Wait, P: Policy + Drop, Q: Ports>(
 }
 
 impl Server {
-    /// Does all that an event of the ports requires.
+    /// Applies all that an event of the ports requires.
     fn react<R: Wait, P: Policy + Drop, Q: Ports>(
         &mut self,
         rt: &R,

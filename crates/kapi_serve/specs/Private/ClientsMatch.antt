@@ -5,7 +5,7 @@ use Rattle.std.specs.List.Sorted.{IsStrictlySortedBy}
 use Rattle.std.specs.Map.{keys_of}
 use Rattle.std.specs.Ordering.{nat_cmp}
 use Rattle.kapi_aggregation.specs.Members.{Has}
-use Rattle.kapi_core.specs.Concerns.{concern_on, is_among, is_concerned}
+use Rattle.kapi_core.specs.Fingerprints.{fingerprint_on, is_among, is_concerned}
 use Rattle.kapi_core.specs.Machine.{Link, Machine, link_at, serve_step}
 use Rattle.kapi_core.specs.Refines.{Makes, Refines}
 use Rattle.kapi_core.specs.Running.{Running}
@@ -33,7 +33,7 @@ pub record MatchesConnection (m : Machine) (c : Client) : Type 0 where
   pub ending : c.phase ≡ phase.Ending → c.fed ≡ true
   pub counted : IsCounted c.pending
   pub below : c.id.0 < m.next_id
-  pub watching : c.watching ≡ concern_on (link_at c.id.0 m)
+  pub watching : c.watching ≡ fingerprint_on (link_at c.id.0 m)
 
 -- the numbers of the open connections rise
 abbrev pub IsNumbered : Machine → Type 0

@@ -44,7 +44,7 @@ returns-in-Err-clause-tends g c = tends_out _ _ _ _ (event.Pump c.is_ready.new.s
 
 pub returns-in-Ok-Some-clause-tends : goal.returns-in-Ok-Some-clause-tends
 returns-in-Ok-Some-clause-tends g c =
-    tends_shown _ _ _ _ _ c.in-Ok-Some.field-0 c.in-Ok-Some.output c.is_ready.ensures.keeps c.in-Ok-Some.ensures (cc) (λ closed. c.is_open.ensures.going c.if-not-is_open.false (sym c.is_ready.ensures.waits.phase ∙ closed)) c.send.ensures.id c.send.ensures.fed c.send.ensures.phase c.send.ensures.counted (λ n h. c.send.ensures.watching ∙ c.concern-self.ensures n h)
+    tends_shown _ _ _ _ _ c.in-Ok-Some.field-0 c.in-Ok-Some.output c.is_ready.ensures.keeps c.in-Ok-Some.ensures (cc) (λ closed. c.is_open.ensures.going c.if-not-is_open.false (sym c.is_ready.ensures.waits.phase ∙ closed)) c.send.ensures.id c.send.ensures.fed c.send.ensures.phase c.send.ensures.counted (λ n h. c.send.ensures.watching ∙ c.fingerprint-self.ensures n h)
 
 pub returns-in-Ok-None-clause-tends : goal.returns-in-Ok-None-clause-tends
 returns-in-Ok-None-clause-tends g c =

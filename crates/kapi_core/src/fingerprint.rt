@@ -1,7 +1,7 @@
 //! Which watches a change may concern, by fingerprints of a resource and a namespace.
 ghost use Rattle.std.specs.Prelude.{◌≡◌, ◌++◌, false, IfSome, OnOk};
 ghost use Rattle.std.specs.List.{flat_map, fold, list_any};
-ghost use Rattle.kapi_core.specs.Concerns.{concern_of, concerns, fnv_step, is_of_policy};
+ghost use Rattle.kapi_core.specs.Fingerprints.{fingerprint_of, fingerprints, fnv_step, is_of_policy};
 ghost use Rattle.kapi_store.specs.Lent.{changes_of};
 
 use kapi_store::{Changes, Key};
@@ -26,36 +26,36 @@ fn continued(hash: u64, text: &str) -> u64
 }
 
 // The fingerprint of a resource in a namespace, or in all if the text is empty. Others may have the same.
-fn concern(group: &str, resource: &str, namespace: &str) -> u64
-    ensures { result ≡ concern_of group.now resource.now namespace.now }
+fn fingerprint(group: &str, resource: &str, namespace: &str) -> u64
+    ensures { result ≡ fingerprint_of group.now resource.now namespace.now }
 {
     continued(continued(continued(BASIS, group), resource), namespace)
 }
 
 /// The fingerprint of a scope.
-pub fn concern_of_scope(scope: &Scope) -> u64
-    ensures { result ≡ concern_of scope.now.row.group scope.now.row.plural scope.now.namespace }
+pub fn fingerprint_of_scope(scope: &Scope) -> u64
+    ensures { result ≡ fingerprint_of scope.now.row.group scope.now.row.plural scope.now.namespace }
 {
-    concern(
+    fingerprint(
         scope.row.group.as_str(),
         scope.row.plural.as_str(),
         scope.namespace.as_str(),
     )
 }
 
-fn add_concerns(numbers: &mut Vec<u64>, key: &Key) -> Result<(), Memory>
-    ensures { OnOk result (numbers.new.items ≡ numbers.old.items ++ concerns key.now) }
+fn add_fingerprints(numbers: &mut Vec<u64>, key: &Key) -> Result<(), Memory>
+    ensures { OnOk result (numbers.new.items ≡ numbers.old.items ++ fingerprints key.now) }
 {
     let (group, resource) = (key.group.as_str(), key.resource.as_str());
-    numbers.push(concern(group, resource, key.namespace.as_str()))?;
-    numbers.push(concern(group, resource, ""))?;
+    numbers.push(fingerprint(group, resource, key.namespace.as_str()))?;
+    numbers.push(fingerprint(group, resource, ""))?;
     Ok(())
 }
 
 /// The fingerprints of the watches that some changes may concern. None if any watch may be concerned: if a role or a
 /// binding is among them, by which rights may have gone, if they are many, and where there is no memory for the list.
-pub fn concerns_of(alloc: Global, changes: &Changes<'_>) -> Option<Vec<u64>>
-    ensures listed { IfSome result (λ v. v.items ≡ flat_map (λ c. concerns c.key) (changes_of changes.now)) }
+pub fn fingerprints_of(alloc: Global, changes: &Changes<'_>) -> Option<Vec<u64>>
+    ensures listed { IfSome result (λ v. v.items ≡ flat_map (λ c. fingerprints c.key) (changes_of changes.now)) }
     ensures others { IfSome result (λ v. list_any (λ c. is_of_policy c.key) (changes_of changes.now) ≡ false) }
 {
     if changes.len() > MANY {
@@ -67,7 +67,7 @@ pub fn concerns_of(alloc: Global, changes: &Changes<'_>) -> Option<Vec<u64>>
         if key.group.as_str() == "rbac.authorization.k8s.io" {
             return None;
         }
-        match add_concerns(&mut numbers, key) {
+        match add_fingerprints(&mut numbers, key) {
             Ok(()) => {}
             Err(_refused) => return None,
         }

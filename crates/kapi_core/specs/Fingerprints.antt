@@ -25,13 +25,13 @@ abbrev pub watch_on : Option Link → Option PlainWatching
 watch_on l = option_and_then (λ (l : Link). l.watching) l
 
 -- some of the changes may concern the watch, if there is one
-abbrev pub concern_some : List PlainChange → Option PlainWatching → Bool
-concern_some changes None = false
-concern_some changes (Some w) = list_any (λ c. may_concern w c.key) changes
+abbrev pub fingerprint_some : List PlainChange → Option PlainWatching → Bool
+fingerprint_some changes None = false
+fingerprint_some changes (Some w) = list_any (λ c. may_concern w c.key) changes
 
 -- some change after the revision may concern the watch of the connection of a number
 abbrev pub is_concerned : Machine → ℕ → ℕ → Bool
-is_concerned m id revision = concern_some (later revision m.changes) (watch_on (link_at id m))
+is_concerned m id revision = fingerprint_some (later revision m.changes) (watch_on (link_at id m))
 
 -- ---- fingerprints
 
@@ -40,20 +40,20 @@ abbrev pub fnv_step : ℕ → ℕ → ℕ
 fnv_step hash byte = bit_xor hash byte * 1099511628211 % 2 ^ 64
 
 -- the fingerprint of a resource in a namespace; if that is empty, in all
-abbrev pub concern_of : List ℕ → List ℕ → List ℕ → ℕ
-concern_of group resource namespace = fold fnv_step (fold fnv_step (fold fnv_step 14695981039346656037 group) resource) namespace
+abbrev pub fingerprint_of : List ℕ → List ℕ → List ℕ → ℕ
+fingerprint_of group resource namespace = fold fnv_step (fold fnv_step (fold fnv_step 14695981039346656037 group) resource) namespace
 
 -- the fingerprints of the watches that may show an object at the key: those of its namespace, and those of all
-abbrev pub concerns : Key → List ℕ
-concerns k = concern_of k.group k.resource k.namespace ∷ concern_of k.group k.resource [] ∷ []
+abbrev pub fingerprints : Key → List ℕ
+fingerprints k = fingerprint_of k.group k.resource k.namespace ∷ fingerprint_of k.group k.resource [] ∷ []
 
 -- the fingerprint of a watch
-abbrev pub concern_of_watch : PlainWatching → ℕ
-concern_of_watch w = concern_of w.watch.scope.row.group w.watch.scope.row.plural w.watch.scope.namespace
+abbrev pub fingerprint_of_watch : PlainWatching → ℕ
+fingerprint_of_watch w = fingerprint_of w.watch.scope.row.group w.watch.scope.row.plural w.watch.scope.namespace
 
 -- that of the watch of a connection, if there is one
-abbrev pub concern_on : Option Link → Option ℕ
-concern_on l = option_map concern_of_watch (watch_on l)
+abbrev pub fingerprint_on : Option Link → Option ℕ
+fingerprint_on l = option_map fingerprint_of_watch (watch_on l)
 
 -- the list has the fingerprint, if there is one
 abbrev pub is_among : List ℕ → Option ℕ → Bool

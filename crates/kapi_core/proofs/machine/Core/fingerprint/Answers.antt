@@ -4,24 +4,24 @@ use Rattle.std.specs.Map.{lookup}
 use Rattle.std.specs.Ordering.{nat_cmp}
 use Rattle.kapi_answer.specs.declared.watch.Watching.{Watching}
 use Rattle.kapi_watch.specs.declared.scope.Scope.{Scope}
-use Rattle.kapi_core.proofs.Concerned.{concern_idle, concern_nowhere, concern_there}
-use Rattle.kapi_core.specs.Concerns.{concern_of}
+use Rattle.kapi_core.proofs.Concerned.{fingerprint_idle, fingerprint_nowhere, fingerprint_there}
+use Rattle.kapi_core.specs.Fingerprints.{fingerprint_of}
 use Rattle.kapi_core.specs.Running.{Running}
-use Rattle.kapi_core.proofs.machine.Core.concern.Goals as goal
+use Rattle.kapi_core.proofs.machine.Core.fingerprint.Goals as goal
 
 pub returns-in_default : goal.returns-in_default
 returns-in_default g c = λ m h.
     let P : Running → Type 0 = λ r. lookup (is_at (nat_cmp c.args.conn.0)) r.connections ≡ None in
-    concern_nowhere c.args.self.now m c.args.conn.0 (subst P c.self.view_is (sym c.in_default.ensures.value)) h
+    fingerprint_nowhere c.args.self.now m c.args.conn.0 (subst P c.self.view_is (sym c.in_default.ensures.value)) h
 
 pub returns-in-Some-watching : goal.returns-in-Some-watching
 returns-in-Some-watching g c = λ m h.
     let P : Running → Type 0 = λ r. lookup (is_at (nat_cmp c.args.conn.0)) r.connections ≡ Some c.in-Some.connection.now in
-    ap Some (c.concern_of_scope.ensures ∙ ap (λ (s : Scope). concern_of s.row.group s.row.plural s.namespace) c.scope.ensures)
-    ∙ ap (λ (w : Watching). Some (concern_of w.watch.scope.row.group w.watch.scope.row.plural w.watch.scope.namespace)) c.get-in-Some-watching.ensures
-    ∙ concern_there c.args.self.now m c.args.conn.0 c.in-Some.connection.now c.in-Some-watching.watching (subst P c.self.view_is (sym c.in-Some.ensures.value)) c.in-Some-watching.is h
+    ap Some (c.fingerprint_of_scope.ensures ∙ ap (λ (s : Scope). fingerprint_of s.row.group s.row.plural s.namespace) c.scope.ensures)
+    ∙ ap (λ (w : Watching). Some (fingerprint_of w.watch.scope.row.group w.watch.scope.row.plural w.watch.scope.namespace)) c.get-in-Some-watching.ensures
+    ∙ fingerprint_there c.args.self.now m c.args.conn.0 c.in-Some.connection.now c.in-Some-watching.watching (subst P c.self.view_is (sym c.in-Some.ensures.value)) c.in-Some-watching.is h
 
 pub returns-in-None : goal.returns-in-None
 returns-in-None g c = λ m h.
     let P : Running → Type 0 = λ r. lookup (is_at (nat_cmp c.args.conn.0)) r.connections ≡ Some c.in-Some.connection.now in
-    concern_idle c.args.self.now m c.args.conn.0 c.in-Some.connection.now (subst P c.self.view_is (sym c.in-Some.ensures.value)) c.in-None.is h
+    fingerprint_idle c.args.self.now m c.args.conn.0 c.in-Some.connection.now (subst P c.self.view_is (sym c.in-Some.ensures.value)) c.in-None.is h
