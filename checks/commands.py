@@ -98,8 +98,7 @@ def table(*rows):
 gains = functools.partial(table, "SUBJECT | NAMESPACE | GAINS | BY")
 BASIC = "create | selfsubjectaccessreviews.authorization.k8s.io,selfsubjectrulesreviews.authorization.k8s.io | - | * | ClusterRoleBinding system:basic-user, ClusterRole system:basic-user, rule 0"
 rights = functools.partial(table, "VERBS | RESOURCES | NAMES | SCOPE | BY", BASIC)
-ways = functools.partial(table, "SUBJECT | NAMESPACE | BINDING | RULE", "Group system:masters | * | - | everything",
-                         "Group system:masters | * | ClusterRoleBinding cluster-admin | ClusterRole cluster-admin, rule 0")
+ways = functools.partial(table, "SUBJECT | NAMESPACE | BINDING | RULE", "Group system:masters | * | - | everything")
 SEEN, READ = "get | nodes | - | * | ClusterRoleBinding seers, ClusterRole seer, rule 0", "get,delete | pods | - | shop | RoleBinding readers, Role reader, rule 0"
 OWNED = "get | nodes | - | * | ClusterRoleBinding accounts, ClusterRole seer, rule 0; ClusterRoleBinding seers, ClusterRole seer, rule 0"
 MASTER = "* | * | - | * | Group system:masters"
@@ -111,8 +110,7 @@ ANN, BOB = "User ann | shop | RoleBinding readers | Role reader, rule 0", "User 
 SEES = "User olga | * | ClusterRoleBinding olga-sees | ClusterRole seer, rule 0", "Group system:authenticated | * | ClusterRoleBinding seers | ClusterRole seer, rule 0"
 BY = '"binding":"readers","bindingKind":"RoleBinding","namespace":"shop","role":"reader","roleKind":"Role","rule":0,"subject":"ann","subjectKind":"User"}\n'
 BY_OLGA = '"binding":"olga-sees","bindingKind":"ClusterRoleBinding","namespace":"","role":"seer","roleKind":"ClusterRole","rule":0,"subject":"olga","subjectKind":"User"}\n'
-JSON = '{"subject":"system:masters","subjectKind":"Group"}\n{"binding":"cluster-admin","bindingKind":"ClusterRoleBinding","namespace":"",' \
-    '"role":"cluster-admin","roleKind":"ClusterRole","rule":0,"subject":"system:masters","subjectKind":"Group"}\n'
+JSON = '{"subject":"system:masters","subjectKind":"Group"}\n'
 WHAT_JSON = '{"by":[{"binding":"system:basic-user","bindingKind":"ClusterRoleBinding","role":"system:basic-user","roleKind":"ClusterRole","rule":0}],"namespace":"",' \
     '"rule":{"apiGroups":["authorization.k8s.io"],"resources":["selfsubjectaccessreviews","selfsubjectrulesreviews"],"verbs":["create"]}}\n' \
     '{"by":[{"binding":"seers","bindingKind":"ClusterRoleBinding","role":"seer","roleKind":"ClusterRole","rule":0}],"namespace":"",' \

@@ -49,7 +49,6 @@ OTHERS = [
     thing("NetworkPolicy", f"n{it}", "shop", "networking.k8s.io/v1", spec={"podSelector": {}}) for it in range(3)
 ] + [thing("CustomResourceDefinition", "c", None, "apiextensions.k8s.io/v1", spec={"weight": 0.5}), thing("ConfigMap", "m", "shop", "v1")]
 MASTERS = "Group system:masters"
-ADMIN = (MASTERS, "*", "ClusterRoleBinding cluster-admin", "ClusterRole cluster-admin, rule 0")
 EVERY = (MASTERS, "*", "-", "everything")
 ANN = ("User ann", "shop", "RoleBinding readers", "Role reader, rule 0")
 
@@ -79,20 +78,20 @@ NO_JSON = "the object is no JSON: the fault is at line {}, column {}"
 OPEN = "the object that begins here is not closed"
 STRAY = "no JSON object begins here"
 FORMS = [
-    who(lines(*POLICY), ADMIN, ANN),
-    who(lines(SHOP, *POLICY), ADMIN, ANN),
-    who(pretty(READER) + pretty(READERS), ADMIN, ANN),
-    who(lines(READERS) + "\n# a comment\n" + pretty(READER) + lines(SEER).rstrip("\n"), ADMIN, ANN),
-    who(json.dumps(READER) + json.dumps(READERS) + " " + json.dumps(SEER), ADMIN, ANN),
-    who(pretty(listed(*POLICY)), ADMIN, ANN),
-    who(json.dumps(listed(*reversed(POLICY))), ADMIN, ANN),
-    who(pretty(listed(READER, kind="RoleList", version=f"{RBAC}/v1")) + pretty(listed(READERS)), ADMIN, ANN),
-    who(pretty(listed(*POLICY)).replace("\n", "\r\n"), ADMIN, ANN),
-    who("\xef\xbb\xbf" + lines(*POLICY).replace("\n", "\r\n"), ADMIN, ANN),
-    who(pretty(listed(*OTHERS, *POLICY)), ADMIN, ANN, error=SKIPPED),
-    who(lines(thing("Role", "}{\"\\", "shop", rules=[]), *POLICY), ADMIN, ANN),
+    who(lines(*POLICY), ANN),
+    who(lines(SHOP, *POLICY), ANN),
+    who(pretty(READER) + pretty(READERS), ANN),
+    who(lines(READERS) + "\n# a comment\n" + pretty(READER) + lines(SEER).rstrip("\n"), ANN),
+    who(json.dumps(READER) + json.dumps(READERS) + " " + json.dumps(SEER), ANN),
+    who(pretty(listed(*POLICY)), ANN),
+    who(json.dumps(listed(*reversed(POLICY))), ANN),
+    who(pretty(listed(READER, kind="RoleList", version=f"{RBAC}/v1")) + pretty(listed(READERS)), ANN),
+    who(pretty(listed(*POLICY)).replace("\n", "\r\n"), ANN),
+    who("\xef\xbb\xbf" + lines(*POLICY).replace("\n", "\r\n"), ANN),
+    who(pretty(listed(*OTHERS, *POLICY)), ANN, error=SKIPPED),
+    who(lines(thing("Role", "}{\"\\", "shop", rules=[]), *POLICY), ANN),
     Case("risks - --namespace shop", 0, "", re.compile("SUBJECT.*\n(Group.*\n){2}Through roles.*\n"), input=BARE),
-    who(BARE, ADMIN, ANN),
+    who(BARE, ANN),
     refused(BARE, "policy:1: " + HOMELESS.format("Role", "reader"), "policy:2: " + HOMELESS.format("RoleBinding", "readers")),
 ]
 STANDING = [
@@ -109,7 +108,7 @@ DUMPS = [
          files={"policy": pretty(listed(*STANDING))}),
     Case("who policy create selfsubjectaccessreviews.authorization.k8s.io", 0, "", re.compile(".*\nGroup system:masters .*\nUser olga .*\n")),
     Case("who policy create selfsubjectaccessreviews.authorization.k8s.io", 0, "",
-         re.compile(".*\n(Group system:masters .*\n){2}Group system:authenticated .*\n"), files={"policy": lines(SEER)}),
+         re.compile(".*\nGroup system:masters .*\nGroup system:authenticated .*\n"), files={"policy": lines(SEER)}),
 ]
 FAULTS = [
     refused("apiVersion: v1\nkind: Role\nmetadata: {}\n", YAML),
@@ -167,9 +166,9 @@ ASKED = [
 MORE = "For more information, try 'kapi {} --help'."
 READING = "error: --with, --with-defaults, --namespace and --strict are for --manifests\n\n" + MORE.format("audit")
 TOGETHER = [
-    Case("who roles get secrets --namespace shop --with readers", 0, "", table(EVERY, ADMIN, ANN), files={"roles": BARE_ROLES, "readers": lines(READERS), "viewers": VIEWERS}),
-    Case("who - get secrets --namespace shop --with roles --with viewers", 0, LOOSE, table(EVERY, ADMIN, ANN), input=lines(READERS)),
-    Case("who roles get pods --namespace shop --with viewers --with-defaults --strict", 0, "", table(EVERY, ADMIN, BOB)),
+    Case("who roles get secrets --namespace shop --with readers", 0, "", table(EVERY, ANN), files={"roles": BARE_ROLES, "readers": lines(READERS), "viewers": VIEWERS}),
+    Case("who - get secrets --namespace shop --with roles --with viewers", 0, LOOSE, table(EVERY, ANN), input=lines(READERS)),
+    Case("who roles get pods --namespace shop --with viewers --with-defaults --strict", 0, "", table(EVERY, BOB)),
     Case("compare readers readers --with roles --with viewers --with-defaults --strict", 0, re.compile("(readers: roles: 1, bindings: 2\n?){2}"), "Nobody gains.\n"),
     Case("risks roles --with missing", 1, re.compile("missing: .*"), ""),
     Case("audit --manifests readers questions --with roles --with viewers --with-defaults", 0, "", ALLOWED + "allowed RoleBinding viewers, ClusterRole view, rule 0\n", files={"questions": QUESTIONS}),
@@ -202,7 +201,7 @@ def in_folder(program, room):
     folder.mkdir()
     for name, text in {"b.json": pretty(READERS), "a.jsonl": lines(READER), "notes.md": "# notes\n"}.items():
         (folder / name).write_text(text)
-    yield fault(program, Case("who rbac get secrets --namespace shop", 0, "", table(EVERY, ADMIN, ANN)), room)
+    yield fault(program, Case("who rbac get secrets --namespace shop", 0, "", table(EVERY, ANN)), room)
     (folder / "c.yml").write_text("kind: Role\n")
     yield fault(program, Case("risks rbac", 1, YAML.replace("policy:", "rbac/c.yml:"), ""), room)
     (folder / "c.yml").unlink()
@@ -223,7 +222,7 @@ def as_shipped(program, room):
     }.items():
         (folder / name).write_text(text, newline="")
     told = "skipped: 1 ConfigMap, 1 CustomResourceDefinition, 1 NetworkPolicy"
-    yield fault(program, Case("who shipped get secrets --namespace shop --strict", 0, told, table(EVERY, ADMIN, ANN)), room)
+    yield fault(program, Case("who shipped get secrets --namespace shop --strict", 0, told, table(EVERY, ANN)), room)
     yield fault(program, Case("compare shipped shipped --namespace shop --strict", 0, re.compile(f"({told}\n){{2}}(shipped: roles: 2, bindings: 2\n?){{2}}"), "Nobody gains.\n"), room)
 
 
@@ -253,7 +252,7 @@ def of_yaml(program, room):
     (room / "policy.yaml").write_text(yaml.safe_dump_all([listed(READER), None, READERS]))
     made = subprocess.run([sys.executable, pathlib.Path(__file__).parent.parent / "tools/policy.py", "policy.yaml"], cwd=room, capture_output=True, text=True)
     yield made.stderr
-    yield fault(program, who(made.stdout, ADMIN, ANN), room)
+    yield fault(program, who(made.stdout, ANN), room)
 
 
 def main(program):

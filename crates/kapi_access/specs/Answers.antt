@@ -1,6 +1,7 @@
 -- The answers as they are printed.
 use Rattle.std.specs.Prelude.{ℕ, Bool, true, false, not, List, ◌∷◌, ◌++◌, codes, map}
 use Rattle.std.specs.List.{filter, flat_map}
+use Rattle.std.specs.Str.{bytes_eq}
 use Rattle.kapi_policy.specs.Objects.{PolicyObjects}
 use Rattle.kapi_access.specs.Gained.{Gained, GainedRule, by_rule}
 use Rattle.kapi_access.specs.Risks.{is_grave}
@@ -8,6 +9,8 @@ use Rattle.kapi_access.specs.Who.{Way, who_in}
 use Rattle.kapi_access.specs.Cells.{gain_row, gained_rule_row, gains_head, masters_row, way_row, ways_head}
 use Rattle.kapi_access.specs.Members.{gain_line, way_line}
 use Rattle.kapi_access.specs.Tables.{table_below, table_in}
+use Rattle.kapi_access.specs.declared.grantee.Grantee.{Grantee}
+use Rattle.kapi_access.specs.declared.grantee.Grantee.TheVariants as grantee
 use Rattle.kapi_access.specs.declared.answer.Form.{Form}
 use Rattle.kapi_access.specs.declared.answer.Form.TheVariants as form
 use Rattle.kapi_access.specs.declared.answer.Shown.{Shown}
@@ -33,10 +36,19 @@ gains_text f s gains = table_below f (codes "Nobody gains.\n") gains_head (gain_
 abbrev pub masters_line : List ℕ
 masters_line = codes "{\"subject\":\"system:masters\",\"subjectKind\":\"Group\"}\n"
 
--- ways as they are printed, behind the group whose members may do everything
+-- the group whose members may do everything
+abbrev pub is_masters : Grantee → Bool
+is_masters (grantee.Group name) = bytes_eq name (codes "system:masters")
+is_masters (grantee.User name) = false
+
+-- the ways of all others
+abbrev pub besides_masters : List Way → List Way
+besides_masters ways = filter (λ w. not (is_masters w.to)) ways
+
+-- ways as they are printed: the group whose members may do everything, once, and then all others
 abbrev pub ways_text : Form → List Way → List ℕ
-ways_text form.Json ways = masters_line ++ flat_map way_line ways
-ways_text f ways = table_in f (ways_head ∷ masters_row ∷ map way_row ways)
+ways_text form.Json ways = masters_line ++ flat_map way_line (besides_masters ways)
+ways_text f ways = table_in f (ways_head ∷ masters_row ∷ map way_row (besides_masters ways))
 
 -- who may do what is asked
 abbrev pub who_text : Form → PolicyObjects → Wanted → List ℕ

@@ -15,6 +15,7 @@ use crate::allowed::who;
 use crate::cells::{gain_row, gained_rule_row, gains_head, masters_row, way_row, ways_head};
 use crate::gained::{Gain, compare};
 use crate::gained_rules::{GainedRule, by_rule};
+use crate::grantee::Grantee;
 use crate::identities::Identities;
 use crate::members::{push_gain, push_way};
 use crate::question::Wanted;
@@ -202,13 +203,35 @@ fn way_lines(alloc: Global, ways: &[Way<'_>]) -> Result<Vec<u8>, Memory>
     Ok(text)
 }
 
-fn ways_text(alloc: Global, form: Form, ways: &[Way<'_>]) -> Result<Vec<u8>, Memory>
-    ensures { IfOk result (λ v. v.items ≡ answers.ways_text form (map way_of ways.now)) }
+fn is_masters(to: &Grantee) -> bool
+    ensures { result ≡ answers.is_masters to.now }
 {
+    match to {
+        Grantee::Group(name) => name.as_str() == "system:masters",
+        Grantee::User(_) => false,
+    }
+}
+
+fn besides_masters<'a>(alloc: Global, ways: Vec<Way<'a>>) -> Result<Vec<Way<'a>>, Memory>
+    ensures { IfOk result (λ v. map way_of v.items ≡ answers.besides_masters (map way_of ways.entry.items)) }
+{
+    let mut list = Vec::new(alloc);
+    for way in ways {
+        if !is_masters(&way.to) {
+            list.push(way)?;
+        }
+    }
+    Ok(list)
+}
+
+fn ways_text(alloc: Global, form: Form, ways: Vec<Way<'_>>) -> Result<Vec<u8>, Memory>
+    ensures { IfOk result (λ v. v.items ≡ answers.ways_text form (map way_of ways.entry.items)) }
+{
+    let others = besides_masters(alloc, ways)?;
     match form {
-        Form::Table => ways_table(alloc, Form::Table, ways),
-        Form::Markdown => ways_table(alloc, Form::Markdown, ways),
-        Form::Json => way_lines(alloc, ways),
+        Form::Table => ways_table(alloc, Form::Table, others.as_slice()),
+        Form::Markdown => ways_table(alloc, Form::Markdown, others.as_slice()),
+        Form::Json => way_lines(alloc, others.as_slice()),
     }
 }
 
@@ -224,7 +247,7 @@ pub fn answer_who<P: Policy>(
     ensures { IfOk result (λ v. v.items ≡ answers.who_text form (P.content policy.now) wanted.now) }
 {
     let list = who(alloc, policy, bindings, &wanted.scope, &wanted.point)?;
-    ways_text(alloc, form, list.as_slice())
+    ways_text(alloc, form, list)
 }
 
 /// Who may gain more than the policy gives, given all its bindings: a line for each user and group and each binding by which it may.
@@ -238,7 +261,7 @@ pub fn answer_risks<P: Policy>(
     ensures { IfOk result (λ v. v.items ≡ answers.ways_text form (risks_of (P.content policy.now))) }
 {
     let list = risks(alloc, policy, bindings)?;
-    ways_text(alloc, form, list.as_slice())
+    ways_text(alloc, form, list)
 }
 
 /// The last line of risks: what holds of all who are not listed, if the roles are settled.
