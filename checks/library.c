@@ -150,6 +150,8 @@ static void lists(const kapi_policy *policy, const char *objects, size_t length)
     call.without.texts = &escalate;
     call.without.length = 1;
     tells(policy, &call, 1, "{\"settled\":true}\n");
+    escalate = text("escalation");
+    CHECK(kapi_ask(policy, &call, &answer, NULL, 0) == KAPI_NO_QUESTION);
     call = wanting(KAPI_WANTS_MISSING);
     tells(policy, &call, 0, "[\"get\",\"\",\"pods/log\"]\n");
     call.question.user = text("ann");

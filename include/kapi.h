@@ -47,7 +47,7 @@ typedef uint32_t kapi_status;
 #define KAPI_NO_MEMORY 1u   /* memory ran out */
 #define KAPI_BAD_LINE 2u    /* a line holds no object that can be created */
 #define KAPI_NOT_TEXT 3u    /* a text is no UTF-8 */
-#define KAPI_NO_QUESTION 4u /* no such question: a resource with two slashes, a role that is not there, an unknown number */
+#define KAPI_NO_QUESTION 4u /* no such question: a resource with two slashes, a role or a kind that is not there, an unknown number */
 #define KAPI_NO_ROOM 5u     /* the text does not fit, and its length was written; or there is not a decision for each question */
 
 typedef uint32_t kapi_decision;

@@ -42,6 +42,8 @@ class Answers(unittest.TestCase):
         self.assertEqual(self.policy.what("ann", namespace="web")[0]["rule"]["resources"], ["pods/log"])
         self.assertEqual(self.policy.risks()[-1], {"settled": True})
         self.assertEqual(self.policy.paths(without=["escalate"])[-1], {"settled": True})
+        with self.assertRaises(NoQuestion):
+            self.policy.paths(without=["escalate", "escalation"])
         self.assertEqual(self.policy.missing("bob", "Role", "logs", namespace="web"), [["get", "", "pods/log"]])
         self.assertEqual(self.policy.missing("ann", "Role", "logs", namespace="web"), [])
         with self.assertRaises(NoQuestion):

@@ -1,6 +1,6 @@
 -- Answers about a whole policy.
 use Rattle.std.specs.Prelude.{◌≡◌, ℕ, ◌==◌, Bool, true, false, not, ◌&&◌, if◌then◌else◌, List, [], ◌∷◌, ◌++◌, length, Option, Some, None, Result, Ok, Err}
-use Rattle.std.specs.List.{flat_map}
+use Rattle.std.specs.List.{flat_map, list_all}
 use Rattle.serde_json.specs.Written.{compact_text}
 use Rattle.kapi_text.specs.Gives.{◌>>=◌}
 use Rattle.kapi_model.specs.Kinds.{role_kind}
@@ -24,6 +24,7 @@ use Rattle.kapi_access.specs.declared.question.Scope.TheVariants as scope
 use Rattle.kapi_loading.specs.Faults.{FileFault, bad_line}
 use Rattle.kapi_loading.specs.declared.fault.StartError.{StartError}
 use Rattle.kapi_loading.specs.declared.fault.StartError.TheVariants as start
+use Rattle.kapi_paths.specs.Rights.{is_kind}
 use Rattle.kapi_engine.specs.Decisions.{missing_of}
 use Rattle.kapi_engine.specs.Engines.{engine_of}
 use Rattle.kapi_engine.specs.Paths.{IsPathsText}
@@ -82,15 +83,23 @@ form_of number =
     else (if number == 2 then Ok form.Json
     else Err fault.Question))
 
--- some text of paths, if what is asked is texts
+-- the kinds of rights that are left out, if each is one
+abbrev pub known_kinds : List (List ℕ) → Result (List (List ℕ)) CallFault
+known_kinds words = if list_all is_kind words then Ok words else Err fault.Question
+
+-- the kinds of rights that a call leaves out
+unfoldable pub kinds_of : Call → Result (List (List ℕ)) CallFault
+kinds_of call = texts_of call.without.now >>= known_kinds
+
+-- some text of paths, if what is asked is texts and kinds
 unfoldable pub paths_given : List ℕ → Engine → Call → Result Given CallFault
 paths_given paths engine call =
-    form_of call.form >>= λ f. text_of call.other.now >>= λ to. texts_of call.without.now >>= λ without. Ok (settled_with engine paths)
+    form_of call.form >>= λ f. text_of call.other.now >>= λ to. kinds_of call >>= λ without. Ok (settled_with engine paths)
 
--- the text is that of paths, if the call has a form, a name and kinds that are texts
+-- the text is that of paths, if the call has a form, a name and kinds
 abbrev pub ArePaths : List ℕ → Engine → Call → Type 0
 ArePaths paths engine call =
-    (f : Form) (to : List ℕ) (without : List (List ℕ)) → form_of call.form ≡ Ok f → text_of call.other.now ≡ Ok to → texts_of call.without.now ≡ Ok without
+    (f : Form) (to : List ℕ) (without : List (List ℕ)) → form_of call.form ≡ Ok f → text_of call.other.now ≡ Ok to → kinds_of call ≡ Ok without
     → IsPathsText engine f to without paths
 
 -- ---- what somebody lacks

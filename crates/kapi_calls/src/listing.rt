@@ -1,8 +1,9 @@
 //! Answers about a whole policy: who may do something, what somebody has, who may gain more, what somebody lacks of a role,
 //! and what other objects give besides.
 ghost use Rattle.std.specs.Prelude.{◌≡◌, ◌++◌, ℕ, List, IfOk, OnOk};
-ghost use Rattle.std.specs.List.{flat_map};
+ghost use Rattle.std.specs.List.{flat_map, list_all};
 ghost use Rattle.kapi_text.specs.Gives.{Gives};
+ghost use Rattle.kapi_paths.specs.Rights.{is_kind as is_kind_of_rights};
 ghost use Rattle.kapi_calls.specs.Faults.{fault_told};
 ghost use Rattle.kapi_calls.specs.Lists as lists;
 ghost use Rattle.kapi_calls.specs.Views.{told};
@@ -15,9 +16,10 @@ use kapi_engine::{
     Engine, Form, Holder, Identities, Scope, Shown, StartError, Wanted, compare, load,
 };
 use kapi_model::{RoleKind, RoleRef};
+use kapi_paths::is_kind;
 use kapi_reply::atom_list;
 use kapi_rules::{Atom, Point};
-use kapi_text::{Memory, Text};
+use kapi_text::{Memory, Sequence, Text};
 use std::alloc::Global;
 
 /// A text, and whether the roles are settled.
@@ -110,6 +112,25 @@ fn risks(alloc: Global, engine: &Engine, form: Form) -> Result<Found, Memory>
     Ok(settled_with(engine, engine.risks(alloc, form)?))
 }
 
+fn are_kinds(words: &[Text]) -> bool
+    ensures { result ≡ list_all is_kind_of_rights words.now }
+{
+    words.iter().all(|word| is_kind(word.as_str()))
+}
+
+/// The kinds of rights that are left out.
+#[tactic(auto, unfolding(crate::specs::Lists::kinds_of))]
+fn read_kinds(alloc: Global, call: &Call<'_>) -> Result<Sequence<Text>, CallFault>
+    ensures { Gives fault_told (λ t. t) result (lists.kinds_of call.now) }
+{
+    let kinds = read_texts(alloc, call.without)?;
+    if are_kinds(kinds.as_slice()) {
+        Ok(kinds)
+    } else {
+        Err(CallFault::Question)
+    }
+}
+
 /// Who can become whom.
 #[tactic(auto, unfolding(crate::specs::Lists::paths_given))]
 pub fn paths(alloc: Global, engine: &Engine, call: &Call<'_>) -> Result<Found, CallFault>
@@ -117,7 +138,7 @@ pub fn paths(alloc: Global, engine: &Engine, call: &Call<'_>) -> Result<Found, C
 {
     let form = form_of(call.form)?;
     let to = text_in(call.other)?;
-    let without = read_texts(alloc, call.without)?;
+    let without = read_kinds(alloc, call)?;
     let text = engine.paths(alloc, form, to, without.as_slice())?;
     Ok(settled_with(engine, text))
 }

@@ -131,6 +131,14 @@ person_groups =
 unfoldable pub groups : List Group
 groups = cluster_groups ++ account_groups ++ person_groups
 
+-- the rights are of that kind
+abbrev pub is_of_kind : List ℕ → Group → Bool
+is_of_kind word g = bytes_eq g.kind word
+
+-- some rights of the table are of that kind
+abbrev pub is_kind : List ℕ → Bool
+is_kind word = list_any (is_of_kind word) groups
+
 -- the rights are of no kind that is left out
 abbrev pub is_kept : List (List ℕ) → Group → Bool
 is_kept without g = not (list_any (λ w. bytes_eq w g.kind) without)

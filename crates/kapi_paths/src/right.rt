@@ -320,12 +320,19 @@ pub fn rights_without(alloc: Global, without: &[Text]) -> Result<Vec<Right>, Mem
     Ok(list)
 }
 
+#[tactic(auto, using(crate::proofs::Kinds::any_of_views))]
+fn has_kind(groups: &[Group], word: &str) -> bool
+    ensures { result ≡ list_any (table.is_of_kind word.now) (map group_of groups.now) }
+{
+    groups.iter().any(|group| group.kind == word)
+}
+
 /// Whether some right of the table is of the kind.
-pub fn is_kind(word: &str) -> bool {
-    match word {
-        "star" | "secrets" | "workloads" | "changes" | "exec" | "volumes" | "nodes" => true,
-        "escalate" | "bind" | "impersonate" | "tokens" | "signers" | "webhooks" => true,
-        "namespaces" => true,
-        _ => false,
-    }
+pub fn is_kind(word: &str) -> bool
+    ensures { result ≡ table.is_kind word.now }
+{
+    let on_all = has_kind(&cluster_groups(), word);
+    let on_accounts = has_kind(&account_groups(), word);
+    let on_persons = has_kind(&person_groups(), word);
+    on_all || on_accounts || on_persons
 }
