@@ -83,7 +83,7 @@ any_kept q g kept r (x ∷ xs) same = by_kept (kept x) refl (any_kept q g kept r
     by_kept true is more = rw (same x (inl refl) is) (ap (λ t. r x || t) more)
     by_kept false is more = more
 
-any_both : {X : Type 0} (p q r : X → Bool) (xs : List X) → ((x : X) → (p x || q x) ≡ r x) → (list_any p xs || list_any q xs) ≡ list_any r xs
+pub any_both : {X : Type 0} (p q r : X → Bool) (xs : List X) → ((x : X) → (p x || q x) ≡ r x) → (list_any p xs || list_any q xs) ≡ list_any r xs
 any_both p q r [] same = refl
 any_both p q r (x ∷ xs) same = across (p x) (list_any p xs) (q x) (list_any q xs) ∙ rw (same x, any_both p q r xs same) refl
   where

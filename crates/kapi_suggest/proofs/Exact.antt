@@ -1,8 +1,9 @@
 -- What is suggested allows what the uses give, and nothing else.
-use Rattle.std.proofs.Common.{◌≡◌, ◌⊎◌, inl, inr, ℕ, Bool, true, false, cond, not, ◌&&◌, ◌||◌, ◌==◌, if◌then◌else◌, List, [], ◌∷◌, ◌++◌, length, Some, None, refl, sym, ap, subst, ◌∙◌}
+use Rattle.std.proofs.Common.{◌≡◌, ◌⊎◌, inl, inr, ℕ, Bool, true, false, cond, not, ◌&&◌, ◌||◌, ◌==◌, if◌then◌else◌, List, [], ◌∷◌, ◌++◌, length, reverse, Some, None, refl, sym, ap, subst, ◌∙◌}
 use Rattle.std.proofs.Math.Dec.{eqb-suc-zero}
 use Rattle.std.proofs.lemmas.Bool.{and_from, and_parts, or_cases, or_left, or_right}
 use Rattle.std.proofs.lemmas.List.Folds.{list_any-append}
+use Rattle.std.proofs.lemmas.List.Sorted.{IsPermutation-reverse, list_any-IsPermutation}
 use Rattle.std.proofs.lemmas.Map.Text.{is_eq-slice_cmp}
 use Rattle.std.specs.BTreeMap.{insert_entry, is_at}
 use Rattle.std.specs.Cmp.{Equal-is, IsTotalOrder}
@@ -32,7 +33,7 @@ use Rattle.kapi_gains.proofs.Elements.{passing}
 use Rattle.kapi_access.proofs.Joined.{together_allows}
 use Rattle.kapi_access.specs.Together.{together}
 use Rattle.kapi_reviews.specs.declared.question.Question.{Question}
-use Rattle.kapi_suggest.specs.Needs.{allows_by, is_implied, needed_at, place_cmp, place_used, suggested, suggested_at, used, used_at, used_everywhere, with_atom, with_use}
+use Rattle.kapi_suggest.specs.Needs.{allows_by, is_implied, needed_at, place_cmp, place_used, suggested, suggested_at, used, used_at, used_everywhere, widest, with_atom, with_use}
 use Rattle.kapi_suggest.specs.Uses.{atom_used, counts, given_by, gives}
 use Rattle.kapi_suggest.specs.declared.place.Place.{Place}
 use Rattle.kapi_suggest.specs.contracts.place.PlaceOrd.TheImpl.Laws as laws
@@ -95,32 +96,27 @@ module _ (p : Point) (plain : HasPlainResource p) where
   idle false true h = h refl
   idle false false h = refl
 
-  without : (x s a : Bool) → (x ≡ true → a ≡ true) → (s || a) ≡ ((x || s) || a)
-  without true s a h = or_right s a (h refl)
-  without false s a h = refl
-
-  -- what an atom implies is not missed beside it
-  kept : (a : Atom) (atoms : List Atom) → (some (filter (λ b. not (implies a b)) atoms) || atom_allows a p) ≡ (some atoms || atom_allows a p)
-  kept a [] = refl
-  kept a (b ∷ atoms) = by_case (implies a b) refl (kept a atoms)
-    where
-      by_case : (t : Bool) → implies a b ≡ t → (some (filter (λ b. not (implies a b)) atoms) || atom_allows a p) ≡ (some atoms || atom_allows a p)
-          → (some (cond (not t) (b ∷ filter (λ b. not (implies a b)) atoms) (filter (λ b. not (implies a b)) atoms)) || atom_allows a p) ≡ ((atom_allows b p || some atoms) || atom_allows a p)
-      by_case true is more = more ∙ without (atom_allows b p) (some atoms) (atom_allows a p) (λ h. implies_allows a b p plain is h)
-      by_case false is more =
-          or_assoc (atom_allows b p) (some (filter (λ b. not (implies a b)) atoms)) (atom_allows a p) ∙ ap (λ t. atom_allows b p || t) more
-          ∙ sym (or_assoc (atom_allows b p) (some atoms) (atom_allows a p))
-
   one_atom : (atoms : List Atom) (a : Atom) → some (with_atom atoms a) ≡ (some atoms || atom_allows a p)
   unfolding with_atom
   one_atom atoms a = by_case (is_implied atoms a) refl
     where
-      by_case : (t : Bool) → is_implied atoms a ≡ t → some (if t then atoms else filter (λ b. not (implies a b)) atoms ++ a ∷ []) ≡ (some atoms || atom_allows a p)
+      by_case : (t : Bool) → is_implied atoms a ≡ t → some (if t then atoms else atoms ++ a ∷ []) ≡ (some atoms || atom_allows a p)
       by_case true is =
           idle (some atoms) (atom_allows a p) (λ h. any_weaker (λ b. implies b a) (λ b. atom_allows b p) atoms (λ b i. implies_allows b a p plain i h) is)
       by_case false is =
-          list_any-append (λ b. atom_allows b p) (filter (λ b. not (implies a b)) atoms) (a ∷ [])
-          ∙ ap (λ t. some (filter (λ b. not (implies a b)) atoms) || t) (or_false (atom_allows a p)) ∙ kept a atoms
+          list_any-append (λ b. atom_allows b p) atoms (a ∷ []) ∙ ap (λ t. some atoms || t) (or_false (atom_allows a p))
+
+  each_atom : (list atoms : List Atom) → some (fold with_atom list atoms) ≡ (some list || some atoms)
+  each_atom list [] = sym (or_false (some list))
+  each_atom list (a ∷ atoms) =
+      each_atom (with_atom list a) atoms ∙ ap (λ t. t || some atoms) (one_atom list a) ∙ or_assoc (some list) (atom_allows a p) (some atoms)
+
+  turned_round : (atoms : List Atom) → some (reverse atoms) ≡ some atoms
+  turned_round atoms = sym (list_any-IsPermutation (λ a. atom_allows a p) atoms (reverse atoms) (IsPermutation-reverse atoms))
+
+  -- what an atom implies is not missed beside it
+  kept : (atoms : List Atom) → some (widest atoms) ≡ some atoms
+  kept atoms = turned_round (fold with_atom [] (reverse atoms)) ∙ each_atom [] (reverse atoms) ∙ turned_round atoms
 
   module _ (identity : Identity) (namespace : List ℕ) where
     -- ---- places and their atoms
@@ -239,11 +235,11 @@ module _ (p : Point) (plain : HasPlainResource p) where
       fewer e h =
           let one = and_parts _ _ h in
           let two = and_parts _ _ one.1 in
-          and_from _ _ one.0 (and_from _ _ two.0 (among (λ a. not (is_implied (used_everywhere list e.0) a)) e.1 two.1))
+          and_from _ _ one.0 (and_from _ _ two.0 (sym (kept e.1) ∙ among (λ a. not (is_implied (used_everywhere list e.0) a)) (widest e.1) two.1))
 
       -- cluster-wide all is needed
-      wide_kept : (e : Place × List Atom) → (length e.0.namespace == 0) ≡ true → needed_at list e ≡ e.1
-      wide_kept e wide = rw wide (all_kept e.1)
+      wide_kept : (e : Place × List Atom) → (length e.0.namespace == 0) ≡ true → needed_at list e ≡ widest e.1
+      wide_kept e wide = rw wide (all_kept (widest e.1))
 
       enough : (e : Place × List Atom) → Has list e → gives_at e.0 e.1 ≡ true → list_any needs list ≡ true
       enough e has h = by_atom a.0 a.1.0 a.1.1 (is_implied (used_everywhere list e.0) a.0) refl
@@ -254,8 +250,8 @@ module _ (p : Point) (plain : HasPlainResource p) where
           two : (counts e.0.namespace namespace ≡ true) × (some e.1 ≡ true)
           two = and_parts _ _ one.1
 
-          a : (a : Atom) × (Has e.1 a × (atom_allows a p ≡ true))
-          a = passing (λ a. atom_allows a p) e.1 two.1
+          a : (a : Atom) × (Has (widest e.1) a × (atom_allows a p ≡ true))
+          a = passing (λ a. atom_allows a p) (widest e.1) (kept e.1 ∙ two.1)
 
           everywhere : (a : Atom) → atom_allows a p ≡ true → is_implied (used_at list (record { user = e.0.user; namespace = [] })) a ≡ true → list_any needs list ≡ true
           everywhere a allowed implied =
@@ -263,18 +259,18 @@ module _ (p : Point) (plain : HasPlainResource p) where
               let at : Place → Type 0 = λ k. gives_at k (needed_at list w.0) ≡ true in
               let wide : (length w.0.0.namespace == 0) ≡ true = ap (λ (k : Place). length k.namespace == 0) w.1.1.0 in
               let there : some (needed_at list w.0) ≡ true =
-              ap some (wide_kept w.0 wide) ∙ any_weaker (λ b. implies b a) (λ b. atom_allows b p) w.0.1 (λ b i. implies_allows b a p plain i allowed) w.1.1.1 in
+              ap some (wide_kept w.0 wide) ∙ kept w.0.1 ∙ any_weaker (λ b. implies b a) (λ b. atom_allows b p) w.0.1 (λ b i. implies_allows b a p plain i allowed) w.1.1.1 in
               some_at needs list w.0 w.1.0 (subst at (sym w.1.1.0) (and_from _ _ one.0 there))
 
           by_place : (a : Atom) → atom_allows a p ≡ true → (c : Bool) → is_implied (if c then [] else used_at list (record { user = e.0.user; namespace = [] })) a ≡ true → list_any needs list ≡ true
           by_place a allowed true is = absurd (cc is)
           by_place a allowed false is = everywhere a allowed is
 
-          by_atom : (a : Atom) → Has e.1 a → atom_allows a p ≡ true → (t : Bool) → is_implied (used_everywhere list e.0) a ≡ t → list_any needs list ≡ true
+          by_atom : (a : Atom) → Has (widest e.1) a → atom_allows a p ≡ true → (t : Bool) → is_implied (used_everywhere list e.0) a ≡ t → list_any needs list ≡ true
           by_atom a there allowed true is = by_place a allowed (length e.0.namespace == 0) is
           by_atom a there allowed false is =
               some_at needs list e has (and_from _ _ one.0 (and_from _ _ two.0 (some_at (λ a. atom_allows a p) (needed_at list e) a
-              (has_kept (λ a. not (is_implied (used_everywhere list e.0) a)) e.1 a there (ap not is)) allowed)))
+              (has_kept (λ a. not (is_implied (used_everywhere list e.0) a)) (widest e.1) a there (ap not is)) allowed)))
 
       needed_enough : list_any needs list ≡ some_place list
       needed_enough =

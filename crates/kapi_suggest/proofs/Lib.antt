@@ -6,3 +6,4 @@ pub mod Floatless
 pub mod Targets
 pub mod Shows
 pub mod Plain
+pub mod Keyed

@@ -4,3 +4,4 @@ pub mod Printed
 pub mod Policies
 pub mod Events
 pub mod Idle
+pub mod Private

@@ -1,5 +1,5 @@
 -- The least for what was used: for each user and place the rules of the atoms that were used there.
-use Rattle.std.specs.Prelude.{ℕ, ◌==◌, Bool, not, ◌&&◌, if◌then◌else◌, List, [], ◌∷◌, ◌++◌, length}
+use Rattle.std.specs.Prelude.{ℕ, ◌==◌, Bool, not, ◌&&◌, if◌then◌else◌, List, [], ◌∷◌, ◌++◌, length, reverse}
 use Rattle.std.specs.BTreeMap.{insert_entry, is_at}
 use Rattle.std.specs.Cmp.Lexicographic.{slice_cmp}
 use Rattle.std.specs.List.{filter, flat_map, fold, list_any}
@@ -28,15 +28,19 @@ place_cmp a b = ordering_then (slice_cmp nat_cmp a.user b.user) (slice_cmp nat_c
 abbrev pub is_implied : List Atom → Atom → Bool
 is_implied atoms a = list_any (λ b. implies b a) atoms
 
--- the atoms with one more: unless one implies it, and without those that it implies
+-- the atoms with one more, unless one implies it
 unfoldable pub with_atom : List Atom → Atom → List Atom
-with_atom atoms a = if is_implied atoms a then atoms else filter (λ b. not (implies a b)) atoms ++ a ∷ []
+with_atom atoms a = if is_implied atoms a then atoms else atoms ++ a ∷ []
+
+-- the atoms that none behind them implies
+abbrev pub widest : List Atom → List Atom
+widest atoms = reverse (fold with_atom [] (reverse atoms))
 
 -- who used it, and in which namespace
 abbrev pub place_used : Question → Place
 place_used u = record { user = u.identity.user; namespace = u.namespace }
 
--- what was used at a place so far
+-- what was used at a place so far: no atom implies a later one
 abbrev pub used_at : List (Place × List Atom) → Place → List Atom
 used_at list place = unwrap_or (lookup (is_at (place_cmp place)) list) []
 
@@ -56,7 +60,7 @@ used_everywhere list place = if length place.namespace == 0 then [] else used_at
 
 -- the atoms that a place needs: in a namespace only what the user has not everywhere
 abbrev pub needed_at : List (Place × List Atom) → Place × List Atom → List Atom
-needed_at list e = filter (λ a. not (is_implied (used_everywhere list e.0) a)) e.1
+needed_at list e = filter (λ a. not (is_implied (used_everywhere list e.0) a)) (widest e.1)
 
 -- the rules for a place, if it needs any
 abbrev pub suggested_at : List (Place × List Atom) → Place × List Atom → List Suggested

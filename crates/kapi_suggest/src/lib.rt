@@ -9,6 +9,7 @@ mod needs;
 mod place;
 mod printed;
 mod suggested;
+mod used;
 
 pub use event::{Shown, read_event, read_events};
 pub use idle::{Unused, allowed_uses, unused_rules};

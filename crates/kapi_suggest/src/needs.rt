@@ -1,16 +1,16 @@
 //! What was used at each place, and the rules that this takes.
-ghost use Rattle.std.specs.Prelude.{◌≡◌, ◌++◌, [], not, IfOk, OnOk};
-ghost use Rattle.std.specs.List.{filter, flat_map};
+ghost use Rattle.std.specs.Prelude.{◌≡◌, ◌++◌, [], not, reverse, IfOk, OnOk};
+ghost use Rattle.std.specs.List.{filter, flat_map, fold};
 ghost use Rattle.std.specs.Option.{unwrap_or};
-ghost use Rattle.kapi_rules.specs.Atoms.{implies as implies_of};
 ghost use Rattle.kapi_suggest.specs.Needs as least;
 ghost use Rattle.kapi_suggest.specs.Uses as using_of;
 
 use crate::place::Place;
 use crate::suggested::Suggested;
+use crate::used::UsedAtoms;
 use kapi_access::together;
 use kapi_reviews::Question;
-use kapi_rules::{Atom, Names, Point, UrlAtom, implies, resource_atom};
+use kapi_rules::{Atom, Names, Point, UrlAtom, resource_atom};
 use kapi_text::{Memory, Sequence, Text, TryCopy};
 use std::alloc::Global;
 use std::collections::BTreeMap;
@@ -52,36 +52,37 @@ fn atom_used(alloc: Global, request: &Point) -> Result<Atom, Memory>
     }
 }
 
-fn is_implied(atoms: &[Atom], atom: &Atom) -> bool
-    ensures { result ≡ least.is_implied atoms.now atom.now }
-{
-    atoms.iter().any(|other| implies(other, atom))
-}
-
-/// The atoms that this one does not imply.
-fn not_implied(alloc: Global, atoms: Vec<Atom>, by: &Atom) -> Result<Vec<Atom>, Memory>
-    ensures { IfOk result (λ v. v.items ≡ filter (λ b. not (implies_of by.now b)) atoms.items) }
-{
-    let mut kept = Vec::new(alloc);
-    for atom in atoms {
-        if !implies(by, &atom) {
-            kept.push(atom)?;
-        }
-    }
-    Ok(kept)
-}
-
-/// The atoms with one more: unless one implies it, and without those that it implies.
+/// The atoms with one more, unless one implies it.
 #[tactic(auto, unfolding(crate::specs::Needs::with_atom))]
-fn with_atom(alloc: Global, atoms: Vec<Atom>, atom: Atom) -> Result<Vec<Atom>, Memory>
-    ensures { IfOk result (λ v. v.items ≡ least.with_atom atoms.items atom) }
+fn with_atom(alloc: Global, atoms: UsedAtoms, atom: Atom) -> Result<UsedAtoms, Memory>
+    ensures { IfOk result (λ u. u ≡ least.with_atom atoms atom) }
 {
-    if is_implied(atoms.as_slice(), &atom) {
+    if atoms.imply(alloc, &atom)? {
         return Ok(atoms);
     }
-    let mut kept = not_implied(alloc, atoms, &atom)?;
-    kept.push(atom)?;
+    atoms.with(alloc, atom)
+}
+
+/// The atoms that none before them implies.
+fn each_new(alloc: Global, atoms: Vec<Atom>) -> Result<UsedAtoms, Memory>
+    ensures { IfOk result (λ u. u ≡ fold least.with_atom [] atoms.items) }
+{
+    let mut kept = UsedAtoms::new(alloc);
+    for atom in atoms {
+        kept = with_atom(alloc, kept, atom)?;
+    }
     Ok(kept)
+}
+
+/// The atoms that none behind them implies.
+fn widest(alloc: Global, atoms: &UsedAtoms) -> Result<Vec<Atom>, Memory>
+    ensures { IfOk result (λ v. v.items ≡ least.widest atoms.now) }
+{
+    let mut atoms = atoms.copies(alloc)?;
+    atoms.reverse();
+    let mut widest = each_new(alloc, atoms)?.into_vec();
+    widest.reverse();
+    Ok(widest)
 }
 
 // ---- places
@@ -95,19 +96,19 @@ fn place_used(alloc: Global, used: &Question) -> Result<Place, Memory>
     })
 }
 
-fn items_of(alloc: Global, found: Option<Sequence<Atom>>) -> Vec<Atom>
-    ensures { result.items ≡ unwrap_or found [] }
+fn atoms_in(alloc: Global, found: Option<UsedAtoms>) -> UsedAtoms
+    ensures { result ≡ unwrap_or found [] }
 {
     match found {
-        Some(list) => list.into_vec(),
-        None => Vec::new(alloc),
+        Some(atoms) => atoms,
+        None => UsedAtoms::new(alloc),
     }
 }
 
 #[tactic(auto, unfolding(crate::specs::Needs::with_use))]
 fn add_use(
     alloc: Global,
-    list: &mut BTreeMap<Place, Sequence<Atom>>,
+    list: &mut BTreeMap<Place, UsedAtoms>,
     used: &Question,
 ) -> Result<(), Memory>
     ensures { OnOk result (list.new.entries ≡ least.with_use list.old.entries used.now) }
@@ -117,16 +118,13 @@ fn add_use(
     }
     let place = place_used(alloc, used)?;
     let atom = atom_used(alloc, &used.point)?;
-    let atoms = items_of(alloc, list.remove(&place));
+    let atoms = atoms_in(alloc, list.remove(&place));
     let atoms = with_atom(alloc, atoms, atom)?;
-    drop(list.insert(place, Sequence::new(atoms))?);
+    drop(list.insert(place, atoms)?);
     Ok(())
 }
 
-fn used_at_places(
-    alloc: Global,
-    uses: &[Question],
-) -> Result<BTreeMap<Place, Sequence<Atom>>, Memory>
+fn used_at_places(alloc: Global, uses: &[Question]) -> Result<BTreeMap<Place, UsedAtoms>, Memory>
     ensures { IfOk result (λ m. m.entries ≡ least.used uses.now) }
 {
     let mut list = BTreeMap::new(alloc);
@@ -138,56 +136,65 @@ fn used_at_places(
 
 // ---- what is needed
 
-fn atoms_at<'a>(list: &'a BTreeMap<Place, Sequence<Atom>>, place: &Place) -> &'a [Atom]
-    ensures { result.now ≡ least.used_at list.now.entries place.now }
-{
-    match list.get(place) {
-        Some(atoms) => atoms.as_slice(),
-        None => &[],
-    }
-}
-
 /// What the user of a place in a namespace used cluster-wide.
 fn used_everywhere<'a>(
     alloc: Global,
-    list: &'a BTreeMap<Place, Sequence<Atom>>,
+    list: &'a BTreeMap<Place, UsedAtoms>,
     place: &Place,
-) -> Result<&'a [Atom], Memory>
-    ensures { IfOk result (λ s. s.now ≡ least.used_everywhere list.now.entries place.now) }
+    nothing: &'a UsedAtoms,
+) -> Result<&'a UsedAtoms, Memory>
+    requires { nothing.now ≡ [] }
+    ensures { IfOk result (λ u. u.now ≡ least.used_everywhere list.now.entries place.now) }
 {
     if place.namespace.as_str().is_empty() {
-        return Ok(&[]);
+        return Ok(nothing);
     }
     let everywhere = Place {
         user: place.user.copy(alloc)?,
         namespace: Text::copy_of(alloc, "")?,
     };
-    Ok(atoms_at(list, &everywhere))
+    match list.get(&everywhere) {
+        Some(atoms) => Ok(atoms),
+        None => Ok(nothing),
+    }
 }
 
-fn without_implied(alloc: Global, atoms: &[Atom], by: &[Atom]) -> Result<Vec<Atom>, Memory>
-    ensures { IfOk result (λ v. v.items ≡ filter (λ a. not (least.is_implied by.now a)) atoms.now) }
+fn without_implied(alloc: Global, atoms: Vec<Atom>, by: &UsedAtoms) -> Result<Vec<Atom>, Memory>
+    ensures { IfOk result (λ v. v.items ≡ filter (λ a. not (least.is_implied by.now a)) atoms.items) }
 {
     let mut kept = Vec::new(alloc);
     for atom in atoms {
-        if !is_implied(by, atom) {
-            kept.push(atom.copy(alloc)?)?;
+        if !by.imply(alloc, &atom)? {
+            kept.push(atom)?;
         }
     }
     Ok(kept)
 }
 
+/// The atoms that a place needs, given those that were used there.
+fn needed_at(
+    alloc: Global,
+    list: &BTreeMap<Place, UsedAtoms>,
+    place: &Place,
+    atoms: &UsedAtoms,
+) -> Result<Vec<Atom>, Memory>
+    ensures { IfOk result (λ v. v.items ≡ least.needed_at list.now.entries (place.now, atoms.now)) }
+{
+    let nothing = UsedAtoms::new(alloc);
+    let everywhere = used_everywhere(alloc, list, place, &nothing)?;
+    without_implied(alloc, widest(alloc, atoms)?, everywhere)
+}
+
 fn push_suggested(
     alloc: Global,
     suggested: &mut Vec<Suggested>,
-    list: &BTreeMap<Place, Sequence<Atom>>,
+    list: &BTreeMap<Place, UsedAtoms>,
     place: &Place,
-    atoms: &[Atom],
+    atoms: &UsedAtoms,
 ) -> Result<(), Memory>
     ensures { OnOk result (suggested.new.items ≡ suggested.old.items ++ least.suggested_at list.now.entries (place.now, atoms.now)) }
 {
-    let everywhere = used_everywhere(alloc, list, place)?;
-    let needed = without_implied(alloc, atoms, everywhere)?;
+    let needed = needed_at(alloc, list, place, atoms)?;
     if needed.is_empty() {
         return Ok(());
     }
@@ -199,13 +206,13 @@ fn push_suggested(
 
 fn suggested_at_places(
     alloc: Global,
-    list: &BTreeMap<Place, Sequence<Atom>>,
+    list: &BTreeMap<Place, UsedAtoms>,
 ) -> Result<Vec<Suggested>, Memory>
     ensures { IfOk result (λ v. v.items ≡ flat_map (least.suggested_at list.now.entries) list.now.entries) }
 {
     let mut suggested = Vec::new(alloc);
     for (place, atoms) in list {
-        push_suggested(alloc, &mut suggested, list, place, atoms.as_slice())?;
+        push_suggested(alloc, &mut suggested, list, place, atoms)?;
     }
     Ok(suggested)
 }
