@@ -2,7 +2,7 @@
 
 usage: python3 -m bench.library PROGRAM [FOLDER]     the folder that `make library PREFIX=..` wrote, out/library if left out; wants cc
 
-Each binding gives a user of its own a role: in one of 100 namespaces, or cluster-wide. Half of the questions are allowed. The program is not run.
+Each binding gives a user of its own a role: in one of 100 or 10 namespaces, or cluster-wide. Half of the questions are allowed. The program is not run.
 """
 import json
 import pathlib
@@ -13,7 +13,7 @@ import tempfile
 from bench.policies import NAMESPACES, policy
 
 RBAC = "rbac.authorization.k8s.io"
-SIZES = [(10, NAMESPACES), (1_000, NAMESPACES), (100_000, NAMESPACES), (1_000, 0), (100_000, 0)]
+SIZES = [(10, NAMESPACES), (1_000, NAMESPACES), (1_000, 10), (100_000, NAMESPACES), (1_000, 0), (100_000, 0)]
 QUESTIONS, SECONDS = 2_000, 1
 
 
@@ -40,7 +40,7 @@ def where(count, spaces):
 def write(room, count, spaces, questions=QUESTIONS):
     """The files of a policy and of questions."""
     objects, asked = room / "objects", room / "questions"
-    (policy if spaces else cluster_wide)(objects, count)
+    policy(objects, count, spaces) if spaces else cluster_wide(objects, count)
     ask(asked, count, spaces, questions)
     return objects, asked
 

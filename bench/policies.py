@@ -15,13 +15,13 @@ ROLE = {"kind": "Role", "apiVersion": "rbac.authorization.k8s.io/v1", "rules": [
 BINDING = {"kind": "RoleBinding", "apiVersion": "rbac.authorization.k8s.io/v1", "roleRef": {"kind": "Role", "name": "reader"}}
 
 
-def policy(file, count):
-    """Writes a policy of so many bindings."""
-    spaces = [f"n{it}" for it in range(NAMESPACES)]
+def policy(file, count, namespaces=NAMESPACES):
+    """Writes a policy of so many bindings in so many namespaces."""
+    spaces = [f"n{it}" for it in range(namespaces)]
     objects = [{"apiVersion": "v1", "kind": "Namespace", "metadata": {"name": it}} for it in spaces]
     objects += [{**ROLE, "metadata": {"name": "reader", "namespace": it}} for it in spaces]
     objects += [
-        {**BINDING, "metadata": {"name": f"b{it:06}", "namespace": spaces[it % NAMESPACES]}, "subjects": [{"kind": "User", "name": f"user{it}"}]} for it in range(count)
+        {**BINDING, "metadata": {"name": f"b{it:06}", "namespace": spaces[it % namespaces]}, "subjects": [{"kind": "User", "name": f"user{it}"}]} for it in range(count)
     ]
     file.write_text("".join(json.dumps(it) + "\n" for it in objects), encoding="utf-8")
 
