@@ -5,4 +5,4 @@ pub mod Numbering
 pub mod Binding
 pub mod Asking
 pub mod Printing
-pub mod Kinds
+pub mod Parts

@@ -1,6 +1,6 @@
 -- The rights by which one becomes somebody else (Kubernetes, 'Role Based Access Control Good Practices', 'Privilege escalation
 -- risks', which the sentences are from).
-use Rattle.std.specs.Prelude.{ℕ, List, [], ◌∷◌, ◌++◌, map, Bool, not, codes}
+use Rattle.std.specs.Prelude.{ℕ, List, [], ◌∷◌, ◌++◌, map, Bool, not, ◌||◌, codes}
 use Rattle.std.specs.List.{filter, flat_map, list_any}
 use Rattle.std.specs.Str.{bytes_eq}
 use Rattle.kapi_paths.specs.declared.right.Group.{Group as GroupOfCode}
@@ -137,7 +137,7 @@ is_of_kind word g = bytes_eq g.kind word
 
 -- some rights of the table are of that kind
 abbrev pub is_kind : List ℕ → Bool
-is_kind word = list_any (is_of_kind word) groups
+is_kind word = list_any (is_of_kind word) cluster_groups || list_any (is_of_kind word) account_groups || list_any (is_of_kind word) person_groups
 
 -- the rights are of no kind that is left out
 abbrev pub is_kept : List (List ℕ) → Group → Bool

@@ -320,19 +320,23 @@ pub fn rights_without(alloc: Global, without: &[Text]) -> Result<Vec<Right>, Mem
     Ok(list)
 }
 
-#[tactic(auto, using(crate::proofs::Kinds::any_of_views))]
+fn names_kind(groups: &[Group], word: &str) -> bool
+    ensures { result ≡ list_any (λ g. bytes_eq g.kind.now word.now) groups.now }
+{
+    groups.iter().any(|group| group.kind == word)
+}
+
 fn has_kind(groups: &[Group], word: &str) -> bool
     ensures { result ≡ list_any (table.is_of_kind word.now) (map group_of groups.now) }
 {
-    groups.iter().any(|group| group.kind == word)
+    names_kind(groups, word)
 }
 
 /// Whether some right of the table is of the kind.
 pub fn is_kind(word: &str) -> bool
     ensures { result ≡ table.is_kind word.now }
 {
-    let on_all = has_kind(&cluster_groups(), word);
-    let on_accounts = has_kind(&account_groups(), word);
-    let on_persons = has_kind(&person_groups(), word);
-    on_all || on_accounts || on_persons
+    has_kind(&cluster_groups(), word)
+        || has_kind(&account_groups(), word)
+        || has_kind(&person_groups(), word)
 }
