@@ -1,9 +1,10 @@
 -- Answers about the policies of files.
-use Rattle.std.specs.Prelude.{ℕ, ◌==◌, not, Bool, true, false, List, ◌++◌, length, Option, Some, None, Result, Ok, Err}
+use Rattle.std.specs.Prelude.{◌≡◌, ℕ, ◌==◌, not, Bool, true, false, List, ◌++◌, length, Option, Some, None, Result, Ok, Err}
 use Rattle.kapi_text.specs.Gives.{◌>>=◌}
 use Rattle.kapi_lines.specs.Lines.{lines_of}
 use Rattle.kapi_loading.specs.Faults.{FileFault, bad_line}
 use Rattle.kapi_engine.specs.Engines.{engine_of}
+use Rattle.kapi_engine.specs.Paths.{IsPathsText}
 use Rattle.kapi_engine.specs.declared.engine.Engine.{Engine}
 use Rattle.kapi_access.specs.Gained.{gained}
 use Rattle.kapi_access.specs.declared.identities.Identities.{Identities}
@@ -15,6 +16,7 @@ use Rattle.kapi_access.specs.declared.answer.Form.{Form}
 use Rattle.kapi_access.specs.declared.answer.Shown.{Shown}
 use Rattle.kapi_access.specs.declared.question.Wanted.{Wanted}
 use Rattle.kapi_access.specs.declared.rights.Holder.{Holder}
+use Rattle.kapi.specs.Asked.{Paths}
 use Rattle.kapi.specs.declared.policies.Answered.{Answered}
 use Rattle.kapi.specs.declared.policies.Compared.{Compared}
 use Rattle.kapi.specs.declared.policies.FilesFault.{FilesFault}
@@ -86,7 +88,7 @@ comparison f s who b a = record {
 abbrev pub compared_to : Form → Shown → Identities → Engine → Result Engine FileFault → Result Comparison FilesError
 compared_to f s who b second = as_second second >>= λ a. Ok (comparison f s who b a)
 
--- the comparison of the policies that two files are
+-- the comparison of the policies in two files
 unfoldable pub compare_files : Form → Shown → Identities → List ℕ → List ℕ → Result Comparison FilesError
 compare_files f s who before after = as_first (engine_of before) >>= λ b. compared_to f s who b (engine_of after)
 
@@ -112,7 +114,7 @@ answered_told a = record { text = a.text.items; settled = a.settled }
 abbrev pub who_on : Form → Wanted → Engine → Reply
 who_on f w e = record { text = who_text f e.policy w; settled = e.settled }
 
--- who may do what is asked, by the policy that a file is
+-- who may do what is asked, by the policy in a file
 unfoldable pub who_wanted : Form → List ℕ → Wanted → Result Reply FilesError
 who_wanted f objects w = as_first (engine_of objects) >>= λ e. Ok (who_on f w e)
 
@@ -125,7 +127,7 @@ as_question (Err (no_question n)) = Err (question_line n)
 abbrev pub lines_on : Form → List ℕ → Engine → Result Reply FilesError
 lines_on f questions e = as_question (answered_lines f e.policy (lines_of questions)) >>= λ text. Ok (record { text = text; settled = e.settled })
 
--- who may do what each line of a file asks, by the policy that another file is
+-- who may do what each line of a file asks, by the policy in another file
 unfoldable pub who_file : Form → List ℕ → List ℕ → Result Reply FilesError
 who_file f objects questions = as_first (engine_of objects) >>= λ e. lines_on f questions e
 
@@ -133,7 +135,7 @@ who_file f objects questions = as_first (engine_of objects) >>= λ e. lines_on f
 abbrev pub what_on : Form → Holder → Engine → Reply
 what_on f h e = record { text = what_text f e.policy h; settled = e.settled }
 
--- what a user has by the policy that a file is
+-- what a user has by the policy in a file
 unfoldable pub what_file : Form → List ℕ → Holder → Result Reply FilesError
 what_file f objects h = as_first (engine_of objects) >>= λ e. Ok (what_on f h e)
 
@@ -144,3 +146,11 @@ risks_on f e = record { text = ways_text f (risks e.policy) ++ settled_line f e.
 -- who may gain more than the policy of a file grants, and what holds of all others
 unfoldable pub risks_file : Form → List ℕ → Result Reply FilesError
 risks_file f objects = as_first (engine_of objects) >>= λ e. Ok (risks_on f e)
+
+-- whether the roles of the policy of a file are settled
+unfoldable pub settled_file : List ℕ → Result Bool FilesError
+settled_file objects = as_first (engine_of objects) >>= λ e. Ok e.settled
+
+-- the text is that of who can become whom by the policy that a file is
+abbrev pub ArePaths : Paths → List ℕ → List ℕ → Type 0
+ArePaths asked objects text = (e : Engine) → as_first (engine_of objects) ≡ Ok e → IsPathsText e asked.ask.form asked.to asked.without text

@@ -1,10 +1,11 @@
 //! Answers about the policies of files.
-ghost use Rattle.std.specs.Prelude.{◌≡◌, Result, IfOk};
+ghost use Rattle.std.specs.Prelude.{◌≡◌, Result, IfOk, map, string_bytes};
 ghost use Rattle.kapi_text.specs.Gives.{Gives};
 ghost use Rattle.kapi_loading.specs.Faults as loading;
 ghost use Rattle.kapi_loading.specs.Faults.{FileFault};
 ghost use Rattle.kapi_engine.specs.Engines.{engine_of};
 ghost use Rattle.kapi_engine.specs.declared.engine.Engine.{Engine as AnEngine};
+ghost use Rattle.kapi.specs.Asked.{paths_told};
 ghost use Rattle.kapi.specs.Policies as files;
 ghost use Rattle.kapi.specs.Policies.{answered_told, as_first, compared_to, compared_told, comparison, fault_told};
 
@@ -174,7 +175,7 @@ pub fn compare_files<R: Threads + Sync>(
 
 // ---- who may do something
 
-/// Who may do what the words ask, by the policy that a file is.
+/// Who may do what the words ask, by the policy in a file.
 ///
 /// # Errors
 /// `First` at the first line that is not loaded, `Memory` if an allocation fails.
@@ -222,11 +223,11 @@ fn who_lines(
     }
 }
 
-/// Who may do what each line of a file asks, by the policy that another is.
+/// Answers each line of a file of questions, who may do something, by the policy in another file.
 ///
 /// # Errors
-/// `First` at the first line that is not loaded, else `Question` at the first that is no question, `Memory` if an
-/// allocation fails.
+/// `First` at the first line of the policy that is not loaded, else `Question` at the first line which is no question,
+/// `Memory` if an allocation fails.
 pub fn who_file(
     alloc: Global,
     form: Form,
@@ -241,7 +242,7 @@ pub fn who_file(
 
 // ---- what a user has, and risks
 
-/// What a user has by the policy that a file is.
+/// What a user has by the policy in a file.
 ///
 /// # Errors
 /// `First` at the first line that is not loaded, `Memory` if an allocation fails.
@@ -278,7 +279,9 @@ pub fn risks_file(alloc: Global, form: Form, objects: &[u8]) -> Result<Answered,
 
 // ---- paths
 
-fn texts_of(alloc: Global, texts: &[String]) -> Result<Vec<Text>, Memory> {
+fn texts_of(alloc: Global, texts: &[String]) -> Result<Vec<Text>, Memory>
+    ensures { IfOk result (λ v. v.items ≡ map string_bytes texts.now) }
+{
     let mut list = Vec::new(alloc);
     for text in texts {
         list.push(Text::copy_of(alloc, text.as_str())?)?;
@@ -290,11 +293,10 @@ fn texts_of(alloc: Global, texts: &[String]) -> Result<Vec<Text>, Memory> {
 ///
 /// # Errors
 /// `First` at the first line that is not loaded, `Memory` if an allocation fails.
-pub fn paths_file(
-    alloc: Global,
-    words: &PathsWords,
-    objects: &[u8],
-) -> Result<Answered, FilesFault> {
+pub fn paths_file(alloc: Global, words: &PathsWords, objects: &[u8]) -> Result<Answered, FilesFault>
+    ensures settled { Gives fault_told (λ a. a.settled) result (files.settled_file objects.now) }
+    ensures text { IfOk result (λ a. files.ArePaths (paths_told words.now) objects.now a.text.items) }
+{
     let engine = load_first(alloc, objects)?;
     let without = texts_of(alloc, words.without.as_slice())?;
     let text = engine.paths(

@@ -1,4 +1,4 @@
--- The subcommand that clap entered is the one that is asked for.
+-- The subcommand entered by clap is the requested one.
 use Rattle.std.proofs.Common.{◌≡◌, option_and_then, subst, sym}
 use Rattle.clap.specs.Matches.{found_of}
 use Rattle.clap.specs.Simple.{subcommand_rows_of}
