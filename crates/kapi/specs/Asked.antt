@@ -30,7 +30,7 @@ use Rattle.kapi.specs.declared.program.Reading.{Reading}
 use Rattle.kapi.specs.declared.program.ReplayOptions.{ReplayOptions}
 use Rattle.kapi.specs.declared.program.ServeOptions.{ServeOptions}
 
--- how the files of a policy are read as manifests: files that are read as one with it, whether the default roles stand
+-- how the files of a policy are read as manifests: the files read as one with it, whether the default roles stand
 -- beneath, the namespace of objects that name none, and whether a doubt ends with status 1
 pub record Manifests : Type 0 where
   pub with : List Text
@@ -38,8 +38,8 @@ pub record Manifests : Type 0 where
   pub namespace : Text
   pub strict : Bool
 
--- the files of an audit, by their names, whether the questions are an audit log, whether JSON is printed, how the policy is read
--- if it is manifests, the files of the kinds of lines, and how many threads answer
+-- the files of an audit, by their names, whether the questions are an audit log, whether JSON is printed, how the
+-- policy is read if it is manifests, the files of the kinds of lines, and how many threads answer
 pub record Files : Type 0 where
   pub policy : Text
   pub questions : Text
@@ -49,9 +49,9 @@ pub record Files : Type 0 where
   pub manifests : Option Manifests
   pub readers : ℕ
 
--- the files of kinds of a server, the file that it loads, or the manifests in its place, the revision after which its own begin (none: the clock gives it), whether the rights
--- of watches are rechecked, the ports that it serves, the port on which questions are answered, by how many threads, and
--- whether that number is given without the port
+-- the arguments of `kapi serve`: the files of kinds, the file to load, or the manifests in its place, the revision
+-- after which the server's begin (none: the clock gives it), whether the rights of watches are rechecked, the ports to
+-- serve, the port for questions, how many threads answer them, and whether that number is given without the port
 pub record Options : Type 0 where
   pub kinds : List Text
   pub load : Option Text
@@ -63,8 +63,8 @@ pub record Options : Type 0 where
   pub readers : ℕ
   pub idle_readers : Bool
 
--- the transcripts that are played, by their names, whether they are written, whether a doubt fails, and the file that the outcomes
--- are written to
+-- the transcripts to play, by their names, whether they are rewritten, whether a doubt fails, and the file to which the
+-- outcomes are written
 pub record Transcripts : Type 0 where
   pub files : List Text
   pub write : Bool
@@ -77,8 +77,8 @@ pub record Ask : Type 0 where
   pub reading : Manifests
   pub form : Form
 
--- the policies that are compared: the earlier by the name of its file, whether for identities with their usual groups, whether
--- by atoms, and whether the two change places
+-- the policies that are compared: the earlier by the name of its file, whether for identities with their usual groups,
+-- whether by atoms, and whether the two change places
 pub record Policies : Type 0 where
   pub before : Text
   pub after : Ask
@@ -104,20 +104,20 @@ pub record Who : Type 0 where
   pub ask : Ask
   pub question : Question
 
--- the user of whom it is asked what they have, in those groups, by a policy
+-- the arguments of `kapi what`: the policy, the user, and the groups of the user
 pub record What : Type 0 where
   pub ask : Ask
   pub user : Text
   pub groups : List Text
 
--- the policy that is asked who can become whom, to whom, and the kinds of rights that are left out
+-- the arguments of `kapi paths`: the policy, to whom the paths lead, and the kinds of rights to leave out
 pub record Paths : Type 0 where
   pub ask : Ask
   pub to : Text
   pub without : List Text
 
--- the file of what was used, whether it is an audit log, the policy that may allow it, by the names of their files, how it is
--- read, and whether one list is printed
+-- the file of what was used, whether it is an audit log, the policy that may allow it, by the names of their files, how
+-- it is read, and whether one list is printed
 pub record Uses : Type 0 where
   pub uses : Text
   pub log : Bool
@@ -125,7 +125,7 @@ pub record Uses : Type 0 where
   pub reading : Manifests
   pub list : Bool
 
--- one of the programs with its arguments, or a text of that kind
+-- a subcommand with its arguments, or a text to show: help or the version
 pub data Asked : Type 0 where
   Script : List Text → Asked
   Audit : Files → Asked
@@ -147,7 +147,7 @@ abbrev pub is_true : Option Text → Bool
 is_true None = false
 is_true (Some value) = bytes_eq value (codes "true")
 
--- how manifests are read, with the files that the option of that name names
+-- how manifests are read; `with` has the values of the option called `files`
 abbrev pub reading_by : Text → List Row → Manifests
 reading_by files rows = record {
   with = unwrap_or (all_of files rows) [];
@@ -166,8 +166,8 @@ has_reading rows =
     is_some (first_of (codes "with") rows) || (is_true (first_of (codes "with-defaults") rows)
     || (is_some (first_of (codes "namespace") rows) || is_true (first_of (codes "strict") rows)))
 
--- how the manifests of an audit are read, as those of an audit log are; none if its policy is lines, for which no word says how to
--- read them
+-- how the policy of an audit is read, if it is manifests, as it always is for an audit log; if the policy is lines,
+-- options on reading manifests are refused
 abbrev pub audited_in : List Row → Option (Option Manifests)
 audited_in rows =
     if is_true (first_of (codes "manifests") rows) || is_true (first_of (codes "log") rows) then Some (Some (reading_by (codes "with") rows))
@@ -191,7 +191,7 @@ readers_or_two (Some digits) = readers_of digits
 abbrev pub readers_in : List Row → Option ℕ
 readers_in rows = readers_or_two (first_of (codes "readers") rows)
 
--- a number of readers is specified, and no port on which they would answer
+-- a number of readers is specified without a port for questions
 abbrev pub are_idle : List Row → Bool
 are_idle rows = is_some (first_of (codes "readers") rows) && not (is_some (first_of (codes "answer") rows))
 
@@ -275,7 +275,7 @@ form_or_table (Some name) = form_named name
 abbrev pub form_in : List Row → Option Form
 form_in rows = if is_true (first_of (codes "json") rows) then Some form.Json else form_or_table (first_of (codes "format") rows)
 
--- the policy of that name that parsed rows ask about
+-- the policy to ask, which the argument called `name` gives, how it is read, and what is printed
 abbrev pub asking_in : Text → List Row → Option Ask
 asking_in name rows = do
   policy ← first_of name rows
@@ -522,7 +522,8 @@ abbrev pub Names : List Text → Command → Type 0
 Names words (command.Show text) = Shows words (kind_of text)
 Names words c = asked words ≡ Some (told c)
 
--- what was read is what is given, under its view, and the words are wrong if nothing is; out of memory says nothing
+-- the value that was read is the given one, under its view; the words are wrong if none is given; out of memory says
+-- nothing
 abbrev pub Reads : {X Y : Type 0} → (X → Y) → Result X CommandFault → Option Y → Type 0
 Reads view (Ok x) given = given ≡ Some (view x)
 Reads view (Err fault.Words) given = given ≡ None

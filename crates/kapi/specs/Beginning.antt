@@ -17,12 +17,13 @@ abbrev pub first_given : Option ℕ → ℕ → Option ℕ
 first_given (Some first) milliseconds = Some first
 first_given None milliseconds = clock_revision milliseconds
 
--- the machine that objects make beside those that every server begins with, or in their place
+-- the machine made from objects next to the ones that every server begins with, or in their place
 abbrev pub machine_with : List ResourceRow → ℕ → Objects → Result Machine FileFault
 machine_with table first (objects.Lines lines) = machine_from table first lines.now
 machine_with table first (objects.Alone lines) = machine_alone table first lines.now
 
--- the machine behind that revision, or why none is; if there is no such revision, just the absence
+-- the machine begins after the first revision, or does not for the reason given; without a first revision the clock is
+-- the reason
 abbrev pub Begins : Result Started BeginError → Option ℕ → (ℕ → Result Machine FileFault) → Type 0
 Begins (Ok s) (Some first) machine = Starts (Ok s) (machine first)
 Begins (Err (error.Start e)) (Some first) machine = Starts (Err e) (machine first)

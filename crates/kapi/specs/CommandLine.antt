@@ -48,7 +48,7 @@ json = flag (codes "json")
 abbrev pub strict : Rule
 strict = flag (codes "strict")
 
--- a program that reads the files of a policy besides those that it names
+-- a subcommand with `--with` and `--with-defaults`: further files of a policy, and the default roles
 abbrev pub beside : Text → App
 beside name = with_rule (with_rule (new_app name) (files (codes "with"))) (flag (codes "with-defaults"))
 
@@ -68,7 +68,7 @@ audit = with_rule (with_rule (with_rule (with_rule audited readers) (flag (codes
 abbrev pub served : App
 served = with_rule (with_rule (with_rule (new_app (codes "serve")) kinds) (files (codes "manifests"))) (flag (codes "with-defaults"))
 
--- `kapi serve` with the options that say more of these, and of its ports
+-- `kapi serve` with `--namespace` and `--free-ports` too
 abbrev pub opened : App
 opened = with_rule (with_rule served (option (codes "namespace"))) (flag (codes "free-ports"))
 
@@ -163,7 +163,7 @@ abbrev pub machines : App
 machines =
     with_subcommand (with_subcommand (with_subcommand (with_subcommand (on_top (λ s. record s { has_version = true; subcommand_required = true }) (new_app (codes "kapi"))) script.top) audit.top) serve.top) replay.top
 
--- with those that ask about policies
+-- all subcommands but `check` and `suggest`
 abbrev pub askers : App
 askers = with_subcommand (with_subcommand (with_subcommand (with_subcommand (with_subcommand machines compare.top) who.top) what.top) risks.top) paths.top
 

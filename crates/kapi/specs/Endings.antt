@@ -1,4 +1,4 @@
--- How a program ends, and the exit status that tells so.
+-- How a program ends, and its exit status.
 use Rattle.std.specs.Prelude.{ℕ, Bool, true, false}
 use Rattle.kapi.specs.declared.ending.Ending.{Ending}
 use Rattle.kapi.specs.declared.ending.Ending.TheVariants as ending

@@ -4,7 +4,7 @@ use Rattle.std.specs.Char.{is_ascii_digit}
 use Rattle.std.specs.List.{list_all}
 use Rattle.std.specs.Str.Parse.{digits_value}
 
--- the number that 1 to so many decimal digits write, and nothing else, if it is within bounds
+-- the number that a text of 1 to `places` decimal digits writes, if the number is within bounds
 unfoldable pub number_of : ℕ → ℕ → ℕ → List ℕ → Option ℕ
 number_of places least largest s =
     if nat_le 1 (length s) && (nat_le (length s) places && (list_all is_ascii_digit s && (nat_le least (digits_value 10 s) && nat_le (digits_value 10 s) largest)))

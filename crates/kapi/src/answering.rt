@@ -30,8 +30,8 @@ pub fn start_readers<R: Threads + Wait + Clock + Clone + Drop + Send + 'static>(
     Ok(())
 }
 
-/// Answers the clients of a listener, one after the other, for as long as the program runs: what becomes of a client
-/// ends no reader, and neither does one that could not be accepted.
+/// Answers the clients of a listener, one after the other, for as long as the program runs. A reader goes on if a
+/// client fails or cannot be accepted.
 fn answer_clients<R: Wait + Clock>(rt: &R, alloc: Global, listener: &TcpListener, seat: Seat) -> ! {
     let mut seat = seat;
     for _ in rt.forever() {

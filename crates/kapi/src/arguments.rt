@@ -21,7 +21,7 @@ pub fn program<'a>(alloc: Global) -> Result<Command<'a>, Memory>
         .subcommand(suggest(alloc)?)
 }
 
-/// The program with the subcommands that run a machine, and with those that ask about policies.
+/// The program with all subcommands but `check` and `suggest`.
 fn askers<'a>(alloc: Global) -> Result<Command<'a>, Memory>
     ensures { IfOk result (λ c. app_of c ≡ askers_app) }
 {
@@ -147,7 +147,7 @@ fn audited<'a>(alloc: Global) -> Result<Command<'a>, Memory>
         .arg(file(alloc, "QUESTIONS", "The questions"))
 }
 
-/// A program that reads the files of a policy besides those that it names.
+/// A subcommand with `--with` and `--with-defaults`: further files of a policy, and the default roles.
 fn beside<'a>(
     alloc: Global,
     name: &'a str,
@@ -227,7 +227,7 @@ fn served<'a>(alloc: Global) -> Result<Command<'a>, Memory>
         .arg(defaults(alloc))
 }
 
-/// `kapi serve` with the options that say more of these, and of its ports.
+/// `kapi serve` with `--namespace` and `--free-ports` too.
 fn opened<'a>(alloc: Global) -> Result<Command<'a>, Memory>
     ensures { IfOk result (λ c. (app_of c ≡ opened_app) × ((out-Command c).has_globals ≡ false)) }
 {

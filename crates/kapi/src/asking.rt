@@ -25,9 +25,8 @@ struct Source<'a> {
     bytes: &'a [u8],
 }
 
-/// Prints what a policy allows that another did not, or, with `--lost`, what the other allowed that it does not: status 0 if
-/// there is nothing, 3 if there is something, 4 if the roles of a policy are not settled, or 1 after a line on standard
-/// error.
+/// Prints what the later policy allows and the earlier does not or, with `--lost`, the reverse: status 0 if there is
+/// nothing, 3 if there is something, 4 if the roles of a policy are not settled, or 1 after a line on standard error.
 pub fn run_compare<R: Files + Input + Print + Eprint + AllocGlobal + Threads + Sync + Clone + Drop>(
     rt: &R,
     words: &CompareWords,
@@ -164,8 +163,8 @@ fn ask_words<R: AllocGlobal>(
     who_wanted(rt.alloc(), form, objects, &wanted)
 }
 
-/// Prints an answer about a policy and reports the doubts about it and about the questions: status 0, 4 if the roles are
-/// not settled, 1 after a fault, or for a doubt if the words are strict.
+/// Prints an answer about a policy and reports the doubts about it and about the questions: status 0, 4 if the roles
+/// are not settled, 1 after a fault, or for a doubt if the words are strict.
 fn answer<R: Print + Eprint + AllocGlobal>(
     rt: &R,
     asking: &Asking,
@@ -217,7 +216,7 @@ pub fn run_what<R: Files + Input + Print + Eprint + AllocGlobal + Clone + Drop>(
     )
 }
 
-/// The user that the words name, in the groups that it has by itself besides theirs.
+/// The named user in the named groups, and in the groups that authentication adds.
 fn holder_of(alloc: Global, words: &WhatWords) -> Result<Holder, Memory> {
     let mut groups = Vec::new(alloc);
     for group in words.groups.iter() {
@@ -255,7 +254,8 @@ pub fn run_risks<R: Files + Input + Print + Eprint + AllocGlobal + Clone + Drop>
     )
 }
 
-/// Prints who can become whom by a policy: status 0, 4 if the roles are not settled, or 1 after a line on standard error.
+/// Prints who can become whom by a policy: status 0, 4 if the roles are not settled, or 1 after a line on standard
+/// error.
 pub fn run_paths<R: Files + Input + Print + Eprint + AllocGlobal + Clone + Drop>(
     rt: &R,
     words: &PathsWords,

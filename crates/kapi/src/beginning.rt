@@ -36,14 +36,14 @@ pub fn first_of(first: Option<u64>, milliseconds: u64) -> Option<u64>
 /// The objects that a server begins with, one a line.
 #[derive(Clone, Copy)]
 pub enum Objects<'a> {
-    /// Beside those that every server begins with.
+    /// Next to the objects that every server begins with.
     Lines(&'a [u8]),
-    /// In their place.
+    /// In place of the objects that every server begins with.
     Alone(&'a [u8]),
 }
 
-/// The machine that objects make of the resource types of a table, whose revisions begin after `first`, or after the one
-/// that the clock gives so many milliseconds after the start of 1970.
+/// Starts a machine with these objects and the resource types of a table. Its revisions begin after `first` or, if that
+/// is none, after the revision of the clock, which stands at `milliseconds` since the start of 1970.
 pub fn begin<R: Wait>(
     alloc: Global,
     rt: &R,
@@ -69,7 +69,7 @@ pub fn begin<R: Wait>(
     }
 }
 
-/// The machine that objects make of the resource types of a table, whose revisions begin after `first`.
+/// Starts a machine with these objects and the resource types of a table. Its revisions begin after `first`.
 fn start_with<R: Wait>(
     alloc: Global,
     rt: &R,

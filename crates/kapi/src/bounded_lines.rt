@@ -6,7 +6,7 @@ use std::io::{self, ErrorKind, Read};
 /// The largest length of a line, in bytes.
 const LINE_LIMIT: usize = 1_048_576;
 
-/// A reader that fails at a line that is too long, and from then on.
+/// A reader that fails at a line of more than `LINE_LIMIT` bytes, and at each later read.
 #[derive(Drop)]
 pub struct BoundedLines<R: Read + Drop> {
     inner: R,
@@ -42,7 +42,7 @@ impl<R: Read + Drop> Read for BoundedLines<R> {
     }
 }
 
-/// The length of the line that has begun behind these bytes, or of the first one that is too long.
+/// The length of the unfinished line after these bytes, or of the first line that is too long.
 fn length_after(length: usize, bytes: &[u8]) -> usize
     ensures { result ≡ line_length length bytes.now }
 {

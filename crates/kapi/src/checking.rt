@@ -28,7 +28,7 @@ struct Finding {
     text: String,
 }
 
-/// What an object of a policy is looked at by.
+/// What the objects of a policy are checked against.
 #[derive(Drop)]
 struct Looks<'a> {
     policy: &'a IndexedPolicy,
@@ -51,8 +51,8 @@ struct Named<'a> {
     name: &'a str,
 }
 
-/// Prints what dangles: status 0 if nothing does, 3 if something does, 4 if the roles are not settled, or 1 after a line
-/// on standard error.
+/// Prints what dangles: status 0 if nothing does, 3 if something does, 4 if the roles are not settled, or 1 after a
+/// line on standard error.
 pub fn run_check<R: Files + Input + Print + Eprint + AllocGlobal + Clone + Drop>(
     rt: &R,
     asking: &Asking,
@@ -421,8 +421,8 @@ fn named_by(object: &Value) -> Named<'_> {
     }
 }
 
-/// Whether a cluster role has a label by which Kubernetes' own roles take its rules (Kubernetes, 'Using RBAC Authorization',
-/// 'Aggregated ClusterRoles').
+/// Whether a cluster role has a label by which Kubernetes' own roles take its rules (Kubernetes, 'Using RBAC
+/// Authorization', 'Aggregated ClusterRoles').
 fn feeds_another(object: &Value) -> bool {
     let labels = match object.get("metadata") {
         Some(metadata) => metadata.get("labels"),
@@ -461,7 +461,7 @@ pub fn request_words(alloc: Global, question: &Question) -> Result<String, Memor
     Ok(words)
 }
 
-/// Appends a word behind what parts it from the words before, unless it is empty.
+/// Appends a separator and a word, unless the word is empty.
 fn push_word(words: &mut String, part: &str, word: &str) -> Result<(), Memory> {
     if word.is_empty() {
         return Ok(());

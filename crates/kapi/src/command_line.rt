@@ -34,7 +34,7 @@ pub fn command(alloc: Global, words: &[&str]) -> Result<Command, CommandFault>
     }
 }
 
-/// What the subcommand and the words behind it ask for.
+/// What the subcommand and the words after it ask for.
 fn asked(alloc: Global, matches: &ArgMatches<'_>) -> Result<Command, CommandFault>
     ensures { Reads told result (option_and_then (λ p. asked_by p.0 p.1) (subcommand_rows_of matches.now)) }
 {
@@ -67,7 +67,7 @@ fn named(alloc: Global, name: &str, words: &ArgMatches<'_>) -> Result<Command, C
     }
 }
 
-/// The files and the number of readers that the words behind `audit` specify.
+/// The files and the number of readers that the words after `audit` specify.
 fn audit_files(alloc: Global, words: &ArgMatches<'_>) -> Result<AuditFiles, CommandFault>
     ensures { Reads files_told result (files_in (rows_of (found_of words.now))) }
 {
@@ -86,8 +86,8 @@ fn audit_files(alloc: Global, words: &ArgMatches<'_>) -> Result<AuditFiles, Comm
     })
 }
 
-/// How the manifests of an audit are read, as those of an audit log are; none if its policy is lines, for which no word says how
-/// to read them.
+/// How the policy of an audit is read, if it is manifests, as it always is for an audit log; none if the policy is
+/// lines, since options on reading manifests are refused then.
 fn audited_manifests(alloc: Global, words: &ArgMatches<'_>) -> Result<Option<Reading>, CommandFault>
     ensures { Reads (λ r. option_map reading_told r) result (audited_in (rows_of (found_of words.now))) }
 {
@@ -110,7 +110,7 @@ pub fn says_how_to_read(words: &ArgMatches<'_>) -> bool
         || is_given(words, "strict")
 }
 
-/// How manifests are read, with the files that the option of that name names.
+/// How manifests are read; `with` has the values of the option called `files`.
 fn reading(alloc: Global, words: &ArgMatches<'_>, files: &str) -> Result<Reading, CommandFault>
     ensures { Reads reading_told result (Some (reading_by files.now (rows_of (found_of words.now)))) }
 {
@@ -135,7 +135,7 @@ fn each_copied(alloc: Global, words: &ArgMatches<'_>, name: &str) -> Result<Vec<
     }
 }
 
-/// The transcripts that the words behind `replay` name, and whether they are written.
+/// The transcripts that the words after `replay` name, and whether they are written.
 fn replay_options(alloc: Global, words: &ArgMatches<'_>) -> Result<ReplayOptions, CommandFault>
     ensures { Reads transcripts_told result (transcripts_in (rows_of (found_of words.now))) }
 {
@@ -193,7 +193,7 @@ fn asking(alloc: Global, words: &ArgMatches<'_>, policy: &str) -> Result<Asking,
     })
 }
 
-/// The policies that the words behind `compare` name.
+/// The policies that the words after `compare` name.
 fn compare_words(alloc: Global, words: &ArgMatches<'_>) -> Result<CompareWords, CommandFault>
     ensures { Reads compare_told result (compare_in (rows_of (found_of words.now))) }
 {
@@ -208,7 +208,7 @@ fn compare_words(alloc: Global, words: &ArgMatches<'_>) -> Result<CompareWords, 
     })
 }
 
-/// The user of whom the words behind `what` ask, and the policy.
+/// The user of whom the words after `what` ask, and the policy.
 fn what_words(alloc: Global, words: &ArgMatches<'_>) -> Result<WhatWords, CommandFault>
     ensures { Reads what_told result (what_in (rows_of (found_of words.now))) }
 {
@@ -222,7 +222,7 @@ fn what_words(alloc: Global, words: &ArgMatches<'_>) -> Result<WhatWords, Comman
     })
 }
 
-/// The policy and the options that the words behind `paths` specify.
+/// The policy and the options that the words after `paths` specify.
 fn paths_words(alloc: Global, words: &ArgMatches<'_>) -> Result<PathsWords, CommandFault>
     ensures { Reads paths_told result (paths_in (rows_of (found_of words.now))) }
 {
@@ -236,7 +236,7 @@ fn paths_words(alloc: Global, words: &ArgMatches<'_>) -> Result<PathsWords, Comm
     })
 }
 
-/// The uses, the policy and the options that the words behind `suggest` specify.
+/// The uses, the policy and the options that the words after `suggest` specify.
 fn suggest_words(alloc: Global, words: &ArgMatches<'_>) -> Result<SuggestWords, CommandFault>
     ensures { Reads suggest_told result (suggest_in (rows_of (found_of words.now))) }
 {
@@ -263,7 +263,7 @@ fn is_list(words: &ArgMatches<'_>) -> Option<bool>
     }
 }
 
-/// The policy and the question that the words behind `who` specify.
+/// The policy and the question that the words after `who` specify.
 fn who_words(alloc: Global, words: &ArgMatches<'_>) -> Result<WhoWords, CommandFault>
     ensures { Reads who_told result (who_in (rows_of (found_of words.now))) }
 {
@@ -272,7 +272,7 @@ fn who_words(alloc: Global, words: &ArgMatches<'_>) -> Result<WhoWords, CommandF
     Ok(WhoWords { asking, question })
 }
 
-/// The question that the words behind `who` specify: a file of questions, or a verb and a resource, and not both.
+/// The question that the words after `who` specify: a file of questions, or a verb and a resource, and not both.
 fn who_question(alloc: Global, words: &ArgMatches<'_>) -> Result<WhoQuestion, CommandFault>
     ensures { Reads question_told result (question_in (rows_of (found_of words.now))) }
 {
@@ -376,7 +376,7 @@ pub fn readers(words: &ArgMatches<'_>) -> Option<usize>
 /// The largest number of ports that are served.
 pub const PORTS: usize = 16;
 
-/// The file, the first revision, the switch, the ports and the number of readers that the words behind `serve` specify.
+/// The options and the ports that the words after `serve` specify.
 fn serve_options(alloc: Global, words: &ArgMatches<'_>) -> Result<ServeOptions, CommandFault>
     ensures { Reads options_told result (options_in (rows_of (found_of words.now))) }
 {
@@ -400,15 +400,15 @@ fn serve_options(alloc: Global, words: &ArgMatches<'_>) -> Result<ServeOptions, 
     })
 }
 
-/// Whether a number of readers is specified, and no port on which they would answer.
+/// Whether a number of readers is specified without a port for questions.
 fn has_idle_readers(words: &ArgMatches<'_>) -> bool
     ensures { result ≡ are_idle (rows_of (found_of words.now)) }
 {
     value(words, "readers").is_some() && value(words, "answer").is_none()
 }
 
-/// How the manifests that a server begins with are read; none if it begins with a file of lines or with nothing. They
-/// stand in place of such a file, and a namespace is only theirs.
+/// How the manifests that a server begins with are read; none if it begins with a file of lines or with nothing.
+/// Manifests exclude a file of lines, and `--namespace` requires manifests.
 fn served_manifests(alloc: Global, words: &ArgMatches<'_>) -> Result<Option<Reading>, CommandFault>
     ensures { Reads (λ r. option_map reading_told r) result (served_in (rows_of (found_of words.now))) }
 {

@@ -59,7 +59,7 @@ pub struct Doubts {
 #[derive(Clone, Copy)]
 struct Asked<'a> {
     what: &'static str,
-    /// The same as a reader calls it.
+    /// The kind of the word, as messages name it.
     called: &'static str,
     by: &'static str,
     word: &'a str,
@@ -79,7 +79,7 @@ impl Doubts {
         self.told.len() > 0
     }
 
-    /// Reports a policy of that name that has no role and no binding.
+    /// Reports the policy under this name, if it has no role and no binding.
     pub fn tell_empty<R: Eprint + AllocGlobal>(
         &mut self,
         rt: &R,
@@ -182,7 +182,8 @@ impl Doubts {
         self.tell_word(rt, words, user)
     }
 
-    /// Reports a word that is not named, with the named one that is likely meant.
+    /// Reports a word of a question, if the policy does not name it, and suggests a similar known word, if there is
+    /// one.
     fn tell_word<R: Eprint + AllocGlobal>(
         &mut self,
         rt: &R,
@@ -283,7 +284,7 @@ fn text_at<'a>(object: &'a Value, key: &str) -> &'a str {
     }
 }
 
-/// Whether a word is named, or may be asked of without; an empty one and `*` are none.
+/// Whether the policy names the word, or the word needs no name in it: it is empty, `*` or generally known.
 fn is_named(alloc: Global, words: &Words, asked: Asked<'_>) -> Result<bool, Memory> {
     if asked.word.is_empty() || asked.word == "*" || asked.known.contains(&asked.word) {
         return Ok(true);

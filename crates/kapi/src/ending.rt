@@ -1,4 +1,4 @@
-//! How a program ends, and the exit status that tells so.
+//! How a program ends, and its exit status.
 ghost use Rattle.std.specs.Prelude.{◌≡◌, if◌then◌else◌};
 ghost use Rattle.kapi.specs.declared.ending.Ending.TheVariants.{Doubted, Unsettled};
 ghost use Rattle.std.specs.Process.{exit_status};
@@ -41,14 +41,14 @@ impl Ending {
         if gains { Ending::Gains } else { Ending::Done }
     }
 
-    /// This ending, or that of a doubt.
+    /// `Doubted` if `doubted` is set, else this ending.
     pub fn or_doubted(self, doubted: bool) -> Ending
         ensures { result ≡ (if doubted then Doubted else self) }
     {
         if doubted { Ending::Doubted } else { self }
     }
 
-    /// This ending, or that of a policy whose roles are not settled.
+    /// `Unsettled` if the roles are not settled, else this ending.
     pub fn or_unsettled(self, settled: bool) -> Ending
         ensures { result ≡ (if settled then self else Unsettled) }
     {

@@ -1,16 +1,16 @@
-//! A reader that keeps the lines that are being read, so that one at fault can be told.
+//! A reader that keeps the lines being read, for reports of a line at fault.
 ghost use Rattle.std.specs.Prelude.{◌≡◌};
 
 use kapi_text::Memory;
 use std::alloc::Global;
 use std::io::{self, Read};
 
-/// A reader that keeps the bytes of its last read, and before them the line that had begun.
+/// A reader that keeps the bytes of its last read, and the start of their first line from earlier reads.
 #[derive(Drop)]
 pub struct KeptLines<R: Read + Drop> {
     inner: R,
     kept: Vec<u8>,
-    /// Where in the kept bytes the line begins that has no end yet.
+    /// The place in the kept bytes at which the unfinished line begins.
     begun: usize,
     /// Memory ran out: nothing is kept any more.
     lost: bool,
@@ -33,7 +33,7 @@ impl<R: Read + Drop> KeptLines<R> {
         self.kept.as_slice()
     }
 
-    /// Keeps bytes that were read, and drops the lines that had ended before.
+    /// Keeps the bytes of a read, and drops the lines that ended in earlier reads.
     fn keep(&mut self, bytes: &[u8])
         ensures { self.new.inner ≡ self.old.inner }
     {

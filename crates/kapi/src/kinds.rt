@@ -12,8 +12,8 @@ use std::io;
 /// The word that names common kinds of Kubernetes in place of a file.
 pub const KUBERNETES: &str = "kubernetes";
 
-/// The table of the resource types that are served. None if a file of kinds cannot be read or has a fault, after lines on
-/// standard error.
+/// The table of the resource types that are served. None if a file of kinds cannot be read or has a fault, after lines
+/// on standard error.
 pub fn read_kinds<R: Files + Input + Eprint + AllocGlobal + Clone + Drop>(
     rt: &R,
     names: &[String],
@@ -36,8 +36,8 @@ pub fn read_kinds<R: Files + Input + Eprint + AllocGlobal + Clone + Drop>(
     }
 }
 
-/// Reads a file or folder of kinds, or takes the set of that name: whether it can be read, after a line on standard error
-/// if not.
+/// Reads a file or folder of kinds, or takes the set of that name: whether it can be read, after a line on standard
+/// error if not.
 fn read_source<R: Files + Input + Eprint + AllocGlobal + Clone + Drop>(
     rt: &R,
     name: &str,

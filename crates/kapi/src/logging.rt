@@ -18,7 +18,7 @@ use std::fs::Files;
 use std::io;
 use std::time::{Clock, Instant};
 
-/// After so many lines the clock is asked.
+/// The number of lines between two readings of the clock.
 const LINES: usize = 65_536;
 
 /// A request of the log, and whether the cluster allowed it.
@@ -29,8 +29,8 @@ struct Logged {
     allowed: bool,
 }
 
-/// Prints each request that the policy decides otherwise than the log, and then how often whom it would refuse what: status
-/// 0 if no decision differs, 3 if one does, 4 if the roles are not settled, or 1 after a line on standard error.
+/// Prints each request on which the policy and the log differ, and then how often the policy would refuse what to whom:
+/// status 0 if no decision differs, 3 if one does, 4 if the roles are not settled, or 1 after a line on standard error.
 pub fn audit_log<R: Files + Input + Print + Eprint + AllocGlobal + Clock + Clone + Drop>(
     rt: &R,
     files: &AuditFiles,
@@ -69,7 +69,8 @@ pub fn audit_log<R: Files + Input + Print + Eprint + AllocGlobal + Clock + Clone
     Ok(ending.or_doubted(doubted).or_unsettled(engine.settled))
 }
 
-/// The requests that a log's lines show, or the first line that is no event. On a terminal it is shown how many were read.
+/// The requests in the lines of a log, or the number of the first line that is no event. On a terminal, progress is
+/// shown.
 fn requests_of<R: Eprint + AllocGlobal + Clock>(
     rt: &R,
     log: &[u8],

@@ -1,4 +1,4 @@
-//! Policies as people have them: files of manifests, read, and what is wrong with them told.
+//! Reads policies from files of manifests, and reports what is wrong with them.
 ghost use Rattle.std.specs.Prelude.{◌≡◌, true};
 ghost use Rattle.kapi_core.specs.Table.{fits};
 
@@ -19,7 +19,7 @@ use std::fmt::Display;
 use std::fs::{self, Files};
 use std::io::{self, Read};
 
-/// The largest number of faults that are told one by one.
+/// The largest number of faults that are reported one by one.
 pub const TOLD: usize = 20;
 
 /// A file that was read, and its name.
@@ -58,7 +58,8 @@ pub fn read_served<R: Files + Input + Eprint + AllocGlobal + Clone + Drop>(
     read_with(rt, Vec::new(rt.alloc()), reading, Scope::All)
 }
 
-/// The objects of files that were read and of those that are read with them.
+/// The objects of files already read, and of the further files of a policy. None if there is a fault, after a line on
+/// standard error for each.
 fn read_with<R: Files + Input + Eprint + AllocGlobal + Clone + Drop>(
     rt: &R,
     sources: Vec<Source>,
@@ -166,8 +167,8 @@ fn keep(alloc: Global, sources: &mut Vec<Source>, name: &str, bytes: Vec<u8>) ->
     Ok(())
 }
 
-/// The names of a folder's files of JSON, in their order. Those of YAML are among them, so that they are refused and not
-/// passed over.
+/// The names of a folder's files of JSON, in their order. Those of YAML are among them, so that they are refused and
+/// not passed over.
 fn files_in<R: Files + AllocGlobal + Clone + Drop>(
     rt: &R,
     folder: &str,
@@ -239,7 +240,7 @@ fn name_in(sources: &[Source], origin: Origin) -> &str {
     }
 }
 
-/// Reports how many faults there are beside those that were told.
+/// Reports how many faults there are besides the reported ones.
 pub fn tell_more(rt: &impl Eprint, faults: usize) -> io::Result<()> {
     let more = faults.saturating_sub(TOLD);
     if more > 0 {
@@ -253,7 +254,7 @@ pub fn tell_refused<R: Eprint + AllocGlobal>(rt: &R, policy: &ReadPolicy) -> io:
     tell_unloaded(rt, &program_table(rt.alloc())?, policy)
 }
 
-/// Reports the objects that a machine of that table does not load.
+/// Reports the objects of a policy that a machine with this table does not load.
 pub fn tell_unloaded<R: Eprint + AllocGlobal>(
     rt: &R,
     table: &Sequence<ResourceRow>,

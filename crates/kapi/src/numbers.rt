@@ -54,7 +54,7 @@ pub fn number_of_readers(digits: &str) -> Option<usize>
     }
 }
 
-/// The revision after which those of a server begin, as the digits write it, up to 281,474,976,710,650.
+/// The revision after which a server's revisions begin, as the digits write it, up to 281,474,976,710,650.
 pub fn first_revision(digits: &str) -> Option<u64>
     ensures told { result ≡ revision_of digits.now }
     ensures small { IfSome result (λ n. n ≤ 281474976710650) }
@@ -62,7 +62,7 @@ pub fn first_revision(digits: &str) -> Option<u64>
     number_within(digits, 15, 0, 281_474_976_710_650)
 }
 
-/// The revision after which those of a server begin that takes it from the clock, so many milliseconds after the start
+/// The revision after which a server's revisions begin by the clock: 100 for each of the milliseconds since the start
 /// of 1970; none from the year 2059 on.
 pub fn clock_revision(milliseconds: u64) -> Option<u64>
     ensures { result ≡ revision_of_clock milliseconds }

@@ -12,8 +12,8 @@ use thiserror::Error;
 /// What the command line asks for.
 #[derive(Drop)]
 pub enum Command {
-    /// `kapi script`: events on standard input, answers on standard output, on a machine that serves the kinds of files, by
-    /// their names.
+    /// `kapi script`: events on standard input, answers on standard output, on a machine that serves the kinds of
+    /// files, by their names.
     Script(Vec<String>),
     /// `kapi audit`: the questions of a file, answered by the policy of another.
     Audit(AuditFiles),
@@ -90,7 +90,7 @@ pub struct WhoWanted {
     pub verb: String,
     pub resource: String,
     pub namespace: String,
-    /// Whether the question is cluster-wide; without a namespace it is else about all scopes.
+    /// Whether the question is cluster-wide. If it is not and has no namespace, it is about all scopes.
     pub cluster: bool,
     pub name: String,
 }
@@ -102,7 +102,7 @@ pub struct WhoWords {
     pub question: WhoQuestion,
 }
 
-/// The user of whom it is asked what they have, in some groups.
+/// The arguments of `kapi what`: the policy, the user, and the groups of the user.
 #[derive(Debug, Drop)]
 pub struct WhatWords {
     pub asking: Asking,
@@ -114,7 +114,7 @@ pub struct WhatWords {
 #[derive(Debug, Drop)]
 pub struct PathsWords {
     pub asking: Asking,
-    /// Whom the paths lead to that are printed; empty if all are.
+    /// To whom the printed paths lead; empty if all paths are printed.
     pub to: String,
     /// The kinds of rights that are left out.
     pub without: Vec<String>,
@@ -152,13 +152,13 @@ pub struct AuditFiles {
     ghost few: { (1 ≤ readers) × (readers ≤ 16) },
 }
 
-/// The transcripts that are played, by their names, and whether they are written with the answers that came.
+/// The transcripts to play, by their names, and whether they are rewritten with the actual answers.
 #[derive(Drop)]
 pub struct ReplayOptions {
     /// The names of the transcripts, one or more, in the order of the words.
     pub files: Vec<String>,
     pub write: bool,
-    /// A line that wants 403 of a resource that is not served fails.
+    /// An expected 403 for a resource that is not served ends the program with status 1.
     pub strict: bool,
     /// The file that the outcomes are written to as JUnit has them, by its name.
     pub junit: Option<String>,
@@ -183,7 +183,7 @@ pub struct ServeOptions {
     pub answer: Option<u16>,
     /// The number of threads that answer questions.
     pub readers: usize,
-    /// Whether that number is specified, and no port on which they would answer.
+    /// Whether a number of threads is specified without a port for questions.
     pub idle_readers: bool,
     ghost first: { IfSome first_revision (λ n. n ≤ 281474976710650) } by { Prim.hlevel props },
     ghost few: { (1 ≤ vec_len listens) × (vec_len listens ≤ 16) },

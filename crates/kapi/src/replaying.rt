@@ -16,8 +16,8 @@ use std::io::{self, BufWriter, Write};
 use std::str;
 use std::sync::Wait;
 
-/// Plays the transcripts and prints the outcome of each: status 0 if each checks something and every answer is as wanted,
-/// else 1.
+/// Plays the transcripts and prints the outcome of each: status 0 if each checks something and every answer is as
+/// wanted, else 1.
 pub fn run_replay<R: Files + Input + Print + Eprint + AllocGlobal + Wait + Clone + Drop>(
     rt: &R,
     options: &ReplayOptions,
@@ -69,7 +69,7 @@ fn end<R: Files + Eprint + AllocGlobal>(
     Ok(Ending::of_replay(are_well(outcomes)).or_doubted(doubted))
 }
 
-/// Reports the lines of a transcript that want 403 of a resource that is not served.
+/// Reports each expected 403 for a resource that is not served.
 fn tell_doubts(rt: &impl Eprint, outcome: &Outcome) -> io::Result<()> {
     let name = outcome.name.as_str();
     for doubt in outcome.doubts.as_slice() {

@@ -85,7 +85,7 @@ pub fn run_serve<
     }
 }
 
-/// How many readers answer questions; one seat is there without a port for them.
+/// The number of seats: one for each reader, and one if there is no port for questions.
 fn seats_of(options: &ServeOptions) -> usize
     ensures { (1 ≤ result) × (result ≤ 16) }
 {
@@ -95,7 +95,7 @@ fn seats_of(options: &ServeOptions) -> usize
     }
 }
 
-/// Reports options without effect, and ports whose user or group hardly anybody means.
+/// Reports options without effect, and ports whose user or group has white space at an end.
 fn warn_of_options(rt: &impl Eprint, options: &ServeOptions) -> io::Result<()> {
     if options.idle_readers {
         eprintln!(rt; "--readers has no effect without --answer")?;
@@ -106,7 +106,7 @@ fn warn_of_options(rt: &impl Eprint, options: &ServeOptions) -> io::Result<()> {
     Ok(())
 }
 
-/// Reports a port whose user or group hardly anybody means.
+/// Reports a port whose user or group has white space at an end.
 fn tell_names(rt: &impl Eprint, listen: &Listen) -> io::Result<()> {
     tell_name(rt, listen.port, listen.identity.user.as_str())?;
     for group in listen.identity.groups.as_slice() {
@@ -150,7 +150,7 @@ fn objects_of(opening: &Opening) -> Objects<'_> {
     }
 }
 
-/// Reports why a server does not begin behind a revision, and why objects are not loaded: status 1.
+/// Reports why a server does not begin after a revision, and why objects are not loaded: status 1.
 fn refuse_begin<R: Eprint + AllocGlobal>(
     rt: &R,
     table: &Sequence<ResourceRow>,

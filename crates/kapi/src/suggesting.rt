@@ -16,8 +16,8 @@ use std::alloc::Global;
 use std::fs::Files;
 use std::io;
 
-/// Prints roles and bindings for what was used: status 0, 4 if the roles of the policy are not settled, or 1 after a line on
-/// standard error.
+/// Prints roles and bindings for what was used: status 0, 4 if the roles of the policy are not settled, or 1 after a
+/// line on standard error.
 pub fn run_suggest<R: Files + Input + Print + Eprint + AllocGlobal + Clone + Drop>(
     rt: &R,
     words: &SuggestWords,

@@ -48,7 +48,7 @@ impl Write for Broken {
     }
 }
 
-/// Bytes that come one by one, and none while something that was written waits to be flushed.
+/// Bytes that come one by one; a read fails while written bytes are not flushed.
 #[derive(Drop)]
 struct Patient<'a> {
     bytes: &'a [u8],
@@ -71,7 +71,7 @@ impl Read for Patient<'_> {
     }
 }
 
-/// A writer that counts the bytes that it was not yet told to flush.
+/// A writer that counts the bytes written since the last flush.
 #[derive(Drop)]
 struct Counting<'a> {
     unflushed: &'a Cell<usize>,

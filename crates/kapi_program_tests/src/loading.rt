@@ -82,7 +82,7 @@ fn open_ann(alloc: Global, core: &mut Core<IndexedPolicy>) -> Result<(), Memory>
     Ok(())
 }
 
-/// The object that ann may get, and one that she may not get.
+/// A config map that ann may get and one she may not get, each with the code of the reply.
 const ASKED: [(&str, &str); 2] = [
     ("/api/v1/namespaces/n/configmaps/x", "200"),
     ("/api/v1/namespaces/default/configmaps/x", "403"),

@@ -136,7 +136,7 @@ fn window_is_shown(
     Ok(())
 }
 
-/// Checks that one change more ends the watches that saw no change.
+/// Checks that one more change ends both watches, since neither has shown a change.
 fn watches_end(
     rt: &impl Abort,
     alloc: Global,

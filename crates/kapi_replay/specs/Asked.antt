@@ -55,12 +55,12 @@ attributes_of line = attributes_in (form_of line)
 
 -- ---- resources that are not served
 
--- the resource of a point, if the table has none such of this version
+-- the resource of a point, if the table does not have it in this version
 abbrev pub unserved_point : List ResourceRow → List ℕ → Point → Option (List ℕ)
 unserved_point table version (point.Url u) = None
 unserved_point table version (point.Resource p) = if list_any (is_row_of version p) table then None else Some p.resource
 
--- the resource of the attributes, if the table has none such
+-- the resource of the attributes, if the table does not have it in their version
 abbrev pub unserved : List ResourceRow → Option Attributes → Option (List ℕ)
 unserved table None = None
 unserved table (Some a) = unserved_point table a.version a.point

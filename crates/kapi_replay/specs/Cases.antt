@@ -21,8 +21,9 @@ use Rattle.kapi_replay.specs.declared.request.Request.{Request}
 use Rattle.kapi_replay.specs.declared.wanted.Wanted.{Wanted}
 use Rattle.kapi_lines.specs.Words.{begins}
 
--- a case that is being read: what it begins with, its files of kinds, whether it rechecks rights, its script and wants so far, the
--- identities of its connections in their order, the connection that was taken last, and whether a header field may follow
+-- a case that is being read: what it begins with, its files of kinds, whether it rechecks rights, its script and wants
+-- so far, the identities of its connections in their order, the connection that was taken last, and whether a header
+-- field may follow
 pub record PlainDraft : Type 0 where
   pub begins : Beginning
   pub kinds : List Loaded
@@ -81,7 +82,8 @@ acted_on d n names (Some k) = record d { taken = Some k; fields = false }
 abbrev pub acted : PlainDraft → ℕ → List ℕ → PlainDraft
 acted d n names = acted_on d n names (connection_of d.opened names)
 
--- a request is fed to the connection that was taken last, and served; without one its line is none
+-- a request is fed to the connection that was taken last, and served; without a connection the line is one of the
+-- script
 abbrev pub asked_on : PlainDraft → NumberedLine → Request → List NumberedLine → Option ℕ → PlainDraft
 asked_on d l r later None = raw d l.number l.text
 asked_on d l r later (Some k) =
@@ -115,7 +117,7 @@ wants d n wanted = record d { wants = d.wants ++ record { number = n; events = l
 abbrev pub field : PlainDraft → NumberedLine → PlainDraft
 field d l = if d.fields then d else raw d l.number l.text
 
--- the case after a line of that form, before the lines that follow
+-- the case after a line of this form; `later` are the lines after it
 abbrev pub drafted : PlainDraft → NumberedLine → Form → List NumberedLine → PlainDraft
 drafted d l (form.Actor names) later = acted d l.number names
 drafted d l (form.Request r) later = asked d l r later
@@ -133,7 +135,7 @@ abbrev pub are_manifests : Beginning → Bool
 are_manifests (beginning.Manifests m) = true
 are_manifests begins = false
 
--- the manifests of a beginning; none of another
+-- the manifests that a case begins with; no files if it begins with anything else
 abbrev pub manifests_in : Beginning → Manifests
 manifests_in (beginning.Manifests m) = m
 manifests_in begins = record { files = []; defaults = false }
@@ -149,27 +151,27 @@ with_manifests begins n (source.Lines name) = beginning.Manifests (manifests_in 
 abbrev pub takes_manifests : PlainDraft → Bool
 takes_manifests d = are_manifests d.begins && (length d.script == 0 && (length d.wants == 0 && (length d.kinds == 0 && not d.rechecks)))
 
--- what a case begins with that goes on with manifests, or begins with them
+-- what a case begins with after a line of manifests: the manifests so far and those of the line, or the latter alone
 abbrev pub begun_with : PlainDraft → ℕ → Source → Beginning
 begun_with d n s = with_manifests (if takes_manifests d then d.begins else beginning.Opening) n s
 
--- the case that ends before a line that names what a case begins with, if one does
+-- the case that a `load` or `manifests` line ends, if it ends one
 abbrev pub ended_at : PlainDraft → Source → List Case
 ended_at d (source.Lines name) = case_of d ∷ []
 ended_at d s = if takes_manifests d then [] else case_of d ∷ []
 
--- what a case begins with after such a line
+-- what a case begins with after a `load` or `manifests` line
 abbrev pub begins_at : PlainDraft → ℕ → Source → Beginning
 begins_at d n (source.Lines name) = beginning.Lines (record { number = n; name = name })
 begins_at d n s = begun_with d n s
 
--- the case that ends before a line of that form, if one does
+-- the case that a line of this form ends, if it ends one
 abbrev pub ended : PlainDraft → Form → List Case
 ended d form.Begin = case_of d ∷ []
 ended d (form.Load s) = ended_at d s
 ended d f = []
 
--- the case that is being read after a line of that form, before the lines that follow
+-- the case being read after a line of this form; `later` are the lines after it
 abbrev pub next : PlainDraft → NumberedLine → Form → List NumberedLine → PlainDraft
 next d l form.Begin later = fresh beginning.Opening
 next d l (form.Load s) later = fresh (begins_at d l.number s)

@@ -1,4 +1,4 @@
--- The line that wants what came, in place of one that wants something else.
+-- Rewriting an expectation, so that it expects the actual answer.
 use Rattle.std.specs.Prelude.{ℕ, ◌==◌, nat_lt, Bool, not, ◌&&◌, if◌then◌else◌, List, ◌++◌, length, take, drop, codes, Option, Some, None}
 use Rattle.std.specs.Char.{is_ascii_digit}
 use Rattle.std.specs.List.{list_all}
@@ -50,6 +50,6 @@ abbrev pub corrected_if : Wanted → Option (List ℕ) → List ℕ → List ℕ
 corrected_if wanted None answer = exactly answer
 corrected_if wanted (Some bytes) answer = corrected_by wanted bytes answer
 
--- the line that wants what came, of the form of the one that wanted something else, if that form can say it
+-- the line that expects the actual answer, in the form of the original expectation if this form can state it
 abbrev pub corrected : Wanted → List ℕ → List ℕ
 corrected wanted answer = corrected_if wanted (sent_of answer) answer

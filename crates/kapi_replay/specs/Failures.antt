@@ -84,11 +84,12 @@ abbrev pub FailsOn : Machine → Case → List Failure → Type 0
 FailsOn m c failures =
     (refused : List Bool) × FailsAs c (first_bad (script_text c.script)) (said m (lines (script_text c.script)) refused) failures
 
--- the failure of a case that loads a file a line of which is not loaded: the line, and a reason
+-- the failure of a case whose file of objects is not loaded: the line at fault, and a reason
 abbrev pub IsNotLoaded : Loaded → ℕ → List Failure → Type 0
 IsNotLoaded load n failures = (reason : List ℕ) × (is_reason reason ≡ true) × (failures ≡ failure.NotLoaded load.number n reason ∷ [])
 
--- the failures on the machine that a file makes, or the line of the file that is not loaded
+-- the failures of a case on the machine made from a file; if a line of the file is not loaded, that line is the one
+-- failure
 abbrev pub FailsBy : Case → Loaded → Result Machine FileFault → List Failure → Type 0
 FailsBy c load (Ok m) failures = FailsOn (with_rechecks c.rechecks m) c failures
 FailsBy c load (Err (file_fault.bad_line n)) failures = IsNotLoaded load n failures

@@ -13,15 +13,16 @@ use Rattle.kapi_replay.specs.declared.files.Transcript.{Transcript}
 
 -- ---- texts in XML
 
--- no byte begins a character at the end of the first plane
+-- no byte begins a character from U+F000 to U+FFFF
 abbrev pub is_without_ends : List ℕ → Bool
 is_without_ends text = list_all (λ b. not (b == 239)) text
 
--- bytes that are not of ASCII stay in UTF-8 without those characters, two of which are forbidden (XML 1.0, section 2.2)
+-- bytes outside ASCII stay in UTF-8 without characters from U+F000 to U+FFFF, two of which are forbidden (XML 1.0,
+-- section 2.2)
 unfoldable pub keeps_others : List ℕ → Bool
 keeps_others text = is_utf8 text && is_without_ends text
 
--- a byte that has no name in XML: `?` if it does not stay
+-- a byte that needs no escape in XML; `?` for a byte below 32, and for a byte outside ASCII that does not stay
 abbrev pub plain_byte : Bool → ℕ → ℕ
 plain_byte keeps b = if nat_lt b 32 || (nat_le 128 b && not keeps) then 63 else b
 
@@ -102,7 +103,7 @@ skipped_in checks = length (filter (λ c. not c.compared) checks)
 abbrev pub others_in : List Failure → ℕ
 others_in failures = length (filter (λ f. not (is_difference f)) failures)
 
--- one, if nothing is checked
+-- 1 if nothing is checked and nothing else is wrong, else 0
 abbrev pub nothings : Outcome → ℕ
 nothings o = if checks_nothing o then 1 else 0
 
@@ -110,7 +111,7 @@ nothings o = if checks_nothing o then 1 else 0
 unfoldable pub tests_in : Outcome → ℕ
 tests_in o = length o.checks + others_in o.failures + nothings o
 
--- how many of them fail
+-- how many cases of a suite fail
 unfoldable pub failed_in : Outcome → ℕ
 failed_in o = length o.failures + nothings o
 

@@ -41,7 +41,7 @@ text_at loads [] n = None
 text_at loads (f ∷ fs) n =
     if nat_lt n (length (texts_named loads f.name)) then Some (f, n + 1) else text_at loads fs (n - length (texts_named loads f.name))
 
--- how the text of this number of a file with so many texts is named: as the file, and in a folder by its number too
+-- the name of a text: the name of its file or folder and, unless it is the only text there, its number
 abbrev pub text_name : List ℕ → ℕ → ℕ → List ℕ
 text_name name count n = if count == 1 then name else name ++ number_line (codes ", file ") n
 
@@ -59,7 +59,7 @@ fault_at loads None line reason more = failure.BadManifests 0 (fault_text [] lin
 fault_at loads (Some p) line reason more =
     failure.BadManifests p.0.number (fault_text (text_name p.0.name (length (texts_named loads p.0.name)) p.1) line reason more)
 
--- the failure of manifests with a fault that begins there, and so many more: it has a reason, on one line
+-- the failure of manifests with a fault at this origin, for a reason on one line, and `more` further faults
 abbrev pub IsFaultAt : List LoadedFile → List Loaded → Origin → ℕ → List Failure → Type 0
 IsFaultAt loads files origin more failures =
     (reason : List ℕ) × (list_all is_shown reason ≡ true) × (failures ≡ fault_at loads (text_at loads files origin.file) origin.line reason more ∷ [])
@@ -74,7 +74,8 @@ IsRefused loads files p n failures = (more : ℕ) × IsFaultAt loads files (orig
 
 -- ---- the failures
 
--- the failures on the machine that the lines of manifests make alone, or the line that is not loaded
+-- the failures of a case on the machine made from manifests alone; if a line is not loaded, that line is the one
+-- failure
 abbrev pub FailsAlone : List LoadedFile → Case → List Loaded → Prepared → Result Machine FileFault → List Failure → Type 0
 FailsAlone loads c files p (Ok m) failures = FailsOn (with_rechecks c.rechecks m) c failures
 FailsAlone loads c files p (Err (file_fault.bad_line n)) failures = IsRefused loads files p n failures
@@ -93,7 +94,7 @@ pub record IsRead (loads : List LoadedFile) (m : Manifests) (p : Prepared) : Typ
 abbrev pub FailsTexts : List ResourceRow → List LoadedFile → Case → Manifests → List Failure → Type 0
 FailsTexts table loads c m failures = (p : Prepared) × IsRead loads m p × FailsBehind table loads c m.files p p.faults.items failures
 
--- the failures of a case that begins with manifests, the first of whose files is not there, or all of which are
+-- the failures of a case that begins with manifests, by their first missing file, if there is one
 abbrev pub FailsWithout : List ResourceRow → List LoadedFile → Case → Manifests → Option Loaded → List Failure → Type 0
 FailsWithout table loads c m None failures = FailsTexts table loads c m failures
 FailsWithout table loads c m (Some f) failures = failures ≡ failure.NoFile f.number ∷ []

@@ -16,7 +16,7 @@ use Rattle.kapi_replay.specs.declared.case.Beginning.TheVariants as beginning
 use Rattle.kapi_replay.specs.declared.case.Case.{Case}
 use Rattle.kapi_replay.specs.declared.case.Loaded.{Loaded}
 
--- the failures where a file of objects is there or not
+-- the failures of a case that begins with a file of objects, or the failure of the missing file
 abbrev pub FailsWith : List ResourceRow → Case → Loaded → Option (List ℕ) → List Failure → Type 0
 FailsWith table c file (Some objects) failures = FailsLoaded table c file objects failures
 FailsWith table c file None failures = failures ≡ failure.NoFile file.number ∷ []
@@ -41,7 +41,7 @@ abbrev pub FailsOver : List LoadedFile → Case → Option (List ResourceRow) �
 FailsOver loads c (Some table) failures = FailsFrom table loads c c.begins failures
 FailsOver loads c None failures = IsBadKinds loads c.kinds failures
 
--- the failures of a case, the first of whose files of kinds is not there, or all of which are
+-- the failures of a case, by its first missing file of kinds, if there is one
 abbrev pub FailsKinds : List LoadedFile → Case → Option Loaded → List Failure → Type 0
 FailsKinds loads c None failures = FailsOver loads c (table_of loads c) failures
 FailsKinds loads c (Some file) failures = failures ≡ failure.NoFile file.number ∷ []

@@ -71,7 +71,7 @@ failure_text name lines f = (place_text name (number_of f) ++ what_text lines f)
 abbrev pub failures_text : List ℕ → List (List ℕ) → List Failure → List ℕ
 failures_text name lines failures = flat_map (failure_text name lines) failures
 
--- what is said of so many checks without a failure
+-- the end of a report without failures: whether anything was checked
 unfoldable pub well_text : ℕ → List ℕ
 well_text wanted = if wanted == 0 then codes ": it checks nothing\n" else codes "\n"
 
@@ -87,27 +87,27 @@ report_text lines o =
 
 -- ---- a transcript with the answers that came
 
--- the answer that came in place of the one that this line wants, if another came
+-- the actual answer of a failure, if the failure is a difference at this line
 abbrev pub answer_for : ℕ → Failure → Option (List ℕ)
 answer_for n (failure.Differs d) = if d.number == n then Some d.answer else None
 answer_for n f = None
 
--- the first answer that came in place of the one that this line wants
+-- the actual answer of the first difference at this line, if there is one
 abbrev pub came_for : ℕ → List Failure → Option (List ℕ)
 came_for n [] = None
 came_for n (f ∷ fs) = option_or (answer_for n f) (came_for n fs)
 
--- the line that wants what came, in place of one that wants this
+-- the line that expects the actual answer, in place of this expectation
 abbrev pub corrected_line : Option Wanted → List ℕ → List ℕ
 corrected_line None answer = exactly answer
 corrected_line (Some wanted) answer = corrected wanted answer
 
--- a line, or in its place the line that wants the answer that came
+-- a line, or in its place the line that expects the actual answer, if one is given
 abbrev pub line_or : List ℕ → Option (List ℕ) → List ℕ
 line_or line None = line
 line_or line (Some answer) = corrected_line (wanted_of line) answer
 
--- a line of a transcript as it is rewritten, behind the end of the one before it
+-- a line of a transcript as it is rewritten, after the line feed that ends the line before
 abbrev pub rewritten_line : List Failure → ℕ → List ℕ → List ℕ
 rewritten_line failures n line = (if nat_lt 1 n then codes "\n" else []) ++ line_or line (came_for n failures)
 
@@ -116,7 +116,7 @@ abbrev pub rewritten_from : List Failure → ℕ → List (List ℕ) → List �
 rewritten_from failures n [] = []
 rewritten_from failures n (l ∷ ls) = rewritten_line failures n l ++ rewritten_from failures (n + 1) ls
 
--- a transcript in which each line that wants another answer than came wants that answer
+-- the transcript with each unmet expectation corrected to the actual answer
 abbrev pub rewritten : List (List ℕ) → List Failure → List ℕ
 rewritten lines failures = rewritten_from failures 1 lines
 
@@ -128,6 +128,6 @@ written rewrites text o = if rewrites then rewritten (parts_of text) o.failures 
 abbrev pub is_well : Outcome → Bool
 is_well o = not (length o.checks == 0) && length o.failures == 0
 
--- no line wants 403 of a resource that is not served
+-- no line expects 403 for a resource that is not served
 abbrev pub is_sure : Outcome → Bool
 is_sure o = length o.doubts == 0

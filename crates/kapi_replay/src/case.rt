@@ -34,7 +34,7 @@ pub struct Event {
     pub text: Sequence<u8>,
 }
 
-/// What a line of the transcript wants of the answer to the last of so many events.
+/// An expectation of a line of the transcript about the answer to the last of the first `events` events of its case.
 #[derive(Drop)]
 pub struct Want {
     pub number: usize,

@@ -1,4 +1,4 @@
-//! The line that wants what came, in place of one that wants something else.
+//! Rewriting an expectation, so that it expects the actual answer.
 ghost use Rattle.std.specs.Prelude.{◌≡◌, IfOk, option_map};
 ghost use Rattle.kapi_replay.specs.Corrections as corrections;
 ghost use Rattle.kapi_replay.specs.Corrections.{corrected as corrected_of, exactly as exactly_of};
@@ -8,8 +8,8 @@ use crate::wanted::Wanted;
 use kapi_text::{Memory, Sequence, are_digits};
 use std::alloc::Global;
 
-/// The line that wants what came: of the form of the line that wanted something else, if that form can say it, and else
-/// exactly the answer.
+/// An expectation of the actual answer: of its code or its body, if that is what `wanted` expects and the answer has
+/// it, else of the exact answer.
 pub fn corrected(alloc: Global, wanted: &Wanted, answer: &[u8]) -> Result<Sequence<u8>, Memory>
     ensures { IfOk result (λ s. s ≡ corrected_of wanted.now answer.now) }
 {

@@ -1,4 +1,4 @@
-//! Lines that want 403 of a resource that is not served.
+//! Expectations of 403 for a resource that is not served.
 ghost use Rattle.std.specs.Prelude.{◌≡◌, ◌++◌, IfOk, OnOk, option_map};
 ghost use Rattle.std.specs.List.{flat_map, list_any};
 ghost use Rattle.kapi_replay.specs.Kinds.{known_table as table_of};
@@ -61,7 +61,7 @@ fn wants_refusal(wanted: &Wanted) -> bool
     }
 }
 
-/// Adds the doubt about a line that wants 403 of the request with these attributes, if there is one.
+/// Adds a doubt about a line that expects 403, if the resource of its request is not served.
 fn push_doubt(
     alloc: Global,
     doubts: &mut Vec<Doubt>,
@@ -81,7 +81,7 @@ fn push_doubt(
     Ok(())
 }
 
-/// Adds the doubt about what is wanted, if there is one.
+/// Adds a doubt about an expectation, if it is 403 for a resource that is not served.
 fn check_want(
     alloc: Global,
     doubts: &mut Vec<Doubt>,

@@ -145,7 +145,7 @@ impl Draft {
         self.push_event(line.number, word_line(alloc, b"pump ", connection)?)
     }
 
-    /// Sets that the rights of watches are rechecked; behind an event the line is one of the script.
+    /// Lets the rights of watches be rechecked; after an event the line is one of the script.
     fn push_recheck(&mut self, alloc: Global, line: &Line<'_>) -> Result<(), Memory>
         ensures { OnOk result (draft_of self.new ≡ cased.rechecked (draft_of self.old) (line_of line.now)) }
     {
@@ -157,7 +157,7 @@ impl Draft {
         Ok(())
     }
 
-    /// Adds a file of kinds; behind an event the line is one of the script.
+    /// Adds a file of kinds; after an event the line is one of the script.
     fn push_kinds(
         &mut self,
         alloc: Global,
@@ -199,7 +199,7 @@ impl Draft {
         self.push_line(alloc, line.number, line.text)
     }
 
-    /// Adds a line of that form, before the lines that follow.
+    /// Adds a line of this form to the case; `later` are the lines after it.
     fn push(
         &mut self,
         alloc: Global,
@@ -280,7 +280,7 @@ fn read_source(
     Ok(())
 }
 
-/// The manifests of a beginning; none of another.
+/// The manifests that a case begins with; no files if it begins with anything else.
 fn manifests_in(alloc: Global, begins: Beginning) -> Manifests
     ensures { result ≡ cased.manifests_in begins }
 {
@@ -316,7 +316,7 @@ fn with_manifests(
     Ok(Beginning::Manifests(Manifests { files, defaults }))
 }
 
-/// Reads a line of that form, before the lines that follow.
+/// Reads a line of this form; `later` are the lines after it.
 fn read_form(
     alloc: Global,
     cases: &mut Vec<Case>,
@@ -335,7 +335,7 @@ fn read_form(
     }
 }
 
-/// Reads a line, before the lines that follow.
+/// Reads a line; `later` are the lines after it.
 fn read_line(
     alloc: Global,
     cases: &mut Vec<Case>,

@@ -1,5 +1,5 @@
-//! Why a request that is not answered as wanted was allowed or not. It is asked of another machine, which plays the case
-//! up to the request.
+//! Why a request with an unexpected answer was allowed or not. Another machine plays the case up to the request, for
+//! the policy at that moment.
 ghost use Rattle.std.specs.Prelude.{◌≡◌, [], IfOk, IfSome, map};
 ghost use Rattle.kapi_replay.specs.Failures.{bare};
 
@@ -25,8 +25,8 @@ use kapi_text::{Memory, Sequence, Text};
 use std::alloc::{AllocError, Global};
 use std::sync::Wait;
 
-/// The failures of a case, each that is the answer to a request with the rule that allows the request, or with the
-/// permission that is missing.
+/// The failures of a case. An unexpected answer to a request gets a reason: the rule that allows the request, or the
+/// missing permission.
 pub fn explained<R: Wait>(
     alloc: Global,
     rt: &R,
@@ -79,7 +79,7 @@ fn begun<R: Wait>(
     }
 }
 
-/// What was started, if it was.
+/// The started machine; none if a line of its objects is not loaded.
 fn made(started: Result<Started, StartError>) -> Result<Option<Started>, Memory>
     requires unopened { IfOk started (λ s. s.core.next_id ≡ 0) }
     requires waiting { IfOk started (λ s. s.desk.waiting ≡ []) }
@@ -137,7 +137,8 @@ fn with_reason_if<P: Policy>(
     }
 }
 
-/// Plays the events behind the first `played`, up to the last of the first `events`. Returns how many are played then.
+/// Plays the events after the first `played` and before the last of the first `events`. Returns how many events are
+/// played in all.
 fn play_to(
     alloc: Global,
     core: &mut Core<IndexedPolicy>,
@@ -279,7 +280,7 @@ fn missing_words(alloc: Global, namespace: &str, point: &Point) -> Result<String
     Ok(words)
 }
 
-/// Appends a word behind what parts it from the words before, unless it is empty.
+/// Appends a separator and a word, unless the word is empty.
 fn push_word(words: &mut String, part: &str, word: &str) -> Result<(), Memory> {
     if word.is_empty() {
         return Ok(());

@@ -23,7 +23,7 @@ pub enum Failure {
     NoForm(usize, Text),
     /// The file that this line names is not there.
     NoFile(usize),
-    /// The file that this line names has a line, the second number, that is not loaded, for this reason.
+    /// A file is not loaded: the line of the transcript that names it, the line of the file at fault, and the reason.
     NotLoaded(usize, usize, Text),
     /// The manifests that this line names are not loaded: `FILE:LINE: REASON` of the first fault, and how many follow.
     BadManifests(usize, Sequence<u8>),
@@ -37,7 +37,8 @@ pub struct Check {
     pub compared: bool,
 }
 
-/// A line that wants 403 of a resource that the server does not have: every identity that no rule of `*` serves gets it.
+/// An expected 403 for a resource that is not served: every identity gets it, unless a rule with `*` allows the
+/// request.
 #[derive(Drop)]
 pub struct Doubt {
     pub number: usize,

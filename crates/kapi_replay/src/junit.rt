@@ -15,8 +15,8 @@ use std::alloc::Global;
 
 // ---- texts in XML
 
-/// Whether bytes that are not of ASCII stay: the text is UTF-8, and has none of the characters at the end of the first
-/// plane, two of which XML forbids.
+/// Whether bytes outside ASCII stay: the text is UTF-8 without characters from U+F000 to U+FFFF, two of which XML
+/// forbids.
 #[tactic(auto, unfolding(crate::specs::Junit::keeps_others))]
 fn keeps_others(text: &[u8]) -> bool
     ensures { result ≡ junit.keeps_others text.now }
@@ -27,14 +27,14 @@ fn keeps_others(text: &[u8]) -> bool
     }
 }
 
-/// Whether no byte begins a character at the end of the first plane.
+/// Whether no byte begins a character from U+F000 to U+FFFF.
 fn is_without_ends(text: &[u8]) -> bool
     ensures { result ≡ junit.is_without_ends text.now }
 {
     text.iter().all(|byte| *byte != 239)
 }
 
-/// A byte that has no name in XML: `?` if it does not stay.
+/// A byte that needs no escape in XML; `?` for a byte below 32, and for a byte outside ASCII that does not stay.
 fn plain_byte(keeps: bool, byte: u8) -> u8
     ensures { result ≡ junit.plain_byte keeps byte }
 {
@@ -287,7 +287,7 @@ fn others_in(failures: &[Failure]) -> usize
     count
 }
 
-/// One, if nothing is checked.
+/// 1 if nothing is checked and nothing else is wrong, else 0.
 fn nothings(outcome: &Outcome) -> usize
     ensures { result ≡ junit.nothings outcome.now }
 {
@@ -303,7 +303,7 @@ fn tests_in(outcome: &Outcome) -> usize
     checks.len() + others_in(outcome.failures.as_slice()) + nothings(outcome)
 }
 
-/// How many of them fail.
+/// How many cases of a suite fail.
 #[tactic(auto, unfolding(crate::specs::Junit::failed_in))]
 fn failed_in(outcome: &Outcome) -> usize
     ensures { result ≡ junit.failed_in outcome.now }

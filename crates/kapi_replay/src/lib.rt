@@ -1,5 +1,5 @@
-//! Transcripts: requests and events with the answers that are wanted of them, played on the machine, and the answers that are not
-//! as wanted.
+//! Transcripts: requests and events with expected answers, played on the machine, and a report of the answers that
+//! differ.
 #![tactic(auto)]
 
 mod asked;

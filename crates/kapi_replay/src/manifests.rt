@@ -75,7 +75,7 @@ fn text_at<'a>(
     None
 }
 
-/// Appends how the text of this number of a file with so many texts is named.
+/// Appends the name of a text: the name of its file or folder and, unless it is the only text there, its number.
 fn push_text_name(
     text: &mut Vec<u8>,
     name: &[u8],
@@ -120,7 +120,7 @@ fn fault_text(
     Ok(Sequence::new(text))
 }
 
-/// The failure of what is wrong there, for this reason, with so many more faults.
+/// The failure of manifests with a fault at this origin, for this reason, and `more` further faults.
 fn fault_at(
     alloc: Global,
     loads: &[LoadedFile],
@@ -163,7 +163,7 @@ fn shown(byte: u8) -> u8
     if byte < 32 || byte == 127 { b'?' } else { byte }
 }
 
-/// The failure of manifests with a fault that begins there, and so many more.
+/// The one failure of manifests with a fault at this origin, for this reason, and `more` further faults.
 pub fn fault_failure(
     alloc: Global,
     loads: &[LoadedFile],
@@ -189,7 +189,7 @@ fn origin_at(origins: &[Origin], number: usize) -> Origin
     }
 }
 
-/// Why the first line that is not loaded is not.
+/// The reason of the first line that is not loaded.
 fn first_reason(reasons: &[LineReason]) -> &str {
     match reasons {
         [first, ..] => first.reason.as_str(),
@@ -279,7 +279,7 @@ fn play_prepared<R: Wait>(
     }
 }
 
-/// What the files of manifests are, with the default roles if they are wanted.
+/// Reads the files of manifests as one policy, with the default roles if the case has them.
 pub fn read_manifests(
     alloc: Global,
     loads: &[LoadedFile],
@@ -298,7 +298,7 @@ pub fn read_manifests(
     Ok(prepared)
 }
 
-/// Plays a case that begins with the manifests that are there.
+/// Plays a case that begins with manifests, none of whose files is missing.
 fn play_texts<R: Wait>(
     alloc: Global,
     rt: &R,

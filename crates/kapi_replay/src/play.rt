@@ -159,7 +159,7 @@ fn no_form(alloc: Global, number: usize, reason: &str) -> Result<Vec<Failure>, M
     only(alloc, Failure::NoForm(number, reason))
 }
 
-/// The failure of a case that loads a file of objects, a line of which, of this number, is not loaded.
+/// The failure of a case whose file of objects is not loaded, since the line of this number is at fault.
 fn not_loaded(
     alloc: Global,
     table: &Sequence<ResourceRow>,
@@ -177,7 +177,7 @@ fn not_loaded(
     }
 }
 
-/// The failure of a line of the transcript that loads a file a line of which is not loaded, for this reason.
+/// The failure of a line of the transcript whose file is not loaded: the line of the file at fault, and the reason.
 fn not_loaded_for(
     alloc: Global,
     number: usize,

@@ -169,9 +169,8 @@ fn keep(outcomes: &mut Vec<Outcome>, outcome: Outcome) -> Result<(), Memory>
     Ok(())
 }
 
-/// Plays transcripts, each of whose cases begins on a machine of its own, and writes the report of each, or where
-/// `rewrites` is set each transcript with lines that want the answers that came if others are wanted. Returns what
-/// became of each.
+/// Plays transcripts, each case on a machine of its own. Writes a report of each transcript or, if `rewrites` is set,
+/// the transcript with each unmet expectation corrected to the actual answer. Returns the outcome of each.
 ///
 /// # Errors
 /// `Write` if the writer fails, `Memory` if an allocation fails outside an event.

@@ -174,7 +174,7 @@ fn push_count(text: &mut Vec<u8>, wanted: usize, failures: usize) -> Result<(), 
     Ok(())
 }
 
-/// What is said of so many checks without a failure.
+/// The end of a report without failures: whether anything was checked.
 #[tactic(auto, unfolding(crate::specs::Reports::well_text))]
 fn well_text(wanted: usize) -> &'static [u8]
     ensures { result.now ≡ reports.well_text wanted }
@@ -201,7 +201,7 @@ fn report(alloc: Global, lines: &[Sequence<u8>], outcome: &Outcome) -> Result<Ve
     Ok(text)
 }
 
-/// The answer that came in place of the one that a failure's line wants, if it is this line.
+/// The actual answer of a failure, if the failure is a difference at this line.
 fn answer_for(number: usize, failure: &Failure) -> Option<&[u8]>
     ensures { option_map (λ s. s.now) result ≡ reports.answer_for number failure.now }
 {
@@ -217,7 +217,7 @@ fn answer_for(number: usize, failure: &Failure) -> Option<&[u8]>
     }
 }
 
-/// The first answer that came in place of the one that this line wants.
+/// The actual answer of the first difference at this line, if there is one.
 fn came_for(number: usize, failures: &[Failure]) -> Option<&[u8]>
     ensures { option_map (λ s. s.now) result ≡ came_for_of number failures.now }
 {
@@ -232,7 +232,7 @@ fn came_for(number: usize, failures: &[Failure]) -> Option<&[u8]>
     None
 }
 
-/// The line that wants what came, in place of a line that wants something else.
+/// The line that expects the actual answer, in place of a line whose expectation is not met.
 fn corrected_line(alloc: Global, line: &[u8], answer: &[u8]) -> Result<Sequence<u8>, Memory>
     ensures { IfOk result (λ s. s ≡ reports.corrected_line (wanted_of line.now) answer.now) }
 {
@@ -242,7 +242,7 @@ fn corrected_line(alloc: Global, line: &[u8], answer: &[u8]) -> Result<Sequence<
     }
 }
 
-/// Appends a line, or in its place the line that wants the answer that came.
+/// Appends a line of the transcript, corrected if its expectation is not met.
 fn push_line(
     alloc: Global,
     text: &mut Vec<u8>,
@@ -264,7 +264,7 @@ fn push_line(
     }
 }
 
-/// A transcript in which each line that wants another answer than came wants that answer.
+/// The transcript with each unmet expectation corrected to the actual answer.
 fn rewrite(alloc: Global, lines: &[Sequence<u8>], failures: &[Failure]) -> Result<Vec<u8>, Memory>
     ensures { IfOk result (λ v. v.items ≡ rewritten lines.now failures.now) }
 {

@@ -1,4 +1,4 @@
-//! A client that has sent many requests beside one that has sent one.
+//! A client with many requests next to a client with one request.
 
 use crate::fixture::{client, master, serve};
 use kapi_serve::{PortEvent, PortFault, Ports, Sockets};

@@ -1,5 +1,5 @@
-//! Tests of the server that no transcript shows: its loop over ports in memory and over sockets of this machine, with one
-//! client or many, slow or greedy ones, ones that watch, and calls that fail.
+//! Tests of the server which no transcript can show: its loop over ports in memory and over sockets of this machine,
+//! with one client or many, slow or greedy clients, watches, and failing calls.
 #![tactic(auto)]
 
 #[cfg(test)]
