@@ -1,8 +1,8 @@
 -- Results of acts, joined.
-use Rattle.std.proofs.Common.{◌≡◌, ◌<◌, ℕ, List, [], ◌∷◌, ◌++◌, length, get_or, set, refl, sym, ap, ◌∙◌, subst, append_assoc, Option, None, Some, Err, inl, inr}
+use Rattle.std.proofs.Common.{◌≡◌, ◌<◌, ℕ, Bool, true, false, List, [], ◌∷◌, ◌++◌, length, get_or, set, refl, sym, ap, ◌∙◌, subst, append_assoc, Option, None, Some, Err, inl, inr}
 use Rattle.std.specs.List.{remove}
 use Rattle.std.proofs.lemmas.List.{append-nil, map-append}
-use Rattle.kapi_core.proofs.Gains.{events_gain}
+use Rattle.kapi_core.proofs.Gains.{events_gain, nobody_gains}
 use Rattle.kapi_core.specs.Machine.{Machine, step, answers, after}
 use Rattle.kapi_core.specs.Running.{Running}
 use Rattle.kapi_core.specs.Refines.{Keeps, Makes, Opens, RunsOut, Refines, TakesIn, sent_if, turned_if}
@@ -304,6 +304,12 @@ pub goes_unshown : (m : ServerState) (b : Running) (t front back : List Seat) (x
     → Advances m (record m { core = b; seats = t })
 goes_unshown m b t front back x o is to makes none = goes_for m b t front back x x (event.Pump x.conn) answer.Nothing is to (makes_nothing m.core b (event.Pump x.conn) o makes none) refl (deals_unshown x)
 
+-- the watch of the client was moved on, if it was
+pub goes_skipped : (m : ServerState) (b : Running) (front back : List Seat) (x : Seat) (skipped : Bool) → m.seats ≡ front ++ x ∷ back → (skipped ≡ true → Makes m.core b (event.Pump x.conn) answer.Nothing) → (skipped ≡ false → b ≡ m.core)
+    → Advances m (record m { core = b })
+goes_skipped m b front back x true is makes same = goes_for m b m.seats front back x x (event.Pump x.conn) answer.Nothing is is (makes refl) refl (deals_unshown x)
+goes_skipped m b front back x false is makes same = goes_kept m b m.seats (λ n h. subst (λ z. Refines z n) (sym (same refl)) h) refl
+
 -- a client whose bytes have ended is closed, and another stays
 pub goes_finished : (m : ServerState) (b : Running) (t front back : List Seat) (c d : Client) (p : Progress) → m.seats ≡ front ++ seat_of c ∷ back → t ≡ front ++ seat_of d ∷ back → Finishes m.core b c d p → Advances m (record m { core = b; seats = t })
 goes_finished m b t front back c d p is to (inl q) =
@@ -393,6 +399,14 @@ ends_at m b t r i cs ds e left below is to =
     goes_ended m b t r k.0 k.2 k.1 (is ∙ k.3.0) (to ∙ ap seats_of left.list ∙ at_remove cs.list.items i k.0 k.1 k.2 k.3)
     (subst (λ z. Makes m.core b (event.Close z.conn) answer.Done) (sym k.4) (left.closes e)) (subst (λ z. Adds m.report r (entry.Ended z.slot ∷ [])) (sym k.4) (left.adds e))
 
+-- something was done for the client at a place, and the ports were not asked
+pub goes_tended : (a b : Running) (d e : Board) (p q : Option (List PolicyChange)) (cs : List Client) (i : ℕ) (c f : Client) → i < length cs → c ≡ get_or cs i c
+    → AdvancesFor (λ s. moment a d p s unasked) (λ s. moment b e q s unasked) c f → Advances (moment a d p (seats_of cs) unasked) (moment b e q (seats_of (set cs i f)) unasked)
+goes_tended a b d e p q cs i c f below at goes =
+    let k = stands_at cs i c below in
+    goes_as (moment a d p (seats_of cs) unasked) (moment b e q (seats_of (set cs i f)) unasked) (k.0 ++ seat_of c ∷ k.2) (k.0 ++ seat_of f ∷ k.2) (k.3.0 ∙ ap (λ z. k.0 ++ z ∷ k.2) (k.4 ∙ ap seat_of (sym at)))
+    (at_set cs i k.0 k.1 k.2 f k.3) (goes k.0 k.2)
+
 -- the end of the bytes of the client at a place was read
 pub reads_end_at : (m : ServerState) (t : List Seat) (r : Report) (i : ℕ) (cs : List Client) (e : Client) → i < length cs → m.seats ≡ seats_of cs → t ≡ seats_of cs → Adds m.report r (entry.Gave (get_or cs i e).slot [] ∷ [])
     → Advances m (record m { seats = t; report = r })
@@ -452,7 +466,8 @@ goes_serves a b d e q t r z none s = record {
   entries = entries_in s.acts;
   told = λ y. (s.told y).1;
   account = λ m y. accounts m s.acts t s.follows (s.runs m y).0;
-  gains = λ m refines. events_gain a m (events_of (made_in s.acts)) refines;
+  gains = λ m refines. nobody_gains a b m (events_of (made_in s.acts)) refines (s.runs m refines).1;
+  always = λ m refines. events_gain a m (events_of (made_in s.acts)) refines;
 }
   where
     published : e.list ++ unpublished e q ≡ d.list ++ steps_by s.acts

@@ -1,7 +1,8 @@
 -- What the server makes of the machine and of the desk.
 use Rattle.std.specs.Prelude.{◌≡◌, ◌≤◌, List, [], ◌∷◌, ◌++◌, length, Option}
 use Rattle.kapi_policy.specs.declared.change.PolicyChange.{PolicyChange}
-use Rattle.kapi_core.specs.Gains.{NobodyGainsDuring}
+use Rattle.kapi_aggregation.specs.Roles.{roles_in}
+use Rattle.kapi_core.specs.Gains.{NobodyGains, NobodyGainsDuring, acting_in}
 use Rattle.kapi_core.specs.Machine.{Machine, after, answers}
 use Rattle.kapi_core.specs.Running.{Running}
 use Rattle.kapi_core.specs.Refines.{Refines}
@@ -37,7 +38,7 @@ pub record ServerState : Type 1 where
   pub seats : List Seat
   pub report : Report
 
--- acts were made from one state to another, and the steps of their events were put behind the others
+-- acts led from one state to the other, and the policy steps of their events were appended
 pub record Advances (old new : ServerState) : Type 0 where
   pub acts : List Act
   pub runs : Runs old.core new.core (made_in acts)
@@ -47,8 +48,8 @@ pub record Advances (old new : ServerState) : Type 0 where
 
 -- what a server did: its events are one list, after which the machine is that of their run; the desk has published the
 -- steps of their answers in order, all but at most the last, so what it publishes is a policy that the machine had; and
--- where the ports report what they read and wrote, the bytes and the events are accounted for; from any moment on nobody
--- gains by the events that follow
+-- where the ports report what they read and wrote, the bytes and the events are accounted for; nobody gains by the
+-- policy that the machine has at the end, nor from any moment on by the events that follow
 pub record Serves (old new : Running) (board next : Board) (report later : Report) : Type 0 where
   pub made : List Made
   pub runs : Runs old new made
@@ -60,4 +61,5 @@ pub record Serves (old new : Running) (board next : Board) (report later : Repor
   pub entries : List Entry
   pub told : later.tells → later.history ≡ report.history ++ entries
   pub account : (m : Machine) → Refines old m → Account entries made
-  pub gains : (m : Machine) → Refines old m → NobodyGainsDuring m (events_of made)
+  pub gains : (m : Machine) → Refines old m → NobodyGains (roles_in m.store.objects) (acting_in m (events_of made)) old.policy new.policy
+  pub always : (m : Machine) → Refines old m → NobodyGainsDuring m (events_of made)
