@@ -35,7 +35,7 @@ MAPS = "/api/v1/namespaces/default/configmaps"
 ROLES = f"/apis/{RBAC}/v1/namespaces/default/roles"
 STARVED_CLIENTS, STARVED_SECONDS, LONG = 50, 20, 320
 IDLE_CLIENTS, LISTED, WIDE, CHECKED, LABELLED = 320, 100_000, 56, 1_000, 5_000
-QUIET, REMOVED = 100, 1_000
+QUIET, REMOVED = 100, 1_024
 RULES = 300
 
 
@@ -430,22 +430,33 @@ def labels(program):
     return judge(f"a cluster role beside {LABELLED:,} labelled ones", [("ms of processor time", used, None), ("refused", answer[9:12] != b"201", 0)])
 
 
+def shown(watch):
+    """What a watch is sent within a second."""
+    watch.settimeout(1)
+    sent = b""
+    try:
+        while piece := watch.recv(65536):
+            sent += piece
+    except TimeoutError:
+        return sent
+    return sent + b" and the end"
+
+
 def window(program):
-    """A watch that nothing concerns, beside the deletion of many objects at once behind other changes."""
-    made = [{"apiVersion": "v1", "kind": "ConfigMap", "metadata": {"name": f"m{number:06}", "namespace": "default"}} for number in range(REMOVED)]
-    with Server(program, objects=made) as server:
-        watch, root = connect(ports.ROOT), connect(ports.ROOT)
-        ask(watch, "GET", "/api/v1/namespaces/other/pods?watch=1")
+    """Two watches beside the deletion of as many objects as changes are kept: nothing concerns one, and of the other an event is due."""
+    kind = {"apiVersion": "v1", "kind": "ConfigMap"}
+    made = [{**kind, "metadata": {"name": f"m{number:06}", "namespace": "default"}} for number in range(REMOVED)]
+    with Server(program, objects=[{"apiVersion": "v1", "kind": "Namespace", "metadata": {"name": "other"}}, *made]) as server:
+        quiet, due, root = connect(ports.ROOT), connect(ports.ROOT), connect(ports.ROOT)
+        ask(quiet, "GET", "/api/v1/namespaces/other/pods?watch=1")
+        ask(due, "GET", "/api/v1/namespaces/other/configmaps?watch=1")
         for number in range(QUIET):
             ask(root, "PATCH", f"{MAPS}/m{number:06}", {"data": {"k": str(number)}})
-        ask(root, "DELETE", MAPS)
+        root.sendall(request("POST", "/api/v1/namespaces/other/configmaps", json.dumps({**kind, "metadata": {"name": "last"}})) + request("DELETE", MAPS))
         rest(server, 0.2)
-        watch.settimeout(1)
-        try:
-            shown = watch.recv(65536)
-        except TimeoutError:
-            shown = b""
-    return judge(f"a deletion of {REMOVED:,} objects", [("bytes shown to a watch that it does not concern", len(shown), 0)])
+        quiet_shown, due_shown = shown(quiet), shown(due)
+    events = due_shown.count(b'"type":"ADDED"') - due_shown.count(b'"type":"ERROR"') - due_shown.count(b" and the end")
+    return judge(f"a deletion of {REMOVED:,} objects", [("bytes shown to a watch that it does not concern", len(quiet_shown), 0), ("events lost of another watch", 1 - events, 0)])
 
 
 ATTACKS = {it.__name__: it for it in (greedy, flood, silent, stalled, idle, spin, line, readers, selector, window, memory, missing, rules, bound_again, labels, groups, repeats)}

@@ -1,4 +1,4 @@
-ghost use Rattle.std.specs.Prelude.{true, None, Ok, ℕ, ◌≡◌, ◌≤◌, ◌&&◌, nat_lt, nat_le, length, IfOk, IfSome, IsTrue, if◌then◌else◌};
+ghost use Rattle.std.specs.Prelude.{true, false, None, Ok, ℕ, ◌≡◌, ◌≤◌, ◌&&◌, nat_lt, nat_le, length, IfOk, IfSome, IsTrue, if◌then◌else◌};
 ghost use Rattle.std.specs.BTreeMap.{is_at};
 ghost use Rattle.std.specs.Map.{remove_entry};
 ghost use Rattle.std.specs.Ordering.{nat_cmp};
@@ -314,6 +314,37 @@ impl<P: Policy + Drop> Core<P> {
             close: closes(reply.after),
             policy_changes: PolicyStep::nothing(self.alloc),
         }))
+    }
+
+    /// Moves the watch of a connection on if it has nothing to show, and returns whether it did. Allocates nothing.
+    pub fn pass(&mut self, conn: ConnId) -> bool
+        ensures passed { result ≡ true → Makes self.old self.new (Event.Pump conn) Answer.Nothing }
+        ensures same { result ≡ false → self.new ≡ self.old }
+    {
+        let Some(connection) = self.connections.get(&conn.0) else {
+            return false;
+        };
+        let Some(watching) = &connection.watching else {
+            return false;
+        };
+        let watching = watching.get();
+        let Next { event, place } = watching.watch.next(&self.store);
+        let event = recheck(&self.policy, self.rechecks, watching, event);
+        match event {
+            Some(_due) => false,
+            None => {
+                advance_watch(&mut self.connections, conn.0, After::Watches, place);
+                true
+            }
+        }
+    }
+
+    /// Whether the next request of a connection has a whole head and is a DELETE. Allocates nothing.
+    pub fn is_deletion(&self, conn: ConnId) -> bool {
+        match self.connections.get(&conn.0) {
+            Some(connection) => connection.inbox.is_deletion(),
+            None => false,
+        }
     }
 
     /// The fingerprint of the watch that runs on a connection, if one does. Allocates nothing.

@@ -4,7 +4,7 @@ ghost use Rattle.std.specs.Prelude.{◌≡◌, ◌+◌, ◌<◌, ◌≤◌, ◌+
 
 use crate::head::{EMPTY_HEAD, HeadParts};
 use crate::item::{Decision, Progress, advance, continued, item};
-use crate::message::{HttpFault, HttpRequest};
+use crate::message::{HttpFault, HttpRequest, Method};
 use crate::scan::BEGIN;
 use kapi_text::Memory;
 use std::alloc::Global;
@@ -116,6 +116,16 @@ impl Inbox {
             self.progress.decision,
             &self.parts,
         )
+    }
+
+    /// Whether the next request has a whole head and is a DELETE. Allocates nothing.
+    pub fn is_deletion(&self) -> bool {
+        match self.progress.decision {
+            Decision::Accepted(_, _) => self.parts.method == Method::Delete,
+            Decision::Chunked(_, _) => self.parts.method == Method::Delete,
+            Decision::Waits => false,
+            Decision::Refused(_, _) => false,
+        }
     }
 
     /// Takes out the item that `next` returns; after a fault nothing is read any more.

@@ -19,7 +19,8 @@ use Rattle.kapi_serve.proofs.Fares.{AllFare, Fares, Passes, Skips, all_fare_besi
 
 -- ---- all of it
 
--- the account, how the clients fare, and that nothing comes of a slot that is free or to a connection that is no more
+-- the account and how the clients fare; a free slot gives and accepts nothing, and nothing is fed or answered to a
+-- connection that has ended
 record Holds (n : ℕ) (s : List Seat) (es : List Entry) (ms : List Made) : Type 0 where
   pub account : Account es ms
   pub seats : AllFare s es ms

@@ -1,4 +1,4 @@
--- The policies that a desk has published are those that the machine had.
+-- Each policy published by a desk was the policy of the machine at some moment.
 use Rattle.std.proofs.Common.{◌≡◌, ℕ, suc, List, [], ◌∷◌, ◌++◌, take, refl, sym, ap, ◌∙◌, append_assoc}
 use Rattle.std.proofs.lemmas.List.{append_cancel_left}
 use Rattle.kapi_core.proofs.Gains.{event_goes}

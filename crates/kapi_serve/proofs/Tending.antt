@@ -56,6 +56,9 @@ both_still progress.Starved progress.Starved is = absurd (cc)
 pub made_not_still : progress.Made ≡ progress.Still → ⊥
 made_not_still e = absurd (cc)
 
+pub starved_not_still : progress.Starved ≡ progress.Still → ⊥
+starved_not_still e = absurd (cc)
+
 -- ---- phases
 
 pub open_not_ending : phase.Open ≡ phase.Ending → ⊥
@@ -742,6 +745,32 @@ on_tended a b cs aw p i c e below inside at is tends = λ m r s.
           (has_at aw p e.id.0 0 inside (at c 0 ∙ ap (λ k. k.0) (sym same))) (λ k h. h),
     )
 
+-- the watch of a client was moved on, if it was
+pub tends_skipped : (a b : Running) (c : Client) (skipped : Bool) → (skipped ≡ true → Makes a b (event.Pump c.id) answer.Nothing) → (skipped ≡ true → c.phase ≡ phase.Closed → ⊥) → (skipped ≡ false → b ≡ a) → Tends a b c c
+tends_skipped a b c true makes going same = tends_unshown a b c c None (keeps_nothing c) (makes refl) refl (going refl)
+tends_skipped a b c false makes going same = subst (λ x. Tends a x c c) (sym (same refl)) (tends_nothing a c c (keeps_nothing c))
+
+-- a client was tended that may sleep, and then stays as it was
+pub on_passed : (a b : Running) (cs : List Client) (aw : List ℕ) (i : ℕ) (c e : Client) → i < length cs → c ≡ get_or cs i c → Tends a b c e → (IsQuiet c → e ≡ c) → MatchOn a b cs aw (set cs i e) aw
+on_passed a b cs aw i c e below is tends same = λ m r s.
+    let own : MatchesConnection m c = subst (λ z. MatchesConnection m z) (sym is) (each_at (λ x. MatchesConnection m x) cs i c s.suit below) in
+    let rests : IsAwakeOrQuiet aw c = subst (λ z. IsAwakeOrQuiet aw z) (sym is) (each_at (λ x. IsAwakeOrQuiet aw x) cs i c s.asleep below) in
+    let t = tends m r s.numbered own in
+    let g : GoesOn (get_or cs i c).id.0 m t.0 = subst (λ z. GoesOn z.id.0 m t.0) is t.2 in (
+      t.0,
+      t.1,
+      record {
+        numbered = g.numbered;
+        suit = each_set (λ x. MatchesConnection m x) (λ x. MatchesConnection t.0 x) cs i c e s.rise below (λ x never suits. suits_same m t.0 x (g.others x.id.0 never) g.next suits) s.suit t.4;
+        rise = rise_set cs i c e s.rise below (t.3 ∙ ap (λ z. z.id) is);
+        asleep = each_put (λ x. IsAwakeOrQuiet aw x) cs i e s.asleep (still_rests rests t.3);
+      },
+    )
+  where
+    still_rests : IsAwakeOrQuiet aw c → e.id ≡ c.id → IsAwakeOrQuiet aw e
+    still_rests (inl has) id = inl (subst (λ k. Has aw k.0) (sym id) has)
+    still_rests (inr quiet) id = inr (subst IsQuiet (sym (same quiet)) quiet)
+
 pub visits_tended : (a b : Running) (cs : List Client) (aw : List ℕ) (p i : ℕ) (c f e : Client) (still : Type 0) → i < length cs → p < length aw → ((d : Client) (x : ℕ) → get_or aw p x ≡ (get_or cs i d).id.0) → c ≡ get_or cs i c
     → Tends a b c e → (still → Waits f e × IsServed e) → (f.blocked ≡ false → IsSent f.pending) → (f.phase ≡ phase.Closed → IsSent f.pending → ⊥) → VisitsAt a b cs (set cs i e) aw p still
 visits_tended a b cs aw p i c f e still below inside at is tends rests sent over = λ m r s.
@@ -781,6 +810,32 @@ round_next a b x cs ds es fs aw bw vw xw p q still now later before one visit sa
         sleeps u.0 (subst (λ ks. AllMatch u.0 es ks) (sym same) u.2),
         λ h. subst (λ ks. AreDue u.0 fs ks) (sym rest) (subst (λ xs. AreDue u.0 xs (drop (suc p) bw)) (sym are) (u.3 (before h).1 (t.3 (before h).0))),
       );
+}
+
+-- between two visits watches may be moved on; if none was, all is as before
+pub round_passed : (a b x : Running) (cs ds es : List Client) (aw bw xw : List ℕ) (p : ℕ) (still later : Type 0) (passed : Progress) → (later → still × (passed ≡ progress.Still)) → Round a b cs aw ds bw p still → MatchOn b x ds bw es xw → xw ≡ bw
+    → (passed ≡ progress.Still → (x ≡ b) × (es ≡ ds)) → Round a x cs aw es xw p later
+round_passed a b x cs ds es aw bw xw p still later progress.Still before one stands also same = record {
+  goes = λ m r s.
+      let t = one.goes m r s in
+      let are = same refl in (
+        t.0,
+        subst (λ z. Refines z t.0) (sym are.0) t.1,
+        subst (λ xs. AllMatch t.0 xs xw) (sym are.1) (subst (λ ks. AllMatch t.0 ds ks) (sym also) t.2),
+        λ h. subst (λ xs. AreDue t.0 xs (drop p xw)) (sym are.1) (subst (λ ks. AreDue t.0 ds (drop p ks)) (sym also) (t.3 (before h).0)),
+      );
+}
+round_passed a b x cs ds es aw bw xw p still later progress.Made before one stands also same = record {
+  goes = λ m r s.
+      let t = one.goes m r s in
+      let u = stands t.0 t.1 t.2 in
+      (u.0, u.1, u.2, λ h. absurd (made_not_still (before h).1));
+}
+round_passed a b x cs ds es aw bw xw p still later progress.Starved before one stands also same = record {
+  goes = λ m r s.
+      let t = one.goes m r s in
+      let u = stands t.0 t.1 t.2 in
+      (u.0, u.1, u.2, λ h. absurd (starved_not_still (before h).1));
 }
 
 pub round_last : (a b : Running) (cs ds : List Client) (aw bw : List ℕ) (p : ℕ) (still : Type 0) → length bw ≤ p → Round a b cs aw ds bw p still → SettlesOn a b cs aw ds bw still

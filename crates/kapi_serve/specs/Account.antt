@@ -24,7 +24,7 @@ read_from slot (entry.Gave s bytes ∷ rest) = if s == slot then bytes ++ read_f
 read_from slot (entry.Took s bytes ∷ rest) = read_from slot rest
 read_from slot (entry.Ended s ∷ rest) = if s == slot then [] else read_from slot rest
 
--- the last piece that was read from a slot until it is ended or opened again, or the one before where none was
+-- the last piece that was read from a slot before it is ended or opened again; `last` if none was read
 unfoldable pub last_read : ℕ → List ℕ → List Entry → List ℕ
 last_read slot last [] = last
 last_read slot last (entry.Opened s who ∷ rest) = if s == slot then last else last_read slot last rest
@@ -102,7 +102,7 @@ pub record Talk : Type 0 where
   pub answered : List ℕ
   pub closed : Bool
 
--- what came of asking for a connection; nothing where there were too many
+-- what came of asking for a connection; nothing was fed or answered if there were too many connections
 abbrev pub talk_of : Identity → Answer → List Made → Talk
 talk_of who (answer.Opened conn) rest = record { identity = who; fed = fed_to conn rest; answered = answered_to conn rest; closed = closes conn rest }
 talk_of who _ rest = record { identity = who; fed = []; answered = []; closed = false }

@@ -6,10 +6,10 @@ use Rattle.kapi_serve.specs.declared.port.PortEvent.{PortEvent}
 use Rattle.kapi_serve.specs.declared.port.PortEvent.TheVariants as event
 use Rattle.kapi_serve.specs.declared.listener.Listener.{Listener}
 
--- the port that was asked for and the identity of its clients, of each listener in the order in which they began
+-- for each listener, in the order in which they began: the requested port, and the identity of its clients
 abbrev pub doors : List Listener → List (ℕ × Identity)
 doors listeners = map (λ l. (l.port, l.identity)) listeners
 
--- the identity of a client that has connected is that of one of the ports
+-- a client that has connected has the identity of one of the ports
 abbrev pub CameByDoor : List Listener → Option PortEvent → Type 0
 CameByDoor listeners happened = (slot : ℕ) (identity : Identity) → happened ≡ Some (event.Opened slot identity) → (port : ℕ) × Has (doors listeners) (port, identity)

@@ -9,8 +9,8 @@ use Rattle.kapi_desk.specs.Steps.{after}
 use Rattle.kapi_loading.specs.Loading.{Publishes}
 use Rattle.kapi_policy.specs.declared.change.PolicyChange.{PolicyChange}
 
--- if a desk had published the policy of the machine, each list of steps that was published since is the policy that
--- the machine had after some of the events: a reader of the list decides as the machine did then
+-- if a desk had published the policy of the machine, each list of published steps since then gives the policy of the
+-- machine after the first n events, for some n: a reader of the list decides as the machine did at that moment
 abbrev pub PublishesPolicies : Running → Board → Board → List Event → Type 0
 PublishesPolicies core board next events =
     (m : Machine) → Publishes core board m → (seen : List (List PolicyChange)) → Begins board.list seen → Begins seen next.list

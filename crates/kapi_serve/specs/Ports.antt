@@ -15,7 +15,7 @@ pub record Report : Type 1 where
 abbrev pub untold : Report
 untold = record { tells = ⊥; history = [] }
 
--- if a call is reported, those before it were, and these entries were put behind the others
+-- if this call is reported, so are all calls before it, and the entries were appended to the history
 abbrev pub Adds : Report → Report → List Entry → Type 0
 Adds old new entries = new.tells → old.tells × (new.history ≡ old.history ++ entries)
 

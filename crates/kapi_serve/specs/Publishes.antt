@@ -16,7 +16,7 @@ all_steps desk kept = desk.list ++ unpublished desk kept
 abbrev pub IsPrompt : Board → Option (List PolicyChange) → Type 0
 IsPrompt desk kept = length (unpublished desk kept) ≤ 1
 
--- steps were put behind the others; where at most one was unpublished, at most one is
+-- steps were appended; if at most one step was unpublished before, at most one is after
 pub record Publishes (old new : Board) (p q : Option (List PolicyChange)) (steps : List (List PolicyChange)) : Type 0 where
   pub opening : new.opening ≡ old.opening
   pub all : all_steps new q ≡ all_steps old p ++ steps

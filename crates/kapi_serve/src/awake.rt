@@ -28,7 +28,7 @@ impl ReadySet {
         self.numbers.len()
     }
 
-    /// Makes room for one connection more than so many.
+    /// Makes room for at least one more than `count` connections.
     pub(crate) fn reserve(&mut self, count: usize) -> Result<(), Memory>
         ensures { self.new.numbers.items ≡ self.old.numbers.items }
     {

@@ -105,7 +105,8 @@ impl Client {
         self.watching.is_none() || self.shown
     }
 
-    /// Whether the connection has a watch that is one of those; if there is no list of them, whether it has one.
+    /// Whether the list has the fingerprint of the connection's watch; without a list, whether the connection has a
+    /// watch.
     fn is_called(&self, concerned: &Option<Vec<u64>>) -> bool
         ensures { result ≡ is_called_of (option_map (λ v. v.items) concerned.now) self.now.watching }
     {
@@ -126,7 +127,7 @@ impl Client {
         }
     }
 
-    /// The same as `is_called`, if the marks tell most of those that are not.
+    /// Like `is_called`, but tests the marks first: they rule out most watches that are not called.
     pub(crate) fn is_called_by(&self, marks: &[bool; MARKS], concerned: &Option<Vec<u64>>) -> bool
         requires { AreMarked (option_map (λ v. v.items) concerned.now) marks.now }
         ensures { result ≡ is_called_of (option_map (λ v. v.items) concerned.now) self.now.watching }
@@ -151,7 +152,7 @@ impl Client {
         unreachable!()
     }
 
-    /// Makes one write. A write that takes no byte is as one that would block.
+    /// Makes one write. If the slot accepts no byte, this counts as `WouldBlock`.
     fn write<Q: Ports>(&mut self, ports: &mut Q) -> Flushed
         ensures writes { Writes self.old self.new (Q.report ports.old) (Q.report ports.new) }
         ensures keeps { Keeps self.old self.new }
@@ -191,8 +192,8 @@ impl Client {
         self.phase != Phase::Closed && !self.pending.is_full()
     }
 
-    /// Whether a step may be made: there is room for its answer, all steps are published, and it is not held back. If not,
-    /// there was no memory for it.
+    /// Whether a step may be made: there is room for its answer, all steps are published, and it is not held back. If
+    /// not, there was no memory for it.
     fn is_ready(&mut self, publishing: &Publishing, desk: &Desk) -> bool
         ensures room { result ≡ true → deque_len self.new.pending.behind < deque_capacity self.new.pending.behind }
         ensures waiting { result ≡ true → desk.now.waiting ≡ [] }
@@ -282,6 +283,42 @@ impl Client {
             }
             Err(_starved) => self.hold(),
         }
+    }
+
+    /// Moves the watch on that has shown all that was due to it, or shows the next event of another. A client without a
+    /// watch, and one that takes no more bytes, stays as it is.
+    pub(crate) fn pass<R: Wait, P: Policy + Drop>(
+        &mut self,
+        rt: &R,
+        core: &mut Core<P>,
+        desk: &mut Desk,
+        publishing: &mut Publishing,
+    )
+        ensures goes { AdvancesFor (stage core.old desk.old publishing.old) (stage core.new desk.new publishing.new) self.old self.new }
+        ensures tends { Tends core.old core.new self.old self.new }
+        ensures quiet { IsQuiet self.old → self.new ≡ self.old }
+    {
+        if self.is_due() {
+            let _shown = self.pump(rt, core, desk, publishing);
+            return;
+        }
+        let _skipped = self.skip(core);
+    }
+
+    /// Whether an event may be due to a watch, and the client takes it.
+    fn is_due(&self) -> bool
+        ensures { result ≡ true → IsQuiet self.now → ⊥ }
+    {
+        self.watching.is_some() && !self.shown && !self.pending.is_full()
+    }
+
+    /// Moves the watch on if it has shown all that was due to it and nothing is due since, and returns whether it did.
+    fn skip<P: Policy + Drop>(&self, core: &mut Core<P>) -> bool
+        ensures skipped { result ≡ true → Makes core.old core.new (event.Pump self.now.id) answer.Nothing }
+        ensures going { result ≡ true → self.now.phase ≡ phase.Closed → ⊥ }
+        ensures same { result ≡ false → core.new ≡ core.old }
+    {
+        self.shown && self.is_open() && core.pass(self.id)
     }
 
     /// Whether a step that is held back may be made: at once if none was refused, else as the ports say.

@@ -4,8 +4,9 @@ ghost use Rattle.kapi_core.specs.Fingerprints.{fingerprint_on, is_among, is_conc
 ghost use Rattle.kapi_core.specs.Machine.{Machine, link_at};
 ghost use Rattle.kapi_core.specs.Refines.{Refines};
 ghost use Rattle.kapi_serve.specs.Acts.{IsFree};
+ghost use Rattle.kapi_serve.specs.Advances.{Advances};
 ghost use Rattle.kapi_serve.specs.Private.Clients.{freed, freed_on, others, seats_of};
-ghost use Rattle.kapi_serve.specs.Private.ServerStates.{Ends, FeedsOrEnds, Moves, MovesAfter, unasked};
+ghost use Rattle.kapi_serve.specs.Private.ServerStates.{Ends, FeedsOrEnds, Moves, MovesAfter, stage, unasked};
 ghost use Rattle.kapi_serve.specs.Private.ClientsMatch.{AreCalled, AreMarked, AreRoused, IsAwakeAt, IsNew, IsNumbered, IsOf, IsOfNone, Rise, ClientsMatch, ClientsMatchAfter};
 ghost use Rattle.kapi_serve.specs.declared.client.Client.{Client as AClient};
 ghost use Rattle.kapi_serve.specs.declared.client.Phase.TheVariants as phase;
@@ -18,16 +19,19 @@ use crate::marks::{MARKS, marks_of};
 use crate::pending::Pending;
 use crate::port::{PortFault, Ports};
 use crate::progress::Progress;
+use crate::publishing::Publishing;
 use kapi_core::{ConnId, Core};
+use kapi_desk::Desk;
 use kapi_model::Identity;
 use kapi_policy::Policy;
 use kapi_text::Memory;
 use std::alloc::Global;
+use std::sync::Wait;
 
-/// After so many changes all watches are woken, so that one that no change concerned outlives a step of a thousand.
-const WAKE_ALL_AFTER: u64 = 16;
+/// After so many changes all watches are woken: one that no change concerned stays within the changes that are kept.
+const WAKE_ALL_AFTER: u64 = 256;
 
-/// The number of places that are kept, more than connections are open at a time.
+/// The number of list positions that are remembered; more than the connections open at a time.
 const PLACES: usize = 512;
 
 /// The connections that are served, in the order of their numbers.
@@ -37,13 +41,13 @@ pub(crate) struct Clients {
     pub(crate) list: Vec<Client>,
     /// The connections at which something may be done before their slots report anything, or the objects change.
     pub(crate) awake: ReadySet,
-    /// The revision of the objects when the connections were last woken whose watches may have something to show.
+    /// The revision of the objects when connections were last woken for a change.
     pub(crate) woken: u64,
-    /// The revision when all connections with a watch last were.
+    /// The revision when each watch was last woken or moved on.
     roused: u64,
-    /// The connection of which a step that found no memory was last made again.
+    /// The connection whose step, held back for want of memory, was last allowed again.
     tried: u64,
-    /// The places at which connections were last found, by their slots modulo the number of these.
+    /// The list positions at which connections were last found, by their slots modulo `PLACES`.
     places: [usize; PLACES],
 }
 
@@ -235,8 +239,8 @@ impl Clients {
         }
     }
 
-    /// Lets the step of the connection at a place be made, unless it is too early; or ends the connection, as the ports say.
-    /// Whether the ports may be asked for another.
+    /// Allows the held step of the connection at a place, unless the ports defer it, or ends the connection if its slot
+    /// is broken. Returns whether the ports may be asked about another connection.
     fn retry_at<P: Policy + Drop, Q: Ports>(
         &mut self,
         core: &mut Core<P>,
@@ -260,8 +264,8 @@ impl Clients {
         }
     }
 
-    /// The place of the next connection of which a step is held back: the first behind the one that was last tried, or
-    /// else the first of all.
+    /// The place of the next connection with a step held back: the first after the connection `tried`, else the first
+    /// of all.
     fn next_held(&self) -> Option<usize>
         ensures bound { IfSome result (λ i. i < length self.now.list.items) }
         ensures held { IfSome result (λ i. HoldsAt (λ client. client.held ≡ true) self.now.list.items i) }
@@ -301,7 +305,7 @@ impl Clients {
         }
     }
 
-    /// Notes that each slot may take bytes again, and wakes the connections on those that took none.
+    /// Notes that all slots may take bytes again, and wakes the connections whose slots took none.
     pub(crate) fn unblock_all(&mut self) -> Progress
         ensures freed { result ≡ progress.Still → self.new.list.items ≡ map freed self.old.list.items }
         ensures seats { seats_of self.new.list.items ≡ seats_of self.old.list.items }
@@ -333,8 +337,75 @@ impl Clients {
         Progress::Still
     }
 
-    /// Wakes each connection with a watch that the changes since that was last done may concern. What memory does not
-    /// suffice for is done the next time.
+    /// Before the DELETE of an awake connection is answered, moves each watch on: the request may make as many changes
+    /// at once as are kept.
+    pub(crate) fn pass_before<R: Wait, P: Policy + Drop>(
+        &mut self,
+        rt: &R,
+        core: &mut Core<P>,
+        desk: &mut Desk,
+        publishing: &mut Publishing,
+        position: usize,
+    ) -> Progress
+        ensures goes { Advances (stage core.old desk.old publishing.old (seats_of self.old.list.items)) (stage core.new desk.new publishing.new (seats_of self.new.list.items)) }
+        ensures stands { ClientsMatchAfter core.old core.new self.old self.new }
+        ensures awake { self.new.awake ≡ self.old.awake }
+        ensures still { result ≡ progress.Still → (core.new ≡ core.old) × (self.new.list ≡ self.old.list) }
+    {
+        if !self.is_before_deletion(core, position) {
+            return Progress::Still;
+        }
+        self.pass_watches(rt, core, desk, publishing);
+        self.roused = core.revision();
+        Progress::Made
+    }
+
+    /// Whether an awake connection may answer a DELETE next, and the objects have changed since watches were moved on.
+    fn is_before_deletion<P: Policy + Drop>(&self, core: &Core<P>, position: usize) -> bool {
+        let Some(index) = self.awake_at(position) else {
+            return false;
+        };
+        let client = &self.list[index];
+        client.fed && self.roused != core.revision() && core.is_deletion(client.id)
+    }
+
+    /// Moves each watch on.
+    fn pass_watches<R: Wait, P: Policy + Drop>(
+        &mut self,
+        rt: &R,
+        core: &mut Core<P>,
+        desk: &mut Desk,
+        publishing: &mut Publishing,
+    )
+        ensures goes { Advances (stage core.old desk.old publishing.old (seats_of self.old.list.items)) (stage core.new desk.new publishing.new (seats_of self.new.list.items)) }
+        ensures stands { ClientsMatchAfter core.old core.new self.old self.new }
+        ensures awake { self.new.awake ≡ self.old.awake }
+    {
+        for index in 0..self.list.len() {
+            self.pass_at(rt, core, desk, publishing, index);
+        }
+    }
+
+    /// Moves the watch of the connection at a place on.
+    fn pass_at<R: Wait, P: Policy + Drop>(
+        &mut self,
+        rt: &R,
+        core: &mut Core<P>,
+        desk: &mut Desk,
+        publishing: &mut Publishing,
+        index: usize,
+    )
+        requires { index < length self.old.list.items }
+        ensures goes { Advances (stage core.old desk.old publishing.old (seats_of self.old.list.items)) (stage core.new desk.new publishing.new (seats_of self.new.list.items)) }
+        ensures stands { ClientsMatchAfter core.old core.new self.old self.new }
+        ensures awake { self.new.awake ≡ self.old.awake }
+        ensures count { length self.new.list.items ≡ length self.old.list.items }
+    {
+        self.list[index].pass(rt, core, desk, publishing);
+    }
+
+    /// Wakes each connection whose watch may be concerned by a change since the last waking. If memory runs out, the
+    /// next call tries again.
     pub(crate) fn wake<P: Policy + Drop>(&mut self, core: &Core<P>) -> Progress
         ensures seats { seats_of self.new.list.items ≡ seats_of self.old.list.items }
         ensures stands { (m : Machine) → ClientsMatch m self.old → ClientsMatch m self.new }
@@ -359,8 +430,8 @@ impl Clients {
         Progress::Made
     }
 
-    /// Wakes each connection whose watch is one of those, or each with a watch, if there is no list of them. False if
-    /// memory does not suffice for all.
+    /// Wakes each connection whose watch has its fingerprint in the list; without a list, each connection with a watch.
+    /// False if memory ran out for one of them.
     fn rouse_all(&mut self, concerned: &Option<Vec<u64>>) -> bool
         ensures seats { seats_of self.new.list.items ≡ seats_of self.old.list.items }
         ensures stands { (m : Machine) → ClientsMatch m self.old → ClientsMatch m self.new }
@@ -378,8 +449,8 @@ impl Clients {
         all
     }
 
-    /// The place of the next connection, from a place on, whose watch is one of those, or which has one if there is no
-    /// list of them. Most watches see nothing of a change, so what is done for each of them is this look alone.
+    /// The place of the next connection, from a place on, whose watch has its fingerprint in the list; without a list,
+    /// of the next connection with a watch. Most changes concern few watches: this test is all that the others cost.
     #[tactic(auto, using(crate::proofs::Tending::called_kept))]
     fn first_called(
         &self,
@@ -403,8 +474,8 @@ impl Clients {
         None
     }
 
-    /// The fingerprints of the watches that the changes since the last waking may concern, or none if all are to be woken:
-    /// once in a while they are, so that none falls behind the changes that are kept.
+    /// The fingerprints of the watches that the changes since the last waking may concern, or none if all watches are
+    /// to be woken. Once in a while all are, so that no watch falls behind the kept changes.
     fn concerned<P: Policy + Drop>(&self, core: &Core<P>) -> Option<Vec<u64>>
         ensures { IfSome result (λ v. (m : Machine) → Refines core.now m → (id : ℕ) → is_concerned m id self.now.woken ≡ true → is_among v.items (fingerprint_on (link_at id m)) ≡ true) }
     {
@@ -414,8 +485,8 @@ impl Clients {
         core.fingerprints_after(self.woken)
     }
 
-    /// Wakes a connection whose watch is one of those, or which has one if there is no list of them. False if memory
-    /// does not suffice.
+    /// Wakes the connection at a place and marks its watch as having something to show. False if memory does not
+    /// suffice.
     #[tactic(auto, using(crate::proofs::Tending::called_set))]
     fn rouse(&mut self, index: usize) -> bool
         requires { index < length self.old.list.items }

@@ -5,7 +5,7 @@ use kapi_model::Identity;
 use mio::net::TcpListener;
 use std::io::ErrorKind;
 
-/// A port that is listened on, and the identity that each of its connections has.
+/// A TCP listener on a port, and the identity of each client that connects to it.
 #[derive(Drop)]
 pub(crate) struct Listener {
     pub(crate) socket: TcpListener,

@@ -16,7 +16,7 @@ pub struct Pending {
     /// The number of bytes of the head that were sent.
     sent: usize,
     behind: VecDeque<Sequence<u8>>,
-    /// How many bytes are pending, at most the greatest number.
+    /// The number of pending bytes, which stops at `usize::MAX`.
     count: usize,
 }
 
@@ -34,7 +34,7 @@ impl Pending {
         }
     }
 
-    /// Whether so many bytes are pending that no more are to be pushed.
+    /// Whether `PENDING_LIMIT` bytes or more are pending, so that no more are to be pushed.
     pub(crate) fn is_full(&self) -> bool
         ensures { result ≡ nat_le 1048576 self.now.count }
     {
@@ -50,7 +50,7 @@ impl Pending {
         self.behind.reserve(1)
     }
 
-    /// Puts bytes behind the others.
+    /// Appends bytes.
     #[tactic(auto, using(crate::proofs::Joining::owed_push))]
     pub(crate) fn push(&mut self, bytes: Sequence<u8>)
         requires { deque_len self.old.behind < deque_capacity self.old.behind }
@@ -97,7 +97,7 @@ impl Pending {
         }
     }
 
-    /// Notes that so many of the next bytes were sent.
+    /// Notes that `count` of the next bytes were sent.
     #[tactic(auto, using(crate::proofs::Joining::owed_pass))]
     pub(crate) fn pass(&mut self, count: usize)
         requires { count ≤ length (drop self.old.sent self.old.head) }

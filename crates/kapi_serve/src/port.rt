@@ -33,9 +33,9 @@ pub enum PortFault {
 pub enum Entry {
     /// A client has connected.
     Opened(usize, Identity),
-    /// These bytes were read; none at the end of the client's bytes.
+    /// The bytes that a read of the slot returned; none at the end of the client's bytes.
     Gave(usize, Sequence<u8>),
-    /// These bytes were accepted.
+    /// The bytes that the slot accepted.
     Took(usize, Sequence<u8>),
     /// The slot was ended.
     Ended(usize),
@@ -69,8 +69,8 @@ pub trait Ports {
         ensures told { Adds (report self.old) (report self.new) (took slot bytes.now result) }
         ensures failed { result ≡ Err fault.Failed → failures self.old < failures self.new };
 
-    /// Whether a step of a slot that found no memory, so often in a row, may be made again: not yet if that would block,
-    /// and never if the slot is broken.
+    /// Whether a step of a slot may be made again after it ran out of memory `_refused` times in a row: `WouldBlock` if
+    /// not yet, `Failed` if never.
     fn retry(&mut self, _slot: usize, _refused: u32) -> Result<(), PortFault>
         ensures told { Adds (report self.old) (report self.new) [] }
         ensures failed { result ≡ Err fault.Failed → failures self.old < failures self.new }

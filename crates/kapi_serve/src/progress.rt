@@ -1,7 +1,7 @@
 ghost use Rattle.std.specs.Prelude.{◌≡◌};
 ghost use Rattle.kapi_serve.specs.Private.Progresses.{both};
 
-/// What came of going over connections.
+/// The result of some work on connections.
 #[derive(Clone, Copy, Debug, PartialEq, Eq)]
 pub(crate) enum Progress {
     /// Something was done.
@@ -13,7 +13,7 @@ pub(crate) enum Progress {
 }
 
 impl Progress {
-    /// What came of both.
+    /// The results of two pieces of work as one: `Made` comes first, then `Starved`.
     pub(crate) fn and(self, other: Progress) -> Progress
         ensures { result ≡ both self other }
     {

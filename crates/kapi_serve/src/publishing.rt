@@ -16,7 +16,8 @@ use std::sync::Wait;
 /// The largest number of turns after a step that changed the policy.
 const TURNS: u32 = 64;
 
-/// What is left to be done of the steps that were made: the changes that the desk did not take, and turns.
+/// Work left after steps of the machine: policy changes not yet taken by the desk, and turns of the aggregation
+/// controller.
 #[derive(Drop)]
 pub struct Publishing {
     kept: Option<PolicyStep>,
@@ -174,7 +175,7 @@ fn retry<R: Wait>(rt: &R, desk: &mut Desk)
     }
 }
 
-/// Publishes a step. The desk takes it, where it may still wait, or hands it back.
+/// Publishes a step. The desk takes the step, even if it publishes it only later, or hands it back for want of memory.
 fn refused<R: Wait>(rt: &R, desk: &mut Desk, step: PolicyStep) -> Option<PolicyStep>
     requires { desk.old.waiting ≡ [] }
     ensures { Takes desk.old desk.new step result }

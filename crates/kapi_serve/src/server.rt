@@ -73,7 +73,8 @@ impl Server {
         self.settle(rt, core, desk, ports)
     }
 
-    /// Takes in an event of the ports, unless memory does not suffice to wake a connection whose slot takes bytes again.
+    /// Takes in an event of the ports, unless memory does not suffice to wake a connection whose slot takes bytes
+    /// again.
     fn take<R: Wait, P: Policy + Drop, Q: Ports>(
         &mut self,
         rt: &R,
@@ -146,8 +147,8 @@ impl Server {
         unreachable!()
     }
 
-    /// Goes once over the connections at which something may be done, and then wakes those with a watch that a change may
-    /// concern.
+    /// Goes once over the connections at which something may be done, and then wakes those with a watch that a change
+    /// may concern.
     fn round<R: Wait, P: Policy + Drop, Q: Ports>(
         &mut self,
         rt: &R,
@@ -162,8 +163,12 @@ impl Server {
         let mut progress = self.publishing.make_turns(rt, core, desk);
         let mut position = 0;
         while position < self.clients.awake.len() {
+            let passed = self
+                .clients
+                .pass_before(rt, core, desk, &mut self.publishing, position);
+            let before = progress.and(passed);
             let visited = self.visit(rt, core, desk, ports, position);
-            progress = progress.and(visited);
+            progress = before.and(visited);
             position = self.clients.pass(position);
         }
         progress.and(self.clients.wake(core))

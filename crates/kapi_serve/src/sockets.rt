@@ -28,7 +28,7 @@ const EVENTS: usize = 256;
 /// The longest wait, in milliseconds.
 const WAIT: u64 = 100;
 
-/// After so many refusals in a row for want of memory a client is ended.
+/// The number of steps in a row refused for want of memory after which a client is ended.
 const MOST_REFUSED: u32 = 10;
 
 /// The number of clients that are accepted before the open ones have their turn again.
@@ -45,7 +45,7 @@ pub struct Sockets<C: Clock + Drop> {
     slots: Slots,
     /// The time at which the round began.
     now: Duration,
-    /// The time since which no step was made again that found no memory; none in the round in which one was.
+    /// The time since which no step was made again after it ran out of memory; none in the round of such a retry.
     spared: Option<Duration>,
     failures: u64,
 }
@@ -165,7 +165,7 @@ impl<C: Clock + Drop> Sockets<C> {
         is_some_waiting(self.listeners.as_slice()) || self.slots.is_some_ready()
     }
 
-    /// Begins a round, after so many milliseconds at most. None where the wait fails.
+    /// Begins a round, after a wait of at most `most` milliseconds. None if the wait fails.
     fn begin_round(&mut self, most: u64) -> Option<()>
         ensures doors { doors self.new.listeners.items ≡ doors self.old.listeners.items }
         ensures turns { IfSome result (λ _. self.new.slots.left ≡ false) }
@@ -191,7 +191,7 @@ impl<C: Clock + Drop> Sockets<C> {
         }
     }
 
-    /// Whether no step that found no memory was made again for as long as a wait takes.
+    /// Whether no step that ran out of memory was made again for at least `WAIT` milliseconds.
     fn is_spared(&self) -> bool
         ensures { self.entry.now.spared ≡ None → result ≡ false }
     {

@@ -39,26 +39,26 @@ pub record MatchesConnection (m : Machine) (c : Client) : Type 0 where
 abbrev pub IsNumbered : Machine → Type 0
 IsNumbered m = IsStrictlySortedBy nat_cmp (keys_of m.links)
 
--- the connection of a number went on, and no other
+-- no connection has changed but the one of this number
 pub record GoesOn (id : ℕ) (m n : Machine) : Type 0 where
   pub numbered : IsNumbered n
   pub others : (q : ℕ) → (q ≡ id → ⊥) → link_at q n ≡ link_at q m
   pub next : m.next_id ≤ n.next_id
 
--- no connection went on
+-- no connection has changed
 pub record Stays (m n : Machine) : Type 0 where
   pub links : n.links ≡ m.links
   pub next : m.next_id ≤ n.next_id
 
--- the machine went on, and no connection
+-- the machine went on, and none of its connections has changed
 abbrev pub PassesBy : Running → Running → Type 0
 PassesBy old new = (m : Machine) → Refines old m → (n : Machine) × Refines new n × Stays m n
 
--- something was done for a client, of which is kept what suits its connection
+-- something was done for a client, and what is kept of the client suits its connection again
 abbrev pub Tends : Running → Running → Client → Client → Type 0
 Tends old new c d = (m : Machine) → Refines old m → IsNumbered m → MatchesConnection m c → (n : Machine) × Refines new n × GoesOn c.id.0 m n × (d.id ≡ c.id) × MatchesConnection n d
 
--- the same is kept of a client, which may have taken bytes
+-- a client has the same connection, phase, feeding and watch as before; it may have accepted bytes
 pub record Keeps (c d : Client) : Type 0 where
   pub id : d.id ≡ c.id
   pub phase : d.phase ≡ c.phase
@@ -91,19 +91,19 @@ pub record IsQuiet (c : Client) : Type 0 where
   pub shown : c.pending.count < 1048576 → is_some c.watching ≡ true → c.shown ≡ true
   pub owed : c.blocked ≡ false → owed c.pending ≡ []
 
--- if a change after the revision may concern the watch of the client, that may have something to show
+-- if a change after the revision may concern the watch of a client, the watch is marked as having something to show
 abbrev pub IsRoused : Machine → ℕ → Client → Type 0
 IsRoused m revision c = is_concerned m c.id.0 revision ≡ true → c.shown ≡ false
 
 abbrev pub AreRoused : Machine → ℕ → List Client → Type 0
 AreRoused m revision cs = (i : ℕ) → i < length cs → HoldsAt (λ c. IsRoused m revision c) cs i
 
--- there is a watch, whose fingerprint is one of those if there is a list of them
+-- there is a watch, and the list has its fingerprint, if there is a list
 abbrev pub is_called : Option (List ℕ) → Option ℕ → Bool
 is_called None watching = is_some watching
 is_called (Some numbers) watching = is_among numbers watching
 
--- the same by fingerprints, of the clients before a place
+-- the watch of each client before a place is marked as having something to show, if it is called
 abbrev pub AreCalled : Option (List ℕ) → ℕ → List Client → Type 0
 AreCalled concerned place cs = (i : ℕ) → i < place → HoldsAt (λ c. is_called concerned c.watching ≡ true → c.shown ≡ false) cs i
 
@@ -145,11 +145,11 @@ ClientsMatchAfter old new cs ds = (m : Machine) → Refines old m → ClientsMat
 abbrev pub IsAwakeAt : ℕ → Clients → Type 0
 IsAwakeAt index cs = HoldsAt (λ c. Has cs.awake.numbers.items c.id.0) cs.list.items index
 
--- the connection at a position among those that are awake is that of the client at a place
+-- the awake connection at a position belongs to the client at a place
 abbrev pub IsOf : ℕ → ℕ → Clients → Type 0
 IsOf position index cs = HoldsAt (λ c. HoldsAt (λ number. number ≡ c.id.0) cs.awake.numbers.items position) cs.list.items index
 
--- the connection at a position among those that are awake, if there is one, is that of no client
+-- the awake connection at a position, if there is one, belongs to no client
 abbrev pub IsOfNone : ℕ → Clients → Type 0
 IsOfNone position cs = position < length cs.awake.numbers.items → AllByRecursion (λ c. HoldsAt (λ number. number ≡ c.id.0 → ⊥) cs.awake.numbers.items position) cs.list.items
 

@@ -5,7 +5,7 @@ use Rattle.mio.specs.declared.event.event.Event.{Event}
 use Rattle.kapi_serve.specs.declared.port.PortEvent.{PortEvent}
 use Rattle.kapi_serve.specs.declared.port.PortEvent.TheVariants as event
 
--- the event of a slot: a write that waits comes before a read that waits
+-- the next event of a slot: writable comes before readable
 abbrev pub turn_of : ℕ → (writable readable : Bool) → Option PortEvent
 turn_of slot true readable = Some (event.Writable slot)
 turn_of slot false true = Some (event.Readable slot)
