@@ -90,7 +90,7 @@ FORMS = [
     who("\xef\xbb\xbf" + lines(*POLICY).replace("\n", "\r\n"), ANN),
     who(pretty(listed(*OTHERS, *POLICY)), ANN, error=SKIPPED),
     who(lines(thing("Role", "}{\"\\", "shop", rules=[]), *POLICY), ANN),
-    Case("risks - --namespace shop", 0, "", re.compile("SUBJECT.*\n(Group.*\n){2}Through roles.*\n"), input=BARE),
+    Case("risks - --namespace shop", 0, "", re.compile("SUBJECT.*\nGroup.*\nThrough roles.*\n"), input=BARE),
     who(BARE, ANN),
     refused(BARE, "policy:1: " + HOMELESS.format("Role", "reader"), "policy:2: " + HOMELESS.format("RoleBinding", "readers")),
 ]
@@ -187,7 +187,7 @@ TOGETHER = [
     Case("audit --manifests before asked --strict", 1, "no rule names the resource widgets\nno binding names the user anne; did you mean ann?\nno binding names the service account till", "denied\nallowed group system:masters\ndenied\n",
          files={"asked": "".join(json.dumps(it) + "\n" for it in ASKED)}),
     Case("who none get secrets --with-defaults", 0, NONE, None),
-    Case("who roles --questions crlf --with readers", 0, "", re.compile("(line [12]: .*\n.*\n(Group .*\n){2}User ann .*\n){2}"), files={"crlf": "get secrets shop\r\nget secrets shop anything\r\n"}),
+    Case("who roles --questions crlf --with readers", 0, "", re.compile("(line [12]: .*\n.*\nGroup .*\nUser ann .*\n){2}"), files={"crlf": "get secrets shop\r\nget secrets shop anything\r\n"}),
     Case("serve --manifests roles --load readers 8001=ann", 2, "error: --load FILE, or --manifests FILE and --with-defaults, and not both\n\n" + MORE.format("serve"), ""),
     Case("serve --namespace shop 8001=ann", 2, "error: --namespace is for --manifests\n\n" + MORE.format("serve"), ""),
     Case("serve --manifests policy 8001=ann", 1, "policy:1: kind 'NetworkPolicy' of apiVersion 'networking.k8s.io/v1' is not served; docs/PROFILE.md names those that are", "", files={"policy": lines(OTHERS[0])}),
