@@ -29,7 +29,7 @@ quick: profile ## change: plays all transcripts and runs the quick checks; prove
 	@$(PYTHON) -m checks $(TRIED)
 
 test: ## change: the gate: every proof, the edits that must be refused, the tests and all transcripts (rt ci), then the quick checks
-	@rm -rf crates/*/out/rlib
+	@rm -rf crates/*/out/rlib out/library
 	@rt ci
 	@sh tools/sources.sh > crates/kapi/out/proved
 	@if command -v cc > /dev/null && command -v objcopy > /dev/null; then sh tools/library.sh out/library; else echo 'The C library is left out: cc or objcopy is not there.'; fi
