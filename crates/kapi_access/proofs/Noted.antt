@@ -8,7 +8,7 @@ use Rattle.kapi_policy.specs.Objects.{place_cmp}
 use Rattle.kapi_policy.specs.declared.change.NamespacedName.{NamespacedName}
 use Rattle.kapi_access.specs.declared.grantee.Grantee.{Grantee}
 use Rattle.kapi_access.specs.declared.grantee.Grantee.TheVariants as grantee
-use Rattle.kapi_access.specs.Told.{is_noted}
+use Rattle.kapi_access.specs.Noted.{is_noted}
 use Rattle.kapi_access.specs.Who.{same_grantee}
 use Rattle.kapi_access.proofs.Idle.{one_more}
 

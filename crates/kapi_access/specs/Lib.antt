@@ -1,7 +1,7 @@
 pub mod Usual
 pub mod Grantees
 pub mod Who
-pub mod Told
+pub mod Noted
 pub mod Risks
 pub mod Gained
 pub mod Views

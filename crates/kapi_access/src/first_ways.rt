@@ -1,7 +1,7 @@
 //! Ways in the order in which they are found, of each user and group the first.
 ghost use Rattle.std.specs.Prelude.{◌≡◌, ◌&&◌, ◌||◌, ℕ, List, [], map, not, IfOk, OnErr, OnOk};
 ghost use Rattle.std.specs.Str.{bytes_eq};
-ghost use Rattle.kapi_access.specs.Told.{is_noted};
+ghost use Rattle.kapi_access.specs.Noted.{is_noted};
 ghost use Rattle.kapi_access.specs.Views.{way_of};
 ghost use Rattle.kapi_access.specs.Who.{same_grantee, with_way, within as within_of};
 ghost use Rattle.kapi_access.specs.declared.grantee.Grantee.{Grantee as Named};
@@ -63,7 +63,7 @@ pub struct FirstWays<'a> {
 
 impl<'a> Model for FirstWays<'a> {
     ghost use Rattle.std.specs.Prelude.{map};
-    ghost use Rattle.kapi_access.specs.Told.{HaveThose};
+    ghost use Rattle.kapi_access.specs.Noted.{HaveThose};
     ghost use Rattle.kapi_access.specs.Views.{way_of};
     ghost use Rattle.kapi_access.specs.Who.{Found};
 

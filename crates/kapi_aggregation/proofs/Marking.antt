@@ -22,7 +22,7 @@ use Rattle.kapi_model.specs.declared.selector.Label.{Label}
 use Rattle.kapi_model.specs.declared.selector.Selector.{Selector}
 use Rattle.kapi_store.specs.Keys.{is_key}
 use Rattle.kapi_store.specs.Plain.{PlainChange}
-use Rattle.kapi_store.specs.Told.{labels_of}
+use Rattle.kapi_store.specs.Labels.{labels_of}
 use Rattle.kapi_store.specs.declared.key.Key.{Key}
 use Rattle.kapi_aggregation.specs.Roles.{Labelled, is_cluster_role, labelled_at, labels_in, selectors_of, takes_from}
 use Rattle.kapi_aggregation.specs.Marks.{IsGiven, IsKnown, Keeps, KeepsAll, KeepsGivers, KeepsTakers, Tracked, end_at, first_text, giver_of, givers_after, is_known, is_marked, label_list, label_text, learn, learn_rule, learned, listed_if, mark_all, mark_change, mark_changed, mark_object, mark_taker, mark_takers, names_for, noted, role_at, rule_left, start_at, taker_cmp, taker_of, takers_at, takers_in, with_all_left, with_giver, with_left, with_mark, with_names_at, with_takers}

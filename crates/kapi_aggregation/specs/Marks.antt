@@ -19,7 +19,7 @@ use Rattle.kapi_object.specs.Tree.{members_or_none}
 use Rattle.kapi_rbac_types.specs.Trees.{cluster_role_of}
 use Rattle.kapi_store.specs.Keys.{is_key}
 use Rattle.kapi_store.specs.Plain.{PlainChange}
-use Rattle.kapi_store.specs.Told.{labels_among, labels_of}
+use Rattle.kapi_store.specs.Labels.{labels_among, labels_of}
 use Rattle.kapi_store.specs.declared.key.Key.{Key}
 use Rattle.kapi_aggregation.specs.Rewriting.{role_key}
 use Rattle.kapi_aggregation.specs.Roles.{Labelled, is_aggregated, is_cluster_role, labelled_at, labels_in, roles_in, selectors_of, takes_from}

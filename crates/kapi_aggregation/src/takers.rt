@@ -3,7 +3,7 @@ ghost use Rattle.std.specs.Prelude.{◌≡◌, ◌++◌, [], ◌∷◌, IfOk, On
 ghost use Rattle.std.specs.BTreeSet.{insert_key};
 ghost use Rattle.kapi_store.specs.Plain.{plain_change};
 ghost use Rattle.kapi_store.specs.Stored.{stored_tree};
-ghost use Rattle.kapi_store.specs.Told.{labels_of};
+ghost use Rattle.kapi_store.specs.Labels.{labels_of};
 ghost use Rattle.kapi_aggregation.specs.Marks.{Keeps, KeepsTakers, all_givers, all_takers, end_at, first_text, label_text as label_text_of, names_for as names_for_labels, start_at, taker_cmp, with_all_left, with_giver, with_mark, with_names_at, with_takers};
 ghost use Rattle.kapi_aggregation.specs.Views.{labelled};
 

@@ -17,14 +17,14 @@ abbrev pub told_of : List ℕ → EventReply
 told_of bytes = record { bytes = bytes; after = after.Watches }
 
 -- the bytes of an event with a text of an object
-abbrev pub Tells : List ℕ → Shown → List ℕ → Type 0
-Tells bytes e object = (d : Data) → object ≡ compact_text d → bytes ≡ event_chunk (type_of e) d
+abbrev pub IsEventChunk : List ℕ → Shown → List ℕ → Type 0
+IsEventChunk bytes e object = (d : Data) → object ≡ compact_text d → bytes ≡ event_chunk (type_of e) d
 
 same_text : (x y : List ℕ) → Some x ≡ Some y → x ≡ y
 same_text x y is = cc
 
 -- an event that shows an object
-pub object_told : (s : Plain) (w : PlainWatching) (e : Shown) (object bytes : List ℕ) → Some object ≡ object_text_of e → Tells bytes e object → told_of bytes ≡ event_reply_of s w e
+pub object_told : (s : Plain) (w : PlainWatching) (e : Shown) (object bytes : List ℕ) → Some object ≡ object_text_of e → IsEventChunk bytes e object → told_of bytes ≡ event_reply_of s w e
 unfolding event_reply_of
 object_told s w (Added d) object bytes is tells = ap told_of (tells d (same_text object (compact_text d) is))
 object_told s w (Modified d) object bytes is tells = ap told_of (tells d (same_text object (compact_text d) is))

@@ -42,17 +42,17 @@ outcome_data o = record { code = o.code; content = o.content; body = o.body.item
 
 -- what a request that passed every check gets, as data
 abbrev pub passed_data : PassedOf → Passed
-passed_data (passed.Told outcome) = told (outcome_data outcome)
+passed_data (passed.Answered outcome) = told (outcome_data outcome)
 passed_data (passed.Watching w) = watching (watch_data w)
 
 -- the write of what a request that passed every check gets
 abbrev pub write_of : PassedOf → Option Ready
-write_of (passed.Told outcome) = outcome.write
+write_of (passed.Answered outcome) = outcome.write
 write_of (passed.Watching w) = None
 
 -- the watch that what a request gets starts, if it starts one
 abbrev pub watch_in : PassedOf → Option Watch
-watch_in (passed.Told outcome) = None
+watch_in (passed.Answered outcome) = None
 watch_in (passed.Watching w) = Some w
 
 -- an answer as data
@@ -97,8 +97,8 @@ task_data objects t = record {
 }
 
 -- the object that is to be replaced stands at its place
-abbrev pub Stands : Plain → Replacement → Type 0
-Stands s r = lookup (is_key r.new.key) s.objects ≡ Some (stored_tree r.old)
+abbrev pub IsReplaced : Plain → Replacement → Type 0
+IsReplaced s r = lookup (is_key r.new.key) s.objects ≡ Some (stored_tree r.old)
 
 -- a planned watch has shown nothing yet, the place of a new object is free, an object that is to be replaced stands at
 -- its place, and nothing is to be deleted twice
@@ -106,7 +106,7 @@ abbrev pub IsReady : Plain → PlanOf → Type 0
 IsReady s (plan.Tell outcome) = Unit {0}
 IsReady s (plan.Watch w) = IsFresh s w
 IsReady s (plan.Create new) = free_place s new.key ≡ Ok tt
-IsReady s (plan.Replace r) = Stands s r
+IsReady s (plan.Replace r) = IsReplaced s r
 IsReady s (plan.Delete deletion) = IsDistinct is_key deletion.keys.items
 
 -- a plan of an answer alone has no write

@@ -9,7 +9,7 @@ use kapi_watch::Watch;
 /// What a request that passed every check gets.
 #[derive(Drop)]
 pub enum Passed {
-    Told(Outcome),
+    Answered(Outcome),
     /// A watch starts.
     Watching(Watch),
 }

@@ -12,7 +12,7 @@ ghost use Rattle.kapi_watch.specs.Watches.{startable};
 ghost use Rattle.kapi_answer.specs.Answer.{planned_creation, planned_for, planned_on, to_be_created, to_be_replaced};
 ghost use Rattle.kapi_answer.specs.Review as reviews;
 ghost use Rattle.kapi_answer.specs.Create as creation;
-ghost use Rattle.kapi_answer.specs.Outcomes.{ChangesNothing, IsReady, Stands, new_data, plan_data, task_data};
+ghost use Rattle.kapi_answer.specs.Outcomes.{ChangesNothing, IsReady, IsReplaced, new_data, plan_data, task_data};
 
 use crate::collection::{check_delete_all, list};
 use crate::create::{check_create, key_at, namespace_on};
@@ -215,7 +215,7 @@ fn plan_replace<P: Policy>(
     task: Task<'_>,
     replacement: Replacement,
 ) -> Result<Plan, CheckError>
-    ensures gives { (s : APlain) → Stands s replacement → Gives refused_by plan_data result (to_be_replaced s (task_data (P.content policy.now) task.entry) (new_data replacement.new)) }
+    ensures gives { (s : APlain) → IsReplaced s replacement → Gives refused_by plan_data result (to_be_replaced s (task_data (P.content policy.now) task.entry) (new_data replacement.new)) }
     ensures same { IfOk result (λ plan. plan ≡ Plan.Replace replacement) }
 {
     let (new, old) = (&replacement.new, &replacement.old);

@@ -167,7 +167,7 @@ fn prepare(
     ensures watch { IfOk result (λ p. option_map (λ w. w.watch) p.watch ≡ watch_in passed) }
 {
     match passed {
-        Passed::Told(outcome) => tell(alloc, close, outcome),
+        Passed::Answered(outcome) => tell(alloc, close, outcome),
         Passed::Watching(watch) => {
             let watching = watching(alloc, identity, attributes, close, watch)?;
             Ok(Prepared {
@@ -242,7 +242,7 @@ fn check<P: Policy>(
         Plan::Replace(new) => replace(alloc, store, new)?,
         Plan::Delete(deletion) => delete(store, deletion)?,
     };
-    Ok(Passed::Told(outcome))
+    Ok(Passed::Answered(outcome))
 }
 
 /// The plan of a request that passes all checks but the store's: what it answers or changes.

@@ -14,7 +14,7 @@ ghost use Rattle.kapi_store.specs.Plain.{plain_of};
 ghost use Rattle.kapi_store.specs.State.{Fits};
 ghost use Rattle.kapi_store.specs.Stored.{stored_tree};
 ghost use Rattle.kapi_answer.specs.Create.{stored, valid};
-ghost use Rattle.kapi_answer.specs.Outcomes.{Stands, admitted_data, new_data, object_data, outcome_data};
+ghost use Rattle.kapi_answer.specs.Outcomes.{IsReplaced, admitted_data, new_data, object_data, outcome_data};
 ghost use Rattle.kapi_answer.specs.Update as updates;
 ghost use Rattle.kapi_answer.specs.Update.{keeping_status, patch_of, replaces, to_patch, to_replace, to_update};
 
@@ -46,7 +46,7 @@ pub fn check_update(
     body: &[u8],
 ) -> Result<Replacement, CheckError>
     ensures gives { Gives refused_by (λ r. new_data r.new) result (to_update (plain_of store.now) row.now part key body.now) }
-    ensures stands { IfOk result (Stands (plain_of store.now)) }
+    ensures stands { IfOk result (IsReplaced (plain_of store.now)) }
 {
     let body = read_body(alloc, row, body)?;
     check_replacement(alloc, store, row, part, key, None, body)
@@ -63,7 +63,7 @@ pub fn check_patch(
     body: &[u8],
 ) -> Result<Replacement, CheckError>
     ensures gives { Gives refused_by (λ r. new_data r.new) result (to_patch (plain_of store.now) row.now part key body.now) }
-    ensures stands { IfOk result (Stands (plain_of store.now)) }
+    ensures stands { IfOk result (IsReplaced (plain_of store.now)) }
 {
     let patch = read_patch(alloc, body)?;
     let old = existing(store, &key)?.object(alloc)?;
@@ -109,7 +109,7 @@ fn check_replacement(
 ) -> Result<Replacement, CheckError>
     requires { IfSome read (λ t. lookup (is_key key) (plain_of store.now).objects ≡ Some (tree_of t)) }
     ensures gives { Gives refused_by (λ r. new_data r.new) result (to_replace (plain_of store.now) row.now part key (admitted_data body)) }
-    ensures stands { IfOk result (Stands (plain_of store.now)) }
+    ensures stands { IfOk result (IsReplaced (plain_of store.now)) }
 {
     check_name(alloc, &key.name, &body.given.name)?;
     check_namespace(
@@ -224,7 +224,7 @@ pub fn replace(
     store: &Store,
     replacement: Replacement,
 ) -> Result<Outcome, CheckError>
-    requires { Stands (plain_of store.now) replacement }
+    requires { IsReplaced (plain_of store.now) replacement }
     ensures gives { Gives refused_by outcome_data result (replaces (plain_of store.now) (new_data replacement.new)) }
     ensures fits { IfOk result (λ o. IfSome o.write (Fits store.now)) }
 {

@@ -10,14 +10,14 @@ use Rattle.kapi_model.specs.declared.row.ResourceRow.{ResourceRow}
 use Rattle.kapi_lines.proofs.Appending.{appends_more, appends_nothing}
 use Rattle.kapi_script.specs.Scripts.{lines}
 use Rattle.kapi_audit.specs.Private.Reading.{Reading, ToldSoFar}
-use Rattle.kapi_audit.specs.Reports.{IsTold, Reports, Told, report_text}
+use Rattle.kapi_audit.specs.Reports.{AreReportedIn, Reports, AreReported, report_text}
 use Rattle.kapi_audit.specs.declared.fault.AnswerFault.{AnswerFault}
 use Rattle.kapi_audit.specs.declared.report.Report.{Report}
 
 -- one line more is reported on
 one_more : (row : ResourceRow) (old mid : Chair) (line : List ℕ) (rest : List (List ℕ)) (report : Report) (text : List ℕ) (last : Chair) → Reports row old mid line report
-    → Told row mid rest text last → Told row old (line ∷ rest) (report_text report ++ text) last
-unfolding Told
+    → AreReported row mid rest text last → AreReported row old (line ∷ rest) (report_text report ++ text) last
+unfolding AreReported
 one_more row old mid line rest report text last h k = (report, mid, text, h, k, refl)
 
 -- a line was answered, and its answer written or not
@@ -26,7 +26,7 @@ pub line_told : (row : ResourceRow) (first old mid : Chair) (all rest : List (Li
     → OnOk result (ToldSoFar row first all rest mid before d)
 line_told row first old mid all rest line report before c d (Ok done) h wrote k = (
   k.0 ++ report_text report,
-  (λ text last told. subst (λ t. Told row first all t last) (sym (append_assoc k.0 (report_text report) text)) (k.1 (report_text report ++ text) last (one_more row old mid line rest report text last h told))),
+  (λ text last told. subst (λ t. AreReported row first all t last) (sym (append_assoc k.0 (report_text report) text)) (k.1 (report_text report ++ text) last (one_more row old mid line rest report text last h told))),
   appends_more before c d k.0 (report_text report) k.2 wrote,
 )
 line_told row first old mid all rest line report before c d (Err e) h wrote k = tt
@@ -78,9 +78,9 @@ at_start row seat text items before none =
 
 -- all lines were answered
 pub all_told : (row : ResourceRow) (old new : Chair) (text : List ℕ) (before contents : Option (List ℕ)) (result : Result (Unit {0}) AnswerFault) → row ≡ access_reviews_row
-    → OnOk result (ToldSoFar row old (lines text) [] new before contents) → OnOk result (IsTold text old new before contents)
-unfolding Told
+    → OnOk result (ToldSoFar row old (lines text) [] new before contents) → OnOk result (AreReportedIn text old new before contents)
+unfolding AreReported
 all_told row old new text before contents (Ok done) is h =
-    let told = subst (λ t. Told row old (lines text) t new) (append-nil h.0) (h.1 [] new (refl, refl)) in
-    (h.0, subst (λ r. Told r old (lines text) h.0 new) is told, h.2)
+    let told = subst (λ t. AreReported row old (lines text) t new) (append-nil h.0) (h.1 [] new (refl, refl)) in
+    (h.0, subst (λ r. AreReported r old (lines text) h.0 new) is told, h.2)
 all_told row old new text before contents (Err e) is h = tt

@@ -21,12 +21,12 @@ pub record Learns (old new : Chair) : Type 0 where
   pub seen : Begins old.seen new.seen
 
 -- the report of a seat on a question: the decision by the policy after the steps that it has seen, and their number
-abbrev pub Tells : Chair → Chair → Question → Report → Type 0
-Tells old new q told.Skipped = ⊥
-Tells old new q told.Bad = ⊥
-Tells old new q told.Refused = Learns old new
-Tells old new q told.Busy = new ≡ old
-Tells old new q (told.Told count text) =
+abbrev pub IsDecision : Chair → Chair → Question → Report → Type 0
+IsDecision old new q told.Skipped = ⊥
+IsDecision old new q told.Bad = ⊥
+IsDecision old new q told.Refused = Learns old new
+IsDecision old new q told.Busy = new ≡ old
+IsDecision old new q (told.Decided count text) =
     Learns old new × (count ≡ length new.seen) × (text ≡ decision_line (decided (after new.opening new.seen) q.identity q.namespace q.point))
 
 -- an empty line or a comment
@@ -39,7 +39,7 @@ Reports row old new line told.Skipped = (is_skipped line ≡ true) × (new ≡ o
 Reports row old new line told.Bad = (is_skipped line ≡ false) × (question_of row line ≡ None) × (new ≡ old)
 Reports row old new line told.Refused = (is_skipped line ≡ false) × Learns old new
 Reports row old new line told.Busy = (is_skipped line ≡ false) × (new ≡ old)
-Reports row old new line (told.Told count text) = (is_skipped line ≡ false) × (q : Question) × (question_of row line ≡ Some q) × Tells old new q (told.Told count text)
+Reports row old new line (told.Decided count text) = (is_skipped line ≡ false) × (q : Question) × (question_of row line ≡ Some q) × IsDecision old new q (told.Decided count text)
 
 -- the line that is written of a report
 abbrev pub report_text : Report → List ℕ
@@ -47,14 +47,14 @@ report_text told.Skipped = []
 report_text told.Bad = codes "bad\n"
 report_text told.Refused = codes "error Memory\n"
 report_text told.Busy = codes "error Busy\n"
-report_text (told.Told count text) = (decimal count ++ codes " ") ++ text
+report_text (told.Decided count text) = (decimal count ++ codes " ") ++ text
 
 -- the reports on lines, one after the other, by a seat that has seen no less from line to line
-unfoldable pub Told : ResourceRow → Chair → List (List ℕ) → List ℕ → Chair → Type 0
-Told row old [] text new = (text ≡ []) × (new ≡ old)
-Told row old (line ∷ rest) text new =
-    (report : Report) × (mid : Chair) × (later : List ℕ) × Reports row old mid line report × Told row mid rest later new × (text ≡ report_text report ++ later)
+unfoldable pub AreReported : ResourceRow → Chair → List (List ℕ) → List ℕ → Chair → Type 0
+AreReported row old [] text new = (text ≡ []) × (new ≡ old)
+AreReported row old (line ∷ rest) text new =
+    (report : Report) × (mid : Chair) × (later : List ℕ) × Reports row old mid line report × AreReported row mid rest later new × (text ≡ report_text report ++ later)
 
 -- behind what was written before come the reports on all lines of a text
-abbrev pub IsTold : List ℕ → Chair → Chair → Option (List ℕ) → Option (List ℕ) → Type 0
-IsTold text old new before contents = (written : List ℕ) × Told access_reviews_row old (lines text) written new × Appends before contents written
+abbrev pub AreReportedIn : List ℕ → Chair → Chair → Option (List ℕ) → Option (List ℕ) → Type 0
+AreReportedIn text old new before contents = (written : List ℕ) × AreReported access_reviews_row old (lines text) written new × Appends before contents written

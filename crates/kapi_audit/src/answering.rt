@@ -2,7 +2,7 @@
 ghost use Rattle.std.specs.Prelude.{◌≡◌, ◌<◌, ◌≤◌, ◌++◌, ◌∷◌, [], List, Option, ℕ, Some, IfOk, OnOk, length, take};
 ghost use Rattle.std.specs.Io.KnownBytes.{Consumes, IsAtEnd};
 ghost use Rattle.kapi_audit.specs.Private.Reading.{Reading, ToldSoFar};
-ghost use Rattle.kapi_audit.specs.Reports.{IsTold};
+ghost use Rattle.kapi_audit.specs.Reports.{AreReportedIn};
 ghost use Rattle.kapi_desk.specs.Boards.{Chair};
 ghost use Rattle.kapi_script.specs.Scripts.{lines};
 
@@ -147,7 +147,7 @@ pub fn answer_run<R: Read, W: Write>(
     writer: &mut W,
 ) -> Result<(), AnswerFault>
     ensures told { (text : List ℕ) → R.remaining reader.old ≡ Some text
-        → OnOk result (IsTold text seat.old seat.new (W.contents writer.old) (W.contents writer.new)) }
+        → OnOk result (AreReportedIn text seat.old seat.new (W.contents writer.old) (W.contents writer.new)) }
     ensures whole { OnOk result (IsAtEnd (R.remaining reader.new)) }
 {
     let row = access_reviews().row(alloc)?;

@@ -2,7 +2,7 @@
 ghost use Rattle.std.specs.Prelude.{◌≡◌, ◌++◌, OnOk, IfErr, codes};
 ghost use Rattle.std.specs.Fmt.{decimal};
 ghost use Rattle.std.specs.Io.KnownBytes.{Appends};
-ghost use Rattle.kapi_audit.specs.Reports.{Reports, Tells, report_text};
+ghost use Rattle.kapi_audit.specs.Reports.{Reports, IsDecision, report_text};
 ghost use Rattle.kapi_audit.specs.declared.fault.AnswerFault.TheVariants as Fault;
 
 use crate::answer_text::answer_text;
@@ -27,7 +27,7 @@ pub enum Report {
     /// The seat cannot answer.
     Busy,
     /// The number of published steps of the deciding policy, and the line of the decision.
-    Told(u64, Sequence<u8>),
+    Decided(u64, Sequence<u8>),
 }
 
 /// What a seat makes of a line.
@@ -46,12 +46,12 @@ pub fn make_report(alloc: Global, row: &ResourceRow, seat: &mut Seat, line: &[u8
 
 /// The answer to a question, by the policy after the published steps that the seat then sees.
 fn ask(alloc: Global, seat: &mut Seat, question: &Question) -> Report
-    ensures { Tells seat.old seat.new question.now result }
+    ensures { IsDecision seat.old seat.new question.now result }
 {
     let namespace = question.namespace.as_str();
     match seat.review(&question.identity, namespace, &question.point) {
         Ok((decision, count)) => match answer_text(alloc, &decision) {
-            Ok(text) => Report::Told(count, text),
+            Ok(text) => Report::Decided(count, text),
             Err(_refused) => Report::Refused,
         },
         Err(SeatError::Busy) => Report::Busy,
@@ -79,7 +79,7 @@ fn write_text<W: Write>(writer: &mut W, report: &Report) -> io::Result<()>
         Report::Bad => writer.write_all(b"bad\n"),
         Report::Refused => writer.write_all(b"error Memory\n"),
         Report::Busy => writer.write_all(b"error Busy\n"),
-        Report::Told(count, text) => write_told(writer, *count, text.as_slice()),
+        Report::Decided(count, text) => write_told(writer, *count, text.as_slice()),
     }
 }
 

@@ -32,11 +32,11 @@ load_status no_memory = 1
 load_status refused = 2
 
 -- what stands for the line behind a load that ended so: the first that is not loaded, or what stood there before
-abbrev pub Tells : Result Engine FileFault → ℕ → ℕ → LoadEnd → Type 0
-Tells made old new loaded = new ≡ old
-Tells made old new no_memory = new ≡ old
-Tells made old new refused = made ≡ Err (bad_line new)
+abbrev pub IsLineOf : Result Engine FileFault → ℕ → ℕ → LoadEnd → Type 0
+IsLineOf made old new loaded = new ≡ old
+IsLineOf made old new no_memory = new ≡ old
+IsLineOf made old new refused = made ≡ Err (bad_line new)
 
 -- the status says how a load ended, and the line is told
 abbrev pub IsLoaded : Result Engine FileFault → ℕ → ℕ → ℕ → Type 0
-IsLoaded made old new status = (end : LoadEnd) × (status ≡ load_status end) × Tells made old new end
+IsLoaded made old new status = (end : LoadEnd) × (status ≡ load_status end) × IsLineOf made old new end

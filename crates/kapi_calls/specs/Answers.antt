@@ -56,9 +56,9 @@ abbrev pub IsKept : Answer → Answer → List ℕ → List ℕ → Type 0
 IsKept old new room room' = (new ≡ old) × (room' ≡ room)
 
 -- by whether the text fits
-abbrev pub Stands : Given → Answer → Answer → List ℕ → List ℕ → Bool → Type 0
-Stands g old new room room' true = IsWritten g new room room'
-Stands g old new room room' false = IsShort g old new room room'
+abbrev pub IsWrittenOrShort : Given → Answer → Answer → List ℕ → List ℕ → Bool → Type 0
+IsWrittenOrShort g old new room room' true = IsWritten g new room room'
+IsWrittenOrShort g old new room room' false = IsShort g old new room room'
 
 -- how a call ends
 pub data End : Type 0 where

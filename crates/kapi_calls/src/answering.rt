@@ -2,7 +2,7 @@
 ghost use Rattle.std.specs.Prelude.{◌≡◌, ℕ, List, Result, IfOk};
 ghost use Rattle.kapi_text.specs.Gives.{Fails, Gives};
 ghost use Rattle.kapi_policy.specs.Views.{decision_of};
-ghost use Rattle.kapi_calls.specs.Answers.{Ends, IsAnswered, Stands, decided_of, failed, given_of, number_alone, number_of, with_line as told_with_line};
+ghost use Rattle.kapi_calls.specs.Answers.{Ends, IsAnswered, IsWrittenOrShort, decided_of, failed, given_of, number_alone, number_of, with_line as told_with_line};
 ghost use Rattle.kapi_calls.specs.declared.fault.CallFault.{CallFault as AFault};
 ghost use Rattle.kapi_calls.specs.Faults.{code_of, fault_told};
 ghost use Rattle.kapi_calls.specs.Given.{Given};
@@ -96,7 +96,7 @@ fn find(alloc: Global, engine: &Engine, call: &Call<'_>) -> Result<Found, CallFa
 
 /// Writes the number and the length of the text, and the text to the front of the room, if it fits; else the length alone.
 fn write(found: &Found, answer: &mut Answer, room: &mut [u8]) -> bool
-    ensures { Stands (told found.now) answer.old answer.new room.old room.new result }
+    ensures { IsWrittenOrShort (told found.now) answer.old answer.new room.old room.new result }
 {
     let length = found.text.len();
     answer.length = length;

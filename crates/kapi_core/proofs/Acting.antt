@@ -61,38 +61,38 @@ set_there test (x ∷ es) old new found same id l has =
 -- ---- events
 
 -- the links after an event were there for the same identities, or the event opened one for that identity
-abbrev Goes : Machine → Event → List (ℕ × Link) → Type 0
-Goes m e new = (id : ℕ) (l : Link) → Has new (id, l) → WasThere m.links id l.identity ⊎ (e ≡ event.Open l.identity)
+abbrev LinksCameBy : Machine → Event → List (ℕ × Link) → Type 0
+LinksCameBy m e new = (id : ℕ) (l : Link) → Has new (id, l) → WasThere m.links id l.identity ⊎ (e ≡ event.Open l.identity)
 
-kept : (m : Machine) (e : Event) → Goes m e m.links
+kept : (m : Machine) (e : Event) → LinksCameBy m e m.links
 kept m e id l has = inl (l, (has, refl))
 
-put_goes : (m : Machine) (identity : Identity) → Goes m (event.Open identity) (insert_entry nat_cmp m.links m.next_id (new_link identity))
-put_goes m identity id l has = by_put (put_has nat_cmp nat_exact m.links m.next_id (new_link identity) (id, l) has)
+put_came_by : (m : Machine) (identity : Identity) → LinksCameBy m (event.Open identity) (insert_entry nat_cmp m.links m.next_id (new_link identity))
+put_came_by m identity id l has = by_put (put_has nat_cmp nat_exact m.links m.next_id (new_link identity) (id, l) has)
   where
     by_put : (◌≡◌ {A = ℕ × Link} (m.next_id, new_link identity) (id, l)) ⊎ Has m.links (id, l) → WasThere m.links id l.identity ⊎ (event.Open identity ≡ event.Open l.identity)
     by_put (inl is) = inr (ap (λ (e : ℕ × Link). event.Open e.1.identity) is)
     by_put (inr has) = kept m (event.Open identity) id l has
 
-set_goes : (m : Machine) (e : Event) (conn : ℕ) (old new : Link) → link_at conn m ≡ Some old → new.identity ≡ old.identity → Goes m e (with_link conn new m).links
-set_goes m e conn old new found same id l has = inl (set_there (is_at (nat_cmp conn)) m.links old new found same id l has)
+set_came_by : (m : Machine) (e : Event) (conn : ℕ) (old new : Link) → link_at conn m ≡ Some old → new.identity ≡ old.identity → LinksCameBy m e (with_link conn new m).links
+set_came_by m e conn old new found same id l has = inl (set_there (is_at (nat_cmp conn)) m.links old new found same id l has)
 
-removed_goes : (m : Machine) (e : Event) (test : ℕ → Bool) (new : List (ℕ × Link)) → Goes m e new → Goes m e (remove_entry test new)
-removed_goes m e test new goes id l has = goes id l (delete_has test new (id, l) has)
+removed_came_by : (m : Machine) (e : Event) (test : ℕ → Bool) (new : List (ℕ × Link)) → LinksCameBy m e new → LinksCameBy m e (remove_entry test new)
+removed_came_by m e test new goes id l has = goes id l (delete_has test new (id, l) has)
 
-event_goes : (m : Machine) (e : Event) → Goes m e (step m e).1.links
-event_goes m e = by_moves (effect m e).moves
+event_came_by : (m : Machine) (e : Event) → LinksCameBy m e (step m e).1.links
+event_came_by m e = by_moves (effect m e).moves
   where
     P : List (ℕ × Link) → Type 0
-    P = Goes m e
+    P = LinksCameBy m e
 
-    by_moves : Moves m e (step m e).1 → Goes m e (step m e).1.links
+    by_moves : Moves m e (step m e).1 → LinksCameBy m e (step m e).1.links
     by_moves (effects.stays links next) = subst P (sym links) (kept m e)
     by_moves (effects.opens identity of links next) =
-        let Q : Event → Type 0 = λ f. Goes m f (insert_entry nat_cmp m.links m.next_id (new_link identity)) in
-        subst P (sym links) (subst Q (sym of) (put_goes m identity))
-    by_moves (effects.goes_on old new at same links next) = subst P (sym links) (set_goes m e (number_of m e) old new at same)
-    by_moves (effects.ends links next) = subst P (sym links) (removed_goes m e (is_at (nat_cmp (number_of m e))) m.links (kept m e))
+        let Q : Event → Type 0 = λ f. LinksCameBy m f (insert_entry nat_cmp m.links m.next_id (new_link identity)) in
+        subst P (sym links) (subst Q (sym of) (put_came_by m identity))
+    by_moves (effects.goes_on old new at same links next) = subst P (sym links) (set_came_by m e (number_of m e) old new at same)
+    by_moves (effects.ends links next) = subst P (sym links) (removed_came_by m e (is_at (nat_cmp (number_of m e))) m.links (kept m e))
 
 -- ---- who acts
 
@@ -116,7 +116,7 @@ served_first m (event.Close conn) es who has = absurd has
 -- a connection behind the first event
 connected_before : (m : Machine) (e : Event) (es : List Event) (conn : ConnId) (who : Identity) → IsConnected (step m e).1 es conn who → IsConnected m (e ∷ es) conn who
 connected_before m e es conn who (inr opened) = inr (inr opened)
-connected_before m e es conn who (inl there) = by_event (event_goes m e conn.0 there.0 there.1.0)
+connected_before m e es conn who (inl there) = by_event (event_came_by m e conn.0 there.0 there.1.0)
   where
     by_event : WasThere m.links conn.0 there.0.identity ⊎ (e ≡ event.Open there.0.identity) → IsConnected m (e ∷ es) conn who
     by_event (inl was) = inl (was.0, (was.1.0, was.1.1 ∙ there.1.1))

@@ -35,14 +35,14 @@ use Rattle.kapi_core.specs.Running.{Running}
 use Rattle.kapi_core.specs.Refines.{Refines}
 
 -- the objects stay in the order of their keys, and their policy is run on by the acting identities
-pub record Goes (acting : List Identity) (s t : Plain) : Type 0 where
+pub record IsRunOn (acting : List Identity) (s t : Plain) : Type 0 where
   pub order : AreInOrder t.objects
   pub reached : ObjectsReach acting s.objects t.objects
 
 module _ (acting : List Identity) (s : Plain) (sorted : AreInOrder s.objects) where
   -- some changes are made
-  goes_written : (changes : List PlainChange) → ObjectsReach acting s.objects (written changes s).objects → Goes acting s (written changes s)
-  goes_written changes reached = record { order = placed_all_keeps (trees_left_by changes) s.objects sorted; reached = reached }
+  written_is_run_on : (changes : List PlainChange) → ObjectsReach acting s.objects (written changes s).objects → IsRunOn acting s (written changes s)
+  written_is_run_on changes reached = record { order = placed_all_keeps (trees_left_by changes) s.objects sorted; reached = reached }
 
 -- ---- events
 
@@ -62,11 +62,11 @@ reached m e changes (effects.request conn l item of at is) sorted =
     (granted_reach l.identity granted.0 (answer (policy_of m) m.store l.identity item).changes m.store.objects sorted (acts_as (policy_of m) l.identity granted.0 granted.1.0) granted.1.1))
 reached m e changes (effects.turn turn comes is) sorted = turn_runs (acting_by m e) turn m.store changes sorted comes is
 
-pub event_goes : (m : Machine) (e : Event) → AreInOrder m.store.objects → Goes (acting_by m e) m.store (step m e).1.store
-event_goes m e sorted =
+pub event_is_run_on : (m : Machine) (e : Event) → AreInOrder m.store.objects → IsRunOn (acting_by m e) m.store (step m e).1.store
+event_is_run_on m e sorted =
     let x : Effect m e (step m e) = effect m e in
-    let P : Plain → Type 0 = λ p. Goes (acting_by m e) m.store p in
-    subst P (sym x.store) (goes_written (acting_by m e) m.store sorted x.changes (reached m e x.changes x.cause sorted))
+    let P : Plain → Type 0 = λ p. IsRunOn (acting_by m e) m.store p in
+    subst P (sym x.store) (written_is_run_on (acting_by m e) m.store sorted x.changes (reached m e x.changes x.cause sorted))
 
 -- ---- lists of events
 
@@ -74,7 +74,7 @@ events_reach : (m : Machine) (es : List Event) → AreInOrder m.store.objects �
 unfolding acting_in after
 events_reach m [] sorted = reaches_itself [] (policy_state m.store.objects)
 events_reach m (e ∷ es) sorted =
-    let one : Goes (acting_by m e) m.store (step m e).1.store = event_goes m e sorted in
+    let one : IsRunOn (acting_by m e) m.store (step m e).1.store = event_is_run_on m e sorted in
     reaches_both (acting_by m e) (acting_in (step m e).1 es) (policy_state m.store.objects) (policy_state (step m e).1.store.objects)
     (policy_state (after (step m e).1 es).store.objects) one.reached (events_reach (step m e).1 es one.order)
 
@@ -82,7 +82,7 @@ events_reach m (e ∷ es) sorted =
 events_order : (m : Machine) (es : List Event) → AreInOrder m.store.objects → AreInOrder (after m es).store.objects
 unfolding after
 events_order m [] sorted = sorted
-events_order m (e ∷ es) sorted = events_order (step m e).1 es (event_goes m e sorted).order
+events_order m (e ∷ es) sorted = events_order (step m e).1 es (event_is_run_on m e sorted).order
 
 machine_gains : (m : Machine) (es : List Event) → AreInOrder m.store.objects → NobodyGains (roles_in m.store.objects) (acting_in m es) (policy_of m) (policy_of (after m es))
 machine_gains m es sorted settled unprivileged =

@@ -6,7 +6,7 @@ use Rattle.kapi_stored_policy.proofs.Writes.{policy_after, stands_in_order}
 use Rattle.kapi_policy.specs.Steps.{after_changes}
 use Rattle.kapi_stored_policy.specs.Reading.{policy_changes, policy_objects}
 use Rattle.kapi_core.proofs.Effects.{Effect, effect}
-use Rattle.kapi_core.proofs.Gains.{event_goes}
+use Rattle.kapi_core.proofs.Gains.{event_is_run_on}
 use Rattle.kapi_core.specs.declared.event.Event.{Event}
 use Rattle.kapi_core.specs.Machine.{Machine, after, answers, policy_of, step}
 use Rattle.kapi_core.specs.Running.{Running}
@@ -31,7 +31,7 @@ events_tell : (m : Machine) (es : List Event) → AreInOrder m.store.objects →
 unfolding after answers policy_told
 events_tell m [] sorted = refl
 events_tell m (e ∷ es) sorted =
-    events_tell (step m e).1 es (event_goes m e sorted).order ∙ ap (policy_told (answers (step m e).1 es)) (event_tells m e sorted)
+    events_tell (step m e).1 es (event_is_run_on m e sorted).order ∙ ap (policy_told (answers (step m e).1 es)) (event_tells m e sorted)
 
 -- the answers of a machine that a running one refines report what changed
 pub stood_for_tell : (core : Running) (m : Machine) (es : List Event) → Refines core m → policy_of (after m es) ≡ policy_told (answers m es) (policy_of m)

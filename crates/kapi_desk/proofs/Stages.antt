@@ -4,7 +4,7 @@ use Rattle.kapi_policy.specs.declared.change.PolicyChange.{PolicyChange}
 use Rattle.kapi_desk.specs.Boards.{Board}
 use Rattle.kapi_desk.specs.Pages.{Shelf, opening_in, steps_in}
 use Rattle.kapi_desk.specs.Private.Copies.{IsPaged, absorbed, reader_of}
-use Rattle.kapi_desk.specs.Private.Stages.{IsAt, IsNoted, Stands, board_of, steps_among}
+use Rattle.kapi_desk.specs.Private.Stages.{IsAt, IsNoted, IsPublishedTo, board_of, steps_among}
 use Rattle.kapi_desk.specs.declared.book.Page.{Page}
 use Rattle.kapi_desk.specs.declared.desk.Stage.{Stage}
 use Rattle.kapi_desk.specs.declared.desk.Stage.TheVariants as stage
@@ -56,14 +56,14 @@ pending_at at ops shelf shown h =
 -- ---- a desk
 
 -- a desk that has just opened
-pub stands_first : (v : View) (x y first : Version) (shelf : Shelf) → v ≡ reader_of x.pages.book → y ≡ x → x ≡ first → IsPaged first → shelf.book ≡ first.pages.book → Stands v y shelf
+pub stands_first : (v : View) (x y first : Version) (shelf : Shelf) → v ≡ reader_of x.pages.book → y ≡ x → x ≡ first → IsPaged first → shelf.book ≡ first.pages.book → IsPublishedTo v y shelf
 stands_first v x y first shelf knows same is paged own =
     let all : y ≡ first = same ∙ is in
     (ap (λ (u : View). u.knows) knows, ap (λ (u : View). u.book) knows ∙ ap (λ (z : Version). z.pages.book) (sym same), subst IsPaged (sym all) paged, own ∙ ap (λ (z : Version). z.pages.book) (sym all))
 
 -- a desk that has published
-pub stands_next : (v w : View) (x y : Version) (ops rest : List Operation) (shelf : Shelf) → Stands v x shelf → IsNoted ops shelf x.pages.log → y ≡ fold absorbed x ops → w ≡ v → rest ≡ []
-    → Stands w y shelf × ((rest ≡ []) × (shelf.pages ≡ y.pages.log))
+pub stands_next : (v w : View) (x y : Version) (ops rest : List Operation) (shelf : Shelf) → IsPublishedTo v x shelf → IsNoted ops shelf x.pages.log → y ≡ fold absorbed x ops → w ≡ v → rest ≡ []
+    → IsPublishedTo w y shelf × ((rest ≡ []) × (shelf.pages ≡ y.pages.log))
 stands_next v w x y ops rest shelf s noted is same none =
     let next = paged_next x y ops shelf s.2 noted is in
     let book : x.pages.book ≡ y.pages.book = sym s.3 ∙ sym next.2 in

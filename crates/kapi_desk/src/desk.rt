@@ -3,7 +3,7 @@ ghost use Rattle.left_right.specs.Sides.{view as view_of};
 ghost use Rattle.kapi_desk.specs.Boards.{fresh, informed};
 ghost use Rattle.kapi_desk.specs.Pages.{Shelf, opening_in, steps_in};
 ghost use Rattle.kapi_desk.specs.Private.Copies.{IsPaged, absorbed, reader_of};
-ghost use Rattle.kapi_desk.specs.Private.Stages.{IsAt, IsNoted, Stands, steps_among};
+ghost use Rattle.kapi_desk.specs.Private.Stages.{IsAt, IsNoted, IsPublishedTo, steps_among};
 ghost use Rattle.kapi_desk.specs.Steps.{after};
 ghost use Rattle.kapi_desk.specs.declared.book.Page.{Page as APage};
 ghost use Rattle.kapi_desk.specs.declared.desk.PublishError.TheVariants as refusal;
@@ -12,7 +12,7 @@ ghost use Rattle.kapi_desk.specs.declared.version.Operation.TheVariants.{Step as
 ghost use Rattle.kapi_policy.specs.declared.change.PolicyChange.{PolicyChange as AChange};
 
 use crate::book::Book;
-use crate::rule::{Opens, PolicyWriter, Publishes, Tells};
+use crate::rule::{Opens, PolicyWriter, Publishes, Reports};
 use crate::seat::{Seat, Told};
 use crate::version::{Operation, Version};
 use core::mem::{replace, replace_with};
@@ -60,13 +60,13 @@ impl Model for Desk {
     ghost use Rattle.std.specs.Prelude.{drop};
     ghost use Rattle.left_right.specs.Sides.{view as view_of};
     ghost use Rattle.kapi_desk.specs.Boards.{Board};
-    ghost use Rattle.kapi_desk.specs.Private.Stages.{IsAt, Stands, board_of};
+    ghost use Rattle.kapi_desk.specs.Private.Stages.{IsAt, IsPublishedTo, board_of};
 
     ghost Value = { Board };
 
     ghost view = { λ d. board_of d.writer.desk.shown.value (drop d.writer.behind d.writer.log.items) };
 
-    ghost invariant = { λ d. Stands (view_of d.writer.desk.place) d.writer.desk.shown.value d.book × IsAt d.stage (drop d.writer.behind d.writer.log.items) d.book d.writer.desk.shown.value.pages.log };
+    ghost invariant = { λ d. IsPublishedTo (view_of d.writer.desk.place) d.writer.desk.shown.value d.book × IsAt d.stage (drop d.writer.behind d.writer.log.items) d.book d.writer.desk.shown.value.pages.log };
 }
 
 /// The desk notes its book, in a publish of no step. A failed allocation ends the writer.
@@ -199,7 +199,7 @@ impl Desk {
 
     #[tactic(auto, using(crate::proofs::Stages::steps_none))]
     fn with(alloc: Global, writer: PolicyWriter, book: Book) -> Desk
-        requires stands { Stands (view_of writer.desk.place) writer.desk.shown.value book }
+        requires stands { IsPublishedTo (view_of writer.desk.place) writer.desk.shown.value book }
         requires pages { book.pages ≡ writer.desk.shown.value.pages.log }
         requires none { drop writer.behind writer.log.items ≡ [] }
         ensures opening { result.opening ≡ opening_in book.pages }
@@ -233,7 +233,7 @@ impl Desk {
         ensures told { IfOk result (λ s. s ≡ informed self.old) }
     {
         let mut reader = self.writer.factory().reader()?;
-        reader.learn::<Tells>(self.writer.tell::<Tells>());
+        reader.learn::<Reports>(self.writer.tell::<Reports>());
         Ok(Seat::over(self.alloc, reader, self.tell()))
     }
 

@@ -64,15 +64,15 @@ impl Outcome<Version, View> for Publishes {
 }
 
 /// The desk tells its book to a new reader.
-pub(crate) struct Tells;
+pub(crate) struct Reports;
 
-impl Split<View> for Tells {
+impl Split<View> for Reports {
     ghost left = { λ v. v };
 
     ghost right = { λ v. v };
 }
 
-impl Join<View> for Tells {
+impl Join<View> for Reports {
     ghost use Rattle.kapi_desk.specs.Private.Copies.{newcomer};
 
     ghost both = { λ v told. told };

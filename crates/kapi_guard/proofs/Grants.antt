@@ -28,7 +28,7 @@ use Rattle.kapi_policy.specs.declared.change.PolicyPut.{PolicyPut}
 use Rattle.kapi_policy.specs.declared.change.PolicyPut.TheVariants as put
 use Rattle.kapi_guard.proofs.Implied.{implied_by_more, implied_in_parts, implied_onward, none_is_missing}
 use Rattle.kapi_guard.specs.Authority.{full_authority}
-use Rattle.kapi_guard.specs.Checks.{Fault, IsWithin, Tells, all_held, checked, fault_of, grant, holds_all, holds_authority, holds_found, implies_each, lacks, lacks_authority, role_kept, role_not_found, role_ref_changed, rules_held}
+use Rattle.kapi_guard.specs.Checks.{Fault, IsWithin, PassesIff, all_held, checked, fault_of, grant, holds_all, holds_authority, holds_found, implies_each, lacks, lacks_authority, role_kept, role_not_found, role_ref_changed, rules_held}
 use Rattle.kapi_guard.specs.Exempt.{exemption, is_exempt}
 use Rattle.kapi_guard.specs.Laws.{cluster_role_with, created, role_with, unchanged, write_of}
 use Rattle.kapi_guard.specs.Writes.{is_aggregated, is_same_kind, is_same_role, keeps_role, scope, wanted}
@@ -88,7 +88,7 @@ same_held own others rules o same = rw (same_missing own others rules same, same
 
 -- ---- what an answer tells
 
-pub told : (result : Result (Unit {0}) Refused) (given : Result (Unit {0}) Fault) (so : Bool) → is_ok given ≡ so → Gives fault_of (λ u. u) result given → Tells result so
+pub told : (result : Result (Unit {0}) Refused) (given : Result (Unit {0}) Fault) (so : Bool) → is_ok given ≡ so → Gives fault_of (λ u. u) result given → PassesIff result so
 told (Ok u) given so is gives = sym is ∙ ap is_ok gives
 told (Err refused.Memory) given so is gives = tt
 told (Err (refused.Missing list)) given so is gives = sym is ∙ ap is_ok gives

@@ -98,10 +98,10 @@ checked objects identity w =
     >>= λ u. (if is_exempt objects identity w then Ok tt else rules_held objects identity w.object (wanted objects w.object))
 
 -- the answer reports whether the check passes, unless it is out of memory
-abbrev pub Tells : Result (Unit {0}) Refused → Bool → Type 0
-Tells (Ok u) so = so ≡ true
-Tells (Err refused.Memory) so = Unit {0}
-Tells (Err (refused.Missing list)) so = so ≡ false
-Tells (Err (refused.NeedsFullAuthority list)) so = so ≡ false
-Tells (Err refused.RoleNotFound) so = so ≡ false
-Tells (Err refused.RoleRefChanged) so = so ≡ false
+abbrev pub PassesIff : Result (Unit {0}) Refused → Bool → Type 0
+PassesIff (Ok u) so = so ≡ true
+PassesIff (Err refused.Memory) so = Unit {0}
+PassesIff (Err (refused.Missing list)) so = so ≡ false
+PassesIff (Err (refused.NeedsFullAuthority list)) so = so ≡ false
+PassesIff (Err refused.RoleNotFound) so = so ≡ false
+PassesIff (Err refused.RoleRefChanged) so = so ≡ false

@@ -43,8 +43,8 @@ abbrev Ends : Place → ℕ → ℕ → List ℕ → Type 0
 Ends p n l bytes = is_ended (scanned (mk p n l) bytes).place ≡ true
 
 -- whether a byte is this one
-abbrev Told : ℕ → ℕ → Type 0
-Told a b = (((a == b) ≡ true) × (a ≡ b)) ⊎ (((a == b) ≡ false) × (a ≢ b))
+abbrev IsSameOrOther : ℕ → ℕ → Type 0
+IsSameOrOther a b = (((a == b) ≡ true) × (a ≡ b)) ⊎ (((a == b) ≡ false) × (a ≢ b))
 
 longer : (b : ℕ) (bytes : List ℕ) → Closes bytes → Closes (b ∷ bytes)
 longer b bytes c =
@@ -103,7 +103,7 @@ ends_by [] LineCr n l e = absurd cc
 ends_by [] Ended n l e = tt
 ends_by (b ∷ bytes) Leading n l e = by_byte (eqb_tells b 10) (eqb_tells b 13) (ends_by bytes)
   where
-    by_byte : Told b 10 → Told b 13 → ((p : Place) (n l : ℕ) → Ends p n l bytes → Found p bytes) → HasEmptyLine (b ∷ bytes)
+    by_byte : IsSameOrOther b 10 → IsSameOrOther b 13 → ((p : Place) (n l : ℕ) → Ends p n l bytes → Found p bytes) → HasEmptyLine (b ∷ bytes)
     by_byte (inl (t, same)) cr again =
         let rest = rw t at e in
         subst (λ (v : ℕ). HasEmptyLine (v ∷ bytes)) (sym same) (blank_more lf bytes (again Leading (n + 1) (l + 0) rest))
@@ -114,7 +114,7 @@ ends_by (b ∷ bytes) Leading n l e = by_byte (eqb_tells b 10) (eqb_tells b 13) 
         let rest = rw (f, g) at e in begins b bytes other another (again Inside (n + 1) (l + 0) rest)
 ends_by (b ∷ bytes) LeadingCr n l e = by_byte (eqb_tells b 10) (ends_by bytes)
   where
-    by_byte : Told b 10 → ((p : Place) (n l : ℕ) → Ends p n l bytes → Found p bytes) → HasEmptyLine (13 ∷ b ∷ bytes)
+    by_byte : IsSameOrOther b 10 → ((p : Place) (n l : ℕ) → Ends p n l bytes → Found p bytes) → HasEmptyLine (13 ∷ b ∷ bytes)
     by_byte (inl (t, same)) again =
         let rest = rw t at e in
         subst (λ (v : ℕ). HasEmptyLine (13 ∷ v ∷ bytes)) (sym same) (blank_more crlf bytes (again Leading (n + 1) (l + 0) rest))
@@ -122,7 +122,7 @@ ends_by (b ∷ bytes) LeadingCr n l e = by_byte (eqb_tells b 10) (ends_by bytes)
         let rest = rw f at e in begins_cr b bytes other (again Inside (n + 1) (l + 0) rest)
 ends_by (b ∷ bytes) Inside n l e = by_byte (eqb_tells b 10) (ends_by bytes)
   where
-    by_byte : Told b 10 → ((p : Place) (n l : ℕ) → Ends p n l bytes → Found p bytes) → Closes (b ∷ bytes)
+    by_byte : IsSameOrOther b 10 → ((p : Place) (n l : ℕ) → Ends p n l bytes → Found p bytes) → Closes (b ∷ bytes)
     by_byte (inl (t, same)) again =
         let rest = rw t at e in
         subst (λ (v : ℕ). Closes (v ∷ bytes)) (sym same) (line_fed bytes (again LineStart (n + 1) (l + 1) rest))
@@ -130,7 +130,7 @@ ends_by (b ∷ bytes) Inside n l e = by_byte (eqb_tells b 10) (ends_by bytes)
         let rest = rw f at e in longer b bytes (again Inside (n + 1) (l + 0) rest)
 ends_by (b ∷ bytes) LineStart n l e = by_byte (eqb_tells b 10) (eqb_tells b 13) (ends_by bytes)
   where
-    by_byte : Told b 10 → Told b 13 → ((p : Place) (n l : ℕ) → Ends p n l bytes → Found p bytes) → Empty (b ∷ bytes) ⊎ Closes (b ∷ bytes)
+    by_byte : IsSameOrOther b 10 → IsSameOrOther b 13 → ((p : Place) (n l : ℕ) → Ends p n l bytes → Found p bytes) → Empty (b ∷ bytes) ⊎ Closes (b ∷ bytes)
     by_byte (inl (t, same)) cr again = inl (record { last = lf; more = bytes; whole = ap (λ (v : ℕ). v ∷ bytes) same })
     by_byte (inr (f, other)) (inl (t, same)) again =
         let rest = rw (f, t) at e in
@@ -139,7 +139,7 @@ ends_by (b ∷ bytes) LineStart n l e = by_byte (eqb_tells b 10) (eqb_tells b 13
         let rest = rw (f, g) at e in inr (longer b bytes (again Inside (n + 1) (l + 0) rest))
 ends_by (b ∷ bytes) LineCr n l e = by_byte (eqb_tells b 10) (ends_by bytes)
   where
-    by_byte : Told b 10 → ((p : Place) (n l : ℕ) → Ends p n l bytes → Found p bytes) → Empty (13 ∷ b ∷ bytes) ⊎ Closes (13 ∷ b ∷ bytes)
+    by_byte : IsSameOrOther b 10 → ((p : Place) (n l : ℕ) → Ends p n l bytes → Found p bytes) → Empty (13 ∷ b ∷ bytes) ⊎ Closes (13 ∷ b ∷ bytes)
     by_byte (inl (t, same)) again = inl (record { last = crlf; more = bytes; whole = ap (λ (v : ℕ). 13 ∷ v ∷ bytes) same })
     by_byte (inr (f, other)) again =
         let rest = rw f at e in inr (longer 13 (b ∷ bytes) (longer b bytes (again Inside (n + 1) (l + 0) rest)))
@@ -197,13 +197,13 @@ unfolding scanned
 line_begins [] n l some = absurd (some lf [] refl)
 line_begins (b ∷ []) n l some = by_byte (eqb_tells b 10) (eqb_tells b 13)
   where
-    by_byte : Told b 10 → Told b 13 → is_leading (scanned (mk Leading n l) (b ∷ [])).place ≡ false
+    by_byte : IsSameOrOther b 10 → IsSameOrOther b 13 → is_leading (scanned (mk Leading n l) (b ∷ [])).place ≡ false
     by_byte (inl (t, same)) cr = absurd (some lf (10 ∷ []) (ap (λ (v : ℕ). v ∷ 10 ∷ []) same))
     by_byte (inr (f, other)) (inl (t, same)) = absurd (some crlf [] (ap (λ (v : ℕ). v ∷ 10 ∷ []) same))
     by_byte (inr (f, other)) (inr (g, another)) = rw (f, g) refl
 line_begins (b ∷ c ∷ line) n l some = by_byte (eqb_tells b 10) (eqb_tells b 13) (eqb_tells c 10)
   where
-    by_byte : Told b 10 → Told b 13 → Told c 10 → is_leading (scanned (mk Leading n l) (b ∷ c ∷ line)).place ≡ false
+    by_byte : IsSameOrOther b 10 → IsSameOrOther b 13 → IsSameOrOther c 10 → is_leading (scanned (mk Leading n l) (b ∷ c ∷ line)).place ≡ false
     by_byte (inl (t, same)) cr next = absurd (some lf (c ∷ (line ++ 10 ∷ [])) (ap (λ (v : ℕ). v ∷ c ∷ (line ++ 10 ∷ [])) same))
     by_byte (inr (f, other)) (inl (t, same)) (inl (u, feed)) =
         absurd (some crlf (line ++ 10 ∷ []) (λ i. same i ∷ feed i ∷ (line ++ 10 ∷ [])))

@@ -9,7 +9,7 @@ ghost use Rattle.kapi_paths.specs.Rights.{row_of};
 ghost use Rattle.kapi_paths.specs.Sources.{sources as sources_of};
 ghost use Rattle.kapi_paths.specs.Steps.{everything};
 ghost use Rattle.kapi_paths.specs.declared.node.Node.{Node as Who};
-ghost use Rattle.kapi_paths.specs.declared.path.Path.{Path as Told};
+ghost use Rattle.kapi_paths.specs.declared.path.Path.{Path as FoundPath};
 
 use crate::gathered::sources;
 use crate::graph::{Numbered, rows};
@@ -218,7 +218,7 @@ fn push_paths(
 
 /// The paths of each subject of the bindings: to everything, or else to each node that it reaches, besides those who hold a role.
 pub fn paths<P: Policy>(alloc: Global, asked: &Question<'_, P>) -> Result<Vec<Path>, Memory>
-    ensures each { IfOk result (λ v. (p : Told) → Has v.items p → IsPath (next_of (P.content asked.now.policy.now) asked.now.bindings.now asked.now.known.now (map row_of asked.now.rights.now)) (sources_of asked.now.bindings.now) p) }
+    ensures each { IfOk result (λ v. (p : FoundPath) → Has v.items p → IsPath (next_of (P.content asked.now.policy.now) asked.now.bindings.now asked.now.known.now (map row_of asked.now.rights.now)) (sources_of asked.now.bindings.now) p) }
     ensures once { IfOk result (λ v. AreApart v.items) }
     ensures listed { IfOk result (λ v. HasAll (next_of (P.content asked.now.policy.now) asked.now.bindings.now asked.now.known.now (map row_of asked.now.rights.now)) (sources_of asked.now.bindings.now) v.items) }
 {

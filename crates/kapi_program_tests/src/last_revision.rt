@@ -1,5 +1,5 @@
 //! A machine at its last revisions: requests that take no revision are answered still, and all others are refused.
-use crate::machine::{MAPS, Told, first_untold, opened_at};
+use crate::machine::{MAPS, Expected, first_untold, opened_at};
 use kapi_core::{Answer, Core, Event, LAST_FIRST, LoadError};
 use kapi_index::IndexedPolicy;
 use kapi_text::Memory;
@@ -13,7 +13,7 @@ const NONE_LEFT: &str = "no revision is left";
 const OWN: &str = "/apis/authorization.k8s.io/v1/selfsubjectaccessreviews";
 
 /// The five opening objects have taken the last five revisions.
-const AT_THE_LAST: &[Told] = &[
+const AT_THE_LAST: &[Expected] = &[
     (
         "GET",
         "/apis/rbac.authorization.k8s.io/v1/clusterrolebindings/system:basic-user",
@@ -51,7 +51,7 @@ fn answers_503_where_revisions_are_used_up(rt: HostRuntime) -> Result<(), Fail> 
 }
 
 /// After three creations two revisions are left.
-const TWO_LEFT: &[Told] = &[
+const TWO_LEFT: &[Expected] = &[
     ("POST", MAPS, r#"{"metadata":{"name":"a"}}"#, "201", ""),
     ("POST", MAPS, r#"{"metadata":{"name":"b"}}"#, "201", ""),
     ("POST", MAPS, r#"{"metadata":{"name":"c"}}"#, "201", ""),
@@ -101,7 +101,7 @@ fn a_collection_takes_a_revision_for_each(rt: HostRuntime) -> Result<(), Fail> {
 const CLUSTER_ROLES: &str = "/apis/rbac.authorization.k8s.io/v1/clusterroles";
 
 /// Two cluster roles take the last two revisions; the first takes its rules from the second.
-const TURN_DUE: &[Told] = &[
+const TURN_DUE: &[Expected] = &[
     (
         "POST",
         CLUSTER_ROLES,

@@ -88,7 +88,7 @@ pub fn holds(bytes: &[u8], text: &str) -> bool {
 }
 
 /// A request and a text of its reply: the method, the target, the body, the code, the text.
-pub type Told = (
+pub type Expected = (
     &'static str,
     &'static str,
     &'static str,
@@ -106,7 +106,7 @@ pub fn has_code(reply: &[u8], code: &str) -> bool {
 pub fn first_untold(
     alloc: Global,
     core: &mut Core<IndexedPolicy>,
-    steps: &[Told],
+    steps: &[Expected],
 ) -> Result<Option<(&'static str, &'static str, &'static str)>, Memory> {
     for (method, target, body, code, text) in steps {
         let bytes = request(alloc, method, target, body)?;

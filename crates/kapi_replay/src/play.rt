@@ -7,7 +7,7 @@ ghost use Rattle.kapi_core.specs.Table.{fits};
 ghost use Rattle.kapi_script.specs.Scripts.{start as begun};
 ghost use Rattle.kapi_replay.specs.Reports.{line_at};
 ghost use Rattle.kapi_replay.specs.Failures as fails;
-ghost use Rattle.kapi_replay.specs.declared.failure.Failure.TheVariants as Told;
+ghost use Rattle.kapi_replay.specs.declared.failure.Failure.TheVariants as failure;
 ghost use Rattle.kapi_replay.specs.Failures.{script_text as script_text_of};
 
 use crate::case::{Case, Event, Loaded, Want};
@@ -153,7 +153,7 @@ fn bad_line(alloc: Global, case: &Case, number: u64) -> Result<Vec<Failure>, Mem
 
 /// The failure of a line of no known form, for this reason.
 fn no_form(alloc: Global, number: usize, reason: &str) -> Result<Vec<Failure>, Memory>
-    ensures { IfOk result (λ v. v.items ≡ Told.NoForm number reason.now ∷ []) }
+    ensures { IfOk result (λ v. v.items ≡ failure.NoForm number reason.now ∷ []) }
 {
     let reason = Text::copy_of(alloc, reason)?;
     only(alloc, Failure::NoForm(number, reason))
@@ -184,7 +184,7 @@ fn not_loaded_for(
     line: usize,
     reason: String,
 ) -> Result<Vec<Failure>, Memory>
-    ensures { IfOk result (λ v. v.items ≡ Told.NotLoaded number line (string_bytes reason) ∷ []) }
+    ensures { IfOk result (λ v. v.items ≡ failure.NotLoaded number line (string_bytes reason) ∷ []) }
 {
     only(alloc, Failure::NotLoaded(number, line, Text::new(reason)))
 }

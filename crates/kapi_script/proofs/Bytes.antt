@@ -8,7 +8,7 @@ use Rattle.std.proofs.lemmas.List.Splits.{slice_split_at, slice_split_none}
 use Rattle.kapi_core.specs.Running.{Running}
 use Rattle.kapi_core.specs.Machine.{Machine}
 use Rattle.kapi_script.specs.Scripts.{lines, said, first_bad_from}
-use Rattle.kapi_script.specs.Private.Playing.{Play, ReachedBy, Reading, ReadsOn, Goes, Ends}
+use Rattle.kapi_script.specs.Private.Playing.{Play, ReachedBy, Reading, ReadsOn, IsPlayedOn, Ends}
 use Rattle.kapi_script.specs.declared.script.Script.{Script}
 use Rattle.kapi_script.specs.declared.script.ScriptFault.{ScriptFault}
 use Rattle.kapi_script.specs.declared.script.ScriptFault.TheVariants as fault
@@ -42,8 +42,8 @@ byte_pushed all byte unread before core s t c (Err fault.Memory) other lines_are
 
 -- what ended a line ends the script
 pub line_failed : (all : Play) (rest : List (List ℕ)) (unread before : List ℕ) (n : ℕ) (core : Running) (s : Script) (d : Option (List ℕ)) (result : Result (Unit {0}) ScriptFault) (e : ScriptFault)
-    → result ≡ Err e → Goes all rest n core before d result → ReadsOn all unread core s before d (Err e)
-line_failed all rest unread before n core s d result (fault.BadLine number) is h = subst (λ r. Goes all rest n core before d r) is h
+    → result ≡ Err e → IsPlayedOn all rest n core before d result → ReadsOn all unread core s before d (Err e)
+line_failed all rest unread before n core s d result (fault.BadLine number) is h = subst (λ r. IsPlayedOn all rest n core before d r) is h
 line_failed all rest unread before n core s d result fault.Read is h = tt
 line_failed all rest unread before n core s d result fault.Write is h = tt
 line_failed all rest unread before n core s d result fault.Memory is h = tt
@@ -57,7 +57,7 @@ last_line all before line core s c e h =
 
 -- all lines were played
 pub ended : (all : Play) (before : List ℕ) (n : ℕ) (core : Running) (d : Option (List ℕ)) (result : Result (Unit {0}) ScriptFault)
-    → Goes all [] n core before d result → Ends all before d result
+    → IsPlayedOn all [] n core before d result → Ends all before d result
 unfolding said first_bad_from
 ended all before n core d (Ok done) h =
     let s = h.1.said_so_far [] in

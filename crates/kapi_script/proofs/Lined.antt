@@ -6,7 +6,7 @@ use Rattle.kapi_core.specs.Refines.{Refines}
 use Rattle.kapi_core.specs.Running.{Running}
 use Rattle.kapi_script.specs.AnswerLines.{answer_line, refused_line}
 use Rattle.kapi_script.specs.Scripts.{line_of, is_bad, written_for, after_line, said, first_bad_from}
-use Rattle.kapi_script.specs.Private.Playing.{Play, Plays, played_text, is_bad_play, Reached, ReachedBy, Stopped, Goes}
+use Rattle.kapi_script.specs.Private.Playing.{Play, Plays, played_text, is_bad_play, Reached, ReachedBy, Stopped, IsPlayedOn}
 use Rattle.kapi_script.specs.declared.script.Played.{Played}
 use Rattle.kapi_script.specs.declared.script.Played.TheVariants as played
 use Rattle.kapi_script.specs.declared.script.ScriptFault.{ScriptFault}
@@ -70,22 +70,22 @@ more all rest n old new line before played.Skipped c d plays good wrote h =
 more all rest n old new line before played.Bad c d plays good wrote h = absurd (cc good)
 more all rest n old new line before played.Refused c d plays good wrote h =
     reached_by all rest n old new line before refused_line true c d (rw plays.1 refl) wrote h (rw plays.1 refl) (rw plays.1 (plays.2 h.1.machine h.1.stands))
-more all rest n old new line before (played.Told answer) c d plays good wrote h =
+more all rest n old new line before (played.Answered answer) c d plays good wrote h =
     let made = plays.2 h.1.machine h.1.stands in
     reached_by all rest n old new line before (answer_line answer) false c d (rw plays.1 refl) wrote h (rw plays.1 (ap answer_line made.0)) (rw plays.1 made.1)
 
 -- a line was played, and its answer written or not
 pub gone : (all : Play) (rest : List (List ℕ)) (n : ℕ) (old new : Running) (line before : List ℕ) (p : Played) (c d : Option (List ℕ)) (result : Result (Unit {0}) ScriptFault)
     → Plays old new line p → is_bad_play p ≡ false → OnOk result (Appends c d (played_text p)) → IfErr result (λ e. e ≡ fault.Write)
-    → ReachedBy all (line ∷ rest) n old before c → Goes all rest (n + 1) new before d result
+    → ReachedBy all (line ∷ rest) n old before c → IsPlayedOn all rest (n + 1) new before d result
 gone all rest n old new line before p c d (Ok done) plays good wrote failed h = more all rest n old new line before p c d plays good wrote h
-gone all rest n old new line before p c d (Err e) plays good wrote failed h = subst (λ e. Goes all rest (n + 1) new before d (Err e)) (sym failed) tt
+gone all rest n old new line before p c d (Err e) plays good wrote failed h = subst (λ e. IsPlayedOn all rest (n + 1) new before d (Err e)) (sym failed) tt
 
 is_bad_line : (old new : Running) (line : List ℕ) (p : Played) → Plays old new line p → is_bad_play p ≡ true → is_bad (line_of line) ≡ true
 is_bad_line old new line played.Skipped plays b = absurd (cc b)
 is_bad_line old new line played.Bad plays b = rw plays refl
 is_bad_line old new line played.Refused plays b = absurd (cc b)
-is_bad_line old new line (played.Told answer) plays b = absurd (cc b)
+is_bad_line old new line (played.Answered answer) plays b = absurd (cc b)
 
 -- a bad line ends the script
 pub stopped : (all : Play) (rest : List (List ℕ)) (n : ℕ) (old new : Running) (line before : List ℕ) (p : Played) (c : Option (List ℕ))

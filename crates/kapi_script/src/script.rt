@@ -4,7 +4,7 @@ ghost use Rattle.std.specs.Io.KnownBytes.{Appends, Consumes, IsAtEnd};
 ghost use Rattle.kapi_core.specs.Machine.{Machine};
 ghost use Rattle.kapi_core.specs.Refines.{Refines};
 ghost use Rattle.kapi_core.specs.Table.{fits};
-ghost use Rattle.kapi_script.specs.Private.Playing.{is_bad_play, Ends, Goes, Play, Plays, ReachedBy, Reading, ReadsOn, played_text};
+ghost use Rattle.kapi_script.specs.Private.Playing.{is_bad_play, Ends, IsPlayedOn, Play, Plays, ReachedBy, Reading, ReadsOn, played_text};
 ghost use Rattle.kapi_policy.specs.Objects.{no_objects};
 ghost use Rattle.kapi_script.specs.Gains.{NobodyGainsFrom};
 ghost use Rattle.kapi_script.specs.Scripts.{IsAnswered, IsAnsweredBy};
@@ -66,7 +66,7 @@ pub enum Played {
     Bad,
     /// An allocation failed, and nothing was changed.
     Refused,
-    Told(Answer),
+    Answered(Answer),
 }
 
 /// Makes the step of a line, if it is one of a known form.
@@ -79,7 +79,7 @@ fn play<P: Policy + Drop>(alloc: Global, core: &mut Core<P>, line: &[u8]) -> Pla
     }
     match parse_line(alloc, line) {
         Ok(Some(event)) => match core.step(&event) {
-            Ok(answer) => Played::Told(answer),
+            Ok(answer) => Played::Answered(answer),
             Err(_) => Played::Refused,
         },
         Ok(None) => Played::Bad,
@@ -111,7 +111,7 @@ fn write_text<W: Write>(writer: &mut W, played: &Played) -> io::Result<()>
     match played {
         Played::Skipped | Played::Bad => Ok(()),
         Played::Refused => writer.write_all(b"error Memory\n"),
-        Played::Told(answer) => write_answer(writer, answer),
+        Played::Answered(answer) => write_answer(writer, answer),
     }
 }
 
@@ -125,7 +125,7 @@ fn play_line<P: Policy + Drop, W: Write>(
 ) -> Result<(), ScriptFault>
     requires { lines < 18446744073709551615 }
     ensures { (all : Play) (rest : List (List ℕ)) (before : List ℕ) → ReachedBy all (line.now ∷ rest) lines core.old before (W.contents writer.old)
-        → Goes all rest (lines + 1) core.new before (W.contents writer.new) result }
+        → IsPlayedOn all rest (lines + 1) core.new before (W.contents writer.new) result }
 {
     let played = play(alloc, core, line);
     if is_bad(&played) {

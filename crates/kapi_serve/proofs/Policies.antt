@@ -1,7 +1,7 @@
 -- Each policy published by a desk was the policy of the machine at some moment.
 use Rattle.std.proofs.Common.{◌≡◌, ℕ, suc, List, [], ◌∷◌, ◌++◌, take, refl, sym, ap, ◌∙◌, append_assoc}
 use Rattle.std.proofs.lemmas.List.{append_cancel_left}
-use Rattle.kapi_core.proofs.Gains.{event_goes}
+use Rattle.kapi_core.proofs.Gains.{event_is_run_on}
 use Rattle.kapi_core.proofs.Telling.{event_tells}
 use Rattle.kapi_core.specs.Machine.{Machine, after as machine_after, answers, policy_of, step}
 use Rattle.kapi_core.specs.Running.{Running}
@@ -46,7 +46,7 @@ first_steps m (e ∷ es) sorted (s ∷ r) rest is =
     let next : Machine = (step m e).1 in
     let told : List PolicyChange = changes_told (step m e).0 in
     let same : policy_of next ≡ after_changes told (policy_of m) = event_tells m e sorted in
-    let k = before_it (policy_of m) (policy_of next) next es (steps_in (answers next es)) told same (λ r rest is. first_steps next es (event_goes m e sorted).order r rest is) s r rest is in
+    let k = before_it (policy_of m) (policy_of next) next es (steps_in (answers next es)) told same (λ r rest is. first_steps next es (event_is_run_on m e sorted).order r rest is) s r rest is in
     (suc k.0, k.1)
 
 -- the steps that a desk has published since it had published the machine's policy

@@ -380,7 +380,7 @@ rests_visited n f e s w served sent over = record {
 
 -- ---- all clients
 
--- the relations of `Stands` by the clients and the connections that are awake
+-- the relations of `AllMatch` by the clients and the connections that are awake
 abbrev pub MatchOn : Running → Running → List Client → List ℕ → List Client → List ℕ → Type 0
 MatchOn old new cs awake ds later = (m : Machine) → Refines old m → AllMatch m cs awake → (n : Machine) × Refines new n × AllMatch n ds later
 

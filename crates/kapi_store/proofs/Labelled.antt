@@ -16,7 +16,7 @@ use Rattle.kapi_object.proofs.Ordered.{key_first, keys_in_order, none_found, oth
 use Rattle.kapi_object.specs.Order.{in_order, is_ordered, precedes}
 use Rattle.kapi_object.specs.Tree.{in_metadata, members_or_none}
 use Rattle.serde_json.specs.Read.{read}
-use Rattle.kapi_store.specs.Told.{labels_among, labels_of, told_by}
+use Rattle.kapi_store.specs.Labels.{labels_among, labels_of, told_by}
 
 -- keys are compared either way
 pub turned : (k l : List ℕ) (o : Ordering) → slice_cmp nat_cmp k l ≡ o → bytes_eq l k ≡ is_eq (ordering_reverse o)

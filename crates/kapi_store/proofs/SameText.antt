@@ -10,7 +10,7 @@ use Rattle.serde_json.specs.Written.{compact_text, has_float}
 use Rattle.kapi_object.specs.Contents.{aggregation_in}
 use Rattle.kapi_object.specs.Tree.{in_metadata}
 use Rattle.kapi_store.specs.Stamps.{uid_of}
-use Rattle.kapi_store.specs.Told.{labels_of, told_by}
+use Rattle.kapi_store.specs.Labels.{labels_of, told_by}
 use Rattle.kapi_store.specs.declared.stored.StoredObject.{StoredObject}
 
 pub same_by_text : (s t : StoredObject) → s.revision ≡ t.revision → s.created ≡ t.created → s.text ≡ t.text → s ≡ t

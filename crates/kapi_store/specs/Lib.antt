@@ -1,7 +1,7 @@
 pub mod Limits
 pub mod Keys
 pub mod Stamps
-pub mod Told
+pub mod Labels
 pub mod Stored
 pub mod Gone
 pub mod Same

@@ -1,6 +1,6 @@
 -- What contracts see of a stored object: its tree.
 use Rattle.serde_json.specs.Data.{Data}
-use Rattle.kapi_store.specs.Told.{told_by}
+use Rattle.kapi_store.specs.Labels.{told_by}
 use Rattle.kapi_store.specs.declared.stored.StoredObject.{StoredObject}
 
 -- the object as JSON data

@@ -2,7 +2,7 @@ ghost use Rattle.std.specs.Prelude.{◌≡◌, ℕ, List, None, Some, option_map
 ghost use Rattle.serde_json.specs.Written.{compact_text};
 ghost use Rattle.kapi_store.specs.Gone.{at_version};
 ghost use Rattle.kapi_store.specs.Stored.{stored_tree};
-ghost use Rattle.kapi_store.specs.Told.{labels_of};
+ghost use Rattle.kapi_store.specs.Labels.{labels_of};
 ghost use Rattle.kapi_store.specs.declared.stored.StoredObject.{StoredObject as Stored};
 
 use crate::key::Key;

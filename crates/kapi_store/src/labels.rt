@@ -3,7 +3,7 @@
 ghost use Rattle.std.specs.Prelude.{◌≡◌, ◌++◌, IfOk, OnOk};
 ghost use Rattle.serde_json.specs.View.{view, members_view};
 ghost use Rattle.kapi_store.specs.Private.Alike.{same_label, same_labels};
-ghost use Rattle.kapi_store.specs.Told.{label_of, labels_among, labels_of as labels_of_tree};
+ghost use Rattle.kapi_store.specs.Labels.{label_of, labels_among, labels_of as labels_of_tree};
 
 use kapi_model::Label;
 use kapi_object::tree::in_metadata;

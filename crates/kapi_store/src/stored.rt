@@ -6,7 +6,7 @@ ghost use Rattle.serde_json.specs.Written.{compact_text, has_float};
 ghost use Rattle.kapi_object.specs.Contents.{aggregation_in};
 ghost use Rattle.kapi_object.specs.Tree.{in_metadata};
 ghost use Rattle.kapi_store.specs.Stamps.{uid_of};
-ghost use Rattle.kapi_store.specs.Told.{labels_of as labels_of_tree, told_by};
+ghost use Rattle.kapi_store.specs.Labels.{labels_of as labels_of_tree, told_by};
 
 use crate::cut::{around, joined, version_text};
 use crate::labels::{are_same, labels_of};
@@ -55,7 +55,7 @@ impl StoredObject {
     ghost use Rattle.kapi_store.specs.Gone.{at_version};
     ghost use Rattle.kapi_store.specs.Stamps.{uid_of, uid_in, version_in};
     ghost use Rattle.kapi_store.specs.Stored.{stored_tree};
-    ghost use Rattle.kapi_store.specs.Told.{labels_of as labels_of_tree};
+    ghost use Rattle.kapi_store.specs.Labels.{labels_of as labels_of_tree};
 
     /// The object as it is kept: it has the unique id of one revision and the version of another.
     pub(crate) fn kept(

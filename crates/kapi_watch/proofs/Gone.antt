@@ -7,7 +7,7 @@ use Rattle.kapi_object.specs.Tree.{in_metadata}
 use Rattle.kapi_store.proofs.Labelled.{told_ordered, values_kept}
 use Rattle.kapi_store.specs.Listing.{is_listed, is_within}
 use Rattle.kapi_store.specs.Stored.{stored_tree}
-use Rattle.kapi_store.specs.Told.{labels_of}
+use Rattle.kapi_store.specs.Labels.{labels_of}
 use Rattle.kapi_store.specs.declared.change.Change.{Change}
 use Rattle.kapi_store.specs.declared.key.Key.{Key}
 use Rattle.kapi_store.specs.declared.stored.StoredObject.{StoredObject}

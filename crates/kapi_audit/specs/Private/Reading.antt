@@ -4,12 +4,12 @@ use Rattle.std.specs.Io.KnownBytes.{Appends}
 use Rattle.kapi_desk.specs.Boards.{Chair}
 use Rattle.kapi_model.specs.declared.row.ResourceRow.{ResourceRow}
 use Rattle.kapi_script.specs.Scripts.{lines}
-use Rattle.kapi_audit.specs.Reports.{Told}
+use Rattle.kapi_audit.specs.Reports.{AreReported}
 
 -- the rest of all lines is still to be answered, by a seat that has seen so much, behind what was written
 abbrev pub ToldSoFar : ResourceRow → Chair → List (List ℕ) → List (List ℕ) → Chair → Option (List ℕ) → Option (List ℕ) → Type 0
 ToldSoFar row first all rest seat before contents =
-    (written : List ℕ) × ((text : List ℕ) (last : Chair) → Told row seat rest text last → Told row first all (written ++ text) last)
+    (written : List ℕ) × ((text : List ℕ) (last : Chair) → AreReported row seat rest text last → AreReported row first all (written ++ text) last)
     × Appends before contents written
 
 -- in the midst of a line: what was read of it, and the bytes that were not yet read

@@ -84,7 +84,7 @@ kapi_load_spec {M = M} 𝓤 𝓛 𝓜 𝓡 wired =
     let room = a.1.1.1.0 in let objects = engine_of a.1.0.now in
     let both = ‵ (flft κs.0 qs.0) ⊛ ‵ (flft κs.1.0 qs.1.0) ⊛ ‵ ftrue in
     let Made : Loaded.Denot → Type 0 = λ r. MatchResult r (λ b. objects ≡ Ok b.value) (λ st. (n : ℕ) × (st ≡ suc n)) in
-    let Told : ℕ → ℕ → Type 0 = λ new st. IsLoaded objects a.1.1.0.now new st in
+    let IsStatusOf : ℕ → ℕ → Type 0 = λ new st. IsLoaded objects a.1.1.0.now new st in
     qed 𝓛 (((‵ (flft κs.0 qs.0) ⊛ ‵ (flft κs.1.0 qs.1.0) ⊛ ‵ (flft κs.1.1.0 qs.1.1.0) ⊛ ‵ ftrue) ⊛ ‵ (owns (types_at P.params κs) a vss)) ∷ ‵ ftrue ∷ []) ∵
     split ! $ split3 ! $ move ! (2 ∷ []) $ split ! $ move ! (4 ∷ []) $ fsplit ! $ move ! (1 ∷ []) $ fsplit ! $ move ! (1 ∷ []) $ fsplit ! $ move ! (1 ∷ []) $ fsplit ! $
     keep ! (0 ∷ 2 ∷ 3 ∷ 4 ∷ 5 ∷ 7 ∷ 8 ∷ []) $
@@ -97,8 +97,8 @@ kapi_load_spec {M = M} 𝓤 𝓛 𝓜 𝓡 wired =
     use1 𝓛 (raw (G.pre z)) (id⊢ 𝓤 _) $
     calls_at ! (framed 𝓤 H 𝓜 𝓣) G (makes_met.met 𝓤 𝓛 𝓜 𝓡 (code.calls-kapi_c::loading::make_engine 𝓡.env wired)) z (and_then ! (get ! refl) (and_then ! (get ! refl) (and_then ! (get ! refl) (no_more !)))) (λ v.
     use1 𝓛 (later (some (λ (r : Loaded.Denot). (both ⊛ ‵ (Loaded.own_val r (v ∷ []))) ⊛
-    some (λ (ws : Lasts makes.ended z.0.0 z.0.3). ‵ (lasts makes.ended z.0.0 z.0.3 ws) ⊛ (raw (fact 𝓤 (Made r)) ⊛ raw (fact 𝓤 (Told ws.1.1.0 (status_in r)))))))) (id⊢ 𝓤 (G.post z v)) $
-    await ! tt $ pick ! (λ r. split ! $ split ! $ move ! (2 ∷ []) $ pick ! (λ ws. split ! $ move ! (1 ∷ []) $ split ! $ heard ! (Made r) (λ made. heard ! (Told ws.1.1.0 (status_in r)) (λ told.
+    some (λ (ws : Lasts makes.ended z.0.0 z.0.3). ‵ (lasts makes.ended z.0.0 z.0.3 ws) ⊛ (raw (fact 𝓤 (Made r)) ⊛ raw (fact 𝓤 (IsStatusOf ws.1.1.0 (status_in r)))))))) (id⊢ 𝓤 (G.post z v)) $
+    await ! tt $ pick ! (λ r. split ! $ split ! $ move ! (2 ∷ []) $ pick ! (λ ws. split ! $ move ! (1 ∷ []) $ split ! $ heard ! (Made r) (λ made. heard ! (IsStatusOf ws.1.1.0 (status_in r)) (λ told.
     fsplit3 ! $ drop ! $ drop ! $ fsplit ! $ move ! (1 ∷ []) $ drop ! $ move ! (2 ∷ []) $
     -- [what was made; what is said of the line; the two tokens; the room; its token; the locals]
     let Ev = env fn.locals l in let Post : Val → SProp 𝓤 = W.post y in let arms : Body = head (after 2 fn.body) in
@@ -149,8 +149,8 @@ kapi_load_spec {M = M} 𝓤 𝓛 𝓜 𝓡 wired =
     rewrite ! 0 (λ (m : Ptr). ‵ (holds_at m b.value)) (sym same) refl $
     rewrite ! 0 (λ (m : Result engine.the_row.Denot FileFault). ‵ (handed 0 room.now ls'.0 m)) (sym (subst Made is made)) refl $
     rewrite ! 0 (λ (m : ℕ). ‵ (handed m room.now ls'.0 objects)) (sym none) refl $
-    let done : Told ws.1.1.0 st = subst (Told ws.1.1.0) (sym none) (subst (λ r'. Told ws.1.1.0 (status_in r')) is told) in
-    use0 𝓛 (raw (fact 𝓤 (Told ws.1.1.0 st))) (fact_i 𝓤 (Told ws.1.1.0 st) (emp 𝓤) done) $ move ! (1 ∷ 0 ∷ []) $ join ! $
+    let done : IsStatusOf ws.1.1.0 st = subst (IsStatusOf ws.1.1.0) (sym none) (subst (λ r'. IsStatusOf ws.1.1.0 (status_in r')) is told) in
+    use0 𝓛 (raw (fact 𝓤 (IsStatusOf ws.1.1.0 st))) (fact_i 𝓤 (IsStatusOf ws.1.1.0 st) (emp 𝓤) done) $ move ! (1 ∷ 0 ∷ []) $ join ! $
     keep ! (2 ∷ 3 ∷ 1 ∷ 0 ∷ []) $ by ! (leaves 𝓛 f.ended stayed c y w' st (tt, (tt, (ws.1.1.0, (ls'.0, tt)))) (tt, (tt, (tt, (tt, tt)))))))))))))))))))
     (λ st is e.
     -- [what is said of the line; the two tokens; the room; its token; the locals]
@@ -166,6 +166,6 @@ kapi_load_spec {M = M} 𝓤 𝓛 𝓜 𝓡 wired =
     -- [the tokens; what is said of the parameters; the locals]
     returns ! (look_at ! 0 refl) $ free_all ! refl $ owned ! u32 _ (uint_Makes 𝓛 w32) st _ (refl, (subst Good (ap only e) good).1.1.0.fits) $
     feq_i ! Ptr room.now room.now refl $ rewrite ! 0 (λ (m : ℕ). ‵ (handed m room.now room.now objects)) (sym failed.1) refl $
-    let done : Told ws.1.1.0 st = subst (λ r'. Told ws.1.1.0 (status_in r')) is told in
-    use0 𝓛 (raw (fact 𝓤 (Told ws.1.1.0 st))) (fact_i 𝓤 (Told ws.1.1.0 st) (emp 𝓤) done) $ move ! (1 ∷ 0 ∷ []) $ join ! $
+    let done : IsStatusOf ws.1.1.0 st = subst (λ r'. IsStatusOf ws.1.1.0 (status_in r')) is told in
+    use0 𝓛 (raw (fact 𝓤 (IsStatusOf ws.1.1.0 st))) (fact_i 𝓤 (IsStatusOf ws.1.1.0 st) (emp 𝓤) done) $ move ! (1 ∷ 0 ∷ []) $ join ! $
     keep ! (2 ∷ 3 ∷ 1 ∷ 0 ∷ []) $ by ! (leaves 𝓛 f.ended stayed c y (vint w32 st) st (tt, (tt, (ws.1.1.0, (room.now, tt)))) (tt, (tt, (tt, (tt, tt))))))))))))))

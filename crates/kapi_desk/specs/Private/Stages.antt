@@ -37,8 +37,8 @@ IsAt stage.Written waiting shelf shown = (step : List PolicyChange) × (waiting 
 IsAt stage.Noted waiting shelf shown = IsNoted waiting shelf shown
 
 -- the desk knows its book, whose first pages the copy that is shown has
-abbrev pub Stands : View → Version → Shelf → Type 0
-Stands v x shelf = (v.knows ≡ true) × (v.book ≡ x.pages.book) × IsPaged x × (shelf.book ≡ x.pages.book)
+abbrev pub IsPublishedTo : View → Version → Shelf → Type 0
+IsPublishedTo v x shelf = (v.knows ≡ true) × (v.book ≡ x.pages.book) × IsPaged x × (shelf.book ≡ x.pages.book)
 
 -- a seat knows the book that its pages are of, and their number of steps
 abbrev pub IsSeated : View → Book → List Page → ℕ → Type 0

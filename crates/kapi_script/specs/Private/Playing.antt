@@ -22,21 +22,21 @@ abbrev pub Plays : Running → Running → List ℕ → Played → Type 0
 Plays old new line played.Skipped = (line_of line ≡ skipped) × Keeps old new
 Plays old new line played.Bad = line_of line ≡ bad
 Plays old new line played.Refused = (event : Event) × (line_of line ≡ told event) × Keeps old new
-Plays old new line (played.Told answer) = (event : Event) × (line_of line ≡ told event) × Makes old new event answer
+Plays old new line (played.Answered answer) = (event : Event) × (line_of line ≡ told event) × Makes old new event answer
 
 -- the line had no known form
 abbrev pub is_bad_play : Played → Bool
 is_bad_play played.Skipped = false
 is_bad_play played.Bad = true
 is_bad_play played.Refused = false
-is_bad_play (played.Told answer) = false
+is_bad_play (played.Answered answer) = false
 
 -- what is written for a line
 abbrev pub played_text : Played → List ℕ
 played_text played.Skipped = []
 played_text played.Bad = []
 played_text played.Refused = refused_line
-played_text (played.Told answer) = answer_line answer
+played_text (played.Answered answer) = answer_line answer
 
 -- of all lines the rest is still to be played, on a machine that was reached; so much was written
 pub record Reached (all : Play) (rest : List (List ℕ)) (n : ℕ) (core : Running) (written : List ℕ) : Type 0 where
@@ -55,10 +55,10 @@ Stopped all n before contents = (refused : List Bool) × (contents ≡ Some (bef
 
 -- after a step: the rest is to be played, or a bad line ended it; nothing is said where reading, writing or memory
 -- failed
-abbrev pub Goes : Play → List (List ℕ) → ℕ → Running → List ℕ → Option (List ℕ) → Result (Unit {0}) ScriptFault → Type 0
-Goes all rest n core before contents (Ok done) = ReachedBy all rest n core before contents
-Goes all rest n core before contents (Err (fault.BadLine number)) = Stopped all number before contents
-Goes all rest n core before contents (Err e) = Unit {0}
+abbrev pub IsPlayedOn : Play → List (List ℕ) → ℕ → Running → List ℕ → Option (List ℕ) → Result (Unit {0}) ScriptFault → Type 0
+IsPlayedOn all rest n core before contents (Ok done) = ReachedBy all rest n core before contents
+IsPlayedOn all rest n core before contents (Err (fault.BadLine number)) = Stopped all number before contents
+IsPlayedOn all rest n core before contents (Err e) = Unit {0}
 
 -- the lines were played to their end
 abbrev pub Ends : Play → List ℕ → Option (List ℕ) → Result (Unit {0}) ScriptFault → Type 0

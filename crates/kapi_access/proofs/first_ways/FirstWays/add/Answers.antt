@@ -1,7 +1,7 @@
 use Rattle.std.proofs.Common.{ℕ, List, [], ◌∷◌, ◌++◌, ◌&&◌, ◌||◌, map, ap, ◌∙◌}
 use Rattle.std.proofs.lemmas.List.{map-append}
 use Rattle.std.specs.Str.{bytes_eq}
-use Rattle.kapi_access.specs.Told.{is_noted}
+use Rattle.kapi_access.specs.Noted.{is_noted}
 use Rattle.kapi_access.specs.Views.{way_of}
 use Rattle.kapi_access.specs.Who.{same_grantee}
 use Rattle.kapi_access.specs.declared.way.Way.{Way as ByWay}

@@ -58,10 +58,10 @@ returns g c =
     let shows = c.in-Some-watching.is ∙ ap Some (sym c.get-watching.ensures) in
     let reply = c.in_ok-reply.reply in
     let there = sym c.in-Some.ensures.value in
-    let Told : Running → Bool → List PolicyChange → Type 0 = λ r close changes. Makes r (record old { connections = links }) (event.Pump c.args.conn) (told.Sent (record { bytes = reply.bytes; close = close; policy_changes = changes })) in
-    let P : Running → Type 0 = λ r. Told r c.closes.result c.nothing.result in
-    let Q : List PolicyChange → Type 0 = λ changes. Told old c.closes.result changes in
-    let R : Bool → Type 0 = λ close. Told old close [] in
+    let IsSent : Running → Bool → List PolicyChange → Type 0 = λ r close changes. Makes r (record old { connections = links }) (event.Pump c.args.conn) (told.Sent (record { bytes = reply.bytes; close = close; policy_changes = changes })) in
+    let P : Running → Type 0 = λ r. IsSent r c.closes.result c.nothing.result in
+    let Q : List PolicyChange → Type 0 = λ changes. IsSent old c.closes.result changes in
+    let R : Bool → Type 0 = λ close. IsSent old close [] in
     subst P c.self.view_is
     (subst Q (sym c.nothing.ensures)
     (subst R (sym c.closes.ensures)

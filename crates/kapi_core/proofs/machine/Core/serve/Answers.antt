@@ -48,9 +48,9 @@ returns g c =
     let out = c.in_ok-reply.field-0 in
     let links = c.close_if.ensures
     ∙ ap (λ es. if out.reply.close then remove_entry (is_at (nat_cmp c.args.conn.0)) es else es) (c.finish_request.ensures c.in-Some.connection.now there) in
-    let Told : Running → List PolicyChange → Type 0 = λ r changes. Makes r next (event.Serve c.args.conn) (told.Sent (record { bytes = out.reply.bytes; close = out.reply.close; policy_changes = changes })) in
-    let P : Running → Type 0 = λ r. Told r c.in_ok-changes.changes in
-    let Q : List PolicyChange → Type 0 = Told old in
+    let IsSent : Running → List PolicyChange → Type 0 = λ r changes. Makes r next (event.Serve c.args.conn) (told.Sent (record { bytes = out.reply.bytes; close = out.reply.close; policy_changes = changes })) in
+    let P : Running → Type 0 = λ r. IsSent r c.in_ok-changes.changes in
+    let Q : List PolicyChange → Type 0 = IsSent old in
     subst P c.self.view_is (subst Q (sym c.in_ok-changes.ensures.made)
     (λ m h. made_for old.store old.policy old.marks old.connections old.next_id old.rechecks m next.store next.policy next.marks next.connections next.next_id next.rechecks (event.Serve c.args.conn) _ h
     (served old.store next.store old.policy next.policy old.marks next.marks old.connections next.connections old.next_id old.rechecks c.args.conn c.in-Some.connection.now c.in-Some-2.item

@@ -1,7 +1,7 @@
 use Rattle.std.proofs.Common.{◌≡◌, [], ◌∷◌, ◌++◌, drop, ap, sym, subst, ◌∙◌}
 use Rattle.left_right.specs.Sides.{view as view_of}
 use Rattle.kapi_desk.specs.Pages.{opening_in, steps_in}
-use Rattle.kapi_desk.specs.Private.Stages.{Stands}
+use Rattle.kapi_desk.specs.Private.Stages.{IsPublishedTo}
 use Rattle.kapi_desk.specs.declared.version.Operation.TheVariants.{Step}
 use Rattle.kapi_desk.proofs.Stages.{idle_at, steps_one}
 use Rattle.kapi_desk.proofs.desk.Desk.take.Goals as goal
@@ -10,7 +10,7 @@ pub invariant_of-self : goal.invariant_of-self
 invariant_of-self c =
     let idle = idle_at _ _ _ _ c.self.invariant.1 (ap (λ b. b.waiting) c.self.view_is ∙ c.requires) in
     let waiting = c.in-Ok.ensures.pending ∙ ap (λ l. l ++ Step c.args.step ∷ []) idle.0 ∙ ap (λ s. Step s ∷ []) (sym c.of-about.ensures) in
-    subst (λ d. Stands (view_of d.place) d.shown.value c.self.inside.book × ((drop c.append.new.self.behind c.append.new.self.log.items ≡ Step c.of-about.result.value ∷ []) × (c.self.inside.book.pages ≡ d.shown.value.pages.log)))
+    subst (λ d. IsPublishedTo (view_of d.place) d.shown.value c.self.inside.book × ((drop c.append.new.self.behind c.append.new.self.log.items ≡ Step c.of-about.result.value ∷ []) × (c.self.inside.book.pages ≡ d.shown.value.pages.log)))
     (sym c.in-Ok.ensures.desk)
     (c.self.invariant.0, (waiting, idle.1))
 

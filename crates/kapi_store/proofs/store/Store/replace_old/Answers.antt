@@ -55,7 +55,7 @@ returns-clause-fits c =
     let left : c.args.self.now.revision + 1 ≤ last_revision = c.in_ok-check_revisions.ensures.left in
     let one = c.in_ok-replacement.ensures in
     let Slot : State → Type 0 = λ s. IsSome (lookup (is_key c.args.key) s.slots) in
-    let Stands : State → Type 0 = λ s. lookup (is_key c.args.key) (plain_of s).objects ≡ Some (stored_tree c.args.old.now) in
+    let IsStored : State → Type 0 = λ s. lookup (is_key c.args.key) (plain_of s).objects ≡ Some (stored_tree c.args.old.now) in
     let numbered : one.change.revision ≡ c.self.inside.revision + 1 = one.numbered in
     fits_one c.args.self.now _ one.change one.one (omega arith) (omega arith)
-    (λ _. subst (λ k. IsSome (lookup (is_key k) c.args.self.now.slots)) (sym one.place) (subst Slot c.self.view_is (slot_of_tree c.self.inside.hidden c.args.key c.self.inside.slots.entries (stored_tree c.args.old.now) (subst Stands (sym c.self.view_is) c.requires))))
+    (λ _. subst (λ k. IsSome (lookup (is_key k) c.args.self.now.slots)) (sym one.place) (subst Slot c.self.view_is (slot_of_tree c.self.inside.hidden c.args.key c.self.inside.slots.entries (stored_tree c.args.old.now) (subst IsStored (sym c.self.view_is) c.requires))))

@@ -6,7 +6,7 @@ use Rattle.serde_json.specs.Written.{compact_text, has_float}
 use Rattle.kapi_object.specs.Object.{tree_of}
 use Rattle.kapi_object.specs.Contents.{aggregation_in}
 use Rattle.kapi_object.specs.Tree.{in_metadata}
-use Rattle.kapi_store.specs.Told.{labels_of, told_by}
+use Rattle.kapi_store.specs.Labels.{labels_of, told_by}
 use Rattle.kapi_store.proofs.stored.StoredObject.kept.Goals as goal
 
 pub invariant_of-result : goal.invariant_of-result

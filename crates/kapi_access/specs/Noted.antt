@@ -1,4 +1,4 @@
--- The sets beside ways that were found.
+-- The sets in which found ways are noted.
 use Rattle.std.specs.Prelude.{◌≡◌, ℕ, List, Bool}
 use Rattle.std.specs.BTreeSet.{BTreeSet, contains}
 use Rattle.kapi_policy.specs.Objects.{place_cmp}

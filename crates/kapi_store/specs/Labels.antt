@@ -1,4 +1,4 @@
--- What the text of an object tells (RFC 8259).
+-- The labels in the text of an object (RFC 8259).
 use Rattle.std.specs.Prelude.{ℕ, List, [], ◌∷◌, ◌++◌, codes, unwrap_or}
 use Rattle.serde_json.specs.Data.{Data, null, string, Members, no_members, member}
 use Rattle.serde_json.specs.Read.{read}
