@@ -22,5 +22,5 @@ pub mod Histories
 mod Listed
 pub mod Numbered
 mod Pumps
-mod Rechecking
+pub mod Rechecking
 mod Concerned

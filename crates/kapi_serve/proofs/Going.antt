@@ -38,6 +38,7 @@ use Rattle.kapi_serve.specs.declared.port.Entry.TheVariants as entry
 use Rattle.kapi_serve.proofs.Accounting.{accounts}
 use Rattle.kapi_serve.proofs.Placing.{at_remove, at_set, fed_same, others_ended, stands_at}
 use Rattle.kapi_serve.proofs.Policies.{policies_shown}
+use Rattle.kapi_serve.proofs.Rechecked.{were_allowed}
 use Rattle.kapi_serve.proofs.Seating.{deals_closed, deals_end, deals_fed, deals_served, deals_shown, deals_took, deals_unserved, deals_unshown, leaves_ended, leaves_forgotten, leaves_full, leaves_late, leaves_starved}
 use Rattle.kapi_serve.proofs.Showing.{all_published, prompt_none, shows_as, shows_nothing, shows_on}
 
@@ -468,6 +469,7 @@ goes_serves a b d e q t r z none s = record {
   account = λ m y. accounts m s.acts t s.follows (s.runs m y).0;
   gains = λ m refines. nobody_gains a b m (events_of (made_in s.acts)) refines (s.runs m refines).1;
   always = λ m refines. events_gain a m (events_of (made_in s.acts)) refines;
+  rechecked = λ m refines on. were_allowed m (made_in s.acts) (s.runs m refines).0 on;
 }
   where
     published : e.list ++ unpublished e q ≡ d.list ++ steps_by s.acts

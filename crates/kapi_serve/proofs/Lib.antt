@@ -8,6 +8,7 @@ pub mod Numbers
 pub mod Fares
 pub mod Accounting
 pub mod Policies
+pub mod Rechecked
 pub mod Going
 pub mod Listening
 pub mod Connections

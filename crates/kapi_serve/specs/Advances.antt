@@ -1,5 +1,5 @@
 -- What the server makes of the machine and of the desk.
-use Rattle.std.specs.Prelude.{◌≡◌, ◌≤◌, List, [], ◌∷◌, ◌++◌, length, Option}
+use Rattle.std.specs.Prelude.{◌≡◌, ◌≤◌, true, List, [], ◌∷◌, ◌++◌, length, Option}
 use Rattle.kapi_policy.specs.declared.change.PolicyChange.{PolicyChange}
 use Rattle.kapi_aggregation.specs.Roles.{roles_in}
 use Rattle.kapi_core.specs.Gains.{NobodyGains, NobodyGainsDuring, acting_in}
@@ -15,6 +15,7 @@ use Rattle.kapi_serve.specs.Policies.{PublishesPolicies}
 use Rattle.kapi_serve.specs.Ports.{Adds, Report}
 use Rattle.kapi_desk.specs.Steps.{step_of}
 use Rattle.kapi_serve.specs.Publishes.{Publishes}
+use Rattle.kapi_serve.specs.Rechecked.{WereAllowed}
 use Rattle.kapi_serve.specs.declared.port.Entry.{Entry}
 
 -- the events were made on the machine, and answered as they say
@@ -49,7 +50,8 @@ pub record Advances (old new : ServerState) : Type 0 where
 -- what a server did: its events are one list, after which the machine is that of their run; the desk has published the
 -- steps of their answers in order, all but at most the last, so what it publishes is a policy that the machine had; and
 -- where the ports report what they read and wrote, the bytes and the events are accounted for; nobody gains by the
--- policy that the machine has at the end, nor from any moment on by the events that follow
+-- policy that the machine has at the end, nor from any moment on by the events that follow; if the rights of watches are
+-- rechecked, what was sent on each watch was allowed at that moment
 pub record Serves (old new : Running) (board next : Board) (report later : Report) : Type 0 where
   pub made : List Made
   pub runs : Runs old new made
@@ -63,3 +65,4 @@ pub record Serves (old new : Running) (board next : Board) (report later : Repor
   pub account : (m : Machine) → Refines old m → Account entries made
   pub gains : (m : Machine) → Refines old m → NobodyGains (roles_in m.store.objects) (acting_in m (events_of made)) old.policy new.policy
   pub always : (m : Machine) → Refines old m → NobodyGainsDuring m (events_of made)
+  pub rechecked : (m : Machine) → Refines old m → m.rechecks ≡ true → WereAllowed m made

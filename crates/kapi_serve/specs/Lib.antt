@@ -4,6 +4,7 @@ pub mod Policies
 pub mod Advances
 pub mod Account
 pub mod Acts
+pub mod Rechecked
 pub mod Rests
 pub mod Private
 pub mod Listening
