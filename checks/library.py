@@ -5,9 +5,10 @@ if left out, 10,000 questions and the seed 1; wants cc, and runs what valgrind, 
 
 C: each export, each fault, each allocation refused in turn; with valgrind once more. What the shared object shows, and its size.
 Python: its tests; random questions over the policies of examples/ with the answers of the program, and lists; 8 threads with a handle each.
-Rust and Go: their tests. What is not there is named.
+C, Rust and Go: the same questions. Rust and Go: their tests. What is not there is named.
 """
 import importlib.util
+import itertools
 import json
 import os
 import pathlib
@@ -125,15 +126,24 @@ def loaded(name):
     return lines, "\n".join([*map(json.dumps, OPENING), *lines])
 
 
+def row(question):
+    """A question as bench/library.c and the tests of Go and Rust read it."""
+    return "\t".join([question.user, ",".join(question.groups), question.namespace, question.verb, question.group, question.resource, question.subresource, question.name, question.path])
+
+
 def compare(program, kapi, count, seed, room):
-    rng, each, asked = random.Random(seed), count // len(POLICIES), 0
-    for name in POLICIES:
+    """Asks random questions in Python, and leaves them in a folder for the other languages, with the answers of the program."""
+    rng, each = random.Random(seed), count // len(POLICIES)
+    folder = room / "asked"
+    folder.mkdir()
+    for number, name in enumerate(POLICIES):
         lines, objects = loaded(name)
         words = words_of(lines)
-        pairs = [question(rng, words, kapi) for _ in range(each)]
-        questions = [ours for ours, spec in pairs if ours.user or ours.groups]
+        drawn = (question(rng, words, kapi) for _ in itertools.count())
+        pairs = list(itertools.islice((it for it in drawn if it[0].user or it[0].groups), each))
+        questions = [ours for ours, _ in pairs]
         file = room / "questions.jsonl"
-        file.write_text("".join(json.dumps(spec) + "\n" for ours, spec in pairs if ours.user or ours.groups))
+        file.write_text("".join(json.dumps(spec) + "\n" for _, spec in pairs))
         ran = subprocess.run([program, "audit", ROOT / name, file], check=True, capture_output=True, text=True)
         answers = ran.stdout.splitlines()
         with kapi.Policy.load(objects) as policy:
@@ -142,9 +152,20 @@ def compare(program, kapi, count, seed, room):
         for it, want, got in differ[:5]:
             print(f"  {name}: {it}: audit says {want}, the library {got}")
         assert not differ
-        asked += len(ours)
+        (folder / f"{number}.objects").write_text(objects)
+        (folder / f"{number}.questions").write_text("".join(row(it) + "\n" for it in questions))
+        (folder / f"{number}.answers").write_text("".join("0" if it == "denied" else "1" for it in answers))
         print(f"  {name}: {len(ours)} questions, {sum(it != 'denied' for it in ours)} allowed, none differs from kapi audit")
-    return asked
+    return folder
+
+
+def compare_in_c(library, asked, room):
+    """Asks the same questions in C."""
+    made = room / "asking"
+    run("cc", "-O2", "-std=c11", f"-I{library}/include", ROOT / "bench/library.c", library / "lib/libkapi.a", "-o", made)
+    for objects in sorted(asked.glob("*.objects")):
+        ran = subprocess.run([made, objects, objects.with_suffix(".questions"), "0"], check=True, capture_output=True, text=True)
+        assert ran.stdout.splitlines()[1] == objects.with_suffix(".answers").read_text()
 
 
 def compare_lists(program, kapi, room):
@@ -225,16 +246,18 @@ def main(program, folder="out/library", questions="10000", seed="1"):
         print("Python")
         run(sys.executable, "-m", "unittest", "-q", "tests.test_kapi", cwd=ROOT / "bindings/python")
         asked = compare(program, kapi, int(questions), int(seed), room)
+        compare_in_c(folder, asked, room)
         compare_lists(program, kapi, room)
         ask_in_threads(kapi)
         install(room)
         print("Rust")
         if is_there("cargo", "the tests of the crate"):
-            run("cargo", "test", "-q", "--offline", cwd=ROOT / "bindings/rust", env=os.environ | {"KAPI_LIB": str(folder / "lib"), "CARGO_TARGET_DIR": str(room / "target")})
+            run("cargo", "test", "-q", "--offline", cwd=ROOT / "bindings/rust", env=os.environ | {"KAPI_LIB": str(folder / "lib"), "KAPI_ASKED": str(asked), "CARGO_TARGET_DIR": str(room / "target")})
         print("Go")
         if is_there("go", "the tests of the module"):
-            run("go", "test", "./...", cwd=ROOT / "bindings/go")
-    print(f"library: {asked} decisions are those of kapi audit")
+            run("go", "test", "./...", cwd=ROOT / "bindings/go", env=os.environ | {"KAPI_ASKED": str(asked)})
+        decided = sum(len(it.read_text()) for it in asked.glob("*.answers"))
+    print(f"library: {decided:,} decisions are those of kapi audit, in each language that is there")
 
 
 if __name__ == "__main__":
