@@ -330,7 +330,7 @@ fn played<'a>(alloc: Global) -> Result<Command<'a>, Memory>
     ensures { IfOk result (λ c. (app_of c ≡ played_app) × ((out-Command c).has_globals ≡ false)) }
 {
     Command::new(alloc, "replay")
-        .about("Plays transcripts and prints which answers are not as wanted")
+        .about("Runs policy tests and prints which answers differ from the expected ones")
         .after_help(REPLAY_FORMS)
         .arg(flag(
             alloc,
@@ -580,7 +580,7 @@ It prints
 fn risks<'a>(alloc: Global) -> Result<Command<'a>, Memory>
     ensures { IfOk result (λ c. (app_of c ≡ risks_app) × ((out-Command c).has_globals ≡ false)) }
 {
-    let about = "Prints who may come to more than a policy gives";
+    let about = "Prints who can escalate, bind or impersonate by a policy";
     formed(alloc, "risks", about, RISKS_FORMS)?.arg(file(
         alloc,
         "POLICY",

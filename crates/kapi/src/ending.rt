@@ -13,7 +13,7 @@ pub enum Ending {
     Done,
     /// An answer of a transcript is not the wanted one, or a transcript wants none.
     Differs,
-    /// A file, a line of one, the memory, the system, or what is printed stood in the way.
+    /// A file, a line of one, the memory, the system, or a failed write ended the run.
     Stopped,
     /// There is a doubt about a policy, and the words of the command line are strict.
     Doubted,
@@ -25,7 +25,7 @@ pub enum Ending {
     Gains,
     /// Something dangles in a policy.
     Dangles,
-    /// A policy decides otherwise than an audit log.
+    /// A policy decides differently from an audit log.
     Differing,
     /// A port cannot be listened on.
     Unheard,

@@ -44,7 +44,7 @@ same_gain_nothing who before after s b stands h =
     bindings_alike who before after s b stands (same s.namespace b.namespace one.0) (same_subjects_are s.subjects b.subjects two.0) (same_rules_are (role_of before s) (role_of after b) two.1)
 
 -- if the first of those before gives the same, nothing is gained
-pub first_gains_nothing : (who : Identities) (before after : PolicyObjects) (stood : List Binding) (b : Binding) → AreAmong stood (all_bindings before) → first_gives_same before after stood b ≡ true
+pub first_gains_nothing : (who : Identities) (before after : PolicyObjects) (earlier : List Binding) (b : Binding) → AreAmong earlier (all_bindings before) → first_gives_same before after earlier b ≡ true
     → gained_from who before after b ≡ []
 first_gains_nothing who before after [] b among h = absurd (cc h)
 first_gains_nothing who before after (s ∷ rest) b among h = same_gain_nothing who before after s b (among s (inl refl)) h

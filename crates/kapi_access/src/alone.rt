@@ -145,8 +145,7 @@ fn usual(alloc: Global, other: &Text, to: &Grantee) -> Result<Identity, Memory>
     }
 }
 
-/// As whom grantees are looked at, each by itself: one of those identities, and where it is a group the other user in it, whom no
-/// binding names.
+/// The identities as which each grantee is asked about: users by name, groups by a user in them whom no binding names.
 #[derive(Drop)]
 pub struct Alone {
     pub identities: Identities,

@@ -142,16 +142,16 @@ pub fn answer_compare<P: Policy, Q: Policy>(
     shown: Shown,
     identities: Identities,
     before: &P,
-    stood: &[Binding<'_>],
+    earlier: &[Binding<'_>],
     after: &Q,
     bindings: &[Binding<'_>],
 ) -> Result<Compared, Memory>
-    requires before { map binding_of stood.now ≡ all_bindings (P.content before.now) }
+    requires before { map binding_of earlier.now ≡ all_bindings (P.content before.now) }
     requires after { map binding_of bindings.now ≡ all_bindings (Q.content after.now) }
     ensures text { IfOk result (λ c. c.text.items ≡ answers.gains_text form shown (gained identities (P.content before.now) (Q.content after.now))) }
     ensures gains { IfOk result (λ c. c.gains ≡ not (length (gained identities (P.content before.now) (Q.content after.now)) == 0)) }
 {
-    let list = compare(alloc, identities, before, stood, after, bindings)?;
+    let list = compare(alloc, identities, before, earlier, after, bindings)?;
     let gains = !list.is_empty();
     Ok(Compared {
         text: gains_text(alloc, form, shown, list)?,

@@ -53,7 +53,7 @@ pub fn subject_name(to: &Grantee) -> &str
     }
 }
 
-/// The kind of a binding as objects tell it.
+/// The kind of a binding as objects name it.
 pub fn binding_kind(kind: BindingKind) -> &'static str
     ensures { result.now ≡ cells.binding_kind kind }
 {

@@ -43,27 +43,27 @@ fn same_subjects(a: &[Subject], b: &[Subject]) -> bool
 
 fn gives_same<P: Policy, Q: Policy>(
     before: &P,
-    stood: &Binding<'_>,
+    earlier: &Binding<'_>,
     after: &Q,
     binding: &Binding<'_>,
 ) -> bool
-    ensures { result ≡ gives_as (P.content before.now) (Q.content after.now) (binding_of stood.now) (binding_of binding.now) }
+    ensures { result ≡ gives_as (P.content before.now) (Q.content after.now) (binding_of earlier.now) (binding_of binding.now) }
 {
-    stood.namespace == binding.namespace
-        && (same_subjects(stood.subjects, binding.subjects)
-            && same_rules(rules_by(before, stood), rules_by(after, binding)))
+    earlier.namespace == binding.namespace
+        && (same_subjects(earlier.subjects, binding.subjects)
+            && same_rules(rules_by(before, earlier), rules_by(after, binding)))
 }
 
 /// Whether the first of the bindings before gave the same to the same as the one after.
 pub fn first_gives_same<P: Policy, Q: Policy>(
     before: &P,
-    stood: &[Binding<'_>],
+    earlier: &[Binding<'_>],
     after: &Q,
     binding: &Binding<'_>,
 ) -> bool
-    ensures { result ≡ first_gives (P.content before.now) (Q.content after.now) (bindings_at stood.now) (binding_of binding.now) }
+    ensures { result ≡ first_gives (P.content before.now) (Q.content after.now) (bindings_at earlier.now) (binding_of binding.now) }
 {
-    match stood {
+    match earlier {
         [first, ..] => gives_same(before, first, after, binding),
         [] => false,
     }
@@ -77,11 +77,11 @@ fn comes_before(a: &Binding<'_>, b: &Binding<'_>) -> bool
     (a.namespace, a.name) < (b.namespace, b.name)
 }
 
-/// Of bindings in a policy's order those from the binding's place on.
-pub fn from_place<'s, 'a>(stood: &'s [Binding<'a>], binding: &Binding<'_>) -> &'s [Binding<'a>]
-    ensures { bindings_at result.now ≡ from_place_of (binding_of binding.now) (bindings_at stood.now) }
+/// The suffix of the ordered bindings that begins at the place of `binding`.
+pub fn from_place<'s, 'a>(earlier: &'s [Binding<'a>], binding: &Binding<'_>) -> &'s [Binding<'a>]
+    ensures { bindings_at result.now ≡ from_place_of (binding_of binding.now) (bindings_at earlier.now) }
 {
-    let mut rest = stood;
+    let mut rest = earlier;
     while let [first, after @ ..] = rest {
         if !comes_before(first, binding) {
             return rest;

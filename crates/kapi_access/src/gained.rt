@@ -213,20 +213,20 @@ fn push_gained_from<'a, P: Policy, Q: Policy>(
 }
 
 // By a binding that gave the same before nobody gains.
-fn push_unless_stood<'a, P: Policy, Q: Policy>(
+fn push_unless_earlier<'a, P: Policy, Q: Policy>(
     alloc: Global,
     list: &mut Vec<Gain<'a>>,
     before: &P,
     alone: &Alone,
-    stood: &[Binding<'_>],
+    earlier: &[Binding<'_>],
     after: &Q,
     binding: &Binding<'a>,
 ) -> Result<(), Memory>
     requires unbound_user { alone.now.other ≡ unbound_user_of (P.content before.now) }
-    requires stood { AreAmong (bindings_at stood.now) (all_bindings (P.content before.now)) }
+    requires earlier { AreAmong (bindings_at earlier.now) (all_bindings (P.content before.now)) }
     ensures { OnOk result (map gain_of list.new.items ≡ map gain_of list.old.items ++ gained_from alone.now.identities (P.content before.now) (Q.content after.now) (binding_of binding.now)) }
 {
-    if first_gives_same(before, stood, after, binding) {
+    if first_gives_same(before, earlier, after, binding) {
         return Ok(());
     }
     push_gained_from(alloc, list, before, alone, after, binding)
@@ -237,19 +237,19 @@ fn gains<'a, P: Policy, Q: Policy>(
     alloc: Global,
     before: &P,
     alone: &Alone,
-    stood: &[Binding<'_>],
+    earlier: &[Binding<'_>],
     after: &Q,
     bindings: &[Binding<'a>],
 ) -> Result<Vec<Gain<'a>>, Memory>
     requires unbound_user { alone.now.other ≡ unbound_user_of (P.content before.now) }
-    requires stood { bindings_at stood.now ≡ all_bindings (P.content before.now) }
+    requires earlier { bindings_at earlier.now ≡ all_bindings (P.content before.now) }
     ensures { IfOk result (λ v. map gain_of v.items ≡ flat_map (λ b. gained_from alone.now.identities (P.content before.now) (Q.content after.now) (binding_of b)) bindings.now) }
 {
     let mut list = Vec::new(alloc);
-    let mut rest = stood;
+    let mut rest = earlier;
     for binding in bindings {
         rest = from_place(rest, binding);
-        push_unless_stood(alloc, &mut list, before, alone, rest, after, binding)?;
+        push_unless_earlier(alloc, &mut list, before, alone, rest, after, binding)?;
     }
     Ok(list)
 }
@@ -261,16 +261,16 @@ pub fn compare<'a, P: Policy, Q: Policy>(
     alloc: Global,
     identities: Identities,
     before: &P,
-    stood: &[Binding<'_>],
+    earlier: &[Binding<'_>],
     after: &Q,
     bindings: &[Binding<'a>],
 ) -> Result<Vec<Gain<'a>>, Memory>
-    requires before { map binding_of stood.now ≡ all_bindings (P.content before.now) }
+    requires before { map binding_of earlier.now ≡ all_bindings (P.content before.now) }
     requires after { map binding_of bindings.now ≡ all_bindings (Q.content after.now) }
     ensures { IfOk result (λ v. map gain_of v.items ≡ gained identities (P.content before.now) (Q.content after.now)) }
 {
-    let other = unbound_user(alloc, before, stood)?;
+    let other = unbound_user(alloc, before, earlier)?;
     let alone = Alone { identities, other };
-    let list = gains(alloc, before, &alone, stood, after, bindings)?;
+    let list = gains(alloc, before, &alone, earlier, after, bindings)?;
     Ok(list)
 }

@@ -1,4 +1,4 @@
-//! Questions of whom a policy allows something, as words tell them.
+//! Questions of whom a policy allows something, read from words.
 ghost use Rattle.std.specs.Prelude.{◌≡◌, IfOk, codes, map};
 ghost use Rattle.kapi_access.specs.Questions as asks;
 ghost use Rattle.kapi_access.specs.Questions.{after, before, kind_of, words_in};

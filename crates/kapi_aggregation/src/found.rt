@@ -32,7 +32,7 @@ fn key_of(rule: &PolicyRule) -> RuleKey<'_>
     }
 }
 
-/// Of each rule, whether it stands at its first place. A set has those before it, so that none is searched for.
+/// For each rule, whether it is the first of its equals. A set holds those seen, so that no list is searched.
 fn first_places(alloc: Global, rules: &[PolicyRule]) -> Result<Vec<bool>, Memory>
     ensures { IfOk result (λ v. picked v.items rules.now ≡ fold with_rule [] rules.now) }
 {

@@ -75,7 +75,7 @@ going_on e d = record { bytes = event_chunk (type_of e) d; after = after.Watches
 
 -- what becomes of the connection after the end of its watch
 abbrev pub after_end : Bool → After
-after_end close = if close then after.Closes else after.Serves
+after_end close = if close then after.Closes else after.WatchEnded
 
 -- the subject that the end of a watch is about
 abbrev pub subject_of : Scope → Subject

@@ -45,7 +45,7 @@ pub enum After {
     /// The watch goes on.
     Watches,
     /// The watch has ended, and requests are served again.
-    Serves,
+    WatchEnded,
     /// The watch has ended, and the connection with it.
     Closes,
 }
@@ -205,5 +205,5 @@ fn ended_reply(alloc: Global, status: &[u8], close: bool) -> Result<EventReply, 
 fn after_end(close: bool) -> After
     ensures { result ≡ watches.after_end close }
 {
-    if close { After::Closes } else { After::Serves }
+    if close { After::Closes } else { After::WatchEnded }
 }

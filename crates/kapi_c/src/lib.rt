@@ -31,7 +31,7 @@ pub extern "C" fn kapi_abi() -> u32
     2
 }
 
-/// Loads a policy, which the caller then holds by the handle that is put out. The status is 0, or tells why not.
+/// Loads a policy, which the caller then holds by the handle that is put out. The status is 0, or the reason of the failure.
 #[unsafe(no_mangle)]
 pub extern "C" fn kapi_load(
     alloc: Global,

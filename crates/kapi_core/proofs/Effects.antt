@@ -174,7 +174,7 @@ pumped conn m (Some l) at = by_watch l.watching
 
     by_after : (w : PlainWatching) (a : After) (reply : Answer) → changes_told reply ≡ [] → Effect m e (reply, after_event a conn.0 l w m)
     by_after w becomes.Watches reply silent = quiet m e _ refl refl silent refl (goes_on l (watched_on l w m) at refl refl refl)
-    by_after w becomes.Serves reply silent = quiet m e _ refl refl silent refl (goes_on l (record l { watching = None }) at refl refl refl)
+    by_after w becomes.WatchEnded reply silent = quiet m e _ refl refl silent refl (goes_on l (record l { watching = None }) at refl refl refl)
     by_after w becomes.Closes reply silent = quiet m e _ refl refl silent refl (ends refl refl)
 
     by_shown : (w : PlainWatching) (r : Option EventReply) → Effect m e (pump_shown conn.0 l w r m)

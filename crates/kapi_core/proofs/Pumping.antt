@@ -79,7 +79,7 @@ links_passed s es fs id n on c r becomes.Watches place cs ps l w known h k stand
     rw is
     (links_set cs (plain_of s) (is_at (nat_cmp id)) es ps (record c { watching = Some (record r { watch = at_place r.watch place }) }) (watched_on l w (machine_of s cs n on ps)) h
     (record { identity = k.identity; kept = k.kept; goes_on = k.goes_on; watching = moves cs (plain_of s) w known stands }))
-links_passed s es fs id n on c r becomes.Serves place cs ps l w known h k stands moves is =
+links_passed s es fs id n on c r becomes.WatchEnded place cs ps l w known h k stands moves is =
     rw is
     (links_set cs (plain_of s) (is_at (nat_cmp id)) es ps (record c { watching = None }) (record l { watching = None }) h
     (record { identity = k.identity; kept = k.kept; goes_on = k.goes_on; watching = tt }))
@@ -91,7 +91,7 @@ event_stands : (s : State) (o : PolicyObjects) (ms : Tracked) (fs : List (ℕ ×
     → RefinesMachine s o ms fs n on (after_event a id l w (machine_of s cs n on ps))
 unfolding after_event
 event_stands s o ms fs n id on becomes.Watches cs ps l w k p v h = record { store = k; policy_is = p; covers = v; next_id = refl; rechecks = refl; links = h }
-event_stands s o ms fs n id on becomes.Serves cs ps l w k p v h = record { store = k; policy_is = p; covers = v; next_id = refl; rechecks = refl; links = h }
+event_stands s o ms fs n id on becomes.WatchEnded cs ps l w k p v h = record { store = k; policy_is = p; covers = v; next_id = refl; rechecks = refl; links = h }
 event_stands s o ms fs n id on becomes.Closes cs ps l w k p v h = record { store = k; policy_is = p; covers = v; next_id = refl; rechecks = refl; links = h }
 
 -- an event is sent

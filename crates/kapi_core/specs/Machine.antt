@@ -144,7 +144,7 @@ serve_step id (Some l) m = serve_beside id l l.watching m
 -- whether the connection ends with an event of its watch
 abbrev pub is_last : After → Bool
 is_last becomes.Watches = false
-is_last becomes.Serves = false
+is_last becomes.WatchEnded = false
 is_last becomes.Closes = true
 
 -- the bytes that an event of a watch sends
@@ -158,7 +158,7 @@ watched_on l w m = record l { watching = Some (record w { watch = after_pump m.c
 -- the machine after an event of a watch
 unfoldable pub after_event : After → ℕ → Link → PlainWatching → Machine → Machine
 after_event becomes.Watches id l w m = with_link id (watched_on l w m) m
-after_event becomes.Serves id l w m = with_link id (record l { watching = None }) m
+after_event becomes.WatchEnded id l w m = with_link id (record l { watching = None }) m
 after_event becomes.Closes id l w m = without_link id m
 
 -- what a watch shows is sent; if it shows nothing, the watch moves on

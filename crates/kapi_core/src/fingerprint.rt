@@ -12,7 +12,7 @@ use std::alloc::Global;
 /// The basis of FNV-1a (<http://www.isthe.com/chongo/tech/comp/fnv/>).
 const BASIS: u64 = 14_695_981_039_346_656_037;
 
-/// Of more changes than these all watches are asked.
+/// Above this many changes every watch is woken.
 const MANY: usize = 64;
 
 fn continued(hash: u64, text: &str) -> u64

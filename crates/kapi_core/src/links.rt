@@ -51,7 +51,7 @@ pub fn advance_watch(links: &mut BTreeMap<u64, Connection>, id: u64, after: Afte
 {
     match after {
         After::Watches => move_at(links, id, place),
-        After::Serves => unwatch_at(links, id),
+        After::WatchEnded => unwatch_at(links, id),
         After::Closes => close_at(links, id),
     }
 }

@@ -403,7 +403,7 @@ fn closes(after: After) -> bool
 {
     match after {
         After::Closes => true,
-        After::Watches | After::Serves => false,
+        After::Watches | After::WatchEnded => false,
     }
 }
 

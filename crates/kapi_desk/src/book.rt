@@ -151,7 +151,7 @@ impl Book {
     }
 }
 
-/// Of the first pages of a book the fewer begin the more.
+/// Any two prefixes of the log: the shorter is a prefix of the longer.
 pub(crate) fn compare(fewer: &Pages, more: &Pages)
     requires book { fewer.now.book ≡ more.now.book }
     requires fewer { length fewer.now.log ≤ length more.now.log }

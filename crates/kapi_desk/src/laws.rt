@@ -9,5 +9,5 @@ pub fn lists_agree(one: &Seat, other: &Seat)
     requires { one.now.desk ≡ other.now.desk }
     ensures { Agree one.now other.now }
 {
-    one.meet(other);
+    one.histories_agree(other);
 }

@@ -63,7 +63,7 @@ impl Outcome<Version, View> for Publishes {
     ghost then = { λ v x y w. w ≡ v };
 }
 
-/// The desk tells its book to a new reader.
+/// The desk hands its book to a new reader.
 pub(crate) struct Reports;
 
 impl Split<View> for Reports {

@@ -150,7 +150,7 @@ impl Seat {
         ensures seen { self.new.seen ≡ longer self.old.seen told.now.seen }
         ensures agree { Agree self.old told.now }
     {
-        self.hear(told);
+        self.reports_agree(told);
         if self.count < told.count {
             self.pages = told.pages.again();
             self.count = told.count;
@@ -214,7 +214,7 @@ impl Seat {
     }
 
     /// Of the lists that this seat and another have seen one begins the other.
-    pub(crate) fn meet(&self, other: &Seat)
+    pub(crate) fn histories_agree(&self, other: &Seat)
         requires { self.now.desk ≡ other.now.desk }
         ensures { Agree self.now other.now }
     {
@@ -225,8 +225,8 @@ impl Seat {
         }
     }
 
-    /// Of the list that this seat has seen and a reported one, one begins the other.
-    fn hear(&self, told: &Told)
+    /// The steps that this seat has seen and the reported ones: one list is a prefix of the other.
+    fn reports_agree(&self, told: &Told)
         requires { told.now.desk ≡ self.now.desk }
         ensures { Agree self.now told.now }
     {

@@ -124,7 +124,7 @@ pub fn compare(
     ensures text { IfOk result (λ c. c.text.items ≡ gains_text form shown (gained identities before.now.policy after.now.policy)) }
     ensures gains { IfOk result (λ c. c.gains ≡ not (length (gained identities before.now.policy after.now.policy) == 0)) }
 {
-    let stood = before.policy.bindings()?;
+    let earlier = before.policy.bindings()?;
     let bindings = after.policy.bindings()?;
     answer_compare(
         alloc,
@@ -132,7 +132,7 @@ pub fn compare(
         shown,
         identities,
         &before.policy,
-        stood.as_slice(),
+        earlier.as_slice(),
         &after.policy,
         bindings.as_slice(),
     )

@@ -33,27 +33,27 @@ use Rattle.kapi_gains.specs.Within.{HasAtom, IsOwn, RoleHas, scope_of}
 -- ---- what a binding gives
 
 -- one of the subjects of the binding matches the identity
-abbrev pub means : Identity → Binding → Bool
-means identity b = list_any (λ s. subject_matches s b.namespace identity) b.subjects
+abbrev pub matches : Identity → Binding → Bool
+matches identity b = list_any (λ s. subject_matches s b.namespace identity) b.subjects
 
 -- a binding that counts, matches the identity, and whose role has the atom
 pub record HeldBy (objects : PolicyObjects) (identity : Identity) (namespace : List ℕ) (a : Atom) : Type 0 where
   pub one : Binding
   pub counts : Has (bindings_in objects namespace) one
-  pub meant : means identity one ≡ true
+  pub meant : matches identity one ≡ true
   pub role : RoleHas objects one.role.kind one.role.name one.namespace a
 
 given_from : (objects : PolicyObjects) (identity : Identity) (b : Binding) (rule : PolicyRule) (a : Atom) → Has (unwrap_or (given objects identity b) []) rule → Has (atoms rule) a
-    → (means identity b ≡ true) × RoleHas objects b.role.kind b.role.name b.namespace a
+    → (matches identity b ≡ true) × RoleHas objects b.role.kind b.role.name b.namespace a
 unfolding given rules_of
-given_from objects identity b rule a has part = by_meant (means identity b) refl has
+given_from objects identity b rule a has part = by_meant (matches identity b) refl has
   where
     by_role : (o : Option (List PolicyRule)) → rules_of_kind objects b.role.kind b.role.name b.namespace ≡ o → Has (unwrap_or o []) rule → RoleHas objects b.role.kind b.role.name b.namespace a
     by_role None is never = absurd never
     by_role (Some rules) is there = record { rules = rules; found = is; has = has_part atoms rules rule a there part }
 
-    by_meant : (m : Bool) → means identity b ≡ m → Has (unwrap_or (if m then rules_of_kind objects b.role.kind b.role.name b.namespace else None) []) rule
-        → (means identity b ≡ true) × RoleHas objects b.role.kind b.role.name b.namespace a
+    by_meant : (m : Bool) → matches identity b ≡ m → Has (unwrap_or (if m then rules_of_kind objects b.role.kind b.role.name b.namespace else None) []) rule
+        → (matches identity b ≡ true) × RoleHas objects b.role.kind b.role.name b.namespace a
     by_meant true is there = (is, by_role (rules_of_kind objects b.role.kind b.role.name b.namespace) refl there)
     by_meant false is never = absurd never
 
@@ -66,7 +66,7 @@ held_from objects identity namespace a has =
     let by = given_from objects identity b.0 rule.0 a b.1.1 rule.1.1 in
     record { one = b.0; counts = b.1.0; meant = by.0; role = by.1 }
 
-given_is : (objects : PolicyObjects) (identity : Identity) (b : Binding) (rules : List PolicyRule) → means identity b ≡ true → rules_of_kind objects b.role.kind b.role.name b.namespace ≡ Some rules
+given_is : (objects : PolicyObjects) (identity : Identity) (b : Binding) (rules : List PolicyRule) → matches identity b ≡ true → rules_of_kind objects b.role.kind b.role.name b.namespace ≡ Some rules
     → unwrap_or (given objects identity b) [] ≡ rules
 unfolding given rules_of
 given_is objects identity b rules meant found = rw (meant, found) refl

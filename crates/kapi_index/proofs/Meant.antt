@@ -13,7 +13,7 @@ use Rattle.kapi_model.specs.declared.subject.Subject.TheVariants.{User, Group, S
 use Rattle.kapi_text.proofs.Booleans.{any_same, or_across, or_false, turned}
 use Rattle.kapi_index.specs.Listed.{is_key}
 use Rattle.kapi_index.specs.Prepared.{account_users, group_of, groups_of, user_of, users_of}
-use Rattle.kapi_index.specs.Scopes.{ArePrepared, IsPrepared, bare, means}
+use Rattle.kapi_index.specs.Scopes.{ArePrepared, IsPrepared, bare, matches}
 use Rattle.kapi_index.specs.declared.scope.Bound.{Bound}
 
 none_of : (gs : List (List ℕ)) → list_any (λ g. false) gs ≡ false
@@ -66,7 +66,7 @@ meant namespace identity (s ∷ subjects) =
 abbrev pub asked : Identity → Bound → Bool
 asked identity b = is_key identity.user b.keys.users || list_any (λ g. is_key g b.keys.groups) identity.groups
 
-pub asked_means : (namespace : List ℕ) (identity : Identity) (b : Bound) → IsPrepared namespace b → means namespace identity b.binding ≡ asked identity b
+pub asked_means : (namespace : List ℕ) (identity : Identity) (b : Bound) → IsPrepared namespace b → matches namespace identity b.binding ≡ asked identity b
 asked_means namespace identity b prepared =
     meant namespace identity b.binding.subjects
     ∙ ap (λ t. t || list_any (λ g. is_key g (groups_of b.binding.subjects)) identity.groups) (sym (prepared.users identity.user))
@@ -74,7 +74,7 @@ asked_means namespace identity b prepared =
 
 -- the bindings that match the identity are those whose keys are asked for
 pub left_asked : (namespace : List ℕ) (identity : Identity) (start : Start (List ℕ)) (es : List (List ℕ × Bound)) → ArePrepared namespace es
-    → filter (λ e. is_from_start name_cmp start e.0 && means namespace identity e.1) (bare es) ≡ bare (filter (λ e. is_from_start name_cmp start e.0 && asked identity e.1) es)
+    → filter (λ e. is_from_start name_cmp start e.0 && matches namespace identity e.1) (bare es) ≡ bare (filter (λ e. is_from_start name_cmp start e.0 && asked identity e.1) es)
 left_asked namespace identity start [] prepared = refl
 left_asked namespace identity start (e ∷ es) prepared =
     rw (asked_means namespace identity e.1 prepared.0, left_asked namespace identity start es prepared.1) (by_test (is_from_start name_cmp start e.0 && asked identity e.1))

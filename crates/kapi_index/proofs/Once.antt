@@ -21,7 +21,7 @@ use Rattle.kapi_policy.specs.Laws.{AreSameRules}
 use Rattle.kapi_policy.specs.Objects.{PolicyObjects}
 use Rattle.kapi_policy.specs.declared.decision.BindingKind.{BindingKind}
 use Rattle.kapi_index.proofs.Walks.{all_given, given_step}
-use Rattle.kapi_index.specs.Scopes.{Scoped, means}
+use Rattle.kapi_index.specs.Scopes.{Scoped, matches}
 use Rattle.kapi_index.specs.Taken.{AreListed, by_bytes}
 
 -- ---- the rules of some roles in a list
@@ -94,7 +94,7 @@ same_before some others more same test =
     list_any-append test some more ∙ ap (λ b. b || list_any test more) (same test) ∙ sym (list_any-append test others more)
 
 pub once_step : (objects : PolicyObjects) (identity : Identity) (k : BindingKind) (s : Scoped) (before after whole : List PolicyRule) (here rest : List (List ℕ × RoleBinding)) (e : List ℕ × RoleBinding)
-    → here ≡ e ∷ rest → means s.namespace identity e.1 ≡ true
+    → here ≡ e ∷ rest → matches s.namespace identity e.1 ≡ true
     → AreSameRules (before ++ all_given objects identity k s here) whole → AreSameRules after (before ++ unwrap_or (rules_of objects e.1.role_ref s.namespace) [])
     → AreSameRules (after ++ all_given objects identity k s rest) whole
 once_step objects identity k s before after whole here rest e split meant same pushed test =

@@ -20,7 +20,7 @@ use Rattle.kapi_index.proofs.Changed.{Sets}
 use Rattle.kapi_index.proofs.Finds.{Step, find_first, first_key, grouped, name_total, none_left, step}
 use Rattle.kapi_index.proofs.Meant.{asked, asked_means, left_asked}
 use Rattle.kapi_index.specs.Listed.{is_key, is_listed, names_at}
-use Rattle.kapi_index.specs.Scopes.{ArePrepared, IsExact, IsIndex, IsPrepared, Scoped, bare, first_name, group_keys, keys_in, least, left, means, named_now, user_keys, with_name}
+use Rattle.kapi_index.specs.Scopes.{ArePrepared, IsExact, IsIndex, IsPrepared, Scoped, bare, first_name, group_keys, keys_in, least, left, matches, named_now, user_keys, with_name}
 use Rattle.kapi_index.specs.declared.scope.Bound.{Bound}
 
 -- ---- the names under a key
@@ -125,12 +125,12 @@ module _ (namespace : List ℕ) (es : List (List ℕ × Bound)) (users groups : 
       split ∙ ap (λ (q : List ℕ × RoleBinding). q ∷ left identity (Excluded q.0) here) (sym at)
 
   from_meant : (k : List ℕ) (b : RoleBinding) (r : Option (Bor (List ℕ) × Bor RoleBinding)) → named_now r ≡ Some (k, b)
-      → means namespace identity b ≡ true → IfSome r (λ p. means namespace identity p.1.now ≡ true)
+      → matches namespace identity b ≡ true → IfSome r (λ p. matches namespace identity p.1.now ≡ true)
   from_meant k b None is meant = tt
   from_meant k b (Some p) is meant =
       let same : Some (p.0.now, p.1.now) ≡ Some (k, b) = is in
       let at : (p.0.now, p.1.now) ≡ (k, b) = cc same in
-      ap (λ (q : List ℕ × RoleBinding). means namespace identity q.1) at ∙ meant
+      ap (λ (q : List ℕ × RoleBinding). matches namespace identity q.1) at ∙ meant
 
   named_is : (k : List ℕ) (r : Option (Bor (List ℕ) × Bor RoleBinding)) (s : Step start (λ e. asked identity e.1) es k)
       → named_now r ≡ with_name k (lookup (is_at (name_cmp k)) es) → named_now r ≡ Some (k, s.value.binding)
@@ -145,10 +145,10 @@ module _ (namespace : List ℕ) (es : List (List ℕ × Bound)) (users groups : 
       (from_named k s.value.binding r (named_is k r s named) (split_left k s))
 
   pub steps_meant : (seen : Scoped) → here ≡ seen → (k : List ℕ) (r : Option (Bor (List ℕ) × Bor RoleBinding)) → Some k ≡ first_name users groups identity start
-      → named_now r ≡ with_name k (lookup (is_at (name_cmp k)) es) → IfSome r (λ p. means seen.namespace identity p.1.now ≡ true)
+      → named_now r ≡ with_name k (lookup (is_at (name_cmp k)) es) → IfSome r (λ p. matches seen.namespace identity p.1.now ≡ true)
   steps_meant seen same k r found named =
       let s = some_step k found in
-      subst (λ x. IfSome r (λ p. means x.namespace identity p.1.now ≡ true)) same
+      subst (λ x. IfSome r (λ p. matches x.namespace identity p.1.now ≡ true)) same
       (from_meant k s.value.binding r (named_is k r s named)
       (asked_means namespace identity s.value (prepared_at k s.value es exact.prepared s.found) ∙ s.passes))
 

@@ -27,27 +27,27 @@ use Rattle.kapi_text.proofs.Booleans.{turned}
 use Rattle.kapi_index.proofs.Placed.{Spaces, at_text}
 use Rattle.kapi_index.proofs.Spread.{in_space, lookup_text, named_at}
 use Rattle.kapi_index.specs.Contents.{AreDistinct, binding_at, bindings_in, by_text, cluster_wide, grant_of, in_all, in_one, placed, roles_in}
-use Rattle.kapi_index.specs.Scopes.{Scoped, left, means}
+use Rattle.kapi_index.specs.Scopes.{Scoped, left, matches}
 use Rattle.kapi_index.specs.declared.spaces.Namespace.{Namespace}
 
 -- ---- one binding
 
-given_meant : (objects : PolicyObjects) (identity : Identity) (k : BindingKind) (ns : List ℕ) (e : List ℕ × RoleBinding) → means ns identity e.1 ≡ true
+given_meant : (objects : PolicyObjects) (identity : Identity) (k : BindingKind) (ns : List ℕ) (e : List ℕ × RoleBinding) → matches ns identity e.1 ≡ true
     → given objects identity (binding_at k ns e) ≡ rules_of objects e.1.role_ref ns
 unfolding given
 given_meant objects identity k ns e meant = rw meant refl
 
-given_unmeant : (objects : PolicyObjects) (identity : Identity) (k : BindingKind) (ns : List ℕ) (e : List ℕ × RoleBinding) → means ns identity e.1 ≡ false
+given_unmeant : (objects : PolicyObjects) (identity : Identity) (k : BindingKind) (ns : List ℕ) (e : List ℕ × RoleBinding) → matches ns identity e.1 ≡ false
     → given objects identity (binding_at k ns e) ≡ None
 unfolding given
 given_unmeant objects identity k ns e meant = rw meant refl
 
-pub granted_meant : (objects : PolicyObjects) (identity : Identity) (point : Point) (k : BindingKind) (ns : List ℕ) (e : List ℕ × RoleBinding) → means ns identity e.1 ≡ true
+pub granted_meant : (objects : PolicyObjects) (identity : Identity) (point : Point) (k : BindingKind) (ns : List ℕ) (e : List ℕ × RoleBinding) → matches ns identity e.1 ≡ true
     → granted_by objects identity point (binding_at k ns e) ≡ grant_of objects point (binding_at k ns e)
 unfolding granted_by
 granted_meant objects identity point k ns e meant = rw (given_meant objects identity k ns e meant) refl
 
-granted_unmeant : (objects : PolicyObjects) (identity : Identity) (point : Point) (k : BindingKind) (ns : List ℕ) (e : List ℕ × RoleBinding) → means ns identity e.1 ≡ false
+granted_unmeant : (objects : PolicyObjects) (identity : Identity) (point : Point) (k : BindingKind) (ns : List ℕ) (e : List ℕ × RoleBinding) → matches ns identity e.1 ≡ false
     → granted_by objects identity point (binding_at k ns e) ≡ None
 unfolding granted_by
 granted_unmeant objects identity point k ns e meant = rw (given_unmeant objects identity k ns e meant) refl
@@ -56,15 +56,15 @@ granted_unmeant objects identity point k ns e meant = rw (given_unmeant objects 
 
 module _ (objects : PolicyObjects) (identity : Identity) (point : Point) (k : BindingKind) (s : Scoped) where
   first_kept : (es : List (List ℕ × RoleBinding))
-      → first_some (granted_by objects identity point) (map (binding_at k s.namespace) (filter (λ e. true && means s.namespace identity e.1) es))
+      → first_some (granted_by objects identity point) (map (binding_at k s.namespace) (filter (λ e. true && matches s.namespace identity e.1) es))
       ≡ first_some (granted_by objects identity point) (map (binding_at k s.namespace) es)
   first_kept [] = refl
-  first_kept (e ∷ es) = by_test (means s.namespace identity e.1) refl (first_kept es)
+  first_kept (e ∷ es) = by_test (matches s.namespace identity e.1) refl (first_kept es)
     where
-      by_test : (b : Bool) → means s.namespace identity e.1 ≡ b
-          → first_some (granted_by objects identity point) (map (binding_at k s.namespace) (filter (λ e. true && means s.namespace identity e.1) es))
+      by_test : (b : Bool) → matches s.namespace identity e.1 ≡ b
+          → first_some (granted_by objects identity point) (map (binding_at k s.namespace) (filter (λ e. true && matches s.namespace identity e.1) es))
           ≡ first_some (granted_by objects identity point) (map (binding_at k s.namespace) es)
-          → first_some (granted_by objects identity point) (map (binding_at k s.namespace) (filter (λ e. true && means s.namespace identity e.1) (e ∷ es)))
+          → first_some (granted_by objects identity point) (map (binding_at k s.namespace) (filter (λ e. true && matches s.namespace identity e.1) (e ∷ es)))
           ≡ first_some (granted_by objects identity point) (map (binding_at k s.namespace) (e ∷ es))
       by_test true is more = rw is (ap (option_or (granted_by objects identity point (binding_at k s.namespace e))) more)
       by_test false is more = rw (is, granted_unmeant objects identity point k s.namespace e is) more
@@ -73,7 +73,7 @@ module _ (objects : PolicyObjects) (identity : Identity) (point : Point) (k : Bi
       ≡ first_some (granted_by objects identity point) (map (binding_at k s.namespace) s.bindings)
   first_meant = first_kept s.bindings
 
-  pub first_step : (here rest : List (List ℕ × RoleBinding)) (e : List ℕ × RoleBinding) → here ≡ e ∷ rest → means s.namespace identity e.1 ≡ true
+  pub first_step : (here rest : List (List ℕ × RoleBinding)) (e : List ℕ × RoleBinding) → here ≡ e ∷ rest → matches s.namespace identity e.1 ≡ true
       → first_some (granted_by objects identity point) (map (binding_at k s.namespace) here)
       ≡ option_or (grant_of objects point (binding_at k s.namespace e)) (first_some (granted_by objects identity point) (map (binding_at k s.namespace) rest))
   first_step here rest e split meant =
@@ -87,19 +87,19 @@ module _ (objects : PolicyObjects) (identity : Identity) (k : BindingKind) (s : 
   abbrev pub all_given : List (List ℕ × RoleBinding) → List PolicyRule
   all_given es = flat_map (λ b. unwrap_or (given objects identity b) []) (map (binding_at k s.namespace) es)
 
-  given_kept : (es : List (List ℕ × RoleBinding)) → all_given (filter (λ e. true && means s.namespace identity e.1) es) ≡ all_given es
+  given_kept : (es : List (List ℕ × RoleBinding)) → all_given (filter (λ e. true && matches s.namespace identity e.1) es) ≡ all_given es
   given_kept [] = refl
-  given_kept (e ∷ es) = by_test (means s.namespace identity e.1) refl (given_kept es)
+  given_kept (e ∷ es) = by_test (matches s.namespace identity e.1) refl (given_kept es)
     where
-      by_test : (b : Bool) → means s.namespace identity e.1 ≡ b → all_given (filter (λ e. true && means s.namespace identity e.1) es) ≡ all_given es
-          → all_given (filter (λ e. true && means s.namespace identity e.1) (e ∷ es)) ≡ all_given (e ∷ es)
+      by_test : (b : Bool) → matches s.namespace identity e.1 ≡ b → all_given (filter (λ e. true && matches s.namespace identity e.1) es) ≡ all_given es
+          → all_given (filter (λ e. true && matches s.namespace identity e.1) (e ∷ es)) ≡ all_given (e ∷ es)
       by_test true is more = rw is (ap (λ l. unwrap_or (given objects identity (binding_at k s.namespace e)) [] ++ l) more)
       by_test false is more = rw (is, given_unmeant objects identity k s.namespace e is) more
 
   pub given_left : all_given (left identity Unbounded s) ≡ all_given s.bindings
   given_left = given_kept s.bindings
 
-  pub given_step : (before after whole : List PolicyRule) (here rest : List (List ℕ × RoleBinding)) (e : List ℕ × RoleBinding) → here ≡ e ∷ rest → means s.namespace identity e.1 ≡ true
+  pub given_step : (before after whole : List PolicyRule) (here rest : List (List ℕ × RoleBinding)) (e : List ℕ × RoleBinding) → here ≡ e ∷ rest → matches s.namespace identity e.1 ≡ true
       → before ++ all_given here ≡ whole → after ≡ before ++ unwrap_or (rules_of objects e.1.role_ref s.namespace) [] → after ++ all_given rest ≡ whole
   given_step before after whole here rest e split meant same pushed =
       ap (λ l. l ++ all_given rest) pushed

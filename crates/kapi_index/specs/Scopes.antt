@@ -26,8 +26,8 @@ abbrev pub bare : List (List ℕ × Bound) → List (List ℕ × RoleBinding)
 bare es = map (λ e. (e.0, e.1.binding)) es
 
 -- whether some subject of a binding in the namespace matches the identity
-abbrev pub means : List ℕ → Identity → RoleBinding → Bool
-means namespace identity b = list_any (λ s. subject_matches s namespace identity) b.subjects
+abbrev pub matches : List ℕ → Identity → RoleBinding → Bool
+matches namespace identity b = list_any (λ s. subject_matches s namespace identity) b.subjects
 
 -- the looks that a walk over some bindings takes: one at each binding, and one at each of its subjects
 abbrev pub looks : List (List ℕ × RoleBinding) → ℕ
@@ -36,7 +36,7 @@ looks (e ∷ es) = suc (length e.1.subjects) + looks es
 
 -- the bindings from a name on that match the identity
 abbrev pub left : Identity → Start (List ℕ) → Scoped → List (List ℕ × RoleBinding)
-left identity start s = filter (λ e. is_from_start name_cmp start e.0 && means s.namespace identity e.1) s.bindings
+left identity start s = filter (λ e. is_from_start name_cmp start e.0 && matches s.namespace identity e.1) s.bindings
 
 -- the keys of a binding, if there is one
 abbrev pub keys_in : (Bound → List (List ℕ)) → Option Bound → List (List ℕ)

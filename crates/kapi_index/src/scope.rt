@@ -6,7 +6,7 @@ ghost use Rattle.std.specs.Map.{keys_of, lookup, remove_entry};
 ghost use Rattle.std.specs.Range.Bound.{bound_map};
 ghost use Rattle.kapi_policy.specs.Objects.{name_cmp};
 ghost use Rattle.kapi_index.specs.Listed.{Adds, AreOrdered, AreSame, HasAt, Removes};
-ghost use Rattle.kapi_index.specs.Scopes.{IsIndex, bare, first_name as first_name_of, group_keys, keys_in, least, left as left_of, looks, means, named_now, user_keys, with_name};
+ghost use Rattle.kapi_index.specs.Scopes.{IsIndex, bare, first_name as first_name_of, group_keys, keys_in, least, left as left_of, looks, matches, named_now, user_keys, with_name};
 
 use crate::keys::Keys;
 use crate::sets::{NameSets, add_all, first_under, remove_all};
@@ -81,7 +81,7 @@ fn index(
     }
 }
 
-// Takes the name out under the keys, but for the keys that are kept.
+// Removes the name from all keys except the kept ones.
 fn unindex(users: &mut NameSets, groups: &mut NameSets, keys: &Keys, kept: &Keys, name: &Text)
     ensures users { Removes keys.now.users kept.now.users name.now users.old.entries users.new.entries }
     ensures groups { Removes keys.now.groups kept.now.groups name.now groups.old.entries groups.new.entries }
@@ -261,7 +261,7 @@ impl Scope {
     ghost use Rattle.std.specs.Map.{remove_entry};
     ghost use Rattle.std.specs.Range.Bound.{bound_map};
     ghost use Rattle.kapi_policy.specs.Objects.{name_cmp};
-    ghost use Rattle.kapi_index.specs.Scopes.{bare, left as left_of, looks, means};
+    ghost use Rattle.kapi_index.specs.Scopes.{bare, left as left_of, looks, matches};
 
     /// The scope of a namespace, without bindings.
     pub fn new(alloc: Global, namespace: Text) -> Scope
@@ -346,7 +346,7 @@ impl Scope {
         start: Start<&Text>,
     ) -> Option<(&'a Text, &'a RoleBinding)>
         ensures steps { MatchOption result (left_of identity.now (bound_map (λ x. x.now) start.entry) self.now ≡ []) (λ p. left_of identity.now (bound_map (λ x. x.now) start.entry) self.now ≡ (p.0.now, p.1.now) ∷ left_of identity.now (Start.Excluded p.0.now) self.now) }
-        ensures meant { IfSome result (λ p. means self.now.namespace identity.now p.1.now ≡ true) }
+        ensures meant { IfSome result (λ p. matches self.now.namespace identity.now p.1.now ≡ true) }
     {
         match first_name(&self.users, &self.groups, identity, start) {
             Some(name) => named(&self.bindings, name),

@@ -88,7 +88,7 @@ fn remove_unless_kept(sets: &mut NameSets, key: &Text, kept: &KeyList, name: &Te
     }
 }
 
-/// Takes the name out under the keys, but for the keys that are kept.
+/// Removes the name from all keys except the kept ones.
 pub fn remove_all(sets: &mut NameSets, keys: &[Text], kept: &KeyList, name: &Text)
     ensures gone { Removes keys.now kept.now name.now sets.old.entries sets.new.entries }
     ensures ordered { AreOrdered sets.old.entries → AreOrdered sets.new.entries }

@@ -41,7 +41,7 @@ fn write_head(out: &mut Writer, code: StatusCode) -> Result<(), Memory>
     write_number(out, code.number())
 }
 
-/// Writes the details, if there is something to tell: the causes and the subject.
+/// Writes the details, unless they are empty: the causes and the subject.
 #[tactic(auto, unfolding(crate::specs::Private::Tokens::details_tokens))]
 fn write_details(
     out: &mut Writer,
@@ -115,7 +115,7 @@ fn write_deleted(out: &mut Writer, subject: Subject<'_>, uid: &str) -> Result<()
     write_token(out, Token::EndObject)
 }
 
-/// Whether nothing is to be told of the subject.
+/// Whether the details have no member for the subject.
 #[tactic(auto, unfolding(crate::specs::Private::Tokens::is_nameless))]
 fn is_nameless(subject: Option<Subject<'_>>) -> bool
     ensures { result ≡ parts.is_nameless (option_map subject_data subject.entry) }

@@ -11,7 +11,7 @@ use Rattle.kapi_model.specs.declared.identity.Identity.{Identity}
 use Rattle.kapi_serve.specs.declared.port.Entry.{Entry}
 use Rattle.kapi_serve.specs.declared.port.Entry.TheVariants as entry
 use Rattle.kapi_serve.specs.Account.{Account, AreTheirs, Made, Talk, Visit, accepted_by, answered_to, closes, fed_to, last_read, present, read_from, talks, visits}
-use Rattle.kapi_serve.specs.Acts.{Act, Exchange, Follows, IsFree, Leaves, Seat, answers_of, end_of, ends, entries_in, events_of, loses, made_in, opens, serves, rejects, turns}
+use Rattle.kapi_serve.specs.Acts.{Act, Exchange, Follows, IsFree, Leaves, ClientState, answers_of, end_of, ends, entries_in, events_of, drops, made_in, opens, serves, rejects, turns}
 use Rattle.kapi_serve.proofs.Flows.{differs_back, talks_on, visits_end, visits_on}
 use Rattle.kapi_serve.proofs.Numbers.{first_same, grows, grows_by, opened_next, rest_same, told_later}
 use Rattle.kapi_serve.proofs.Seats.{IsNew, Sits, id_is_below, id_is_new, ids, ids_more, ids_same, ids_with, less_differs, new_at, new_if_free, new_more, new_without, next_is_new, nobody_sits, sits_left, sits_more, sits_served, sits_up, slot_is_new, slots, slots_more, slots_same, slots_with}
@@ -21,7 +21,7 @@ use Rattle.kapi_serve.proofs.Fares.{AllFare, Fares, Passes, Skips, all_fare_besi
 
 -- the account and how the clients fare; a free slot gives and accepts nothing, and nothing is fed or answered to a
 -- connection that has ended
-record Holds (n : ℕ) (s : List Seat) (es : List Entry) (ms : List Made) : Type 0 where
+record Holds (n : ℕ) (s : List ClientState) (es : List Entry) (ms : List Made) : Type 0 where
   pub account : Account es ms
   pub seats : AllFare s es ms
   pub free : (k : ℕ) → IsNew k (slots s) → (read_from k es ≡ []) × (accepted_by k es ≡ [])
@@ -36,7 +36,7 @@ account_same ds es ls ms visits_same talks_same a = record {
 }
 
 -- the account holds if nothing comes
-holds_nothing : (n : ℕ) (s : List Seat) → Holds n s [] []
+holds_nothing : (n : ℕ) (s : List ClientState) → Holds n s [] []
 unfolding visits talks present AreTheirs read_from accepted_by fed_to answered_to
 holds_nothing n s = record {
   account = record { given = []; all = refl; theirs = tt };
@@ -46,7 +46,7 @@ holds_nothing n s = record {
 }
 
 -- something is done for a client
-holds_served : (n p : ℕ) (x y : Seat) (f b : List Seat) (ds es : List Entry) (ls ms : List Made) → n ≤ p → Sits n (f ++ x ∷ b) → Exchange x y ds ls
+holds_served : (n p : ℕ) (x y : ClientState) (f b : List ClientState) (ds es : List Entry) (ls ms : List Made) → n ≤ p → Sits n (f ++ x ∷ b) → Exchange x y ds ls
     → Holds p (f ++ y ∷ b) es ms → Holds n (f ++ x ∷ b) (ds ++ es) (ls ++ ms)
 unfolding AllFare
 holds_served n p x y f b ds es ls ms up sits d h =
@@ -68,7 +68,7 @@ holds_served n p x y f b ds es ls ms up sits d h =
     }
 
 -- a client leaves
-holds_ended : (n p : ℕ) (x : Seat) (f b : List Seat) (ds es : List Entry) (ls ms : List Made) → n ≤ p → Sits n (f ++ x ∷ b) → Leaves x ds ls
+holds_ended : (n p : ℕ) (x : ClientState) (f b : List ClientState) (ds es : List Entry) (ls ms : List Made) → n ≤ p → Sits n (f ++ x ∷ b) → Leaves x ds ls
     → Holds p (f ++ b) es ms → Holds n (f ++ x ∷ b) (ds ++ es) (ls ++ ms)
 holds_ended n p x f b ds es ls ms up sits l h =
     let rest : List Entry = end_of x.slot l.is_ended ++ es in
@@ -117,12 +117,12 @@ one_at slot refused es (inl none) = inl none
 one_at slot refused es (inr is) = inr (is [])
 
 -- a client gets a connection
-holds_opened : (n : ℕ) (s : List Seat) (slot : ℕ) (who : Identity) (conn : ConnId) (es : List Entry) (ms : List Made) → Sits n s → IsFree slot s → conn.0 ≡ n
+holds_opened : (n : ℕ) (s : List ClientState) (slot : ℕ) (who : Identity) (conn : ConnId) (es : List Entry) (ms : List Made) → Sits n s → IsFree slot s → conn.0 ≡ n
     → Holds (n + 1) (s ++ record { slot = slot; conn = conn; owed = [] } ∷ []) es ms
     → Holds n s (entry.Opened slot who ∷ es) (record { event = event.Open who; answer = answer.Opened conn } ∷ ms)
 unfolding AllFare slots ids visits talks present AreTheirs
 holds_opened n s slot who conn es ms sits free next h =
-    let x : Seat = record { slot = slot; conn = conn; owed = [] } in
+    let x : ClientState = record { slot = slot; conn = conn; owed = [] } in
     let ds : List Entry = entry.Opened slot who ∷ es in
     let ls : List Made = record { event = event.Open who; answer = answer.Opened conn } ∷ ms in
     let skips : Skips slot ds es = skips_opened slot who es in
@@ -166,7 +166,7 @@ skips_at_once slot who es =
     skips_both slot (entry.Opened slot who ∷ rest) rest es (skips_opened slot who rest) (skips_end slot true es)
 
 -- a client is ended at once
-holds_at_once : (n p : ℕ) (s : List Seat) (slot : ℕ) (who : Identity) (es : List Entry) (ls ms : List Made) → n ≤ p → Sits n s → IsFree slot s → Passes n ls ms
+holds_at_once : (n p : ℕ) (s : List ClientState) (slot : ℕ) (who : Identity) (es : List Entry) (ls ms : List Made) → n ≤ p → Sits n s → IsFree slot s → Passes n ls ms
     → Account (entry.Opened slot who ∷ entry.Ended slot ∷ es) ls → Holds p s es ms → Holds n s (entry.Opened slot who ∷ entry.Ended slot ∷ es) ls
 holds_at_once n p s slot who es ls ms up sits free passes account h =
     let ds : List Entry = entry.Opened slot who ∷ entry.Ended slot ∷ es in
@@ -211,7 +211,7 @@ account_lost slot who es ms a =
     }
 
 -- the controller may have written
-holds_turned : (n p : ℕ) (s : List Seat) (x : Answer) (es : List Entry) (ms : List Made) → n ≤ p → Sits n s → Holds p s es ms
+holds_turned : (n p : ℕ) (s : List ClientState) (x : Answer) (es : List Entry) (ms : List Made) → n ≤ p → Sits n s → Holds p s es ms
     → Holds n s es (record { event = event.Turn; answer = x } ∷ ms)
 unfolding talks
 holds_turned n p s x es ms up sits h =
@@ -229,16 +229,16 @@ holds_turned n p s x es ms up sits h =
     }
 
 -- the account holds of all that acts do
-holds : (acts : List Act) (m : Machine) (s t : List Seat) → Sits m.next_id s → Follows s acts t → answers_of (made_in acts) ≡ answers m (events_of (made_in acts))
+holds : (acts : List Act) (m : Machine) (s t : List ClientState) → Sits m.next_id s → Follows s acts t → answers_of (made_in acts) ≡ answers m (events_of (made_in acts))
     → Holds m.next_id s (entries_in acts) (made_in acts)
 unfolding entries_in made_in Follows answers
 holds [] m s t sits follows told = holds_nothing m.next_id s
 holds (opens slot who conn ∷ acts) m s t sits follows told =
-    let u : List Seat = follows.0 in
+    let u : List ClientState = follows.0 in
     let does = follows.1 in
     let es : List Entry = entries_in acts in
     let ms : List Made = made_in acts in
-    let x : Seat = record { slot = slot; conn = conn; owed = [] } in
+    let x : ClientState = record { slot = slot; conn = conn; owed = [] } in
     let p : Machine = (step m (event.Open who)).1 in
     let next = opened_next m who conn (sym (first_same (answer.Opened conn) (step m (event.Open who)).0 (answers_of ms) (answers p (events_of ms)) told)) in
     let seated : Sits p.next_id u =
@@ -248,7 +248,7 @@ holds (opens slot who conn ∷ acts) m s t sits follows told =
     holds_opened m.next_id s slot who conn es ms sits does.0 next.0
     (subst (λ v. Holds (m.next_id + 1) v es ms) does.1 (subst (λ k. Holds k u es ms) next.1 h))
 holds (rejects slot who ∷ acts) m s t sits follows told =
-    let u : List Seat = follows.0 in
+    let u : List ClientState = follows.0 in
     let does = follows.1 in
     let es : List Entry = entries_in acts in
     let ms : List Made = made_in acts in
@@ -258,8 +258,8 @@ holds (rejects slot who ∷ acts) m s t sits follows told =
     let h : Holds p.next_id u es ms = holds acts p u t seated follows.2 (rest_same answer.TooMany (step m (event.Open who)).0 (answers_of ms) (answers p (events_of ms)) told) in
     holds_at_once m.next_id p.next_id s slot who es (record { event = event.Open who; answer = answer.TooMany } ∷ ms) ms up sits does.0
     (passes_open m.next_id who answer.TooMany ms) (account_shunned slot who es ms h.account) (subst (λ v. Holds p.next_id v es ms) does.1 h)
-holds (loses slot who ∷ acts) m s t sits follows told =
-    let u : List Seat = follows.0 in
+holds (drops slot who ∷ acts) m s t sits follows told =
+    let u : List ClientState = follows.0 in
     let does = follows.1 in
     let es : List Entry = entries_in acts in
     let ms : List Made = made_in acts in
@@ -267,10 +267,10 @@ holds (loses slot who ∷ acts) m s t sits follows told =
     holds_at_once m.next_id m.next_id s slot who es ms ms (omega arith) sits does.0 (passes_nothing m.next_id ms) (account_lost slot who es ms h.account)
     (subst (λ v. Holds m.next_id v es ms) does.1 h)
 holds (serves x y ds ls ∷ acts) m s t sits follows told =
-    let u : List Seat = follows.0 in
+    let u : List ClientState = follows.0 in
     let does = follows.1 in
-    let f : List Seat = does.0 in
-    let b : List Seat = does.1 in
+    let f : List ClientState = does.0 in
+    let b : List ClientState = does.1 in
     let es : List Entry = entries_in acts in
     let ms : List Made = made_in acts in
     let p : Machine = after m (events_of ls) in
@@ -282,10 +282,10 @@ holds (serves x y ds ls ∷ acts) m s t sits follows told =
     subst (λ v. Holds m.next_id v (ds ++ es) (ls ++ ms)) (sym does.2)
     (holds_served m.next_id p.next_id x y f b ds es ls ms up seats does.4 (subst (λ v. Holds p.next_id v es ms) does.3 h))
 holds (ends x ds ls ∷ acts) m s t sits follows told =
-    let u : List Seat = follows.0 in
+    let u : List ClientState = follows.0 in
     let does = follows.1 in
-    let f : List Seat = does.0 in
-    let b : List Seat = does.1 in
+    let f : List ClientState = does.0 in
+    let b : List ClientState = does.1 in
     let es : List Entry = entries_in acts in
     let ms : List Made = made_in acts in
     let p : Machine = after m (events_of ls) in
@@ -297,7 +297,7 @@ holds (ends x ds ls ∷ acts) m s t sits follows told =
     subst (λ v. Holds m.next_id v (ds ++ es) (ls ++ ms)) (sym does.2)
     (holds_ended m.next_id p.next_id x f b ds es ls ms up seats does.4 (subst (λ v. Holds p.next_id v es ms) does.3 h))
 holds (turns x ∷ acts) m s t sits follows told =
-    let u : List Seat = follows.0 in
+    let u : List ClientState = follows.0 in
     let es : List Entry = entries_in acts in
     let ms : List Made = made_in acts in
     let p : Machine = (step m event.Turn).1 in
@@ -307,6 +307,6 @@ holds (turns x ∷ acts) m s t sits follows told =
     holds_turned m.next_id p.next_id s x es ms up sits (subst (λ v. Holds p.next_id v es ms) follows.1 h)
 
 -- each client's connection is its own: what was read from it was fed, and what it accepted was answered there
-pub accounts : (m : Machine) (acts : List Act) (t : List Seat) → Follows [] acts t → answers_of (made_in acts) ≡ answers m (events_of (made_in acts))
+pub accounts : (m : Machine) (acts : List Act) (t : List ClientState) → Follows [] acts t → answers_of (made_in acts) ≡ answers m (events_of (made_in acts))
     → Account (entries_in acts) (made_in acts)
 accounts m acts t follows told = (holds acts m [] t (nobody_sits m.next_id) follows told).account

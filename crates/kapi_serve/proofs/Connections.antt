@@ -213,7 +213,7 @@ shown_gone m conn out h ends k = by_link (link_at conn.0 m) h
 
     by_after : (a : After) (l : Link) (w : PlainWatching) → is_last a ≡ true → link_at id (after_event a id l w m) ≡ None
     by_after becomes.Watches l w e = absurd (cc)
-    by_after becomes.Serves l w e = absurd (cc)
+    by_after becomes.WatchEnded l w e = absurd (cc)
     by_after becomes.Closes l w e = found_gone id m k
 
     by_shown : (l : Link) (w : PlainWatching) (o : Option EventReply) → answer.Sent out ≡ (pump_shown id l w o m).0 → link_at id (pump_shown id l w o m).1 ≡ None

@@ -9,7 +9,7 @@ use Rattle.kapi_model.specs.declared.identity.Identity.{Identity}
 use Rattle.kapi_serve.specs.declared.port.Entry.{Entry}
 use Rattle.kapi_serve.specs.declared.port.Entry.TheVariants as entry
 use Rattle.kapi_serve.specs.Account.{Made, accepted_by, answered_to, closes, fed_to, last_read, read_from}
-use Rattle.kapi_serve.specs.Acts.{AreTo, Exchange, Leaves, Seat, StayOn, end_of}
+use Rattle.kapi_serve.specs.Acts.{AreTo, Exchange, Leaves, ClientState, StayOn, end_of}
 use Rattle.kapi_serve.proofs.Flows.{accepted_end, accepted_end_off, accepted_off, accepted_on, answered_more, answered_off, closes_later, closes_still, differs_back, fed_more, fed_off, last_end, last_end_off, last_off, last_on, last_piece, read_end, read_end_off, read_off, read_on}
 use Rattle.kapi_serve.proofs.Seats.{IsNew, Sits, id_is_new, ids, new_back, new_front, slot_is_new, slots}
 
@@ -66,7 +66,7 @@ passes_nothing id ns = λ c off. (refl, refl, λ h. h)
 
 -- what is read from a client is fed to its connection, but for the last piece, if that closes it; what it accepts is
 -- owed first
-pub record Fares (x : Seat) (es : List Entry) (ms : List Made) : Type 0 where
+pub record Fares (x : ClientState) (es : List Entry) (ms : List Made) : Type 0 where
   pub refused : List ℕ
   pub read : read_from x.slot es ≡ fed_to x.conn ms ++ refused
   pub one : (refused ≡ []) ⊎ ((last : List ℕ) → refused ≡ last_read x.slot last es)
@@ -75,7 +75,7 @@ pub record Fares (x : Seat) (es : List Entry) (ms : List Made) : Type 0 where
   pub owed : x.owed ++ answered_to x.conn ms ≡ accepted_by x.slot es ++ left
 
 -- all clients fare so: their bytes are fed and owed
-unfoldable pub AllFare : List Seat → List Entry → List Made → Type 0
+unfoldable pub AllFare : List ClientState → List Entry → List Made → Type 0
 AllFare [] es ms = Unit {0}
 AllFare (x ∷ xs) es ms = Fares x es ms × AllFare xs es ms
 
@@ -86,17 +86,17 @@ one_by refused f es ds same (inl none) = inl none
 one_by refused f es ds same (inr is) = inr (λ last. is last ∙ same last)
 
 -- a client fares so if nothing comes
-fares_nothing : (x : Seat) → Fares x [] []
+fares_nothing : (x : ClientState) → Fares x [] []
 unfolding read_from accepted_by fed_to answered_to closes
 fares_nothing x = record { refused = []; read = refl; one = inl refl; only_closed = λ h. refl; left = x.owed; owed = append-nil x.owed }
 
-pub all_fare_nothing : (s : List Seat) → AllFare s [] []
+pub all_fare_nothing : (s : List ClientState) → AllFare s [] []
 unfolding AllFare
 all_fare_nothing [] = tt
 all_fare_nothing (x ∷ s) = (fares_nothing x, all_fare_nothing s)
 
 -- what belongs to another client leaves this one as it was
-fares_beside : (slot id : ℕ) (x : Seat) (ds es : List Entry) (ls ms : List Made) → Skips slot ds es → Passes id ls ms
+fares_beside : (slot id : ℕ) (x : ClientState) (ds es : List Entry) (ls ms : List Made) → Skips slot ds es → Passes id ls ms
     → (x.slot == slot) ≡ false → (x.conn.0 == id) ≡ false → Fares x es ms → Fares x ds ls
 fares_beside slot id x ds es ls ms skips passes off away f =
     let skipped = skips x.slot off in
@@ -110,7 +110,7 @@ fares_beside slot id x ds es ls ms skips passes off away f =
       owed = ap (λ r. x.owed ++ r) passed.1 ∙ f.owed ∙ ap (λ r. r ++ f.left) (sym skipped.1);
     }
 
-pub all_fare_beside : (slot id : ℕ) (s : List Seat) (ds es : List Entry) (ls ms : List Made) → Skips slot ds es → Passes id ls ms
+pub all_fare_beside : (slot id : ℕ) (s : List ClientState) (ds es : List Entry) (ls ms : List Made) → Skips slot ds es → Passes id ls ms
     → IsNew slot (slots s) → IsNew id (ids s) → AllFare s es ms → AllFare s ds ls
 unfolding AllFare IsNew slots ids
 all_fare_beside slot id [] ds es ls ms skips passes off away f = tt
@@ -118,23 +118,23 @@ all_fare_beside slot id (x ∷ s) ds es ls ms skips passes off away f =
     (fares_beside slot id x ds es ls ms skips passes off.0 away.0 f.0, all_fare_beside slot id s ds es ls ms skips passes off.1 away.1 f.1)
 
 -- the clients of lists that are joined fare so
-pub fare_front : (s t : List Seat) (es : List Entry) (ms : List Made) → AllFare (s ++ t) es ms → AllFare s es ms
+pub fare_front : (s t : List ClientState) (es : List Entry) (ms : List Made) → AllFare (s ++ t) es ms → AllFare s es ms
 unfolding AllFare
 fare_front [] t es ms f = tt
 fare_front (x ∷ s) t es ms f = (f.0, fare_front s t es ms f.1)
 
-pub fare_back : (s t : List Seat) (es : List Entry) (ms : List Made) → AllFare (s ++ t) es ms → AllFare t es ms
+pub fare_back : (s t : List ClientState) (es : List Entry) (ms : List Made) → AllFare (s ++ t) es ms → AllFare t es ms
 unfolding AllFare
 fare_back [] t es ms f = f
 fare_back (x ∷ s) t es ms f = fare_back s t es ms f.1
 
-fare_both : (s t : List Seat) (es : List Entry) (ms : List Made) → AllFare s es ms → AllFare t es ms → AllFare (s ++ t) es ms
+fare_both : (s t : List ClientState) (es : List Entry) (ms : List Made) → AllFare s es ms → AllFare t es ms → AllFare (s ++ t) es ms
 unfolding AllFare
 fare_both [] t es ms f g = g
 fare_both (x ∷ s) t es ms f g = (f.0, fare_both s t es ms f.1 g)
 
 -- one client among others, whom all passes by
-pub fare_among : (n : ℕ) (x : Seat) (f b : List Seat) (ds es : List Entry) (ls ms : List Made) → Sits n (f ++ x ∷ b) → Skips x.slot ds es → Passes x.conn.0 ls ms
+pub fare_among : (n : ℕ) (x : ClientState) (f b : List ClientState) (ds es : List Entry) (ls ms : List Made) → Sits n (f ++ x ∷ b) → Skips x.slot ds es → Passes x.conn.0 ls ms
     → AllFare f es ms → AllFare b es ms → Fares x ds ls → AllFare (f ++ x ∷ b) ds ls
 unfolding AllFare
 fare_among n x f b ds es ls ms sits skips passes front back here =
@@ -161,7 +161,7 @@ one_left slot refused before rest es ended on are (inr last_one) = inr (λ last.
     sym (ap (λ r. last_read slot last r) are ∙ last_on slot last before (end_of slot ended ++ es) on ∙ last_end slot ended (last_read slot last before) es last_one.2 ∙ own))
 
 -- a client for whom something is done
-pub fares_dealt : (x y : Seat) (ds es : List Entry) (ls ms : List Made) → Exchange x y ds ls → Fares y es ms → Fares x (ds ++ es) (ls ++ ms)
+pub fares_dealt : (x y : ClientState) (ds es : List Entry) (ls ms : List Made) → Exchange x y ds ls → Fares y es ms → Fares x (ds ++ es) (ls ++ ms)
 fares_dealt x y ds es ls ms d f =
     let read : read_from x.slot es ≡ fed_to x.conn ms ++ f.refused =
     ap (λ k. read_from k es) (sym d.slot) ∙ f.read ∙ ap (λ c. fed_to c ms ++ f.refused) d.conn in
@@ -181,7 +181,7 @@ fares_dealt x y ds es ls ms d f =
     }
 
 -- a client that leaves
-pub fares_left : (x : Seat) (ds es : List Entry) (ls ms : List Made) → Leaves x ds ls → read_from x.slot es ≡ [] → accepted_by x.slot es ≡ []
+pub fares_left : (x : ClientState) (ds es : List Entry) (ls ms : List Made) → Leaves x ds ls → read_from x.slot es ≡ [] → accepted_by x.slot es ≡ []
     → fed_to x.conn ms ≡ [] → answered_to x.conn ms ≡ [] → Fares x (ds ++ es) (ls ++ ms)
 fares_left x ds es ls ms l unread unaccepted unfed unanswered =
     let rest : List Entry = end_of x.slot l.is_ended ++ es in
@@ -206,7 +206,7 @@ fares_left x ds es ls ms l unread unaccepted unfed unanswered =
     }
 
 -- a turn belongs to no client
-pub all_fare_turned : (s : List Seat) (x : Answer) (es : List Entry) (ms : List Made) → AllFare s es ms → AllFare s es (record { event = event.Turn; answer = x } ∷ ms)
+pub all_fare_turned : (s : List ClientState) (x : Answer) (es : List Entry) (ms : List Made) → AllFare s es ms → AllFare s es (record { event = event.Turn; answer = x } ∷ ms)
 unfolding AllFare fed_to answered_to closes
 all_fare_turned [] x es ms f = tt
 all_fare_turned (z ∷ s) x es ms f =

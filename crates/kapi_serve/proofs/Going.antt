@@ -21,7 +21,7 @@ use Rattle.kapi_model.specs.declared.identity.Identity.{Identity}
 use Rattle.kapi_policy.specs.declared.change.PolicyChange.{PolicyChange}
 use Rattle.kapi_desk.specs.Boards.{Board}
 use Rattle.kapi_serve.specs.Account.{Made}
-use Rattle.kapi_serve.specs.Acts.{Act, Exchange, Applies, Follows, IsFree, Leaves, Seat, answers_of, ends, entries_in, entries_of, events_of, loses, made_in, made_of, opens, serves, rejects, turns}
+use Rattle.kapi_serve.specs.Acts.{Act, Exchange, Applies, Follows, IsFree, Leaves, ClientState, answers_of, ends, entries_in, entries_of, events_of, drops, made_in, made_of, opens, serves, rejects, turns}
 use Rattle.kapi_serve.specs.Advances.{Advances, ServerState, Runs, Serves, step_in, steps_in}
 use Rattle.kapi_serve.specs.Ports.{Adds, Report, opened}
 use Rattle.kapi_serve.specs.Private.Clients.{others, seat_of, seats_of}
@@ -99,7 +99,7 @@ unfolding entries_in
 entries_more [] ys = refl
 entries_more (a ∷ xs) ys = ap (λ r. entries_of a ++ r) (entries_more xs ys) ∙ sym (append_assoc (entries_of a) (entries_in xs) (entries_in ys))
 
-follows_more : (s t u : List Seat) (xs ys : List Act) → Follows s xs t → Follows t ys u → Follows s (xs ++ ys) u
+follows_more : (s t u : List ClientState) (xs ys : List Act) → Follows s xs t → Follows t ys u → Follows s (xs ++ ys) u
 unfolding Follows
 follows_more s t u [] ys f g = subst (λ x. Follows x ys u) f g
 follows_more s t u (a ∷ xs) ys f g = (f.0, f.1, follows_more f.0 t u xs ys f.2 g)
@@ -126,7 +126,7 @@ entries_one : (a : Act) → entries_in (a ∷ []) ≡ entries_of a
 unfolding entries_in
 entries_one a = append-nil (entries_of a)
 
-follows_one : (s t : List Seat) (a : Act) → Applies s a t → Follows s (a ∷ []) t
+follows_one : (s t : List ClientState) (a : Act) → Applies s a t → Follows s (a ∷ []) t
 unfolding Follows
 follows_one s t a does = (t, does, refl)
 
@@ -171,15 +171,15 @@ pub goes_nothing : (m : ServerState) → Advances m m
 goes_nothing m = goes_idle m m (λ n h. h) (shows_nothing m.desk m.kept) refl (adds_nothing m.report)
 
 -- nothing was done, and nothing recorded
-pub goes_still : (m : ServerState) (t : List Seat) (r : Report) → t ≡ m.seats → Adds m.report r [] → Advances m (record m { seats = t; report = r })
+pub goes_still : (m : ServerState) (t : List ClientState) (r : Report) → t ≡ m.seats → Adds m.report r [] → Advances m (record m { seats = t; report = r })
 goes_still m t r same adds = goes_idle m (record m { seats = t; report = r }) (λ n h. h) (shows_nothing m.desk m.kept) same adds
 
 -- the machine is another that refines the same
-pub goes_kept : (m : ServerState) (b : Running) (t : List Seat) → Keeps m.core b → t ≡ m.seats → Advances m (record m { core = b; seats = t })
+pub goes_kept : (m : ServerState) (b : Running) (t : List ClientState) → Keeps m.core b → t ≡ m.seats → Advances m (record m { core = b; seats = t })
 goes_kept m b t keeps same = goes_idle m (record m { core = b; seats = t }) keeps (shows_nothing m.desk m.kept) same (adds_nothing m.report)
 
 -- an event ran out of memory
-pub goes_out : (m : ServerState) (b : Running) (t : List Seat) (e : Event) → RunsOut m.core b e → t ≡ m.seats → Advances m (record m { core = b; seats = t })
+pub goes_out : (m : ServerState) (b : Running) (t : List ClientState) (e : Event) → RunsOut m.core b e → t ≡ m.seats → Advances m (record m { core = b; seats = t })
 goes_out m b t e out same = goes_kept m b t (λ n h. (out n h).0) same
 
 -- steps are published without an event
@@ -198,7 +198,7 @@ goes_on l m n g h = record {
 }
 
 -- what was done without the ports holds whatever they report
-pub goes_unasked : (a b : Running) (d e : Board) (p q : Option (List PolicyChange)) (s t : List Seat) (r : Report) → Advances (moment a d p s unasked) (moment b e q t unasked) → Advances (moment a d p s r) (moment b e q t r)
+pub goes_unasked : (a b : Running) (d e : Board) (p q : Option (List PolicyChange)) (s t : List ClientState) (r : Report) → Advances (moment a d p s unasked) (moment b e q t unasked) → Advances (moment a d p s r) (moment b e q t r)
 goes_unasked a b d e p q s t r g = record {
   acts = g.acts;
   runs = g.runs;
@@ -208,7 +208,7 @@ goes_unasked a b d e p q s t r g = record {
 }
 
 -- the same clients by other names
-goes_as : (m n : ServerState) (s t : List Seat) → m.seats ≡ s → n.seats ≡ t → Advances (record m { seats = s }) (record n { seats = t }) → Advances m n
+goes_as : (m n : ServerState) (s t : List ClientState) → m.seats ≡ s → n.seats ≡ t → Advances (record m { seats = s }) (record n { seats = t }) → Advances m n
 goes_as m n s t same too g = record {
   acts = g.acts;
   runs = g.runs;
@@ -218,7 +218,7 @@ goes_as m n s t same too g = record {
 }
 
 -- from before an event of the ports
-pub goes_after : (a b : Running) (d e : Board) (p q : Option (List PolicyChange)) (s t : List Seat) (r z k : Report) (x : PortEvent) → Adds r z (opened (Some x)) → AdvancesAfter x (moment a d p s z) (moment b e q t k)
+pub goes_after : (a b : Running) (d e : Board) (p q : Option (List PolicyChange)) (s t : List ClientState) (r z k : Report) (x : PortEvent) → Adds r z (opened (Some x)) → AdvancesAfter x (moment a d p s z) (moment b e q t k)
     → Advances (moment a d p s r) (moment b e q t k)
 goes_after a b d e p q s t r z k x adds goes =
     let g = goes r.history (λ y. (adds y).1) in
@@ -243,7 +243,7 @@ goes_act m n act runs shows does adds = record {
 }
 
 -- an act whose events change no policy
-goes_quiet : (m : ServerState) (b : Running) (t : List Seat) (r : Report) (act : Act) → Runs m.core b (made_of act) → steps_in (answers_of (made_of act)) ≡ [] → Applies m.seats act t → Adds m.report r (entries_of act)
+goes_quiet : (m : ServerState) (b : Running) (t : List ClientState) (r : Report) (act : Act) → Runs m.core b (made_of act) → steps_in (answers_of (made_of act)) ≡ [] → Applies m.seats act t → Adds m.report r (entries_of act)
     → Advances m (record m { core = b; seats = t; report = r })
 goes_quiet m b t r act runs quiet does adds = goes_act m (record m { core = b; seats = t; report = r }) act runs (shows_as m.desk m.desk m.kept m.kept _ _ (sym quiet) (shows_nothing m.desk m.kept)) does adds
 
@@ -269,56 +269,56 @@ pub makes_nothing : (a b : Running) (ev : Event) (o : Option Output) → Makes a
 makes_nothing a b ev o makes none = subst (λ x. Makes a b ev (sent_if x)) none makes
 
 -- a step of a client, whose changes are published
-goes_sent : (m : ServerState) (b : Running) (e : Board) (q : Option (List PolicyChange)) (t front back : List Seat) (x y : Seat) (ev : Event) (out : Output) → m.seats ≡ front ++ x ∷ back → t ≡ front ++ y ∷ back
+goes_sent : (m : ServerState) (b : Running) (e : Board) (q : Option (List PolicyChange)) (t front back : List ClientState) (x y : ClientState) (ev : Event) (out : Output) → m.seats ≡ front ++ x ∷ back → t ≡ front ++ y ∷ back
     → Makes m.core b ev (answer.Sent out) → Publishes m.desk e m.kept q (step_of out.policy_changes) → Exchange x y [] (record { event = ev; answer = answer.Sent out } ∷ []) → Advances m (record m { core = b; desk = e; kept = q; seats = t })
 goes_sent m b e q t front back x y ev out is to makes shows deals =
     goes_act m (record m { core = b; desk = e; kept = q; seats = t }) (serves x y [] (record { event = ev; answer = answer.Sent out } ∷ [])) (runs_one m.core b ev (answer.Sent out) makes)
     (shows_as m.desk e m.kept q _ _ (sym (steps_one (answer.Sent out))) shows) (front, back, is, to, deals) (adds_nothing m.report)
 
 -- a client is answered
-pub goes_served : (m : ServerState) (b : Running) (e : Board) (q : Option (List PolicyChange)) (t front back : List Seat) (x y : Seat) (o : Option Output) (out : Output) → m.seats ≡ front ++ x ∷ back → t ≡ front ++ y ∷ back
+pub goes_served : (m : ServerState) (b : Running) (e : Board) (q : Option (List PolicyChange)) (t front back : List ClientState) (x y : ClientState) (o : Option Output) (out : Output) → m.seats ≡ front ++ x ∷ back → t ≡ front ++ y ∷ back
     → Makes m.core b (event.Serve x.conn) (sent_if o) → o ≡ Some out → Publishes m.desk e m.kept q (step_of out.policy_changes) → y.slot ≡ x.slot → y.conn ≡ x.conn → y.owed ≡ x.owed ++ out.bytes
     → Advances m (record m { core = b; desk = e; kept = q; seats = t })
 goes_served m b e q t front back x y o out is to makes some shows slot conn owed =
     goes_sent m b e q t front back x y (event.Serve x.conn) out is to (makes_sent m.core b (event.Serve x.conn) o out makes some) shows (deals_served x y out slot conn owed)
 
 -- a client is shown an event
-pub goes_shown : (m : ServerState) (b : Running) (e : Board) (q : Option (List PolicyChange)) (t front back : List Seat) (x y : Seat) (o : Option Output) (out : Output) → m.seats ≡ front ++ x ∷ back → t ≡ front ++ y ∷ back
+pub goes_shown : (m : ServerState) (b : Running) (e : Board) (q : Option (List PolicyChange)) (t front back : List ClientState) (x y : ClientState) (o : Option Output) (out : Output) → m.seats ≡ front ++ x ∷ back → t ≡ front ++ y ∷ back
     → Makes m.core b (event.Pump x.conn) (sent_if o) → o ≡ Some out → Publishes m.desk e m.kept q (step_of out.policy_changes) → y.slot ≡ x.slot → y.conn ≡ x.conn → y.owed ≡ x.owed ++ out.bytes
     → Advances m (record m { core = b; desk = e; kept = q; seats = t })
 goes_shown m b e q t front back x y o out is to makes some shows slot conn owed =
     goes_sent m b e q t front back x y (event.Pump x.conn) out is to (makes_sent m.core b (event.Pump x.conn) o out makes some) shows (deals_shown x y out slot conn owed)
 
 -- one quiet event of a client
-goes_for : (m : ServerState) (b : Running) (t front back : List Seat) (x y : Seat) (e : Event) (z : Answer) → m.seats ≡ front ++ x ∷ back → t ≡ front ++ y ∷ back → Makes m.core b e z → step_in z ≡ []
+goes_for : (m : ServerState) (b : Running) (t front back : List ClientState) (x y : ClientState) (e : Event) (z : Answer) → m.seats ≡ front ++ x ∷ back → t ≡ front ++ y ∷ back → Makes m.core b e z → step_in z ≡ []
     → Exchange x y [] (record { event = e; answer = z } ∷ []) → Advances m (record m { core = b; seats = t })
 goes_for m b t front back x y e z is to makes none deals =
     goes_quiet m b t m.report (serves x y [] (record { event = e; answer = z } ∷ [])) (runs_one m.core b e z makes) (steps_one z ∙ none) (front, back, is, to, deals) (adds_nothing m.report)
 
 -- there is no request of the client
-pub goes_unserved : (m : ServerState) (b : Running) (t front back : List Seat) (x : Seat) (o : Option Output) → m.seats ≡ front ++ x ∷ back → t ≡ front ++ x ∷ back → Makes m.core b (event.Serve x.conn) (sent_if o) → o ≡ None
+pub goes_unserved : (m : ServerState) (b : Running) (t front back : List ClientState) (x : ClientState) (o : Option Output) → m.seats ≡ front ++ x ∷ back → t ≡ front ++ x ∷ back → Makes m.core b (event.Serve x.conn) (sent_if o) → o ≡ None
     → Advances m (record m { core = b; seats = t })
 goes_unserved m b t front back x o is to makes none = goes_for m b t front back x x (event.Serve x.conn) answer.Nothing is to (makes_nothing m.core b (event.Serve x.conn) o makes none) refl (deals_unserved x)
 
 -- there is no event for the client
-pub goes_unshown : (m : ServerState) (b : Running) (t front back : List Seat) (x : Seat) (o : Option Output) → m.seats ≡ front ++ x ∷ back → t ≡ front ++ x ∷ back → Makes m.core b (event.Pump x.conn) (sent_if o) → o ≡ None
+pub goes_unshown : (m : ServerState) (b : Running) (t front back : List ClientState) (x : ClientState) (o : Option Output) → m.seats ≡ front ++ x ∷ back → t ≡ front ++ x ∷ back → Makes m.core b (event.Pump x.conn) (sent_if o) → o ≡ None
     → Advances m (record m { core = b; seats = t })
 goes_unshown m b t front back x o is to makes none = goes_for m b t front back x x (event.Pump x.conn) answer.Nothing is to (makes_nothing m.core b (event.Pump x.conn) o makes none) refl (deals_unshown x)
 
 -- the watch of the client was moved on, if it was
-pub goes_skipped : (m : ServerState) (b : Running) (front back : List Seat) (x : Seat) (skipped : Bool) → m.seats ≡ front ++ x ∷ back → (skipped ≡ true → Makes m.core b (event.Pump x.conn) answer.Nothing) → (skipped ≡ false → b ≡ m.core)
+pub goes_skipped : (m : ServerState) (b : Running) (front back : List ClientState) (x : ClientState) (skipped : Bool) → m.seats ≡ front ++ x ∷ back → (skipped ≡ true → Makes m.core b (event.Pump x.conn) answer.Nothing) → (skipped ≡ false → b ≡ m.core)
     → Advances m (record m { core = b })
 goes_skipped m b front back x true is makes same = goes_for m b m.seats front back x x (event.Pump x.conn) answer.Nothing is is (makes refl) refl (deals_unshown x)
 goes_skipped m b front back x false is makes same = goes_kept m b m.seats (λ n h. subst (λ z. Refines z n) (sym (same refl)) h) refl
 
 -- a client whose bytes have ended is closed, and another stays
-pub goes_finished : (m : ServerState) (b : Running) (t front back : List Seat) (c d : Client) (p : Progress) → m.seats ≡ front ++ seat_of c ∷ back → t ≡ front ++ seat_of d ∷ back → Finishes m.core b c d p → Advances m (record m { core = b; seats = t })
+pub goes_finished : (m : ServerState) (b : Running) (t front back : List ClientState) (c d : Client) (p : Progress) → m.seats ≡ front ++ seat_of c ∷ back → t ≡ front ++ seat_of d ∷ back → Finishes m.core b c d p → Advances m (record m { core = b; seats = t })
 goes_finished m b t front back c d p is to (inl q) =
     goes_for m b t front back (seat_of c) (seat_of d) (event.Close c.id) answer.Done is to q.2 refl (deals_closed (seat_of c) (seat_of d) (ap seat_of q.3))
 goes_finished m b t front back c d p is to (inr q) = goes_kept m b t (λ n h. subst (λ z. Refines z n) (sym q.2) h) (to ∙ ap (λ z. front ++ seat_of z ∷ back) q.3 ∙ sym is)
 
 -- a client accepted bytes
-pub goes_took : (m : ServerState) (t : List Seat) (r : Report) (front back : List Seat) (x y : Seat) (bytes : List ℕ) → m.seats ≡ front ++ x ∷ back → t ≡ front ++ y ∷ back → y.slot ≡ x.slot → y.conn ≡ x.conn → x.owed ≡ bytes ++ y.owed
+pub goes_took : (m : ServerState) (t : List ClientState) (r : Report) (front back : List ClientState) (x y : ClientState) (bytes : List ℕ) → m.seats ≡ front ++ x ∷ back → t ≡ front ++ y ∷ back → y.slot ≡ x.slot → y.conn ≡ x.conn → x.owed ≡ bytes ++ y.owed
     → Adds m.report r (entry.Took x.slot bytes ∷ []) → Advances m (record m { seats = t; report = r })
 unfolding steps_in
 goes_took m t r front back x y bytes is to slot conn owed adds =
@@ -327,53 +327,53 @@ goes_took m t r front back x y bytes is to slot conn owed adds =
 -- ---- clients come, are read, and leave
 
 -- a client was opened a connection, or it was rejected or dropped and its slot was ended
-pub goes_opened : (m : ServerState) (b : Running) (t : List Seat) (r : Report) (slot : ℕ) (who : Identity) (id : ConnId) → IsFree slot m.seats → t ≡ m.seats ++ record { slot = slot; conn = id; owed = [] } ∷ []
+pub goes_opened : (m : ServerState) (b : Running) (t : List ClientState) (r : Report) (slot : ℕ) (who : Identity) (id : ConnId) → IsFree slot m.seats → t ≡ m.seats ++ record { slot = slot; conn = id; owed = [] } ∷ []
     → Makes m.core b (event.Open who) (answer.Opened id) → Adds m.report r (entry.Opened slot who ∷ []) → Advances m (record m { core = b; seats = t; report = r })
 goes_opened m b t r slot who id free to makes adds = goes_quiet m b t r (opens slot who id) (runs_one m.core b (event.Open who) (answer.Opened id) makes) (steps_one (answer.Opened id)) (free, to) adds
 
-pub goes_lost : (m : ServerState) (b : Running) (t : List Seat) (q r : Report) (slot : ℕ) (who : Identity) → IsFree slot m.seats → t ≡ m.seats → Keeps m.core b → Adds m.report q (entry.Opened slot who ∷ [])
+pub goes_lost : (m : ServerState) (b : Running) (t : List ClientState) (q r : Report) (slot : ℕ) (who : Identity) → IsFree slot m.seats → t ≡ m.seats → Keeps m.core b → Adds m.report q (entry.Opened slot who ∷ [])
     → Adds q r (entry.Ended slot ∷ []) → Advances m (record m { core = b; seats = t; report = r })
 unfolding steps_in
-goes_lost m b t q r slot who free to keeps first second = goes_quiet m b t r (loses slot who) (runs_kept m.core b keeps) refl (free, to) (adds_on m.report q r (entry.Opened slot who ∷ []) (entry.Ended slot ∷ []) first second)
+goes_lost m b t q r slot who free to keeps first second = goes_quiet m b t r (drops slot who) (runs_kept m.core b keeps) refl (free, to) (adds_on m.report q r (entry.Opened slot who ∷ []) (entry.Ended slot ∷ []) first second)
 
-pub goes_unopened : (m : ServerState) (b : Running) (t : List Seat) (q r : Report) (slot : ℕ) (who : Identity) (o : OpenError) → IsFree slot m.seats → t ≡ m.seats → Opens m.core b who (Err o)
+pub goes_unopened : (m : ServerState) (b : Running) (t : List ClientState) (q r : Report) (slot : ℕ) (who : Identity) (o : OpenError) → IsFree slot m.seats → t ≡ m.seats → Opens m.core b who (Err o)
     → Adds m.report q (entry.Opened slot who ∷ []) → Adds q r (entry.Ended slot ∷ []) → Advances m (record m { core = b; seats = t; report = r })
 goes_unopened m b t q r slot who refused.TooMany free to made first second =
     goes_quiet m b t r (rejects slot who) (runs_one m.core b (event.Open who) answer.TooMany made) (steps_one answer.TooMany) (free, to) (adds_on m.report q r (entry.Opened slot who ∷ []) (entry.Ended slot ∷ []) first second)
 goes_unopened m b t q r slot who refused.Memory free to out first second = goes_lost m b t q r slot who free to (λ n y. (out n y).0) first second
 
 -- a piece of a client was fed
-goes_fed : (m : ServerState) (b : Running) (t : List Seat) (r : Report) (front back : List Seat) (x : Seat) (piece : List ℕ) → m.seats ≡ front ++ x ∷ back → t ≡ front ++ x ∷ back → Makes m.core b (event.Feed x.conn piece) answer.Done
+goes_fed : (m : ServerState) (b : Running) (t : List ClientState) (r : Report) (front back : List ClientState) (x : ClientState) (piece : List ℕ) → m.seats ≡ front ++ x ∷ back → t ≡ front ++ x ∷ back → Makes m.core b (event.Feed x.conn piece) answer.Done
     → Adds m.report r (entry.Gave x.slot piece ∷ []) → Advances m (record m { core = b; seats = t; report = r })
 goes_fed m b t r front back x piece is to makes adds =
     let made = record { event = event.Feed x.conn piece; answer = answer.Done } ∷ [] in
     goes_quiet m b t r (serves x x (entry.Gave x.slot piece ∷ []) made) (runs_one m.core b (event.Feed x.conn piece) answer.Done makes) (steps_one answer.Done) (front, back, is, to, deals_fed x piece) adds
 
 -- the end of a client's bytes was read
-goes_end : (m : ServerState) (t : List Seat) (r : Report) (front back : List Seat) (x : Seat) → m.seats ≡ front ++ x ∷ back → t ≡ front ++ x ∷ back → Adds m.report r (entry.Gave x.slot [] ∷ []) → Advances m (record m { seats = t; report = r })
+goes_end : (m : ServerState) (t : List ClientState) (r : Report) (front back : List ClientState) (x : ClientState) → m.seats ≡ front ++ x ∷ back → t ≡ front ++ x ∷ back → Adds m.report r (entry.Gave x.slot [] ∷ []) → Advances m (record m { seats = t; report = r })
 unfolding steps_in
 goes_end m t r front back x is to adds = goes_quiet m m.core t r (serves x x (entry.Gave x.slot [] ∷ []) []) (runs_nothing m.core) refl (front, back, is, to, deals_end x) adds
 
 -- a client's connection was closed, and its slot ended or to be opened again
-goes_forgotten : (m : ServerState) (b : Running) (t front back : List Seat) (x : Seat) → m.seats ≡ front ++ x ∷ back → t ≡ front ++ back → Makes m.core b (event.Close x.conn) answer.Done → Advances m (record m { core = b; seats = t })
+goes_forgotten : (m : ServerState) (b : Running) (t front back : List ClientState) (x : ClientState) → m.seats ≡ front ++ x ∷ back → t ≡ front ++ back → Makes m.core b (event.Close x.conn) answer.Done → Advances m (record m { core = b; seats = t })
 goes_forgotten m b t front back x is to makes =
     let made = record { event = event.Close x.conn; answer = answer.Done } ∷ [] in
     goes_quiet m b t m.report (ends x [] made) (runs_one m.core b (event.Close x.conn) answer.Done makes) (steps_one answer.Done) (front, back, is, to, leaves_forgotten x) (adds_nothing m.report)
 
-goes_ended : (m : ServerState) (b : Running) (t : List Seat) (r : Report) (front back : List Seat) (x : Seat) → m.seats ≡ front ++ x ∷ back → t ≡ front ++ back → Makes m.core b (event.Close x.conn) answer.Done
+goes_ended : (m : ServerState) (b : Running) (t : List ClientState) (r : Report) (front back : List ClientState) (x : ClientState) → m.seats ≡ front ++ x ∷ back → t ≡ front ++ back → Makes m.core b (event.Close x.conn) answer.Done
     → Adds m.report r (entry.Ended x.slot ∷ []) → Advances m (record m { core = b; seats = t; report = r })
 goes_ended m b t r front back x is to makes adds =
     let made = record { event = event.Close x.conn; answer = answer.Done } ∷ [] in
     goes_quiet m b t r (ends x (entry.Ended x.slot ∷ []) made) (runs_one m.core b (event.Close x.conn) answer.Done makes) (steps_one answer.Done) (front, back, is, to, leaves_ended x) adds
 
 -- a piece of a client was not taken in
-goes_out_with : (m : ServerState) (c : Running) (t : List Seat) (q r : Report) (front back : List Seat) (x : Seat) (piece : List ℕ) (made : List Made) → m.seats ≡ front ++ x ∷ back → t ≡ front ++ back → Runs m.core c made
+goes_out_with : (m : ServerState) (c : Running) (t : List ClientState) (q r : Report) (front back : List ClientState) (x : ClientState) (piece : List ℕ) (made : List Made) → m.seats ≡ front ++ x ∷ back → t ≡ front ++ back → Runs m.core c made
     → steps_in (answers_of made) ≡ [] → Leaves x (entry.Gave x.slot piece ∷ entry.Ended x.slot ∷ []) made → Adds m.report q (entry.Gave x.slot piece ∷ []) → Adds q r (entry.Ended x.slot ∷ [])
     → Advances m (record m { core = c; seats = t; report = r })
 goes_out_with m c t q r front back x piece made is to runs quiet leaves first second =
     goes_quiet m c t r (ends x (entry.Gave x.slot piece ∷ entry.Ended x.slot ∷ []) made) runs quiet (front, back, is, to, leaves) (adds_on m.report q r (entry.Gave x.slot piece ∷ []) (entry.Ended x.slot ∷ []) first second)
 
-goes_refused : (m : ServerState) (b c : Running) (t : List Seat) (q r : Report) (front back : List Seat) (x : Seat) (piece : List ℕ) (e : FeedError) → m.seats ≡ front ++ x ∷ back → t ≡ front ++ back → TakesIn m.core b x.conn piece (Err e)
+goes_refused : (m : ServerState) (b c : Running) (t : List ClientState) (q r : Report) (front back : List ClientState) (x : ClientState) (piece : List ℕ) (e : FeedError) → m.seats ≡ front ++ x ∷ back → t ≡ front ++ back → TakesIn m.core b x.conn piece (Err e)
     → Makes b c (event.Close x.conn) answer.Done → Adds m.report q (entry.Gave x.slot piece ∷ []) → Adds q r (entry.Ended x.slot ∷ []) → Advances m (record m { core = c; seats = t; report = r })
 unfolding steps_in
 goes_refused m b c t q r front back x piece fed.Full is to takes closes first second =
@@ -386,14 +386,14 @@ goes_refused m b c t q r front back x piece fed.Memory is to out closes first se
 -- ---- by the place of a client
 
 -- the client at a place is forgotten
-pub forgets_at : (m : ServerState) (b : Running) (t : List Seat) (cs : List Client) (i : ℕ) (e : Client) → i < length cs → m.seats ≡ seats_of cs → t ≡ seats_of (remove cs i) → Makes m.core b (event.Close (get_or cs i e).id) answer.Done
+pub forgets_at : (m : ServerState) (b : Running) (t : List ClientState) (cs : List Client) (i : ℕ) (e : Client) → i < length cs → m.seats ≡ seats_of cs → t ≡ seats_of (remove cs i) → Makes m.core b (event.Close (get_or cs i e).id) answer.Done
     → Advances m (record m { core = b; seats = t })
 forgets_at m b t cs i e below is to makes =
     let k = stands_at cs i e below in
     goes_forgotten m b t k.0 k.2 k.1 (is ∙ k.3.0) (to ∙ at_remove cs i k.0 k.1 k.2 k.3) (subst (λ z. Makes m.core b (event.Close z.conn) answer.Done) (sym k.4) makes)
 
 -- the client at a place left
-pub ends_at : (m : ServerState) (b : Running) (t : List Seat) (r : Report) (i : ℕ) (cs ds : Clients) (e : Client) → Ends i m.core b cs ds m.report r → i < length cs.list.items → m.seats ≡ seats_of cs.list.items → t ≡ seats_of ds.list.items
+pub ends_at : (m : ServerState) (b : Running) (t : List ClientState) (r : Report) (i : ℕ) (cs ds : Clients) (e : Client) → Ends i m.core b cs ds m.report r → i < length cs.list.items → m.seats ≡ seats_of cs.list.items → t ≡ seats_of ds.list.items
     → Advances m (record m { core = b; seats = t; report = r })
 ends_at m b t r i cs ds e left below is to =
     let k = stands_at cs.list.items i e below in
@@ -409,14 +409,14 @@ goes_tended a b d e p q cs i c f below at goes =
     (at_set cs i k.0 k.1 k.2 f k.3) (goes k.0 k.2)
 
 -- the end of the bytes of the client at a place was read
-pub reads_end_at : (m : ServerState) (t : List Seat) (r : Report) (i : ℕ) (cs : List Client) (e : Client) → i < length cs → m.seats ≡ seats_of cs → t ≡ seats_of cs → Adds m.report r (entry.Gave (get_or cs i e).slot [] ∷ [])
+pub reads_end_at : (m : ServerState) (t : List ClientState) (r : Report) (i : ℕ) (cs : List Client) (e : Client) → i < length cs → m.seats ≡ seats_of cs → t ≡ seats_of cs → Adds m.report r (entry.Gave (get_or cs i e).slot [] ∷ [])
     → Advances m (record m { seats = t; report = r })
 reads_end_at m t r i cs e below is to adds =
     let k = stands_at cs i e below in
     goes_end m t r k.0 k.2 k.1 (is ∙ k.3.0) (to ∙ k.3.0) (subst (λ z. Adds m.report r (entry.Gave z.slot [] ∷ [])) (sym k.4) adds)
 
 -- a piece of the client at a place was read, and fed or refused
-pub feeds_at : (m : ServerState) (b : Running) (t : List Seat) (q r : Report) (i : ℕ) (piece : List ℕ) (cs ds : Clients) (e : Client) → FeedsOrEnds i piece m.core b cs ds q r → i < length cs.list.items → m.seats ≡ seats_of cs.list.items
+pub feeds_at : (m : ServerState) (b : Running) (t : List ClientState) (q r : Report) (i : ℕ) (piece : List ℕ) (cs ds : Clients) (e : Client) → FeedsOrEnds i piece m.core b cs ds q r → i < length cs.list.items → m.seats ≡ seats_of cs.list.items
     → t ≡ seats_of ds.list.items → Adds m.report q (entry.Gave (get_or cs.list.items i e).slot piece ∷ []) → Advances m (record m { core = b; seats = t; report = r })
 feeds_at m b t q r i piece cs ds e (inl took) below is to adds =
     let k = stands_at cs.list.items i e below in
@@ -435,7 +435,7 @@ others_fed slot i piece a b cs ds q r e (inl took) below on = ap (λ xs. others 
 others_fed slot i piece a b cs ds q r e (inr out) below on = others_ended slot i cs.list.items ds.list.items e below on out.ends.list
 
 -- the client at a place accepted bytes
-pub goes_written : (m : ServerState) (t : List Seat) (r : Report) (cs : List Client) (i : ℕ) (d f : Client) → i < length cs → d ≡ get_or cs i d → m.seats ≡ seats_of cs → t ≡ seats_of (set cs i f) → Writes d f m.report r
+pub goes_written : (m : ServerState) (t : List ClientState) (r : Report) (cs : List Client) (i : ℕ) (d f : Client) → i < length cs → d ≡ get_or cs i d → m.seats ≡ seats_of cs → t ≡ seats_of (set cs i f) → Writes d f m.report r
     → Advances m (record m { seats = t; report = r })
 goes_written m t r cs i d f below at is to writes =
     let k = stands_at cs i d below in
@@ -443,7 +443,7 @@ goes_written m t r cs i d f below at is to writes =
     (writes m.core m.desk m.kept k.0 k.2)
 
 -- the client at a place accepted bytes, and was served and shown events
-pub goes_visited : (m : ServerState) (b : Running) (e : Board) (q : Option (List PolicyChange)) (t : List Seat) (r : Report) (cs : List Client) (i : ℕ) (d f g : Client) → i < length cs → d ≡ get_or cs i d → m.seats ≡ seats_of cs
+pub goes_visited : (m : ServerState) (b : Running) (e : Board) (q : Option (List PolicyChange)) (t : List ClientState) (r : Report) (cs : List Client) (i : ℕ) (d f g : Client) → i < length cs → d ≡ get_or cs i d → m.seats ≡ seats_of cs
     → t ≡ seats_of (set cs i g) → Writes d f m.report r → AdvancesFor (λ s. moment m.core m.desk m.kept s unasked) (λ s. moment b e q s unasked) f g → Advances m (record m { core = b; desk = e; kept = q; seats = t; report = r })
 goes_visited m b e q t r cs i d f g below at is to writes goes =
     let k = stands_at cs i d below in
@@ -455,7 +455,7 @@ goes_visited m b e q t r cs i d f g below at is to writes goes =
 
 -- where nothing was unpublished before, the published steps are all but at most the last; a server that began with no
 -- client accounts for all bytes
-pub goes_serves : (a b : Running) (d e : Board) (q : Option (List PolicyChange)) (t : List Seat) (r z : Report) → d.waiting ≡ [] → Advances (moment a d None [] r) (moment b e q t z) → Serves a b d e r z
+pub goes_serves : (a b : Running) (d e : Board) (q : Option (List PolicyChange)) (t : List ClientState) (r z : Report) → d.waiting ≡ [] → Advances (moment a d None [] r) (moment b e q t z) → Serves a b d e r z
 goes_serves a b d e q t r z none s = record {
   made = made_in s.acts;
   runs = s.runs;

@@ -8,39 +8,39 @@ use Rattle.std.proofs.lemmas.Iterator.Adapters.{position_from-zero}
 use Rattle.std.proofs.lemmas.List.{get_or_default}
 use Rattle.std.proofs.lemmas.List.Quantifiers.{position-Some}
 use Rattle.kapi_serve.specs.declared.client.Client.{Client}
-use Rattle.kapi_serve.specs.Acts.{IsFree, Seat}
+use Rattle.kapi_serve.specs.Acts.{IsFree, ClientState}
 use Rattle.kapi_serve.specs.Private.Clients.{freed, freed_on, others, seat_of, seats_of}
 
 -- so many clients come before one
-abbrev pub IsAt : ℕ → List Seat → List Seat → Seat → List Seat → Type 0
+abbrev pub IsAt : ℕ → List ClientState → List ClientState → ClientState → List ClientState → Type 0
 IsAt index seats front x back = (seats ≡ front ++ x ∷ back) × (length front ≡ index)
 
 -- the first client, or the given one if there is none
-abbrev head_of : Seat → List Seat → Seat
+abbrev head_of : ClientState → List ClientState → ClientState
 head_of x [] = x
 head_of x (y ∷ ys) = y
 
 -- the clients behind the first
-abbrev tail_of : List Seat → List Seat
+abbrev tail_of : List ClientState → List ClientState
 tail_of [] = []
 tail_of (x ∷ xs) = xs
 
 -- the clients without one of them
-pub is_at_remove : (cs : List Client) (front : List Seat) (x : Seat) (back : List Seat) → seats_of cs ≡ front ++ x ∷ back → seats_of (remove cs (length front)) ≡ front ++ back
+pub is_at_remove : (cs : List Client) (front : List ClientState) (x : ClientState) (back : List ClientState) → seats_of cs ≡ front ++ x ∷ back → seats_of (remove cs (length front)) ≡ front ++ back
 is_at_remove [] [] x back is = absurd (cc)
 is_at_remove [] (f ∷ fs) x back is = absurd (cc)
 is_at_remove (c ∷ cs) [] x back is = ap tail_of is
 is_at_remove (c ∷ cs) (f ∷ fs) x back is = (λ j. head_of f (is j) ∷ is_at_remove cs fs x back (ap tail_of is) j)
 
 -- the clients with another in the place of one
-pub is_at_set : (cs : List Client) (front : List Seat) (x : Seat) (back : List Seat) (c : Client) → seats_of cs ≡ front ++ x ∷ back → seats_of (set cs (length front) c) ≡ front ++ seat_of c ∷ back
+pub is_at_set : (cs : List Client) (front : List ClientState) (x : ClientState) (back : List ClientState) (c : Client) → seats_of cs ≡ front ++ x ∷ back → seats_of (set cs (length front) c) ≡ front ++ seat_of c ∷ back
 is_at_set [] [] x back c is = absurd (cc)
 is_at_set [] (f ∷ fs) x back c is = absurd (cc)
 is_at_set (y ∷ cs) [] x back c is = ap (λ xs. seat_of c ∷ tail_of xs) is
 is_at_set (y ∷ cs) (f ∷ fs) x back c is = (λ j. head_of f (is j) ∷ is_at_set cs fs x back c (ap tail_of is) j)
 
 -- each client has a place
-pub stands_at : (cs : List Client) (i : ℕ) (d : Client) → i < length cs → (front : List Seat) × (x : Seat) × (back : List Seat) × IsAt i (seats_of cs) front x back × (x ≡ seat_of (get_or cs i d))
+pub stands_at : (cs : List Client) (i : ℕ) (d : Client) → i < length cs → (front : List ClientState) × (x : ClientState) × (back : List ClientState) × IsAt i (seats_of cs) front x back × (x ≡ seat_of (get_or cs i d))
 stands_at [] i d below = absurd (omega (arith, below))
 stands_at (c ∷ cs) zero d below = ([], seat_of c, seats_of cs, (refl, refl), refl)
 stands_at (c ∷ cs) (suc i) d below =
@@ -56,10 +56,10 @@ none_on (c ∷ cs) slot i none = elim (c.slot == slot) as (λ b. (c.slot == slot
 
 -- ---- by the number of those in front
 
-pub at_remove : (cs : List Client) (i : ℕ) (front : List Seat) (x : Seat) (back : List Seat) → IsAt i (seats_of cs) front x back → seats_of (remove cs i) ≡ front ++ back
+pub at_remove : (cs : List Client) (i : ℕ) (front : List ClientState) (x : ClientState) (back : List ClientState) → IsAt i (seats_of cs) front x back → seats_of (remove cs i) ≡ front ++ back
 at_remove cs i front x back at = subst (λ n. seats_of (remove cs n) ≡ front ++ back) at.1 (is_at_remove cs front x back at.0)
 
-pub at_set : (cs : List Client) (i : ℕ) (front : List Seat) (x : Seat) (back : List Seat) (c : Client) → IsAt i (seats_of cs) front x back → seats_of (set cs i c) ≡ front ++ seat_of c ∷ back
+pub at_set : (cs : List Client) (i : ℕ) (front : List ClientState) (x : ClientState) (back : List ClientState) (c : Client) → IsAt i (seats_of cs) front x back → seats_of (set cs i c) ≡ front ++ seat_of c ∷ back
 at_set cs i front x back c at = subst (λ n. seats_of (set cs n c) ≡ front ++ seat_of c ∷ back) at.1 (is_at_set cs front x back c at.0)
 
 -- a client in whose place another of the same seat is put
@@ -75,7 +75,7 @@ pub free_of : (cs : List Client) (slot : ℕ) (r : Option ℕ) → r ≡ positio
 free_of cs slot r is none = none_on cs slot 0 (sym (position_from-zero (λ c. c.slot == slot) cs) ∙ sym is ∙ none)
 
 -- without one of a slot, the others are the same
-pub others_left : (slot : ℕ) (front : List Seat) (x : Seat) (back : List Seat) → x.slot ≡ slot → others slot (front ++ back) ≡ others slot (front ++ x ∷ back)
+pub others_left : (slot : ℕ) (front : List ClientState) (x : ClientState) (back : List ClientState) → x.slot ≡ slot → others slot (front ++ back) ≡ others slot (front ++ x ∷ back)
 others_left slot [] x back is = ap (λ b. cond (not b) (x ∷ others slot back) (others slot back)) (sym (eq-eqb x.slot slot is))
 others_left slot (f ∷ front) x back is = ap (λ xs. cond (not (f.slot == slot)) (f ∷ xs) xs) (others_left slot front x back is)
 

@@ -7,7 +7,7 @@ use Rattle.kapi_core.specs.declared.event.ConnId.{ConnId}
 use Rattle.kapi_core.specs.declared.event.Event.TheVariants as event
 use Rattle.kapi_core.specs.declared.event.Output.{Output}
 use Rattle.kapi_serve.specs.Account.{accepted_by, answered_to, closes, fed_to, read_from}
-use Rattle.kapi_serve.specs.Acts.{AreTo, Exchange, Leaves, Seat, StayOn}
+use Rattle.kapi_serve.specs.Acts.{AreTo, Exchange, Leaves, ClientState, StayOn}
 use Rattle.kapi_serve.specs.declared.port.Entry.TheVariants as entry
 
 -- a number is itself
@@ -21,7 +21,7 @@ chosen n xs ys = ap (λ b. if b then xs else ys) (same n)
 -- ---- what is done
 
 -- a client accepted bytes
-pub deals_took : (x y : Seat) (bytes : List ℕ) → y.slot ≡ x.slot → y.conn ≡ x.conn → x.owed ≡ bytes ++ y.owed → Exchange x y (entry.Took x.slot bytes ∷ []) []
+pub deals_took : (x y : ClientState) (bytes : List ℕ) → y.slot ≡ x.slot → y.conn ≡ x.conn → x.owed ≡ bytes ++ y.owed → Exchange x y (entry.Took x.slot bytes ∷ []) []
 unfolding read_from accepted_by fed_to answered_to StayOn AreTo
 deals_took x y bytes slot conn owed = record {
   slot = slot;
@@ -33,7 +33,7 @@ deals_took x y bytes slot conn owed = record {
 }
 
 -- a piece was read and fed
-pub deals_fed : (x : Seat) (piece : List ℕ) → Exchange x x (entry.Gave x.slot piece ∷ []) (record { event = event.Feed x.conn piece; answer = answer.Done } ∷ [])
+pub deals_fed : (x : ClientState) (piece : List ℕ) → Exchange x x (entry.Gave x.slot piece ∷ []) (record { event = event.Feed x.conn piece; answer = answer.Done } ∷ [])
 unfolding read_from accepted_by fed_to answered_to StayOn AreTo
 deals_fed x piece = record {
   slot = refl;
@@ -45,7 +45,7 @@ deals_fed x piece = record {
 }
 
 -- the end of a client's bytes was read
-pub deals_end : (x : Seat) → Exchange x x (entry.Gave x.slot [] ∷ []) []
+pub deals_end : (x : ClientState) → Exchange x x (entry.Gave x.slot [] ∷ []) []
 unfolding read_from accepted_by fed_to answered_to StayOn AreTo
 deals_end x = record {
   slot = refl;
@@ -57,7 +57,7 @@ deals_end x = record {
 }
 
 -- a client is answered
-pub deals_served : (x y : Seat) (output : Output) → y.slot ≡ x.slot → y.conn ≡ x.conn → y.owed ≡ x.owed ++ output.bytes
+pub deals_served : (x y : ClientState) (output : Output) → y.slot ≡ x.slot → y.conn ≡ x.conn → y.owed ≡ x.owed ++ output.bytes
     → Exchange x y [] (record { event = event.Serve x.conn; answer = answer.Sent output } ∷ [])
 unfolding read_from accepted_by fed_to answered_to StayOn AreTo
 deals_served x y output slot conn owed = record {
@@ -70,7 +70,7 @@ deals_served x y output slot conn owed = record {
 }
 
 -- a client is shown an event
-pub deals_shown : (x y : Seat) (output : Output) → y.slot ≡ x.slot → y.conn ≡ x.conn → y.owed ≡ x.owed ++ output.bytes
+pub deals_shown : (x y : ClientState) (output : Output) → y.slot ≡ x.slot → y.conn ≡ x.conn → y.owed ≡ x.owed ++ output.bytes
     → Exchange x y [] (record { event = event.Pump x.conn; answer = answer.Sent output } ∷ [])
 unfolding read_from accepted_by fed_to answered_to StayOn AreTo
 deals_shown x y output slot conn owed = record {
@@ -83,17 +83,17 @@ deals_shown x y output slot conn owed = record {
 }
 
 -- there is no request of the client
-pub deals_unserved : (x : Seat) → Exchange x x [] (record { event = event.Serve x.conn; answer = answer.Nothing } ∷ [])
+pub deals_unserved : (x : ClientState) → Exchange x x [] (record { event = event.Serve x.conn; answer = answer.Nothing } ∷ [])
 unfolding read_from accepted_by fed_to answered_to StayOn AreTo
 deals_unserved x = record { slot = refl; conn = refl; on = tt; to = (refl, tt); read = refl; owed = append-nil x.owed }
 
 -- there is no event for the client
-pub deals_unshown : (x : Seat) → Exchange x x [] (record { event = event.Pump x.conn; answer = answer.Nothing } ∷ [])
+pub deals_unshown : (x : ClientState) → Exchange x x [] (record { event = event.Pump x.conn; answer = answer.Nothing } ∷ [])
 unfolding read_from accepted_by fed_to answered_to StayOn AreTo
 deals_unshown x = record { slot = refl; conn = refl; on = tt; to = (refl, tt); read = refl; owed = append-nil x.owed }
 
 -- a client's connection is closed, and what is pending is sent
-pub deals_closed : (x y : Seat) → y ≡ x → Exchange x y [] (record { event = event.Close x.conn; answer = answer.Done } ∷ [])
+pub deals_closed : (x y : ClientState) → y ≡ x → Exchange x y [] (record { event = event.Close x.conn; answer = answer.Done } ∷ [])
 unfolding read_from accepted_by fed_to answered_to StayOn AreTo
 deals_closed x y is = record {
   slot = ap (λ z. z.slot) is;
@@ -112,7 +112,7 @@ unfolding closes
 closed_one conn = ap (λ b. b || false) (same conn.0)
 
 -- a client's slot is ended
-pub leaves_ended : (x : Seat) → Leaves x (entry.Ended x.slot ∷ []) (record { event = event.Close x.conn; answer = answer.Done } ∷ [])
+pub leaves_ended : (x : ClientState) → Leaves x (entry.Ended x.slot ∷ []) (record { event = event.Close x.conn; answer = answer.Done } ∷ [])
 unfolding read_from accepted_by fed_to answered_to StayOn AreTo
 leaves_ended x = record {
   before = [];
@@ -129,7 +129,7 @@ leaves_ended x = record {
 }
 
 -- a client's slot is opened again
-pub leaves_forgotten : (x : Seat) → Leaves x [] (record { event = event.Close x.conn; answer = answer.Done } ∷ [])
+pub leaves_forgotten : (x : ClientState) → Leaves x [] (record { event = event.Close x.conn; answer = answer.Done } ∷ [])
 unfolding read_from accepted_by fed_to answered_to StayOn AreTo
 leaves_forgotten x = record {
   before = [];
@@ -146,7 +146,7 @@ leaves_forgotten x = record {
 }
 
 -- a piece of a client is not taken in, since an allocation fails
-pub leaves_starved : (x : Seat) (piece : List ℕ) → Leaves x (entry.Gave x.slot piece ∷ entry.Ended x.slot ∷ []) (record { event = event.Close x.conn; answer = answer.Done } ∷ [])
+pub leaves_starved : (x : ClientState) (piece : List ℕ) → Leaves x (entry.Gave x.slot piece ∷ entry.Ended x.slot ∷ []) (record { event = event.Close x.conn; answer = answer.Done } ∷ [])
 unfolding read_from accepted_by fed_to answered_to StayOn AreTo
 leaves_starved x piece = record {
   before = entry.Gave x.slot piece ∷ [];
@@ -163,7 +163,7 @@ leaves_starved x piece = record {
 }
 
 -- a piece of a client is too long for its connection
-pub leaves_full : (x : Seat) (piece : List ℕ)
+pub leaves_full : (x : ClientState) (piece : List ℕ)
     → Leaves x (entry.Gave x.slot piece ∷ entry.Ended x.slot ∷ []) (record { event = event.Feed x.conn piece; answer = answer.Full } ∷ record { event = event.Close x.conn; answer = answer.Done } ∷ [])
 unfolding read_from accepted_by fed_to answered_to closes StayOn AreTo
 leaves_full x piece = record {
@@ -181,7 +181,7 @@ leaves_full x piece = record {
 }
 
 -- a client's connection has ended before a piece
-pub leaves_late : (x : Seat) (piece : List ℕ)
+pub leaves_late : (x : ClientState) (piece : List ℕ)
     → Leaves x (entry.Gave x.slot piece ∷ entry.Ended x.slot ∷ []) (record { event = event.Feed x.conn piece; answer = answer.Ended } ∷ record { event = event.Close x.conn; answer = answer.Done } ∷ [])
 unfolding read_from accepted_by fed_to answered_to closes StayOn AreTo
 leaves_late x piece = record {

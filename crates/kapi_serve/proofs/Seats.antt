@@ -1,7 +1,7 @@
 -- The slots and connections that there are.
 use Rattle.std.proofs.Common.{◌≡◌, ℕ, ◌+◌, ◌<◌, ◌≤◌, ◌==◌, false, List, [], ◌∷◌, ◌++◌, refl, sym, ap, ◌∙◌, subst, arith}
 use Rattle.std.proofs.lemmas.Bool.{ne_eqb}
-use Rattle.kapi_serve.specs.Acts.{IsFree, Seat}
+use Rattle.kapi_serve.specs.Acts.{IsFree, ClientState}
 use Rattle.kapi_serve.proofs.Flows.{differs_back}
 
 -- ---- lists of numbers
@@ -97,49 +97,49 @@ new_above n (k ∷ ks) h = (less_differs k n h.0, new_above n ks h.1)
 -- ---- seats
 
 -- the slots of clients
-unfoldable pub slots : List Seat → List ℕ
+unfoldable pub slots : List ClientState → List ℕ
 slots [] = []
 slots (x ∷ xs) = x.slot ∷ slots xs
 
 -- the numbers of the clients' connections
-unfoldable pub ids : List Seat → List ℕ
+unfoldable pub ids : List ClientState → List ℕ
 ids [] = []
 ids (x ∷ xs) = x.conn.0 ∷ ids xs
 
 -- the slots of lists that are joined
-pub slots_more : (s t : List Seat) → slots (s ++ t) ≡ slots s ++ slots t
+pub slots_more : (s t : List ClientState) → slots (s ++ t) ≡ slots s ++ slots t
 unfolding slots
 slots_more [] t = refl
 slots_more (x ∷ s) t = ap (λ r. x.slot ∷ r) (slots_more s t)
 
-pub ids_more : (s t : List Seat) → ids (s ++ t) ≡ ids s ++ ids t
+pub ids_more : (s t : List ClientState) → ids (s ++ t) ≡ ids s ++ ids t
 unfolding ids
 ids_more [] t = refl
 ids_more (x ∷ s) t = ap (λ r. x.conn.0 ∷ r) (ids_more s t)
 
-pub slots_with : (x : Seat) (f b : List Seat) → slots (f ++ x ∷ b) ≡ slots f ++ x.slot ∷ slots b
+pub slots_with : (x : ClientState) (f b : List ClientState) → slots (f ++ x ∷ b) ≡ slots f ++ x.slot ∷ slots b
 unfolding slots
 slots_with x f b = slots_more f (x ∷ b)
 
-pub ids_with : (x : Seat) (f b : List Seat) → ids (f ++ x ∷ b) ≡ ids f ++ x.conn.0 ∷ ids b
+pub ids_with : (x : ClientState) (f b : List ClientState) → ids (f ++ x ∷ b) ≡ ids f ++ x.conn.0 ∷ ids b
 unfolding ids
 ids_with x f b = ids_more f (x ∷ b)
 
 -- a seat changes what it owes alone
-pub slots_same : (x y : Seat) (f b : List Seat) → y.slot ≡ x.slot → slots (f ++ x ∷ b) ≡ slots (f ++ y ∷ b)
+pub slots_same : (x y : ClientState) (f b : List ClientState) → y.slot ≡ x.slot → slots (f ++ x ∷ b) ≡ slots (f ++ y ∷ b)
 slots_same x y f b e = slots_with x f b ∙ ap (λ k. slots f ++ k ∷ slots b) (sym e) ∙ sym (slots_with y f b)
 
-pub ids_same : (x y : Seat) (f b : List Seat) → y.conn ≡ x.conn → ids (f ++ x ∷ b) ≡ ids (f ++ y ∷ b)
+pub ids_same : (x y : ClientState) (f b : List ClientState) → y.conn ≡ x.conn → ids (f ++ x ∷ b) ≡ ids (f ++ y ∷ b)
 ids_same x y f b e = ids_with x f b ∙ ap (λ c. ids f ++ c.0 ∷ ids b) (sym e) ∙ sym (ids_with y f b)
 
 -- no client is on a slot that is free
-pub new_if_free : (k : ℕ) (s : List Seat) → IsFree k s → IsNew k (slots s)
+pub new_if_free : (k : ℕ) (s : List ClientState) → IsFree k s → IsNew k (slots s)
 unfolding IsFree IsNew slots
 new_if_free k [] h = tt
 new_if_free k (x ∷ s) h = (h.0, new_if_free k s h.1)
 
 -- the slots differ, and so do the connections, whose numbers were given
-pub record Sits (n : ℕ) (s : List Seat) : Type 0 where
+pub record Sits (n : ℕ) (s : List ClientState) : Type 0 where
   pub slots_apart : AreApart (slots s)
   pub ids_apart : AreApart (ids s)
   pub ids_below : AreBelow n (ids s)
@@ -150,11 +150,11 @@ unfolding slots ids AreApart AreBelow
 nobody_sits n = record { slots_apart = tt; ids_apart = tt; ids_below = tt }
 
 -- numbers are given
-pub sits_up : (n p : ℕ) (s : List Seat) → n ≤ p → Sits n s → Sits p s
+pub sits_up : (n p : ℕ) (s : List ClientState) → n ≤ p → Sits n s → Sits p s
 sits_up n p s up h = record { slots_apart = h.slots_apart; ids_apart = h.ids_apart; ids_below = below_up n p (ids s) up h.ids_below }
 
 -- something is done for a client
-pub sits_served : (n : ℕ) (x y : Seat) (f b : List Seat) → y.slot ≡ x.slot → y.conn ≡ x.conn → Sits n (f ++ x ∷ b) → Sits n (f ++ y ∷ b)
+pub sits_served : (n : ℕ) (x y : ClientState) (f b : List ClientState) → y.slot ≡ x.slot → y.conn ≡ x.conn → Sits n (f ++ x ∷ b) → Sits n (f ++ y ∷ b)
 sits_served n x y f b slot conn h = record {
   slots_apart = subst (λ ks. AreApart ks) (slots_same x y f b slot) h.slots_apart;
   ids_apart = subst (λ ks. AreApart ks) (ids_same x y f b conn) h.ids_apart;
@@ -162,7 +162,7 @@ sits_served n x y f b slot conn h = record {
 }
 
 -- a client leaves
-pub sits_left : (n : ℕ) (x : Seat) (f b : List Seat) → Sits n (f ++ x ∷ b) → Sits n (f ++ b)
+pub sits_left : (n : ℕ) (x : ClientState) (f b : List ClientState) → Sits n (f ++ x ∷ b) → Sits n (f ++ b)
 sits_left n x f b h = record {
   slots_apart = subst (λ ks. AreApart ks) (sym (slots_more f b)) (apart_without x.slot (slots f) (slots b) (subst (λ ks. AreApart ks) (slots_with x f b) h.slots_apart));
   ids_apart = subst (λ ks. AreApart ks) (sym (ids_more f b)) (apart_without x.conn.0 (ids f) (ids b) (subst (λ ks. AreApart ks) (ids_with x f b) h.ids_apart));
@@ -170,11 +170,11 @@ sits_left n x f b h = record {
 }
 
 -- the next number is no client's
-pub next_is_new : (n : ℕ) (s : List Seat) → Sits n s → IsNew n (ids s)
+pub next_is_new : (n : ℕ) (s : List ClientState) → Sits n s → IsNew n (ids s)
 next_is_new n s h = new_above n (ids s) h.ids_below
 
 -- a client comes, with the next number
-pub sits_more : (n : ℕ) (x : Seat) (s : List Seat) → IsFree x.slot s → x.conn.0 ≡ n → Sits n s → Sits (n + 1) (s ++ x ∷ [])
+pub sits_more : (n : ℕ) (x : ClientState) (s : List ClientState) → IsFree x.slot s → x.conn.0 ≡ n → Sits n s → Sits (n + 1) (s ++ x ∷ [])
 unfolding slots ids
 sits_more n x s free next h =
     let new : IsNew x.conn.0 (ids s) = subst (λ k. IsNew k (ids s)) (sym next) (next_is_new n s h) in
@@ -187,12 +187,12 @@ sits_more n x s free next h =
     }
 
 -- the others have other slots and connections
-pub slot_is_new : (n : ℕ) (x : Seat) (f b : List Seat) → Sits n (f ++ x ∷ b) → IsNew x.slot (slots f ++ slots b)
+pub slot_is_new : (n : ℕ) (x : ClientState) (f b : List ClientState) → Sits n (f ++ x ∷ b) → IsNew x.slot (slots f ++ slots b)
 slot_is_new n x f b h = apart_at x.slot (slots f) (slots b) (subst (λ ks. AreApart ks) (slots_with x f b) h.slots_apart)
 
-pub id_is_new : (n : ℕ) (x : Seat) (f b : List Seat) → Sits n (f ++ x ∷ b) → IsNew x.conn.0 (ids f ++ ids b)
+pub id_is_new : (n : ℕ) (x : ClientState) (f b : List ClientState) → Sits n (f ++ x ∷ b) → IsNew x.conn.0 (ids f ++ ids b)
 id_is_new n x f b h = apart_at x.conn.0 (ids f) (ids b) (subst (λ ks. AreApart ks) (ids_with x f b) h.ids_apart)
 
 -- each of the other connections has a number that was given
-pub id_is_below : (n : ℕ) (x : Seat) (f b : List Seat) → Sits n (f ++ x ∷ b) → x.conn.0 < n
+pub id_is_below : (n : ℕ) (x : ClientState) (f b : List ClientState) → Sits n (f ++ x ∷ b) → x.conn.0 < n
 id_is_below n x f b h = below_at n x.conn.0 (ids f) (ids b) (subst (λ ks. AreBelow n ks) (ids_with x f b) h.ids_below)

@@ -11,13 +11,13 @@ use Rattle.kapi_serve.specs.declared.port.Entry.TheVariants as entry
 use Rattle.kapi_serve.specs.Account.{Made, accepted_by, answered_to, closes, fed_to, read_from}
 
 -- a client: its slot, its connection, and the bytes that it was answered and has not accepted
-pub record Seat : Type 0 where
+pub record ClientState : Type 0 where
   pub slot : ℕ
   pub conn : ConnId
   pub owed : List ℕ
 
 -- no client is on the slot
-unfoldable pub IsFree : ℕ → List Seat → Type 0
+unfoldable pub IsFree : ℕ → List ClientState → Type 0
 IsFree slot [] = Unit {0}
 IsFree slot (x ∷ xs) = ((x.slot == slot) ≡ false) × IsFree slot xs
 
@@ -44,7 +44,7 @@ AreTo conn [] = Unit {0}
 AreTo conn (m ∷ rest) = IsTo conn m.event × AreTo conn rest
 
 -- what was read from a client was fed to its connection, and what it accepted was owed to it first
-pub record Exchange (x y : Seat) (entries : List Entry) (made : List Made) : Type 0 where
+pub record Exchange (x y : ClientState) (entries : List Entry) (made : List Made) : Type 0 where
   pub slot : y.slot ≡ x.slot
   pub conn : y.conn ≡ x.conn
   pub on : StayOn x.slot entries
@@ -58,7 +58,7 @@ end_of slot true = entry.Ended slot ∷ []
 end_of slot false = []
 
 -- a client's connection was closed; if a piece was not taken in, it is the last that was read, and the slot was ended
-pub record Leaves (x : Seat) (entries : List Entry) (made : List Made) : Type 0 where
+pub record Leaves (x : ClientState) (entries : List Entry) (made : List Made) : Type 0 where
   pub before : List Entry
   pub is_ended : Bool
   pub entries_are : entries ≡ before ++ end_of x.slot is_ended
@@ -78,11 +78,11 @@ pub data Act : Type 0 where
   -- a client is rejected, as there are too many connections
   rejects : ℕ → Identity → Act
   -- a client is dropped, as no memory can be allocated for it
-  loses : ℕ → Identity → Act
+  drops : ℕ → Identity → Act
   -- something is done for a client
-  serves : Seat → Seat → List Entry → List Made → Act
+  serves : ClientState → ClientState → List Entry → List Made → Act
   -- a client leaves
-  ends : Seat → List Entry → List Made → Act
+  ends : ClientState → List Entry → List Made → Act
   -- the controller may write
   turns : Answer → Act
 
@@ -90,7 +90,7 @@ pub data Act : Type 0 where
 abbrev pub entries_of : Act → List Entry
 entries_of (opens slot who conn) = entry.Opened slot who ∷ []
 entries_of (rejects slot who) = entry.Opened slot who ∷ entry.Ended slot ∷ []
-entries_of (loses slot who) = entry.Opened slot who ∷ entry.Ended slot ∷ []
+entries_of (drops slot who) = entry.Opened slot who ∷ entry.Ended slot ∷ []
 entries_of (serves x y entries made) = entries
 entries_of (ends x entries made) = entries
 entries_of (turns answer) = []
@@ -99,18 +99,18 @@ entries_of (turns answer) = []
 abbrev pub made_of : Act → List Made
 made_of (opens slot who conn) = record { event = event.Open who; answer = answer.Opened conn } ∷ []
 made_of (rejects slot who) = record { event = event.Open who; answer = answer.TooMany } ∷ []
-made_of (loses slot who) = []
+made_of (drops slot who) = []
 made_of (serves x y entries made) = made
 made_of (ends x entries made) = made
 made_of (turns a) = record { event = event.Turn; answer = a } ∷ []
 
 -- the clients after an act
-abbrev pub Applies : List Seat → Act → List Seat → Type 0
+abbrev pub Applies : List ClientState → Act → List ClientState → Type 0
 Applies s (opens slot who conn) t = IsFree slot s × (t ≡ s ++ record { slot = slot; conn = conn; owed = [] } ∷ [])
 Applies s (rejects slot who) t = IsFree slot s × (t ≡ s)
-Applies s (loses slot who) t = IsFree slot s × (t ≡ s)
-Applies s (serves x y entries made) t = (front : List Seat) × (back : List Seat) × (s ≡ front ++ x ∷ back) × (t ≡ front ++ y ∷ back) × Exchange x y entries made
-Applies s (ends x entries made) t = (front : List Seat) × (back : List Seat) × (s ≡ front ++ x ∷ back) × (t ≡ front ++ back) × Leaves x entries made
+Applies s (drops slot who) t = IsFree slot s × (t ≡ s)
+Applies s (serves x y entries made) t = (front : List ClientState) × (back : List ClientState) × (s ≡ front ++ x ∷ back) × (t ≡ front ++ y ∷ back) × Exchange x y entries made
+Applies s (ends x entries made) t = (front : List ClientState) × (back : List ClientState) × (s ≡ front ++ x ∷ back) × (t ≡ front ++ back) × Leaves x entries made
 Applies s (turns answer) t = t ≡ s
 
 -- the history that acts add
@@ -124,9 +124,9 @@ made_in [] = []
 made_in (a ∷ rest) = made_of a ++ made_in rest
 
 -- the clients after some acts
-unfoldable pub Follows : List Seat → List Act → List Seat → Type 0
+unfoldable pub Follows : List ClientState → List Act → List ClientState → Type 0
 Follows s [] t = t ≡ s
-Follows s (a ∷ rest) t = (u : List Seat) × Applies s a u × Follows u rest t
+Follows s (a ∷ rest) t = (u : List ClientState) × Applies s a u × Follows u rest t
 
 -- the events without their answers
 abbrev pub events_of : List Made → List Event

@@ -10,7 +10,7 @@ use Rattle.kapi_core.specs.Telling.{changes_told}
 use Rattle.kapi_core.specs.declared.event.Answer.{Answer}
 use Rattle.kapi_desk.specs.Boards.{Board}
 use Rattle.kapi_serve.specs.Account.{Account, Made}
-use Rattle.kapi_serve.specs.Acts.{Act, Follows, Seat, answers_of, entries_in, events_of, made_in}
+use Rattle.kapi_serve.specs.Acts.{Act, Follows, ClientState, answers_of, entries_in, events_of, made_in}
 use Rattle.kapi_serve.specs.Policies.{PublishesPolicies}
 use Rattle.kapi_serve.specs.Ports.{Adds, Report}
 use Rattle.kapi_desk.specs.Steps.{step_of}
@@ -36,7 +36,7 @@ pub record ServerState : Type 1 where
   pub core : Running
   pub desk : Board
   pub kept : Option (List PolicyChange)
-  pub seats : List Seat
+  pub seats : List ClientState
   pub report : Report
 
 -- acts led from one state to the other, and the policy steps of their events were appended

@@ -505,7 +505,7 @@ impl Clients {
     }
 
     /// Reads a piece from a slot and feeds it. A connection that cannot be noted as awake is closed.
-    pub(crate) fn pull<P: Policy + Drop, Q: Ports>(
+    pub(crate) fn read_slot<P: Policy + Drop, Q: Ports>(
         &mut self,
         core: &mut Core<P>,
         ports: &mut Q,
@@ -520,11 +520,11 @@ impl Clients {
             return Pulled::Stopped;
         };
         self.places[slot % PLACES] = index;
-        self.pull_at(core, ports, slot, index, buffer)
+        self.read_slot_at(core, ports, slot, index, buffer)
     }
 
     /// Reads a piece from the slot of the connection at a place and feeds it.
-    fn pull_at<P: Policy + Drop, Q: Ports>(
+    fn read_slot_at<P: Policy + Drop, Q: Ports>(
         &mut self,
         core: &mut Core<P>,
         ports: &mut Q,

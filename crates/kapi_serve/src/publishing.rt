@@ -1,6 +1,6 @@
 ghost use Rattle.std.specs.Prelude.{◌≡◌, List, Option, [], ◌∷◌, None, true, false};
 ghost use Rattle.kapi_policy.specs.declared.change.PolicyChange.{PolicyChange as AChange};
-ghost use Rattle.kapi_serve.specs.Acts.{Seat};
+ghost use Rattle.kapi_serve.specs.Acts.{ClientState};
 ghost use Rattle.kapi_serve.specs.Advances.{Advances};
 ghost use Rattle.kapi_desk.specs.Steps.{step_of};
 ghost use Rattle.kapi_serve.specs.Private.ServerStates.{stage};
@@ -105,7 +105,7 @@ impl Publishing {
         core: &mut Core<P>,
         desk: &mut Desk,
     ) -> Progress
-        ensures goes { (s : List Seat) → Advances (stage core.old desk.old self.old s) (stage core.new desk.new self.new s) }
+        ensures goes { (s : List ClientState) → Advances (stage core.old desk.old self.old s) (stage core.new desk.new self.new s) }
         ensures passes { PassesBy core.old core.new }
     {
         let mut progress = Progress::Still;
@@ -126,7 +126,7 @@ impl Publishing {
         core: &mut Core<P>,
         desk: &mut Desk,
     ) -> Progress
-        ensures goes { (s : List Seat) → Advances (stage core.old desk.old self.old s) (stage core.new desk.new self.new s) }
+        ensures goes { (s : List ClientState) → Advances (stage core.old desk.old self.old s) (stage core.new desk.new self.new s) }
         ensures passes { PassesBy core.old core.new }
     {
         if self.turns == 0 {

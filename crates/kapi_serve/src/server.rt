@@ -117,7 +117,7 @@ impl Server {
         ensures stands { ClientsMatchAfter core.old core.new self.old.clients self.new.clients }
     {
         for _ in rt.forever() {
-            match self.clients.pull(core, ports, slot, buffer) {
+            match self.clients.read_slot(core, ports, slot, buffer) {
                 Pulled::Fed => {
                     let _rest = self.settle(rt, core, desk, ports);
                 }

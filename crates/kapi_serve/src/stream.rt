@@ -26,9 +26,9 @@ pub(crate) struct Stream {
     socket: TcpStream,
     /// The socket may have bytes, or their end.
     readable: bool,
-    /// The bytes have ended, or the socket has failed, so that a read tells of it.
+    /// The bytes have ended, or the socket has failed, so that a read reports it.
     ended: bool,
-    /// All bytes that came were read; an event tells of more.
+    /// All bytes that came were read; an event reports more.
     drained: bool,
     /// The socket may take bytes again.
     writable: bool,

@@ -161,7 +161,7 @@ impl Memory {
         Some(self.told_by(slot))
     }
 
-    /// A client of whom no more bytes come, nor their end, tells nothing.
+    /// A client that neither sends more bytes nor ends is idle.
     fn told_by(&self, slot: usize) -> PortEvent {
         match self.talks.get(slot) {
             Some(talk) if talk.waits() => PortEvent::Idle,

@@ -6,7 +6,7 @@ use Rattle.kapi_store.specs.declared.key.Key.{Key}
 use Rattle.kapi_store.specs.declared.slots.Hidden.{Hidden}
 use Rattle.kapi_store.specs.Keys.{is_key}
 use Rattle.kapi_store.specs.Private.Hidden.{hides, hidden_key, seen, visible}
-use Rattle.kapi_store.specs.State.{held, live, IsSpare}
+use Rattle.kapi_store.specs.State.{held, live, IsReserved}
 use Rattle.kapi_store.proofs.SlotSteps.{hidden_is}
 
 module _ {X : Type 0} where
@@ -29,10 +29,10 @@ module _ {X : Type 0} where
   seen_same before after es fs same = seen_live after fs ∙ same ∙ sym (seen_live before es)
 
   -- the hidden one alone is empty
-  pub seen_spare : (hidden : Option Hidden) (es : List (Key × X)) → IsSpare (hidden_key hidden) (map (seen hidden) es)
-  unfolding IsSpare
-  seen_spare hidden [] = tt
-  seen_spare hidden (e ∷ es) = (empty (hides hidden e.0) refl, seen_spare hidden es)
+  pub seen_reserved : (hidden : Option Hidden) (es : List (Key × X)) → IsReserved (hidden_key hidden) (map (seen hidden) es)
+  unfolding IsReserved
+  seen_reserved hidden [] = tt
+  seen_reserved hidden (e ∷ es) = (empty (hides hidden e.0) refl, seen_reserved hidden es)
     where
       empty : (b : Bool) → hides hidden e.0 ≡ b → cond b None (Some e.1) ≡ None → hidden_key hidden ≡ Some e.0
       empty true is none = hidden_is hidden e.0 is

@@ -15,9 +15,9 @@ use Rattle.kapi_store.specs.Limits.{last_revision, window_limit}
 use Rattle.kapi_store.specs.Keys.{key_cmp, is_key}
 use Rattle.kapi_store.specs.Changes.{placed_all, left_by, last_of, Follow, revision_of, AreRemovals}
 use Rattle.kapi_store.specs.Private.Hidden.{hidden_key, seen, visible}
-use Rattle.kapi_store.specs.State.{State, objects, live, IsSpare, HasSlot, Same, Fits, IsStore}
+use Rattle.kapi_store.specs.State.{State, objects, live, IsReserved, HasSlot, Same, Fits, IsStore}
 use Rattle.kapi_store.specs.Plain.{Plain, PlainChange, RefinesPlain, plain_of, plain_change, changes_after, opened, written, trees, trees_left_by}
-use Rattle.kapi_store.proofs.Seen.{seen_keys, seen_live, seen_spare}
+use Rattle.kapi_store.proofs.Seen.{seen_keys, seen_live, seen_reserved}
 use Rattle.kapi_store.proofs.SlotSteps.{visible_sorted, hidden_bound}
 use Rattle.kapi_store.proofs.Writes.{placed_all_append, removals_slot}
 use Rattle.kapi_store.proofs.Trees.{placed_all_trees}
@@ -25,11 +25,11 @@ use Rattle.kapi_store.proofs.Windows.{last_last, last_none, last_shorter, last_m
 
 -- the store without objects and changes
 pub new_store : (s : State) → s.slots ≡ [] → s.window ≡ [] → s.revision ≡ s.first → s.first ≤ last_revision → IsStore s
-unfolding live Follow IsStrictlySortedBy IsSpare
+unfolding live Follow IsStrictlySortedBy IsReserved
 new_store s slots window revision last = record {
   slots = rw slots tt;
   ordered = rw slots tt;
-  spare = rw slots tt;
+  reserved = rw slots tt;
   bounded = rw slots (omega arith);
   numbered = rw window tt;
   counted = rw window (omega arith);
@@ -41,15 +41,15 @@ new_store s slots window revision last = record {
 pub record AreSlots (s : State) : Type 0 where
   pub slots : IsStrictlySortedBy key_cmp (keys_of s.slots)
   pub ordered : IsStrictlySortedBy key_cmp (keys_of (objects s))
-  pub spare : IsSpare s.spare s.slots
+  pub reserved : IsReserved s.reserved s.slots
   pub bounded : length s.slots ≤ length (objects s) + 1
 
 -- so are those of a store as contracts see them
-pub seen_slots : (s : State) (hidden : Option Hidden) (es : List (Key × StoredObject)) → s.slots ≡ map (seen hidden) es → s.spare ≡ hidden_key hidden → IsStrictlySortedBy key_cmp (keys_of es) → AreSlots s
-seen_slots s hidden es slots spare sorted =
+pub seen_slots : (s : State) (hidden : Option Hidden) (es : List (Key × StoredObject)) → s.slots ≡ map (seen hidden) es → s.reserved ≡ hidden_key hidden → IsStrictlySortedBy key_cmp (keys_of es) → AreSlots s
+seen_slots s hidden es slots reserved sorted =
     let Sorted : List Key → Type 0 = λ ks. IsStrictlySortedBy key_cmp ks in
-    let Spare : Option Key → Type 0 = λ k. IsSpare k (map (seen hidden) es) in
-    let At : List (Key × Option StoredObject) → Type 0 = λ os. IsSpare s.spare os in
+    let Reserved : Option Key → Type 0 = λ k. IsReserved k (map (seen hidden) es) in
+    let At : List (Key × Option StoredObject) → Type 0 = λ os. IsReserved s.reserved os in
     let left : objects s ≡ visible hidden es = ap live slots ∙ seen_live hidden es in
     let many : length s.slots ≡ length es = ap length slots ∙ length-map es (seen hidden) in
     let few : length (objects s) ≡ length (visible hidden es) = ap length left in
@@ -57,7 +57,7 @@ seen_slots s hidden es slots spare sorted =
     record {
       slots = subst Sorted (sym (ap keys_of slots ∙ seen_keys hidden es)) sorted;
       ordered = subst Sorted (sym (ap keys_of left)) (visible_sorted hidden es sorted);
-      spare = subst At (sym slots) (subst Spare (sym spare) (seen_spare hidden es));
+      reserved = subst At (sym slots) (subst Reserved (sym reserved) (seen_reserved hidden es));
       bounded = omega arith;
     }
 
@@ -82,7 +82,7 @@ next_store s t c h slots window first revision next last =
     record {
       slots = slots.slots;
       ordered = slots.ordered;
-      spare = slots.spare;
+      reserved = slots.reserved;
       bounded = slots.bounded;
       numbered = subst Q (sym window) (subst P from rest);
       counted = omega arith;
@@ -102,7 +102,7 @@ moved_store s t h slots window first revision =
     record {
       slots = slots.slots;
       ordered = slots.ordered;
-      spare = slots.spare;
+      reserved = slots.reserved;
       bounded = slots.bounded;
       numbered = rw revision (subst P (sym window) h.numbered);
       counted = omega arith;

@@ -15,7 +15,7 @@ use Rattle.kapi_store.specs.Changes.{revision_of, Follow}
 pub record State : Type 0 where
   pub table : List ResourceRow
   pub slots : List (Key × Option StoredObject)
-  pub spare : Option Key
+  pub reserved : Option Key
   pub first : ℕ
   pub revision : ℕ
   pub window : List Change
@@ -31,10 +31,10 @@ module _ {K X : Type 0} where
   live [] = []
   live (e ∷ es) = held e.0 e.1 (live es)
 
-  -- no slot is empty but that of the spare key
-  unfoldable pub IsSpare : Option K → List (K × Option X) → Type 0
-  IsSpare spare [] = Unit {0}
-  IsSpare spare (e ∷ es) = (e.1 ≡ None → spare ≡ Some e.0) × IsSpare spare es
+  -- no slot is empty but that of the reserved key
+  unfoldable pub IsReserved : Option K → List (K × Option X) → Type 0
+  IsReserved reserved [] = Unit {0}
+  IsReserved reserved (e ∷ es) = (e.1 ≡ None → reserved ≡ Some e.0) × IsReserved reserved es
 
 -- the objects, in the order of their keys
 abbrev pub objects : State → List (Key × StoredObject)
@@ -64,7 +64,7 @@ pub record Fits (s : State) (cs : List Change) : Type 0 where
 pub record IsStore (s : State) : Type 0 where
   pub slots : IsStrictlySortedBy key_cmp (keys_of s.slots)
   pub ordered : IsStrictlySortedBy key_cmp (keys_of (objects s))
-  pub spare : IsSpare s.spare s.slots
+  pub reserved : IsReserved s.reserved s.slots
   pub bounded : length s.slots ≤ length (objects s) + 1
   pub numbered : Follow revision_of (s.revision - length s.window) s.window
   pub counted : length s.window ≡ min window_limit (s.revision - s.first)

@@ -9,7 +9,7 @@ abbrev pub state_of : Inside → State
 state_of s = record {
   table = s.table;
   slots = map (seen s.hidden) s.slots.entries;
-  spare = hidden_key s.hidden;
+  reserved = hidden_key s.hidden;
   first = s.first;
   revision = s.revision;
   window = s.window;

@@ -42,7 +42,7 @@ impl Shared {
         })
     }
 
-    /// One more owner of the same object.
+    /// A counted reference to the object.
     pub fn share(&self) -> Result<Shared, Memory>
         ensures { IfOk result (λ s. s ≡ self.now) }
     {

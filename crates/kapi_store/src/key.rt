@@ -47,7 +47,7 @@ impl Ord for Key {
 
     ghost matches_eq = { λ a b. both_tied _ _ _ _ (texts_ties a.group b.group) (both_tied _ _ _ _ (texts_ties a.resource b.resource) (both_tied _ _ _ _ (texts_ties a.namespace b.namespace) (texts_ties a.name b.name))) };
 
-    // Keys that are compared are mostly of one list: that texts are equal is told sooner than their order.
+    // Compared keys mostly share a resource, so equality is tested first: it takes less time than order.
     #[tactic(auto, using(crate::proofs::Keys::key_by_texts))]
     fn cmp(&self, other: &Key) -> Ordering {
         if self.group != other.group {

@@ -49,7 +49,7 @@ pub fn find<'a>(
     slots.get(key)
 }
 
-/// One more owner of the object at the key, if any.
+/// A counted reference to the object at the key, if there is one.
 pub fn share_at(
     slots: &BTreeMap<Key, Shared>,
     hidden: &Option<Hidden>,

@@ -91,7 +91,7 @@ fn in_place_of(
 }
 
 /// The object in the place of the old one, at the version of a revision; none if all else of it is that of the old
-/// one. Texts that differ in more than a number tell so at once, and the object is written once.
+/// one. Texts that differ in more than a number are found at once, so the object is written once.
 pub(crate) fn replacing(
     alloc: Global,
     object: Object,

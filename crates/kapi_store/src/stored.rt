@@ -92,7 +92,7 @@ impl StoredObject {
         }
     }
 
-    /// The same text, written of the object's tree.
+    /// The object's text at another revision, written from its tree.
     #[tactic(auto, using(crate::proofs::Versions::versioned_again))]
     fn written_at(&self, alloc: Global, revision: u64) -> Result<Text, Memory>
         ensures { IfOk result (λ t. t ≡ compact_text (at_version revision (stored_tree self.now))) }
@@ -117,7 +117,7 @@ impl StoredObject {
         are_same(self.labels.as_slice(), other.labels.as_slice())
     }
 
-    /// Whether the other one is the same. Labels and rule are told by the text and not compared.
+    /// Whether the other object is equal. Labels and rule follow from the text, so they are not compared.
     pub(crate) fn is_same(&self, other: &StoredObject) -> bool
         ensures { Decides result (self.now ≡ other.now) }
     {

@@ -157,7 +157,7 @@ fn push_lines(
     text.extend_from_slice(b"\n")
 }
 
-/// The same objects as one document, a List.
+/// The suggested roles and bindings as one document, a List.
 pub fn list(alloc: Global, suggested: &[Suggested]) -> Result<Vec<u8>, Memory>
     ensures { IfOk result (λ v. v.items ≡ printed.list suggested.now) }
 {

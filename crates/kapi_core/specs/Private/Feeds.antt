@@ -25,7 +25,7 @@ MovesOn store r place = (history : List PlainChange) (s : Plain) (w : PlainWatch
 -- the connections after an event of a watch: the watch is at a place, or has ended, or its connection is closed
 abbrev pub passed : List (ℕ × Connection) → ℕ → Connection → Watching → After → Place → List (ℕ × Connection)
 passed old id c w becomes.Watches place = set_value (is_at (nat_cmp id)) old (record c { watching = Some (record w { watch = at_place w.watch place }) })
-passed old id c w becomes.Serves place = set_value (is_at (nat_cmp id)) old (record c { watching = None })
+passed old id c w becomes.WatchEnded place = set_value (is_at (nat_cmp id)) old (record c { watching = None })
 passed old id c w becomes.Closes place = remove_entry (is_at (nat_cmp id)) old
 
 -- bytes were taken in on a connection, or were refused and nothing was changed

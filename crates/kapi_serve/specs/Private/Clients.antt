@@ -2,19 +2,19 @@
 use Rattle.std.specs.Prelude.{ℕ, ◌==◌, not, false, List, [], ◌∷◌, if◌then◌else◌, map}
 use Rattle.std.specs.List.{filter}
 use Rattle.kapi_serve.specs.declared.client.Client.{Client}
-use Rattle.kapi_serve.specs.Acts.{Seat}
+use Rattle.kapi_serve.specs.Acts.{ClientState}
 use Rattle.kapi_serve.specs.Private.Pieces.{owed}
 
 -- a client's slot, connection and pending bytes
-abbrev pub seat_of : Client → Seat
+abbrev pub seat_of : Client → ClientState
 seat_of c = record { slot = c.slot; conn = c.id; owed = owed c.pending }
 
 -- the slots, connections and pending bytes of all clients
-abbrev pub seats_of : List Client → List Seat
+abbrev pub seats_of : List Client → List ClientState
 seats_of clients = map seat_of clients
 
 -- the clients on other slots
-abbrev pub others : ℕ → List Seat → List Seat
+abbrev pub others : ℕ → List ClientState → List ClientState
 others slot seats = filter (λ x. not (x.slot == slot)) seats
 
 -- a client whose slot may take bytes

@@ -8,7 +8,7 @@ use Rattle.kapi_core.specs.declared.event.Event.TheVariants as event
 use Rattle.kapi_desk.specs.Boards.{Board}
 use Rattle.kapi_http.specs.declared.inbox.FeedError.{FeedError}
 use Rattle.kapi_policy.specs.declared.change.PolicyChange.{PolicyChange}
-use Rattle.kapi_serve.specs.Acts.{Seat}
+use Rattle.kapi_serve.specs.Acts.{ClientState}
 use Rattle.kapi_serve.specs.Advances.{Advances, ServerState}
 use Rattle.kapi_serve.specs.Ports.{Adds, Report, opened}
 use Rattle.kapi_serve.specs.Private.Clients.{seat_of, seats_of}
@@ -23,7 +23,7 @@ use Rattle.kapi_serve.specs.declared.server.Server.{Server}
 -- ---- moments
 
 -- a moment from its parts
-abbrev pub moment : Running → Board → Option (List PolicyChange) → List Seat → Report → ServerState
+abbrev pub moment : Running → Board → Option (List PolicyChange) → List ClientState → Report → ServerState
 moment core desk kept seats report = record { core = core; desk = desk; kept = kept; seats = seats; report = report }
 
 -- a server at a moment
@@ -35,7 +35,7 @@ abbrev pub unasked : Report
 unasked = record { tells = ⊤; history = [] }
 
 -- a moment at which these are the clients, and no port is asked
-abbrev pub stage : Running → Board → Publishing → List Seat → ServerState
+abbrev pub stage : Running → Board → Publishing → List ClientState → ServerState
 stage core desk publishing seats = moment core desk publishing.kept seats unasked
 
 -- ---- what is done
@@ -45,12 +45,12 @@ abbrev pub AdvancesAfter : PortEvent → ServerState → ServerState → Type 0
 AdvancesAfter happened old new = (h : List Entry) → (old.report.tells → old.report.history ≡ h ++ opened (Some happened)) → Advances (record old { report = record old.report { history = h } }) new
 
 -- something was done for a client, whichever the others are
-abbrev pub AdvancesFor : (List Seat → ServerState) → (List Seat → ServerState) → Client → Client → Type 0
-AdvancesFor old new c d = (front back : List Seat) → Advances (old (front ++ seat_of c ∷ back)) (new (front ++ seat_of d ∷ back))
+abbrev pub AdvancesFor : (List ClientState → ServerState) → (List ClientState → ServerState) → Client → Client → Type 0
+AdvancesFor old new c d = (front back : List ClientState) → Advances (old (front ++ seat_of c ∷ back)) (new (front ++ seat_of d ∷ back))
 
 -- bytes that a client was owed were sent to it, whatever else there is
 abbrev pub Writes : Client → Client → Report → Report → Type 0
-Writes c d report later = (core : Running) (desk : Board) (kept : Option (List PolicyChange)) (front back : List Seat)
+Writes c d report later = (core : Running) (desk : Board) (kept : Option (List PolicyChange)) (front back : List ClientState)
     → Advances (moment core desk kept (front ++ seat_of c ∷ back) report) (moment core desk kept (front ++ seat_of d ∷ back) later)
 
 -- the clients went on, whatever the desk has and is kept

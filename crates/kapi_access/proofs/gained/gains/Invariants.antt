@@ -10,5 +10,5 @@ use Rattle.kapi_access.proofs.gained.gains.Given as goal
 abbrev pub invariant-loop-binding : goal.invariant-loop-binding
 invariant-loop-binding g l = record {
   listed : map gain_of l.list.items ≡ flat_map (λ b. gained_from l.alone.identities (g.P.Policy.content l.before) (g.Q.Policy.content l.after) (binding_of b)) (take l.binding-index l.bindings);
-  stood : AreAmong (bindings_at l.rest) (all_bindings (g.P.Policy.content l.before));
+  earlier : AreAmong (bindings_at l.rest) (all_bindings (g.P.Policy.content l.before));
 }

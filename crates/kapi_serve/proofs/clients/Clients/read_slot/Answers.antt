@@ -1,6 +1,6 @@
 use Rattle.kapi_serve.proofs.Going.{goes_nothing}
 use Rattle.kapi_serve.proofs.Tending.{on_nothing}
-use Rattle.kapi_serve.proofs.clients.Clients.pull.Goals as goal
+use Rattle.kapi_serve.proofs.clients.Clients.read_slot.Goals as goal
 
 pub returns-in_default-clause-moves : goal.returns-in_default-clause-moves
 returns-in_default-clause-moves g c = λ d k. goes_nothing _

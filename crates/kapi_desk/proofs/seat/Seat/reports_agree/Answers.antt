@@ -1,5 +1,5 @@
 use Rattle.kapi_desk.proofs.Pages.{agree_before, agree_behind}
-use Rattle.kapi_desk.proofs.seat.Seat.hear.Goals as goal
+use Rattle.kapi_desk.proofs.seat.Seat.reports_agree.Goals as goal
 
 pub returns-then-self-told : goal.returns-then-self-told
 returns-then-self-told c = agree_before _ _ _ _ _ _ _ c.self.view_is c.told.view_is c.self.invariant.2 c.compare.ensures

@@ -7,7 +7,7 @@ use Rattle.kapi_serve.proofs.Going.{ends_at, feeds_at, goes_nothing, goes_on, go
 use Rattle.kapi_serve.proofs.Placing.{others_ended}
 use Rattle.kapi_serve.proofs.Standing.{has_contained}
 use Rattle.kapi_serve.proofs.Tending.{on_as, on_both, on_left, on_nothing, on_ok, on_woken}
-use Rattle.kapi_serve.proofs.clients.Clients.pull_at.Goals as goal
+use Rattle.kapi_serve.proofs.clients.Clients.read_slot_at.Goals as goal
 
 pub returns-then-ne-clause-moves : goal.returns-then-ne-clause-moves
 returns-then-ne-clause-moves g c = λ d k. goes_nothing _

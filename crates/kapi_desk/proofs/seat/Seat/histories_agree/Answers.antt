@@ -1,5 +1,5 @@
 use Rattle.kapi_desk.proofs.Pages.{agree_before, agree_behind}
-use Rattle.kapi_desk.proofs.seat.Seat.meet.Goals as goal
+use Rattle.kapi_desk.proofs.seat.Seat.histories_agree.Goals as goal
 
 pub returns-then-self-other : goal.returns-then-self-other
 returns-then-self-other c = agree_before _ _ _ _ _ _ _ c.self.view_is c.other.view_is c.self.invariant.2 c.compare.ensures
