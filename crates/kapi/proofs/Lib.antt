@@ -1,3 +1,4 @@
 pub mod Reading
 pub mod Parsed
 pub mod Held
+pub mod Short
