@@ -162,7 +162,7 @@ fn beside<'a>(
         .arg(files(
             alloc,
             "with",
-            "A file or folder read as one with each policy, again and again",
+            "A file or folder read with each policy; repeatable",
         ))?
         .arg(defaults(alloc))
 }
@@ -222,7 +222,7 @@ fn served<'a>(alloc: Global) -> Result<Command<'a>, Memory>
         .arg(files(
             alloc,
             "manifests",
-            "Manifests of the first objects, again and again",
+            "Manifests of the first objects; repeatable",
         ))?
         .arg(defaults(alloc))
 }
@@ -632,7 +632,7 @@ fn paths_options<'a>(alloc: Global) -> Result<Command<'a>, Memory>
             alloc,
             "without",
             "KIND",
-            "A kind of rights that is left out, again and again",
+            "A kind of rights to leave out; repeatable",
         )
         .action(ArgAction::Append))
 }
@@ -721,7 +721,7 @@ fn defaults<'a>(alloc: Global) -> Arg<'a>
     flag(
         alloc,
         "with-defaults",
-        "Kubernetes' roles admin, edit, view beneath them",
+        "Adds Kubernetes' roles admin, edit and view",
     )
 }
 
@@ -811,7 +811,7 @@ fn kinds<'a>(alloc: Global) -> Arg<'a>
     files(
         alloc,
         "kinds",
-        "Kinds that are served too; kubernetes: a set of its own",
+        "More kinds: a file, or the set kubernetes",
     )
 }
 
