@@ -18,7 +18,7 @@ use Rattle.kapi_answer.proofs.Granted.{answers_are_granted}
 use Rattle.kapi_answer.specs.Answer.{answer}
 use Rattle.kapi_answer.specs.Impersonation.{AreGrantedAs}
 use Rattle.kapi_gains.proofs.Impersonating.{acts_as}
-use Rattle.kapi_gains.proofs.Reached.{objects_give_nothing, objects_stay_within, reaches_both, reaches_itself}
+use Rattle.kapi_gains.proofs.Reached.{objects_give_nothing, objects_never_grow, objects_stay_within, reaches_both, reaches_itself}
 use Rattle.kapi_gains.proofs.StoredTurns.{turn_runs}
 use Rattle.kapi_gains.proofs.StoredWrites.{granted_reach}
 use Rattle.kapi_gains.specs.Runs.{ObjectsReach}
@@ -28,7 +28,7 @@ use Rattle.kapi_core.proofs.Effects as effects
 use Rattle.kapi_core.proofs.Runs.{Ran, events_made}
 use Rattle.kapi_core.specs.declared.event.Answer.{Answer}
 use Rattle.kapi_core.specs.declared.event.Event.{Event}
-use Rattle.kapi_core.specs.Gains.{NobodyGains, NobodyGainsDuring, StaysHeld, StaysHeldDuring, acting_by, acting_in, identity_on}
+use Rattle.kapi_core.specs.Gains.{NobodyGains, NobodyGainsDuring, RolesNeverGrowBetween, StaysHeld, StaysHeldDuring, acting_by, acting_in, identity_on}
 use Rattle.kapi_core.specs.Machine.{Machine, after, policy_of, step}
 use Rattle.kapi_core.specs.Opening.{OpeningObject, cluster_key, created_if, empty, opening, opening_objects, with_opening, written_if}
 use Rattle.kapi_core.specs.Running.{Running}
@@ -118,6 +118,13 @@ events_gain core m es refines front back is =
 pub events_hold : (core : Running) (m : Machine) (es : List Event) → Refines core m → StaysHeldDuring m es
 events_hold core m es refines front back is =
     machine_holds (after m front) back (events_order m front (stands_in_order core.store m.changes m.store refines.store))
+
+-- roles never grow by the events of a machine that a running one refines
+pub roles_never_grow : (core : Running) (m : Machine) (front back : List Event) → Refines core m → RolesNeverGrowBetween m front back
+roles_never_grow core m front back refines settled unprivileged =
+    let sorted = stands_in_order core.store m.changes m.store refines.store in
+    objects_never_grow (acting_in m front) (acting_in (after m front) back) m.store.objects (after m front).store.objects (after (after m front) back).store.objects sorted settled unprivileged
+    (events_reach m front sorted) (events_reach (after m front) back (events_order m front sorted))
 
 -- ---- from the opening on
 

@@ -7,7 +7,7 @@ use Rattle.kapi_aggregation.specs.Roles.{Labelled, roles_in}
 use Rattle.kapi_aggregation.specs.Unions.{IsSettled}
 use Rattle.kapi_gains.specs.Access.{GivesNothing, IsUnprivileged}
 use Rattle.kapi_gains.specs.StoredStates.{labels_at}
-use Rattle.kapi_gains.specs.Within.{StaysWithin}
+use Rattle.kapi_gains.specs.Within.{RolesNeverGrow, StaysWithin}
 use Rattle.kapi_aggregation.specs.Members.{Has}
 use Rattle.kapi_core.specs.declared.event.ConnId.{ConnId}
 use Rattle.kapi_core.specs.declared.event.Event.{Event}
@@ -67,3 +67,11 @@ StaysHeld acting start now =
 abbrev pub StaysHeldDuring : Machine → List Event → Type 0
 StaysHeldDuring m events =
     (front back : List Event) → front ++ back ≡ events → StaysHeld (acting_in (after m front) back) (after m front) (after (after m front) back)
+
+-- if the aggregated cluster roles have their unions and all who act in two lists of events are unprivileged, no role gets
+-- by the second list what no acting identity held at the start, even if it is deleted and made again
+abbrev pub RolesNeverGrowBetween : Machine → List Event → List Event → Type 0
+RolesNeverGrowBetween m front back =
+    IsSettled (roles_in m.store.objects)
+    → ((who : Identity) → Has (acting_in m front ++ acting_in (after m front) back) who → IsUnprivileged (policy_of m) who)
+    → RolesNeverGrow (acting_in m front ++ acting_in (after m front) back) (policy_of m) (policy_of (after m front)) (policy_of (after (after m front) back))

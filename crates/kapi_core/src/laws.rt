@@ -10,7 +10,7 @@ ghost use Rattle.kapi_gains.specs.Access.{IsUnprivileged};
 ghost use Rattle.kapi_gains.specs.States.{Labels};
 ghost use Rattle.kapi_gains.specs.Within.{ActorsHoldOwn, StaysWithin};
 ghost use Rattle.kapi_aggregation.specs.Members.{Has};
-ghost use Rattle.kapi_core.specs.Gains.{IsServed, NobodyGains, NobodyGainsDuring, StaysHeld, StaysHeldDuring, acting_in};
+ghost use Rattle.kapi_core.specs.Gains.{IsServed, NobodyGains, NobodyGainsDuring, RolesNeverGrowBetween, StaysHeld, StaysHeldDuring, acting_in};
 ghost use Rattle.kapi_core.specs.Histories.{DueIsListed, EventsGoOn, FirstIsListed, FirstShownIsListed, ListedThen, LoadsGoOn, ServedIsAHistory, ShownIsListed, TurnsReplace};
 ghost use Rattle.kapi_core.specs.Machine.{Machine, after, answers, policy_of};
 ghost use Rattle.kapi_core.specs.Opening.{opening};
@@ -41,6 +41,12 @@ pub fn what_is_stored_stays_within()
         let m : Machine = after (opening table first) before in StaysHeld (acting_in m events) m (after m events) }
     ensures running { (core : Running) (m : Machine) (events : List Event) → Refines core m → StaysHeldDuring m events }
     ensures actors { (acting : List Identity) (start now : PolicyObjects) (labels : Labels) → StaysWithin acting start now labels → ActorsHoldOwn acting start now }
+{}
+
+/// No role gets what no acting identity held at the start, on any machine that a running one refines: even a role that
+/// had it, and lost it in the meantime, does not get it again.
+pub fn roles_never_grow()
+    ensures { (core : Running) (m : Machine) (front back : List Event) → Refines core m → RolesNeverGrowBetween m front back }
 {}
 
 /// Every machine begins with the opening policy, whose cluster roles take rules from no others, and in which all but

@@ -73,7 +73,7 @@ module _ (acting : List Identity) (start old : PolicyObjects) (before : Labels) 
       by_case (inr there) = inr (record { was = was; found = found; kept = kept; has = there })
 
   -- what a role has is own, or it had it
-  never_grows : (kind : RoleKind) (name namespace : List ℕ) (a : Atom) → RoleHas new kind name namespace a → IsOwn acting start (scope_of kind namespace) a ⊎ RoleHas old kind name namespace a
+  pub never_grows : (kind : RoleKind) (name namespace : List ℕ) (a : Atom) → RoleHas new kind name namespace a → IsOwn acting start (scope_of kind namespace) a ⊎ RoleHas old kind name namespace a
   never_grows role_kind.Role name namespace a role = admitted.roles name namespace a role
   never_grows role_kind.ClusterRole name namespace a role = by_case (had_or_own name r.0 a (admitted.cluster_roles name r.0 r.1.0) (has_by_rules role.rules r.0.rules a r.1.1 role.has))
     where

@@ -2,11 +2,11 @@
 use Rattle.std.proofs.Common.{List}
 use Rattle.kapi_model.specs.declared.identity.Identity.{Identity}
 use Rattle.kapi_gains.proofs.Facts.{acting_hold_own, gives_nothing}
-use Rattle.kapi_gains.proofs.Steps.{begins, run_keeps}
+use Rattle.kapi_gains.proofs.Steps.{begins, never_grow, run_keeps}
 use Rattle.kapi_gains.specs.Access.{GivesNothing}
 use Rattle.kapi_gains.specs.States.{PolicyState}
 use Rattle.kapi_gains.specs.Steps.{AreBy, IsGuarded, PolicyStep, Runs}
-use Rattle.kapi_gains.specs.Within.{ActorsHoldOwn, BindingsStayWithin, RolesStayWithin, StaysWithin, TurnsStayWithin}
+use Rattle.kapi_gains.specs.Within.{ActorsHoldOwn, BindingsStayWithin, RolesNeverGrow, RolesStayWithin, StaysWithin, TurnsStayWithin}
 
 -- all stays within what the acting identities held at the start
 pub all_within : (acting : List Identity) (start now : PolicyState) (steps : List PolicyStep) → IsGuarded acting start → AreBy acting steps → Runs start steps now
@@ -35,3 +35,8 @@ bindings_stay_within acting start now steps guarded by runs = (all_within acting
 pub turns_stay_within : (acting : List Identity) (start now : PolicyState) (steps : List PolicyStep) → IsGuarded acting start → AreBy acting steps → Runs start steps now
     → TurnsStayWithin acting start.objects now.objects now.labels
 turns_stay_within acting start now steps guarded by runs = (all_within acting start now steps guarded by runs).turns
+
+pub roles_never_grow : (acting : List Identity) (start now later : PolicyState) (steps more : List PolicyStep) → IsGuarded acting start → AreBy acting steps → AreBy acting more → Runs start steps now → Runs now more later
+    → RolesNeverGrow acting start.objects now.objects later.objects
+roles_never_grow acting start now later steps more guarded by others runs on =
+    never_grow acting start.objects guarded.unprivileged now later more (all_within acting start now steps guarded by runs) others on

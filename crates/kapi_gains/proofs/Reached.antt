@@ -8,7 +8,7 @@ use Rattle.kapi_stored_policy.specs.Reading.{policy_objects}
 use Rattle.kapi_aggregation.specs.Roles.{roles_in}
 use Rattle.kapi_aggregation.specs.Unions.{IsSettled as AreUnions}
 use Rattle.kapi_gains.proofs.Elements.{has_left, has_right}
-use Rattle.kapi_gains.proofs.Law.{all_within, nobody_gains}
+use Rattle.kapi_gains.proofs.Law.{all_within, nobody_gains, roles_never_grow}
 use Rattle.kapi_gains.specs.Access.{GivesNothing, IsUnprivileged}
 use Rattle.kapi_aggregation.specs.Members.{Has}
 use Rattle.kapi_gains.specs.States.{PolicyState}
@@ -16,7 +16,7 @@ use Rattle.kapi_gains.specs.Steps.{AreBy, IsBy, IsGuarded, KeepsLabels, Makes, P
 use Rattle.kapi_gains.proofs.StoredRoles.{labelled_are}
 use Rattle.kapi_gains.specs.Runs.{ObjectsReach, Reaches}
 use Rattle.kapi_gains.specs.StoredStates.{AreInOrder, labels_at, policy_state}
-use Rattle.kapi_gains.specs.Within.{StaysWithin}
+use Rattle.kapi_gains.specs.Within.{RolesNeverGrow, StaysWithin}
 
 same_state : (s t : PolicyState) → t.objects ≡ s.objects → KeepsLabels s.labels t.labels → t ≡ s
 same_state s t objects labels = λ i. record { objects = objects i; labels = λ q. labels q i }
@@ -87,3 +87,12 @@ pub objects_stay_within : (acting : List Identity) (os now : List (Key × Data))
     → StaysWithin acting (policy_objects os) (policy_objects now) (labels_at now)
 objects_stay_within acting os now sorted settled unprivileged reached =
     all_within acting (policy_state os) (policy_state now) reached.steps (guarded acting os sorted settled unprivileged) reached.by reached.runs
+
+-- from one moment to a later one roles get only what is within what the identities of both runs held at the start
+pub objects_never_grow : (xs ys : List Identity) (os now later : List (Key × Data)) → AreInOrder os → AreUnions (roles_in os)
+    → ((who : Identity) → Has (xs ++ ys) who → IsUnprivileged (policy_objects os) who) → ObjectsReach xs os now → ObjectsReach ys now later
+    → RolesNeverGrow (xs ++ ys) (policy_objects os) (policy_objects now) (policy_objects later)
+objects_never_grow xs ys os now later sorted settled unprivileged first rest =
+    let one = reaches_by xs (xs ++ ys) (has_left xs ys) (policy_state os) (policy_state now) first in
+    let other = reaches_by ys (xs ++ ys) (has_right xs ys) (policy_state now) (policy_state later) rest in
+    roles_never_grow (xs ++ ys) (policy_state os) (policy_state now) (policy_state later) one.steps other.steps (guarded (xs ++ ys) os sorted settled unprivileged) one.by other.by one.runs other.runs

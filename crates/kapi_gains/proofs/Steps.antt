@@ -1,5 +1,5 @@
 -- Each step is admitted, and all stays within along a run.
-use Rattle.std.proofs.Common.{◌≡◌, ◌⊎◌, inl, inr, ℕ, List, [], ◌∷◌, Bool, true, false, if◌then◌else◌, not, ◌||◌, Option, Some, None, refl, sym, ap, ◌∙◌}
+use Rattle.std.proofs.Common.{◌≡◌, ◌⊎◌, inl, inr, ℕ, List, [], ◌∷◌, Bool, true, false, if◌then◌else◌, not, ◌||◌, Option, Some, None, refl, sym, ap, subst, ◌∙◌}
 use Rattle.std.specs.Option.{is_some}
 use Rattle.std.specs.Str.{bytes_eq}
 use Rattle.std.proofs.lemmas.Bool.{and_parts, or_parts}
@@ -27,7 +27,7 @@ use Rattle.kapi_guard.specs.Writes.{put_of, scope, wanted, was_aggregated}
 use Rattle.kapi_guard.specs.declared.write.PolicyWrite.{PolicyWrite}
 use Rattle.kapi_guard.specs.declared.write.WrittenObject.{WrittenObject}
 use Rattle.kapi_guard.specs.declared.write.WrittenObject.TheVariants as written
-use Rattle.kapi_gains.proofs.Admitted.{ClusterRoleChange, IsAdmitted, facts_kept, has_by_rules, takes_nothing}
+use Rattle.kapi_gains.proofs.Admitted.{ClusterRoleChange, IsAdmitted, facts_kept, has_by_rules, never_grows, takes_nothing}
 use Rattle.kapi_gains.proofs.After.{binding_deleted, binding_put, cluster_binding_deleted, cluster_binding_put, cluster_role_deleted, cluster_role_put, role_deleted, role_put}
 use Rattle.kapi_aggregation.proofs.Lists.{all_at, has_mapped}
 use Rattle.kapi_gains.proofs.Entries.{found_in}
@@ -37,7 +37,7 @@ use Rattle.kapi_gains.specs.Access.{IsUnprivileged, may}
 use Rattle.kapi_aggregation.specs.Members.{Has}
 use Rattle.kapi_gains.specs.States.{IsSettled, Labels, PolicyState, cluster_role_at, labelled, labelled_roles, turned}
 use Rattle.kapi_gains.specs.Steps.{AreBy, DropsLabels, IsBy, IsDeleted, IsTurned, IsWritten, KeepsLabels, MadeWrite, Makes, PolicyStep, Runs, SetsLabels, deletes, turns, writes}
-use Rattle.kapi_gains.specs.Within.{HasAtom, IsOwn, RoleHas, StaysWithin}
+use Rattle.kapi_gains.specs.Within.{HasAtom, IsOwn, RoleHas, RolesNeverGrow, StaysWithin, scope_of}
 
 -- ---- the start
 
@@ -248,35 +248,32 @@ module _ (acting : List Identity) (start old : PolicyObjects) (before : Labels) 
 -- ---- runs
 
 module _ (acting : List Identity) (start : PolicyObjects) (unprivileged : (who : Identity) → Has acting who → IsUnprivileged start who) where
-  -- the facts of the objects that a change makes are those of a state of these objects
-  of_state : (made : PolicyObjects) (new : PolicyState) → new.objects ≡ made → StaysWithin acting start made new.labels → StaysWithin acting start new.objects new.labels
-  of_state made new is facts = rw is facts
+  -- what is admitted of the objects that a change makes is admitted of a state of these objects
+  of_state : (old : PolicyState) (made : PolicyObjects) (new : PolicyState) → new.objects ≡ made → IsAdmitted acting start old.objects old.labels made new.labels
+      → IsAdmitted acting start old.objects old.labels new.objects new.labels
+  of_state old made new is admitted = rw is admitted
 
-  write_keeps : (old new : PolicyState) (w : MadeWrite) → StaysWithin acting start old.objects old.labels → Has acting w.writer → IsWritten old w new → StaysWithin acting start new.objects new.labels
-  write_keeps old new w facts acts is =
+  write_admitted : (old new : PolicyState) (w : MadeWrite) → StaysWithin acting start old.objects old.labels → Has acting w.writer → IsWritten old w new
+      → IsAdmitted acting start old.objects old.labels new.objects new.labels
+  write_admitted old new w facts acts is =
       let himself : w.made_as ≡ w.writer = acts_as_himself acting start old.objects old.labels facts unprivileged w.writer w.made_as acts is.acts in
       let granted : grant old.objects w.writer w.write ≡ true = ap (λ (who : Identity). grant old.objects who w.write) (sym himself) ∙ is.granted in
-      of_state (applied (change.Put (put_of w.write.object)) old.objects) new is.objects
-      (facts_kept acting start old.objects old.labels facts (applied (change.Put (put_of w.write.object)) old.objects) new.labels
+      of_state old (applied (change.Put (put_of w.write.object)) old.objects) new is.objects
       (put_admitted acting start old.objects old.labels facts unprivileged w.writer acts w.write.object w.labels new.labels
-      (granted_is_held acting start old.objects old.labels facts unprivileged w.writer acts w.write granted) is.labels))
+      (granted_is_held acting start old.objects old.labels facts unprivileged w.writer acts w.write granted) is.labels)
 
-  delete_keeps : (old new : PolicyState) (k : PolicyKey) → StaysWithin acting start old.objects old.labels → IsDeleted old k new → StaysWithin acting start new.objects new.labels
-  delete_keeps old new k facts is =
-      of_state (applied (change.Delete k) old.objects) new is.objects
-      (facts_kept acting start old.objects old.labels facts (applied (change.Delete k) old.objects) new.labels
-      (delete_admitted acting start old.objects old.labels facts k new.labels is.labels))
-
-  turn_keeps : (old new : PolicyState) (name : List ℕ) → StaysWithin acting start old.objects old.labels → IsTurned old name new → StaysWithin acting start new.objects new.labels
-  turn_keeps old new name facts is =
-      of_state (applied (change.Put (put.ClusterRole name (turned old.objects old.labels name is.role))) old.objects) new is.objects
-      (facts_kept acting start old.objects old.labels facts (applied (change.Put (put.ClusterRole name (turned old.objects old.labels name is.role))) old.objects) new.labels
-      (turn_admitted acting start old.objects old.labels facts name is.role new.labels is.found is.labels))
+  step_admitted : (old new : PolicyState) (step : PolicyStep) → StaysWithin acting start old.objects old.labels → IsBy acting step → Makes old step new
+      → IsAdmitted acting start old.objects old.labels new.objects new.labels
+  step_admitted old new (writes w) facts by is = write_admitted old new w facts by is
+  step_admitted old new (deletes k) facts by is =
+      of_state old (applied (change.Delete k) old.objects) new is.objects (delete_admitted acting start old.objects old.labels facts k new.labels is.labels)
+  step_admitted old new (turns name) facts by is =
+      of_state old (applied (change.Put (put.ClusterRole name (turned old.objects old.labels name is.role))) old.objects) new is.objects
+      (turn_admitted acting start old.objects old.labels facts name is.role new.labels is.found is.labels)
 
   step_keeps : (old new : PolicyState) (step : PolicyStep) → StaysWithin acting start old.objects old.labels → IsBy acting step → Makes old step new → StaysWithin acting start new.objects new.labels
-  step_keeps old new (writes w) facts by is = write_keeps old new w facts by is
-  step_keeps old new (deletes k) facts by is = delete_keeps old new k facts is
-  step_keeps old new (turns name) facts by is = turn_keeps old new name facts is
+  step_keeps old new step facts by is =
+      facts_kept acting start old.objects old.labels facts new.objects new.labels (step_admitted old new step facts by is)
 
   same_state : (old new : PolicyState) → new.objects ≡ old.objects → KeepsLabels old.labels new.labels → StaysWithin acting start old.objects old.labels → StaysWithin acting start new.objects new.labels
   same_state old new objects labels facts = let alike : new.labels ≡ old.labels = λ i. λ q. labels q i in rw (objects, alike) facts
@@ -284,3 +281,14 @@ module _ (acting : List Identity) (start : PolicyObjects) (unprivileged : (who :
   pub run_keeps : (old new : PolicyState) (steps : List PolicyStep) → StaysWithin acting start old.objects old.labels → AreBy acting steps → Runs old steps new → StaysWithin acting start new.objects new.labels
   run_keeps old new [] facts by is = same_state old new is.0 is.1 facts
   run_keeps old new (step ∷ steps) facts by is = run_keeps is.0 new steps (step_keeps old is.0 step facts by.0 is.1.0) by.1 is.1.1
+
+  -- no role gets what no acting identity held at the start, whatever it had in between
+  pub never_grow : (now later : PolicyState) (steps : List PolicyStep) → StaysWithin acting start now.objects now.labels → AreBy acting steps → Runs now steps later
+      → RolesNeverGrow acting start now.objects later.objects
+  never_grow now later [] facts by is kind name namespace a role = inr (subst (λ o. RoleHas o kind name namespace a) is.0 role)
+  never_grow now later (step ∷ steps) facts by is kind name namespace a role =
+      by_case (never_grow is.0 later steps (step_keeps now is.0 step facts by.0 is.1.0) by.1 is.1.1 kind name namespace a role)
+    where
+      by_case : IsOwn acting start (scope_of kind namespace) a ⊎ RoleHas is.0.objects kind name namespace a → IsOwn acting start (scope_of kind namespace) a ⊎ RoleHas now.objects kind name namespace a
+      by_case (inl own) = inl own
+      by_case (inr had) = never_grows acting start now.objects now.labels facts is.0.objects is.0.labels (step_admitted now is.0 step facts by.0 is.1.0) kind name namespace a had

@@ -50,6 +50,12 @@ RolesStayWithin acting start now =
     (kind : RoleKind) (name namespace : List ℕ) (a : Atom) → RoleHas now kind name namespace a
     → IsOwn acting start (scope_of kind namespace) a ⊎ RoleHas start kind name namespace a
 
+-- from one moment to a later one a role gets only what is within what the acting identities held at the start
+abbrev pub RolesNeverGrow : List Identity → PolicyObjects → PolicyObjects → PolicyObjects → Type 0
+RolesNeverGrow acting start now later =
+    (kind : RoleKind) (name namespace : List ℕ) (a : Atom) → RoleHas later kind name namespace a
+    → IsOwn acting start (scope_of kind namespace) a ⊎ RoleHas now kind name namespace a
+
 -- what a turn would add to a cluster role is within what the acting identities held at the start, or is in the role
 abbrev pub TurnsStayWithin : List Identity → PolicyObjects → PolicyObjects → Labels → Type 0
 TurnsStayWithin acting start now labels =

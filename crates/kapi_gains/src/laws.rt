@@ -13,7 +13,7 @@ ghost use Rattle.kapi_gains.specs.Access.{GivesNothing, IsUnprivileged, may};
 ghost use Rattle.kapi_aggregation.specs.Members.{Has};
 ghost use Rattle.kapi_gains.specs.States.{IsSettled, PolicyState, labelled_roles};
 ghost use Rattle.kapi_gains.specs.Steps.{AreBy, IsGuarded, IsRewritten, IsTurned, PolicyStep, Runs};
-ghost use Rattle.kapi_gains.specs.Within.{ActorsHoldOwn, BindingsStayWithin, RolesStayWithin, TurnsStayWithin};
+ghost use Rattle.kapi_gains.specs.Within.{ActorsHoldOwn, BindingsStayWithin, RolesNeverGrow, RolesStayWithin, TurnsStayWithin};
 ghost use Rattle.kapi_gains.specs.Worked.{binder, binding_of_a, bound, eve, filled, turn_of_b, unsettled};
 
 /// Nobody gains what no actor held: whatever is allowed to an identity in a namespace, or cluster-wide, after the run
@@ -35,6 +35,14 @@ pub fn what_is_written_stays_within()
         → IsGuarded acting start → AreBy acting steps → Runs start steps now → RolesStayWithin acting start.objects now.objects }
     ensures bindings { (acting : List Identity) (start now : PolicyState) (steps : List PolicyStep)
         → IsGuarded acting start → AreBy acting steps → Runs start steps now → BindingsStayWithin acting start.objects now.objects }
+{}
+
+/// From any moment of a run on, no role gets what no acting identity held at the start, even if it is deleted and made
+/// again.
+pub fn roles_never_grow()
+    ensures { (acting : List Identity) (start now later : PolicyState) (steps more : List PolicyStep)
+        → IsGuarded acting start → AreBy acting steps → AreBy acting more → Runs start steps now → Runs now more later
+        → RolesNeverGrow acting start.objects now.objects later.objects }
 {}
 
 /// What a turn would add to an aggregated cluster role is what the acting identities held at the start, or in the role.
