@@ -808,11 +808,7 @@ fn kinds<'a>(alloc: Global) -> Arg<'a>
     ensures rule { rule_of result ≡ kinds_rule }
     ensures local { result.global ≡ false }
 {
-    files(
-        alloc,
-        "kinds",
-        "More kinds: a file, or the set kubernetes",
-    )
+    files(alloc, "kinds", "More kinds: a file, or the set kubernetes")
 }
 
 fn readers<'a>(alloc: Global) -> Arg<'a>

@@ -205,5 +205,9 @@ fn ended_reply(alloc: Global, status: &[u8], close: bool) -> Result<EventReply, 
 fn after_end(close: bool) -> After
     ensures { result ≡ watches.after_end close }
 {
-    if close { After::Closes } else { After::WatchEnded }
+    if close {
+        After::Closes
+    } else {
+        After::WatchEnded
+    }
 }

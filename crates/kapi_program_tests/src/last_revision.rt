@@ -1,5 +1,5 @@
 //! A machine at its last revisions: requests that take no revision are answered still, and all others are refused.
-use crate::machine::{MAPS, Expected, first_untold, opened_at};
+use crate::machine::{Expected, MAPS, first_untold, opened_at};
 use kapi_core::{Answer, Core, Event, LAST_FIRST, LoadError};
 use kapi_index::IndexedPolicy;
 use kapi_text::Memory;
