@@ -3,8 +3,8 @@ use Rattle.std.proofs.Common.{◌≡◌, ℕ, suc, ◌<◌, ◌≤◌, Bool, tru
 use Rattle.std.proofs.Math.Dec.{eqb-suc-zero}
 use Rattle.std.proofs.lemmas.Bool.{and_parts}
 use Rattle.std.proofs.lemmas.List.Folds.{list_any-append}
-use Rattle.std.specs.List.{fold, insert, list_any, remove}
-use Rattle.std.specs.Prelude.{slice_index_or}
+use Rattle.std.specs.List.{fold, list_any}
+use Rattle.std.specs.Prelude.{slice_index_or, slice_set}
 use Rattle.std.specs.Str.{bytes_eq}
 use Rattle.kapi_text.proofs.Booleans.{or_assoc, or_false}
 use Rattle.kapi_model.specs.declared.policy_rule.PolicyRule.{PolicyRule}
@@ -29,6 +29,80 @@ texts_are (x ∷ xs) [] h = absurd (cc h)
 texts_are (x ∷ xs) (y ∷ ys) h =
     let parts = and_parts (bytes_eq x y) (same_texts xs ys) h in
     ap (λ (z : List ℕ). z ∷ xs) (same x y parts.0) ∙ ap (λ (zs : List (List ℕ)). y ∷ zs) (texts_are xs ys parts.1)
+
+-- the rule with the list that is joined of another
+abbrev pub with_list : Part → PolicyRule → PolicyRule → PolicyRule
+with_list part.Names a b = record a { resource_names = b.resource_names }
+with_list part.Verbs a b = record a { verbs = b.verbs }
+with_list part.Resources a b = record a { resources = b.resources }
+with_list part.Groups a b = record a { api_groups = b.api_groups }
+with_list part.Urls a b = record a { non_resource_urls = b.non_resource_urls }
+
+pub all_but : (which : Part) (a b : PolicyRule) → are_alike which a b ≡ true → with_list which a b ≡ b
+all_but part.Names a b h =
+    let one = and_parts (same_texts a.verbs b.verbs) _ h in
+    let two = and_parts (same_texts a.api_groups b.api_groups) _ one.1 in
+    let three = and_parts (same_texts a.resources b.resources) _ two.1 in
+    let four = and_parts (same_texts a.non_resource_urls b.non_resource_urls) _ three.1 in
+    (λ i. record {
+      verbs = texts_are a.verbs b.verbs one.0 i;
+      api_groups = texts_are a.api_groups b.api_groups two.0 i;
+      resources = texts_are a.resources b.resources three.0 i;
+      resource_names = b.resource_names;
+      non_resource_urls = texts_are a.non_resource_urls b.non_resource_urls four.0 i;
+    })
+all_but part.Verbs a b h =
+    let one = and_parts (same_texts a.api_groups b.api_groups) _ h in
+    let two = and_parts (same_texts a.resources b.resources) _ one.1 in
+    let three = and_parts (same_texts a.resource_names b.resource_names) (same_texts a.non_resource_urls b.non_resource_urls) two.1 in
+    (λ i. record {
+      verbs = b.verbs;
+      api_groups = texts_are a.api_groups b.api_groups one.0 i;
+      resources = texts_are a.resources b.resources two.0 i;
+      resource_names = texts_are a.resource_names b.resource_names three.0 i;
+      non_resource_urls = texts_are a.non_resource_urls b.non_resource_urls three.1 i;
+    })
+all_but part.Resources a b h =
+    let one = and_parts (same_texts a.verbs b.verbs) _ h in
+    let two = and_parts (same_texts a.api_groups b.api_groups) _ one.1 in
+    let three = and_parts (same_texts a.resource_names b.resource_names) (same_texts a.non_resource_urls b.non_resource_urls) two.1 in
+    (λ i. record {
+      verbs = texts_are a.verbs b.verbs one.0 i;
+      api_groups = texts_are a.api_groups b.api_groups two.0 i;
+      resources = b.resources;
+      resource_names = texts_are a.resource_names b.resource_names three.0 i;
+      non_resource_urls = texts_are a.non_resource_urls b.non_resource_urls three.1 i;
+    })
+all_but part.Groups a b h =
+    let one = and_parts (same_texts a.verbs b.verbs) _ h in
+    let two = and_parts (same_texts a.resources b.resources) _ one.1 in
+    let three = and_parts (same_texts a.resource_names b.resource_names) (same_texts a.non_resource_urls b.non_resource_urls) two.1 in
+    (λ i. record {
+      verbs = texts_are a.verbs b.verbs one.0 i;
+      api_groups = b.api_groups;
+      resources = texts_are a.resources b.resources two.0 i;
+      resource_names = texts_are a.resource_names b.resource_names three.0 i;
+      non_resource_urls = texts_are a.non_resource_urls b.non_resource_urls three.1 i;
+    })
+all_but part.Urls a b h =
+    let one = and_parts (same_texts a.verbs b.verbs) _ h in
+    let two = and_parts (same_texts a.api_groups b.api_groups) _ one.1 in
+    let three = and_parts (same_texts a.resources b.resources) (same_texts a.resource_names b.resource_names) two.1 in
+    (λ i. record {
+      verbs = texts_are a.verbs b.verbs one.0 i;
+      api_groups = texts_are a.api_groups b.api_groups two.0 i;
+      resources = texts_are a.resources b.resources three.0 i;
+      resource_names = texts_are a.resource_names b.resource_names three.1 i;
+      non_resource_urls = b.non_resource_urls;
+    })
+
+pub both_list_names : (a b : PolicyRule) → are_alike part.Names a b ≡ true → (lists_names a ≡ true) × (lists_names b ≡ true)
+both_list_names a b h =
+    let one = and_parts (same_texts a.verbs b.verbs) _ h in
+    let two = and_parts (same_texts a.api_groups b.api_groups) _ one.1 in
+    let three = and_parts (same_texts a.resources b.resources) _ two.1 in
+    let four = and_parts (same_texts a.non_resource_urls b.non_resource_urls) _ three.1 in
+    and_parts (lists_names a) (lists_names b) four.1
 
 -- ---- each list
 
@@ -108,94 +182,33 @@ by_urls a more (point.Url p) =
 
 joined_allows : (which : Part) (a b : PolicyRule) (p : Point) → are_alike which a b ≡ true → allows (joined which a b) p ≡ (allows a p || allows b p)
 joined_allows part.Names a b p h =
-    let one = and_parts (same_texts a.verbs b.verbs) _ h in
-    let two = and_parts (same_texts a.api_groups b.api_groups) _ one.1 in
-    let three = and_parts (same_texts a.resources b.resources) _ two.1 in
-    let four = and_parts (same_texts a.non_resource_urls b.non_resource_urls) _ three.1 in
-    let names = and_parts (lists_names a) (lists_names b) four.1 in
-    let other : record a { resource_names = b.resource_names } ≡ b =
-    (λ i. record {
-      verbs = texts_are a.verbs b.verbs one.0 i;
-      api_groups = texts_are a.api_groups b.api_groups two.0 i;
-      resources = texts_are a.resources b.resources three.0 i;
-      resource_names = b.resource_names;
-      non_resource_urls = texts_are a.non_resource_urls b.non_resource_urls four.0 i;
-    }) in
-    by_names a b.resource_names p names.0 names.1 ∙ ap (λ (r : PolicyRule). allows a p || allows r p) other
-joined_allows part.Verbs a b p h =
-    let one = and_parts (same_texts a.api_groups b.api_groups) _ h in
-    let two = and_parts (same_texts a.resources b.resources) _ one.1 in
-    let three = and_parts (same_texts a.resource_names b.resource_names) (same_texts a.non_resource_urls b.non_resource_urls) two.1 in
-    let other : record a { verbs = b.verbs } ≡ b =
-    (λ i. record {
-      verbs = b.verbs;
-      api_groups = texts_are a.api_groups b.api_groups one.0 i;
-      resources = texts_are a.resources b.resources two.0 i;
-      resource_names = texts_are a.resource_names b.resource_names three.0 i;
-      non_resource_urls = texts_are a.non_resource_urls b.non_resource_urls three.1 i;
-    }) in
-    by_verbs a b.verbs p ∙ ap (λ (r : PolicyRule). allows a p || allows r p) other
-joined_allows part.Resources a b p h =
-    let one = and_parts (same_texts a.verbs b.verbs) _ h in
-    let two = and_parts (same_texts a.api_groups b.api_groups) _ one.1 in
-    let three = and_parts (same_texts a.resource_names b.resource_names) (same_texts a.non_resource_urls b.non_resource_urls) two.1 in
-    let other : record a { resources = b.resources } ≡ b =
-    (λ i. record {
-      verbs = texts_are a.verbs b.verbs one.0 i;
-      api_groups = texts_are a.api_groups b.api_groups two.0 i;
-      resources = b.resources;
-      resource_names = texts_are a.resource_names b.resource_names three.0 i;
-      non_resource_urls = texts_are a.non_resource_urls b.non_resource_urls three.1 i;
-    }) in
-    by_resources a b.resources p ∙ ap (λ (r : PolicyRule). allows a p || allows r p) other
-joined_allows part.Groups a b p h =
-    let one = and_parts (same_texts a.verbs b.verbs) _ h in
-    let two = and_parts (same_texts a.resources b.resources) _ one.1 in
-    let three = and_parts (same_texts a.resource_names b.resource_names) (same_texts a.non_resource_urls b.non_resource_urls) two.1 in
-    let other : record a { api_groups = b.api_groups } ≡ b =
-    (λ i. record {
-      verbs = texts_are a.verbs b.verbs one.0 i;
-      api_groups = b.api_groups;
-      resources = texts_are a.resources b.resources two.0 i;
-      resource_names = texts_are a.resource_names b.resource_names three.0 i;
-      non_resource_urls = texts_are a.non_resource_urls b.non_resource_urls three.1 i;
-    }) in
-    by_groups a b.api_groups p ∙ ap (λ (r : PolicyRule). allows a p || allows r p) other
-joined_allows part.Urls a b p h =
-    let one = and_parts (same_texts a.verbs b.verbs) _ h in
-    let two = and_parts (same_texts a.api_groups b.api_groups) _ one.1 in
-    let three = and_parts (same_texts a.resources b.resources) (same_texts a.resource_names b.resource_names) two.1 in
-    let other : record a { non_resource_urls = b.non_resource_urls } ≡ b =
-    (λ i. record {
-      verbs = texts_are a.verbs b.verbs one.0 i;
-      api_groups = texts_are a.api_groups b.api_groups two.0 i;
-      resources = texts_are a.resources b.resources three.0 i;
-      resource_names = texts_are a.resource_names b.resource_names three.1 i;
-      non_resource_urls = b.non_resource_urls;
-    }) in
-    by_urls a b.non_resource_urls p ∙ ap (λ (r : PolicyRule). allows a p || allows r p) other
+    let names = both_list_names a b h in
+    by_names a b.resource_names p names.0 names.1 ∙ ap (λ (r : PolicyRule). allows a p || allows r p) (all_but part.Names a b h)
+joined_allows part.Verbs a b p h = by_verbs a b.verbs p ∙ ap (λ (r : PolicyRule). allows a p || allows r p) (all_but part.Verbs a b h)
+joined_allows part.Resources a b p h = by_resources a b.resources p ∙ ap (λ (r : PolicyRule). allows a p || allows r p) (all_but part.Resources a b h)
+joined_allows part.Groups a b p h = by_groups a b.api_groups p ∙ ap (λ (r : PolicyRule). allows a p || allows r p) (all_but part.Groups a b h)
+joined_allows part.Urls a b p h = by_urls a b.non_resource_urls p ∙ ap (λ (r : PolicyRule). allows a p || allows r p) (all_but part.Urls a b h)
 
 -- ---- places
 
 found_at : (which : Part) (rules : List PolicyRule) (rule first : PolicyRule) → place_of which rules rule < length rules → first ≡ slice_index_or rules (place_of which rules rule) first
-    → with_rule which rules rule ≡ insert (remove rules (place_of which rules rule)) (place_of which rules rule) (joined which first rule)
+    → with_rule which rules rule ≡ slice_set rules (place_of which rules rule) (joined which first rule)
 unfolding with_rule
 found_at which [] rule first inside there = absurd (omega (arith, inside))
 found_at which (x ∷ rules) rule first inside there = by_case (are_alike which x rule) inside there (found_at which rules rule first)
   where
     by_case : (b : Bool) → (if b then 0 else suc (place_of which rules rule)) < length (x ∷ rules) → first ≡ slice_index_or (x ∷ rules) (if b then 0 else suc (place_of which rules rule)) first
         → (place_of which rules rule < length rules → first ≡ slice_index_or rules (place_of which rules rule) first
-        → with_rule which rules rule ≡ insert (remove rules (place_of which rules rule)) (place_of which rules rule) (joined which first rule))
+        → with_rule which rules rule ≡ slice_set rules (place_of which rules rule) (joined which first rule))
         → (if b then joined which x rule ∷ rules else x ∷ with_rule which rules rule)
-        ≡ insert (remove (x ∷ rules) (if b then 0 else suc (place_of which rules rule))) (if b then 0 else suc (place_of which rules rule)) (joined which first rule)
+        ≡ slice_set (x ∷ rules) (if b then 0 else suc (place_of which rules rule)) (joined which first rule)
     by_case true inside there more = ap (λ (z : PolicyRule). joined which z rule ∷ rules) (sym there)
     by_case false inside there more = ap (λ (l : List PolicyRule). x ∷ l) (more (omega (arith, inside)) there)
 
-pub joined_at : (which : Part) (rules mid new : List PolicyRule) (rule first one : PolicyRule) (place : ℕ) → new ≡ insert mid place one → mid ≡ remove rules place → one ≡ joined which first rule
-    → place ≡ place_of which rules rule → place < length rules → first ≡ slice_index_or rules place first → new ≡ with_rule which rules rule
-joined_at which rules mid new rule first one place is cut join at inside there =
-    is ∙ ap (λ (m : List PolicyRule). insert m place one) cut ∙ ap (λ (r : PolicyRule). insert (remove rules place) place r) join
-    ∙ ap (λ n. insert (remove rules n) n (joined which first rule)) at
+pub joined_at : (which : Part) (rules : List PolicyRule) (rule first new : PolicyRule) (place : ℕ) → new ≡ joined which first rule → place ≡ place_of which rules rule → place < length rules
+    → first ≡ slice_index_or rules place first → slice_set rules place new ≡ with_rule which rules rule
+joined_at which rules rule first new place is at inside there =
+    ap (λ (r : PolicyRule). slice_set rules place r) is ∙ ap (λ n. slice_set rules n (joined which first rule)) at
     ∙ sym (found_at which rules rule first (subst (λ n. n < length rules) at inside) (subst (λ n. first ≡ slice_index_or rules n first) at there))
 
 pub added_last : (which : Part) (rules : List PolicyRule) (rule : PolicyRule) → length rules ≤ place_of which rules rule → with_rule which rules rule ≡ rules ++ rule ∷ []

@@ -14,6 +14,7 @@ pub mod Ties
 pub mod ShownRights
 pub mod Idle
 pub mod Joined
+pub mod Places
 pub mod ByRule
 pub mod Runs
 pub mod Lists

@@ -17,3 +17,4 @@ pub mod Questions
 pub mod Answers
 pub mod Lines
 pub mod Rights
+pub mod Private

@@ -1,9 +1,13 @@
 //! Atoms put together to rules.
-ghost use Rattle.std.specs.Prelude.{◌≡◌, ◌<◌, ◌&&◌, ◌++◌, ◌∷◌, [], length, map, IfOk, OnOk};
+ghost use Rattle.std.specs.Prelude.{◌≡◌, ◌<◌, ◌&&◌, ◌++◌, ◌∷◌, [], Some, true, length, map, string_bytes, IfOk, OnOk};
+ghost use Rattle.std.specs.BTreeMap.{get};
+ghost use Rattle.std.specs.Cmp.Lexicographic.{slice_cmp};
 ghost use Rattle.std.specs.List.{list_any};
+ghost use Rattle.std.specs.Ordering.{nat_cmp};
 ghost use Rattle.kapi_rules.specs.Atoms.{atom_allows, only_names, rule_of as rule_of_atom};
 ghost use Rattle.kapi_rules.specs.Rules.{allows as rule_allows};
 ghost use Rattle.kapi_rules.specs.declared.point.Point.{Point};
+ghost use Rattle.kapi_access.specs.Private.Places as at;
 ghost use Rattle.kapi_access.specs.Together as put;
 
 use crate::part::Part;
@@ -11,6 +15,8 @@ use kapi_model::PolicyRule;
 use kapi_rules::{Atom, Names, ResourceAtom, UrlAtom};
 use kapi_text::{Memory, Sequence, Text, TryCopy};
 use std::alloc::Global;
+use std::collections::BTreeMap;
+use std::mem::replace;
 
 // ---- rules that are alike
 
@@ -66,33 +72,114 @@ fn are_alike(part: Part, a: &PolicyRule, b: &PolicyRule) -> bool
     }
 }
 
-fn both(first: Sequence<Text>, more: Sequence<Text>) -> Result<Sequence<Text>, Memory>
-    ensures { IfOk result (λ s. s ≡ first ++ more) }
-{
-    let mut texts = first.into_vec();
-    texts.append(&mut more.into_vec())?;
-    Ok(Sequence::new(texts))
-}
+// ---- keys
 
-/// The rule with what the other lists besides.
-fn joined(part: Part, rule: PolicyRule, other: PolicyRule) -> Result<PolicyRule, Memory>
-    ensures { IfOk result (λ r. r ≡ put.joined part rule other) }
+fn push_list(key: &mut String, texts: &Sequence<Text>) -> Result<(), Memory>
+    ensures { OnOk result (string_bytes key.new ≡ string_bytes key.old ++ at.list_key texts.now) }
 {
-    let mut rule = rule;
-    match part {
-        Part::Names => rule.resource_names = both(rule.resource_names, other.resource_names)?,
-        Part::Verbs => rule.verbs = both(rule.verbs, other.verbs)?,
-        Part::Resources => rule.resources = both(rule.resources, other.resources)?,
-        Part::Groups => rule.api_groups = both(rule.api_groups, other.api_groups)?,
-        Part::Urls => rule.non_resource_urls = both(
-            rule.non_resource_urls,
-            other.non_resource_urls,
-        )?,
+    for text in texts.as_slice() {
+        key.push_str(text.as_str())?;
+        key.push_str("\n")?;
     }
-    Ok(rule)
+    key.push_str("\n")
 }
 
-// ---- passes
+fn key_of_lists(
+    alloc: Global,
+    first: &Sequence<Text>,
+    second: &Sequence<Text>,
+    third: &Sequence<Text>,
+    fourth: &Sequence<Text>,
+) -> Result<Text, Memory>
+    ensures { IfOk result (λ k. k ≡ at.key_of_lists first.now second.now third.now fourth.now) }
+{
+    let mut key = String::new(alloc);
+    push_list(&mut key, first)?;
+    push_list(&mut key, second)?;
+    push_list(&mut key, third)?;
+    push_list(&mut key, fourth)?;
+    Ok(Text::new(key))
+}
+
+/// A text that rules which are alike have in common: all lists but the one that is joined.
+fn key_of(alloc: Global, part: Part, rule: &PolicyRule) -> Result<Text, Memory>
+    ensures { IfOk result (λ k. k ≡ at.key_of part rule.now) }
+{
+    let PolicyRule {
+        verbs,
+        api_groups,
+        resources,
+        resource_names,
+        non_resource_urls,
+    } = rule;
+    match part {
+        Part::Names => key_of_lists(alloc, verbs, api_groups, resources, non_resource_urls),
+        Part::Verbs => key_of_lists(
+            alloc,
+            api_groups,
+            resources,
+            resource_names,
+            non_resource_urls,
+        ),
+        Part::Resources => {
+            key_of_lists(alloc, verbs, api_groups, resource_names, non_resource_urls)
+        }
+        Part::Groups => key_of_lists(alloc, verbs, resources, resource_names, non_resource_urls),
+        Part::Urls => key_of_lists(alloc, verbs, api_groups, resources, resource_names),
+    }
+}
+
+fn can_be_joined(part: Part, rule: &PolicyRule) -> bool
+    ensures { result ≡ at.can_be_joined part rule.now }
+{
+    match part {
+        Part::Names => lists_names(rule),
+        Part::Verbs => true,
+        Part::Resources => true,
+        Part::Groups => true,
+        Part::Urls => true,
+    }
+}
+
+// ---- joining
+
+fn append(alloc: Global, texts: &mut Sequence<Text>, more: Sequence<Text>) -> Result<(), Memory>
+    ensures { OnOk result (texts.new ≡ texts.old ++ more) }
+{
+    let mut all = replace(texts, Sequence::new(Vec::new(alloc))).into_vec();
+    all.append(&mut more.into_vec())?;
+    *texts = Sequence::new(all);
+    Ok(())
+}
+
+/// Adds to the rule what the other lists besides.
+fn join(alloc: Global, part: Part, rule: &mut PolicyRule, other: PolicyRule) -> Result<(), Memory>
+    ensures { OnOk result (rule.new ≡ put.joined part rule.old other) }
+{
+    match part {
+        Part::Names => append(alloc, &mut rule.resource_names, other.resource_names),
+        Part::Verbs => append(alloc, &mut rule.verbs, other.verbs),
+        Part::Resources => append(alloc, &mut rule.resources, other.resources),
+        Part::Groups => append(alloc, &mut rule.api_groups, other.api_groups),
+        Part::Urls => append(alloc, &mut rule.non_resource_urls, other.non_resource_urls),
+    }
+}
+
+fn join_at(
+    alloc: Global,
+    part: Part,
+    rules: &mut Vec<PolicyRule>,
+    place: usize,
+    rule: PolicyRule,
+) -> Result<(), Memory>
+    requires place { place ≡ put.place_of part rules.old.items rule }
+    requires inside { place < length rules.old.items }
+    ensures { OnOk result (rules.new.items ≡ put.with_rule part rules.old.items rule) }
+{
+    join(alloc, part, &mut rules[place], rule)
+}
+
+// ---- places
 
 /// The index of the first rule that is like the other, or of all of them.
 fn place_of(part: Part, rules: &[PolicyRule], rule: &PolicyRule) -> usize
@@ -108,28 +195,86 @@ fn place_of(part: Part, rules: &[PolicyRule], rule: &PolicyRule) -> usize
     place
 }
 
-fn join_at(
+#[tactic(auto, using(crate::proofs::Joined::added_last))]
+fn add_by_search(
+    alloc: Global,
+    part: Part,
+    rules: &mut Vec<PolicyRule>,
+    rule: PolicyRule,
+) -> Result<(), Memory>
+    ensures { OnOk result (rules.new.items ≡ put.with_rule part rules.old.items rule) }
+{
+    let place = place_of(part, rules.as_slice(), &rule);
+    if place < rules.len() {
+        return join_at(alloc, part, rules, place, rule);
+    }
+    rules.push(rule)?;
+    Ok(())
+}
+
+/// Adds a rule, with the place of the first that has its key: if they are not alike (an entry has a line feed, say), the rules are
+/// searched.
+fn add_at(
+    alloc: Global,
     part: Part,
     rules: &mut Vec<PolicyRule>,
     place: usize,
     rule: PolicyRule,
 ) -> Result<(), Memory>
-    requires place { place ≡ put.place_of part rules.old.items rule }
-    requires inside { place < length rules.old.items }
+    requires { at.first_with part (at.key_of part rule) rules.old.items ≡ Some place }
     ensures { OnOk result (rules.new.items ≡ put.with_rule part rules.old.items rule) }
 {
-    let first = rules.remove(place);
-    rules.insert(place, joined(part, first, rule)?)?;
-    Ok(())
+    if are_alike(part, &rules[place], &rule) {
+        join_at(alloc, part, rules, place, rule)
+    } else {
+        add_by_search(alloc, part, rules, rule)
+    }
 }
 
-#[tactic(auto, using(crate::proofs::Joined::added_last))]
-fn add(part: Part, rules: &mut Vec<PolicyRule>, rule: PolicyRule) -> Result<(), Memory>
-    ensures { OnOk result (rules.new.items ≡ put.with_rule part rules.old.items rule) }
+fn noted(places: &BTreeMap<Text, usize>, key: &Text) -> Option<usize>
+    ensures { result ≡ get (slice_cmp nat_cmp) places.now key.now }
 {
-    let place = place_of(part, rules.as_slice(), &rule);
-    if place < rules.len() {
-        return join_at(part, rules, place, rule);
+    places.get(key).copied()
+}
+
+fn add_with_key(
+    alloc: Global,
+    part: Part,
+    rules: &mut Vec<PolicyRule>,
+    places: &mut BTreeMap<Text, usize>,
+    key: Text,
+    rule: PolicyRule,
+) -> Result<(), Memory>
+    requires places { at.ArePlaces part rules.old.items places.old }
+    requires key { key ≡ at.key_of part rule }
+    requires can { at.can_be_joined part rule ≡ true }
+    ensures rules { OnOk result (rules.new.items ≡ put.with_rule part rules.old.items rule) }
+    ensures places { OnOk result (at.ArePlaces part rules.new.items places.new) }
+{
+    match noted(places, &key) {
+        Some(place) => add_at(alloc, part, rules, place, rule),
+        None => {
+            drop(places.insert(key, rules.len())?);
+            rules.push(rule)?;
+            Ok(())
+        }
+    }
+}
+
+fn add(
+    alloc: Global,
+    part: Part,
+    rules: &mut Vec<PolicyRule>,
+    places: &mut BTreeMap<Text, usize>,
+    rule: PolicyRule,
+) -> Result<(), Memory>
+    requires { at.ArePlaces part rules.old.items places.old }
+    ensures rules { OnOk result (rules.new.items ≡ put.with_rule part rules.old.items rule) }
+    ensures places { OnOk result (at.ArePlaces part rules.new.items places.new) }
+{
+    if can_be_joined(part, &rule) {
+        let key = key_of(alloc, part, &rule)?;
+        return add_with_key(alloc, part, rules, places, key, rule);
     }
     rules.push(rule)?;
     Ok(())
@@ -144,8 +289,9 @@ fn put_together(
     ensures { IfOk result (λ v. v.items ≡ put.put_together part rules.items) }
 {
     let mut list = Vec::new(alloc);
+    let mut places = BTreeMap::new(alloc);
     for rule in rules {
-        add(part, &mut list, rule)?;
+        add(alloc, part, &mut list, &mut places, rule)?;
     }
     Ok(list)
 }
