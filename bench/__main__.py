@@ -1,4 +1,4 @@
-"""Measures a program. usage: python3 -m bench PROGRAM [NAME,NAME.. [WORD..]]     those that want python3 alone if none is named"""
+"""Measures a program. usage: python3 -m bench PROGRAM [NAME,NAME.. [WORD..]]     those that need python3 alone if none is named"""
 import sys
 
 from tools.chosen import Module, main

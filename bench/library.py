@@ -1,6 +1,6 @@
 """Measures the C library: processor time of a load and of a decision, by the number of bindings.
 
-usage: python3 -m bench.library PROGRAM [FOLDER]     the folder that `make library PREFIX=..` wrote, out/library if left out; wants cc
+usage: python3 -m bench.library PROGRAM [FOLDER]     the folder that `make library PREFIX=..` wrote, out/library if left out; needs cc
 
 Each binding gives a user of its own a role: in one of 100 or 10 namespaces, or cluster-wide. Half of the questions are allowed. The program is not run.
 """

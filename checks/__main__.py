@@ -1,4 +1,4 @@
-"""Runs the checks of a program. usage: python3 -m checks PROGRAM [NAME,NAME.. [WORD..]]     the quick ones that want python3 alone if none is named"""
+"""Runs the checks of a program. usage: python3 -m checks PROGRAM [NAME,NAME.. [WORD..]]     the quick ones that need python3 alone if none is named"""
 import importlib.util
 import pathlib
 import sys

@@ -147,5 +147,5 @@ def alike(run):
     finally:
         other.stop()
     shown = in_shadow(run, other.path / f"audit-{other.port}.log")[-1]
-    assert shown.endswith(" 0 otherwise"), shown
+    assert shown.endswith(" 0 that differ"), shown
     return f"of {count} reviews {counts[True]} are allowed, of {count} requests {refused} refused, all by both; of the log {shown}"

@@ -74,7 +74,7 @@ class ApiServer:
         return [etcd, "--data-dir", str(self.path / "etcd"), *listen, "--initial-advertise-peer-urls", peer, "--initial-cluster", f"default={peer}"]
 
     def flags(self):
-        """Those of docs/CLUSTER.md, and what else an API server wants."""
+        """Those of docs/CLUSTER.md, and what else an API server needs."""
         config = self.path / f"webhook-{self.webhook}.yaml"
         config.write_text(HOOK % self.webhook)
         hook = {"config-file": config, "version": self.version, "cache-authorized-ttl": "0s", "cache-unauthorized-ttl": "0s"}

@@ -1,6 +1,6 @@
 """Runs tools/mirror.py between an API server and Kapi, ends and starts each part in each order, and looks whether anybody is let in or kept out wrongly.
 
-usage: python3 -m checks.cluster PROGRAM [CHANGES]     wants python3-kubernetes and setpriv
+usage: python3 -m checks.cluster PROGRAM [CHANGES]     needs python3-kubernetes and setpriv
 
 With KUBE_APISERVER and ETCD, the paths of the two programs, the API server is a real one (checks/api_server.py), else the stand-in of
 checks/stand_in.py. While the steps run, bob, who may list pods, eve, who may not, and a member of system:masters ask the API server without pause:
@@ -22,7 +22,7 @@ import urllib.parse
 from checks.mirrored import API, GROUP, MANY, NAMED, PODS, RBAC, ROOT, SECONDS, SECRETS, SELF, SELF_REVIEW, WEBHOOK, Asker, Client, Mirror, Run, binding, role, until_equal
 
 if not importlib.util.find_spec("kubernetes"):
-    sys.exit("this check wants the package kubernetes of Python: apt-get install python3-kubernetes, and PYTHON=/usr/bin/python3")
+    sys.exit("this check needs the package kubernetes of Python: apt-get install python3-kubernetes, and PYTHON=/usr/bin/python3")
 
 
 def cluster_alone(run):
@@ -406,7 +406,7 @@ def shadow(run):
         pathlib.Path(path[name]).write_text("".join(json.dumps(it) + "\n" for it in items))
     words = [sys.executable, "tools/shadow.py", "--kapi", run.program, "--before", path["before"], "--policy", path["after"], path["log"]]
     said = subprocess.run(words, stdout=subprocess.PIPE, text=True).stdout
-    assert "47 decisions, 47 alike, 0 otherwise\n" in said and "\n1         ann   default    create            configmaps\n" in said, said
+    assert "47 decisions, 47 alike, 0 that differ\n" in said and "\n1         ann   default    create            configmaps\n" in said, said
     return said.strip().splitlines()[-1]
 
 
@@ -416,7 +416,7 @@ STEPS = (cluster_alone, mirror_later, set_up_is_seen, grants_are_seen, kapi_kill
 
 
 def cluster_of(webhook):
-    """The real one if there is one, else the stand-in; how it is called; and what steps want it."""
+    """The real one if there is one, else the stand-in; how it is called; and what steps need it."""
     if "KUBE_APISERVER" in os.environ and "ETCD" in os.environ:
         from checks import real_cluster
         from checks.api_server import ApiServer

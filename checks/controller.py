@@ -1,7 +1,7 @@
 """Runs the controller of examples/controller twice before a server: one leads and does its work, the other takes over once it is ended, and a missing
 permission shows as a 403 that names it.
 
-usage: python3 -m checks.controller PROGRAM     wants Debian's package python3-kubernetes
+usage: python3 -m checks.controller PROGRAM     needs Debian's package python3-kubernetes
 """
 import json
 import pathlib
@@ -46,18 +46,18 @@ def said(log, words):
 
 
 def begin(program, room, objects, *roles):
-    """A server, a door to the controller's port, and the controllers of these names with their logs."""
+    """A server, a discovery proxy to the controller's port, and the controllers of these names with their logs."""
     ports = free()
-    root, account, door = (next(ports) for _each in range(3))
+    root, account, proxy = (next(ports) for _each in range(3))
     file = pathlib.Path(room, "objects.jsonl")
     file.write_text(objects)
     kinds = ["--kinds", "kubernetes", "--kinds", str(EXAMPLE / "widgets.kinds")]
     running = [started([program, "serve", *kinds, "--load", str(file), f"{root}=root,system:masters", f"{account}={ACCOUNT}"], 2)]
-    running.append(started([sys.executable, "tools/door.py", str(door), str(account), "kubernetes", str(EXAMPLE / "widgets.kinds")], 1))
+    running.append(started([sys.executable, "tools/kubectl_proxy.py", str(proxy), str(account), "kubernetes", str(EXAMPLE / "widgets.kinds")], 1))
     logs = []
     for name in roles:
         log = pathlib.Path(room, name)
-        running.append(subprocess.Popen(["/usr/bin/python3", EXAMPLE / "controller.py", f"http://127.0.0.1:{door}", name], stdout=log.open("w")))
+        running.append(subprocess.Popen(["/usr/bin/python3", EXAMPLE / "controller.py", f"http://127.0.0.1:{proxy}", name], stdout=log.open("w")))
         logs.append(log)
         wait_for(said(log, "leads") if name == roles[0] else log.exists)
     return root, running, logs

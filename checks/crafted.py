@@ -170,7 +170,7 @@ class Client:
         return answer.status, told
 
     def ask_without_answer(self, target, body, seconds=0.1):
-        """The cost of the first try of a request whose answer is not had for want of memory. It is tried again five times a second."""
+        """The cost of the first try of a request whose answer is not had for lack of memory. It is tried again five times a second."""
         before = self.server.precise()
         self.connection.request("POST", target, compact(body))
         time.sleep(seconds)
@@ -281,7 +281,7 @@ CASES = (
     ("four lists of 8 entries, none held: 4,096 causes", 0.05, lambda it: check(it, [], [square(8)], False)),
     ("four lists of 16 entries, none held: 65,536 causes", 0.2, lambda it: check(it, [], [square(16)], False)),
     ("four lists of 56 entries, held in two halves", 0.01, lambda it: check(it, halves(56), [square(56)], True)),
-    ("four lists of 320 entries, none held: refused for want of memory", 0.01, refused),
+    ("four lists of 320 entries, none held: refused for lack of memory", 0.01, refused),
     (f"{RULES:,} rules against as many, by resource", 0.5, lambda it: check(it, resources(), resources(), True)),
     (f"{RULES:,} rules against as many, by name", 0.5, lambda it: check(it, names(), names(), True)),
     (f"{RULES:,} rules against as many, by path", 0.5, lambda it: check(it, paths(), paths(), True)),

@@ -1,6 +1,6 @@
 """Plays the cases of transcripts with every growth of memory that they make refused in turn.
 
-usage: python3 -m checks.growths PROGRAM [TRANSCRIPT..]     that of the demo if none is named; wants cc
+usage: python3 -m checks.growths PROGRAM [TRANSCRIPT..]     that of the demo if none is named; needs cc
 
 Each case is played as a script, but those that load a file or recheck rights.
 
@@ -180,8 +180,8 @@ def play_all(program, shim, name, lines, workers):
 
 def main(program, *files):
     with multiprocessing.Pool() as workers, tempfile.TemporaryDirectory() as room:
-        shim = f"{room}/refuse.so"
-        subprocess.run(["cc", "-shared", "-fPIC", "-O2", "-o", shim, pathlib.Path(__file__).with_name("refuse.c"), "-ldl"], check=True)
+        shim = f"{room}/fail_alloc.so"
+        subprocess.run(["cc", "-shared", "-fPIC", "-O2", "-o", shim, pathlib.Path(__file__).with_name("fail_alloc.c"), "-ldl"], check=True)
         well = []
         for file in files or [DEMO]:
             for number, lines in enumerate(cases.scripts(pathlib.Path(file).read_bytes()), 1):

@@ -12,7 +12,7 @@ import subprocess
 import sys
 import tempfile
 
-from tools import door
+from tools import kubectl_proxy
 
 CRATES = pathlib.Path(__file__).parent.parent / "crates"
 SOURCES = [CRATES / "kapi_core/src/resource.rt", CRATES / "kapi_core/src/programs.rt"]
@@ -117,8 +117,8 @@ def misdone(program, words, status, text, is_there):
 
 
 def main(program):
-    own = door.own_rows()
-    common = door.added_rows("kubernetes")
+    own = kubectl_proxy.own_rows()
+    common = kubectl_proxy.added_rows("kubernetes")
     wrong = [it for it in (misread(program, *each) for each in REFUSED) if it]
     wrong += [it for it in (misdone(program, *each) for each in COMMANDS) if it]
     for ran in (asked(program, own), asked(program, common, "kinds kubernetes")):

@@ -1,6 +1,6 @@
-"""Runs everyday commands of kubectl through the door of tools/door.py, and compares how what each prints begins with a table.
+"""Runs everyday commands of kubectl through tools/kubectl_proxy.py, and compares how what each prints begins with a table.
 
-usage: python3 -m checks.kubectl PROGRAM [KUBECTL]     from kubectl 1.32 on it wants Debian's packages that tools/bodies.py names
+usage: python3 -m checks.kubectl PROGRAM [KUBECTL]     from kubectl 1.32 on it needs Debian's packages that tools/bodies.py names
 
 The last line counts the commands that work. The exit status is 1 if a line differs from the table.
 """
@@ -171,10 +171,10 @@ create service clusterip front --tcp=80:80 | service/front created
 get svc | NAME
 describe service front | Name:              front
 get all | NAME
-create job j --image=x | job.batch/j created | 32-: error: failed to create job: the door hands on no such protobuf
-create cronjob c --image=x --schedule='* * * * *' | cronjob.batch/c created | -20: error: failed to create cronjob: no such resource | 32-: error: failed to create cronjob: the door hands on no such protobuf
-create ingress i --rule=a/b=front:80 | ingress.networking.k8s.io/i created | 32-: error: failed to create ingress: the door hands on no such protobuf
-create poddisruptionbudget pdb --selector=a=b --min-available=1 | poddisruptionbudget.policy/pdb created | -20: error: no matches for kind "PodDisruptionBudget" | 32-: error: failed to create poddisruptionbudgets: the door hands on no such protobuf
+create job j --image=x | job.batch/j created | 32-: error: failed to create job: the discovery proxy passes on no such protobuf
+create cronjob c --image=x --schedule='* * * * *' | cronjob.batch/c created | -20: error: failed to create cronjob: no such resource | 32-: error: failed to create cronjob: the discovery proxy passes on no such protobuf
+create ingress i --rule=a/b=front:80 | ingress.networking.k8s.io/i created | 32-: error: failed to create ingress: the discovery proxy passes on no such protobuf
+create poddisruptionbudget pdb --selector=a=b --min-available=1 | poddisruptionbudget.policy/pdb created | -20: error: no matches for kind "PodDisruptionBudget" | 32-: error: failed to create poddisruptionbudgets: the discovery proxy passes on no such protobuf
 create quota q --hard=pods=2 | resourcequota/q created
 create priorityclass pc --value=10 | priorityclass.scheduling.k8s.io/pc created | 32-: error
 get pvc,netpol,hpa | No resources found
@@ -235,13 +235,13 @@ def main(program, kubectl="kubectl"):
     kinds = ["kubernetes", KINDS]
     options = [word for name in kinds for word in ("--kinds", name)]
     with Server(program, "--first-revision", "clock", *options, objects=objects), tempfile.TemporaryDirectory() as room:
-        door = started([PYTHON, "tools/door.py", str(OTHER), str(ROOT), *kinds], 1)
+        proxy = started([PYTHON, "tools/kubectl_proxy.py", str(OTHER), str(ROOT), *kinds], 1)
         for name, item in FILES.items():
             file = pathlib.Path(room, name)
             file.parent.mkdir(exist_ok=True)
             file.write_text(json.dumps(item))
         wrong, working = wrong_and_working(kubectl, room)
-        door.kill()
+        proxy.kill()
     print(f"{working} of {len(TABLE.strip().splitlines())} commands work")
     return 1 if wrong else 0
 

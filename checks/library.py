@@ -1,7 +1,7 @@
 """Checks the C library and the packages over it, and compares it with `kapi audit`.
 
 usage: python3 -m checks.library PROGRAM [FOLDER [QUESTIONS [SEED]]]     the folder that `make library PREFIX=..` wrote, out/library
-if left out, 10,000 questions and the seed 1; wants cc, and runs what valgrind, c++, cargo and go are there
+if left out, 10,000 questions and the seed 1; needs cc, and runs what valgrind, c++, cargo and go are there
 
 C: each export, each fault, each allocation refused in turn; with valgrind once more. What the shared object shows, and its size.
 Python: its tests; random questions over the policies of examples/ with the answers of the program, and lists; 8 threads with a handle each.

@@ -1,6 +1,6 @@
 """Files of manifests as people have them, of each form, through `kapi compare`, `kapi who` and `kapi risks`: what loads, what is told of it, and what is refused.
 
-usage: python3 -m checks.manifests PROGRAM     wants bash, and the package PyYAML for the files of YAML
+usage: python3 -m checks.manifests PROGRAM     needs bash, and the package PyYAML for the files of YAML
 """
 import importlib.util
 import json

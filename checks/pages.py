@@ -1,6 +1,6 @@
 """Runs the commands of README and of the pages for users, and compares what they print with what the page shows.
 
-usage: python3 -m checks.pages PROGRAM [PAGE..]      wants curl and jq; a block that wants more is left out if that is not there
+usage: python3 -m checks.pages PROGRAM [PAGE..]      needs curl and jq; a block that needs more is left out if that is not there
 
 A block marked `sh` is run by bash at the top of a copy of the repository. The next block without a mark is what a terminal shows of
 it, but for line ends at the end; a block that shows nothing must end with status 0. The server of `make serve-demo` goes on until the
@@ -22,7 +22,7 @@ from tools.server import started
 HERE = pathlib.Path(__file__).resolve().parent.parent
 PAGES = ("README.md", *(f"docs/{name}.md" for name in ("USING", "AUDIT", "REPLAY", "COMPARE", "DEPLOYING", "ESCALATION", "KUBERNETES")))
 LEFT_OUT = ("make ", "sudo ", "git ")
-SERVERS = ("kapi serve ", "make serve-demo", "python3 tools/door.py ")
+SERVERS = ("kapi serve ", "make serve-demo", "python3 tools/kubectl_proxy.py ")
 WANTED = {"kubectl ": ["kubectl", "version", "--client"], "tools/policy.py": ["python3", "-c", "import yaml"], "import client": ["python3", "-c", "import kubernetes"]}
 
 

@@ -1,4 +1,4 @@
-"""The steps of checks/cluster.py that want a real kube-apiserver: modes, certificates and etcd are not the stand-in's."""
+"""The steps of checks/cluster.py that need a real kube-apiserver: modes, certificates and etcd are not the stand-in's."""
 import contextlib
 import time
 

@@ -1,6 +1,6 @@
 """Kills a server behind a running informer and starts it again, with fewer and with more objects, and looks at the informer's cache.
 
-usage: python3 -m checks.restart PROGRAM     wants the package kubernetes of Python, and stands the door (tools/door.py) before the server
+usage: python3 -m checks.restart PROGRAM     needs the package kubernetes of Python; a client asks through the discovery proxy (tools/kubectl_proxy.py)
 
 The informer lists, watches from the list's revision, goes on from the last revision that it saw where its connection breaks, and lists anew
 where it is told 410, as client-go's does. The exit status is 1 where its cache is not the server's list within 10 s.
@@ -70,7 +70,7 @@ def is_right_after(informer, number):
 
 
 def main(program):
-    door = started([sys.executable, "tools/door.py", str(OTHER), str(ROOT)], 1)
+    proxy = started([sys.executable, "tools/kubectl_proxy.py", str(OTHER), str(ROOT)], 1)
     informer, wrong = Informer(), 0
     for number in (40, 20, 80, 0):
         with Server(program, "--first-revision", "clock", objects=objects(number)):
@@ -81,7 +81,7 @@ def main(program):
         said = "its cache is wrong" if seconds is None else f"its cache is right after {seconds:.1f} s"
         print(f"{number} objects: {said}, {informer.lists} lists so far")
         time.sleep(1)
-    door.kill()
+    proxy.kill()
     return 1 if wrong else 0
 
 

@@ -1,6 +1,6 @@
 """The program's exit statuses, what it writes on standard error, and of some commands what it prints; servers that do not start among them.
 
-usage: python3 -m checks.statuses PROGRAM     wants bash
+usage: python3 -m checks.statuses PROGRAM     needs bash
 """
 import json
 import os

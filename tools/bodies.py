@@ -1,6 +1,6 @@
 """Bodies of requests in Kubernetes' protobuf as the JSON that Go writes of them: exactly, or not at all.
 
-It wants Debian's python3-protobuf and protobuf-compiler, and Kubernetes' messages and types (generated.proto and types.go): those of 2019 in Debian's
+It needs Debian's python3-protobuf and protobuf-compiler, and Kubernetes' messages and types (generated.proto and types.go): those of 2019 in Debian's
 golang-github-openshift-api-dev, or others below a folder that the variable KUBERNETES_SOURCES names, as staging/src of `apt-get source kubernetes`.
 """
 import base64

@@ -8,9 +8,9 @@ from dataclasses import dataclass
 
 @dataclass
 class Module:
-    """What a module wants besides python3, and the words behind the program where no module is named; without such words it is then left out."""
+    """What a module needs besides python3, and the words after the program if no module is named; without such words it is then left out."""
 
-    wants: str = ""
+    needs: str = ""
     words: tuple = None
 
 
@@ -45,7 +45,7 @@ def main(folder, modules, jobs, program, names="", *words):
         failed = failed if is_failed else [it for it in failed if it != name]
     for name, module in modules.items():
         if not named and name not in chosen:
-            print(f"{name}: left out, as it {'wants ' + module.wants if module.wants else 'takes long'}; ONLY={name} runs it")
+            print(f"{name}: left out, as it {'needs ' + module.needs if module.needs else 'takes long'}; ONLY={name} runs it")
     if failed:
         print(f"of {folder}/ failed: {', '.join(failed)}")
     return 1 if failed else 0

@@ -1,5 +1,5 @@
 #!/bin/sh
-# Builds the C library of what the gate proved, and installs header, libkapi.a, libkapi.so and kapi.pc. usage: library.sh PREFIX     wants cc and objcopy
+# Builds the C library of what the gate proved, and installs header, libkapi.a, libkapi.so and kapi.pc. usage: library.sh PREFIX     needs cc and objcopy
 set -e
 cd "$(dirname "$0")/.."
 mkdir -p "${1:?usage: library.sh PREFIX}"

@@ -1,7 +1,7 @@
 #!/usr/bin/env python3
 """Runs a `kapi serve` that has the roles and bindings of a cluster, so that the cluster's API server can ask it what is allowed (docs/CLUSTER.md).
 
-usage: mirror.py [--kubeconfig FILE] [--kapi PROGRAM] ROOT WEBHOOK     wants setpriv and the package kubernetes of Python
+usage: mirror.py [--kubeconfig FILE] [--kapi PROGRAM] ROOT WEBHOOK     needs setpriv and the package kubernetes of Python
 ROOT and WEBHOOK are ports of 127.0.0.1: root's, by which Kapi is kept equal, and the one to which reviews are posted. The exit status is 2 if
 the kubeconfig cannot be read and 3 if the cluster refuses its user. Kapi ends whenever this does.
 """
@@ -26,7 +26,7 @@ try:
     import yaml
     from kubernetes import client, config
 except ImportError:
-    sys.exit("mirror.py wants the package kubernetes of Python: apt-get install python3-kubernetes")
+    sys.exit("mirror.py needs the package kubernetes of Python: apt-get install python3-kubernetes")
 
 RBAC = "rbac.authorization.k8s.io/v1"
 KINDS = {"ClusterRole": "clusterroles", "Role": "roles", "ClusterRoleBinding": "clusterrolebindings", "RoleBinding": "rolebindings"}

@@ -1,6 +1,6 @@
 """Makes JSON of files of YAML, one object a line, as kapi compare, who and risks read it.
 
-usage: python3 tools/policy.py FILE..     wants the package PyYAML; several documents of a file, lists and folders are read
+usage: python3 tools/policy.py FILE..     needs the package PyYAML; several documents of a file, lists and folders are read
 """
 import json
 import pathlib

@@ -73,7 +73,7 @@ def show_differences(events, answers):
     for event, answer in differ:
         decided = f"API server {event['annotations'][DECISION]}, policy {'allow' if answer else 'forbid'}"
         print(f"{decided}: {event['requestReceivedTimestamp']} {event['requestURI']} {json.dumps(question(event))}")
-    print(f"{len(events)} decisions, {len(events) - len(differ)} alike, {len(differ)} otherwise")
+    print(f"{len(events)} decisions, {len(events) - len(differ)} alike, {len(differ)} that differ")
     return len(differ)
 
 

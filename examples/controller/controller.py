@@ -1,7 +1,7 @@
 #!/usr/bin/env python3
 """A controller of Widgets: each has a ConfigMap of its name with its size, and a status that says so. Of several that run one leads.
 
-usage: controller.py URL NAME     wants Debian's package python3-kubernetes
+usage: controller.py URL NAME     needs Debian's package python3-kubernetes
 
 It prints `leads` when it begins to lead, `made NAME` for each Widget that is as wanted, and what the server refuses. It ends with status 1
 once it cannot renew its lease.

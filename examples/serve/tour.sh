@@ -1,5 +1,5 @@
 #!/bin/sh
-# Runs a session against the server of `make serve-demo`, each command shown before its output. Wants curl and jq.
+# Runs a session against the server of `make serve-demo`, each command shown before its output. Needs curl and jq.
 roles=127.0.0.1:8001/apis/rbac.authorization.k8s.io/v1/namespaces/default
 
 remove() {

@@ -115,7 +115,7 @@ def _library() -> ctypes.CDLL:
     library.kapi_drop.restype = None
     library.kapi_drop.argtypes = [policy]
     if library.kapi_abi() != ABI:
-        raise ImportError(f"the library has interface {library.kapi_abi()}, and this package wants {ABI}")
+        raise ImportError(f"the library has interface {library.kapi_abi()}, and this package needs {ABI}")
     return library
 
 

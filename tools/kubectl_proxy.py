@@ -1,13 +1,13 @@
 #!/usr/bin/env python3
-"""A door for kubectl: answers what it asks about the kinds of objects first, and hands on everything else to a port of Kapi.
+"""A discovery proxy for kubectl: answers what it asks about the kinds of objects first, and passes on everything else to a port of Kapi.
 
-usage: door.py PORT SERVED [KINDS..]     PORT of 127.0.0.1 is listened on, SERVED is the port of `kapi serve` that stands behind it, and
-                                         KINDS are the files of its --kinds
+usage: kubectl_proxy.py PORT SERVED [KINDS..]     it listens on PORT of 127.0.0.1; SERVED is a port of `kapi serve`, and KINDS are the files
+                                                  of its --kinds
 
 It answers GET of /api, /apis, their groups, /version and /openapi/v2 by tools/kinds.txt and the files, reads `watch=True`, as Python's
-client writes it, as `watch=true`, and hands on a strategic merge patch as a merge patch if both mean the same, and an object in protobuf, as
-kubectl from 1.32 on sends some, as JSON if the packages are there that tools/bodies.py wants. Requests, answers and watches pass unchanged
-otherwise, whoever asks: the port behind it says who that is.
+client writes it, as `watch=true`, and passes on a strategic merge patch as a merge patch if both mean the same, and an object in protobuf, as
+kubectl from 1.32 on sends some, as JSON if the packages are there that tools/bodies.py needs. All other requests, answers and watches
+pass unchanged. Whoever asks is the user of the port SERVED.
 """
 import asyncio
 import contextlib
@@ -34,7 +34,7 @@ OPENAPI = b"\x0a\x032.0\x12\x0c\x0a\x04kapi\x12\x04v1.0"
 
 
 class Refused(Exception):
-    """What the door does not hand on."""
+    """What the proxy does not pass on."""
 
 
 @dataclass
@@ -203,7 +203,7 @@ READ = {STRATEGIC: as_merge}
 
 def refusal(why):
     status = {"kind": "Status", "apiVersion": "v1", "metadata": {}, "status": "Failure", "reason": "UnsupportedMediaType", "code": 415,
-              "message": f"the door hands on {why}"}
+              "message": f"the discovery proxy passes on {why}"}
     return answer(b"415 Unsupported Media Type", JSON, json.dumps(status).encode())
 
 
@@ -239,7 +239,7 @@ async def hand_back(reader, writer):
 
 
 async def hand_on(reader, client, writer):
-    """The requests of a client, one after the other; an answer of the door itself stands in its place, since a client waits for each."""
+    """The requests of a client, one after the other; an answer of the proxy itself takes its place in the order, since a client waits for each."""
     while True:
         head = await reader.readuntil(b"\r\n\r\n")
         told, read = told_for(head), READ.get(field(head, b"content-type"))
