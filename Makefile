@@ -13,13 +13,14 @@ NEEDS_RT = @command -v rt > /dev/null || { echo 'rt, the Rattle toolchain, is no
 help: ## try: lists the targets
 	@for group in try use change; do echo "To $$group:"; sed -n "s/^\([a-z-]*\):.*## $$group: /\1 /p" Makefile | while read -r name what; do printf '  make %-16s%s\n' "$$name" "$$what"; done; done
 
-demo: ## try: runs EXAMPLE=demo, audit, compare or replay; no proofs
+demo: ## try: EXAMPLE=demo, audit, compare, questions or replay
 	@sh tools/unproved.sh
 	@cd examples/$(EXAMPLE) && PATH="$(CURDIR)/out/try:$$PATH" sh -v command
 
 serve-demo: ## try: starts a server for ten minutes; no proofs (README.md)
 	@sh tools/unproved.sh
-	@echo 'Port 8001 is for root, port 8002 for ann. When it listens go on in another terminal, as docs/USING.md says:'
+	@echo 'Port 8001 is for root, port 8002 for ann. When it listens go on in another terminal (README.md, docs/USING.md):'
+	@echo '  sh examples/serve/tour.sh                                       what README.md shows'
 	@echo '  curl -s 127.0.0.1:8002/api/v1/namespaces/default/configmaps     what ann may list'
 	@echo '  curl -s 127.0.0.1:8002/api/v1/namespaces/default/secrets        what ann may not'
 	@cd examples/serve && PATH="$(CURDIR)/out/try:$$PATH" timeout --foreground 600 $$(cat command) || test $$? = 124

@@ -351,18 +351,22 @@ def part(text, head):
 
 
 def other_examples(program, room):
-    """The example of each command's help prints what stands below it there, and so do the commands of docs/COMPARE.md."""
+    """Examples of helps and pages that print something else than shown, and lines of helps that are wider than 80 columns."""
     for command in ("script", "audit", "replay", "compare", "who", "what", "risks", "paths", "check", "suggest"):
         text = subprocess.run([program, command, "--help"], capture_output=True, text=True).stdout
         told = shell(program, part(text, "Example:"), room)
         if told != part(text, "It prints"):
             yield f"the example of kapi {command} --help: {told}"
-    page = re.sub("^```.*?^```", "", pathlib.Path("docs/COMPARE.md").read_text(), flags=re.M | re.S)
-    wanted = "".join(f"{it}\n" for it in re.findall("^    (.*)", page, re.M))
-    commands = re.findall("^[$] (.*)\n", wanted, re.M)
-    told = "".join(f"$ {it}\n" + shell(program, it, room / "compare") for it in commands)
-    if told != wanted or commands != (EXAMPLES / "compare/command").read_text().splitlines():
-        yield f"docs/COMPARE.md: {told}"
+    for words in ("", *COMMANDS):
+        text = subprocess.run([program, *words.split(), "--help"], capture_output=True, text=True).stdout
+        yield from (f"kapi {words} --help: {len(it)} columns: {it}" for it in text.splitlines() if len(it) > 80)
+    for name, example in ("COMPARE", "compare"), ("QUESTIONS", "questions"):
+        page = re.sub("^```.*?^```", "", pathlib.Path(f"docs/{name}.md").read_text(), flags=re.M | re.S)
+        wanted = "".join(f"{it}\n" for it in re.findall("^    (.*)", page, re.M))
+        commands = re.findall("^[$] (.*)\n", wanted, re.M)
+        told = "".join(f"$ {it}\n" + shell(program, it, room / example) for it in commands)
+        if told != wanted or commands != (EXAMPLES / example / "command").read_text().splitlines():
+            yield f"docs/{name}.md: {told}"
 
 
 def at_a_terminal(program, room):
@@ -395,7 +399,7 @@ def main(program):
         kapi = str(room / "bin/kapi")
         wrong = [f"kapi {case.words!r}, {case.input[:80]!r}, {case.files}: {got}" for case in cases if (got := fault(kapi, case, room))]
         wrong += [*other_examples(kapi, room), *at_another_revision(kapi), *at_a_terminal(kapi, room)]
-    print(*wrong, f"{len(cases)} commands, 10 examples of help, docs/COMPARE.md and {len(REVISIONS)} servers: {len(wrong)} not as they should be", sep="\n")
+    print(*wrong, f"{len(cases)} commands, 10 examples of help, two pages and {len(REVISIONS)} servers: {len(wrong)} not as they should be", sep="\n")
     return 1 if wrong else 0
 
 
