@@ -20,7 +20,7 @@ from checks.statuses import part, shell
 from tools.server import started
 
 HERE = pathlib.Path(__file__).resolve().parent.parent
-PAGES = ("README.md", *(f"docs/{name}.md" for name in ("USING", "AUDIT", "REPLAY", "COMPARE", "DEPLOYING", "ESCALATION", "KUBERNETES")))
+PAGES = ("README.md", *(f"docs/{name}.md" for name in ("USING", "AUDIT", "REPLAY", "COMPARE", "DEPLOYING", "ESCALATION", "KINDS", "KUBERNETES", "POLICIES")))
 LEFT_OUT = ("make ", "sudo ", "git ")
 SERVERS = ("kapi serve ", "make serve-demo", "python3 tools/kubectl_proxy.py ")
 WANTED = {"kubectl ": ["kubectl", "version", "--client"], "tools/policy.py": ["python3", "-c", "import yaml"], "import client": ["python3", "-c", "import kubernetes"]}
