@@ -13,7 +13,7 @@ NEEDS_RT = @command -v rt > /dev/null || { echo 'rt, the Rattle toolchain, is no
 help: ## try: lists the targets
 	@for group in try use change; do echo "To $$group:"; sed -n "s/^\([a-z-]*\):.*## $$group: /\1 /p" Makefile | while read -r name what; do printf '  make %-16s%s\n' "$$name" "$$what"; done; done
 
-demo: ## try: EXAMPLE=demo, audit, compare, questions or replay
+demo: ## try: EXAMPLE=demo, audit, compare, replay or rights
 	@sh tools/unproved.sh
 	@cd examples/$(EXAMPLE) && PATH="$(CURDIR)/out/try:$$PATH" sh -v command
 

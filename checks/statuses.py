@@ -360,7 +360,7 @@ def other_examples(program, room):
     for words in ("", *COMMANDS):
         text = subprocess.run([program, *words.split(), "--help"], capture_output=True, text=True).stdout
         yield from (f"kapi {words} --help: {len(it)} columns: {it}" for it in text.splitlines() if len(it) > 80)
-    for name, example in ("COMPARE", "compare"), ("QUESTIONS", "questions"):
+    for name, example in ("COMPARE", "compare"), ("QUESTIONS", "rights"):
         page = re.sub("^```.*?^```", "", pathlib.Path(f"docs/{name}.md").read_text(), flags=re.M | re.S)
         wanted = "".join(f"{it}\n" for it in re.findall("^    (.*)", page, re.M))
         commands = re.findall("^[$] (.*)\n", wanted, re.M)
