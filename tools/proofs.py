@@ -2,7 +2,7 @@
 """Prints each public call of each crate with the clauses that are proved of it and what it does, read from the sources.
 
 usage: proofs.py             the list of public calls (make proofs-page)
-       proofs.py --lines     the lines of the definitions that docs/PROOFS.md names; status 1 if the page has other numbers
+       proofs.py --lines     the lines of the definitions that docs/PROOFS.md names; status 1 if it or README has other numbers
 """
 import pathlib
 import re
@@ -115,18 +115,29 @@ def reached(file, seen):
 
 
 def count():
-    """Prints the lines of each row of the page's table; whether the page says the same numbers."""
-    total, is_right = 0, True
+    """Prints the lines of each row of the page's table; whether the page and README say the same numbers."""
+    parts, is_right = [], True
     for part, names, said in re.findall(r"^\| (\d+) \|.*\| ([^|]+) \| (\d+) \|$", PAGE.read_text(), re.M):
         found = {name: lines(definition(name)) for name in re.findall(r"`(\w+/\w+)`", names)}
-        total += sum(found.values())
+        parts.append([*found.values()])
         is_right = is_right and sum(found.values()) == int(said)
         print(part, sum(found.values()), *(f"{name} {number}" for name, number in found.items()))
-    seen = set()
-    for name in ("core/Machine", "core/Gains"):
-        reached(definition(name), seen)
-        print(f"{name} and what it imports: {sum(map(lines, seen))} lines of {len(seen)} files")
-    print(f"the table: {total} lines")
+    seen, whole = set(), [lines(it) for it in CRATES.glob("*/specs/**/*.antt")]
+    reached(definition("core/Machine"), seen)
+    machine, read = lines(definition("core/Machine")), sum(map(lines, seen))
+    sentences = {
+        f"The table has {sum(map(sum, parts)):,} lines in {sum(map(len, parts))} files, of some {round(sum(whole), -2):,} lines in all.": PAGE,
+        f"`Machine.antt` and all that it imports from Kapi's crates have {read:,} lines in {len(seen)} files.": PAGE,
+        f'For "nobody gains" read parts 1 to 4, {sum(map(sum, parts[:4]))} lines.': PAGE,
+        f"With the first six files, {sum(parts[6][:6])} lines,": PAGE,
+        f"The other four, {sum(parts[6][6:])} lines,": PAGE,
+        f"`step` in `kapi_core/specs/Machine.antt`, {machine} lines.": PAGE,
+        f"`crates/kapi_core/specs/Machine.antt`: {machine} lines, {round(read, -2):,} with all they cite": ROOT / "README.md",
+    }
+    for said, page in sentences.items():
+        is_there = said in " ".join(page.read_text().split())
+        is_right = is_right and is_there
+        print(f"{page.name}: {said}" + ("" if is_there else " IS NOT THERE"))
     return int(not is_right)
 
 
