@@ -116,14 +116,17 @@ def reached(file, seen):
 
 def count():
     """Prints the lines of each row of the page's table; whether the page and README say the same numbers."""
-    parts, is_right = [], True
+    parts, table, is_right = [], set(), True
     for part, names, said in re.findall(r"^\| (\d+) \|.*\| ([^|]+) \| (\d+) \|$", PAGE.read_text(), re.M):
         found = {name: lines(definition(name)) for name in re.findall(r"`(\w+/\w+)`", names)}
         parts.append([*found.values()])
+        for name in found:
+            reached(definition(name), table)
         is_right = is_right and sum(found.values()) == int(said)
         print(part, sum(found.values()), *(f"{name} {number}" for name, number in found.items()))
-    seen, whole = set(), [lines(it) for it in CRATES.glob("*/specs/**/*.antt")]
+    seen, refines, whole = set(), set(), [lines(it) for it in CRATES.glob("*/specs/**/*.antt")]
     reached(definition("core/Machine"), seen)
+    reached(definition("core/Refines"), refines)
     machine, read = lines(definition("core/Machine")), sum(map(lines, seen))
     sentences = {
         f"The table has {sum(map(sum, parts)):,} lines in {sum(map(len, parts))} files, of some {round(sum(whole), -2):,} lines in all.": PAGE,
@@ -131,6 +134,7 @@ def count():
         f'For "nobody gains" read parts 1 to 4, {sum(map(sum, parts[:4]))} lines.': PAGE,
         f"With the first six files, {sum(parts[6][:6])} lines,": PAGE,
         f"The other four, {sum(parts[6][6:])} lines,": PAGE,
+        f"what only it needs ({sum(map(lines, refines - table))} lines together).": PAGE,
         f"`step` in `kapi_core/specs/Machine.antt`, {machine} lines.": PAGE,
         f"`crates/kapi_core/specs/Machine.antt`: {machine} lines, {round(read, -2):,} with all they cite": ROOT / "README.md",
     }
