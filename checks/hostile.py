@@ -2,7 +2,7 @@
 
 usage: python3 -m checks.hostile PROGRAM [ATTACK..]     all attacks if none is named
 
-Without any right: greedy flood silent stalled idle spin line readers. With the right to read: list selector window. To
+Without any right: greedy flood silent stalled idle spin line readers trees. With the right to read: list selector window. To
 create roles: memory missing rules bound_again. To create cluster roles: labels. To create reviews: groups repeats.
 Each attack starts a server of its own on free ports, and is bounded in count and time. The exit status is 1 where one is
 above its bound.
@@ -381,6 +381,28 @@ def timed(client, *words):
     return 1000 * (time.monotonic() - begin), answer
 
 
+def trees(program):
+    """A review of a megabyte of small objects by a user without a right, and a small patch of as much that is stored."""
+    junk = ",".join(['{"":0}'] * (1_000_000 // 7))
+    review = '{"apiVersion":"authorization.k8s.io/v1","kind":"SelfSubjectAccessReview","spec":{"resourceAttributes":{"verb":"get"}},"x":[' + junk + "]}"
+    stored = '{"apiVersion":"v1","kind":"ConfigMap","metadata":{"name":"a"},"x":[' + junk + "]}"
+    with Server(program) as server:
+        ann, root = connect(ports.ANN), connect(ports.ROOT)
+        reviewed = cost_of(server, ann, "POST", "/apis/authorization.k8s.io/v1/selfsubjectaccessreviews", review)
+        cost_of(server, root, "POST", MAPS, stored)
+        patched = cost_of(server, root, "PATCH", f"{MAPS}/a", '{"data":{"k":"1"}}')
+    return judge("a review of a megabyte and a patch of one", [("seconds of processor time", reviewed, 0.5), ("of the patch", patched, 1)])
+
+
+def cost_of(server, client, method, path, body):
+    """Seconds of the server's processor time for a request that is answered with 200 or 201."""
+    before = server.precise()
+    client.sendall(request(method, path, body))
+    answer = whole_answer(client)
+    used = server.precise() - before
+    return used if answer.startswith((b"HTTP/1.1 200", b"HTTP/1.1 201")) else 1_000
+
+
 def long_list(program):
     """A list of many objects, by one who may list them."""
     made = [{"apiVersion": "v1", "kind": "ConfigMap", "metadata": {"name": f"m{number:06}", "namespace": "default"}, "data": {"k": "a" * 100}} for number in range(LISTED)]
@@ -466,7 +488,7 @@ def window(program):
     return judge(f"a deletion of {REMOVED:,} objects", [("bytes shown to a watch that it does not concern", len(quiet_shown), 0), ("events lost of another watch", 1 - events, 0)])
 
 
-ATTACKS = {it.__name__: it for it in (greedy, flood, silent, stalled, idle, spin, line, readers, selector, window, memory, missing, rules, bound_again, labels, groups, repeats)}
+ATTACKS = {it.__name__: it for it in (greedy, flood, silent, stalled, idle, spin, line, readers, trees, selector, window, memory, missing, rules, bound_again, labels, groups, repeats)}
 ATTACKS["list"] = long_list
 
 
