@@ -188,7 +188,7 @@ fn is_flushed(rt: &impl Abort, alloc: Global, seat: &mut Seat) {
     assert!(rt; flushed.is_ok() && unflushed.get() == 0);
 }
 
-/// Checks that an audit of a client that cannot be read, or written to, ends with that fault.
+/// Checks how an audit ends if its client cannot be read, or written to.
 fn is_broken(rt: &impl Abort, alloc: Global, seat: &mut Seat) {
     let unread = answer_run(alloc, seat, &mut Broken, &mut Vec::new(alloc));
     assert!(rt; unread == Err(AnswerFault::Read));
