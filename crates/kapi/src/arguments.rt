@@ -330,7 +330,7 @@ fn played<'a>(alloc: Global) -> Result<Command<'a>, Memory>
     ensures { IfOk result (λ c. (app_of c ≡ played_app) × ((out-Command c).has_globals ≡ false)) }
 {
     Command::new(alloc, "replay")
-        .about("Runs policy tests and prints which answers differ from the expected ones")
+        .about("Runs policy tests and prints each answer that is not as expected")
         .after_help(REPLAY_FORMS)
         .arg(flag(
             alloc,
