@@ -382,13 +382,13 @@ def timed(client, *words):
 
 
 def trees(program):
-    """A review of a megabyte of small objects by a user without a right, and a small patch of as much that is stored."""
+    """A review with a megabyte of small objects, and a small patch of as much that is stored."""
     junk = ",".join(['{"":0}'] * (1_000_000 // 7))
     review = '{"apiVersion":"authorization.k8s.io/v1","kind":"SelfSubjectAccessReview","spec":{"resourceAttributes":{"verb":"get"}},"x":[' + junk + "]}"
     stored = '{"apiVersion":"v1","kind":"ConfigMap","metadata":{"name":"a"},"x":[' + junk + "]}"
     with Server(program) as server:
-        ann, root = connect(ports.ANN), connect(ports.ROOT)
-        reviewed = cost_of(server, ann, "POST", "/apis/authorization.k8s.io/v1/selfsubjectaccessreviews", review)
+        root = connect(ports.ROOT)
+        reviewed = cost_of(server, root, "POST", "/apis/authorization.k8s.io/v1/selfsubjectaccessreviews", review)
         cost_of(server, root, "POST", MAPS, stored)
         patched = cost_of(server, root, "PATCH", f"{MAPS}/a", '{"data":{"k":"1"}}')
     return judge("a review of a megabyte and a patch of one", [("seconds of processor time", reviewed, 0.5), ("of the patch", patched, 1)])
