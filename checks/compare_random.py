@@ -73,7 +73,7 @@ def changed(rng, before):
             bindings[place] = binding(rng, place[0])
         elif roles:
             del roles[rng.choice(sorted(roles))]
-    return roles, bindings
+    return (roles, bindings) if roles or bindings else before
 
 
 def written(made):
