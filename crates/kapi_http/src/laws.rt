@@ -52,14 +52,14 @@ pub fn heads_end_where_the_grammar_ends()
         → settled bytes ≡ settled_of (take n bytes) (Some (says head)) }
 {}
 
-/// A head that is printed by the grammar within the limits is read, whatever follows it.
+/// A head printed by the grammar within the limits is read, whatever follows it.
 pub fn printed_heads_are_read()
     ensures { (h : RequestHead) (more : List ℕ) → IsRequestHead h → length (print_request h) ≤ 16384 → length h.fields ≤ 64
         → settled (print_request h ++ more) ≡ settled_of (print_request h) (Some (says h)) }
 {}
 
-/// A body that is printed in chunks is read as these chunks and no others, whatever follows it, and so is the request
-/// of a printed head that says that its body comes in chunks (RFC 9112 section 7.1).
+/// A body printed in chunks is read as these chunks and no others, whatever follows it. The same holds of a request
+/// whose printed head announces a chunked body (RFC 9112 section 7.1).
 pub fn printed_chunks_are_read()
     ensures whole { (parts : List (List ℕ)) (more : List ℕ) → AreChunks parts
         → chunked no_chunks (body_text parts ++ more)
@@ -99,8 +99,8 @@ pub fn requests_are_those_of_the_grammar()
         → text ++ more ≡ other ++ rest → (text ≡ other) × (r ≡ s) }
 {}
 
-/// For any bytes, the requests that are cut from them are those of the texts at their front, one behind the other up to
-/// the first bytes that begin with none.
+/// The requests cut from any bytes are those of the texts at their front, one behind the other, up to the first bytes
+/// that begin with none.
 pub fn texts_of_requests_are_cut()
     ensures read { (bytes : List ℕ) → AreCut bytes (cut bytes).requests }
     ensures whole { (bytes : List ℕ) (requests : List HttpRequest) → AreCut bytes requests → (cut bytes).requests ≡ requests }

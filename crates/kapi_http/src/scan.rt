@@ -103,7 +103,8 @@ fn skip_line(scan: Scan, bytes: &[u8]) -> (Scan, &[u8])
     (scan, rest)
 }
 
-// The scan behind one byte and the rest of the line in which it stands then, if any, and the bytes that follow.
+// The scan after `byte` and, if this leaves it inside a line, after the rest of that line. Returns the bytes behind
+// these too.
 #[tactic(auto, unfolding(crate::specs::Scan::scanned))]
 fn scan_piece(scan: Scan, byte: u8, rest: &[u8]) -> (Scan, &[u8])
     requires going { is_ended scan.place ≡ false }

@@ -11,8 +11,8 @@ use kapi_text::Memory;
 use serde_json::{Map, Value};
 use std::alloc::Global;
 
-/// A declared object: a JSON tree (RFC 8259) without any number that reads as a float, the members of each of its
-/// objects in the order of their keys, which nests no deeper than a text that is read as JSON.
+/// A declared object: a JSON tree (RFC 8259) whose numbers are integers. The members of each JSON object are in the
+/// order of their keys. It nests no deeper than a text that is read as JSON.
 #[derive(Debug, Drop)]
 pub struct Object {
     tree: Value,

@@ -285,8 +285,8 @@ impl Client {
         }
     }
 
-    /// Moves the watch on that has shown all that was due to it, or shows the next event of another. A client without a
-    /// watch, and one that takes no more bytes, stays as it is.
+    /// Moves a watch on if it has shown all its due events; otherwise shows the next one. A client without a watch stays
+    /// as it is, and so does one that takes no more bytes.
     pub(crate) fn pass<R: Wait, P: Policy + Drop>(
         &mut self,
         rt: &R,

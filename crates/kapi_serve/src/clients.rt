@@ -28,7 +28,7 @@ use kapi_text::Memory;
 use std::alloc::Global;
 use std::sync::Wait;
 
-/// After so many changes all watches are woken: one that no change concerned stays within the changes that are kept.
+/// After so many changes all watches are woken, so each stays within the kept changes, even if none concerned it.
 const WAKE_ALL_AFTER: u64 = 256;
 
 /// The number of list positions that are remembered; more than the connections open at a time.

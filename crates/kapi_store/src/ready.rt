@@ -8,9 +8,9 @@ use std::alloc::Global;
 use std::collections::BTreeMap;
 use std::marker::Model;
 
-/// A write that is prepared: the changes that `Store::commit` will make, with all their memory.
+/// A prepared write: the changes that `Store::commit` will make, with all their memory.
 ///
-/// A prepared write that is dropped changes nothing that is seen; the next creation takes out the hidden slot that it made.
+/// Dropping it changes nothing visible. A creation leaves a hidden slot then, which the next creation takes out.
 #[derive(Debug, Drop)]
 pub struct Ready {
     list: Vec<Change>,

@@ -21,7 +21,7 @@ ghost use Rattle.kapi_stored_policy.specs.declared.kind.PolicyKind.TheVariants a
 ghost use Rattle.kapi_policy.specs.Steps.{after_changes};
 ghost use Rattle.kapi_stored_policy.specs.Reading.{policy_changes, policy_objects};
 
-/// The policy that the objects are after a write is the policy that they were before it with the changes of that write.
+/// The policy of the objects after a write is their policy before it, with the changes of that write.
 #[tactic(auto, using(crate::proofs::Writes::policy_after))]
 pub fn a_write_is_its_policy_changes()
     ensures { (cs : List PlainChange) (os : List (Key × Data)) → IsStrictlySortedBy key_cmp (keys_of os)
