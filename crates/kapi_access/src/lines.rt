@@ -72,7 +72,7 @@ fn push_head_object(alloc: Global, text: &mut Vec<u8>, line: &Line<'_>) -> Resul
     text.extend_from_slice(b"\n")
 }
 
-/// The line that names the question that is answered below.
+/// The line with the question, above its answer.
 fn push_head(alloc: Global, form: Form, text: &mut Vec<u8>, line: &Line<'_>) -> Result<(), Memory>
     ensures { OnOk result (text.new.items ≡ text.old.items ++ told.head form (line_of line.now)) }
 {

@@ -1,4 +1,4 @@
-//! Laws of the answers to requests that only read, each the clause of a function that does nothing.
+//! Laws of the answers to reads. Each is the clause of a function that does nothing.
 ghost use Rattle.std.specs.Prelude.{◌≡◌, Bool, List, Result, Ok};
 ghost use Rattle.kapi_answer.specs.Impersonation.{made_as};
 ghost use Rattle.kapi_answer.specs.Watch.{PlainWatching};
@@ -9,9 +9,9 @@ ghost use Rattle.kapi_model.specs.declared.identity.Identity.{Identity};
 ghost use Rattle.kapi_policy.specs.Objects.{PolicyObjects};
 ghost use Rattle.kapi_store.specs.Plain.{Plain, PlainChange};
 
-/// Two states that allow the caller the same, and that whoever the request is made as sees alike, answer it alike, byte for byte, if
-/// it only reads: a get, a list, the start of a watch, a review of the caller's own rights, a health request, or a request that is
-/// refused before its action counts.
+/// Two states answer a request alike, byte for byte, if they allow the caller the same, its effective identity sees them
+/// alike, and it only reads: a get, a list, the start of a watch, a review of the caller's own rights, a health request,
+/// or a request refused before its action counts.
 pub fn reads_show_only_what_may_be_read()
     ensures { (objects other : PolicyObjects) (s t : Plain) (caller : Identity) (item : Result HttpRequest HttpFault)
         → DecidesAlike caller objects other

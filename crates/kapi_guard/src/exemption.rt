@@ -9,8 +9,8 @@ use kapi_rules::{Point, ResourcePoint};
 use kapi_text::{Memory, Text};
 use std::alloc::Global;
 
-/// Whether the identity may write without holding the rules: if it may escalate the roles that the request asks for,
-/// or bind the role that a binding refers to. Members of `system:masters` may do both.
+/// Whether the identity may write without holding the rules: it may escalate the requested roles, or bind the role to
+/// which the binding refers. Members of `system:masters` may do both.
 pub fn is_exempt<P: Policy>(
     alloc: Global,
     policy: &P,

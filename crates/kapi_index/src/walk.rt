@@ -277,7 +277,7 @@ fn namespace_grant<'a>(
     }
 }
 
-// The first rule that allows the point, among those that the identity holds in the namespace.
+// The first of the rules held by the identity in the namespace to allow the point.
 #[tactic(auto, unfolding(kapi_policy::specs::Decided::granted, kapi_policy::specs::Decided::bindings_in), using(kapi_policy::proofs::Firsts::first_some_append))]
 fn grant<'a>(
     policy: &'a IndexedPolicy,

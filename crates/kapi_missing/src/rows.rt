@@ -109,7 +109,7 @@ fn push_under<'i>(row: &mut Vec<&'i Numbers>, sets: &'i Sets<'_>, text: &[u8]) -
     Ok(())
 }
 
-// The rules that list the word, and the rules that meet any word.
+// The rules listing the word, and the rules meeting any word.
 fn push_word<'i>(
     row: &mut Vec<&'i Numbers>,
     any: &'i Numbers,
@@ -189,7 +189,7 @@ fn push_text<'i>(
     }
 }
 
-/// The rules that meet the entry: held ones that cover it, and wanted ones that list it.
+/// The rules meeting the entry: held ones cover it, wanted ones list it.
 pub fn row<'i>(
     alloc: Global,
     rules: &'i Rules<'_>,

@@ -8,7 +8,7 @@ use kapi_text::{Memory, Sequence};
 use std::alloc::Global;
 use std::marker::Model;
 
-/// What one write changes in a policy: nothing, one object that is put or deleted, or objects that are deleted.
+/// What one write changes in a policy: nothing, one object put or deleted, or several deleted.
 /// Contracts see the list of changes.
 #[derive(Debug, Drop)]
 pub struct PolicyStep {

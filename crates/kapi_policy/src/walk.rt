@@ -198,7 +198,7 @@ fn namespace_grant<'a>(
     None
 }
 
-// The first rule that allows the point, among those that the identity holds in the namespace.
+// The first of the rules held by the identity in the namespace to allow the point.
 #[tactic(auto, unfolding(crate::specs::Decided::granted, crate::specs::Decided::bindings_in), using(crate::proofs::Firsts::first_some_append))]
 fn grant<'a>(
     policy: &'a PlainPolicy,

@@ -18,9 +18,9 @@ use kapi_text::{Memory, Sequence, Text};
 use serde_json::Value;
 use std::alloc::{AllocError, Global};
 
-/// A declared object as it is kept: its JSON text, compact, with keys in the order of their bytes (RFC 8259). Beside the
-/// text stands what is asked for often, so that the text need not be read for it: the labels that are texts, the rule by
-/// which a cluster role takes rules from others, and the revisions that created the object and wrote it last.
+/// A declared object as it is kept: its JSON text, compact, with keys in the order of their bytes (RFC 8259). What is
+/// asked for often stands beside it, so the text need not be read for it: labels with text values, the rule by which a
+/// cluster role takes rules from others, and the revisions of the object's creation and last write.
 #[derive(Debug, Drop)]
 pub struct StoredObject {
     text: Text,

@@ -17,8 +17,8 @@ use kapi_store::{Change, Key, Ready};
 use kapi_text::{Memory, TryCopy};
 use std::alloc::Global;
 
-/// The changes of the policy by a write, in their order: a put for each role and binding that is written, a deletion for
-/// each that is removed. The objects are admitted ones.
+/// The changes of the policy by a write, in their order: a put for each role and binding written, a deletion for each
+/// removed. The objects are admitted ones.
 #[tactic(auto, using(crate::proofs::Steps::changes_step))]
 pub fn policy_changes(alloc: Global, write: &Ready) -> Result<PolicyStep, Memory>
     ensures { IfOk result (λ s. s ≡ reading.policy_changes (map plain_change write.now)) }

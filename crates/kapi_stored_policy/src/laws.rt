@@ -1,4 +1,4 @@
-//! Laws of the policy that the stored objects are, each the clause of a function that does nothing.
+//! Laws of the policy of the stored objects. Each is the clause of a function that does nothing.
 ghost use Rattle.std.specs.Prelude.{◌≡◌, ℕ, List, [], Some, Ok, IfOk, codes};
 ghost use Rattle.std.specs.List.Sorted.{IsStrictlySortedBy};
 ghost use Rattle.std.specs.Map.{keys_of, lookup};

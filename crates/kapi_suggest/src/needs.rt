@@ -171,7 +171,7 @@ fn without_implied(alloc: Global, atoms: Vec<Atom>, by: &UsedAtoms) -> Result<Ve
     Ok(kept)
 }
 
-/// The atoms that a place needs, given those that were used there.
+/// The atoms needed at a place, given those used there.
 fn needed_at(
     alloc: Global,
     list: &BTreeMap<Place, UsedAtoms>,

@@ -1,4 +1,4 @@
-//! Atoms that were used, and look-ups of those that imply one.
+//! Used atoms, and look-ups of those implying one.
 ghost use Rattle.std.specs.Prelude.{◌≡◌, ◌||◌, ◌++◌, ◌∷◌, [], IfOk, OnOk};
 ghost use Rattle.std.specs.Option.{unwrap_or};
 ghost use Rattle.kapi_rules.specs.Entries.{star};

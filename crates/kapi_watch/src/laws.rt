@@ -22,9 +22,9 @@ pub fn writes_leave_what_a_watch_stands_for()
     ensures { StaysOverWrites }
 {}
 
-/// What a watch from a revision on shows, on top of the list at that revision, is the list now, for the objects that it
-/// selects. This holds of all that is due to it, and of what it has shown while the window holds, once nothing is due
-/// any more. A watch that shows the objects first makes the list on top of nothing.
+/// The events of a watch from a revision on, applied to its list at that revision, make its list now. This holds of all
+/// events due to it, and of those it has shown while the window holds, once none is due. A watch that begins with the
+/// present objects makes the list from nothing.
 pub fn what_a_watch_shows_makes_the_list()
     ensures due { DueRebuildsList }
     ensures shown { ShownRebuildsList }
