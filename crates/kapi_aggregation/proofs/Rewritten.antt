@@ -23,7 +23,7 @@ use Rattle.kapi_store.specs.Faults.{StoreFault, Conflict}
 use Rattle.kapi_store.specs.Keys.{is_key}
 use Rattle.kapi_store.specs.Plain.{Plain, PlainChange, admits, replaced, replacement, replacement_at, revisions_left}
 use Rattle.kapi_store.specs.Same.{same_tree}
-use Rattle.kapi_store.specs.Stamps.{replaced_tree, uid_in, version_in, with_stamps_of}
+use Rattle.kapi_store.specs.UidAndVersion.{replaced_tree, uid_in, version_in, with_stamps_of}
 use Rattle.kapi_aggregation.specs.Rewriting.{AreRewrites, IsRewrite, rewriting, rewriting_of, role_key, with_rules}
 use Rattle.kapi_aggregation.specs.declared.turn.Turn.{Turn}
 

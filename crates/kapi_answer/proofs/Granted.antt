@@ -30,7 +30,7 @@ use Rattle.kapi_store.specs.Faults.{StoreFault, Missing}
 use Rattle.kapi_store.specs.Keys.{is_key}
 use Rattle.kapi_store.specs.Plain.{Plain, PlainChange, creation_at, creation_in_place, removable, removal, removals, replaced, replacement_in_place, replacement_at, revisions_left}
 use Rattle.kapi_store.specs.Same.{same_tree}
-use Rattle.kapi_store.specs.Stamps.{uid_in, uid_of, version_in, with_stamps_of}
+use Rattle.kapi_store.specs.UidAndVersion.{uid_in, uid_of, version_in, with_stamps_of}
 use Rattle.kapi_store.specs.declared.key.Key.{Key}
 use Rattle.kapi_stored_policy.proofs.Sound.{either_holds, then_holds}
 use Rattle.kapi_stored_policy.specs.Kind.{policy_kind}
@@ -44,7 +44,7 @@ use Rattle.kapi_answer.specs.Create.{Admitted, admitted, created, creates, with_
 use Rattle.kapi_answer.specs.Delete.{Deletion, removed, removes, to_delete}
 use Rattle.kapi_answer.specs.Get.{found, found_if}
 use Rattle.kapi_answer.specs.Impersonation.{AreGrantedAs, acts_as, acts_or_refused, made_as}
-use Rattle.kapi_answer.specs.Outcome.{Outcome}
+use Rattle.kapi_answer.specs.Response.{Response}
 use Rattle.kapi_answer.specs.Review.{in_review_namespace, review_kind, to_answer, to_review}
 use Rattle.kapi_answer.specs.Watch.{since_served}
 use Rattle.kapi_answer.specs.Update.{replaces, to_patch, to_update, told_after}
@@ -103,45 +103,45 @@ module _ (objects : PolicyObjects) (identity : Identity) where
 
   -- ---- what a plan changes
 
-  abbrev IsGrantedOutcome : Outcome → Type 0
-  IsGrantedOutcome o = Granted o.changes
+  abbrev IsGrantedResponse : Response → Type 0
+  IsGrantedResponse o = Granted o.changes
 
   -- the changes that an answer reports are granted; a watch changes nothing
   abbrev IsGrantedPassed : Passed → Type 0
-  IsGrantedPassed (told outcome) = IsGrantedOutcome outcome
+  IsGrantedPassed (told response) = IsGrantedResponse response
   IsGrantedPassed (watching w) = Unit {0}
 
   -- an answer without a change changes nothing, and what is written is granted
   abbrev IsGrantedPlan : Plan → Type 0
-  IsGrantedPlan (tell outcome) = outcome.changes ≡ []
+  IsGrantedPlan (tell response) = response.changes ≡ []
   IsGrantedPlan (watch w) = Unit {0}
   IsGrantedPlan (create new) = IsGrantedNew new
   IsGrantedPlan (replace new) = IsGrantedNew new
   IsGrantedPlan (delete deletion) = Unit {0}
 
-  create_granted : (s : Plain) (new : Key × Data) → IsGrantedNew new → IfOk (creates s new) IsGrantedOutcome
+  create_granted : (s : Plain) (new : Key × Data) → IsGrantedNew new → IfOk (creates s new) IsGrantedResponse
   unfolding creates
   create_granted s new h =
-      then_keeps (stored new.0.name (creation_in_place s new.0 new.1)) created IsGrantedOutcome
+      then_keeps (stored new.0.name (creation_in_place s new.0 new.1)) created IsGrantedResponse
       (stored_holds new.0.name (creation_in_place s new.0 new.1) Granted (creation_granted s new h)) (λ cs granted. granted)
 
-  replace_granted : (s : Plain) (new : Key × Data) → IsGrantedNew new → IfOk (replaces s new) IsGrantedOutcome
+  replace_granted : (s : Plain) (new : Key × Data) → IsGrantedNew new → IfOk (replaces s new) IsGrantedResponse
   unfolding replaces
   replace_granted s new h =
-      then_keeps (stored new.0.name (replacement_in_place s new.0 new.1)) (told_after (lookup (is_key new.0) s.objects)) IsGrantedOutcome
+      then_keeps (stored new.0.name (replacement_in_place s new.0 new.1)) (told_after (lookup (is_key new.0) s.objects)) IsGrantedResponse
       (stored_holds new.0.name (replacement_in_place s new.0 new.1) Granted (replacement_granted s new h)) (λ cs granted. granted)
 
-  delete_granted : (s : Plain) (deletion : Deletion) → IfOk (removes s deletion) IsGrantedOutcome
+  delete_granted : (s : Plain) (deletion : Deletion) → IfOk (removes s deletion) IsGrantedResponse
   unfolding removes
   delete_granted s deletion =
-      then_keeps (stored deletion.name (removal s deletion.keys)) (removed deletion.told) IsGrantedOutcome
+      then_keeps (stored deletion.name (removal s deletion.keys)) (removed deletion.told) IsGrantedResponse
       (stored_holds deletion.name (removal s deletion.keys) Granted (removal_granted s deletion.keys)) (λ cs granted. granted)
 
-  passes_granted : (r : Result Outcome Refused) → IfOk r IsGrantedOutcome → IfOk (r >>= passes) IsGrantedPassed
-  passes_granted r h = then_keeps r passes IsGrantedPassed h (λ outcome granted. granted)
+  passes_granted : (r : Result Response Refused) → IfOk r IsGrantedResponse → IfOk (r >>= passes) IsGrantedPassed
+  passes_granted r h = then_keeps r passes IsGrantedPassed h (λ response granted. granted)
 
   carried_out_granted : (s : Plain) (plan : Plan) → IsGrantedPlan plan → IfOk (carried_out s plan) IsGrantedPassed
-  carried_out_granted s (tell outcome) h = rw h tt
+  carried_out_granted s (tell response) h = rw h tt
   carried_out_granted s (watch w) h = tt
   carried_out_granted s (create new) h = passes_granted (creates s new) (create_granted s new h)
   carried_out_granted s (replace new) h = passes_granted (replaces s new) (replace_granted s new h)
@@ -167,25 +167,25 @@ replaced_granted s t new =
 
 -- the answer to a review changes nothing
 answer_tells : (objects : PolicyObjects) (identity : Identity) (kind : ReviewKind) (row : ResourceRow) (namespace : List ℕ) (body : Admitted)
-    → IfOk (to_answer objects identity kind row namespace body) (λ outcome. outcome.changes ≡ [])
+    → IfOk (to_answer objects identity kind row namespace body) (λ response. response.changes ≡ [])
 unfolding to_answer
 answer_tells objects identity kind row namespace body =
-    then_holds (in_review_namespace row namespace body.given.namespace) _ (λ outcome. outcome.changes ≡ [])
-    (λ same. then_holds (valid [] body.object) _ (λ outcome. outcome.changes ≡ [])
-    (λ tree. then_holds (valid [] (reviewed objects identity kind (with_namespace_on row namespace tree))) _ (λ outcome. outcome.changes ≡ []) (λ answer. refl)))
+    then_holds (in_review_namespace row namespace body.given.namespace) _ (λ response. response.changes ≡ [])
+    (λ same. then_holds (valid [] body.object) _ (λ response. response.changes ≡ [])
+    (λ tree. then_holds (valid [] (reviewed objects identity kind (with_namespace_on row namespace tree))) _ (λ response. response.changes ≡ []) (λ answer. refl)))
 
 pub review_tells : (objects : PolicyObjects) (identity : Identity) (kind : ReviewKind) (row : ResourceRow) (namespace bytes : List ℕ)
-    → IfOk (to_review objects identity kind row namespace bytes) (λ outcome. outcome.changes ≡ [])
+    → IfOk (to_review objects identity kind row namespace bytes) (λ response. response.changes ≡ [])
 unfolding to_review
 review_tells objects identity kind row namespace bytes =
-    then_holds (admitted row bytes) _ (λ outcome. outcome.changes ≡ []) (answer_tells objects identity kind row namespace)
+    then_holds (admitted row bytes) _ (λ response. response.changes ≡ []) (answer_tells objects identity kind row namespace)
 
 planned_creation_granted : (kind : Option ReviewKind) (s : Plain) (t : Task) → IfOk (planned_creation kind s t) (IsGrantedFor t)
 unfolding planned_creation
 planned_creation_granted None s t = then_holds (to_create s t.row t.namespace t.body) (to_be_created s t) (IsGrantedFor t) (created_granted s t)
 planned_creation_granted (Some kind) s t =
     then_keeps (to_review t.objects t.identity kind t.row t.namespace t.body) tells (IsGrantedFor t)
-    (review_tells t.objects t.identity kind t.row t.namespace t.body) (λ outcome nothing. nothing)
+    (review_tells t.objects t.identity kind t.row t.namespace t.body) (λ response nothing. nothing)
 
 found_tells : (t : Task) (o : Option Data) → IfOk (found_if o >>= tells) (IsGrantedFor t)
 found_tells t None = tt
@@ -217,7 +217,7 @@ module _ (objects : PolicyObjects) (s : Plain) (identity : Identity) (request : 
   well_tells : IfOk (told_well request >>= tells) IsGrantedHere
   unfolding told_well
   well_tells =
-      then_keeps (told_well request) tells IsGrantedHere (then_holds (media_typed request.method request.headers) _ (λ outcome. outcome.changes ≡ []) (λ w. refl)) (λ outcome nothing. nothing)
+      then_keeps (told_well request) tells IsGrantedHere (then_holds (media_typed request.method request.headers) _ (λ response. response.changes ≡ []) (λ w. refl)) (λ response nothing. nothing)
 
   planned_at_granted : (a : Attributes) (r : Routed) → IfOk (planned_at objects s identity request a r) IsGrantedHere
   planned_at_granted a health = well_tells
@@ -238,13 +238,13 @@ module _ (objects : PolicyObjects) (s : Plain) (identity : Identity) (request : 
 
   by_passed : (a : Attributes) (p : Passed) → IsGrantedPassed objects identity p → AreGranted objects identity (answer_passed identity a request.close p).changes
   unfolding answer_passed
-  by_passed a (told outcome) h = h
+  by_passed a (told response) h = h
   by_passed a (watching w) h = tt
 
-  by_outcome : (a : Attributes) (r : Result Passed Refused) → IfOk r (IsGrantedPassed objects identity) → AreGranted objects identity (answer_by identity request a r).changes
+  by_response : (a : Attributes) (r : Result Passed Refused) → IfOk r (IsGrantedPassed objects identity) → AreGranted objects identity (answer_by identity request a r).changes
   unfolding answer_by
-  by_outcome a (Ok passed) h = by_passed a passed h
-  by_outcome a (Err refused) h = tt
+  by_response a (Ok passed) h = by_passed a passed h
+  by_response a (Err refused) h = tt
 
 -- ---- as whom a request is made
 
@@ -263,7 +263,7 @@ module _ (objects : PolicyObjects) (identity : Identity) where
       → AreGrantedAs objects identity (answer_as objects s identity request a r).changes
   unfolding answer_as
   as_granted s request a (Ok other) makes =
-      (other, (makes, by_outcome objects s other request a (checked objects s other request a) (checked_granted objects s other request a)))
+      (other, (makes, by_response objects s other request a (checked objects s other request a) (checked_granted objects s other request a)))
   as_granted s request a (Err refused) makes = (identity, (inl refl, tt))
 
   asked_granted : (s : Plain) (request : HttpRequest) (r : Result Attributes TargetFault) → AreGrantedAs objects identity (answer_asked objects s identity request r).changes

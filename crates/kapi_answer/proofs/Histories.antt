@@ -36,7 +36,7 @@ use Rattle.kapi_store.specs.Keys.{is_key}
 use Rattle.kapi_store.specs.Listing.{is_listed}
 use Rattle.kapi_store.specs.Plain.{Plain, PlainChange, admits, creation_in_place, free_place, removal, replaceable, replacement_in_place, revisions_left}
 use Rattle.kapi_store.specs.Plain as store
-use Rattle.kapi_store.specs.Stamps.{version_in}
+use Rattle.kapi_store.specs.UidAndVersion.{version_in}
 use Rattle.kapi_store.specs.declared.key.Key.{Key}
 use Rattle.kapi_stored_policy.proofs.Sound.{then_holds}
 use Rattle.kapi_watch.proofs.Lists.{standing_is_named}
@@ -53,7 +53,7 @@ use Rattle.kapi_answer.specs.Impersonation.{made_as}
 use Rattle.kapi_answer.specs.Histories.{AreNamed, AnswersWrite, IsWrite, LoadsCreate}
 use Rattle.kapi_answer.specs.Histories as write
 use Rattle.kapi_answer.specs.Load.{LoadFault, bad_object, is_kept_kind, loads, made, named_namespace, namespace_in, on_load, to_create_tree, to_load, unknown_kind}
-use Rattle.kapi_answer.specs.Outcome.{Outcome}
+use Rattle.kapi_answer.specs.Response.{Response}
 use Rattle.kapi_answer.specs.Review.{review_kind, to_review}
 use Rattle.kapi_answer.specs.Update.{in_name, patch_of, replaces, to_patch, to_replace, to_update, told_after}
 use Rattle.kapi_answer.specs.Watch.{since_served}
@@ -193,46 +193,46 @@ module _ (s : Plain) (h : AreNamed s.objects) where
 
   -- the changes that an answer reports are one write; a watch changes nothing
   abbrev IsWritePassed : Passed → Type 0
-  IsWritePassed (told outcome) = IsWrite s outcome.changes
+  IsWritePassed (told response) = IsWrite s response.changes
   IsWritePassed (watching w) = Unit {0}
 
   -- an answer without a change changes nothing, and what is written is named by its place
   abbrev IsNamedPlan : Plan → Type 0
-  IsNamedPlan (tell outcome) = outcome.changes ≡ []
+  IsNamedPlan (tell response) = response.changes ≡ []
   IsNamedPlan (watch w) = Unit {0}
   IsNamedPlan (create new) = IsNew s new
   IsNamedPlan (replace new) = IsOther new
   IsNamedPlan (delete deletion) = IsApart deletion
 
-  abbrev IsWriteOutcome : Outcome → Type 0
-  IsWriteOutcome outcome = IsWrite s outcome.changes
+  abbrev IsWriteResponse : Response → Type 0
+  IsWriteResponse response = IsWrite s response.changes
 
   is_creation : (new : Key × Data) (cs : List PlainChange) → IsNew s new → creation_in_place s new.0 new.1 ≡ Ok cs → IsCreation s cs
   is_creation new cs n is = (new.0, new.1, n.1, ap (λ r. r >>= λ _. creation_in_place s new.0 new.1) n.0 ∙ is)
 
-  creates_write : (new : Key × Data) → IsNew s new → IfOk (creates s new) IsWriteOutcome
+  creates_write : (new : Key × Data) → IsNew s new → IfOk (creates s new) IsWriteResponse
   unfolding creates
   creates_write new n =
-      then_is (stored new.0.name (creation_in_place s new.0 new.1)) created IsWriteOutcome
+      then_is (stored new.0.name (creation_in_place s new.0 new.1)) created IsWriteResponse
       (λ cs is. write.creates (is_creation new cs n (stored_ok new.0.name (creation_in_place s new.0 new.1) cs is)))
 
-  replaces_write : (new : Key × Data) → IsOther new → IfOk (replaces s new) IsWriteOutcome
+  replaces_write : (new : Key × Data) → IsOther new → IfOk (replaces s new) IsWriteResponse
   unfolding replaces
   replaces_write new n =
-      then_is (stored new.0.name (replacement_in_place s new.0 new.1)) (told_after (lookup (is_key new.0) s.objects)) IsWriteOutcome
+      then_is (stored new.0.name (replacement_in_place s new.0 new.1)) (told_after (lookup (is_key new.0) s.objects)) IsWriteResponse
       (λ cs is. write.replaces (new.0, new.1, n, stored_ok new.0.name (replacement_in_place s new.0 new.1) cs is))
 
-  removes_write : (deletion : Deletion) → IsApart deletion → IfOk (removes s deletion) IsWriteOutcome
+  removes_write : (deletion : Deletion) → IsApart deletion → IfOk (removes s deletion) IsWriteResponse
   unfolding removes
   removes_write deletion apart =
-      then_is (stored deletion.name (removal s deletion.keys)) (removed deletion.told) IsWriteOutcome
+      then_is (stored deletion.name (removal s deletion.keys)) (removed deletion.told) IsWriteResponse
       (λ cs is. write.removes (deletion.keys, apart, stored_ok deletion.name (removal s deletion.keys) cs is))
 
-  passes_write : (r : Result Outcome Refused) → IfOk r IsWriteOutcome → IfOk (r >>= passes) IsWritePassed
-  passes_write r w = then_keeps r passes IsWritePassed w (λ outcome is. is)
+  passes_write : (r : Result Response Refused) → IfOk r IsWriteResponse → IfOk (r >>= passes) IsWritePassed
+  passes_write r w = then_keeps r passes IsWritePassed w (λ response is. is)
 
   carried_out_write : (plan : Plan) → IsNamedPlan plan → IfOk (carried_out s plan) IsWritePassed
-  carried_out_write (tell outcome) n = write.nothing n
+  carried_out_write (tell response) n = write.nothing n
   carried_out_write (watch w) n = tt
   carried_out_write (create new) n = passes_write (creates s new) (creates_write new n)
   carried_out_write (replace new) n = passes_write (replaces s new) (replaces_write new n)
@@ -254,7 +254,7 @@ module _ (s : Plain) (h : AreNamed s.objects) where
       then_keeps (to_create s t.row t.namespace t.body) (to_be_created s t) IsNamedPlan (create_new s t.row t.namespace t.body home) (created_named t)
   planned_creation_named (Some kind) t home =
       then_keeps (to_review t.objects t.identity kind t.row t.namespace t.body) tells IsNamedPlan
-      (review_tells t.objects t.identity kind t.row t.namespace t.body) (λ outcome nothing. nothing)
+      (review_tells t.objects t.identity kind t.row t.namespace t.body) (λ response nothing. nothing)
 
   found_tells : (o : Option Data) → IfOk (found_if o >>= tells) IsNamedPlan
   found_tells None = tt
@@ -287,7 +287,7 @@ module _ (s : Plain) (h : AreNamed s.objects) where
     unfolding told_well
     well_tells =
         then_keeps (told_well request) tells IsNamedPlan
-        (then_holds (media_typed request.method request.headers) _ (λ outcome. outcome.changes ≡ []) (λ w. refl)) (λ outcome nothing. nothing)
+        (then_holds (media_typed request.method request.headers) _ (λ response. response.changes ≡ []) (λ w. refl)) (λ response nothing. nothing)
 
     planned_at_named : (a : Attributes) (r : Routed) → IfOk (planned_at objects s identity request a r) IsNamedPlan
     planned_at_named a health = well_tells
@@ -307,18 +307,18 @@ module _ (s : Plain) (h : AreNamed s.objects) where
 
     by_passed : (a : Attributes) (p : Passed) → IsWritePassed p → IsWrite s (answer_passed identity a request.close p).changes
     unfolding answer_passed
-    by_passed a (told outcome) w = w
+    by_passed a (told response) w = w
     by_passed a (watching w) u = write.nothing refl
 
-    by_outcome : (a : Attributes) (r : Result Passed Refused) → IfOk r IsWritePassed → IsWrite s (answer_by identity request a r).changes
+    by_response : (a : Attributes) (r : Result Passed Refused) → IfOk r IsWritePassed → IsWrite s (answer_by identity request a r).changes
     unfolding answer_by
-    by_outcome a (Ok passed) w = by_passed a passed w
-    by_outcome a (Err refused) w = write.nothing refl
+    by_response a (Ok passed) w = by_passed a passed w
+    by_response a (Err refused) w = write.nothing refl
 
   as_write : (objects : PolicyObjects) (identity : Identity) (request : HttpRequest) (a : Attributes) (r : Result Identity Refused) → IsWrite s (answer_as objects s identity request a r).changes
   unfolding answer_as
   as_write objects identity request a (Ok other) =
-      by_outcome objects other request a (checked objects s other request a) (checked_write objects other request a)
+      by_response objects other request a (checked objects s other request a) (checked_write objects other request a)
   as_write objects identity request a (Err refused) = write.nothing refl
 
   asked_write : (objects : PolicyObjects) (identity : Identity) (request : HttpRequest) (r : Result Attributes TargetFault) → IsWrite s (answer_asked objects s identity request r).changes

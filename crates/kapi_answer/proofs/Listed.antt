@@ -13,7 +13,7 @@ use Rattle.kapi_store.specs.Plain.{Plain, revisions_left, trees}
 use Rattle.kapi_store.specs.declared.key.Key.{Key}
 use Rattle.kapi_store.specs.declared.listing.Listed.{Listed}
 use Rattle.kapi_answer.specs.Collection.{deletes_all, list_of}
-use Rattle.kapi_answer.specs.Outcome.{Outcome, told}
+use Rattle.kapi_answer.specs.Response.{Response, told}
 
 -- the trees and the keys of what is listed
 abbrev trees_in : List Listed → List Data
@@ -38,8 +38,8 @@ listed_length : (ls : List Listed) → length (trees (map shown ls)) ≡ length 
 listed_length [] = refl
 listed_length (l ∷ ls) = ap suc (listed_length ls)
 
--- an outcome with a body that changes nothing
-abbrev pub telling : List ℕ → Outcome
+-- an response with a body that changes nothing
+abbrev pub telling : List ℕ → Response
 telling body = record { code = status.Ok; content = content.Json; body = body; changes = [] }
 
 -- the reply to a list of some trees

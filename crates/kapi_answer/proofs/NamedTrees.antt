@@ -12,7 +12,7 @@ use Rattle.kapi_object.specs.declared.given.GivenText.TheVariants as given
 use Rattle.kapi_stored_policy.proofs.Admitted.{without_other}
 use Rattle.kapi_answer.specs.declared.route.Part.{Part}
 use Rattle.kapi_answer.specs.declared.route.Part.TheVariants as part
-use Rattle.kapi_store.specs.Stamps.{metadata_text}
+use Rattle.kapi_store.specs.UidAndVersion.{metadata_text}
 use Rattle.kapi_store.specs.declared.key.Key.{Key}
 use Rattle.kapi_object.proofs.SetTexts.{in_object, in_text}
 use Rattle.kapi_watch.specs.Histories.{IsNamedBy}

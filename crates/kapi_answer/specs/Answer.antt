@@ -34,7 +34,7 @@ use Rattle.kapi_answer.specs.Create.{creates, key_at, namespace_on, to_create}
 use Rattle.kapi_answer.specs.Delete.{Deletion, removes, to_delete}
 use Rattle.kapi_answer.specs.Get.{found}
 use Rattle.kapi_answer.specs.Impersonation.{made_as}
-use Rattle.kapi_answer.specs.Outcome.{Outcome, well}
+use Rattle.kapi_answer.specs.Response.{Response, well}
 use Rattle.kapi_answer.specs.Review.{review_kind, to_review}
 use Rattle.kapi_watch.specs.Watches.{PlainWatch}
 use Rattle.kapi_answer.specs.Watch.{PlainWatching, since_served, watch_of}
@@ -43,15 +43,15 @@ use Rattle.kapi_answer.specs.Update.{replaces, to_patch, to_update}
 -- what a request that passes all checks but the store's leads to: an answer without a change, the start of a watch, a
 -- new object at its place, an object in place of the stored one, or the deletion of objects
 pub data Plan : Type 0 where
-  tell : Outcome → Plan
+  tell : Response → Plan
   watch : PlainWatch → Plan
   create : Key × Data → Plan
   replace : Key × Data → Plan
   delete : Deletion → Plan
 
 -- the plan of an answer without a change
-abbrev pub tells : Outcome → Result Plan Refused
-tells outcome = Ok (tell outcome)
+abbrev pub tells : Response → Result Plan Refused
+tells response = Ok (tell response)
 
 -- the roles and bindings that decide a resource request, its identity, its resource type, the namespace and the name of
 -- its path, its filter and body
@@ -125,7 +125,7 @@ planned_for objects s identity request a r = do
   planned_on r.action s (task objects identity request a r filter)
 
 -- the checks of a health request
-unfoldable pub told_well : HttpRequest → Result Outcome Refused
+unfoldable pub told_well : HttpRequest → Result Response Refused
 told_well request = do
   w ← media_typed request.method request.headers
   Ok well
@@ -144,16 +144,16 @@ planned objects s identity request a = do
 
 -- what a request that passed every check gets
 pub data Passed : Type 0 where
-  told : Outcome → Passed
+  told : Response → Passed
   watching : PlainWatch → Passed
 
--- the result of a request that passed every check with an outcome
-abbrev pub passes : Outcome → Result Passed Refused
-passes outcome = Ok (told outcome)
+-- the result of a request that passed every check with an response
+abbrev pub passes : Response → Result Passed Refused
+passes response = Ok (told response)
 
 -- what becomes of a plan, if the store makes the write
 abbrev pub carried_out : Plain → Plan → Result Passed Refused
-carried_out s (tell outcome) = passes outcome
+carried_out s (tell response) = passes response
 carried_out s (watch w) = Ok (watching w)
 carried_out s (create new) = creates s new >>= passes
 carried_out s (replace new) = replaces s new >>= passes
@@ -175,8 +175,8 @@ replied reply = record { reply = reply; changes = []; watch = None }
 
 -- the answer to a request that passed every check
 unfoldable pub answer_passed : Identity → Attributes → Bool → Passed → Answered
-answer_passed identity a close (told outcome) =
-    record { reply = content_reply outcome.code outcome.content close outcome.body; changes = outcome.changes; watch = None }
+answer_passed identity a close (told response) =
+    record { reply = content_reply response.code response.content close response.body; changes = response.changes; watch = None }
 answer_passed identity a close (watching w) = record {
   reply = watch_reply close;
   changes = [];

@@ -13,7 +13,7 @@ use Rattle.kapi_store.specs.Plain.{Plain, revisions_left}
 use Rattle.kapi_store.specs.declared.key.Key.{Key}
 use Rattle.kapi_answer.specs.Create.{stored}
 use Rattle.kapi_answer.specs.Delete.{Deletion, deletable}
-use Rattle.kapi_answer.specs.Outcome.{Outcome, told}
+use Rattle.kapi_answer.specs.Response.{Response, told}
 
 -- the objects that a collection request selects, with their keys: in the namespace, or in all if it is empty
 abbrev pub chosen : Plain → ResourceRow → List ℕ → Filter → List (Key × Data)
@@ -24,7 +24,7 @@ abbrev pub list_of : ResourceRow → List (Key × Data) → ℕ → Data
 list_of row entries revision = list_tree row (map (λ e. e.1) entries) revision
 
 -- the reply to a list request
-unfoldable pub listed : Plain → ResourceRow → List ℕ → Filter → Outcome
+unfoldable pub listed : Plain → ResourceRow → List ℕ → Filter → Response
 listed s row namespace filter = told status.Ok (list_of row (chosen s row namespace filter) s.revision)
 
 -- the deletion of these objects; its reply lists the deleted objects, at the revision of the last deletion

@@ -26,7 +26,7 @@ use Rattle.kapi_reply.specs.declared.refusal.Sought.TheVariants as sought
 use Rattle.kapi_store.specs.Faults.{StoreFault, Exists, Missing, Conflict, NoNamespace, NamespaceNotEmpty, RevisionsUsedUp}
 use Rattle.kapi_store.specs.Plain.{Plain, PlainChange, creation_in_place, free_place}
 use Rattle.kapi_store.specs.declared.key.Key.{Key}
-use Rattle.kapi_answer.specs.Outcome.{Outcome}
+use Rattle.kapi_answer.specs.Response.{Response}
 
 -- a body that is an object of its kind and version: its name, namespace and generated name, and its tree or its faults
 pub record Admitted : Type 0 where
@@ -142,9 +142,9 @@ to_create s row namespace bytes = do
   to_place s row namespace body
 
 -- the reply to a creation by some changes
-abbrev pub created : List PlainChange → Result Outcome Refused
+abbrev pub created : List PlainChange → Result Response Refused
 created changes = Ok (record { code = status.Created; content = content.Json; body = text_after None changes; changes = changes })
 
 -- the creation of an object: a revision must be left
-unfoldable pub creates : Plain → Key × Data → Result Outcome Refused
+unfoldable pub creates : Plain → Key × Data → Result Response Refused
 creates s new = stored new.0.name (creation_in_place s new.0 new.1) >>= created

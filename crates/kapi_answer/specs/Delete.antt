@@ -16,10 +16,10 @@ use Rattle.kapi_reply.specs.declared.refusal.Refused.{Refused}
 use Rattle.kapi_reply.specs.declared.refusal.Sought.TheVariants as sought
 use Rattle.kapi_store.specs.Keys.{is_key}
 use Rattle.kapi_store.specs.Plain.{Plain, PlainChange, removal}
-use Rattle.kapi_store.specs.Stamps.{uid_in}
+use Rattle.kapi_store.specs.UidAndVersion.{uid_in}
 use Rattle.kapi_store.specs.declared.key.Key.{Key}
 use Rattle.kapi_answer.specs.Create.{stored}
-use Rattle.kapi_answer.specs.Outcome.{Outcome}
+use Rattle.kapi_answer.specs.Response.{Response}
 
 -- nothing is asked for: the member is absent, or an empty text, list or object
 abbrev pub is_unset : Option Data → Bool
@@ -68,9 +68,9 @@ to_delete s k body = do
   Ok (record { name = k.name; keys = k ∷ []; told = deletion_text k tree })
 
 -- the reply to a removal by some changes
-abbrev pub removed : List ℕ → List PlainChange → Result Outcome Refused
+abbrev pub removed : List ℕ → List PlainChange → Result Response Refused
 removed text changes = Ok (record { code = status.Ok; content = content.Json; body = text; changes = changes })
 
 -- the removal of a deletion's objects: a namespace must hold no object, and a revision be left for each object
-unfoldable pub removes : Plain → Deletion → Result Outcome Refused
+unfoldable pub removes : Plain → Deletion → Result Response Refused
 removes s deletion = stored deletion.name (removal s deletion.keys) >>= removed deletion.told

@@ -10,13 +10,13 @@ use Rattle.kapi_reply.specs.declared.refusal.Sought.TheVariants as sought
 use Rattle.kapi_store.specs.Keys.{is_key}
 use Rattle.kapi_store.specs.Plain.{Plain}
 use Rattle.kapi_store.specs.declared.key.Key.{Key}
-use Rattle.kapi_answer.specs.Outcome.{Outcome, told}
+use Rattle.kapi_answer.specs.Response.{Response, told}
 
 -- the object that was looked for
-abbrev pub found_if : Option Data → Result Outcome Refused
+abbrev pub found_if : Option Data → Result Response Refused
 found_if (Some tree) = Ok (told status.Ok tree)
 found_if None = Err (asked_for (refusal.NotFound sought.Object))
 
 -- the object at a key
-unfoldable pub found : Plain → Key → Result Outcome Refused
+unfoldable pub found : Plain → Key → Result Response Refused
 found s key = found_if (lookup (is_key key) s.objects)

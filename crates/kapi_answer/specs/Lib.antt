@@ -5,7 +5,7 @@ pub mod Query
 pub mod Authorization
 pub mod Escalation
 pub mod Impersonation
-pub mod Outcome
+pub mod Response
 pub mod Get
 pub mod Create
 pub mod Delete
@@ -15,6 +15,6 @@ pub mod Collection
 pub mod Review
 pub mod Watch
 pub mod Answer
-pub mod Outcomes
+pub mod Responses
 pub mod Load
 pub mod Histories

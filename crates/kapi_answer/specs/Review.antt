@@ -12,7 +12,7 @@ use Rattle.kapi_reviews.specs.Reviews.{reviewed}
 use Rattle.kapi_reviews.specs.declared.kind.ReviewKind.{ReviewKind}
 use Rattle.kapi_answer.specs.Route.{is_review_group}
 use Rattle.kapi_answer.specs.Create.{Admitted, admitted, with_namespace_on, in_namespace, valid}
-use Rattle.kapi_answer.specs.Outcome.{Outcome, told}
+use Rattle.kapi_answer.specs.Response.{Response, told}
 
 -- the kind of the reviews that a resource type takes, if any
 unfoldable pub review_kind : ResourceRow → Option ReviewKind
@@ -23,7 +23,7 @@ unfoldable pub in_review_namespace : ResourceRow → List ℕ → GivenText → 
 in_review_namespace row namespace given = if row.namespaced then in_namespace namespace [] given else Ok tt
 
 -- the answer to the review that a body was read as: its namespace, its validity, what it asks; a review has no name
-unfoldable pub to_answer : PolicyObjects → Identity → ReviewKind → ResourceRow → List ℕ → Admitted → Result Outcome Refused
+unfoldable pub to_answer : PolicyObjects → Identity → ReviewKind → ResourceRow → List ℕ → Admitted → Result Response Refused
 to_answer objects identity kind row namespace body = do
   same ← in_review_namespace row namespace body.given.namespace
   tree ← valid [] body.object
@@ -31,7 +31,7 @@ to_answer objects identity kind row namespace body = do
   Ok (told status.Created answer)
 
 -- the answer to a review, from its body on
-unfoldable pub to_review : PolicyObjects → Identity → ReviewKind → ResourceRow → List ℕ → List ℕ → Result Outcome Refused
+unfoldable pub to_review : PolicyObjects → Identity → ReviewKind → ResourceRow → List ℕ → List ℕ → Result Response Refused
 to_review objects identity kind row namespace bytes = do
   body ← admitted row bytes
   to_answer objects identity kind row namespace body

@@ -22,7 +22,7 @@ use Rattle.kapi_store.specs.Plain.{Plain, PlainChange, replaceable, replacement_
 use Rattle.kapi_store.specs.declared.key.Key.{Key}
 use Rattle.kapi_answer.specs.Create.{Admitted, admitted, admitted_from, with_namespace_on, in_namespace, is_as_in_path, stored, text_after, valid}
 use Rattle.kapi_answer.specs.Delete.{existing}
-use Rattle.kapi_answer.specs.Outcome.{Outcome}
+use Rattle.kapi_answer.specs.Response.{Response}
 
 -- the body gives no other name than the path's
 unfoldable pub in_name : List ℕ → GivenText → Result (Unit {0}) Refused
@@ -66,9 +66,9 @@ to_patch s row of k bytes = do
   to_replace s row of k body
 
 -- the reply to a replacement by some changes
-abbrev pub told_after : Option Data → List PlainChange → Result Outcome Refused
+abbrev pub told_after : Option Data → List PlainChange → Result Response Refused
 told_after old changes = Ok (record { code = status.Ok; content = content.Json; body = text_after old changes; changes = changes })
 
 -- the replacement of the object at a key: if that changes something, a revision must be left
-unfoldable pub replaces : Plain → Key × Data → Result Outcome Refused
+unfoldable pub replaces : Plain → Key × Data → Result Response Refused
 replaces s new = stored new.0.name (replacement_in_place s new.0 new.1) >>= told_after (lookup (is_key new.0) s.objects)

@@ -9,14 +9,14 @@ ghost use Rattle.kapi_store.specs.Listing.{shown};
 ghost use Rattle.kapi_store.specs.Plain.{plain_of, trees};
 ghost use Rattle.kapi_answer.specs.Collection as collections;
 ghost use Rattle.kapi_answer.specs.Collection.{deletes_all, to_delete_all};
-ghost use Rattle.kapi_answer.specs.Outcomes.{deletion_data, outcome_data};
+ghost use Rattle.kapi_answer.specs.Responses.{deletion_data, response_data};
 
 use crate::create::refused_by_store;
 use crate::delete::check_options;
 use crate::list_text::list_text;
 use crate::listed_keys::keys_of;
-use crate::outcome::{Deletion, Outcome};
 use crate::query::Filter;
+use crate::response::{Deletion, Response};
 use kapi_http::StatusCode;
 use kapi_model::ResourceRow;
 use kapi_reply::{CheckError, Content};
@@ -32,12 +32,12 @@ pub fn list(
     row: &ResourceRow,
     namespace: &str,
     filter: &Filter,
-) -> Result<Outcome, Memory>
-    ensures gives { IfOk result (λ o. outcome_data o ≡ collections.listed (plain_of store.now) row.now namespace.now filter.now) }
+) -> Result<Response, Memory>
+    ensures gives { IfOk result (λ o. response_data o ≡ collections.listed (plain_of store.now) row.now namespace.now filter.now) }
     ensures told { IfOk result (λ o. o.write ≡ None) }
 {
     let listed = store.list(row, namespace, &filter.selector, filter.name.as_str())?;
-    Ok(Outcome {
+    Ok(Response {
         code: StatusCode::Ok,
         content: Content::Json,
         body: list_text(alloc, row, listed.as_slice(), store.revision())?,

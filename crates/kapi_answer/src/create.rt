@@ -16,9 +16,9 @@ ghost use Rattle.kapi_store.specs.State.{Same, Fits};
 ghost use Rattle.kapi_store.specs.Stored.{stored_tree};
 ghost use Rattle.kapi_answer.specs.Create as creation;
 ghost use Rattle.kapi_answer.specs.Create.{admitted, admitted_from, creates, given_name, with_namespace_on, in_place, name_text, refusal_of, stored, to_create, to_place, tree_text, valid};
-ghost use Rattle.kapi_answer.specs.Outcomes.{admitted_data, new_data, object_data, outcome_data};
+ghost use Rattle.kapi_answer.specs.Responses.{admitted_data, new_data, object_data, response_data};
 
-use crate::outcome::{NewObject, Outcome};
+use crate::response::{NewObject, Response};
 use kapi_http::StatusCode;
 use kapi_model::{FaultKind, FieldFault, ResourceRow, check_name};
 use kapi_object::{Given, GivenText, Object, ObjectError, admit_tree, read_tree};
@@ -115,15 +115,15 @@ pub fn refused_by_store(name: Text, error: StoreError) -> CheckError
 
 /// Prepares the write of a new object, and the reply with the object as it will be stored.
 #[tactic(auto, unfolding(crate::specs::Create::creates))]
-pub fn create(alloc: Global, store: &mut Store, new: NewObject) -> Result<Outcome, CheckError>
+pub fn create(alloc: Global, store: &mut Store, new: NewObject) -> Result<Response, CheckError>
     requires { free_place (plain_of store.old) new.key ≡ Ok tt }
     ensures same { Same store.old store.new }
-    ensures gives { Gives refused_by outcome_data result (creates (plain_of store.old) (new_data new)) }
+    ensures gives { Gives refused_by response_data result (creates (plain_of store.old) (new_data new)) }
     ensures fits { IfOk result (λ o. IfSome o.write (Fits store.new)) }
 {
     let name = new.key.name.copy(alloc)?;
     match store.create_in_place(new.key, new.object) {
-        Ok(ready) => Ok(Outcome {
+        Ok(ready) => Ok(Response {
             code: StatusCode::Created,
             content: Content::Json,
             body: text_after(alloc, None, ready.changes())?,

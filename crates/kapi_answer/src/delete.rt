@@ -10,10 +10,10 @@ ghost use Rattle.kapi_store.specs.State.{Fits};
 ghost use Rattle.kapi_store.specs.Stored.{stored_tree};
 ghost use Rattle.kapi_answer.specs.Delete as deletions;
 ghost use Rattle.kapi_answer.specs.Delete.{asks_nothing, deletable, removes, to_delete};
-ghost use Rattle.kapi_answer.specs.Outcomes.{deletion_data, outcome_data};
+ghost use Rattle.kapi_answer.specs.Responses.{deletion_data, response_data};
 
 use crate::create::{bad_request, refused_by_store};
-use crate::outcome::{Deletion, Outcome};
+use crate::response::{Deletion, Response};
 use kapi_http::StatusCode;
 use kapi_object::tree::has_no_members;
 use kapi_object::tree_form::is_empty;
@@ -105,13 +105,13 @@ fn is_unset(value: Option<&Value>) -> bool
 
 /// Prepares the removal of objects, and the reply that reports it.
 #[tactic(auto, unfolding(crate::specs::Delete::removes))]
-pub fn delete(store: &Store, deletion: Deletion) -> Result<Outcome, CheckError>
+pub fn delete(store: &Store, deletion: Deletion) -> Result<Response, CheckError>
     requires { IsDistinct is_key deletion.keys.items }
-    ensures gives { Gives refused_by outcome_data result (removes (plain_of store.now) (deletion_data deletion)) }
+    ensures gives { Gives refused_by response_data result (removes (plain_of store.now) (deletion_data deletion)) }
     ensures fits { IfOk result (λ o. IfSome o.write (Fits store.now)) }
 {
     match store.remove(deletion.keys) {
-        Ok(ready) => Ok(Outcome {
+        Ok(ready) => Ok(Response {
             code: StatusCode::Ok,
             content: Content::Json,
             body: deletion.reply,

@@ -4,9 +4,9 @@ ghost use Rattle.kapi_text.specs.Gives.{Gives};
 ghost use Rattle.kapi_reply.specs.Refusals.{refused_by};
 ghost use Rattle.kapi_store.specs.Plain.{plain_of};
 ghost use Rattle.kapi_answer.specs.Get.{found};
-ghost use Rattle.kapi_answer.specs.Outcomes.{outcome_data};
+ghost use Rattle.kapi_answer.specs.Responses.{response_data};
 
-use crate::outcome::Outcome;
+use crate::response::Response;
 use kapi_http::StatusCode;
 use kapi_reply::{CheckError, Content, Refusal, Refused, Sought};
 use kapi_store::{Key, Store};
@@ -14,12 +14,12 @@ use std::alloc::Global;
 
 /// The object that a path names, as JSON text.
 #[tactic(auto, unfolding(crate::specs::Get::found))]
-pub fn find(alloc: Global, store: &Store, key: &Key) -> Result<Outcome, CheckError>
-    ensures gives { Gives refused_by outcome_data result (found (plain_of store.now) key.now) }
+pub fn find(alloc: Global, store: &Store, key: &Key) -> Result<Response, CheckError>
+    ensures gives { Gives refused_by response_data result (found (plain_of store.now) key.now) }
     ensures told { IfOk result (λ o. o.write ≡ None) }
 {
     match store.get(key) {
-        Some(object) => Ok(Outcome {
+        Some(object) => Ok(Response {
             code: StatusCode::Ok,
             content: Content::Json,
             body: object.render(alloc)?,

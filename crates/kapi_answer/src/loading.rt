@@ -15,11 +15,11 @@ ghost use Rattle.kapi_store.specs.State.{Same, Fits};
 ghost use Rattle.kapi_answer.specs.Load as loading;
 ghost use Rattle.kapi_answer.specs.Review as reviews;
 ghost use Rattle.kapi_answer.specs.Load.{bad_object, fault_for, fault_told, is_text, loads, on_load, to_create_tree, to_load};
-ghost use Rattle.kapi_answer.specs.Outcomes.{new_data};
+ghost use Rattle.kapi_answer.specs.Responses.{new_data};
 ghost use Rattle.kapi_reply.specs.Refusals.{refused_by};
 
 use crate::create::{admit, check_body};
-use crate::outcome::NewObject;
+use crate::response::NewObject;
 use crate::review::review_kind;
 use kapi_model::ResourceRow;
 use kapi_object::given::given_at;

@@ -12,7 +12,7 @@ ghost use Rattle.kapi_watch.specs.Watches.{startable};
 ghost use Rattle.kapi_answer.specs.Answer.{planned_creation, planned_for, planned_on, to_be_created, to_be_replaced};
 ghost use Rattle.kapi_answer.specs.Review as reviews;
 ghost use Rattle.kapi_answer.specs.Create as creation;
-ghost use Rattle.kapi_answer.specs.Outcomes.{ChangesNothing, IsReady, IsReplaced, new_data, plan_data, task_data};
+ghost use Rattle.kapi_answer.specs.Responses.{ChangesNothing, IsReady, IsReplaced, new_data, plan_data, task_data};
 
 use crate::collection::{check_delete_all, list};
 use crate::create::{check_create, key_at, namespace_on};
@@ -20,8 +20,8 @@ use crate::delete::check_delete;
 use crate::escalation::check_escalation;
 use crate::get::find;
 use crate::headers::check_media_type;
-use crate::outcome::{NewObject, Plan, Replacement};
 use crate::query::check_query;
+use crate::response::{NewObject, Plan, Replacement};
 use crate::review::{review_kind, tell_review};
 use crate::route::{Action, Part, ResourceRoute};
 use crate::task::Task;

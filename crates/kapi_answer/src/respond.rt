@@ -9,7 +9,7 @@ ghost use Rattle.kapi_watch.specs.Running.{IsFresh};
 ghost use Rattle.kapi_answer.specs.Answer as answers;
 ghost use Rattle.kapi_answer.specs.Answer.{answer_by, answer_passed, asked_by, checked, planned};
 ghost use Rattle.kapi_answer.specs.Impersonation.{made_as};
-ghost use Rattle.kapi_answer.specs.Outcomes.{ChangesNothing, IsReady, answered_data, passed_data, plan_data, watch_in, write_of};
+ghost use Rattle.kapi_answer.specs.Responses.{ChangesNothing, IsReady, answered_data, passed_data, plan_data, watch_in, write_of};
 
 use crate::authorization::authorize;
 use crate::create::create;
@@ -17,9 +17,9 @@ use crate::delete::delete;
 use crate::health::health;
 use crate::impersonation::impersonate;
 use crate::kept_watch::KeptWatch;
-use crate::outcome::{Outcome, Passed, Plan};
 use crate::plan::plan_for;
 use crate::prepared::Prepared;
+use crate::response::{Passed, Plan, Response};
 use crate::route::{Route, find_route};
 use crate::update::replace;
 use crate::watch::Watching;
@@ -152,7 +152,7 @@ fn answer_made_by<P: Policy>(
     }
 }
 
-/// The reply to a request that passed every check: its outcome, or the head of its watch, which keeps the identity and
+/// The reply to a request that passed every check: its response, or the head of its watch, which keeps the identity and
 /// the attributes of the request.
 #[tactic(auto, unfolding(crate::specs::Answer::answer_passed))]
 fn prepare(
@@ -167,7 +167,7 @@ fn prepare(
     ensures watch { IfOk result (λ p. option_map (λ w. w.watch) p.watch ≡ watch_in passed) }
 {
     match passed {
-        Passed::Answered(outcome) => tell(alloc, close, outcome),
+        Passed::Answered(response) => tell(alloc, close, response),
         Passed::Watching(watch) => {
             let watching = watching(alloc, identity, attributes, close, watch)?;
             Ok(Prepared {
@@ -179,18 +179,18 @@ fn prepare(
     }
 }
 
-/// The answer that reports an outcome.
-fn tell(alloc: Global, close: bool, outcome: Outcome) -> Result<Prepared, Memory>
-    ensures reply { IfOk result (λ p. p.reply ≡ replies.content_reply outcome.code outcome.content close outcome.body.items) }
-    ensures write { IfOk result (λ p. p.write ≡ outcome.write) }
+/// The answer that reports an response.
+fn tell(alloc: Global, close: bool, response: Response) -> Result<Prepared, Memory>
+    ensures reply { IfOk result (λ p. p.reply ≡ replies.content_reply response.code response.content close response.body.items) }
+    ensures write { IfOk result (λ p. p.write ≡ response.write) }
     ensures watch { IfOk result (λ p. p.watch ≡ None) }
 {
-    let Outcome {
+    let Response {
         code,
         content,
         body,
         write,
-    } = outcome;
+    } = response;
     Ok(Prepared {
         reply: content_reply(alloc, code, content, close, body)?,
         write,
@@ -235,14 +235,14 @@ fn check<P: Policy>(
     ensures fits { IfOk result (λ p. IfSome (write_of p) (Fits store.new)) }
     ensures fresh { IfOk result (λ p. IfSome (watch_in p) (IsFresh (plain_of store.old))) }
 {
-    let outcome = match plan(alloc, policy, store, identity, request, attributes)? {
-        Plan::Tell(outcome) => outcome,
+    let response = match plan(alloc, policy, store, identity, request, attributes)? {
+        Plan::Tell(response) => response,
         Plan::Watch(watch) => return Ok(Passed::Watching(watch)),
         Plan::Create(new) => create(alloc, store, new)?,
         Plan::Replace(new) => replace(alloc, store, new)?,
         Plan::Delete(deletion) => delete(store, deletion)?,
     };
-    Ok(Passed::Answered(outcome))
+    Ok(Passed::Answered(response))
 }
 
 /// The plan of a request that passes all checks but the store's: what it answers or changes.

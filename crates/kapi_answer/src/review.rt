@@ -6,15 +6,15 @@ ghost use Rattle.kapi_object.specs.Object.{tree_of};
 ghost use Rattle.kapi_reply.specs.Refusals.{refused_by};
 ghost use Rattle.kapi_reviews.specs.Reviews.{reviewed};
 ghost use Rattle.kapi_answer.specs.Create.{valid};
-ghost use Rattle.kapi_answer.specs.Outcome.{told};
-ghost use Rattle.kapi_answer.specs.Outcomes.{admitted_data, outcome_data};
+ghost use Rattle.kapi_answer.specs.Response.{told};
+ghost use Rattle.kapi_answer.specs.Responses.{admitted_data, response_data};
 ghost use Rattle.kapi_answer.specs.Review as reviews;
 ghost use Rattle.kapi_answer.specs.Review.{in_review_namespace, to_answer, to_review};
 
 use crate::create::{
     Admitted, check_namespace, check_validity, read_body, refused, with_namespace,
 };
-use crate::outcome::Outcome;
+use crate::response::Response;
 use crate::route::is_review_group;
 use crate::task::Task;
 use kapi_http::StatusCode;
@@ -45,8 +45,8 @@ pub fn tell_review<P: Policy>(
     policy: &P,
     kind: ReviewKind,
     task: Task<'_>,
-) -> Result<Outcome, CheckError>
-    ensures gives { Gives refused_by outcome_data result (to_review (P.content policy.now) task.entry.identity.now kind task.entry.row.now task.entry.namespace.now task.entry.body.now) }
+) -> Result<Response, CheckError>
+    ensures gives { Gives refused_by response_data result (to_review (P.content policy.now) task.entry.identity.now kind task.entry.row.now task.entry.namespace.now task.entry.body.now) }
     ensures told { IfOk result (λ o. o.write ≡ None) }
 {
     let body = read_body(alloc, task.row, task.body)?;
@@ -71,8 +71,8 @@ fn answer_body<P: Policy>(
     row: &ResourceRow,
     namespace: &str,
     body: Admitted,
-) -> Result<Outcome, CheckError>
-    ensures gives { Gives refused_by outcome_data result (to_answer (P.content policy.now) identity.now kind row.now namespace.now (admitted_data body)) }
+) -> Result<Response, CheckError>
+    ensures gives { Gives refused_by response_data result (to_answer (P.content policy.now) identity.now kind row.now namespace.now (admitted_data body)) }
     ensures told { IfOk result (λ o. o.write ≡ None) }
 {
     check_review_namespace(alloc, row, namespace, &body.given.namespace)?;
@@ -81,19 +81,19 @@ fn answer_body<P: Policy>(
     answer_review(alloc, policy, identity, kind, &object)
 }
 
-/// The outcome of a review of its resource type's kind, or its faults.
+/// The response of a review of its resource type's kind, or its faults.
 fn answer_review<P: Policy>(
     alloc: Global,
     policy: &P,
     identity: &Identity,
     kind: ReviewKind,
     object: &Object,
-) -> Result<Outcome, CheckError>
-    ensures gives { Gives refused_by outcome_data result (and_then (valid [] (reviewed (P.content policy.now) identity.now kind (tree_of object.now))) (λ answer. Ok (told status.Created answer))) }
+) -> Result<Response, CheckError>
+    ensures gives { Gives refused_by response_data result (and_then (valid [] (reviewed (P.content policy.now) identity.now kind (tree_of object.now))) (λ answer. Ok (told status.Created answer))) }
     ensures told { IfOk result (λ o. o.write ≡ None) }
 {
     let answer = answer_valid(alloc, policy, identity, kind, object)?;
-    Ok(Outcome {
+    Ok(Response {
         code: StatusCode::Created,
         content: Content::Json,
         body: answer.render(alloc)?,

@@ -14,7 +14,7 @@ ghost use Rattle.kapi_store.specs.Plain.{plain_of};
 ghost use Rattle.kapi_store.specs.State.{Fits};
 ghost use Rattle.kapi_store.specs.Stored.{stored_tree};
 ghost use Rattle.kapi_answer.specs.Create.{stored, valid};
-ghost use Rattle.kapi_answer.specs.Outcomes.{IsReplaced, admitted_data, new_data, object_data, outcome_data};
+ghost use Rattle.kapi_answer.specs.Responses.{IsReplaced, admitted_data, new_data, object_data, response_data};
 ghost use Rattle.kapi_answer.specs.Update as updates;
 ghost use Rattle.kapi_answer.specs.Update.{keeping_status, patch_of, replaces, to_patch, to_replace, to_update};
 
@@ -24,7 +24,7 @@ use crate::create::{
 };
 use crate::delete::existing;
 use crate::old_object::OldObject;
-use crate::outcome::{NewObject, Outcome, Replacement};
+use crate::response::{NewObject, Replacement, Response};
 use crate::route::Part;
 use kapi_http::StatusCode;
 use kapi_model::{FieldFault, ResourceRow};
@@ -223,15 +223,15 @@ pub fn replace(
     alloc: Global,
     store: &Store,
     replacement: Replacement,
-) -> Result<Outcome, CheckError>
+) -> Result<Response, CheckError>
     requires { IsReplaced (plain_of store.now) replacement }
-    ensures gives { Gives refused_by outcome_data result (replaces (plain_of store.now) (new_data replacement.new)) }
+    ensures gives { Gives refused_by response_data result (replaces (plain_of store.now) (new_data replacement.new)) }
     ensures fits { IfOk result (λ o. IfSome o.write (Fits store.now)) }
 {
     let Replacement { new, old } = replacement;
     let name = new.key.name.copy(alloc)?;
     match store.replace_in_place(new.key, new.object, old.stored()) {
-        Ok(ready) => Ok(Outcome {
+        Ok(ready) => Ok(Response {
             code: StatusCode::Ok,
             content: Content::Json,
             body: text_after(alloc, Some(old.stored().get()), ready.changes())?,

@@ -34,7 +34,7 @@ use Rattle.kapi_answer.specs.Create.{admitted, namespace_on, valid, with_namespa
 use Rattle.kapi_answer.specs.Get.{found, found_if}
 use Rattle.kapi_answer.specs.Headers.{media_typed}
 use Rattle.kapi_answer.specs.Impersonation.{acts_as, acts_or_refused, made_as}
-use Rattle.kapi_answer.specs.Outcome.{told}
+use Rattle.kapi_answer.specs.Response.{told}
 use Rattle.kapi_answer.specs.Query.{queried}
 use Rattle.kapi_answer.specs.Route.{ResourceRouted, Routed, health, resource, routed}
 use Rattle.kapi_answer.specs.Watch.{since_served}

@@ -2,10 +2,10 @@
 #![tactic(auto)]
 
 mod connection;
+mod connections;
 mod event;
 mod fingerprint;
 pub mod laws;
-mod links;
 mod machine;
 mod opening;
 mod programs;

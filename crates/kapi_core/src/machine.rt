@@ -14,9 +14,9 @@ ghost use Rattle.kapi_core.specs.declared.event.Answer.TheVariants as Answer;
 ghost use Rattle.kapi_policy.specs.Objects.{no_objects};
 
 use crate::connection::Connection;
+use crate::connections::{advance_watch, close_at, feed_at, finish_request};
 use crate::event::{ConnId, OpenError, Output, Turned};
 use crate::fingerprint::{fingerprint_of_scope, fingerprints_of};
-use crate::links::{advance_watch, close_at, feed_at, finish_request};
 use crate::opening::open_objects;
 use crate::write::{load_object, make_turn, make_write};
 use kapi_aggregation::Tracker;
@@ -408,10 +408,10 @@ fn closes(after: After) -> bool
 }
 
 /// Takes out the connection of a number, if it is to be closed.
-fn close_if(links: &mut BTreeMap<u64, Connection>, id: u64, close: bool)
-    ensures { links.new.entries ≡ (if close then remove_entry (is_at (nat_cmp id)) links.old.entries else links.old.entries) }
+fn close_if(connections: &mut BTreeMap<u64, Connection>, id: u64, close: bool)
+    ensures { connections.new.entries ≡ (if close then remove_entry (is_at (nat_cmp id)) connections.old.entries else connections.old.entries) }
 {
     if close {
-        close_at(links, id);
+        close_at(connections, id);
     }
 }

@@ -1,7 +1,7 @@
 //! Writes of the store and of the policy, in one step.
 ghost use Rattle.std.specs.Prelude.{◌≡◌, IfOk, IfSome, OnErr, OnOk};
 ghost use Rattle.kapi_aggregation.specs.Marks.{CoversAsMuch};
-ghost use Rattle.kapi_answer.specs.Outcomes.{changes_data};
+ghost use Rattle.kapi_answer.specs.Responses.{changes_data};
 ghost use Rattle.kapi_core.specs.Private.Writes.{LoadsInto, TurnsInto, Writes};
 ghost use Rattle.kapi_store.specs.State.{Fits};
 ghost use Rattle.kapi_stored_policy.specs.Reading as reading;

@@ -17,7 +17,7 @@ use Rattle.kapi_rules.specs.declared.atom.Names.{Names}
 use Rattle.kapi_rules.specs.declared.atom.Names.TheVariants as names
 use Rattle.kapi_missing.proofs.Repeats.{either_way, filter_append, has_atom, missing_more}
 use Rattle.kapi_missing.specs.Private.Left.{atoms_of, left, left_atoms, resource_lists, url_lists}
-use Rattle.kapi_missing.specs.Private.Once.{is_stopped, once}
+use Rattle.kapi_missing.specs.Private.Once.{is_covered, once}
 use Rattle.kapi_missing.specs.Private.Stoppers.{Item, Stopper, earlier_one, held_one, lists, meets, names_item, stoppers, word_in}
 use Rattle.kapi_missing.specs.declared.rows.List.TheVariants as of
 
@@ -102,7 +102,7 @@ module _ (g r v : List ℕ) (n : Names) where
       split (atom.Resource a) = refl
       split (atom.Url a) = refl
 
-  stops : (held before : List PolicyRule) → list_any meets_all (stoppers held before) ≡ is_stopped held before (resource_atom v g r n)
+  stops : (held before : List PolicyRule) → list_any meets_all (stoppers held before) ≡ is_covered held before (resource_atom v g r n)
   stops held before =
       list_any-append meets_all (map held_one held) (map earlier_one before)
       ∙ ap₂ (λ x y. x || y)
@@ -128,7 +128,7 @@ module _ (u v : List ℕ) where
       split (atom.Resource a) = refl
       split (atom.Url a) = refl
 
-  url_stops : (held before : List PolicyRule) → list_any meets_both (stoppers held before) ≡ is_stopped held before (url_atom v u)
+  url_stops : (held before : List PolicyRule) → list_any meets_both (stoppers held before) ≡ is_covered held before (url_atom v u)
   url_stops held before =
       list_any-append meets_both (map held_one held) (map earlier_one before)
       ∙ ap₂ (λ x y. x || y)
@@ -139,20 +139,20 @@ module _ (u v : List ℕ) where
 
 module _ (held before : List PolicyRule) where
   abbrev is_left : Atom → Bool
-  is_left a = not (is_stopped held before a)
+  is_left a = not (is_covered held before a)
 
   leaf : (g r v : List ℕ) (n : Names)
       → flat_map (λ c. atoms_of (word_in of.Groups g ∷ word_in of.Resources r ∷ word_in of.Verbs v ∷ names_item n ∷ c)) (left (stoppers held before) (meets_all g r v n) [])
       ≡ filter is_left (resource_atom v g r n ∷ [])
   leaf g r v n =
       alone is_left (λ c. atoms_of (word_in of.Groups g ∷ word_in of.Resources r ∷ word_in of.Verbs v ∷ names_item n ∷ c)) (resource_atom v g r n)
-      (list_any (meets_all g r v n) (stoppers held before)) (is_stopped held before (resource_atom v g r n)) (its n) refl (stops g r v n held before)
+      (list_any (meets_all g r v n) (stoppers held before)) (is_covered held before (resource_atom v g r n)) (its n) refl (stops g r v n held before)
     where
       its : (n : Names) → atoms_of (word_in of.Groups g ∷ word_in of.Resources r ∷ word_in of.Verbs v ∷ names_item n ∷ []) ≡ resource_atom v g r n ∷ []
       its names.All = refl
       its (names.One name) = refl
 
-  pub resources_left : (w : PolicyRule) → left_atoms (stoppers held before) (resource_lists w) ≡ filter (λ a. not (is_stopped held before a)) (flat_map (group_atoms w) w.api_groups)
+  pub resources_left : (w : PolicyRule) → left_atoms (stoppers held before) (resource_lists w) ≡ filter (λ a. not (is_covered held before a)) (flat_map (group_atoms w) w.api_groups)
   resources_left w =
       level is_left atoms_of _ (word_in of.Groups) (group_atoms w) (λ g.
       level is_left (λ c. atoms_of (word_in of.Groups g ∷ c)) _ (word_in of.Resources) (resource_atoms w g) (λ r.
@@ -164,9 +164,9 @@ module _ (held before : List PolicyRule) where
       → flat_map (λ c. atoms_of (word_in of.Urls u ∷ word_in of.Verbs v ∷ c)) (left (stoppers held before) (meets_both u v) []) ≡ filter is_left (url_atom v u ∷ [])
   url_leaf u v =
       alone is_left (λ c. atoms_of (word_in of.Urls u ∷ word_in of.Verbs v ∷ c)) (url_atom v u)
-      (list_any (meets_both u v) (stoppers held before)) (is_stopped held before (url_atom v u)) refl refl (url_stops u v held before)
+      (list_any (meets_both u v) (stoppers held before)) (is_covered held before (url_atom v u)) refl refl (url_stops u v held before)
 
-  pub urls_left : (w : PolicyRule) → left_atoms (stoppers held before) (url_lists w) ≡ filter (λ a. not (is_stopped held before a)) (flat_map (url_atoms w) w.non_resource_urls)
+  pub urls_left : (w : PolicyRule) → left_atoms (stoppers held before) (url_lists w) ≡ filter (λ a. not (is_covered held before a)) (flat_map (url_atoms w) w.non_resource_urls)
   urls_left w =
       level is_left atoms_of _ (word_in of.Urls) (url_atoms w) (λ u.
       level is_left (λ c. atoms_of (word_in of.Urls u ∷ c)) _ (word_in of.Verbs) (λ v. url_atom v u ∷ []) (url_leaf u) w.verbs
@@ -181,5 +181,5 @@ pub missing_and_left : (held before : List PolicyRule) (rule : PolicyRule)
     → missing held (before ++ rule ∷ []) ≡ missing held before ++ (left_atoms (stoppers held before) (resource_lists (once rule)) ++ left_atoms (stoppers held before) (url_lists (once rule)))
 missing_and_left held before rule =
     missing_more held before rule
-    ∙ ap (λ r. missing held before ++ r) (split_atoms (λ a. not (is_stopped held before a)) (once rule)
+    ∙ ap (λ r. missing held before ++ r) (split_atoms (λ a. not (is_covered held before a)) (once rule)
     ∙ ap₂ (λ x y. x ++ y) (sym (resources_left held before (once rule))) (sym (urls_left held before (once rule))))

@@ -18,7 +18,7 @@ use Rattle.kapi_rules.specs.declared.atom.Atom.{Atom}
 use Rattle.kapi_rules.specs.declared.atom.Atom.TheVariants as atom
 use Rattle.kapi_rules.specs.declared.atom.Names.{Names}
 use Rattle.kapi_rules.specs.declared.atom.Names.TheVariants as names
-use Rattle.kapi_missing.specs.Private.Once.{is_stopped, once, once_each, with_word}
+use Rattle.kapi_missing.specs.Private.Once.{is_covered, once, once_each, with_word}
 
 -- ---- elements of lists
 
@@ -399,7 +399,7 @@ same_filter p q [] same = refl
 same_filter p q (a ∷ list) same = rw (same a, same_filter p q list same) refl
 
 pub missing_more : (held before : List PolicyRule) (rule : PolicyRule)
-    → missing held (before ++ rule ∷ []) ≡ missing held before ++ filter (λ a. not (is_stopped held before a)) (atoms (once rule))
+    → missing held (before ++ rule ∷ []) ≡ missing held before ++ filter (λ a. not (is_covered held before a)) (atoms (once rule))
 unfolding missing each_once
 missing_more held before rule =
     let p : Atom → Bool = is_missing held in
@@ -415,7 +415,7 @@ missing_more held before rule =
     cases true f = refl
     cases false f = refl
 
-    stopped : (a : Atom) → (is_missing held a && not (has_atom (fold with_atom [] (filter (is_missing held) (flat_map atoms before))) a)) ≡ not (is_stopped held before a)
+    stopped : (a : Atom) → (is_missing held a && not (has_atom (fold with_atom [] (filter (is_missing held) (flat_map atoms before))) a)) ≡ not (is_covered held before a)
     stopped a =
         rw (grown a [] (filter (is_missing held) (flat_map atoms before)), kept_by (is_missing held) a (flat_map atoms before), any_flat_map (same_atom a) atoms before)
         (cases (list_any (λ h. rule_implies h a) held) (list_any (λ w. has_atom (atoms w) a) before))

@@ -3,7 +3,7 @@ use Rattle.std.proofs.Common.{◌≡◌, ℕ, zero, suc, ◌+◌, ◌-◌, ◌/�
 use Rattle.std.specs.Fmt.{digit_glyph, digits_onto, digits, padded_integral, format_spec, char_count}
 use Rattle.std.proofs.Math.Nat.{sub-zero}
 use Rattle.std.proofs.lemmas.List.{replicate_more}
-use Rattle.kapi_store.specs.Stamps.{hex_digits}
+use Rattle.kapi_store.specs.UidAndVersion.{hex_digits}
 
 -- a number of so many hexadecimal digits
 Below : ℕ → ℕ → Type 0

@@ -5,7 +5,7 @@ use Rattle.std.specs.Fmt.{digits}
 use Rattle.serde_json.specs.Data.{object, no_members}
 use Rattle.kapi_store.specs.Faults.{RevisionsUsedUp}
 use Rattle.kapi_store.specs.Keys.{namespace_key}
-use Rattle.kapi_store.specs.Stamps.{hex_digits, uid_of}
+use Rattle.kapi_store.specs.UidAndVersion.{hex_digits, uid_of}
 use Rattle.kapi_store.specs.Changes.{placed, placed_all}
 use Rattle.kapi_store.specs.Plain.{opened, has_object, has_namespace, free_place, revisions_left, removable, removals, changes_after, creation}
 

@@ -12,7 +12,7 @@ use Rattle.kapi_store.specs.Keys.{is_key}
 use Rattle.kapi_store.specs.Plain.{Plain, PlainChange, admits, admitted, free_place, has_namespace, has_object, plain_of, replaced, trees, replacement, replacement_in_place}
 use Rattle.kapi_store.specs.Private.Hidden.{hides, seen, visible}
 use Rattle.kapi_store.specs.State.{State, live, objects}
-use Rattle.kapi_store.specs.Stamps.{version_in}
+use Rattle.kapi_store.specs.UidAndVersion.{version_in}
 use Rattle.kapi_store.specs.declared.key.Key.{Key}
 use Rattle.kapi_store.specs.declared.slots.Hidden.{Hidden}
 use Rattle.kapi_store.proofs.Seen.{seen_live, seen_slot}

@@ -16,7 +16,7 @@ use Rattle.kapi_object.specs.Order.{is_ordered}
 use Rattle.kapi_object.specs.Tree.{in_metadata, members_or_none, metadata_of, with_text}
 use Rattle.kapi_store.proofs.Stamped.{uid_there}
 use Rattle.kapi_store.proofs.Versions.{text_there}
-use Rattle.kapi_store.specs.Stamps.{uid_in, version_in, with_stamps_of, replaced_tree}
+use Rattle.kapi_store.specs.UidAndVersion.{uid_in, version_in, with_stamps_of, replaced_tree}
 
 -- a value that is put over another
 put_over : (k : List ℕ) (d e : Data) (ms : Members) → put k d (put k e ms) ≡ put k d ms

@@ -9,7 +9,7 @@ use Rattle.serde_json.specs.Read.{read}
 use Rattle.serde_json.specs.Written.{compact_text, has_float}
 use Rattle.kapi_object.specs.Contents.{aggregation_in}
 use Rattle.kapi_object.specs.Tree.{in_metadata}
-use Rattle.kapi_store.specs.Stamps.{uid_of}
+use Rattle.kapi_store.specs.UidAndVersion.{uid_of}
 use Rattle.kapi_store.specs.Labels.{labels_of, told_by}
 use Rattle.kapi_store.specs.declared.stored.StoredObject.{StoredObject}
 

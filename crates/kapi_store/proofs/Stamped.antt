@@ -6,7 +6,7 @@ use Rattle.serde_json.specs.Find.{as_str}
 use Rattle.kapi_object.proofs.SetTexts.{in_text, text_set}
 use Rattle.kapi_object.specs.Object.{stamped_tree}
 use Rattle.kapi_object.specs.Tree.{in_metadata, with_text}
-use Rattle.kapi_store.specs.Stamps.{uid_in, version_in, with_stamps_of}
+use Rattle.kapi_store.specs.UidAndVersion.{uid_in, version_in, with_stamps_of}
 
 pub uid_stays : (version : List ℕ) (d : Data) → option_and_then as_str (in_metadata (codes "uid") (with_text (codes "resourceVersion") version d)) ≡ option_and_then as_str (in_metadata (codes "uid") d)
 uid_stays version d = ap (option_and_then as_str) (in_text (codes "uid") (codes "resourceVersion") version d refl)

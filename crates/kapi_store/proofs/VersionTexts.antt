@@ -20,7 +20,7 @@ use Rattle.kapi_store.proofs.Labelled.{turned}
 use Rattle.kapi_store.proofs.Versions.{given, has_metadata, inner_order, text_there, untouched, version_alone, versioned_again}
 use Rattle.kapi_store.specs.Gone.{at_version, changed_at, with_changed}
 use Rattle.kapi_store.specs.Private.Cut.{is_near, version_text}
-use Rattle.kapi_store.specs.Stamps.{with_stamps_of, replaced_tree}
+use Rattle.kapi_store.specs.UidAndVersion.{with_stamps_of, replaced_tree}
 
 -- texts that are one text around what differs
 pub record Around (text between : ℕ → List ℕ) : Type 0 where

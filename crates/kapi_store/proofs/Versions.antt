@@ -18,7 +18,7 @@ use Rattle.kapi_object.specs.Tree.{in_metadata, members_or_none, with_text}
 use Rattle.kapi_store.proofs.Labelled.{turned}
 use Rattle.kapi_store.proofs.Stamped.{old_uid}
 use Rattle.kapi_store.specs.Gone.{at_version, changed_at, with_changed}
-use Rattle.kapi_store.specs.Stamps.{uid_in, with_stamps_of, replaced_tree}
+use Rattle.kapi_store.specs.UidAndVersion.{uid_in, with_stamps_of, replaced_tree}
 
 pub given : (a b : Data) → Some a ≡ Some b → a ≡ b
 given a b is = cc is

@@ -6,7 +6,7 @@ use Rattle.kapi_store.specs.Stored.{stored_tree}
 use Rattle.kapi_store.specs.Keys.{is_key}
 use Rattle.serde_json.specs.Data.{Data}
 use Rattle.kapi_store.specs.Same.{same_tree}
-use Rattle.kapi_store.specs.Stamps.{with_stamps_of, replaced_tree}
+use Rattle.kapi_store.specs.UidAndVersion.{with_stamps_of, replaced_tree}
 use Rattle.kapi_store.specs.Plain.{Plain, PlainChange, plain_change, trees, removals, revisions_left, replaced}
 use Rattle.kapi_store.proofs.Trees.{lookup_trees}
 use Rattle.kapi_store.specs.declared.stored.StoredObject.{StoredObject}

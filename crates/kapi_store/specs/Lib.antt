@@ -1,6 +1,6 @@
 pub mod Limits
 pub mod Keys
-pub mod Stamps
+pub mod UidAndVersion
 pub mod Labels
 pub mod Stored
 pub mod Gone

@@ -16,7 +16,7 @@ use Rattle.kapi_store.specs.declared.key.Key.{Key}
 use Rattle.kapi_store.specs.declared.change.Change.{Change}
 use Rattle.kapi_store.specs.Limits.{last_revision, window_limit}
 use Rattle.kapi_store.specs.Keys.{is_key, namespace_key}
-use Rattle.kapi_store.specs.Stamps.{created_tree, replaced_tree, with_stamps_of, version_in}
+use Rattle.kapi_store.specs.UidAndVersion.{created_tree, replaced_tree, with_stamps_of, version_in}
 use Rattle.kapi_store.specs.Same.{same_tree}
 use Rattle.kapi_store.specs.Changes.{placed_all, last_of, Follow}
 use Rattle.kapi_store.specs.Faults.{StoreFault, Exists, Missing, Conflict, NoNamespace, NamespaceNotEmpty, RevisionsUsedUp}

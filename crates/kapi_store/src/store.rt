@@ -6,8 +6,8 @@ use crate::namespaces::{any_stands_in, forget_if_removed, is_known, is_namespace
 use crate::ready::Ready;
 use crate::rows::{Rows, is_namespaced};
 use crate::slots::{Hidden, find, place, reserve_slot};
-use crate::stamps::{admitted, created, replacing};
 use crate::stored::StoredObject;
+use crate::uid_and_version::{admitted, created, replacing};
 use crate::window::{Changes, WINDOW, Window};
 use kapi_model::{ResourceRow, Selector};
 use kapi_object::{GivenText, Object};
@@ -85,7 +85,7 @@ impl Store {
     ghost use Rattle.kapi_store.specs.State.{objects as objects_of, Same, Fits, IsStore};
     ghost use Rattle.kapi_store.specs.Lent.{changes_of};
     ghost use Rattle.kapi_store.specs.Faults.{fault_of};
-    ghost use Rattle.kapi_store.specs.Stamps.{with_stamps_of as with_stamps};
+    ghost use Rattle.kapi_store.specs.UidAndVersion.{with_stamps_of as with_stamps};
     ghost use Rattle.kapi_store.specs.Stored.{stored_tree};
     ghost use Rattle.kapi_store.specs.Plain.{Plain, PlainChange, RefinesPlain, plain_of, plain_change, has_object as has_object_at, has_namespace as has_namespace_of, free_place, revisions_left, creation, creation_in_place, replacement, replacement_in_place, removal, opened, written, trees};
     ghost use Rattle.kapi_store.specs.Plain.{changes_after as changes_after_in, replaceable as replaceable_at, holds_objects as holds_objects_in, is_full_namespace, removable, replaced, window_start as window_start_of};

@@ -5,12 +5,12 @@ ghost use Rattle.serde_json.specs.Read.{read};
 ghost use Rattle.serde_json.specs.Written.{compact_text, has_float};
 ghost use Rattle.kapi_object.specs.Contents.{aggregation_in};
 ghost use Rattle.kapi_object.specs.Tree.{in_metadata};
-ghost use Rattle.kapi_store.specs.Stamps.{uid_of};
+ghost use Rattle.kapi_store.specs.UidAndVersion.{uid_of};
 ghost use Rattle.kapi_store.specs.Labels.{labels_of as labels_of_tree, told_by};
 
 use crate::cut::{around, joined, version_text};
 use crate::labels::{are_same, labels_of};
-use crate::stamps::{text_of, uid, version};
+use crate::uid_and_version::{text_of, uid, version};
 use kapi_model::{AggregationRule, Label, Labels, Selector};
 use kapi_object::Object;
 use kapi_object::selector_form::read_aggregation;
@@ -53,7 +53,7 @@ impl StoredObject {
     ghost use Rattle.kapi_object.specs.Order.{is_ordered};
     ghost use Rattle.kapi_object.specs.Tree.{in_metadata};
     ghost use Rattle.kapi_store.specs.Gone.{at_version};
-    ghost use Rattle.kapi_store.specs.Stamps.{uid_of, uid_in, version_in};
+    ghost use Rattle.kapi_store.specs.UidAndVersion.{uid_of, uid_in, version_in};
     ghost use Rattle.kapi_store.specs.Stored.{stored_tree};
     ghost use Rattle.kapi_store.specs.Labels.{labels_of as labels_of_tree};
 

@@ -4,7 +4,7 @@ ghost use Rattle.std.specs.Prelude.{◌≡◌, codes, []};
 ghost use Rattle.serde_json.specs.Data.{object, no_members};
 ghost use Rattle.kapi_store.specs.Faults.{RevisionsUsedUp};
 ghost use Rattle.kapi_store.specs.Keys.{namespace_key};
-ghost use Rattle.kapi_store.specs.Stamps.{uid_of};
+ghost use Rattle.kapi_store.specs.UidAndVersion.{uid_of};
 ghost use Rattle.kapi_store.specs.Plain.{opened, creation};
 
 /// Unique ids at some revisions, and a creation at the last one.

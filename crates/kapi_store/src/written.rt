@@ -1,7 +1,7 @@
 //! An object with the stamps of a write.
 
-use crate::stamps::{uid, version};
 use crate::stored::StoredObject;
+use crate::uid_and_version::{uid, version};
 use kapi_object::Object;
 use kapi_text::Memory;
 use std::alloc::Global;
@@ -19,7 +19,7 @@ impl Written {
     ghost use Rattle.serde_json.specs.Find.{as_str};
     ghost use Rattle.kapi_object.specs.Object.{tree_of, stamped_tree};
     ghost use Rattle.kapi_object.specs.Tree.{in_metadata};
-    ghost use Rattle.kapi_store.specs.Stamps.{uid_of};
+    ghost use Rattle.kapi_store.specs.UidAndVersion.{uid_of};
     ghost use Rattle.kapi_store.specs.Stored.{stored_tree};
 
     /// The object with the unique id of one revision and the version of another.

@@ -17,7 +17,7 @@ use Rattle.kapi_store.specs.Changes.{placed, placed_all}
 use Rattle.kapi_store.specs.Keys.{key_cmp, is_key}
 use Rattle.kapi_store.specs.Plain.{Plain, PlainChange, creation, creation_at, creation_in_place, free_place, removable, removal, removals, replaceable, replaced, replacement, replacement_at, revisions_left, trees_left_by, written}
 use Rattle.kapi_store.specs.Same.{same_tree}
-use Rattle.kapi_store.specs.Stamps.{created_tree, replaced_tree, uid_in, version_in, with_stamps_of, uid_of}
+use Rattle.kapi_store.specs.UidAndVersion.{created_tree, replaced_tree, uid_in, version_in, with_stamps_of, uid_of}
 use Rattle.kapi_store.specs.declared.key.Key.{Key}
 use Rattle.kapi_stored_policy.proofs.Admitted.{stamps_sound}
 use Rattle.kapi_stored_policy.specs.Admitted.{AreSound, IsObjectOf, IsSoundAt, schema_of}

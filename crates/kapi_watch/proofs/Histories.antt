@@ -12,7 +12,7 @@ use Rattle.kapi_store.specs.Faults.{StoreFault, Missing}
 use Rattle.kapi_store.specs.Keys.{is_key, key_cmp}
 use Rattle.kapi_store.specs.Plain.{Plain, PlainChange, RefinesPlain, trees_left_by, creation_at, creation_in_place, free_place, removable, removals, replaced, replacement_at, revisions_left}
 use Rattle.kapi_store.specs.Same.{same_tree}
-use Rattle.kapi_store.specs.Stamps.{with_stamps_of}
+use Rattle.kapi_store.specs.UidAndVersion.{with_stamps_of}
 use Rattle.kapi_store.specs.State.{State}
 use Rattle.kapi_store.specs.declared.key.Key.{Key}
 use Rattle.kapi_watch.specs.Histories.{IsNamedBy, AreMadeOf, IsHistory, NoChangeIsAHistory, GoesOn, IsCreation, IsReplacement, IsRemoval}

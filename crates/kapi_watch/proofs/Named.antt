@@ -15,7 +15,7 @@ use Rattle.kapi_object.specs.Object.{stamped_tree}
 use Rattle.kapi_object.specs.Tree.{in_metadata, with_text}
 use Rattle.kapi_store.specs.Gone.{at_version, changed_at, with_changed}
 use Rattle.kapi_store.specs.Listing.{is_asked, is_listed, is_within}
-use Rattle.kapi_store.specs.Stamps.{created_tree, metadata_text, replaced_tree, uid_in, uid_of, version_in, with_stamps_of}
+use Rattle.kapi_store.specs.UidAndVersion.{created_tree, metadata_text, replaced_tree, uid_in, uid_of, version_in, with_stamps_of}
 use Rattle.kapi_store.specs.declared.key.Key.{Key}
 use Rattle.kapi_watch.specs.declared.scope.Scope.{Scope}
 use Rattle.kapi_watch.specs.Histories.{IsNamedBy}

@@ -6,7 +6,7 @@ use Rattle.serde_json.specs.Data.{Data}
 use Rattle.kapi_store.specs.Changes.{placed, Follow}
 use Rattle.kapi_store.specs.Keys.{is_key}
 use Rattle.kapi_store.specs.Plain.{Plain, PlainChange, RefinesPlain, creation, replacement_in_place, removal}
-use Rattle.kapi_store.specs.Stamps.{metadata_text}
+use Rattle.kapi_store.specs.UidAndVersion.{metadata_text}
 use Rattle.kapi_store.specs.State.{State}
 use Rattle.kapi_store.specs.declared.key.Key.{Key}
 

@@ -5,7 +5,7 @@ use Rattle.serde_json.specs.Data.{Data}
 use Rattle.kapi_store.specs.Changes.{placed, placed_all}
 use Rattle.kapi_store.specs.Listing.{listed_trees}
 use Rattle.kapi_store.specs.Plain.{Plain, PlainChange, RefinesPlain, plain_of, trees_left_by}
-use Rattle.kapi_store.specs.Stamps.{metadata_text}
+use Rattle.kapi_store.specs.UidAndVersion.{metadata_text}
 use Rattle.kapi_store.specs.State.{State}
 use Rattle.kapi_store.specs.declared.key.Key.{Key}
 use Rattle.kapi_watch.specs.declared.scope.Scope.{Scope}

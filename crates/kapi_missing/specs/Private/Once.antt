@@ -31,8 +31,8 @@ once rule = record {
 }
 
 -- an atom of an earlier wanted rule, or implied by a held one
-abbrev pub is_stopped : List PolicyRule → List PolicyRule → Atom → Bool
-is_stopped held before a = list_any (λ h. rule_implies h a) held || list_any (λ w. list_any (same_atom a) (atoms w)) before
+abbrev pub is_covered : List PolicyRule → List PolicyRule → Atom → Bool
+is_covered held before a = list_any (λ h. rule_implies h a) held || list_any (λ w. list_any (same_atom a) (atoms w)) before
 
 -- the set has the word
 abbrev pub is_in : BTreeSet (Bor (List ℕ)) → List ℕ → Bool

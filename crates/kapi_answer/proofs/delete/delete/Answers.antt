@@ -4,7 +4,7 @@ use Rattle.kapi_reply.specs.declared.refusal.Refused.{Refused}
 use Rattle.kapi_store.specs.Faults.{fault_of}
 use Rattle.kapi_store.specs.Plain.{plain_of, removal}
 use Rattle.kapi_answer.specs.Delete.{removed, removes}
-use Rattle.kapi_answer.specs.Outcomes.{deletion_data}
+use Rattle.kapi_answer.specs.Responses.{deletion_data}
 use Rattle.kapi_answer.proofs.Stored.{stored_fails}
 use Rattle.kapi_answer.proofs.delete.delete.Goals as goal
 

@@ -5,7 +5,7 @@ use Rattle.kapi_reply.specs.declared.refusal.Refused.{Refused}
 use Rattle.kapi_store.specs.Plain.{plain_of}
 use Rattle.kapi_store.proofs.Places.{nothing_stands}
 use Rattle.kapi_answer.specs.Answer.{Plan, planned_creation, to_be_created}
-use Rattle.kapi_answer.specs.Outcomes.{new_data, plan_data, task_data}
+use Rattle.kapi_answer.specs.Responses.{new_data, plan_data, task_data}
 use Rattle.kapi_answer.proofs.plan.plan_creation.Goals as goal
 
 -- a new object has a free place, so none stands there

@@ -1,5 +1,5 @@
 use Rattle.std.proofs.Common.{◌≡◌, Option, map, sym, ap, ◌∙◌, subst}
-use Rattle.kapi_answer.specs.Outcomes.{changes_data}
+use Rattle.kapi_answer.specs.Responses.{changes_data}
 use Rattle.kapi_store.specs.Plain.{plain_change}
 use Rattle.kapi_store.specs.declared.ready.Ready.{Ready}
 use Rattle.kapi_policy.specs.Steps.{after_changes}

@@ -2,7 +2,7 @@ use Rattle.std.proofs.Common.{◌≡◌, List, Some, None, ◌∙◌, sym, ap, s
 use Rattle.std.specs.BTreeMap.{is_at}
 use Rattle.std.specs.Map.{lookup, remove_entry}
 use Rattle.std.specs.Ordering.{nat_cmp}
-use Rattle.kapi_answer.specs.Outcomes.{answered_data}
+use Rattle.kapi_answer.specs.Responses.{answered_data}
 use Rattle.kapi_policy.specs.declared.change.PolicyChange.{PolicyChange}
 use Rattle.kapi_store.proofs.Stores.{same_stands}
 use Rattle.kapi_store.specs.Plain.{RefinesPlain, plain_of}

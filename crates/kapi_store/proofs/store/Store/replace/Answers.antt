@@ -3,7 +3,7 @@ use Rattle.serde_json.specs.Data.{Data}
 use Rattle.std.proofs.lemmas.Result.{IfOk-weaker}
 use Rattle.kapi_object.specs.Object.{tree_of}
 use Rattle.kapi_store.specs.Stored.{stored_tree}
-use Rattle.kapi_store.specs.Stamps.{with_stamps_of}
+use Rattle.kapi_store.specs.UidAndVersion.{with_stamps_of}
 use Rattle.kapi_store.proofs.store.Store.replace.Goals as goal
 
 pub returns-clause-unchanged : goal.returns-clause-unchanged

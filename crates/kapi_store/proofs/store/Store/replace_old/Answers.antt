@@ -5,7 +5,7 @@ use Rattle.kapi_store.specs.Limits.{last_revision}
 use Rattle.kapi_store.specs.Keys.{is_key}
 use Rattle.kapi_store.specs.Stored.{stored_tree}
 use Rattle.kapi_store.specs.Same.{same_tree}
-use Rattle.kapi_store.specs.Stamps.{replaced_tree, with_stamps_of}
+use Rattle.kapi_store.specs.UidAndVersion.{replaced_tree, with_stamps_of}
 use Rattle.kapi_store.specs.declared.written.Written.{Written}
 use Rattle.kapi_store.specs.Plain.{plain_of, revisions_left}
 use Rattle.kapi_store.specs.View.{state_of}

@@ -6,12 +6,12 @@ ghost use Rattle.serde_json.specs.Written.{compact_text};
 ghost use Rattle.std.specs.Bool.{Decides};
 ghost use Rattle.std.specs.Fmt.{decimal};
 ghost use Rattle.kapi_object.specs.Object.{tree_of};
-ghost use Rattle.kapi_store.specs.Stamps.{uid_of, created_tree, replaced_tree};
+ghost use Rattle.kapi_store.specs.UidAndVersion.{uid_of, created_tree, replaced_tree};
 ghost use Rattle.kapi_store.specs.Plain.{admits as admits_of, admitted as admitted_of};
 ghost use Rattle.kapi_text.specs.Gives.{Gives};
 ghost use Rattle.kapi_store.specs.Faults.{fault_of};
 ghost use Rattle.kapi_store.specs.Same.{same_tree};
-ghost use Rattle.kapi_store.specs.Stamps.{with_stamps_of as with_stamps_of_tree};
+ghost use Rattle.kapi_store.specs.UidAndVersion.{with_stamps_of as with_stamps_of_tree};
 ghost use Rattle.kapi_store.specs.Stored.{stored_tree};
 
 use crate::change::Shared;

@@ -2,7 +2,7 @@ use Rattle.std.proofs.Common.{◌≡◌, ◌∙◌, ◌++◌, ◌+◌, ◌≤◌
 use Rattle.std.specs.Option.{option_copied_mut}
 use Rattle.kapi_http.specs.declared.inbox.FeedError.{FeedError}
 use Rattle.kapi_core.proofs.Feeding.{fed_from, memory_fits}
-use Rattle.kapi_core.proofs.links.feed_at.Goals as goal
+use Rattle.kapi_core.proofs.connections.feed_at.Goals as goal
 use Rattle.kapi_core.specs.Limits.{kept_limit}
 
 pub returns-in-Some : goal.returns-in-Some
@@ -13,7 +13,7 @@ returns-in-Some c =
     let Taken : Result (Unit {0}) FeedError → Type 0 = λ r. OnOk r (u ≡ record { kept = was.inbox.kept ++ piece; ended = false }) in
     let Fitting : Result (Unit {0}) FeedError → Type 0 = λ r. OnOk r (length was.inbox.kept + length piece ≤ kept_limit) in
     let Unchanged : Result (Unit {0}) FeedError → Type 0 = λ r. OnErr r (u ≡ was.inbox) in
-    fed_from c.args.links.now.entries (c.get_mut.follows.lender (record { identity = was.identity; inbox = u; watching = was.watching })).entries c.args.id piece was u c.feed.result
+    fed_from c.args.connections.now.entries (c.get_mut.follows.lender (record { identity = was.identity; inbox = u; watching = was.watching })).entries c.args.id piece was u c.feed.result
     (sym c.get_mut.ensures.value ∙ ap option_copied_mut c.in-Some.is)
     (c.get_mut.follows.holds (record { identity = was.identity; inbox = u; watching = was.watching })).0
     (λ done e. (subst Taken e c.feed.ensures.ok, subst Fitting e c.feed.ensures.fits))

@@ -1,10 +1,10 @@
 use Rattle.std.proofs.Common.{◌∙◌, ap}
 use Rattle.std.specs.Fmt.{decimal}
 use Rattle.kapi_object.specs.Object.{stamped_tree, tree_of}
-use Rattle.kapi_store.specs.Stamps.{uid_in}
+use Rattle.kapi_store.specs.UidAndVersion.{uid_in}
 use Rattle.kapi_store.specs.Stored.{stored_tree}
 use Rattle.kapi_store.proofs.Restamped.{replaced_once}
-use Rattle.kapi_store.proofs.stamps.in_place_of.Goals as goal
+use Rattle.kapi_store.proofs.uid_and_version.in_place_of.Goals as goal
 
 pub returns-clause-tree : goal.returns-clause-tree
 returns-clause-tree c =

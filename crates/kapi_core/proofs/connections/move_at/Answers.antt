@@ -7,7 +7,7 @@ use Rattle.kapi_answer.specs.declared.watch.Watching.{Watching}
 use Rattle.kapi_watch.specs.Running.{at_place}
 use Rattle.kapi_watch.specs.declared.watch.Place.{Place}
 use Rattle.kapi_core.specs.declared.connection.Connection.{Connection}
-use Rattle.kapi_core.proofs.links.move_at.Goals as goal
+use Rattle.kapi_core.proofs.connections.move_at.Goals as goal
 
 same_in : {X : Type 0} (x y : X) → Some x ≡ Some y → x ≡ y
 same_in x y is = cc
@@ -23,6 +23,6 @@ returns-in-Some-watching c = λ linked w there runs.
     same_in c.in-Some-watching.watching w (sym c.in-Some-watching.is ∙ ap (λ (x : Connection). x.watching) same ∙ runs) in
     let v : Watching = c.shown.new.self in
     let now : Connection = record { identity = was.identity; inbox = was.inbox; watching = Some v } in
-    let put : Connection → Watching → List (ℕ × Connection) = λ x y. set_value (is_at (nat_cmp c.args.id)) c.args.links.now.entries (record x { watching = Some y }) in
+    let put : Connection → Watching → List (ℕ × Connection) = λ x y. set_value (is_at (nat_cmp c.args.id)) c.args.connections.now.entries (record x { watching = Some y }) in
     let moved : v ≡ moved_to c.args.place w = c.shown.ensures ∙ ap (moved_to c.args.place) watched in
     (c.get_mut.follows.holds now).0 ∙ ap (λ x. put x v) same ∙ ap (put linked) moved

@@ -3,7 +3,7 @@ use Rattle.std.specs.Bool.{Decides}
 use Rattle.kapi_object.specs.Object.{tree_of}
 use Rattle.kapi_store.specs.Stored.{stored_tree}
 use Rattle.kapi_store.proofs.Equality.{decided_alike, same_decides}
-use Rattle.kapi_store.proofs.stamps.is_unchanged.Goals as goal
+use Rattle.kapi_store.proofs.uid_and_version.is_unchanged.Goals as goal
 
 pub returns-clause-test : goal.returns-clause-test
 returns-clause-test c =

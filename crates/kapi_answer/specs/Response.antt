@@ -9,16 +9,16 @@ use Rattle.kapi_reply.specs.declared.reply.Content.TheVariants as content
 use Rattle.kapi_store.specs.Plain.{PlainChange}
 
 -- the code of the reply, its body, and the changes that are made: none, one or many
-pub record Outcome : Type 0 where
+pub record Response : Type 0 where
   pub code : StatusCode
   pub content : Content
   pub body : List ℕ
   pub changes : List PlainChange
 
 -- the reply is the object, and nothing is changed
-abbrev pub told : StatusCode → Data → Outcome
+abbrev pub told : StatusCode → Data → Response
 told code tree = record { code = code; content = content.Json; body = compact_text tree; changes = [] }
 
 -- the reply to a health request (Kubernetes, 'Kubernetes API health endpoints')
-abbrev pub well : Outcome
+abbrev pub well : Response
 well = record { code = status.Ok; content = content.Text; body = codes "ok"; changes = [] }

@@ -9,14 +9,14 @@ use kapi_watch::Watch;
 /// What a request that passed every check gets.
 #[derive(Drop)]
 pub enum Passed {
-    Answered(Outcome),
+    Answered(Response),
     /// A watch starts.
     Watching(Watch),
 }
 
 /// A reply, and the write that it reports, if the request makes one.
 #[derive(Drop)]
-pub struct Outcome {
+pub struct Response {
     pub code: StatusCode,
     pub content: Content,
     pub body: Vec<u8>,
@@ -28,7 +28,7 @@ pub struct Outcome {
 #[derive(Drop)]
 pub enum Plan {
     /// The request changes nothing.
-    Tell(Outcome),
+    Tell(Response),
     /// The request starts a watch.
     Watch(Watch),
     Create(NewObject),

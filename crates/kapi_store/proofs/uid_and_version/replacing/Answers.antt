@@ -6,12 +6,12 @@ use Rattle.kapi_object.specs.Order.{is_ordered}
 use Rattle.kapi_object.specs.declared.object.Object.{Object}
 use Rattle.kapi_store.specs.declared.written.Written.{Written}
 use Rattle.kapi_store.specs.Private.Cut.{is_near}
-use Rattle.kapi_store.specs.Stamps.{replaced_tree, with_stamps_of}
+use Rattle.kapi_store.specs.UidAndVersion.{replaced_tree, with_stamps_of}
 use Rattle.kapi_store.specs.Stored.{stored_tree}
 use Rattle.kapi_store.proofs.Labelled.{told_ordered}
 use Rattle.kapi_store.proofs.Restamped.{replaced_again, stamps_again}
 use Rattle.kapi_store.proofs.VersionTexts.{replaced_near}
-use Rattle.kapi_store.proofs.stamps.replacing.Goals as goal
+use Rattle.kapi_store.proofs.uid_and_version.replacing.Goals as goal
 
 -- what was written at the version of a revision has, with the old stamps, the tree that the object has with them
 with_old_stamps : (revision : ℕ) (old tree again : Data) (written : Written) (object : Object) → is_ordered tree ≡ true → stored_tree written.stored ≡ tree_of written.object
