@@ -32,11 +32,11 @@ use Rattle.kapi_store.specs.Plain.{Plain, PlainChange, creation_at, creation_in_
 use Rattle.kapi_store.specs.Same.{same_tree}
 use Rattle.kapi_store.specs.UidAndVersion.{uid_in, uid_of, version_in, with_stamps_of}
 use Rattle.kapi_store.specs.declared.key.Key.{Key}
-use Rattle.kapi_stored_policy.proofs.Sound.{either_holds, then_holds}
-use Rattle.kapi_stored_policy.specs.Kind.{policy_kind}
+use Rattle.kapi_guard.proofs.Sound.{either_holds, then_holds}
+use Rattle.kapi_guard.specs.Kind.{policy_kind}
 use Rattle.kapi_answer.proofs.Escalated.{passed_is_granted}
-use Rattle.kapi_stored_policy.proofs.Granted.{deletion_is_granted, stamped_is_granted}
-use Rattle.kapi_stored_policy.specs.Granted.{AreGranted, IsDeletion, IsGrantedAt}
+use Rattle.kapi_guard.proofs.Granted.{deletion_is_granted, stamped_is_granted}
+use Rattle.kapi_guard.specs.Granted.{AreGranted, IsDeletion, IsGrantedAt}
 use Rattle.kapi_answer.specs.Answer.{Passed, Plan, Task, answer, answer_as, answer_asked, answer_by, answer_passed, carried_out, checked, create, delete, deletes, escalation_checked, passes, place_in, planned, planned_at, planned_creation, planned_for, planned_on, replace, task, tell, tells, to_be_created, to_be_replaced, told, told_well, watch, watching}
 use Rattle.kapi_answer.specs.Authorization.{authorized}
 use Rattle.kapi_answer.specs.Collection.{listed, to_delete_all}

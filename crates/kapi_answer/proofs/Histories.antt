@@ -38,7 +38,7 @@ use Rattle.kapi_store.specs.Plain.{Plain, PlainChange, admits, creation_in_place
 use Rattle.kapi_store.specs.Plain as store
 use Rattle.kapi_store.specs.UidAndVersion.{version_in}
 use Rattle.kapi_store.specs.declared.key.Key.{Key}
-use Rattle.kapi_stored_policy.proofs.Sound.{then_holds}
+use Rattle.kapi_guard.proofs.Sound.{then_holds}
 use Rattle.kapi_watch.proofs.Lists.{standing_is_named}
 use Rattle.kapi_watch.specs.Histories.{IsNamedBy, IsCreation}
 use Rattle.kapi_answer.proofs.Granted.{review_tells, then_keeps}

@@ -38,7 +38,7 @@ listed_length : (ls : List Listed) → length (trees (map shown ls)) ≡ length 
 listed_length [] = refl
 listed_length (l ∷ ls) = ap suc (listed_length ls)
 
--- an response with a body that changes nothing
+-- a response with a body that changes nothing
 abbrev pub telling : List ℕ → Response
 telling body = record { code = status.Ok; content = content.Json; body = body; changes = [] }
 

@@ -9,7 +9,7 @@ use Rattle.kapi_object.proofs.Puts.{put_if_other}
 use Rattle.kapi_object.specs.Given.{given_of, text_given}
 use Rattle.kapi_object.specs.Tree.{in_metadata, members_or_none, metadata_of, unless_null, with_member_of, with_text, without, without_member}
 use Rattle.kapi_object.specs.declared.given.GivenText.TheVariants as given
-use Rattle.kapi_stored_policy.proofs.Admitted.{without_other}
+use Rattle.kapi_guard.proofs.Admitted.{without_other}
 use Rattle.kapi_answer.specs.declared.route.Part.{Part}
 use Rattle.kapi_answer.specs.declared.route.Part.TheVariants as part
 use Rattle.kapi_store.specs.UidAndVersion.{metadata_text}

@@ -147,7 +147,7 @@ pub data Passed : Type 0 where
   told : Response → Passed
   watching : PlainWatch → Passed
 
--- the result of a request that passed every check with an response
+-- the result of a request that passed every check with a response
 abbrev pub passes : Response → Result Passed Refused
 passes response = Ok (told response)
 

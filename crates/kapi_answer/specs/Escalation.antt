@@ -6,7 +6,7 @@ use Rattle.kapi_model.specs.declared.role_ref.RoleRef.{RoleRef}
 use Rattle.kapi_model.specs.declared.identity.Identity.{Identity}
 use Rattle.kapi_policy.specs.Objects.{PolicyObjects}
 use Rattle.kapi_store.specs.declared.key.Key.{Key}
-use Rattle.kapi_stored_policy.specs.declared.kind.PolicyKind.{PolicyKind}
+use Rattle.kapi_guard.specs.declared.kind.PolicyKind.{PolicyKind}
 use Rattle.kapi_guard.specs.Checks.{Fault, checked, lacks, lacks_authority, role_not_found, role_ref_changed}
 use Rattle.kapi_guard.specs.Exempt.{plural}
 use Rattle.kapi_guard.specs.declared.write.WrittenObject.{WrittenObject}
@@ -16,8 +16,8 @@ use Rattle.kapi_reply.specs.declared.refusal.NamedRole.{NamedRole}
 use Rattle.kapi_reply.specs.declared.refusal.Refusal.{Refusal}
 use Rattle.kapi_reply.specs.declared.refusal.Refusal.TheVariants as refusal
 use Rattle.kapi_reply.specs.declared.refusal.Refused.{Refused}
-use Rattle.kapi_stored_policy.specs.Kind.{policy_kind}
-use Rattle.kapi_stored_policy.specs.Written.{written_at}
+use Rattle.kapi_guard.specs.Kind.{policy_kind}
+use Rattle.kapi_guard.specs.Written.{written_at}
 
 -- ---- what a request is answered
 
@@ -29,7 +29,7 @@ role_named role = record { resource = plural role.kind; name = role.name }
 abbrev pub role_sought : WrittenObject → NamedRole
 role_sought (written.RoleBinding place versions) = role_named versions.new.role_ref
 role_sought (written.ClusterRoleBinding name versions) = role_named versions.new.role_ref
-role_sought (written.Role place versions) = record { resource = []; name = [] }
+role_sought (written.Role place role) = record { resource = []; name = [] }
 role_sought (written.ClusterRole name versions) = record { resource = []; name = [] }
 
 -- the refusal that reports a fault found by the guard in a write

@@ -179,7 +179,7 @@ fn prepare(
     }
 }
 
-/// The answer that reports an response.
+/// The answer that reports a response.
 fn tell(alloc: Global, close: bool, response: Response) -> Result<Prepared, Memory>
     ensures reply { IfOk result (λ p. p.reply ≡ replies.content_reply response.code response.content close response.body.items) }
     ensures write { IfOk result (λ p. p.write ≡ response.write) }

@@ -12,7 +12,7 @@ use Rattle.kapi_store.specs.Changes.{placed_all}
 use Rattle.kapi_store.specs.Faults.{StoreFault}
 use Rattle.kapi_store.specs.Plain.{Plain, PlainChange, creation, trees_left_by, written}
 use Rattle.kapi_store.specs.declared.key.Key.{Key}
-use Rattle.kapi_stored_policy.proofs.Writes.{placed_all_keeps, stands_in_order}
+use Rattle.kapi_guard.proofs.Writes.{placed_all_keeps, stands_in_order}
 use Rattle.kapi_aggregation.specs.Roles.{Labelled, roles_in}
 use Rattle.kapi_answer.proofs.Granted.{answers_are_granted}
 use Rattle.kapi_answer.specs.Answer.{answer}

@@ -18,8 +18,8 @@ use Rattle.kapi_policy.specs.Decided.{bindings_in, cluster_binding, given, held,
 use Rattle.kapi_policy.specs.Objects.{PolicyObjects}
 use Rattle.kapi_store.specs.Changes.{placed, placed_all}
 use Rattle.kapi_store.specs.UidAndVersion.{uid_of}
-use Rattle.kapi_stored_policy.specs.Kind.{policy_kind}
-use Rattle.kapi_stored_policy.specs.Reading.{collected, policy_objects}
+use Rattle.kapi_guard.specs.Kind.{policy_kind}
+use Rattle.kapi_guard.specs.Reading.{collected, policy_objects}
 use Rattle.kapi_guard.specs.Exempt.{binding, escalating}
 use Rattle.kapi_aggregation.specs.Roles.{roles_in}
 use Rattle.kapi_aggregation.specs.Unions.{IsSettled as AreUnions}

@@ -15,7 +15,7 @@ use Rattle.kapi_answer.specs.declared.loading.LoadError.{LoadError}
 use Rattle.kapi_answer.specs.declared.watch.Watching.{Watching}
 use Rattle.kapi_policy.specs.declared.change.PolicyChange.{PolicyChange}
 use Rattle.kapi_store.specs.Plain.{Plain, PlainChange, RefinesPlain, plain_of}
-use Rattle.kapi_stored_policy.specs.Reading.{policy_changes}
+use Rattle.kapi_guard.specs.Reading.{policy_changes}
 use Rattle.std.specs.Map.{keys_of}
 use Rattle.kapi_core.specs.Opening.{opening_keys}
 use Rattle.kapi_policy.specs.Objects.{PolicyObjects}

@@ -3,8 +3,8 @@ use Rattle.std.proofs.Common.{◌≡◌, List, [], ◌∷◌, ◌++◌, refl, sy
 use Rattle.serde_json.specs.Data.{Data}
 use Rattle.kapi_model.specs.declared.identity.Identity.{Identity}
 use Rattle.kapi_store.specs.declared.key.Key.{Key}
-use Rattle.kapi_stored_policy.proofs.Writes.{policy_in_order}
-use Rattle.kapi_stored_policy.specs.Reading.{policy_objects}
+use Rattle.kapi_guard.proofs.Writes.{policy_in_order}
+use Rattle.kapi_guard.specs.Reading.{policy_objects}
 use Rattle.kapi_aggregation.specs.Roles.{roles_in}
 use Rattle.kapi_aggregation.specs.Unions.{IsSettled as AreUnions}
 use Rattle.kapi_gains.proofs.Elements.{has_left, has_right}

@@ -159,7 +159,7 @@ module _ (acting : List Identity) (start old : PolicyObjects) (before : Labels) 
   module _ (unprivileged : (who : Identity) → Has acting who → IsUnprivileged start who) (who : Identity) (acts : Has acting who) where
     -- no acting identity writes what it does not hold
     none_exempt : (request_name : List ℕ) (o : WrittenObject) → may old who (scope o) (exemption request_name o) ≡ true → ⊥
-    none_exempt request_name (written.Role place versions) = no_escalation acting start old before facts unprivileged who place.namespace role_kind.Role request_name acts
+    none_exempt request_name (written.Role place role_written) = no_escalation acting start old before facts unprivileged who place.namespace role_kind.Role request_name acts
     none_exempt request_name (written.ClusterRole name versions) = no_escalation acting start old before facts unprivileged who [] role_kind.ClusterRole request_name acts
     none_exempt request_name (written.RoleBinding place versions) = no_binding acting start old before facts unprivileged who place.namespace versions.new.role_ref acts
     none_exempt request_name (written.ClusterRoleBinding name versions) = no_binding acting start old before facts unprivileged who [] versions.new.role_ref acts
@@ -183,21 +183,21 @@ module _ (acting : List Identity) (start old : PolicyObjects) (before : Labels) 
         → (holds_found (held old who (scope o)) (wanted old o) ≡ true) × (holds_authority (held old who (scope o)) o ≡ true) → SetsLabels (put_of o) given before now
         → IsAdmitted acting start old before (applied (change.Put (put_of o)) old) now
     unfolding applied with_object bindings_in
-    put_admitted (written.Role place versions) given now holds kept =
+    put_admitted (written.Role place role_written) given now holds kept =
         record {
-          order = change_keeps (change.Put (put.Role place versions.new)) old facts.order;
-          roles = λ name namespace a role. by_case name namespace a role (role_put old place versions.new name namespace role.rules role.found);
+          order = change_keeps (change.Put (put.Role place role_written)) old facts.order;
+          roles = λ name namespace a role. by_case name namespace a role (role_put old place role_written name namespace role.rules role.found);
           cluster_roles = all_stand now kept;
           bindings = λ namespace b counts. inl counts;
         }
       where
-        own : (a : Atom) → HasAtom versions.new.rules a → IsOwn acting start place.namespace a
-        own = written_are_own acting start old before facts who place.namespace versions.new.rules acts holds.0
+        own : (a : Atom) → HasAtom role_written.rules a → IsOwn acting start place.namespace a
+        own = written_are_own acting start old before facts who place.namespace role_written.rules acts holds.0
 
-        by_case : (name namespace : List ℕ) (a : Atom) (role : RoleHas (applied (change.Put (put.Role place versions.new)) old) role_kind.Role name namespace a)
-            → ((place.namespace ≡ namespace) × (versions.new.rules ≡ role.rules)) ⊎ (rules_of_kind old role_kind.Role name namespace ≡ Some role.rules)
+        by_case : (name namespace : List ℕ) (a : Atom) (role : RoleHas (applied (change.Put (put.Role place role_written)) old) role_kind.Role name namespace a)
+            → ((place.namespace ≡ namespace) × (role_written.rules ≡ role.rules)) ⊎ (rules_of_kind old role_kind.Role name namespace ≡ Some role.rules)
             → IsOwn acting start namespace a ⊎ RoleHas old role_kind.Role name namespace a
-        by_case name namespace a role (inl here) = inl (rw (← here.0) (own a (has_by_rules role.rules versions.new.rules a here.1 role.has)))
+        by_case name namespace a role (inl here) = inl (rw (← here.0) (own a (has_by_rules role.rules role_written.rules a here.1 role.has)))
         by_case name namespace a role (inr was) = inr (record { rules = role.rules; found = was; has = role.has })
     put_admitted (written.ClusterRole name versions) given now holds kept =
         record {

@@ -16,11 +16,11 @@ use Rattle.kapi_rbac_types.specs.Trees.{cluster_role_of}
 use Rattle.kapi_store.proofs.Keys.{key_same, key_total}
 use Rattle.kapi_store.specs.Keys.{is_key, key_cmp}
 use Rattle.kapi_store.specs.declared.key.Key.{Key}
-use Rattle.kapi_stored_policy.proofs.Places.{cluster_role_key}
-use Rattle.kapi_stored_policy.specs.Kind.{policy_kind}
-use Rattle.kapi_stored_policy.specs.Reading.{cluster_role_at as name_at, cluster_role_place, collected, entry_if, policy_objects}
-use Rattle.kapi_stored_policy.specs.declared.kind.PolicyKind.{PolicyKind}
-use Rattle.kapi_stored_policy.specs.declared.kind.PolicyKind.TheVariants as kind
+use Rattle.kapi_guard.proofs.Places.{cluster_role_key}
+use Rattle.kapi_guard.specs.Kind.{policy_kind}
+use Rattle.kapi_guard.specs.Reading.{cluster_role_at as name_at, cluster_role_place, collected, entry_if, policy_objects}
+use Rattle.kapi_guard.specs.declared.kind.PolicyKind.{PolicyKind}
+use Rattle.kapi_guard.specs.declared.kind.PolicyKind.TheVariants as kind
 use Rattle.kapi_aggregation.specs.Rewriting.{role_key}
 use Rattle.kapi_aggregation.specs.Roles.{is_cluster_role, labelled_tree, labels_in, roles_in}
 use Rattle.kapi_aggregation.specs.Members.{Has}

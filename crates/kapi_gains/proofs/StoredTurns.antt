@@ -15,9 +15,9 @@ use Rattle.kapi_store.specs.Changes.{placed, placed_all}
 use Rattle.kapi_store.specs.Keys.{is_key}
 use Rattle.kapi_store.specs.Plain.{Plain, PlainChange, trees_left_by, written}
 use Rattle.kapi_store.specs.declared.key.Key.{Key}
-use Rattle.kapi_stored_policy.proofs.Writes.{placed_read, policy_in_order}
+use Rattle.kapi_guard.proofs.Writes.{placed_read, policy_in_order}
 use Rattle.kapi_policy.specs.Steps.{after_changes}
-use Rattle.kapi_stored_policy.specs.Reading.{changes_at, policy_objects}
+use Rattle.kapi_guard.specs.Reading.{changes_at, policy_objects}
 use Rattle.kapi_aggregation.proofs.Rewritten.{turn_rewrites_what_stands}
 use Rattle.kapi_aggregation.specs.Rewriting.{AreRewrites, IsRewrite, rewriting, role_key}
 use Rattle.kapi_aggregation.specs.Roles.{labels_in, roles_in}

@@ -9,14 +9,14 @@ use Rattle.kapi_policy.specs.declared.change.PolicyPut.{PolicyPut}
 use Rattle.kapi_store.specs.Changes.{placed, placed_all}
 use Rattle.kapi_store.specs.Plain.{PlainChange, trees_left_by}
 use Rattle.kapi_store.specs.declared.key.Key.{Key}
-use Rattle.kapi_stored_policy.proofs.Writes.{placed_keeps, placed_read}
-use Rattle.kapi_stored_policy.specs.Kind.{policy_kind}
+use Rattle.kapi_guard.proofs.Writes.{placed_keeps, placed_read}
+use Rattle.kapi_guard.specs.Kind.{policy_kind}
 use Rattle.kapi_policy.specs.Steps.{after_changes}
-use Rattle.kapi_stored_policy.specs.Reading.{changes_at, key_at, policy_objects}
-use Rattle.kapi_stored_policy.specs.declared.kind.PolicyKind.{PolicyKind}
+use Rattle.kapi_guard.specs.Reading.{changes_at, key_at, policy_objects}
+use Rattle.kapi_guard.specs.declared.kind.PolicyKind.{PolicyKind}
 use Rattle.kapi_aggregation.specs.Roles.{labels_in}
-use Rattle.kapi_stored_policy.proofs.Granted.{deletion_is_granted}
-use Rattle.kapi_stored_policy.specs.Granted.{AreGranted, IsDeletion, IsGranted, IsGrantedAt, IsGrantedPut}
+use Rattle.kapi_guard.proofs.Granted.{deletion_is_granted}
+use Rattle.kapi_guard.specs.Granted.{AreGranted, IsDeletion, IsGranted, IsGrantedAt, IsGrantedPut}
 use Rattle.kapi_gains.specs.Access.{ActsAs}
 use Rattle.kapi_gains.specs.Steps.{IsDeleted, IsWritten, SetsLabels, deletes, writes}
 use Rattle.kapi_gains.proofs.StoredLabels.{deleted_labels, labels_kept, put_labels}

@@ -5,7 +5,7 @@ use Rattle.std.specs.Map.{keys_of, lookup}
 use Rattle.serde_json.specs.Data.{Data}
 use Rattle.kapi_store.specs.Keys.{is_key, key_cmp}
 use Rattle.kapi_store.specs.declared.key.Key.{Key}
-use Rattle.kapi_stored_policy.specs.Reading.{policy_objects}
+use Rattle.kapi_guard.specs.Reading.{policy_objects}
 use Rattle.kapi_aggregation.specs.Rewriting.{role_key}
 use Rattle.kapi_aggregation.specs.Roles.{labels_in}
 use Rattle.kapi_gains.specs.States.{Labels, PolicyState}

@@ -14,7 +14,6 @@ use Rattle.kapi_model.specs.declared.identity.Identity.{Identity}
 use Rattle.kapi_model.specs.declared.policy_rule.PolicyRule.{PolicyRule}
 use Rattle.kapi_model.specs.declared.aggregation_rule.AggregationRule.{AggregationRule}
 use Rattle.kapi_model.specs.declared.role.ClusterRole.{ClusterRole}
-use Rattle.kapi_model.specs.declared.role.Role.{Role}
 use Rattle.kapi_model.specs.declared.role_ref.RoleRef.{RoleRef}
 use Rattle.kapi_rules.proofs.Covers.{itself}
 use Rattle.kapi_rules.specs.Atoms.{atoms}
@@ -134,12 +133,12 @@ less_is_granted : (e h k a : Bool) → (h ≡ true → k ≡ true) → (e || (h 
 less_is_granted true h k a less granted = refl
 less_is_granted false h k a less granted = let parts = and_parts h a granted in and_from k a (less parts.0) parts.1
 
-pub less_of_roles : (objects : PolicyObjects) (identity : Identity) (request_name : List ℕ) (place : NamespacedName) (old : Option Role) (rules less : List PolicyRule)
-    → implies_each rules less ≡ true → grant objects identity (write_of request_name (role_with place old rules)) ≡ true
-    → grant objects identity (write_of request_name (role_with place old less)) ≡ true
+pub less_of_roles : (objects : PolicyObjects) (identity : Identity) (request_name : List ℕ) (place : NamespacedName) (rules less : List PolicyRule)
+    → implies_each rules less ≡ true → grant objects identity (write_of request_name (role_with place rules)) ≡ true
+    → grant objects identity (write_of request_name (role_with place less)) ≡ true
 unfolding grant
-less_of_roles objects identity request_name place old rules less down granted =
-    less_is_granted (is_exempt objects identity (write_of request_name (role_with place old rules))) (holds_all (held objects identity place.namespace) rules)
+less_of_roles objects identity request_name place rules less down granted =
+    less_is_granted (is_exempt objects identity (write_of request_name (role_with place rules))) (holds_all (held objects identity place.namespace) rules)
     (holds_all (held objects identity place.namespace) less) true (all_implied (held objects identity place.namespace) rules less down) granted
 
 pub less_of_cluster_roles : (objects : PolicyObjects) (identity : Identity) (request_name name : List ℕ) (old : Option ClusterRole) (aggregated : Option AggregationRule) (rules less : List PolicyRule)

@@ -1,3 +1,10 @@
 pub mod Implied
 pub mod Grants
 pub mod Accounts
+pub mod Collected
+pub mod Places
+pub mod Writes
+pub mod Steps
+pub mod Admitted
+pub mod Sound
+pub mod Granted

@@ -36,7 +36,7 @@ binding role = role_point (codes "bind") role.kind role.name
 
 -- the point that exempts a write: to escalate the roles of the name that the request asks for, or to bind the role
 abbrev pub exemption : List ℕ → WrittenObject → Point
-exemption request_name (written.Role place versions) = escalating role_kind.Role request_name
+exemption request_name (written.Role place role) = escalating role_kind.Role request_name
 exemption request_name (written.ClusterRole name versions) = escalating role_kind.ClusterRole request_name
 exemption request_name (written.RoleBinding place versions) = binding versions.new.role_ref
 exemption request_name (written.ClusterRoleBinding name versions) = binding versions.new.role_ref

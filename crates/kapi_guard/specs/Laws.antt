@@ -3,7 +3,6 @@ use Rattle.std.specs.Prelude.{ℕ, List, Option, Some, None}
 use Rattle.kapi_model.specs.declared.policy_rule.PolicyRule.{PolicyRule}
 use Rattle.kapi_model.specs.declared.aggregation_rule.AggregationRule.{AggregationRule}
 use Rattle.kapi_model.specs.declared.role.ClusterRole.{ClusterRole}
-use Rattle.kapi_model.specs.declared.role.Role.{Role}
 use Rattle.kapi_policy.specs.declared.change.NamespacedName.{NamespacedName}
 use Rattle.kapi_policy.specs.declared.change.PolicyPut.{PolicyPut}
 use Rattle.kapi_policy.specs.declared.change.PolicyPut.TheVariants as put
@@ -13,14 +12,14 @@ use Rattle.kapi_guard.specs.declared.write.WrittenObject.TheVariants as written
 
 -- the write leaves its object as it was stored
 abbrev pub unchanged : PolicyPut → WrittenObject
-unchanged (put.Role place role) = written.Role place (record { old = Some role; new = role })
+unchanged (put.Role place role) = written.Role place role
 unchanged (put.ClusterRole name role) = written.ClusterRole name (record { old = Some role; new = role })
 unchanged (put.RoleBinding place binding) = written.RoleBinding place (record { old = Some binding; new = binding })
 unchanged (put.ClusterRoleBinding name binding) = written.ClusterRoleBinding name (record { old = Some binding; new = binding })
 
 -- the write creates its object
 abbrev pub created : PolicyPut → WrittenObject
-created (put.Role place role) = written.Role place (record { old = None; new = role })
+created (put.Role place role) = written.Role place role
 created (put.ClusterRole name role) = written.ClusterRole name (record { old = None; new = role })
 created (put.RoleBinding place binding) = written.RoleBinding place (record { old = None; new = binding })
 created (put.ClusterRoleBinding name binding) = written.ClusterRoleBinding name (record { old = None; new = binding })
@@ -30,8 +29,8 @@ abbrev pub write_of : List ℕ → WrittenObject → PolicyWrite
 write_of request_name object = record { request_name = request_name; object = object }
 
 -- a role is written with those rules
-abbrev pub role_with : NamespacedName → Option Role → List PolicyRule → WrittenObject
-role_with place old rules = written.Role place (record { old = old; new = record { rules = rules } })
+abbrev pub role_with : NamespacedName → List PolicyRule → WrittenObject
+role_with place rules = written.Role place (record { rules = rules })
 
 -- a cluster role is written with those rules
 abbrev pub cluster_role_with : List ℕ → Option ClusterRole → Option AggregationRule → List PolicyRule → WrittenObject

@@ -4,3 +4,8 @@ pub mod Authority
 pub mod Checks
 pub mod Laws
 pub mod Impersonation
+pub mod Kind
+pub mod Reading
+pub mod Admitted
+pub mod Written
+pub mod Granted

@@ -19,21 +19,21 @@ use Rattle.kapi_guard.specs.declared.write.WrittenObject.TheVariants as written
 
 -- the namespace in which a write of the object counts, empty where it counts cluster-wide
 abbrev pub scope : WrittenObject → List ℕ
-scope (written.Role place versions) = place.namespace
+scope (written.Role place role) = place.namespace
 scope (written.ClusterRole name versions) = []
 scope (written.RoleBinding place versions) = place.namespace
 scope (written.ClusterRoleBinding name versions) = []
 
 -- the new version of the object at its place
 abbrev pub put_of : WrittenObject → PolicyPut
-put_of (written.Role place versions) = put.Role place versions.new
+put_of (written.Role place role) = put.Role place role
 put_of (written.ClusterRole name versions) = put.ClusterRole name versions.new
 put_of (written.RoleBinding place versions) = put.RoleBinding place versions.new
 put_of (written.ClusterRoleBinding name versions) = put.ClusterRoleBinding name versions.new
 
 -- the rules that the new version grants: a role's own, or those of the role that a binding refers to, if it exists
 abbrev pub wanted : PolicyObjects → WrittenObject → Option (List PolicyRule)
-wanted objects (written.Role place versions) = Some versions.new.rules
+wanted objects (written.Role place role) = Some role.rules
 wanted objects (written.ClusterRole name versions) = Some versions.new.rules
 wanted objects (written.RoleBinding place versions) = rules_of objects versions.new.role_ref place.namespace
 wanted objects (written.ClusterRoleBinding name versions) = rules_of objects versions.new.role_ref []
@@ -45,7 +45,7 @@ was_aggregated (Some old) = is_some old.aggregation_rule
 
 -- the object is a cluster role whose old or new version takes its rules from others
 abbrev pub is_aggregated : WrittenObject → Bool
-is_aggregated (written.Role place versions) = false
+is_aggregated (written.Role place role) = false
 is_aggregated (written.ClusterRole name versions) = was_aggregated versions.old || is_some versions.new.aggregation_rule
 is_aggregated (written.RoleBinding place versions) = false
 is_aggregated (written.ClusterRoleBinding name versions) = false
@@ -73,7 +73,7 @@ keeps_role_cluster_wide (Some old) new = is_same_role old.role_ref new.role_ref
 
 -- a binding refers to the role that it referred to, if it existed ('RoleBinding and ClusterRoleBinding')
 abbrev pub keeps_role : WrittenObject → Bool
-keeps_role (written.Role place versions) = true
+keeps_role (written.Role place role) = true
 keeps_role (written.ClusterRole name versions) = true
 keeps_role (written.RoleBinding place versions) = keeps_role_in_namespace versions.old versions.new
 keeps_role (written.ClusterRoleBinding name versions) = keeps_role_cluster_wide versions.old versions.new

@@ -21,10 +21,10 @@ pub struct PolicyWrite {
     pub object: WrittenObject,
 }
 
-/// A policy object at its place, in both versions.
+/// A policy object at its place, in both versions; of a role only the new one counts.
 #[derive(Debug, Drop)]
 pub enum WrittenObject {
-    Role(NamespacedName, Versions<Role>),
+    Role(NamespacedName, Role),
     ClusterRole(Text, Versions<ClusterRole>),
     RoleBinding(NamespacedName, Versions<RoleBinding>),
     ClusterRoleBinding(Text, Versions<ClusterRoleBinding>),

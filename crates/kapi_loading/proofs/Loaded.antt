@@ -26,8 +26,8 @@ use Rattle.kapi_policy.specs.Steps.{after_changes}
 use Rattle.kapi_policy.specs.declared.change.PolicyChange.{PolicyChange}
 use Rattle.kapi_store.specs.Faults.{StoreFault}
 use Rattle.kapi_store.specs.Plain.{PlainChange}
-use Rattle.kapi_stored_policy.proofs.Writes.{policy_written, stands_in_order}
-use Rattle.kapi_stored_policy.specs.Reading.{policy_changes}
+use Rattle.kapi_guard.proofs.Writes.{policy_written, stands_in_order}
+use Rattle.kapi_guard.specs.Reading.{policy_changes}
 use Rattle.kapi_lines.specs.declared.line.Line.{Line}
 use Rattle.kapi_loading.specs.declared.fault.StartError.{StartError}
 

@@ -16,7 +16,7 @@ use Rattle.kapi_loading.specs.Loading.{Publishes}
 use Rattle.kapi_policy.specs.Objects.{PolicyObjects}
 use Rattle.kapi_policy.specs.declared.change.PolicyChange.{PolicyChange}
 use Rattle.kapi_gains.specs.StoredStates.{AreInOrder}
-use Rattle.kapi_stored_policy.proofs.Writes.{stands_in_order}
+use Rattle.kapi_guard.proofs.Writes.{stands_in_order}
 use Rattle.kapi_serve.specs.Advances.{steps_in}
 use Rattle.kapi_serve.specs.Policies.{PublishesPolicies}
 use Rattle.kapi_desk.specs.Steps.{step_of}

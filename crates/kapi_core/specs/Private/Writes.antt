@@ -13,7 +13,7 @@ use Rattle.kapi_policy.specs.Objects.{PolicyObjects}
 use Rattle.kapi_store.specs.Plain.{Plain, PlainChange, RefinesPlain, plain_of, written}
 use Rattle.kapi_store.specs.Faults.{StoreFault}
 use Rattle.kapi_store.specs.State.{Same, State}
-use Rattle.kapi_stored_policy.specs.Reading.{policy_changes, policy_objects}
+use Rattle.kapi_guard.specs.Reading.{policy_changes, policy_objects}
 use Rattle.kapi_core.specs.declared.event.Turned.{Turned}
 
 -- if the old store and policy refine some objects, and the old marks cover their cluster roles, the new ones refine and

@@ -19,10 +19,10 @@ use Rattle.kapi_store.specs.Plain.{Plain, PlainChange, creation, creation_at, cr
 use Rattle.kapi_store.specs.Same.{same_tree}
 use Rattle.kapi_store.specs.UidAndVersion.{created_tree, replaced_tree, uid_in, version_in, with_stamps_of, uid_of}
 use Rattle.kapi_store.specs.declared.key.Key.{Key}
-use Rattle.kapi_stored_policy.proofs.Admitted.{stamps_sound}
-use Rattle.kapi_stored_policy.specs.Admitted.{AreSound, IsObjectOf, IsSoundAt, schema_of}
-use Rattle.kapi_stored_policy.specs.Kind.{policy_kind}
-use Rattle.kapi_stored_policy.specs.declared.kind.PolicyKind.{PolicyKind}
+use Rattle.kapi_guard.proofs.Admitted.{stamps_sound}
+use Rattle.kapi_guard.specs.Admitted.{AreSound, IsObjectOf, IsSoundAt, schema_of}
+use Rattle.kapi_guard.specs.Kind.{policy_kind}
+use Rattle.kapi_guard.specs.declared.kind.PolicyKind.{PolicyKind}
 
 -- ---- what a change leaves at its key
 

@@ -14,9 +14,9 @@ use Rattle.kapi_policy.specs.declared.change.PolicyPut.{PolicyPut}
 use Rattle.kapi_policy.specs.declared.change.PolicyPut.TheVariants as put
 use Rattle.kapi_store.specs.Plain.{PlainChange}
 use Rattle.kapi_store.specs.declared.key.Key.{Key}
-use Rattle.kapi_stored_policy.specs.Kind.{place_of, policy_kind}
-use Rattle.kapi_stored_policy.specs.declared.kind.PolicyKind.{PolicyKind}
-use Rattle.kapi_stored_policy.specs.declared.kind.PolicyKind.TheVariants as kind
+use Rattle.kapi_guard.specs.Kind.{place_of, policy_kind}
+use Rattle.kapi_guard.specs.declared.kind.PolicyKind.{PolicyKind}
+use Rattle.kapi_guard.specs.declared.kind.PolicyKind.TheVariants as kind
 
 -- ---- the policy
 

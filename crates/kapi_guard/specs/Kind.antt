@@ -4,8 +4,8 @@ use Rattle.std.specs.Str.{bytes_eq}
 use Rattle.kapi_model.specs.Kinds.{rbac_group}
 use Rattle.kapi_store.specs.declared.key.Key.{Key}
 use Rattle.kapi_policy.specs.declared.change.NamespacedName.{NamespacedName}
-use Rattle.kapi_stored_policy.specs.declared.kind.PolicyKind.{PolicyKind}
-use Rattle.kapi_stored_policy.specs.declared.kind.PolicyKind.TheVariants as kind
+use Rattle.kapi_guard.specs.declared.kind.PolicyKind.{PolicyKind}
+use Rattle.kapi_guard.specs.declared.kind.PolicyKind.TheVariants as kind
 
 -- the kinds whose objects are in no namespace
 abbrev pub cluster_kind : Key → Option PolicyKind

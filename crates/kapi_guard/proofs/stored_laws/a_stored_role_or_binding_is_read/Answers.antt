@@ -1,7 +1,7 @@
 use Rattle.kapi_rbac_types.specs.Trees.{role_of, cluster_role_of, role_binding_of, cluster_role_binding_of}
-use Rattle.kapi_stored_policy.proofs.Sound.{stored_reads}
-use Rattle.kapi_stored_policy.proofs.laws.a_stored_role_or_binding_is_read.Goals as goal
-use Rattle.kapi_stored_policy.specs.declared.kind.PolicyKind.TheVariants as kind
+use Rattle.kapi_guard.proofs.Sound.{stored_reads}
+use Rattle.kapi_guard.proofs.laws.a_stored_role_or_binding_is_read.Goals as goal
+use Rattle.kapi_guard.specs.declared.kind.PolicyKind.TheVariants as kind
 
 pub returns-clause-role : goal.returns-clause-role
 returns-clause-role c os k tree h is at = stored_reads role_of os k kind.Role tree h is at

@@ -1,5 +1,5 @@
 ghost use Rattle.std.specs.Prelude.{◌≡◌, IfOk};
-ghost use Rattle.kapi_stored_policy.specs.Kind as kind;
+ghost use Rattle.kapi_guard.specs.Kind as kind;
 
 use kapi_policy::NamespacedName;
 use kapi_store::Key;

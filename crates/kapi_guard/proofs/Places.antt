@@ -13,10 +13,10 @@ use Rattle.kapi_policy.specs.Objects.{name_cmp, place_cmp}
 use Rattle.kapi_policy.specs.declared.change.NamespacedName.{NamespacedName}
 use Rattle.kapi_store.specs.Keys.{key_cmp}
 use Rattle.kapi_store.specs.declared.key.Key.{Key}
-use Rattle.kapi_stored_policy.specs.Kind.{cluster_kind, place_of, policy_kind}
-use Rattle.kapi_stored_policy.specs.Reading.{role_at, role_binding_at, cluster_role_at, cluster_role_binding_at}
-use Rattle.kapi_stored_policy.specs.declared.kind.PolicyKind.{PolicyKind}
-use Rattle.kapi_stored_policy.specs.declared.kind.PolicyKind.TheVariants as kind
+use Rattle.kapi_guard.specs.Kind.{cluster_kind, place_of, policy_kind}
+use Rattle.kapi_guard.specs.Reading.{role_at, role_binding_at, cluster_role_at, cluster_role_binding_at}
+use Rattle.kapi_guard.specs.declared.kind.PolicyKind.{PolicyKind}
+use Rattle.kapi_guard.specs.declared.kind.PolicyKind.TheVariants as kind
 
 -- the resource of a kind
 abbrev resource_of : PolicyKind → List ℕ

@@ -2,13 +2,15 @@ ghost use Rattle.std.specs.Prelude.{◌≡◌, IfOk};
 ghost use Rattle.std.specs.Option.{option_map};
 ghost use Rattle.kapi_object.specs.Object.{tree_of};
 ghost use Rattle.kapi_rbac_types.specs.Trees.{cluster_role_binding_of, cluster_role_of, role_binding_of, role_of};
-ghost use Rattle.kapi_stored_policy.specs.declared.kind.PolicyKind.TheVariants as of_kind;
-ghost use Rattle.kapi_stored_policy.specs.Written as stored;
-ghost use Rattle.kapi_stored_policy.specs.Written.{versions_of};
+ghost use Rattle.kapi_guard.specs.Kind.{place_of as place_of_key};
+ghost use Rattle.kapi_guard.specs.declared.kind.PolicyKind.TheVariants as of_kind;
+ghost use Rattle.kapi_guard.specs.declared.write.WrittenObject.TheVariants as object;
+ghost use Rattle.kapi_guard.specs.Written as stored;
+ghost use Rattle.kapi_guard.specs.Written.{versions_of};
 
 use crate::kind::{PolicyKind, place_of};
-use kapi_guard::{Versions, WrittenObject};
-use kapi_model::{ClusterRole, ClusterRoleBinding, Role, RoleBinding};
+use crate::write::{Versions, WrittenObject};
+use kapi_model::{ClusterRole, ClusterRoleBinding, RoleBinding};
 use kapi_object::Object;
 use kapi_rbac_types::{
     admitted_cluster_role, admitted_cluster_role_binding, admitted_role, admitted_role_binding,
@@ -17,7 +19,7 @@ use kapi_store::Key;
 use kapi_text::{Memory, TryCopy};
 use std::alloc::Global;
 
-/// A role or binding that is written at a key: the old version, if there is one, and the new one, both admitted.
+/// A role or binding written at a key: the new version, and the old one, if there is one and it counts; both admitted.
 pub fn written_at(
     alloc: Global,
     kind: PolicyKind,
@@ -28,7 +30,7 @@ pub fn written_at(
     ensures { IfOk result (λ w. w ≡ stored.written_at kind key.now (option_map (λ o. tree_of o.now) old.entry) (tree_of new.now)) }
 {
     match kind {
-        PolicyKind::Role => written_role(alloc, key, old, new),
+        PolicyKind::Role => written_role(alloc, key, new),
         PolicyKind::RoleBinding => written_role_binding(alloc, key, old, new),
         PolicyKind::ClusterRole => written_cluster_role(alloc, key, old, new),
         PolicyKind::ClusterRoleBinding => written_cluster_role_binding(alloc, key, old, new),
@@ -36,16 +38,11 @@ pub fn written_at(
 }
 
 /// A role that is written at a key.
-fn written_role(
-    alloc: Global,
-    key: &Key,
-    old: Option<&Object>,
-    new: &Object,
-) -> Result<WrittenObject, Memory>
-    ensures { IfOk result (λ w. w ≡ stored.written_at of_kind.Role key.now (option_map (λ o. tree_of o.now) old.entry) (tree_of new.now)) }
+fn written_role(alloc: Global, key: &Key, new: &Object) -> Result<WrittenObject, Memory>
+    ensures { IfOk result (λ w. w ≡ object.Role (place_of_key key.now) (role_of (tree_of new.now))) }
 {
-    let versions = roles(alloc, old, new)?;
-    Ok(WrittenObject::Role(place_of(alloc, key)?, versions))
+    let role = admitted_role(alloc, new)?;
+    Ok(WrittenObject::Role(place_of(alloc, key)?, role))
 }
 
 /// A role binding that is written at a key.
@@ -85,19 +82,6 @@ fn written_cluster_role_binding(
 {
     let versions = cluster_role_bindings(alloc, old, new)?;
     Ok(WrittenObject::ClusterRoleBinding(key.name.copy(alloc)?, versions))
-}
-
-fn roles(alloc: Global, old: Option<&Object>, new: &Object) -> Result<Versions<Role>, Memory>
-    ensures { IfOk result (λ v. v ≡ versions_of role_of (option_map (λ o. tree_of o.now) old.entry) (tree_of new.now)) }
-{
-    let old = match old {
-        Some(old) => Some(admitted_role(alloc, old)?),
-        None => None,
-    };
-    Ok(Versions {
-        old,
-        new: admitted_role(alloc, new)?,
-    })
 }
 
 fn cluster_roles(

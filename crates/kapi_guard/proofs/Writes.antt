@@ -15,13 +15,13 @@ use Rattle.kapi_store.specs.Keys.{key_cmp, is_key}
 use Rattle.kapi_store.specs.Plain.{Plain, PlainChange, RefinesPlain, trees_left_by, written}
 use Rattle.kapi_store.specs.State.{State}
 use Rattle.kapi_store.specs.declared.key.Key.{Key}
-use Rattle.kapi_stored_policy.proofs.Collected.{put_elsewhere, put_there, removed_elsewhere, removed_there, collected_in_order}
-use Rattle.kapi_stored_policy.proofs.Places.{roles_ordered, role_bindings_ordered, cluster_roles_ordered, cluster_role_bindings_ordered}
-use Rattle.kapi_stored_policy.specs.Kind.{place_of, policy_kind}
+use Rattle.kapi_guard.proofs.Collected.{put_elsewhere, put_there, removed_elsewhere, removed_there, collected_in_order}
+use Rattle.kapi_guard.proofs.Places.{roles_ordered, role_bindings_ordered, cluster_roles_ordered, cluster_role_bindings_ordered}
+use Rattle.kapi_guard.specs.Kind.{place_of, policy_kind}
 use Rattle.kapi_policy.specs.Steps.{after_changes}
-use Rattle.kapi_stored_policy.specs.Reading.{changes_at, policy_changes, policy_objects, role_at, role_binding_at, cluster_role_at, cluster_role_binding_at, role_place, role_binding_place, cluster_role_place, cluster_role_binding_place}
-use Rattle.kapi_stored_policy.specs.declared.kind.PolicyKind.{PolicyKind}
-use Rattle.kapi_stored_policy.specs.declared.kind.PolicyKind.TheVariants as kind
+use Rattle.kapi_guard.specs.Reading.{changes_at, policy_changes, policy_objects, role_at, role_binding_at, cluster_role_at, cluster_role_binding_at, role_place, role_binding_place, cluster_role_place, cluster_role_binding_place}
+use Rattle.kapi_guard.specs.declared.kind.PolicyKind.{PolicyKind}
+use Rattle.kapi_guard.specs.declared.kind.PolicyKind.TheVariants as kind
 
 -- an object is put
 put_read : (k : Key) (tree : Data) (os : List (Key × Data)) → IsStrictlySortedBy key_cmp (keys_of os) → (o : Option PolicyKind) → policy_kind k ≡ o

@@ -35,7 +35,7 @@ use Rattle.kapi_object.specs.declared.table.When.TheVariants as when
 use Rattle.kapi_object.specs.declared.word.Word.{Word}
 use Rattle.kapi_object.specs.declared.word.Word.TheVariants as word
 use Rattle.kapi_object.proofs.SetTexts.{beside_metadata, in_text}
-use Rattle.kapi_stored_policy.specs.Admitted.{IsObjectOf}
+use Rattle.kapi_guard.specs.Admitted.{IsObjectOf}
 
 -- ---- trees that have the same members of all words have the same faults
 

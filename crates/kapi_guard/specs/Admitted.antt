@@ -7,9 +7,9 @@ use Rattle.kapi_model.specs.declared.row.Schema.{Schema}
 use Rattle.kapi_model.specs.declared.row.Schema.TheVariants as schema
 use Rattle.kapi_object.specs.Admission.{faults_on, version_of}
 use Rattle.kapi_store.specs.declared.key.Key.{Key}
-use Rattle.kapi_stored_policy.specs.Kind.{policy_kind}
-use Rattle.kapi_stored_policy.specs.declared.kind.PolicyKind.{PolicyKind}
-use Rattle.kapi_stored_policy.specs.declared.kind.PolicyKind.TheVariants as kind
+use Rattle.kapi_guard.specs.Kind.{policy_kind}
+use Rattle.kapi_guard.specs.declared.kind.PolicyKind.{PolicyKind}
+use Rattle.kapi_guard.specs.declared.kind.PolicyKind.TheVariants as kind
 
 -- a tree is an object of the resource type: of its kind and version, and without faults
 pub record IsObjectOf (row : ResourceRow) (tree : Data) : Type 0 where

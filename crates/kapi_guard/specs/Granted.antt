@@ -7,9 +7,9 @@ use Rattle.kapi_model.specs.declared.identity.Identity.{Identity}
 use Rattle.kapi_policy.specs.Objects.{PolicyObjects}
 use Rattle.kapi_store.specs.Plain.{PlainChange}
 use Rattle.kapi_store.specs.declared.key.Key.{Key}
-use Rattle.kapi_stored_policy.specs.Kind.{policy_kind}
-use Rattle.kapi_stored_policy.specs.Reading.{put_at}
-use Rattle.kapi_stored_policy.specs.declared.kind.PolicyKind.{PolicyKind}
+use Rattle.kapi_guard.specs.Kind.{policy_kind}
+use Rattle.kapi_guard.specs.Reading.{put_at}
+use Rattle.kapi_guard.specs.declared.kind.PolicyKind.{PolicyKind}
 use Rattle.kapi_guard.specs.Checks.{grant}
 use Rattle.kapi_guard.specs.Writes.{put_of}
 use Rattle.kapi_guard.specs.declared.write.PolicyWrite.{PolicyWrite}

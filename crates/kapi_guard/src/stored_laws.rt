@@ -14,12 +14,12 @@ ghost use Rattle.kapi_store.specs.Changes.{placed_all};
 ghost use Rattle.kapi_store.specs.Keys.{key_cmp, is_key};
 ghost use Rattle.kapi_store.specs.Plain.{Plain, PlainChange, creation, removal, replacement, trees_left_by, written};
 ghost use Rattle.kapi_store.specs.declared.key.Key.{Key};
-ghost use Rattle.kapi_stored_policy.specs.Admitted.{AreSound, IsObjectOf, IsSoundAt, schema_of};
-ghost use Rattle.kapi_stored_policy.specs.Kind.{policy_kind};
-ghost use Rattle.kapi_stored_policy.specs.declared.kind.PolicyKind.{PolicyKind};
-ghost use Rattle.kapi_stored_policy.specs.declared.kind.PolicyKind.TheVariants as kind;
+ghost use Rattle.kapi_guard.specs.Admitted.{AreSound, IsObjectOf, IsSoundAt, schema_of};
+ghost use Rattle.kapi_guard.specs.Kind.{policy_kind};
+ghost use Rattle.kapi_guard.specs.declared.kind.PolicyKind.{PolicyKind};
+ghost use Rattle.kapi_guard.specs.declared.kind.PolicyKind.TheVariants as kind;
 ghost use Rattle.kapi_policy.specs.Steps.{after_changes};
-ghost use Rattle.kapi_stored_policy.specs.Reading.{policy_changes, policy_objects};
+ghost use Rattle.kapi_guard.specs.Reading.{policy_changes, policy_objects};
 
 /// The policy of the objects after a write is their policy before it, with the changes of that write.
 #[tactic(auto, using(crate::proofs::Writes::policy_after))]

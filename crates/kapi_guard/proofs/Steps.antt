@@ -7,11 +7,11 @@ use Rattle.kapi_store.specs.Changes.{AreRemovals, IsStep}
 use Rattle.kapi_store.specs.Plain.{plain_change}
 use Rattle.kapi_store.specs.declared.change.Change.{Change}
 use Rattle.kapi_store.specs.declared.key.Key.{Key}
-use Rattle.kapi_stored_policy.specs.Kind.{policy_kind}
+use Rattle.kapi_guard.specs.Kind.{policy_kind}
 use Rattle.kapi_policy.proofs.Steps.{deletions_step}
 use Rattle.kapi_policy.specs.Steps.{AreDeletions, IsStep as IsPolicyStep}
-use Rattle.kapi_stored_policy.specs.Reading.{changes_at, key_at, policy_changes}
-use Rattle.kapi_stored_policy.specs.declared.kind.PolicyKind.{PolicyKind}
+use Rattle.kapi_guard.specs.Reading.{changes_at, key_at, policy_changes}
+use Rattle.kapi_guard.specs.declared.kind.PolicyKind.{PolicyKind}
 
 -- a removal is a deletion, if it is of a policy object
 deletions_after : (o : Option PolicyKind) (k : Key) (left : Option Data) → left ≡ None → (cs : List PolicyChange) → AreDeletions cs → AreDeletions (changes_at o k left ++ cs)

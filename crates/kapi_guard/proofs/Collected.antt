@@ -11,7 +11,7 @@ use Rattle.serde_json.specs.Data.{Data}
 use Rattle.kapi_store.specs.Keys.{key_cmp, is_key}
 use Rattle.kapi_store.specs.declared.key.Key.{Key}
 use Rattle.kapi_store.proofs.Keys.{key_same, key_total}
-use Rattle.kapi_stored_policy.specs.Reading.{collected, entry_if}
+use Rattle.kapi_guard.specs.Reading.{collected, entry_if}
 
 -- a key before another is before all that the other is before
 below_all : (k l : Key) → key_cmp k l ≡ Less → (ks : List Key) → AllByRecursion (λ y. key_cmp l y ≡ Less) ks → AllByRecursion (λ y. key_cmp k y ≡ Less) ks

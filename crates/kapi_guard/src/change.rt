@@ -3,8 +3,8 @@ ghost use Rattle.kapi_object.specs.Object.{tree_of};
 ghost use Rattle.kapi_store.specs.Changes.{IsLeft};
 ghost use Rattle.kapi_store.specs.Plain.{plain_change};
 ghost use Rattle.kapi_store.specs.Stored.{stored_tree};
-ghost use Rattle.kapi_stored_policy.specs.declared.kind.PolicyKind.TheVariants as of_kind;
-ghost use Rattle.kapi_stored_policy.specs.Reading as reading;
+ghost use Rattle.kapi_guard.specs.declared.kind.PolicyKind.TheVariants as of_kind;
+ghost use Rattle.kapi_guard.specs.Reading as reading;
 
 use crate::kind::{PolicyKind, place_of, policy_kind};
 use kapi_model::{ClusterRole, ClusterRoleBinding, Role, RoleBinding};

@@ -8,12 +8,12 @@ use Rattle.kapi_policy.specs.Objects.{PolicyObjects}
 use Rattle.kapi_policy.specs.declared.change.PolicyPut.TheVariants as put
 use Rattle.kapi_store.specs.declared.key.Key.{Key}
 use Rattle.kapi_guard.specs.Writes.{put_of}
-use Rattle.kapi_stored_policy.specs.Granted.{IsGrantedAt}
-use Rattle.kapi_stored_policy.specs.Kind.{place_of}
-use Rattle.kapi_stored_policy.specs.Reading.{put_at}
-use Rattle.kapi_stored_policy.specs.Written.{written_at}
-use Rattle.kapi_stored_policy.specs.declared.kind.PolicyKind.{PolicyKind}
-use Rattle.kapi_stored_policy.specs.declared.kind.PolicyKind.TheVariants as kind
+use Rattle.kapi_guard.specs.Granted.{IsGrantedAt}
+use Rattle.kapi_guard.specs.Kind.{place_of}
+use Rattle.kapi_guard.specs.Reading.{put_at}
+use Rattle.kapi_guard.specs.Written.{written_at}
+use Rattle.kapi_guard.specs.declared.kind.PolicyKind.{PolicyKind}
+use Rattle.kapi_guard.specs.declared.kind.PolicyKind.TheVariants as kind
 
 -- the check is of what is put
 pub checks_put : (of : PolicyKind) (k : Key) (old : Option Data) (new : Data) → put_of (written_at of k old new) ≡ put_at of k new

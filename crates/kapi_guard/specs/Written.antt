@@ -5,9 +5,9 @@ use Rattle.std.specs.Option.{option_map}
 use Rattle.serde_json.specs.Data.{Data}
 use Rattle.kapi_rbac_types.specs.Trees.{role_of, cluster_role_of, role_binding_of, cluster_role_binding_of}
 use Rattle.kapi_store.specs.declared.key.Key.{Key}
-use Rattle.kapi_stored_policy.specs.Kind.{place_of}
-use Rattle.kapi_stored_policy.specs.declared.kind.PolicyKind.{PolicyKind}
-use Rattle.kapi_stored_policy.specs.declared.kind.PolicyKind.TheVariants as kind
+use Rattle.kapi_guard.specs.Kind.{place_of}
+use Rattle.kapi_guard.specs.declared.kind.PolicyKind.{PolicyKind}
+use Rattle.kapi_guard.specs.declared.kind.PolicyKind.TheVariants as kind
 use Rattle.kapi_guard.specs.declared.write.Versions.{Versions}
 use Rattle.kapi_guard.specs.declared.write.WrittenObject.{WrittenObject}
 use Rattle.kapi_guard.specs.declared.write.WrittenObject.TheVariants as written
@@ -16,9 +16,9 @@ use Rattle.kapi_guard.specs.declared.write.WrittenObject.TheVariants as written
 abbrev pub versions_of : {X : Type 0} → (Data → X) → Option Data → Data → Versions X
 versions_of read old new = record { old = option_map read old; new = read new }
 
--- a role or binding that is written at a key: the old version, if there is one, and the new one
+-- a role or binding written at a key: the new version, and the old one, if there is one and it counts
 abbrev pub written_at : PolicyKind → Key → Option Data → Data → WrittenObject
-written_at kind.Role k old new = written.Role (place_of k) (versions_of role_of old new)
+written_at kind.Role k old new = written.Role (place_of k) (role_of new)
 written_at kind.RoleBinding k old new = written.RoleBinding (place_of k) (versions_of role_binding_of old new)
 written_at kind.ClusterRole k old new = written.ClusterRole k.name (versions_of cluster_role_of old new)
 written_at kind.ClusterRoleBinding k old new = written.ClusterRoleBinding k.name (versions_of cluster_role_binding_of old new)
