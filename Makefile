@@ -8,7 +8,7 @@ TRIED = out/try/kapi
 READY = $(if $(filter $(PROVED),$(PROGRAM)),kapi)
 NEEDS_RT = @command -v rt > /dev/null || { echo 'rt, the Rattle toolchain, is not on the PATH.' >&2; exit 1; }
 
-.PHONY: help demo serve-demo quick test kapi install library serve checks bench kubectl-demo controller-demo cluster-demo edits proofs-page profile
+.PHONY: help demo serve-demo quick test kapi install library serve checks bench kubectl-demo controller-demo cluster-demo edits proofs-page definitions profile
 
 help: ## try: lists the targets
 	@for group in try use change; do echo "To $$group:"; sed -n "s/^\([a-z-]*\):.*## $$group: /\1 /p" Makefile | while read -r name what; do printf '  make %-16s%s\n' "$$name" "$$what"; done; done
@@ -68,6 +68,9 @@ cluster-demo: $(READY) ## try: an API server that asks Kapi (docs/CLUSTER.md)
 
 proofs-page: ## change: prints each public call with its proved clauses
 	@$(PYTHON) tools/proofs.py
+
+definitions: ## change: prints what has to be believed (docs/PROOFS.md)
+	@$(PYTHON) tools/definitions.py
 
 profile: ## change: checks numbers and names of docs/PROOFS.md, PROFILE.md
 	@$(PYTHON) tools/proofs.py --lines > /dev/null || { echo 'docs/PROOFS.md has other numbers than tools/proofs.py --lines prints'; exit 1; }

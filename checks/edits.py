@@ -1,0 +1,110 @@
+"""Tries a random dozen of the edits in crates/*/edits: small bugs that the prover must refuse.
+
+usage: python3 -m checks.edits PROGRAM [COUNT [SUM]]     drawn by the sum of the sources, so that a run can be repeated; or CRATE/NAME,CRATE/NAME.. for COUNT
+
+Needs rt, and the libraries that `make test` left in crates/*/out/rlib. Of an edited file's function only that function is checked, with
+what it calls; if it still passes, the whole crate is.
+"""
+import os
+import pathlib
+import random
+import re
+import shutil
+import subprocess
+import sys
+import tempfile
+from concurrent.futures import ThreadPoolExecutor
+
+ROOT = pathlib.Path(__file__).resolve().parent.parent
+CRATES = pathlib.Path(os.environ.get("KAPI_LIBRARIES", ROOT / "crates"))
+KIT = pathlib.Path(shutil.which("rt") or "/rt").resolve().parent.parent
+
+
+def uses():
+    """The libraries that each crate names."""
+    lines = re.findall(r"^(\w+)(?: staticlib)?: *(.*)$", (ROOT / "crates.txt").read_text(), re.M)
+    return {name: words.split() for name, words in lines}
+
+
+def below(name, table):
+    """All crates of the repository that a crate stands on."""
+    found = {it for it in table[name] if it in table}
+    return found | {it for dep in found for it in below(dep, table)}
+
+
+def words_of(name, table):
+    """The words of `rattle check` for a crate, over the libraries that the gate proved."""
+    main = "main" if (ROOT / "crates" / name / "src/main.rt").is_file() else "lib"
+    words = ["--crate-name", name, f"src/{main}.rt", "-L", f"dependency={KIT}/rlibs", "--jobs", "1", "--links", f"{name}="]
+    for dep in ["std", *table[name]]:
+        folder = CRATES / dep / "out/rlib" if dep in table else KIT / "rlibs"
+        words += ["--extern", f"{dep}={folder}/{dep}.rlib"]
+    for dep in sorted(below(name, table)):
+        words += ["-L", f"dependency={CRATES}/{dep}/out/rlib"]
+    return [*words, "--antt-project", f"{KIT}/rattle/logic/antt-project.json", "--logic-built", f"{KIT}/logic_built"]
+
+
+def pairs(edit):
+    """The file, the old and the new text of each change of an edit."""
+    file, old = "", ""
+    for line in edit.read_text().splitlines():
+        word, _, text = line.partition(": ")
+        file = text.strip() if word == "file" else file
+        old = text if word == "old" else old
+        if word == "new":
+            yield file, old, text
+
+
+def function_at(text, place):
+    """The function of a source in which a place lies."""
+    named = re.findall(r"^ *(?:pub(?:\([a-z]+\))? )?fn (\w+)", text[:place], re.M)
+    return named[-1] if named else None
+
+
+def checked(folder, words):
+    ran = subprocess.run([KIT / "bin/rattle", "check", *words], cwd=folder, stdin=subprocess.DEVNULL, stdout=subprocess.PIPE, stderr=subprocess.STDOUT, text=True, errors="replace")
+    return ran.returncode, ran.stdout.rstrip().splitlines()
+
+
+def tried(edit):
+    """Whether the prover refuses an edit, and what it says."""
+    name, table = edit.parts[-3], uses()
+    with tempfile.TemporaryDirectory() as room:
+        for part in ("src", "specs", "proofs"):
+            if (ROOT / "crates" / name / part).is_dir():
+                shutil.copytree(ROOT / "crates" / name / part, f"{room}/{part}")
+        function = None
+        for file, old, new in pairs(edit):
+            text = pathlib.Path(room, file).read_text()
+            if text.count(old) != 1:
+                return False, f"its old text stands {text.count(old)} times in {file}"
+            function = function or (file.endswith(".rt") and function_at(text, text.index(old)) or None)
+            pathlib.Path(room, file).write_text(text.replace(old, new))
+        words = words_of(name, table)
+        for only in ([["--only", function]] if function else []) + [[]]:
+            status, lines = checked(room, [*words, *only])
+            last = lines[-1] if lines else ""
+            if status == 1 and re.match(r"only=\d+ proved=|logic=not-proved", last):
+                return True, next((it for it in lines if re.match(r"(note: )?\S+:\d+:\d+: ", it) or it.startswith("fn ")), last)[:150]
+        return False, "the crate is still proved" if status == 0 else f"status {status}: {' '.join(lines[-3:])[:400]}"
+
+
+def main(count="12", seed=""):
+    if not shutil.which("rt"):
+        return "rt, the Rattle toolchain, is not on the PATH"
+    edits = sorted((ROOT / "crates").glob("*/edits/*.edit"))
+    if count.isdigit():
+        seed = seed or subprocess.run(["sh", "tools/sources.sh"], cwd=ROOT, stdout=subprocess.PIPE, text=True, check=True).stdout.split()[0]
+        edits = random.Random(seed).sample(edits, int(count))
+        print(f"{count} edits drawn by {seed}")
+    else:
+        edits = [ROOT / "crates" / it.split("/")[0] / "edits" / f"{it.split('/')[1]}.edit" for it in count.split(",")]
+    with ThreadPoolExecutor(min(4, os.cpu_count())) as pool:
+        results = list(pool.map(tried, edits))
+    for edit, (is_refused, said) in zip(edits, results):
+        print(f"{edit.parts[-3]}/{edit.stem}: {'refused' if is_refused else 'NOT REFUSED'}: {said}")
+    return 0 if all(it for it, _ in results) else 1
+
+
+if __name__ == "__main__":
+    sys.exit(main(*sys.argv[2:]))
