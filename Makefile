@@ -37,6 +37,7 @@ test: ## change: the gate: all proofs, tests, transcripts, quick checks
 	@sh tools/sources.sh > crates/kapi/out/proved
 	@if command -v cc > /dev/null && command -v objcopy > /dev/null; then sh tools/library.sh out/library; else echo 'The C library is left out: cc or objcopy is not there.'; fi
 	@$(PYTHON) -m checks $(PROVED)
+	@$(PYTHON) -m checks $(PROVED) edits
 
 kapi: ## use: says where the proved program lies; without one, the gate
 	@sh tools/sources.sh | cmp -s - crates/kapi/out/proved && test -x $(PROVED) || $(MAKE) --no-print-directory test

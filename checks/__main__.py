@@ -23,6 +23,7 @@ CHECKS = {
     "crafted": Module(),
     "growths": Module("cc"),
     "library": Module("make library PREFIX=out/library", () if pathlib.Path("out/library/lib/libkapi.so").exists() else None),
+    "edits": Module("rt, and what make test left"),
     "pages": Module("curl and jq"),
     "kubectl": Module("kubectl"),
     "controller": Module("python3-kubernetes"),
