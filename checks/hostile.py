@@ -32,6 +32,7 @@ LINE_BYTES = 64_000_000
 LABELS, REQUIREMENTS, PATCHES = 2_000, 5_000, 200
 GROUPS, REPEATS, BINDINGS = 16_000, 1_000, 2_000
 MAPS = "/api/v1/namespaces/default/configmaps"
+REVIEWS = "/apis/authorization.k8s.io/v1/selfsubjectaccessreviews"
 ROLES = f"/apis/{RBAC}/v1/namespaces/default/roles"
 STARVED_CLIENTS, STARVED_SECONDS, LONG = 50, 20, 320
 IDLE_CLIENTS, LISTED, WIDE, CHECKED, LABELLED = 320, 100_000, 56, 1_000, 5_000
@@ -382,16 +383,18 @@ def timed(client, *words):
 
 
 def trees(program):
-    """A review with a megabyte of small objects, and a small patch of as much that is stored."""
+    """Reviews with a megabyte of small objects, and of labels that are checked one by one; a small patch of as much that is stored."""
     junk = ",".join(['{"":0}'] * (1_000_000 // 7))
-    review = '{"apiVersion":"authorization.k8s.io/v1","kind":"SelfSubjectAccessReview","spec":{"resourceAttributes":{"verb":"get"}},"x":[' + junk + "]}"
+    labels = ",".join(f'"{number:06}":""' for number in range(1_000_000 // 12))
+    head = '{"apiVersion":"authorization.k8s.io/v1","kind":"SelfSubjectAccessReview","spec":{"resourceAttributes":{"verb":"get"}},'
     stored = '{"apiVersion":"v1","kind":"ConfigMap","metadata":{"name":"a"},"x":[' + junk + "]}"
     with Server(program) as server:
         root = connect(ports.ROOT)
-        reviewed = cost_of(server, root, "POST", "/apis/authorization.k8s.io/v1/selfsubjectaccessreviews", review)
+        reviewed = cost_of(server, root, "POST", REVIEWS, head + '"x":[' + junk + "]}")
+        labelled = cost_of(server, root, "POST", REVIEWS, head + '"metadata":{"labels":{' + labels + "}}}")
         cost_of(server, root, "POST", MAPS, stored)
         patched = cost_of(server, root, "PATCH", f"{MAPS}/a", '{"data":{"k":"1"}}')
-    return judge("a review of a megabyte and a patch of one", [("seconds of processor time", reviewed, 0.5), ("of the patch", patched, 1)])
+    return judge("a review of a megabyte and a patch of one", [("seconds of processor time", reviewed, 0.5), ("of labels", labelled, 0.5), ("of the patch", patched, 1)])
 
 
 def cost_of(server, client, method, path, body):
