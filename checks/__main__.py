@@ -19,6 +19,7 @@ CHECKS = {
     "what-random": Module(words=("100",)),
     "suggest-random": Module(words=("100",)),
     "paths": Module(words=("300",)),
+    "matching": Module(words=("300", "100")),
     "hostile": Module(words=("window",)),
     "crafted": Module(),
     "growths": Module("cc"),
