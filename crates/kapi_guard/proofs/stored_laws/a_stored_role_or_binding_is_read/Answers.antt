@@ -1,6 +1,6 @@
 use Rattle.kapi_rbac_types.specs.Trees.{role_of, cluster_role_of, role_binding_of, cluster_role_binding_of}
 use Rattle.kapi_guard.proofs.Sound.{stored_reads}
-use Rattle.kapi_guard.proofs.laws.a_stored_role_or_binding_is_read.Goals as goal
+use Rattle.kapi_guard.proofs.stored_laws.a_stored_role_or_binding_is_read.Goals as goal
 use Rattle.kapi_guard.specs.declared.kind.PolicyKind.TheVariants as kind
 
 pub returns-clause-role : goal.returns-clause-role

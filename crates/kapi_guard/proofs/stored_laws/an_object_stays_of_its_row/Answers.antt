@@ -1,5 +1,5 @@
 use Rattle.kapi_guard.proofs.Admitted.{stamps_kept, place_kept, status_kept, without_kept}
-use Rattle.kapi_guard.proofs.laws.an_object_stays_of_its_row.Goals as goal
+use Rattle.kapi_guard.proofs.stored_laws.an_object_stays_of_its_row.Goals as goal
 
 pub returns-clause-stamped : goal.returns-clause-stamped
 returns-clause-stamped c = stamps_kept

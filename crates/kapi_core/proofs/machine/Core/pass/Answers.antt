@@ -16,10 +16,10 @@ returns-in-None-clause-passed g c = λ _.
     let watching = c.get-watching.result.now in
     let shows = c.in-Some-watching.is ∙ ap Some (sym c.get-watching.ensures) in
     let there = sym c.in-Some.ensures.value in
-    let P : Running → Type 0 = λ r. Makes r (record old { connections = c.advance_watch.new.links.entries }) (event.Pump c.args.conn) told.Nothing in
+    let P : Running → Type 0 = λ r. Makes r (record old { connections = c.advance_watch.new.connections.entries }) (event.Pump c.args.conn) told.Nothing in
     subst P c.self.view_is
-    (λ m h. made_for old.store old.policy old.marks old.connections old.next_id old.rechecks m old.store old.policy old.marks c.advance_watch.new.links.entries old.next_id old.rechecks (event.Pump c.args.conn) told.Nothing h
-    (pumped_nothing old.store old.policy old.marks old.connections c.advance_watch.new.links.entries old.next_id old.rechecks c.args.conn linked watching c.next.result.place there shows
+    (λ m h. made_for old.store old.policy old.marks old.connections old.next_id old.rechecks m old.store old.policy old.marks c.advance_watch.new.connections.entries old.next_id old.rechecks (event.Pump c.args.conn) told.Nothing h
+    (pumped_nothing old.store old.policy old.marks old.connections c.advance_watch.new.connections.entries old.next_id old.rechecks c.args.conn linked watching c.next.result.place there shows
     (λ cs p w stands is. ap (option_map (event_reply_of p w)) (ap (option_map event_of) (sym c.in-None.is) ∙ c.recheck-event.ensures cs p w is
     ∙ ap (rechecked old.rechecks old.policy w) (c.next.ensures.event cs p w.watch stands is.0)))
     (λ cs p w stands is. (c.next.ensures.place cs p w.watch stands is.0, is.1, is.2, is.3)) (c.advance_watch.ensures linked watching there shows)))

@@ -43,7 +43,7 @@ returns-in_default-2 g c = λ m h.
 pub returns : goal.returns
 returns g c =
     let old : Running = record { store = c.self.inside.store; policy = g.P.Policy.content c.self.inside.policy; marks = c.self.inside.tracker; connections = c.self.inside.connections.entries; next_id = c.self.inside.next_id; rechecks = c.self.inside.rechecks } in
-    let next : Running = record old { store = c.make_write.new.store; policy = g.P.Policy.content c.make_write.new.policy; marks = c.make_write.new.tracker; connections = c.close_if.new.links.entries } in
+    let next : Running = record old { store = c.make_write.new.store; policy = g.P.Policy.content c.make_write.new.policy; marks = c.make_write.new.tracker; connections = c.close_if.new.connections.entries } in
     let there = sym c.in-Some.ensures.value in
     let out = c.in_ok-reply.field-0 in
     let links = c.close_if.ensures
