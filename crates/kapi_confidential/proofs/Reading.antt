@@ -1,5 +1,5 @@
 -- Requests that only read are answered by what may be read.
-use Rattle.std.proofs.Common.{◌≡◌, ℕ, Bool, true, false, not, ◌==◌, if◌then◌else◌, List, Option, Some, None, Result, Ok, Err, map, length, refl, sym, ap, ◌∙◌, subst, codes, IfOk, []}
+use Rattle.std.proofs.Common.{◌≡◌, ℕ, Bool, true, false, not, ◌==◌, if◌then◌else◌, List, Option, Some, None, Result, Ok, Err, map, length, refl, sym, ap, ◌∙◌, subst, codes, []}
 use Rattle.std.specs.List.{filter}
 use Rattle.serde_json.specs.Data.{Data, no_members, object}
 use Rattle.kapi_text.specs.Gives.{◌>>=◌}
@@ -27,14 +27,14 @@ use Rattle.kapi_store.specs.Plain.{Plain}
 use Rattle.kapi_store.specs.declared.key.Key.{Key}
 use Rattle.kapi_watch.specs.Watches.{startable, started_at, watch_from}
 use Rattle.kapi_watch.specs.declared.scope.Scope.{Scope}
-use Rattle.kapi_answer.specs.Answer.{Plan, Task, answer, answer_as, answer_asked, answer_by, carried_out, checked, create, delete, place_in, planned, planned_at, planned_creation, planned_for, planned_on, replace, task, tell, tells, told_well, watch}
+use Rattle.kapi_answer.specs.Answer.{Plan, answer, answer_as, answer_asked, answer_by, carried_out, checked, planned, planned_at, planned_creation, planned_for, planned_on, task, tells, told_well, watch}
 use Rattle.kapi_answer.specs.Authorization.{authorized, is_authorized}
 use Rattle.kapi_answer.specs.Collection.{list_of, listed}
 use Rattle.kapi_answer.specs.Create.{admitted, namespace_on, valid, with_namespace_on}
 use Rattle.kapi_answer.specs.Get.{found, found_if}
 use Rattle.kapi_answer.specs.Headers.{media_typed}
 use Rattle.kapi_answer.specs.Impersonation.{acts_as, acts_or_refused, made_as}
-use Rattle.kapi_answer.specs.Response.{told}
+use Rattle.kapi_answer.specs.Response.{Response, told}
 use Rattle.kapi_answer.specs.Query.{queried}
 use Rattle.kapi_answer.specs.Route.{ResourceRouted, Routed, health, resource, routed}
 use Rattle.kapi_answer.specs.Watch.{since_served}
@@ -56,25 +56,11 @@ use Rattle.kapi_model.specs.declared.row.ResourceRow.{ResourceRow}
 use Rattle.kapi_confidential.proofs.Filters.{both_filters}
 use Rattle.kapi_confidential.specs.Alike.{AnswersAlike, DecidesAlike, IsListing, IsRead, IsSelfReview, Passes, ReadsOnly, SeesAlike, within}
 
--- ---- checks in a row
-
-module _ {A B F : Type 0} where
-  bind_alike : (x y : Result A F) → x ≡ y → (f g : A → Result B F) → ((a : A) → x ≡ Ok a → f a ≡ g a) → (x >>= f) ≡ (y >>= g)
-  bind_alike x y is f g same = on x same ∙ ap (λ z. z >>= g) is
-    where
-      on : (z : Result A F) → ((a : A) → z ≡ Ok a → f a ≡ g a) → (z >>= f) ≡ (z >>= g)
-      on (Ok a) same = same a refl
-      on (Err e) same = refl
-
-  bind_holds : (x : Result A F) (f : A → Result B F) (P : B → Type 0) → ((a : A) → x ≡ Ok a → IfOk (f a) P) → IfOk (x >>= f) P
-  bind_holds (Ok a) f P holds = holds a refl
-  bind_holds (Err e) f P holds = tt
+-- ---- decisions
 
 if_true : (b : Bool) {F : Type 0} (e : F) (u : Unit {0}) → (if b then Ok tt else Err e) ≡ Ok u → b ≡ true
 if_true true e u is = refl
 if_true false e u is = absurd (cc is)
-
--- ---- decisions
 
 module _ (who : Identity) (objects other : PolicyObjects) (alike : DecidesAlike who objects other) where
   authorized_alike : (a : Attributes) → authorized objects who a ≡ authorized other who a
@@ -136,13 +122,34 @@ module _ (who : Identity) (objects other : PolicyObjects) (decides : DecidesAlik
 
 -- ---- a request that passes authorization
 
-abbrev IsReadPlan : Plan → Type 0
-IsReadPlan (tell outcome) = Unit {0}
-IsReadPlan (watch w) = Unit {0}
-IsReadPlan plan = ⊥
+-- what becomes of two plans is the same
+abbrev pub ComeAlike : Plain → Plain → Result Plan Refused → Result Plan Refused → Type 0
+ComeAlike s t p q = (p >>= carried_out s) ≡ (q >>= carried_out t)
 
-module _ (who : Identity) (objects other : PolicyObjects) (s t : Plain) (sees : SeesAlike who objects other s t) (request : HttpRequest) (a : Attributes)
-    (reads : (r : ResourceRouted) → Passes objects s.table who request.method a r → IsRead r.row r.action) where
+module _ {A : Type 0} (s t : Plain) where
+  pub then_alike : (x y : Result A Refused) → x ≡ y → (f g : A → Result Plan Refused) → ((v : A) → x ≡ Ok v → ComeAlike s t (f v) (g v)) → ComeAlike s t (x >>= f) (y >>= g)
+  then_alike x y is f g same = on x same ∙ ap (λ z. (z >>= g) >>= carried_out t) is
+    where
+      on : (z : Result A Refused) → ((v : A) → z ≡ Ok v → ComeAlike s t (f v) (g v)) → ComeAlike s t (z >>= f) (z >>= g)
+      on (Ok v) same = same v refl
+      on (Err e) same = refl
+
+tells_alike : (s t : Plain) (x y : Result Response Refused) → x ≡ y → ComeAlike s t (x >>= tells) (y >>= tells)
+tells_alike s t x y is = then_alike s t x y is tells tells (λ o _. refl)
+
+-- the objects that a collection request selects
+pub chosen_alike : (row : ResourceRow) (namespace : List ℕ) (f : Filter) (xs ys : List (Key × Data)) → within row namespace f.name ys ≡ within row namespace f.name xs
+    → listed_trees row namespace f.selector f.name xs ≡ listed_trees row namespace f.selector f.name ys
+unfolding is_listed
+chosen_alike row namespace f xs ys same = chosen_by xs ∙ ap (λ l. filter is_chosen l) (sym same) ∙ sym (chosen_by ys)
+  where
+    is_chosen : Key × Data → Bool
+    is_chosen e = matches f.selector (in_metadata (codes "labels") e.1)
+
+    chosen_by : (entries : List (Key × Data)) → listed_trees row namespace f.selector f.name entries ≡ filter is_chosen (within row namespace f.name entries)
+    chosen_by entries = both_filters (λ e. is_within row namespace f.name e.0) is_chosen entries
+
+module _ (who : Identity) (objects other : PolicyObjects) (s t : Plain) (sees : SeesAlike who objects other s t) (request : HttpRequest) (a : Attributes) where
   since_alike : (since : ℕ) → since_served s since ≡ since_served t since
   unfolding since_served startable
   since_alike since = rw (sees.revision, sees.first) refl
@@ -151,16 +158,8 @@ module _ (who : Identity) (objects other : PolicyObjects) (s t : Plain) (sees : 
     abbrev namespace : List ℕ
     namespace = namespace_on r.row a.namespace
 
-    abbrev chosen_of : List (Key × Data) → List (Key × Data)
-    chosen_of entries = listed_trees r.row namespace f.selector f.name entries
-
-    chosen_by : (entries : List (Key × Data)) → chosen_of entries ≡ filter (λ e. matches f.selector (in_metadata (codes "labels") e.1)) (within r.row namespace f.name entries)
-    unfolding is_listed
-    chosen_by entries = both_filters (λ e. is_within r.row namespace f.name e.0) (λ e. matches f.selector (in_metadata (codes "labels") e.1)) entries
-
-    chosen_alike : IsListing r.action → chosen_of s.objects ≡ chosen_of t.objects
-    chosen_alike read =
-        chosen_by s.objects ∙ ap (λ l. filter (λ e. matches f.selector (in_metadata (codes "labels") e.1)) l) (sym (sees.list request.method a r f passes read asks)) ∙ sym (chosen_by t.objects)
+    shown_alike : (act : Action) → r.action ≡ act → IsListing act → listed_trees r.row namespace f.selector f.name s.objects ≡ listed_trees r.row namespace f.selector f.name t.objects
+    shown_alike act is listing = chosen_alike r.row namespace f s.objects t.objects (sees.list request.method a r f passes (subst IsListing (sym is) listing) asks)
 
     abbrev list_plan : List (Key × Data) → ℕ → Result Plan Refused
     list_plan entries revision = tells (told status.Ok (list_of r.row entries revision))
@@ -172,101 +171,61 @@ module _ (who : Identity) (objects other : PolicyObjects) (s t : Plain) (sees : 
     watch_plan entries revision =
         Ok (watch (if f.since == 0 then record { scope = scope; first = map (λ e. e.1) entries; start = revision; shown = 0; position = revision } else started_at scope f.since))
 
-    lists : (act : Action) → r.action ≡ act → IsListing act → IsListing r.action
-    lists act is listing = subst IsListing (sym is) listing
+    -- a plan that changes nothing, made of the selected objects and the revision
+    by_list : (plan : List (Key × Data) → ℕ → Result Plan Refused) (act : Action) → r.action ≡ act → IsListing act
+        → (plan (listed_trees r.row namespace f.selector f.name s.objects) s.revision >>= carried_out s) ≡ (plan (listed_trees r.row namespace f.selector f.name t.objects) t.revision >>= carried_out s)
+    by_list plan act is listing =
+        ap (λ l. plan l s.revision >>= carried_out s) (shown_alike act is listing) ∙ ap (λ n. plan (listed_trees r.row namespace f.selector f.name t.objects) n >>= carried_out s) (sym sees.revision)
 
-    creation_alike : (of : Option ReviewKind) → IsSelfReview of → planned_creation of s (task objects who request a r f) ≡ planned_creation of t (task other who request a r f)
+    -- a review of the caller's own rights
+    pub own_review_alike : (of : Option ReviewKind) → IsSelfReview of → ComeAlike s t (planned_creation of s (task objects who request a r f)) (planned_creation of t (task other who request a r f))
     unfolding planned_creation
-    creation_alike (Some kind.SelfSubjectAccessReview) read = ap (λ o. o >>= tells) (review_alike who objects other sees.decides sees.holds kind.SelfSubjectAccessReview tt r.row namespace request.body)
-    creation_alike (Some kind.SelfSubjectRulesReview) read = ap (λ o. o >>= tells) (review_alike who objects other sees.decides sees.holds kind.SelfSubjectRulesReview tt r.row namespace request.body)
-    creation_alike (Some kind.SubjectAccessReview) never = absurd never
-    creation_alike (Some kind.LocalSubjectAccessReview) never = absurd never
-    creation_alike None never = absurd never
+    own_review_alike (Some kind.SelfSubjectAccessReview) read = tells_alike s t _ _ (review_alike who objects other sees.decides sees.holds kind.SelfSubjectAccessReview tt r.row namespace request.body)
+    own_review_alike (Some kind.SelfSubjectRulesReview) read = tells_alike s t _ _ (review_alike who objects other sees.decides sees.holds kind.SelfSubjectRulesReview tt r.row namespace request.body)
+    own_review_alike (Some kind.SubjectAccessReview) never = absurd never
+    own_review_alike (Some kind.LocalSubjectAccessReview) never = absurd never
+    own_review_alike None never = absurd never
 
-    plan_alike : (act : Action) → r.action ≡ act → IsRead r.row act → planned_on act s (task objects who request a r f) ≡ planned_on act t (task other who request a r f)
+    pub read_alike : (act : Action) → r.action ≡ act → IsRead r.row act → ComeAlike s t (planned_on act s (task objects who request a r f)) (planned_on act t (task other who request a r f))
     unfolding planned_on found listed watch_from
-    plan_alike action.Get is read = ap (λ o. found_if o >>= tells) (sym (sees.object request.method a r passes is))
-    plan_alike action.List is read = ap (λ l. list_plan l s.revision) (chosen_alike (lists action.List is tt)) ∙ ap (λ n. list_plan (chosen_of t.objects) n) (sym sees.revision)
-    plan_alike action.Watch is read = ap (λ l. watch_plan l s.revision) (chosen_alike (lists action.Watch is tt)) ∙ ap (λ n. watch_plan (chosen_of t.objects) n) (sym sees.revision)
-    plan_alike action.Create is read = creation_alike (review_kind r.row) read
-    plan_alike (action.Update part) is never = absurd never
-    plan_alike (action.Patch part) is never = absurd never
-    plan_alike action.Delete is never = absurd never
-    plan_alike action.DeleteCollection is never = absurd never
+    read_alike action.Get is read = tells_alike s t _ _ (ap found_if (sym (sees.object request.method a r passes is)))
+    read_alike action.List is read = by_list list_plan action.List is tt
+    read_alike action.Watch is read = by_list watch_plan action.Watch is tt
+    read_alike action.Create is read = own_review_alike (review_kind r.row) read
+    read_alike (action.Update part) is never = absurd never
+    read_alike (action.Patch part) is never = absurd never
+    read_alike action.Delete is never = absurd never
+    read_alike action.DeleteCollection is never = absurd never
 
-  for_alike : (r : ResourceRouted) → Passes objects s.table who request.method a r → planned_for objects s who request a r ≡ planned_for other t who request a r
-  unfolding planned_for
-  for_alike r passes =
-      bind_alike (queried r.action s.revision a.query) (queried r.action t.revision a.query) (ap (λ n. queried r.action n a.query) (sym sees.revision)) _ _
-      (λ f asks. bind_alike (since_served s f.since) (since_served t f.since) (since_alike f.since) _ _
-      (λ k _. bind_alike (media_typed request.method request.headers) (media_typed request.method request.headers) refl _ _
-      (λ w _. plan_alike r passes f asks r.action refl (reads r passes))))
+  -- a request is checked alike if each of its actions that pass comes to the same
+  module _ (is : info request.method request.target ≡ Ok a) (on_alike : (r : ResourceRouted) → Passes objects s.table who request.method a r → (f : Filter) → queried r.action s.revision a.query ≡ Ok f
+      → ComeAlike s t (planned_on r.action s (task objects who request a r f)) (planned_on r.action t (task other who request a r f))) where
+    for_alike : (r : ResourceRouted) → Passes objects s.table who request.method a r → ComeAlike s t (planned_for objects s who request a r) (planned_for other t who request a r)
+    unfolding planned_for
+    for_alike r passes =
+        then_alike s t (queried r.action s.revision a.query) (queried r.action t.revision a.query) (ap (λ n. queried r.action n a.query) (sym sees.revision)) _ _
+        (λ f asks. then_alike s t (since_served s f.since) (since_served t f.since) (since_alike f.since) _ _
+        (λ k _. then_alike s t (media_typed request.method request.headers) (media_typed request.method request.headers) refl _ _ (λ w _. on_alike r passes f asks)))
 
-  routed_alike : (r : Routed) → is_authorized objects who a ≡ true → routed s.table request.method a ≡ Ok r → planned_at objects s who request a r ≡ planned_at other t who request a r
-  routed_alike health allowed routes = refl
-  routed_alike (resource r) allowed routes = for_alike r (record { allowed = allowed; routes = routes })
+    at_alike : (r : Routed) → is_authorized objects who a ≡ true → routed s.table request.method a ≡ Ok r → ComeAlike s t (planned_at objects s who request a r) (planned_at other t who request a r)
+    at_alike health allowed routes = tells_alike s t (told_well request) (told_well request) refl
+    at_alike (resource r) allowed routes = for_alike r (record { target = request.target; asks = is; allowed = allowed; routes = routes })
 
-  planned_alike : planned objects s who request a ≡ planned other t who request a
-  unfolding planned authorized
-  planned_alike =
-      bind_alike (authorized objects who a) (authorized other who a) (authorized_alike who objects other sees.decides a) _ _
-      (λ v passes. bind_alike (routed s.table request.method a) (routed t.table request.method a) (ap (λ table. routed table request.method a) (sym sees.table)) _ _
-      (λ r routes. routed_alike r (if_true (is_authorized objects who a) (asked_for refusal.Forbidden) v passes) routes))
+    pub checked_alike : checked objects s who request a ≡ checked other t who request a
+    unfolding checked planned authorized
+    checked_alike =
+        then_alike s t (authorized objects who a) (authorized other who a) (authorized_alike who objects other sees.decides a) _ _
+        (λ v passes. then_alike s t (routed s.table request.method a) (routed t.table request.method a) (ap (λ table. routed table request.method a) (sym sees.table)) _ _
+        (λ r routes. at_alike r (if_true (is_authorized objects who a) (asked_for refusal.Forbidden) v passes) routes))
 
-  -- ---- the plan only reads
-
-  created_read : (of : Option ReviewKind) (k : Task) → IsSelfReview of → IfOk (planned_creation of s k) IsReadPlan
-  unfolding planned_creation
-  created_read (Some kind.SelfSubjectAccessReview) k read = bind_holds (to_review k.objects k.identity kind.SelfSubjectAccessReview k.row k.namespace k.body) tells IsReadPlan (λ o _. tt)
-  created_read (Some kind.SelfSubjectRulesReview) k read = bind_holds (to_review k.objects k.identity kind.SelfSubjectRulesReview k.row k.namespace k.body) tells IsReadPlan (λ o _. tt)
-  created_read (Some kind.SubjectAccessReview) k never = absurd never
-  created_read (Some kind.LocalSubjectAccessReview) k never = absurd never
-  created_read None k never = absurd never
-
-  on_read : (act : Action) (k : Task) → IsRead k.row act → IfOk (planned_on act s k) IsReadPlan
-  unfolding planned_on
-  on_read action.Get k read = bind_holds (found s (place_in k)) tells IsReadPlan (λ o _. tt)
-  on_read action.List k read = tt
-  on_read action.Watch k read = tt
-  on_read action.Create k read = created_read (review_kind k.row) k read
-  on_read (action.Update part) k never = absurd never
-  on_read (action.Patch part) k never = absurd never
-  on_read action.Delete k never = absurd never
-  on_read action.DeleteCollection k never = absurd never
-
-  at_reads : (r : Routed) → is_authorized objects who a ≡ true → routed s.table request.method a ≡ Ok r → IfOk (planned_at objects s who request a r) IsReadPlan
-  unfolding planned_for told_well
-  at_reads health allowed routes = bind_holds (told_well request) tells IsReadPlan (λ o _. tt)
-  at_reads (resource r) allowed routes =
-      bind_holds (queried r.action s.revision a.query) _ IsReadPlan (λ f _. bind_holds (since_served s f.since) _ IsReadPlan (λ k _. bind_holds (media_typed request.method request.headers) _ IsReadPlan
-      (λ w _. on_read r.action (task objects who request a r f) (reads r (record { allowed = allowed; routes = routes })))))
-
-  planned_reads : IfOk (planned objects s who request a) IsReadPlan
-  unfolding planned authorized
-  planned_reads =
-      bind_holds (authorized objects who a) _ IsReadPlan (λ v passes. bind_holds (routed s.table request.method a) _ IsReadPlan
-      (λ r routes. at_reads r (if_true (is_authorized objects who a) (asked_for refusal.Forbidden) v passes) routes))
-
-  carried_alike : (p : Result Plan Refused) → IfOk p IsReadPlan → (p >>= carried_out s) ≡ (p >>= carried_out t)
-  carried_alike (Ok (tell outcome)) read = refl
-  carried_alike (Ok (watch w)) read = refl
-  carried_alike (Ok (create new)) never = absurd never
-  carried_alike (Ok (replace new)) never = absurd never
-  carried_alike (Ok (delete d)) never = absurd never
-  carried_alike (Err e) read = refl
-
-  checked_alike : checked objects s who request a ≡ checked other t who request a
-  unfolding checked
-  checked_alike = carried_alike (planned objects s who request a) planned_reads ∙ ap (λ p. p >>= carried_out t) planned_alike
-
--- ---- any item
+-- ---- any request
 
 module _ (objects other : PolicyObjects) (s t : Plain) (caller : Identity) (decides : DecidesAlike caller objects other) (request : HttpRequest)
-    (sees : (who : Identity) → made_as objects caller request ≡ Ok who → SeesAlike who objects other s t) (reads : ReadsOnly objects s caller (Ok request)) where
+    (checks : (a : Attributes) (who : Identity) → info request.method request.target ≡ Ok a → made_as objects caller request ≡ Ok who → checked objects s who request a ≡ checked other t who request a) where
   as_alike : (a : Attributes) → info request.method request.target ≡ Ok a → (made : Result Identity Refused) → made_as objects caller request ≡ made
       → answer_as objects s caller request a made ≡ answer_as other t caller request a made
   unfolding answer_as
-  as_alike a is (Ok who) made = ap (λ c. answer_by who request a c) (checked_alike who objects other s t (sees who made) request a (λ r passes. reads a who r is made passes))
+  as_alike a is (Ok who) made = ap (λ c. answer_by who request a c) (checks a who is made)
   as_alike a is (Err e) made = refl
 
   asked_alike : (found : Result Attributes TargetFault) → info request.method request.target ≡ found → answer_asked objects s caller request found ≡ answer_asked other t caller request found
@@ -274,13 +233,22 @@ module _ (objects other : PolicyObjects) (s t : Plain) (caller : Identity) (deci
   asked_alike (Ok a) is = as_alike a is (made_as objects caller request) refl ∙ ap (λ made. answer_as other t caller request a made) (made_alike caller objects other decides request)
   asked_alike (Err fault) is = refl
 
+  pub answer_alike : AnswersAlike caller (Ok request) objects other s t
+  unfolding answer
+  answer_alike = asked_alike (info request.method request.target) refl
+
+pub fault_alike : (objects other : PolicyObjects) (s t : Plain) (caller : Identity) (fault : HttpFault) → AnswersAlike caller (Err fault) objects other s t
+unfolding answer
+fault_alike objects other s t caller fault = refl
+
 pub reads_alike : (objects other : PolicyObjects) (s t : Plain) (caller : Identity) (item : Result HttpRequest HttpFault) → DecidesAlike caller objects other
     → ((request : HttpRequest) (who : Identity) → item ≡ Ok request → made_as objects caller request ≡ Ok who → SeesAlike who objects other s t)
     → ReadsOnly objects s caller item → AnswersAlike caller item objects other s t
-unfolding answer
 reads_alike objects other s t caller (Ok request) decides sees reads =
-    asked_alike objects other s t caller decides request (λ who made. sees request who refl made) reads (info request.method request.target) refl
-reads_alike objects other s t caller (Err fault) decides sees reads = refl
+    answer_alike objects other s t caller decides request
+    (λ a who is made. checked_alike who objects other s t (sees request who refl made) request a is
+    (λ r passes f asks. read_alike who objects other s t (sees request who refl made) request a r passes f asks r.action refl (reads a who r is made passes)))
+reads_alike objects other s t caller (Err fault) decides sees reads = fault_alike objects other s t caller fault
 
 pub alike_itself : (who : Identity) (objects : PolicyObjects) (s : Plain) → SeesAlike who objects objects s s
 alike_itself who objects s = record {

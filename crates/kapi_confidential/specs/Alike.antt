@@ -57,8 +57,10 @@ IsRead row action.Watch = Unit {0}
 IsRead row action.Create = IsSelfReview (review_kind row)
 IsRead row act = ⊥
 
--- a request that authorization passes, with its route
+-- a request for a target that authorization passes, with its route
 pub record Passes (objects : PolicyObjects) (table : List ResourceRow) (who : Identity) (method : Method) (a : Attributes) (r : ResourceRouted) : Type 0 where
+  pub target : List ℕ
+  pub asks : info method target ≡ Ok a
   pub allowed : is_authorized objects who a ≡ true
   pub routes : routed table method a ≡ Ok (resource r)
 

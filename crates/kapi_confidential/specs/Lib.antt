@@ -1,1 +1,3 @@
 pub mod Alike
+pub mod Writes
+pub mod Worked
