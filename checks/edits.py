@@ -2,8 +2,8 @@
 
 usage: python3 -m checks.edits PROGRAM [COUNT [SUM]]     drawn by the sum of the sources, so that a run can be repeated; or CRATE/NAME,CRATE/NAME.. for COUNT
 
-Needs rt, and the libraries that `make test` left in crates/*/out/rlib. Of an edited file's function only that function is checked, with
-what it calls; if it still passes, the whole crate is.
+Needs rt, and the libraries that `make test` left in crates/*/out/rlib. The edited function is checked with what it calls; if that passes, its
+module is, and then the whole crate.
 """
 import os
 import pathlib
@@ -55,10 +55,15 @@ def pairs(edit):
             yield file, old, text
 
 
-def function_at(text, place):
-    """The function of a source in which a place lies."""
-    named = re.findall(r"^ *(?:pub(?:\([a-z]+\))? )?fn (\w+)", text[:place], re.M)
-    return named[-1] if named else None
+def paths_at(file, text, place):
+    """The function in which a place of a source lies and its module, as `rattle check --only` names them."""
+    module = file.removeprefix("src/").removesuffix(".rt").replace("/", "::")
+    named = re.findall(r"^( *)(?:pub(?:\([a-z]+\))? )?fn (\w+)", text[:place], re.M)
+    owners = re.findall(r"^impl(?:<.*?>)? (?:[\w<>', ]+ for )?(\w+)", text[:place], re.M)
+    if not named or module in ("lib", "main"):
+        return []
+    indent, name = named[-1]
+    return ["::".join([module, *(owners[-1:] if indent else []), name]), module]
 
 
 def checked(folder, words):
@@ -73,15 +78,15 @@ def tried(edit):
         for part in ("src", "specs", "proofs"):
             if (ROOT / "crates" / name / part).is_dir():
                 shutil.copytree(ROOT / "crates" / name / part, f"{room}/{part}")
-        function = None
+        paths = []
         for file, old, new in pairs(edit):
             text = pathlib.Path(room, file).read_text()
             if text.count(old) != 1:
                 return False, f"its old text stands {text.count(old)} times in {file}"
-            function = function or (file.endswith(".rt") and function_at(text, text.index(old)) or None)
+            paths = paths or (paths_at(file, text, text.index(old)) if file.endswith(".rt") else [])
             pathlib.Path(room, file).write_text(text.replace(old, new))
         words = words_of(name, table)
-        for only in ([["--only", function]] if function else []) + [[]]:
+        for only in [*(["--only", it] for it in paths), []]:
             status, lines = checked(room, [*words, *only])
             last = lines[-1] if lines else ""
             if status == 1 and re.match(r"only=\d+ proved=|logic=not-proved", last):
