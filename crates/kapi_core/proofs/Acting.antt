@@ -1,6 +1,6 @@
 -- An identity that acts in a list of events is on a connection served by one of them.
-use Rattle.std.proofs.Common.{◌≡◌, ◌⊎◌, inl, inr, ℕ, List, [], ◌∷◌, Bool, true, false, cond, Option, Some, None, refl, sym, ap, ◌∙◌, subst}
-use Rattle.std.specs.BTreeMap.{insert_entry, is_at}
+use Rattle.std.proofs.Common.{◌≡◌, ◌⊎◌, inl, inr, ℕ, List, [], ◌∷◌, Bool, true, false, ◌&&◌, cond, if◌then◌else◌, length, nat_le, nat_lt, Option, Some, None, refl, sym, ap, ◌∙◌, subst}
+use Rattle.std.specs.BTreeMap.{is_at}
 use Rattle.std.specs.Cmp.{Equal-is, ranked}
 use Rattle.std.specs.Map.{lookup, remove_entry, set_value}
 use Rattle.std.specs.Ordering.{nat_cmp}
@@ -12,11 +12,14 @@ use Rattle.kapi_gains.proofs.Entries.{delete_has, found_in, put_has}
 use Rattle.kapi_aggregation.specs.Members.{Has}
 use Rattle.kapi_core.proofs.Effects.{Moves, effect, number_of}
 use Rattle.kapi_core.proofs.Effects as effects
+use Rattle.kapi_core.specs.declared.event.Answer.{Answer}
+use Rattle.kapi_core.specs.declared.event.Answer.TheVariants as told
 use Rattle.kapi_core.specs.declared.event.ConnId.{ConnId}
 use Rattle.kapi_core.specs.declared.event.Event.{Event}
 use Rattle.kapi_core.specs.declared.event.Event.TheVariants as event
 use Rattle.kapi_core.specs.Gains.{IsConnected, IsServed, acting_by, acting_in, identity_on}
-use Rattle.kapi_core.specs.Machine.{Link, Machine, link_at, new_link, step, with_link}
+use Rattle.kapi_core.specs.Limits.{last_connection, open_connections}
+use Rattle.kapi_core.specs.Machine.{Link, Machine, link_at, new_link, open_step, step, with_link, with_new_link}
 
 -- a connection of the number was there for the identity
 abbrev WasThere : List (ℕ × Link) → ℕ → Identity → Type 0
@@ -60,19 +63,33 @@ set_there test (x ∷ es) old new found same id l has =
 
 -- ---- events
 
--- the links after an event were there for the same identities, or the event opened one for that identity
+-- the event opened the connection of the number for the identity
+abbrev Opens : Machine → Event → ℕ → Identity → Type 0
+Opens m e id who = (e ≡ event.Open who) × ((step m e).0 ≡ told.Opened (record { 0 = id }))
+
+-- the links after an event were there for the same identities, or the event opened them
 abbrev LinksCameBy : Machine → Event → List (ℕ × Link) → Type 0
-LinksCameBy m e new = (id : ℕ) (l : Link) → Has new (id, l) → WasThere m.links id l.identity ⊎ (e ≡ event.Open l.identity)
+LinksCameBy m e new = (id : ℕ) (l : Link) → Has new (id, l) → WasThere m.links id l.identity ⊎ Opens m e id l.identity
 
 kept : (m : Machine) (e : Event) → LinksCameBy m e m.links
 kept m e id l has = inl (l, (has, refl))
 
-put_came_by : (m : Machine) (identity : Identity) → LinksCameBy m (event.Open identity) (insert_entry nat_cmp m.links m.next_id (new_link identity))
-put_came_by m identity id l has = by_put (put_has nat_cmp nat_exact m.links m.next_id (new_link identity) (id, l) has)
+opened_came_by : (m : Machine) (identity : Identity) → LinksCameBy m (event.Open identity) (step m (event.Open identity)).1.links
+unfolding step open_step
+opened_came_by m identity = by_room (nat_lt (length m.links) open_connections && nat_le m.next_id last_connection)
   where
-    by_put : (◌≡◌ {A = ℕ × Link} (m.next_id, new_link identity) (id, l)) ⊎ Has m.links (id, l) → WasThere m.links id l.identity ⊎ (event.Open identity ≡ event.Open l.identity)
-    by_put (inl is) = inr (ap (λ (e : ℕ × Link). event.Open e.1.identity) is)
-    by_put (inr has) = kept m (event.Open identity) id l has
+    opened : Bool → Answer × Machine
+    opened b = if b then (told.Opened (record { 0 = m.next_id }), with_new_link m.next_id (new_link identity) m) else (told.TooMany, m)
+
+    by_room : (b : Bool) (id : ℕ) (l : Link) → Has (opened b).1.links (id, l)
+        → WasThere m.links id l.identity ⊎ ((event.Open identity ≡ event.Open l.identity) × ((opened b).0 ≡ told.Opened (record { 0 = id })))
+    by_room true id l has = by_put (put_has nat_cmp nat_exact m.links m.next_id (new_link identity) (id, l) has)
+      where
+        by_put : (◌≡◌ {A = ℕ × Link} (m.next_id, new_link identity) (id, l)) ⊎ Has m.links (id, l)
+            → WasThere m.links id l.identity ⊎ ((event.Open identity ≡ event.Open l.identity) × (◌≡◌ {A = Answer} (told.Opened (record { 0 = m.next_id })) (told.Opened (record { 0 = id }))))
+        by_put (inl is) = inr (ap (λ (e : ℕ × Link). event.Open e.1.identity) is, ap (λ (e : ℕ × Link). told.Opened (record { 0 = e.0 })) is)
+        by_put (inr has) = inl (l, (has, refl))
+    by_room false id l has = inl (l, (has, refl))
 
 set_came_by : (m : Machine) (e : Event) (conn : ℕ) (old new : Link) → link_at conn m ≡ Some old → new.identity ≡ old.identity → LinksCameBy m e (with_link conn new m).links
 set_came_by m e conn old new found same id l has = inl (set_there (is_at (nat_cmp conn)) m.links old new found same id l has)
@@ -89,8 +106,7 @@ event_came_by m e = by_moves (effect m e).moves
     by_moves : Moves m e (step m e).1 → LinksCameBy m e (step m e).1.links
     by_moves (effects.stays links next) = subst P (sym links) (kept m e)
     by_moves (effects.opens identity of links next) =
-        let Q : Event → Type 0 = λ f. LinksCameBy m f (insert_entry nat_cmp m.links m.next_id (new_link identity)) in
-        subst P (sym links) (subst Q (sym of) (put_came_by m identity))
+        let Q : Event → Type 0 = λ f. LinksCameBy m f (step m f).1.links in subst Q (sym of) (opened_came_by m identity)
     by_moves (effects.goes_on old new at same links next) = subst P (sym links) (set_came_by m e (number_of m e) old new at same)
     by_moves (effects.ends links next) = subst P (sym links) (removed_came_by m e (is_at (nat_cmp (number_of m e))) m.links (kept m e))
 
@@ -118,9 +134,9 @@ connected_before : (m : Machine) (e : Event) (es : List Event) (conn : ConnId) (
 connected_before m e es conn who (inr opened) = inr (inr opened)
 connected_before m e es conn who (inl there) = by_event (event_came_by m e conn.0 there.0 there.1.0)
   where
-    by_event : WasThere m.links conn.0 there.0.identity ⊎ (e ≡ event.Open there.0.identity) → IsConnected m (e ∷ es) conn who
+    by_event : WasThere m.links conn.0 there.0.identity ⊎ Opens m e conn.0 there.0.identity → IsConnected m (e ∷ es) conn who
     by_event (inl was) = inl (was.0, (was.1.0, was.1.1 ∙ there.1.1))
-    by_event (inr opens) = inr (inl (opens ∙ ap event.Open there.1.1))
+    by_event (inr opens) = inr (inl (opens.0 ∙ ap event.Open there.1.1, opens.1))
 
 pub acts_served : (m : Machine) (es : List Event) (who : Identity) → Has (acting_in m es) who → IsServed m es who
 unfolding acting_in

@@ -9,6 +9,7 @@ use Rattle.kapi_gains.specs.Access.{GivesNothing, IsUnprivileged}
 use Rattle.kapi_gains.specs.StoredStates.{labels_at}
 use Rattle.kapi_gains.specs.Within.{RolesNeverGrow, StaysWithin}
 use Rattle.kapi_aggregation.specs.Members.{Has}
+use Rattle.kapi_core.specs.declared.event.Answer.TheVariants as told
 use Rattle.kapi_core.specs.declared.event.ConnId.{ConnId}
 use Rattle.kapi_core.specs.declared.event.Event.{Event}
 use Rattle.kapi_core.specs.declared.event.Event.TheVariants as event
@@ -33,9 +34,14 @@ unfoldable pub acting_in : Machine → List Event → List Identity
 acting_in m [] = []
 acting_in m (e ∷ es) = acting_by m e ++ acting_in (step m e).1 es
 
--- a connection of the number was open before the events for the identity, or one of them opens a connection for it
+-- one of the events opens the connection for the identity
+abbrev pub IsOpened : Machine → List Event → ConnId → Identity → Type 0
+IsOpened m [] conn who = ⊥
+IsOpened m (e ∷ es) conn who = ((e ≡ event.Open who) × ((step m e).0 ≡ told.Opened conn)) ⊎ IsOpened (step m e).1 es conn who
+
+-- the connection was open for the identity before the events, or one of them opens it
 abbrev pub IsConnected : Machine → List Event → ConnId → Identity → Type 0
-IsConnected m es conn who = ((l : Link) × (Has m.links (conn.0, l) × (l.identity ≡ who))) ⊎ Has es (event.Open who)
+IsConnected m es conn who = ((l : Link) × (Has m.links (conn.0, l) × (l.identity ≡ who))) ⊎ IsOpened m es conn who
 
 -- one of the events serves a connection of the identity
 pub record IsServed (m : Machine) (es : List Event) (who : Identity) : Type 0 where
