@@ -90,7 +90,7 @@ def tried(edit):
             status, lines = checked(room, [*words, *only])
             last = lines[-1] if lines else ""
             if status == 1 and re.match(r"only=\d+ proved=|logic=not-proved", last):
-                return True, next((it for it in lines if re.match(r"(note: )?\S+:\d+:\d+: ", it) or it.startswith("fn ")), last)[:150]
+                return True, next((it for it in lines if re.match(r"(note: )?\S+:\d+:\d+: |fn .*: not proved", it)), last)[:150]
         return False, "the crate is still proved" if status == 0 else f"status {status}: {' '.join(lines[-3:])[:400]}"
 
 
