@@ -1,12 +1,10 @@
 //! When an atom implies another.
 ghost use Rattle.std.specs.Prelude.{◌≡◌, ◌∷◌};
-ghost use Rattle.std.specs.List.{list_any};
 ghost use Rattle.std.specs.Option.{option_copied};
-ghost use Rattle.kapi_rules.specs.Atoms.{after_slash as behind_slash, implies as atom_implies, is_any_with, is_one_of, listed_cover, names_cover as names_cover_names, resource_covers as entry_covers};
+ghost use Rattle.kapi_rules.specs.Atoms.{after_slash as behind_slash, implies as atom_implies, is_any_with, names_cover as names_cover_names, resource_covers as entry_covers};
 
 use crate::atom::{Atom, Names, ResourceAtom, UrlAtom};
-use crate::entries::{is_listed, url_matches, word_matches};
-use kapi_text::Text;
+use crate::entries::{url_matches, word_matches};
 
 /// Whether an atom implies another: both are of one sort, and each part of the first covers that of the second. The
 /// resource `*/SUBRESOURCE` covers each resource with exactly that subresource behind its first slash.
@@ -83,30 +81,5 @@ fn names_cover(names: &Names, covered: &Names) -> bool
         (Names::All, _) => true,
         (Names::One(_), Names::All) => false,
         (Names::One(name), Names::One(covered)) => name.as_str() == covered.as_str(),
-    }
-}
-
-/// Whether some entry that lists resources covers another.
-pub fn some_resource_covers(entries: &[Text], covered: &str) -> bool
-    ensures { result ≡ list_any (λ e. entry_covers e covered.now) entries.now }
-{
-    entries
-        .iter()
-        .any(|entry| resource_covers(entry.as_str(), covered))
-}
-
-/// Whether a list of names covers others: it covers the names in it, and the empty list all names and each.
-pub fn some_name_covers(names: &[Text], covered: &Names) -> bool
-    ensures { result ≡ listed_cover names.now covered.now }
-{
-    names.is_empty() || is_covered(names, covered)
-}
-
-fn is_covered(names: &[Text], covered: &Names) -> bool
-    ensures { result ≡ is_one_of names.now covered.now }
-{
-    match covered {
-        Names::All => false,
-        Names::One(name) => is_listed(names, name.as_str()),
     }
 }

@@ -9,7 +9,7 @@ mod point;
 mod rule;
 
 pub use atom::{Atom, Names, ResourceAtom, UrlAtom, atoms, resource_atom};
-pub use covering::{after_slash, implies, resource_covers, some_name_covers, some_resource_covers};
+pub use covering::{after_slash, implies, resource_covers};
 pub use entries::{
     is_listed, some_url_matches, some_word_matches, url_matches, without_stars, word_matches,
 };
