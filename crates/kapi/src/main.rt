@@ -3,7 +3,6 @@
 //! transcripts; `kapi compare`, `kapi who`, `kapi what`, `kapi risks` and `kapi paths` answer questions about policies.
 #![tactic(auto)]
 
-mod answering;
 mod arguments;
 mod asking;
 mod auditing;

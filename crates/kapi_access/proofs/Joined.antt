@@ -17,8 +17,8 @@ use Rattle.kapi_rules.specs.declared.atom.Atom.{Atom}
 use Rattle.kapi_rules.specs.declared.point.Point.{Point}
 use Rattle.kapi_rules.specs.declared.point.Point.TheVariants as point
 use Rattle.kapi_access.specs.Together.{are_alike, joined, lists_names, place_of, put_together, same_texts, together, with_rule}
-use Rattle.kapi_access.specs.declared.part.Part.{Part}
-use Rattle.kapi_access.specs.declared.part.Part.TheVariants as part
+use Rattle.kapi_access.specs.declared.joining.Part.{Part}
+use Rattle.kapi_access.specs.declared.joining.Part.TheVariants as part
 
 -- ---- rules that are alike
 

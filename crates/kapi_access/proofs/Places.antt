@@ -15,8 +15,8 @@ use Rattle.kapi_rules.proofs.Covers.{itself, same}
 use Rattle.kapi_access.proofs.Joined.{all_but, both_list_names, with_list}
 use Rattle.kapi_access.specs.Private.Places.{ArePlaces, can_be_joined, first_with, has_key, key_of}
 use Rattle.kapi_access.specs.Together.{are_alike, joined, place_of, with_rule}
-use Rattle.kapi_access.specs.declared.part.Part.{Part}
-use Rattle.kapi_access.specs.declared.part.Part.TheVariants as part
+use Rattle.kapi_access.specs.declared.joining.Part.{Part}
+use Rattle.kapi_access.specs.declared.joining.Part.TheVariants as part
 
 -- ---- keys
 

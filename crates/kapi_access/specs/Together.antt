@@ -6,8 +6,8 @@ use Rattle.std.specs.Str.{bytes_eq}
 use Rattle.kapi_model.specs.declared.policy_rule.PolicyRule.{PolicyRule}
 use Rattle.kapi_rules.specs.Atoms.{rule_of}
 use Rattle.kapi_rules.specs.declared.atom.Atom.{Atom}
-use Rattle.kapi_access.specs.declared.part.Part.{Part}
-use Rattle.kapi_access.specs.declared.part.Part.TheVariants as part
+use Rattle.kapi_access.specs.declared.joining.Part.{Part}
+use Rattle.kapi_access.specs.declared.joining.Part.TheVariants as part
 
 -- the same texts, in the same order
 abbrev pub same_texts : List (List ℕ) → List (List ℕ) → Bool

@@ -10,11 +10,21 @@ ghost use Rattle.kapi_rules.specs.declared.point.Point.{Point};
 ghost use Rattle.kapi_access.specs.Private.Places as at;
 ghost use Rattle.kapi_access.specs.Together as put;
 
-use crate::part::Part;
 use kapi_model::PolicyRule;
 use kapi_rules::{Atom, Names, ResourceAtom, UrlAtom};
 use kapi_text::{Memory, Sequence, Text, TryCopy};
 use std::alloc::Global;
+
+/// The lists of a rule by which two are put together, all others being equal.
+#[derive(Clone, Copy, Debug)]
+pub enum Part {
+    Names,
+    Verbs,
+    Resources,
+    Groups,
+    Urls,
+}
+
 use std::collections::BTreeMap;
 use std::mem::replace;
 

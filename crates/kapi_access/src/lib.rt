@@ -18,7 +18,6 @@ mod joining;
 pub mod laws;
 mod lines;
 mod members;
-mod part;
 mod question;
 mod rights;
 mod risky;

@@ -8,14 +8,12 @@
 mod change;
 mod check;
 mod exemption;
-mod full_authority;
 mod impersonation;
 mod impersonation_refused;
 mod kind;
 pub mod laws;
 mod questions;
 mod refused;
-mod role_ref;
 mod service_account;
 pub mod stored_laws;
 mod write;

@@ -4,7 +4,6 @@
 mod fault;
 mod laws;
 mod loading;
-mod publishing;
 mod settled;
 mod starting;
 

@@ -1,4 +1,4 @@
-ghost use Rattle.std.specs.Prelude.{◌≡◌, ◌≤◌, true, [], IfOk, replicate};
+ghost use Rattle.std.specs.Prelude.{◌≡◌, ◌≤◌, true, [], IfOk, replicate, OnOk};
 ghost use Rattle.kapi_desk.specs.Boards.{fresh};
 ghost use Rattle.kapi_core.specs.Machine.{Machine};
 ghost use Rattle.kapi_core.specs.Opening.{empty, opening};
@@ -7,16 +7,18 @@ ghost use Rattle.kapi_core.specs.Table.{fits};
 ghost use Rattle.kapi_lines.specs.Lines.{lines_of};
 ghost use Rattle.kapi_loading.specs.Loading.{machine_alone, machine_from, made_of, policy_machine};
 ghost use Rattle.kapi_loading.specs.Starting.{Holds, Starts};
+ghost use Rattle.kapi_policy.specs.Steps.{after_changes};
+ghost use Rattle.kapi_desk.specs.Steps.{after};
 
 use crate::fault::StartError;
-use crate::loading::{Unpublished, load_file};
-use crate::publishing::Publishing;
+use crate::loading::{Steps, Unpublished, load_file};
 use kapi_core::{Core, program_table};
 use kapi_desk::{Desk, Seat};
 use kapi_index::IndexedPolicy;
 use kapi_model::ResourceRow;
+use kapi_policy::PolicyStep;
 use kapi_text::{Memory, Sequence, TryCopy};
-use std::alloc::Global;
+use std::alloc::{AllocError, Global};
 use std::sync::Wait;
 
 // ---- machines alone
@@ -175,5 +177,43 @@ fn start_on<R: Wait>(
             drop(desk.close(rt));
             Err(error)
         }
+    }
+}
+
+/// A desk that publishes each step with a change.
+pub struct Publishing<'a, R> {
+    pub rt: &'a R,
+    pub desk: Desk,
+}
+
+impl<R: Wait> Steps for Publishing<'_, R> {
+    ghost use Rattle.kapi_loading.specs.Loading.{HasPublished};
+
+    ghost Follows = { λ seat p objects. HasPublished seat p.desk objects };
+
+    /// A step that still waits was not published for lack of memory.
+    fn take(&mut self, step: PolicyStep) -> Result<(), Memory> {
+        if self.desk.pending() {
+            return Err(AllocError);
+        }
+        publish(self.rt, &mut self.desk, step)
+    }
+}
+
+/// Publishes a step, if it changes something.
+#[tactic(auto, using(crate::proofs::Published::published_none, crate::proofs::Published::published_step))]
+fn publish<R: Wait>(rt: &R, desk: &mut Desk, step: PolicyStep) -> Result<(), Memory>
+    requires free { desk.old.waiting ≡ [] }
+    ensures desk { desk.new.desk ≡ desk.old.desk }
+    ensures opening { desk.new.opening ≡ desk.old.opening }
+    ensures waiting { OnOk result (desk.new.waiting ≡ []) }
+    ensures policy { OnOk result (after desk.new.opening desk.new.list ≡ after_changes step (after desk.old.opening desk.old.list)) }
+{
+    if step.is_empty() {
+        return Ok(());
+    }
+    match desk.publish(rt, step) {
+        Ok(_published) => Ok(()),
+        Err(_refused) => Err(AllocError),
     }
 }

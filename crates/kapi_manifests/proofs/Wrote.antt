@@ -4,7 +4,7 @@ use Rattle.std.proofs.lemmas.List.{length-append}
 use Rattle.serde_json.specs.Data.{Data}
 use Rattle.kapi_manifests.specs.Written.{AreLines, AreOf, IsTextOf}
 use Rattle.kapi_manifests.specs.declared.fault.Origin.{Origin}
-use Rattle.kapi_manifests.specs.declared.lines.Lines.{Lines}
+use Rattle.kapi_manifests.specs.declared.prepared.Lines.{Lines}
 
 -- one line more
 pub line_more : (text line : List ℕ) (ds : List Data) (d : Data) → AreLines text ds → IsTextOf line d → AreLines (text ++ (line ++ 10 ∷ [])) (ds ++ d ∷ [])

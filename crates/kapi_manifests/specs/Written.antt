@@ -10,7 +10,7 @@ use Rattle.kapi_manifests.specs.Made.{Names, made}
 use Rattle.kapi_manifests.specs.Standing.{standing_among, standing_namespaces, standing_objects}
 use Rattle.kapi_manifests.specs.Words.{words_if}
 use Rattle.kapi_manifests.specs.declared.fault.Origin.{Origin}
-use Rattle.kapi_manifests.specs.declared.lines.Lines.{Lines}
+use Rattle.kapi_manifests.specs.declared.prepared.Lines.{Lines}
 use Rattle.kapi_manifests.specs.declared.prepared.Prepared.{Prepared}
 use Rattle.kapi_manifests.specs.declared.sorted.Manifest.{Manifest}
 use Rattle.kapi_manifests.specs.declared.sorted.Scope.{Scope}

@@ -6,7 +6,6 @@ mod dangling;
 mod defaults;
 mod fault;
 mod kinds;
-mod lines;
 mod list;
 mod namespaces;
 mod place;

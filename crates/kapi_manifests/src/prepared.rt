@@ -1,5 +1,5 @@
 //! Files of manifests, made into lines.
-ghost use Rattle.std.specs.Prelude.{◌≡◌, Bool, ◌+◌, ◌++◌, IfOk, OnOk, filter, length, map};
+ghost use Rattle.std.specs.Prelude.{◌≡◌, Bool, ◌+◌, ◌++◌, IfOk, OnOk, filter, length, map, ◌∷◌, [], List};
 ghost use Rattle.kapi_manifests.specs.Files.{Takes, bad_pieces, data_of, sum_of};
 ghost use Rattle.kapi_manifests.specs.Dangling.{origin_of};
 ghost use Rattle.kapi_manifests.specs.Made.{made};
@@ -7,11 +7,11 @@ ghost use Rattle.kapi_manifests.specs.Standing.{object_told, standing_among, sta
 ghost use Rattle.kapi_manifests.specs.Written as written;
 ghost use Rattle.serde_json.specs.View.{view};
 ghost use Rattle.kapi_manifests.specs.Written.{AreNamed, AreOf, IsDangling, IsWritten, Loads, faults_in_all, objects_in_all};
+ghost use Rattle.serde_json.specs.Data.{Data};
 
 use crate::dangling::{Dangling, dangling_bindings};
 use crate::fault::{Fault, Origin};
 use crate::kinds::text_at;
-use crate::lines::Lines;
 use crate::namespaces::made_namespaces;
 use crate::reading::take_file;
 use crate::sorted::{Manifest, Options, Sorted};
@@ -186,4 +186,44 @@ fn write_lines(
     lines.push_all(alloc, beneath.as_slice())?;
     lines.push_all(alloc, objects)?;
     Ok(lines)
+}
+
+/// Objects, each in a line of its own, and where each begins.
+#[derive(Debug, Drop)]
+pub struct Lines {
+    pub text: Vec<u8>,
+    pub origins: Vec<Origin>,
+}
+
+impl Lines {
+    /// No lines.
+    pub fn new(alloc: Global) -> Lines
+        ensures text { result.text.items ≡ [] }
+        ensures origins { result.origins.items ≡ [] }
+    {
+        Lines {
+            text: Vec::new(alloc),
+            origins: Vec::new(alloc),
+        }
+    }
+
+    /// Adds a line for each object.
+    pub fn push_all(&mut self, alloc: Global, manifests: &[Manifest]) -> Result<(), Memory>
+        ensures { (ds : List Data) → AreOf self.old ds → OnOk result (AreOf self.new (ds ++ map data_of manifests.now)) }
+    {
+        for manifest in manifests {
+            self.push(alloc, manifest)?;
+        }
+        Ok(())
+    }
+
+    fn push(&mut self, alloc: Global, manifest: &Manifest) -> Result<(), Memory>
+        ensures { (ds : List Data) → AreOf self.old ds → OnOk result (AreOf self.new (ds ++ data_of manifest.now ∷ [])) }
+    {
+        let text = manifest.object.to_string(alloc)?;
+        self.text.extend_from_slice(text.as_bytes())?;
+        self.text.push(b'\n')?;
+        self.origins.push(manifest.origin)?;
+        Ok(())
+    }
 }

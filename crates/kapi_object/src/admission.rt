@@ -2,12 +2,11 @@ ghost use Rattle.std.specs.Prelude.{◌≡◌, ◌≤◌, [], true, false, Some,
 ghost use Rattle.serde_json.specs.Data.{Data, depth, object};
 ghost use Rattle.serde_json.specs.Find.{get};
 ghost use Rattle.serde_json.specs.Read.{max_depth};
-ghost use Rattle.serde_json.specs.View.{view, members_view};
+ghost use Rattle.serde_json.specs.View.{view, members_view, items_view};
 ghost use Rattle.serde_json.specs.Written as written;
 ghost use Rattle.kapi_text.specs.Gives.{Gives};
-ghost use Rattle.kapi_object.specs.Admission.{is_other, not_json, object_of, read_as, told};
+ghost use Rattle.kapi_object.specs.Admission.{is_other, not_json, object_of, read_as, told, version_of, admitted, faults_on};
 ghost use Rattle.kapi_object.specs.Admission as admission;
-ghost use Rattle.kapi_object.specs.Admission.{version_of, admitted, faults_on};
 ghost use Rattle.kapi_object.specs.Private.Kept.{is_kept as is_kept_of, kept_members};
 ghost use Rattle.kapi_object.specs.Given.{given_of};
 ghost use Rattle.kapi_object.specs.Given as gives;
@@ -15,9 +14,9 @@ ghost use Rattle.kapi_object.specs.Object.{tree_of};
 ghost use Rattle.kapi_object.specs.Order.{is_ordered};
 ghost use Rattle.kapi_object.specs.Tree.{json_object};
 ghost use Rattle.kapi_object.specs.Tree as trees;
+ghost use Rattle.serde_json.specs.Written.{items_have_float, members_have_float};
 
 use crate::contents::content;
-use crate::float::has_float;
 use crate::given::{Given, GivenText, given_in};
 use crate::metadata::collect_metadata_faults;
 use crate::object::Object;
@@ -267,4 +266,41 @@ pub fn read_object(alloc: Global, row: &ResourceRow, bytes: &[u8]) -> Result<Obj
     ensures clean { IfOk result (λ o. faults_on row.now.schema (tree_of o) ≡ []) }
 {
     admit_tree(alloc, row, read_tree(alloc, bytes)?)
+}
+
+/// Whether a number anywhere in the value reads as a float.
+#[cycle(float)]
+fn has_float(value: &Value) -> bool
+    ensures { result ≡ written.has_float (view value.now) }
+{
+    match value {
+        Value::Number(number) => number.is_f64(),
+        Value::Array(items) => some_item_has_float(items),
+        Value::Object(members) => some_member_has_float(members),
+        _other => false,
+    }
+}
+
+#[cycle(float)]
+fn some_item_has_float(items: &Vec<Value>) -> bool
+    ensures { result ≡ items_have_float (items_view items.now.items) }
+{
+    for item in items {
+        if has_float(item) {
+            return true;
+        }
+    }
+    false
+}
+
+#[cycle(float)]
+fn some_member_has_float(members: &Map<String, Value>) -> bool
+    ensures { result ≡ members_have_float (members_view members.now.entries) }
+{
+    for (_key, member) in members {
+        if has_float(member) {
+            return true;
+        }
+    }
+    false
 }

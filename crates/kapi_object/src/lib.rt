@@ -3,7 +3,6 @@
 
 mod admission;
 pub mod contents;
-mod float;
 pub mod given;
 mod merge;
 mod metadata;

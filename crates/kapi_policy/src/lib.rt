@@ -1,7 +1,6 @@
 //! Role-based access control: the policy objects, which requests they allow, and the rules that an identity holds.
 #![tactic(auto)]
 
-mod all;
 mod binding;
 mod change;
 mod copies;

@@ -16,7 +16,6 @@ mod forms;
 mod junit;
 mod kinds;
 mod manifests;
-mod names;
 mod play;
 mod played_case;
 mod replay;

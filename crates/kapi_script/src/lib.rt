@@ -1,7 +1,6 @@
 //! Scripts: a text's lines as events, and the lines of their answers.
 #![tactic(auto)]
 
-mod answer_text;
 pub mod laws;
 mod line;
 mod script;

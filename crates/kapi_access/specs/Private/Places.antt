@@ -8,8 +8,8 @@ use Rattle.std.specs.Ordering.{nat_cmp}
 use Rattle.std.specs.Str.{bytes_eq}
 use Rattle.kapi_model.specs.declared.policy_rule.PolicyRule.{PolicyRule}
 use Rattle.kapi_access.specs.Together.{lists_names}
-use Rattle.kapi_access.specs.declared.part.Part.{Part}
-use Rattle.kapi_access.specs.declared.part.Part.TheVariants as part
+use Rattle.kapi_access.specs.declared.joining.Part.{Part}
+use Rattle.kapi_access.specs.declared.joining.Part.TheVariants as part
 
 -- the texts, each in a line, and an empty line
 abbrev pub list_key : List (List ℕ) → List ℕ

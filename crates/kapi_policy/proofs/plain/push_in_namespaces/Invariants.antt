@@ -2,7 +2,7 @@ use Rattle.std.proofs.Common.{◌≡◌, ◌++◌}
 use Rattle.std.specs.Prelude.{map}
 use Rattle.kapi_policy.specs.All.{bindings_in_namespaces}
 use Rattle.kapi_policy.specs.Views.{binding_of}
-use Rattle.kapi_policy.proofs.all.push_in_namespaces.Given as goal
+use Rattle.kapi_policy.proofs.plain.push_in_namespaces.Given as goal
 
 abbrev pub invariant-loop-place : goal.invariant-loop-place
 invariant-loop-place l =

@@ -2,7 +2,7 @@ use Rattle.std.proofs.Common.{◌≡◌, ◌++◌}
 use Rattle.std.specs.Prelude.{map}
 use Rattle.kapi_policy.specs.Decided.{cluster_binding}
 use Rattle.kapi_policy.specs.Views.{binding_of}
-use Rattle.kapi_policy.proofs.all.push_cluster_wide.Given as goal
+use Rattle.kapi_policy.proofs.plain.push_cluster_wide.Given as goal
 
 abbrev pub invariant-loop-name : goal.invariant-loop-name
 invariant-loop-name l =

@@ -1,6 +1,6 @@
 use Rattle.std.proofs.Common.{ap, ◌++◌, ◌∷◌, [], ◌∙◌}
 use Rattle.kapi_manifests.proofs.Wrote.{pushed}
-use Rattle.kapi_manifests.proofs.lines.Lines.push.Goals as goal
+use Rattle.kapi_manifests.proofs.prepared.Lines.push.Goals as goal
 
 pub returns : goal.returns
 returns c = λ ds of.

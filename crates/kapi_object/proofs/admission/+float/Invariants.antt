@@ -1,7 +1,7 @@
 use Rattle.std.proofs.Common.{◌≡◌, drop}
 use Rattle.serde_json.specs.View.{items_view, members_view}
 use Rattle.serde_json.specs.Written.{items_have_float, members_have_float}
-use Rattle.kapi_object.proofs.float.+float.Given as goal
+use Rattle.kapi_object.proofs.admission.+float.Given as goal
 
 abbrev pub invariant-some_item_has_float-loop-item : goal.invariant-some_item_has_float-loop-item
 invariant-some_item_has_float-loop-item l =

@@ -3,7 +3,7 @@ use Rattle.std.proofs.Common.{rules, tests, lit<}
 use Rattle.std.proofs.lemmas.Iterator.Search.{all_from_yields_List}
 use Rattle.std.proofs.lemmas.Iterator.Splits.{YieldsList-from_str_split}
 use Rattle.kapi_replay.specs.Names.{is_name}
-use Rattle.kapi_replay.proofs.names.are_names_in.Goals as goal
+use Rattle.kapi_replay.proofs.form.are_names_in.Goals as goal
 
 pub returns : goal.returns
 returns c =
