@@ -16,6 +16,6 @@ pub use change::{NamespacedName, PolicyChange, PolicyKey, PolicyPut};
 pub use copies::copy_map;
 pub use decision::{BindingKind, Decision, Grant};
 pub use plain::PlainPolicy;
-pub use policy::{Policy, is_allowed};
+pub use policy::Policy;
 pub use step::PolicyStep;
 pub use walk::{grant_in, push_rules};

@@ -1,16 +1,12 @@
-ghost use Rattle.std.specs.Prelude.{◌≡◌, map, IfOk, OnErr, OnOk, ◌++◌};
+ghost use Rattle.std.specs.Prelude.{◌≡◌, IfOk, OnErr, OnOk};
 ghost use Rattle.std.specs.BTreeMap.{insert_entry};
-ghost use Rattle.kapi_policy.specs.All.{all_bindings, bindings_in_namespaces};
-ghost use Rattle.kapi_policy.specs.Views.{binding_of};
 ghost use Rattle.kapi_policy.specs.Objects.{PolicyObjects, name_cmp, no_objects, place_cmp, with_object, without_object};
-ghost use Rattle.kapi_policy.specs.Decided.{cluster_binding as cluster_binding_of};
 
-use crate::binding::Binding;
 use crate::change::{NamespacedName, PolicyChange, PolicyKey, PolicyPut};
 use crate::copies::copy_map;
 use crate::decision::Decision;
 use crate::policy::Policy;
-use crate::walk::{self, cluster_binding, namespace_binding};
+use crate::walk;
 use kapi_model::{
     ClusterRole, ClusterRoleBinding, Identity, PolicyRule, Role, RoleBinding, RoleRef,
 };
@@ -96,18 +92,6 @@ impl PlainPolicy {
         })
     }
 
-    /// The bindings that count somewhere, in the order in which they are checked: the cluster-wide ones, then those of
-    /// namespaces.
-    #[tactic(auto, unfolding(crate::specs::All::all_bindings))]
-    pub fn bindings(&self) -> Result<Vec<Binding<'_>>, Memory>
-        ensures { IfOk result (λ v. map binding_of v.items ≡ all_bindings self.now) }
-    {
-        let mut list = Vec::new(self.alloc);
-        push_cluster_wide(&mut list, self)?;
-        push_in_namespaces(&mut list, self)?;
-        Ok(list)
-    }
-
     /// Puts the object at its place. A failed allocation changes nothing.
     #[tactic(auto, unfolding(crate::specs::Objects::with_object))]
     fn put(&mut self, object: &PolicyPut) -> Result<(), Memory>
@@ -172,27 +156,4 @@ impl Policy for PlainPolicy {
     fn role_rules<'a>(&'a self, role: &RoleRef, namespace: &str) -> Option<&'a [PolicyRule]> {
         walk::role_rules(self, role, namespace)
     }
-}
-
-fn push_cluster_wide<'a>(list: &mut Vec<Binding<'a>>, policy: &'a PlainPolicy) -> Result<(), Memory>
-    ensures { OnOk result (map binding_of list.new.items ≡ map binding_of list.old.items ++ map cluster_binding_of policy.now.cluster_role_bindings) }
-{
-    for (name, bound) in &policy.cluster_role_bindings {
-        list.push(cluster_binding(name, bound))?;
-    }
-    Ok(())
-}
-
-fn push_in_namespaces<'a>(
-    list: &mut Vec<Binding<'a>>,
-    policy: &'a PlainPolicy,
-) -> Result<(), Memory>
-    ensures { OnOk result (map binding_of list.new.items ≡ map binding_of list.old.items ++ bindings_in_namespaces policy.now.role_bindings) }
-{
-    for (place, bound) in &policy.role_bindings {
-        if !place.namespace.as_str().is_empty() {
-            list.push(namespace_binding(place, bound))?;
-        }
-    }
-    Ok(())
 }

@@ -1,9 +1,6 @@
-ghost use Rattle.std.specs.Prelude.{◌≡◌, ◌||◌, IfOk, IsOk, OnErr, OnOk, option_copied};
-ghost use Rattle.std.specs.List.{list_any};
-ghost use Rattle.kapi_rules.specs.Rules.{allows as rule_allows};
+ghost use Rattle.std.specs.Prelude.{◌≡◌, IfOk, IsOk, OnErr, OnOk, option_copied};
 ghost use Rattle.kapi_policy.specs.Decided.{decided, held as held_by, rules_of};
 ghost use Rattle.kapi_policy.specs.Laws.{AreSameRules};
-ghost use Rattle.kapi_model.specs.Identities.{is_master};
 ghost use Rattle.kapi_policy.specs.Objects.{PolicyObjects, applied};
 ghost use Rattle.kapi_policy.specs.Views.{decision_of};
 ghost use Rattle.kapi_policy.specs.declared.change.PolicyKey.{PolicyKey};
@@ -43,17 +40,4 @@ pub trait Policy {
     /// The rules of the role that a binding in the namespace refers to, if it exists. Allocates nothing.
     fn role_rules<'a>(&'a self, role: &RoleRef, namespace: &str) -> Option<&'a [PolicyRule]>
         ensures { option_copied result ≡ rules_of (content self.now) role.now namespace.now };
-}
-
-/// Whether the identity may do this in the namespace: it is of the group `system:masters`, or some rule that it holds
-/// there allows the point. Allocates nothing.
-pub fn is_allowed<P: Policy>(
-    policy: &P,
-    identity: &Identity,
-    namespace: &str,
-    point: &Point,
-) -> bool
-    ensures { result ≡ (is_master identity.now || list_any (λ rule. rule_allows rule point.now) (held_by (P.content policy.now) identity.now namespace.now)) }
-{
-    policy.decide(identity, namespace, point).is_allowed()
 }

@@ -76,7 +76,7 @@ pub fn role_rules<'a>(
 // ---- one binding
 
 /// A ClusterRoleBinding of a name, as a binding of either kind.
-pub fn cluster_binding<'a>(name: &'a Text, binding: &'a ClusterRoleBinding) -> Binding<'a>
+fn cluster_binding<'a>(name: &'a Text, binding: &'a ClusterRoleBinding) -> Binding<'a>
     ensures { binding_of result ≡ cluster_binding_of (name.now, binding.now) }
 {
     Binding {
@@ -89,7 +89,7 @@ pub fn cluster_binding<'a>(name: &'a Text, binding: &'a ClusterRoleBinding) -> B
 }
 
 /// A RoleBinding at its place, as a binding of either kind.
-pub fn namespace_binding<'a>(place: &'a NamespacedName, binding: &'a RoleBinding) -> Binding<'a>
+fn namespace_binding<'a>(place: &'a NamespacedName, binding: &'a RoleBinding) -> Binding<'a>
     ensures { binding_of result ≡ namespace_binding_of (place.now, binding.now) }
 {
     Binding {
