@@ -12,7 +12,7 @@ use Rattle.std.specs.Str.{bytes_eq}
 use Rattle.kapi_model.specs.declared.policy_rule.PolicyRule.{PolicyRule}
 use Rattle.kapi_aggregation.specs.Keyed.{HaveRules, picked, rule_cmp, rule_of_key}
 use Rattle.kapi_aggregation.specs.Unions.{same_rule, same_texts, with_rule}
-use Rattle.kapi_aggregation.specs.declared.found.RuleKey.{RuleKey}
+use Rattle.kapi_aggregation.specs.declared.union.RuleKey.{RuleKey}
 
 texts_tied : (xs ys : List (List ℕ)) → same_texts xs ys ≡ is_eq (slice_cmp (slice_cmp nat_cmp) xs ys)
 texts_tied [] [] = refl

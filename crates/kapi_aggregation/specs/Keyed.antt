@@ -7,7 +7,7 @@ use Rattle.std.specs.Ordering.{nat_cmp, ordering_then}
 use Rattle.std.specs.declared.cmp.Ordering.{Ordering}
 use Rattle.kapi_model.specs.declared.policy_rule.PolicyRule.{PolicyRule}
 use Rattle.kapi_aggregation.specs.Unions.{same_rule}
-use Rattle.kapi_aggregation.specs.declared.found.RuleKey.{RuleKey}
+use Rattle.kapi_aggregation.specs.declared.union.RuleKey.{RuleKey}
 
 -- the rule that a key is of
 abbrev pub rule_of_key : RuleKey → PolicyRule

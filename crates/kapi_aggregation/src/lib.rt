@@ -2,7 +2,6 @@
 //! (Kubernetes, 'Using RBAC Authorization', 'Aggregated ClusterRoles').
 #![tactic(auto)]
 
-mod found;
 pub mod laws;
 mod roles;
 mod same;

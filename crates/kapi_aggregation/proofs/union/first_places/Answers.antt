@@ -2,7 +2,7 @@ use Rattle.std.proofs.Common.{◌≡◌, ◌+◌, ◌∙◌, [], ◌∷◌, ◌+
 use Rattle.std.proofs.Math.Seq.{take-suc}
 use Rattle.kapi_model.specs.declared.policy_rule.PolicyRule.{PolicyRule}
 use Rattle.kapi_aggregation.proofs.Keyed.{Passed, passed_more}
-use Rattle.kapi_aggregation.proofs.found.first_places.Goals as goal
+use Rattle.kapi_aggregation.proofs.union.first_places.Goals as goal
 
 pub loop-rule-preserved : goal.loop-rule-preserved
 loop-rule-preserved c =

@@ -3,7 +3,7 @@ use Rattle.std.proofs.lemmas.Grind.{common_steps}
 use Rattle.std.specs.Vec.Iter.{into_iter_items}
 use Rattle.kapi_aggregation.proofs.Keyed.{picked_none}
 use Rattle.kapi_aggregation.specs.Keyed.{picked}
-use Rattle.kapi_aggregation.proofs.found.each_once.Goals as goal
+use Rattle.kapi_aggregation.proofs.union.each_once.Goals as goal
 
 pub returns : goal.returns
 returns c =
