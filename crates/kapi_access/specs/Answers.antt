@@ -16,14 +16,14 @@ use Rattle.kapi_access.specs.declared.answer.Form.TheVariants as form
 use Rattle.kapi_access.specs.declared.answer.Shown.{Shown}
 use Rattle.kapi_access.specs.declared.answer.Shown.TheVariants as shown
 use Rattle.kapi_access.specs.declared.question.Wanted.{Wanted}
-use Rattle.kapi_access.specs.declared.table.Row.{Row}
+use Rattle.kapi_access.specs.declared.table.Cells.{Cells}
 
 -- the rules that give much, and then the others, each in their order
 abbrev pub grave_first : List GainedRule → List GainedRule
 grave_first gains = filter (λ g. is_grave g.gain) gains ++ filter (λ g. not (is_grave g.gain)) gains
 
 -- a row for each gain
-abbrev pub gain_rows : Shown → List Gained → List Row
+abbrev pub gain_rows : Shown → List Gained → List Cells
 gain_rows shown.Rules gains = map gained_rule_row (grave_first (by_rule gains))
 gain_rows shown.Atoms gains = map gain_row gains
 

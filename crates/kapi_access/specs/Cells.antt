@@ -17,7 +17,7 @@ use Rattle.kapi_access.specs.declared.grantee.Grantee.{Grantee}
 use Rattle.kapi_access.specs.declared.grantee.Grantee.TheVariants as grantee
 use Rattle.kapi_lines.specs.Escapes.{escaped}
 use Rattle.kapi_reply.specs.Status.{atom_list}
-use Rattle.kapi_access.specs.declared.table.Row.{Row}
+use Rattle.kapi_access.specs.declared.table.Cells.{Cells}
 
 -- ---- their words
 
@@ -115,7 +115,7 @@ atom_cell a = escaped (compact_text (atom_list a))
 -- ---- the lines
 
 -- what a subject gains where, and by what
-abbrev pub gain_row : Gained → Row
+abbrev pub gain_row : Gained → Cells
 gain_row g = record {
   first = subject_cell g.to;
   second = namespace_cell g.binding.namespace;
@@ -125,7 +125,7 @@ gain_row g = record {
 }
 
 -- what a subject gains by a rule where, and by what
-abbrev pub gained_rule_row : GainedRule → Row
+abbrev pub gained_rule_row : GainedRule → Cells
 gained_rule_row g = record {
   first = subject_cell g.to;
   second = namespace_cell g.binding.namespace;
@@ -135,7 +135,7 @@ gained_rule_row g = record {
 }
 
 -- by what a subject may do something where
-abbrev pub way_row : Way → Row
+abbrev pub way_row : Way → Cells
 way_row w = record {
   first = subject_cell w.to;
   second = namespace_cell w.binding.namespace;
@@ -145,13 +145,13 @@ way_row w = record {
 }
 
 -- the heads of columns of gains
-abbrev pub gains_head : Row
+abbrev pub gains_head : Cells
 gains_head = record { first = codes "SUBJECT"; second = codes "NAMESPACE"; third = codes "GAINS"; fourth = []; last = codes "BY" }
 
 -- the heads of columns of ways
-abbrev pub ways_head : Row
+abbrev pub ways_head : Cells
 ways_head = record { first = codes "SUBJECT"; second = codes "NAMESPACE"; third = codes "BINDING"; fourth = []; last = codes "RULE" }
 
 -- members of this group may do everything, without a binding
-abbrev pub masters_row : Row
+abbrev pub masters_row : Cells
 masters_row = record { first = codes "Group system:masters"; second = codes "*"; third = codes "-"; fourth = []; last = codes "everything" }

@@ -18,7 +18,7 @@ use Rattle.kapi_access.specs.Tables.{table_below}
 use Rattle.kapi_access.specs.declared.answer.Form.{Form}
 use Rattle.kapi_access.specs.declared.answer.Form.TheVariants as form
 use Rattle.kapi_access.specs.declared.rights.Holder.{Holder}
-use Rattle.kapi_access.specs.declared.table.Row.{Row}
+use Rattle.kapi_access.specs.declared.table.Cells.{Cells}
 
 -- ---- cells
 
@@ -33,7 +33,7 @@ all_given list = drop 2 (flat_map (λ by. 59 ∷ 32 ∷ given_text by) list)
 -- ---- lines
 
 -- a rule, its scope, and by what it is given
-abbrev pub right_row : ScopedRule × List GivenBy → Row
+abbrev pub right_row : ScopedRule × List GivenBy → Cells
 right_row line = record {
   first = escaped (listed line.0.rule.verbs);
   second = escaped (without_comma (targets line.0.rule));
@@ -43,11 +43,11 @@ right_row line = record {
 }
 
 -- the heads of the columns
-abbrev pub rights_head : Row
+abbrev pub rights_head : Cells
 rights_head = record { first = codes "VERBS"; second = codes "RESOURCES"; third = codes "NAMES"; fourth = codes "SCOPE"; last = codes "BY" }
 
 -- members of `system:masters` may do everything, without a binding
-abbrev pub everything_row : Row
+abbrev pub everything_row : Cells
 everything_row = record { first = codes "*"; second = codes "*"; third = codes "-"; fourth = codes "*"; last = codes "Group system:masters" }
 
 -- a binding and the index of its role's rule
@@ -73,7 +73,7 @@ right_line line = compact_text (right_tree line) ++ 10 ∷ []
 -- ---- the answer
 
 -- the first row for a member of `system:masters`
-abbrev pub first_rows : Bool → List Row
+abbrev pub first_rows : Bool → List Cells
 first_rows master = if master then everything_row ∷ [] else []
 
 -- the first line for a member of `system:masters`

@@ -3,7 +3,7 @@ use Rattle.std.specs.Prelude.{ℕ, ◌-◌, ◌==◌, max, if◌then◌else◌, 
 use Rattle.std.specs.List.{flat_map}
 use Rattle.kapi_access.specs.declared.answer.Form.{Form}
 use Rattle.kapi_access.specs.declared.answer.Form.TheVariants as form
-use Rattle.kapi_access.specs.declared.table.Row.{Row}
+use Rattle.kapi_access.specs.declared.table.Cells.{Cells}
 use Rattle.kapi_access.specs.declared.table.Widths.{Widths}
 
 -- a cell with spaces up to the width of its column, and two more; a column without text is left out
@@ -11,12 +11,12 @@ abbrev pub padded : ℕ → List ℕ → List ℕ
 padded width cell = if width == 0 then [] else cell ++ (replicate (width - length cell) 32 ++ 32 ∷ 32 ∷ [])
 
 -- the line of a row; nothing stands behind its last cell
-abbrev pub row_line : Widths → Row → List ℕ
+abbrev pub row_line : Widths → Cells → List ℕ
 row_line w r =
     padded w.first r.first ++ (padded w.second r.second ++ (padded w.third r.third ++ (padded w.fourth r.fourth ++ (r.last ++ 10 ∷ []))))
 
 -- the widths, and more if the cells of a row are longer
-abbrev pub wider : Widths → Row → Widths
+abbrev pub wider : Widths → Cells → Widths
 wider w r = record {
   first = max w.first (length r.first);
   second = max w.second (length r.second);
@@ -25,16 +25,16 @@ wider w r = record {
 }
 
 -- the widths that some rows need besides
-abbrev pub widened : Widths → List Row → Widths
+abbrev pub widened : Widths → List Cells → Widths
 widened w [] = w
 widened w (r ∷ rows) = widened (wider w r) rows
 
 -- the widths of the columns but the last
-abbrev pub widths_of : List Row → Widths
+abbrev pub widths_of : List Cells → Widths
 widths_of rows = widened (record { first = 0; second = 0; third = 0; fourth = 0 }) rows
 
 -- the lines of the rows
-unfoldable pub table : List Row → List ℕ
+unfoldable pub table : List Cells → List ℕ
 table rows = flat_map (row_line (widths_of rows)) rows
 
 -- ---- Markdown
@@ -48,17 +48,17 @@ unfoldable pub barred : List ℕ → ℕ → List ℕ → List ℕ
 barred space width cell = if width == 0 then [] else space ++ (flat_map piped cell ++ (space ++ 124 ∷ []))
 
 -- the line of a row
-abbrev pub bar_line : List ℕ → Widths → Row → List ℕ
+abbrev pub bar_line : List ℕ → Widths → Cells → List ℕ
 bar_line space w r =
     124 ∷ (barred space w.first r.first ++ (barred space w.second r.second ++ (barred space w.third r.third
     ++ (barred space w.fourth r.fourth ++ (barred space 1 r.last ++ 10 ∷ [])))))
 
 -- the cells below the heads
-abbrev pub dashes : Row
+abbrev pub dashes : Cells
 dashes = record { first = codes "---"; second = codes "---"; third = codes "---"; fourth = codes "---"; last = codes "---" }
 
 -- the lines of the rows, of which the first has the heads
-unfoldable pub markdown : List Row → List ℕ
+unfoldable pub markdown : List Cells → List ℕ
 markdown [] = []
 markdown (head ∷ rows) =
     bar_line (codes " ") (widths_of (head ∷ rows)) head
@@ -67,11 +67,11 @@ markdown (head ∷ rows) =
 -- ---- either
 
 -- the rows as a table of the form
-abbrev pub table_in : Form → List Row → List ℕ
+abbrev pub table_in : Form → List Cells → List ℕ
 table_in form.Markdown rows = markdown rows
 table_in form.Table rows = table rows
 table_in form.Json rows = table rows
 
 -- the rows below their heads, or some words if there are none
-abbrev pub table_below : Form → List ℕ → Row → List Row → List ℕ
+abbrev pub table_below : Form → List ℕ → Cells → List Cells → List ℕ
 table_below f none head rows = if length rows == 0 then none else table_in f (head ∷ rows)

@@ -20,7 +20,7 @@ use crate::identities::Identities;
 use crate::members::{push_gain, push_way};
 use crate::question::Wanted;
 use crate::risky::{is_grave, risks};
-use crate::table::{Row, push_below, push_table};
+use crate::table::{Cells, push_below, push_table};
 use crate::way::Way;
 use kapi_policy::{Binding, Policy};
 use kapi_text::Memory;
@@ -48,7 +48,7 @@ pub enum Shown {
 
 // ---- gains
 
-fn atom_rows(alloc: Global, gains: &[Gain<'_>]) -> Result<Vec<Row>, Memory>
+fn atom_rows(alloc: Global, gains: &[Gain<'_>]) -> Result<Vec<Cells>, Memory>
     ensures { IfOk result (λ v. v.items ≡ map cells.gain_row (map gain_of gains.now)) }
 {
     let mut rows = Vec::new(alloc);
@@ -61,7 +61,7 @@ fn atom_rows(alloc: Global, gains: &[Gain<'_>]) -> Result<Vec<Row>, Memory>
 // The rows of the grave gains, or of the others.
 fn push_rule_rows(
     alloc: Global,
-    rows: &mut Vec<Row>,
+    rows: &mut Vec<Cells>,
     gains: &[GainedRule<'_>],
     grave: bool,
 ) -> Result<(), Memory>
@@ -75,7 +75,7 @@ fn push_rule_rows(
     Ok(())
 }
 
-fn rule_rows(alloc: Global, gains: Vec<Gain<'_>>) -> Result<Vec<Row>, Memory>
+fn rule_rows(alloc: Global, gains: Vec<Gain<'_>>) -> Result<Vec<Cells>, Memory>
     ensures { IfOk result (λ v. v.items ≡ map cells.gained_rule_row (answers.grave_first (by_rule_of (map gain_of gains.entry.items)))) }
 {
     let list = by_rule(alloc, gains)?;
@@ -161,7 +161,7 @@ pub fn answer_compare<P: Policy, Q: Policy>(
 
 // ---- ways
 
-fn way_rows(alloc: Global, ways: &[Way<'_>]) -> Result<Vec<Row>, Memory>
+fn way_rows(alloc: Global, ways: &[Way<'_>]) -> Result<Vec<Cells>, Memory>
     ensures { IfOk result (λ v. v.items ≡ cells.ways_head ∷ cells.masters_row ∷ map cells.way_row (map way_of ways.now)) }
 {
     let mut rows = Vec::new(alloc);

@@ -12,7 +12,7 @@ use crate::gained_rules::GainedRule;
 use crate::grantee::Grantee;
 use crate::question::split_at_slash;
 use crate::risky::is_grave;
-use crate::table::{Row, words};
+use crate::table::{Cells, words};
 use crate::way::Way;
 use kapi_lines::write_escaped;
 use kapi_model::{PolicyRule, RoleRef};
@@ -298,10 +298,10 @@ fn marked_cell(alloc: Global, rule: &PolicyRule) -> Result<Sequence<u8>, Memory>
 // ---- rows
 
 /// The cells of a gain.
-pub fn gain_row(alloc: Global, gain: &Gain<'_>) -> Result<Row, Memory>
+pub fn gain_row(alloc: Global, gain: &Gain<'_>) -> Result<Cells, Memory>
     ensures { IfOk result (λ r. r ≡ cells.gain_row (gain_of gain.now)) }
 {
-    Ok(Row {
+    Ok(Cells {
         first: subject_cell(alloc, &gain.to)?,
         second: namespace_cell(alloc, gain.binding.namespace)?,
         third: atom_cell(alloc, &gain.gain)?,
@@ -311,10 +311,10 @@ pub fn gain_row(alloc: Global, gain: &Gain<'_>) -> Result<Row, Memory>
 }
 
 /// The cells of a gain by a rule.
-pub fn gained_rule_row(alloc: Global, gain: &GainedRule<'_>) -> Result<Row, Memory>
+pub fn gained_rule_row(alloc: Global, gain: &GainedRule<'_>) -> Result<Cells, Memory>
     ensures { IfOk result (λ r. r ≡ cells.gained_rule_row (gained_rule_of gain.now)) }
 {
-    Ok(Row {
+    Ok(Cells {
         first: subject_cell(alloc, &gain.to)?,
         second: namespace_cell(alloc, gain.binding.namespace)?,
         third: marked_cell(alloc, &gain.gain)?,
@@ -324,10 +324,10 @@ pub fn gained_rule_row(alloc: Global, gain: &GainedRule<'_>) -> Result<Row, Memo
 }
 
 /// The cells of a way.
-pub fn way_row(alloc: Global, way: &Way<'_>) -> Result<Row, Memory>
+pub fn way_row(alloc: Global, way: &Way<'_>) -> Result<Cells, Memory>
     ensures { IfOk result (λ r. r ≡ cells.way_row (way_of way.now)) }
 {
-    Ok(Row {
+    Ok(Cells {
         first: subject_cell(alloc, &way.to)?,
         second: namespace_cell(alloc, way.binding.namespace)?,
         third: binding_cell(alloc, &way.binding)?,
@@ -337,21 +337,21 @@ pub fn way_row(alloc: Global, way: &Way<'_>) -> Result<Row, Memory>
 }
 
 /// The heads of the columns of gains.
-pub fn gains_head(alloc: Global) -> Result<Row, Memory>
+pub fn gains_head(alloc: Global) -> Result<Cells, Memory>
     ensures { IfOk result (λ r. r ≡ cells.gains_head) }
 {
     words(alloc, b"SUBJECT", b"NAMESPACE", b"GAINS", b"", b"BY")
 }
 
 /// The heads of the columns of ways.
-pub fn ways_head(alloc: Global) -> Result<Row, Memory>
+pub fn ways_head(alloc: Global) -> Result<Cells, Memory>
     ensures { IfOk result (λ r. r ≡ cells.ways_head) }
 {
     words(alloc, b"SUBJECT", b"NAMESPACE", b"BINDING", b"", b"RULE")
 }
 
 /// The cells of the group whose members may do everything.
-pub fn masters_row(alloc: Global) -> Result<Row, Memory>
+pub fn masters_row(alloc: Global) -> Result<Cells, Memory>
     ensures { IfOk result (λ r. r ≡ cells.masters_row) }
 {
     words(

@@ -14,7 +14,7 @@ use crate::answer::{Form, MASTERS_LINE};
 use crate::cells::{binding_kind, escape, namespace_cell, targets_cell, text_of_grant, texts_cell};
 use crate::given::{GivenBy, given_lines, what};
 use crate::scoped::ScopedRule;
-use crate::table::{Row, push_below, words};
+use crate::table::{Cells, push_below, words};
 use kapi_model::Identity;
 use kapi_object::tree_form::{ToTree, put_string};
 use kapi_policy::{Binding, Policy};
@@ -66,10 +66,10 @@ fn given_cell(alloc: Global, list: &[GivenBy]) -> Result<Sequence<u8>, Memory>
     escape(alloc, behind_two(text.as_slice()))
 }
 
-fn right_row(alloc: Global, at: &ScopedRule, by: &[GivenBy]) -> Result<Row, Memory>
+fn right_row(alloc: Global, at: &ScopedRule, by: &[GivenBy]) -> Result<Cells, Memory>
     ensures { IfOk result (λ r. r ≡ printed.right_row (at.now, by.now)) }
 {
-    Ok(Row {
+    Ok(Cells {
         first: texts_cell(alloc, at.rule.verbs.as_slice())?,
         second: targets_cell(alloc, &at.rule)?,
         third: texts_cell(alloc, at.rule.resource_names.as_slice())?,
@@ -146,7 +146,7 @@ fn is_within(within: &Option<Text>, namespace: &str) -> bool
 
 fn push_rows(
     alloc: Global,
-    rows: &mut Vec<Row>,
+    rows: &mut Vec<Cells>,
     within: &Option<Text>,
     lines: &BTreeMap<ScopedRule, Sequence<GivenBy>>,
 ) -> Result<(), Memory>
@@ -176,13 +176,13 @@ fn push_rights(
     Ok(())
 }
 
-fn rights_head(alloc: Global) -> Result<Row, Memory>
+fn rights_head(alloc: Global) -> Result<Cells, Memory>
     ensures { IfOk result (λ r. r ≡ printed.rights_head) }
 {
     words(alloc, b"VERBS", b"RESOURCES", b"NAMES", b"SCOPE", b"BY")
 }
 
-fn everything_row(alloc: Global) -> Result<Row, Memory>
+fn everything_row(alloc: Global) -> Result<Cells, Memory>
     ensures { IfOk result (λ r. r ≡ printed.everything_row) }
 {
     words(alloc, b"*", b"*", b"-", b"*", b"Group system:masters")
@@ -195,7 +195,7 @@ fn rights_rows(
     master: bool,
     within: &Option<Text>,
     lines: &BTreeMap<ScopedRule, Sequence<GivenBy>>,
-) -> Result<Vec<Row>, Memory>
+) -> Result<Vec<Cells>, Memory>
     ensures { IfOk result (λ v. v.items ≡ printed.first_rows master ++ map printed.right_row (lines_within within.now lines.now.entries)) }
 {
     let mut rows = Vec::new(alloc);

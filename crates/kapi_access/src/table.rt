@@ -11,7 +11,7 @@ use std::alloc::Global;
 
 /// The cells of a line. A column in which no row has text is left out.
 #[derive(Drop)]
-pub struct Row {
+pub struct Cells {
     pub first: Sequence<u8>,
     pub second: Sequence<u8>,
     pub third: Sequence<u8>,
@@ -27,10 +27,10 @@ pub fn words(
     third: &[u8],
     fourth: &[u8],
     last: &[u8],
-) -> Result<Row, Memory>
+) -> Result<Cells, Memory>
     ensures { IfOk result (λ r. r ≡ record { first = first.now; second = second.now; third = third.now; fourth = fourth.now; last = last.now }) }
 {
-    Ok(Row {
+    Ok(Cells {
         first: copy_of(alloc, first)?,
         second: copy_of(alloc, second)?,
         third: copy_of(alloc, third)?,
@@ -48,7 +48,7 @@ struct Widths {
     fourth: usize,
 }
 
-fn wider(widths: Widths, row: &Row) -> Widths
+fn wider(widths: Widths, row: &Cells) -> Widths
     ensures { result ≡ tables.wider widths row.now }
 {
     Widths {
@@ -59,7 +59,7 @@ fn wider(widths: Widths, row: &Row) -> Widths
     }
 }
 
-fn column_widths(rows: &[Row]) -> Widths
+fn column_widths(rows: &[Cells]) -> Widths
     ensures { result ≡ widths_of rows.now }
 {
     let mut widths = Widths {
@@ -94,7 +94,7 @@ fn push_padded(text: &mut Vec<u8>, width: usize, cell: &[u8]) -> Result<(), Memo
     text.extend_from_slice(b"  ")
 }
 
-fn push_row(text: &mut Vec<u8>, widths: Widths, row: &Row) -> Result<(), Memory>
+fn push_row(text: &mut Vec<u8>, widths: Widths, row: &Cells) -> Result<(), Memory>
     ensures { OnOk result (text.new.items ≡ text.old.items ++ row_line widths row.now) }
 {
     push_padded(text, widths.first, row.first.as_slice())?;
@@ -107,7 +107,7 @@ fn push_row(text: &mut Vec<u8>, widths: Widths, row: &Row) -> Result<(), Memory>
 
 /// The lines of the rows, their cells below one another.
 #[tactic(auto, unfolding(crate::specs::Tables::table))]
-fn push_columns(text: &mut Vec<u8>, rows: &[Row]) -> Result<(), Memory>
+fn push_columns(text: &mut Vec<u8>, rows: &[Cells]) -> Result<(), Memory>
     ensures { OnOk result (text.new.items ≡ text.old.items ++ tables.table rows.now) }
 {
     let widths = column_widths(rows);
@@ -151,7 +151,7 @@ fn push_barred(text: &mut Vec<u8>, space: &[u8], width: usize, cell: &[u8]) -> R
     text.extend_from_slice(b"|")
 }
 
-fn push_bars(text: &mut Vec<u8>, space: &[u8], widths: Widths, row: &Row) -> Result<(), Memory>
+fn push_bars(text: &mut Vec<u8>, space: &[u8], widths: Widths, row: &Cells) -> Result<(), Memory>
     ensures { OnOk result (text.new.items ≡ text.old.items ++ tables.bar_line space.now widths row.now) }
 {
     text.extend_from_slice(b"|")?;
@@ -163,7 +163,7 @@ fn push_bars(text: &mut Vec<u8>, space: &[u8], widths: Widths, row: &Row) -> Res
     text.extend_from_slice(b"\n")
 }
 
-fn push_all_bars(text: &mut Vec<u8>, widths: Widths, rows: &[Row]) -> Result<(), Memory>
+fn push_all_bars(text: &mut Vec<u8>, widths: Widths, rows: &[Cells]) -> Result<(), Memory>
     ensures { OnOk result (text.new.items ≡ text.old.items ++ flat_map (tables.bar_line (codes " ") widths) rows.now) }
 {
     for row in rows {
@@ -172,14 +172,14 @@ fn push_all_bars(text: &mut Vec<u8>, widths: Widths, rows: &[Row]) -> Result<(),
     Ok(())
 }
 
-fn dashes(alloc: Global) -> Result<Row, Memory>
+fn dashes(alloc: Global) -> Result<Cells, Memory>
     ensures { IfOk result (λ r. r ≡ tables.dashes) }
 {
     words(alloc, b"---", b"---", b"---", b"---", b"---")
 }
 
 #[tactic(auto, unfolding(crate::specs::Tables::markdown))]
-fn push_markdown(alloc: Global, text: &mut Vec<u8>, rows: &[Row]) -> Result<(), Memory>
+fn push_markdown(alloc: Global, text: &mut Vec<u8>, rows: &[Cells]) -> Result<(), Memory>
     ensures { OnOk result (text.new.items ≡ text.old.items ++ tables.markdown rows.now) }
 {
     let widths = column_widths(rows);
@@ -195,7 +195,12 @@ fn push_markdown(alloc: Global, text: &mut Vec<u8>, rows: &[Row]) -> Result<(), 
 // ---- either
 
 /// The rows as a table of the form.
-pub fn push_table(alloc: Global, form: Form, text: &mut Vec<u8>, rows: &[Row]) -> Result<(), Memory>
+pub fn push_table(
+    alloc: Global,
+    form: Form,
+    text: &mut Vec<u8>,
+    rows: &[Cells],
+) -> Result<(), Memory>
     ensures { OnOk result (text.new.items ≡ text.old.items ++ tables.table_in form rows.now) }
 {
     match form {
@@ -211,8 +216,8 @@ pub fn push_below(
     form: Form,
     text: &mut Vec<u8>,
     none: &[u8],
-    head: Row,
-    rows: Vec<Row>,
+    head: Cells,
+    rows: Vec<Cells>,
 ) -> Result<(), Memory>
     ensures { OnOk result (text.new.items ≡ text.old.items ++ tables.table_below form none.now head rows.items) }
 {

@@ -3,7 +3,7 @@ ghost use Rattle.kapi_watch.specs.Running.{at_place};
 
 use crate::watch::Watching;
 use kapi_text::Memory;
-use kapi_watch::Place;
+use kapi_watch::Cursor;
 use std::alloc::Global;
 use std::marker::Model;
 
@@ -40,7 +40,7 @@ impl KeptWatch {
     }
 
     /// Moves the watch to a place.
-    pub fn shown(&mut self, place: Place)
+    pub fn shown(&mut self, place: Cursor)
         ensures { self.new ≡ record self.old { watch = at_place self.old.watch place } }
     {
         self.block.watch.shown(place);

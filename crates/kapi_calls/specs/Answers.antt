@@ -8,7 +8,7 @@ use Rattle.kapi_calls.specs.declared.answering.Answer.{Answer}
 use Rattle.kapi_calls.specs.declared.fault.CallFault.{CallFault}
 use Rattle.kapi_calls.specs.declared.fault.CallFault.TheVariants as fault
 use Rattle.kapi_calls.specs.declared.passed.Call.{Call}
-use Rattle.kapi_calls.specs.declared.reading.Asked.{Asked}
+use Rattle.kapi_calls.specs.declared.reading.AccessQuestion.{AccessQuestion}
 use Rattle.kapi_calls.specs.Faults.{code_of}
 use Rattle.kapi_calls.specs.Given.{Given}
 use Rattle.kapi_calls.specs.Lists.{ArePaths, listed, paths_given, settled_with}
@@ -21,7 +21,7 @@ number_of (allowed g) = 1
 number_of masters = 2
 
 -- what is decided of what is asked
-abbrev pub decided_of : Engine → Asked → Decided
+abbrev pub decided_of : Engine → AccessQuestion → Decided
 decided_of engine asked = decided engine.policy asked.identity asked.namespace asked.point
 
 abbrev pub number_alone : Decided → Given

@@ -33,7 +33,7 @@ use Rattle.kapi_calls.specs.declared.fault.CallFault.{CallFault}
 use Rattle.kapi_calls.specs.declared.fault.CallFault.TheVariants as fault
 use Rattle.kapi_calls.specs.declared.passed.Call.{Call}
 use Rattle.kapi_calls.specs.declared.passed.PassedQuestion.{PassedQuestion}
-use Rattle.kapi_calls.specs.declared.reading.Asked.{Asked}
+use Rattle.kapi_calls.specs.declared.reading.AccessQuestion.{AccessQuestion}
 use Rattle.kapi_calls.specs.Given.{Given, bit}
 use Rattle.kapi_calls.specs.Questions.{identity_of, question_of, text_of, texts_of}
 
@@ -50,7 +50,7 @@ scope_of anywhere namespace (point.Resource p) =
     if anywhere then scope.Everywhere else (if length namespace == 0 then scope.Cluster else scope.Namespace namespace)
 
 -- who may do what is asked, whoever the user is
-abbrev pub who_of : Engine → Form → Bool → Asked → List ℕ
+abbrev pub who_of : Engine → Form → Bool → AccessQuestion → List ℕ
 who_of engine f anywhere asked =
     who_text f engine.policy (record { scope = scope_of anywhere asked.namespace asked.point; point = asked.point })
 

@@ -10,7 +10,7 @@ use Rattle.kapi_calls.specs.declared.fault.CallFault.{CallFault}
 use Rattle.kapi_calls.specs.declared.fault.CallFault.TheVariants as fault
 use Rattle.kapi_calls.specs.declared.passed.PassedText.{PassedText}
 use Rattle.kapi_calls.specs.declared.passed.PassedQuestion.{PassedQuestion}
-use Rattle.kapi_calls.specs.declared.reading.Asked.{Asked}
+use Rattle.kapi_calls.specs.declared.reading.AccessQuestion.{AccessQuestion}
 use Rattle.kapi_calls.specs.Each.{each}
 
 -- bytes as a text
@@ -67,7 +67,7 @@ unfoldable pub identity_of : PassedQuestion → Result Identity CallFault
 identity_of q = text_of q.user.now >>= λ user. texts_of q.groups.now >>= λ groups. Ok (record { user = user; groups = groups })
 
 -- the question: a path is asked about cluster-wide
-unfoldable pub question_of : PassedQuestion → Result Asked CallFault
+unfoldable pub question_of : PassedQuestion → Result AccessQuestion CallFault
 question_of q =
     identity_of q >>= λ identity.
     if length q.path.now == 0

@@ -12,7 +12,7 @@ ghost use Rattle.kapi_calls.specs.Views.{told};
 use crate::fault::CallFault;
 use crate::listing::{list, paths, settled_with};
 use crate::passed::Call;
-use crate::reading::{Asked, read_question};
+use crate::reading::{AccessQuestion, read_question};
 use kapi_engine::{Engine, decision_line};
 use kapi_policy::Decision;
 use kapi_text::Memory;
@@ -45,7 +45,7 @@ fn number(decision: &Decision<'_>) -> u32
 }
 
 /// The number of what is decided.
-pub fn number_decided(engine: &Engine, asked: &Asked) -> u32
+pub fn number_decided(engine: &Engine, asked: &AccessQuestion) -> u32
     ensures { result ≡ number_of (decided_of engine.now asked.now) }
 {
     let namespace = asked.namespace.as_str();
@@ -53,7 +53,7 @@ pub fn number_decided(engine: &Engine, asked: &Asked) -> u32
 }
 
 /// What is decided, without a text.
-fn decided(engine: &Engine, asked: &Asked, alloc: Global) -> Found
+fn decided(engine: &Engine, asked: &AccessQuestion, alloc: Global) -> Found
     ensures { told result ≡ number_alone (decided_of engine.now asked.now) }
 {
     Found {
@@ -63,7 +63,7 @@ fn decided(engine: &Engine, asked: &Asked, alloc: Global) -> Found
 }
 
 /// What is decided, and its line.
-fn with_line(alloc: Global, engine: &Engine, asked: &Asked) -> Result<Found, Memory>
+fn with_line(alloc: Global, engine: &Engine, asked: &AccessQuestion) -> Result<Found, Memory>
     ensures { IfOk result (λ g. told g ≡ told_with_line (decided_of engine.now asked.now)) }
 {
     let namespace = asked.namespace.as_str();

@@ -14,5 +14,5 @@ pub use answering::Answer;
 pub use batch::decide_batch;
 pub use fault::CallFault;
 pub use passed::{Call, PassedQuestion, PassedText};
-pub use reading::{Asked, read_question};
+pub use reading::{AccessQuestion, read_question};
 pub use shared::{Shared, answer_shared, share};

@@ -15,7 +15,7 @@ use std::alloc::Global;
 
 /// Whether an identity may do something in a namespace, or cluster-wide if the namespace is empty.
 #[derive(Debug, Drop)]
-pub struct Asked {
+pub struct AccessQuestion {
     pub identity: Identity,
     pub namespace: Text,
     pub point: Point,
@@ -157,19 +157,22 @@ fn resource_point(alloc: Global, passed: &PassedQuestion<'_>) -> Result<Point, C
 /// # Errors
 /// `Text` if a text is no UTF-8, `Question` if a review refuses the resource, `Memory` if memory runs out.
 #[tactic(auto, unfolding(crate::specs::Questions::question_of))]
-pub fn read_question(alloc: Global, passed: &PassedQuestion<'_>) -> Result<Asked, CallFault>
+pub fn read_question(
+    alloc: Global,
+    passed: &PassedQuestion<'_>,
+) -> Result<AccessQuestion, CallFault>
     ensures { Gives fault_told (λ q. q) result (question_of passed.now) }
 {
     let identity = read_identity(alloc, passed)?;
     if !passed.path.is_empty() {
-        return Ok(Asked {
+        return Ok(AccessQuestion {
             identity,
             namespace: Text::copy_of(alloc, "")?,
             point: path_point(alloc, passed)?,
         });
     }
     let namespace = read_text(alloc, passed.namespace)?;
-    Ok(Asked {
+    Ok(AccessQuestion {
         identity,
         namespace,
         point: resource_point(alloc, passed)?,

@@ -15,7 +15,7 @@ use Rattle.kapi_store.specs.State.{State}
 use Rattle.kapi_guard.specs.Reading.{policy_objects}
 use Rattle.kapi_watch.specs.Running.{at_place}
 use Rattle.kapi_watch.specs.Watches.{pumped}
-use Rattle.kapi_watch.specs.declared.watch.Place.{Place}
+use Rattle.kapi_watch.specs.declared.watch.Cursor.{Cursor}
 use Rattle.kapi_core.specs.Private.Feeds.{MovesOn, passed}
 use Rattle.kapi_core.specs.Machine.{Link, Machine, after_event, event_output, link_at, pump_shown, pump_step, pump_watch, shown_next, step, watched_on}
 use Rattle.kapi_core.specs.Refines.{AreLinks, IsLink, RefinesMachine, is_early}
@@ -71,7 +71,7 @@ sends_of s o on r reply sends cs w k p stands =
     sends cs (plain_of s) w k stands ∙ ap (λ objects. option_map (event_reply_of (plain_of s) w) (rechecked on objects w (pumped cs (plain_of s) w.watch))) p
 
 -- the connections after an event
-links_passed : (s : State) (es fs : List (ℕ × Connection)) (id n : ℕ) (on : Bool) (c : Connection) (r : Watching) (a : After) (place : Place) (cs : List PlainChange) (ps : List (ℕ × Link)) (l : Link) (w : PlainWatching)
+links_passed : (s : State) (es fs : List (ℕ × Connection)) (id n : ℕ) (on : Bool) (c : Connection) (r : Watching) (a : After) (place : Cursor) (cs : List PlainChange) (ps : List (ℕ × Link)) (l : Link) (w : PlainWatching)
     → HasHistory s cs → AreLinks cs (plain_of s) es ps → IsLink cs (plain_of s) c l → RefinesWatching r cs (plain_of s) w → MovesOn s r place → fs ≡ passed es id c r a place
     → AreLinks cs (plain_of s) fs (after_event a id l w (machine_of s cs n on ps)).links
 unfolding after_event
@@ -95,7 +95,7 @@ event_stands s o ms fs n id on becomes.WatchEnded cs ps l w k p v h = record { s
 event_stands s o ms fs n id on becomes.Closes cs ps l w k p v h = record { store = k; policy_is = p; covers = v; next_id = refl; rechecks = refl; links = h }
 
 -- an event is sent
-pub pumped_event : (s : State) (o : PolicyObjects) (ms : Tracked) (es fs : List (ℕ × Connection)) (n : ℕ) (on : Bool) (conn : ConnId) (c : Connection) (r : Watching) (reply : EventReply) (place : Place)
+pub pumped_event : (s : State) (o : PolicyObjects) (ms : Tracked) (es fs : List (ℕ × Connection)) (n : ℕ) (on : Bool) (conn : ConnId) (c : Connection) (r : Watching) (reply : EventReply) (place : Cursor)
     → lookup (is_at (nat_cmp conn.0)) es ≡ Some c → c.watching ≡ Some r → SendsNext s o on r (Some reply) → MovesOn s r place → fs ≡ passed es conn.0 c r reply.after place
     → (cs : List PlainChange) → HasHistory s cs → HasPolicy s o → HasMarks s ms → (ps : List (ℕ × Link)) → AreLinks cs (plain_of s) es ps
     → Made s o ms fs n on (machine_of s cs n on ps) (event.Pump conn) (told.Sent (event_output reply))
@@ -109,7 +109,7 @@ pumped_event s o ms es fs n on conn c r reply place there runs sends moves passe
     )
 
 -- there is nothing to show, and the watch moves on
-pub pumped_nothing : (s : State) (o : PolicyObjects) (ms : Tracked) (es fs : List (ℕ × Connection)) (n : ℕ) (on : Bool) (conn : ConnId) (c : Connection) (r : Watching) (place : Place)
+pub pumped_nothing : (s : State) (o : PolicyObjects) (ms : Tracked) (es fs : List (ℕ × Connection)) (n : ℕ) (on : Bool) (conn : ConnId) (c : Connection) (r : Watching) (place : Cursor)
     → lookup (is_at (nat_cmp conn.0)) es ≡ Some c → c.watching ≡ Some r → SendsNext s o on r None → MovesOn s r place → fs ≡ passed es conn.0 c r becomes.Watches place
     → (cs : List PlainChange) → HasHistory s cs → HasPolicy s o → HasMarks s ms → (ps : List (ℕ × Link)) → AreLinks cs (plain_of s) es ps
     → Made s o ms fs n on (machine_of s cs n on ps) (event.Pump conn) told.Nothing

@@ -11,7 +11,7 @@ ghost use Rattle.kapi_core.specs.declared.connection.Connection.{Connection as L
 use crate::connection::Connection;
 use kapi_answer::{After, KeptWatch};
 use kapi_http::{FeedError, HttpFault, HttpRequest};
-use kapi_watch::Place;
+use kapi_watch::Cursor;
 use std::collections::BTreeMap;
 
 /// Takes bytes in on the connection of a number.
@@ -49,7 +49,7 @@ pub fn advance_watch(
     connections: &mut BTreeMap<u64, Connection>,
     id: u64,
     after: After,
-    place: Place,
+    place: Cursor,
 )
     ensures { (c : Linked) (w : Watched) → lookup (is_at (nat_cmp id)) connections.old.entries ≡ Some c → c.watching ≡ Some w
         → connections.new.entries ≡ passed connections.old.entries id c w after place }
@@ -62,7 +62,7 @@ pub fn advance_watch(
 }
 
 /// Moves the watch of the connection of a number to a place.
-fn move_at(connections: &mut BTreeMap<u64, Connection>, id: u64, place: Place)
+fn move_at(connections: &mut BTreeMap<u64, Connection>, id: u64, place: Cursor)
     ensures { (c : Linked) (w : Watched) → lookup (is_at (nat_cmp id)) connections.old.entries ≡ Some c → c.watching ≡ Some w
         → connections.new.entries ≡ passed connections.old.entries id c w After.Watches place }
 {

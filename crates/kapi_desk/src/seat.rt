@@ -93,20 +93,20 @@ struct Question<'i, 'n, 'p> {
 
 /// The answer of one version.
 #[derive(Drop)]
-struct Asked {
+struct VersionAnswer {
     pages: Pages,
     count: u64,
     decision: Result<SeatDecision, Memory>,
 }
 
-fn answer(version: &Version, question: &Question<'_, '_, '_>) -> Asked
+fn answer(version: &Version, question: &Question<'_, '_, '_>) -> VersionAnswer
     ensures pages { (result.pages ≡ version.now.pages) × (result.count ≡ version.now.steps) }
     ensures decision { IfOk result.decision (λ d. seat_decision d ≡ decided version.now.policy question.now.identity.now question.now.namespace.now question.now.point.now) }
 {
     let decision = version
         .policy
         .decide(question.identity, question.namespace, question.point);
-    Asked {
+    VersionAnswer {
         pages: version.pages.again(),
         count: version.steps,
         decision: SeatDecision::of(question.alloc, &decision),
@@ -114,7 +114,10 @@ fn answer(version: &Version, question: &Question<'_, '_, '_>) -> Asked
 }
 
 /// The answer of the published policy, or none if the desk is closed.
-fn ask(reader: PolicyReader, question: Question<'_, '_, '_>) -> (PolicyReader, Option<Asked>)
+fn ask(
+    reader: PolicyReader,
+    question: Question<'_, '_, '_>,
+) -> (PolicyReader, Option<VersionAnswer>)
     ensures reader { view_of result.0.place ≡ view_of reader.place }
     ensures pages { IfSome result.1 (λ a. ((view_of reader.place).knows ≡ true → a.pages.book ≡ (view_of reader.place).book) × (length a.pages.log ≡ a.count + 1)) }
     ensures answer { IfSome result.1 (λ a. IfOk a.decision (λ d. seat_decision d ≡ decided (after (opening_in a.pages.log) (steps_in a.pages.log)) question.entry.identity.now question.entry.namespace.now question.entry.point.now)) }
@@ -188,7 +191,7 @@ impl Seat {
 
     /// Sees the pages of an answer. A copy with fewer of them than the seat has seen is not shown any more, so its
     /// answer would be none: that it never comes is what the copies do, and no contract of theirs says it.
-    fn see(&mut self, asked: Asked) -> Result<(SeatDecision, u64), SeatError>
+    fn see(&mut self, asked: VersionAnswer) -> Result<(SeatDecision, u64), SeatError>
         requires { (asked.pages.book ≡ self.old.desk) × (length asked.pages.log ≡ asked.count + 1) }
         ensures desk { self.new.desk ≡ self.old.desk }
         ensures opening { self.new.opening ≡ self.old.opening }
@@ -196,7 +199,7 @@ impl Seat {
         ensures answer { IfOk result (λ r. (Ok r.0 ≡ asked.decision) × (self.new ≡ chair asked.pages.book asked.pages.log) × (r.1 ≡ length self.new.seen)) }
         ensures busy { result ≡ Err refusal.Busy → self.new ≡ self.old }
     {
-        let Asked {
+        let VersionAnswer {
             pages,
             count,
             decision,

@@ -7,8 +7,8 @@ use Rattle.httparse.specs.Grammar.{LineEnd, crlf, lf, print_blank, print_end}
 use Rattle.kapi_http.specs.Cut.{waits, settled}
 use Rattle.kapi_http.specs.Requests.{HasEmptyLine}
 use Rattle.kapi_http.specs.Scan.{begin, is_ended, lines_ended, next_place, scanned}
-use Rattle.kapi_http.specs.declared.scan.Place.{Place}
-use Rattle.kapi_http.specs.declared.scan.Place.TheVariants.{Leading, LeadingCr, Inside, LineStart, LineCr, Ended}
+use Rattle.kapi_http.specs.declared.scan.HeadState.{HeadState}
+use Rattle.kapi_http.specs.declared.scan.HeadState.TheVariants.{Leading, LeadingCr, Inside, LineStart, LineCr, Ended}
 use Rattle.kapi_http.specs.declared.scan.Scan.{Scan}
 use Rattle.kapi_http.proofs.HeadEnds.{Going, looked, still}
 use Rattle.kapi_http.proofs.HeadScans.{blank_scan, end_last, mk}
@@ -31,7 +31,7 @@ record Empty (bytes : List ℕ) : Type 0 where
   whole : bytes ≡ print_end last ++ more
 
 -- what the bytes from a place on have, where the scan ends among them; a CR that was read is counted in
-abbrev Found : Place → List ℕ → Type 0
+abbrev Found : HeadState → List ℕ → Type 0
 Found Leading bytes = HasEmptyLine bytes
 Found LeadingCr bytes = HasEmptyLine (13 ∷ bytes)
 Found Inside bytes = Closes bytes
@@ -39,7 +39,7 @@ Found LineStart bytes = Empty bytes ⊎ Closes bytes
 Found LineCr bytes = Empty (13 ∷ bytes) ⊎ Closes (13 ∷ bytes)
 Found Ended bytes = ⊤
 
-abbrev Ends : Place → ℕ → ℕ → List ℕ → Type 0
+abbrev Ends : HeadState → ℕ → ℕ → List ℕ → Type 0
 Ends p n l bytes = is_ended (scanned (mk p n l) bytes).place ≡ true
 
 -- whether a byte is this one
@@ -93,7 +93,7 @@ begins_cr b bytes no_lf c = record {
     other crlf rest e = let same : b ≡ 10 = cc in no_lf same
     other lf rest e = cc
 
-ends_by : (bytes : List ℕ) (p : Place) (n l : ℕ) → Ends p n l bytes → Found p bytes
+ends_by : (bytes : List ℕ) (p : HeadState) (n l : ℕ) → Ends p n l bytes → Found p bytes
 unfolding scanned
 ends_by [] Leading n l e = absurd cc
 ends_by [] LeadingCr n l e = absurd cc
@@ -103,7 +103,7 @@ ends_by [] LineCr n l e = absurd cc
 ends_by [] Ended n l e = tt
 ends_by (b ∷ bytes) Leading n l e = by_byte (eqb_tells b 10) (eqb_tells b 13) (ends_by bytes)
   where
-    by_byte : IsSameOrOther b 10 → IsSameOrOther b 13 → ((p : Place) (n l : ℕ) → Ends p n l bytes → Found p bytes) → HasEmptyLine (b ∷ bytes)
+    by_byte : IsSameOrOther b 10 → IsSameOrOther b 13 → ((p : HeadState) (n l : ℕ) → Ends p n l bytes → Found p bytes) → HasEmptyLine (b ∷ bytes)
     by_byte (inl (t, same)) cr again =
         let rest = rw t at e in
         subst (λ (v : ℕ). HasEmptyLine (v ∷ bytes)) (sym same) (blank_more lf bytes (again Leading (n + 1) (l + 0) rest))
@@ -114,7 +114,7 @@ ends_by (b ∷ bytes) Leading n l e = by_byte (eqb_tells b 10) (eqb_tells b 13) 
         let rest = rw (f, g) at e in begins b bytes other another (again Inside (n + 1) (l + 0) rest)
 ends_by (b ∷ bytes) LeadingCr n l e = by_byte (eqb_tells b 10) (ends_by bytes)
   where
-    by_byte : IsSameOrOther b 10 → ((p : Place) (n l : ℕ) → Ends p n l bytes → Found p bytes) → HasEmptyLine (13 ∷ b ∷ bytes)
+    by_byte : IsSameOrOther b 10 → ((p : HeadState) (n l : ℕ) → Ends p n l bytes → Found p bytes) → HasEmptyLine (13 ∷ b ∷ bytes)
     by_byte (inl (t, same)) again =
         let rest = rw t at e in
         subst (λ (v : ℕ). HasEmptyLine (13 ∷ v ∷ bytes)) (sym same) (blank_more crlf bytes (again Leading (n + 1) (l + 0) rest))
@@ -122,7 +122,7 @@ ends_by (b ∷ bytes) LeadingCr n l e = by_byte (eqb_tells b 10) (ends_by bytes)
         let rest = rw f at e in begins_cr b bytes other (again Inside (n + 1) (l + 0) rest)
 ends_by (b ∷ bytes) Inside n l e = by_byte (eqb_tells b 10) (ends_by bytes)
   where
-    by_byte : IsSameOrOther b 10 → ((p : Place) (n l : ℕ) → Ends p n l bytes → Found p bytes) → Closes (b ∷ bytes)
+    by_byte : IsSameOrOther b 10 → ((p : HeadState) (n l : ℕ) → Ends p n l bytes → Found p bytes) → Closes (b ∷ bytes)
     by_byte (inl (t, same)) again =
         let rest = rw t at e in
         subst (λ (v : ℕ). Closes (v ∷ bytes)) (sym same) (line_fed bytes (again LineStart (n + 1) (l + 1) rest))
@@ -130,7 +130,7 @@ ends_by (b ∷ bytes) Inside n l e = by_byte (eqb_tells b 10) (ends_by bytes)
         let rest = rw f at e in longer b bytes (again Inside (n + 1) (l + 0) rest)
 ends_by (b ∷ bytes) LineStart n l e = by_byte (eqb_tells b 10) (eqb_tells b 13) (ends_by bytes)
   where
-    by_byte : IsSameOrOther b 10 → IsSameOrOther b 13 → ((p : Place) (n l : ℕ) → Ends p n l bytes → Found p bytes) → Empty (b ∷ bytes) ⊎ Closes (b ∷ bytes)
+    by_byte : IsSameOrOther b 10 → IsSameOrOther b 13 → ((p : HeadState) (n l : ℕ) → Ends p n l bytes → Found p bytes) → Empty (b ∷ bytes) ⊎ Closes (b ∷ bytes)
     by_byte (inl (t, same)) cr again = inl (record { last = lf; more = bytes; whole = ap (λ (v : ℕ). v ∷ bytes) same })
     by_byte (inr (f, other)) (inl (t, same)) again =
         let rest = rw (f, t) at e in
@@ -139,7 +139,7 @@ ends_by (b ∷ bytes) LineStart n l e = by_byte (eqb_tells b 10) (eqb_tells b 13
         let rest = rw (f, g) at e in inr (longer b bytes (again Inside (n + 1) (l + 0) rest))
 ends_by (b ∷ bytes) LineCr n l e = by_byte (eqb_tells b 10) (ends_by bytes)
   where
-    by_byte : IsSameOrOther b 10 → ((p : Place) (n l : ℕ) → Ends p n l bytes → Found p bytes) → Empty (13 ∷ b ∷ bytes) ⊎ Closes (13 ∷ b ∷ bytes)
+    by_byte : IsSameOrOther b 10 → ((p : HeadState) (n l : ℕ) → Ends p n l bytes → Found p bytes) → Empty (13 ∷ b ∷ bytes) ⊎ Closes (13 ∷ b ∷ bytes)
     by_byte (inl (t, same)) again = inl (record { last = crlf; more = bytes; whole = ap (λ (v : ℕ). 13 ∷ v ∷ bytes) same })
     by_byte (inr (f, other)) again =
         let rest = rw f at e in inr (longer 13 (b ∷ bytes) (longer b bytes (again Inside (n + 1) (l + 0) rest)))
@@ -148,7 +148,7 @@ ends_by (b ∷ bytes) Ended n l e = tt
 -- ---- a scan ends at an empty line
 
 -- the request line has not begun
-abbrev is_leading : Place → Bool
+abbrev is_leading : HeadState → Bool
 is_leading Leading = true
 is_leading LeadingCr = true
 is_leading Inside = false
@@ -156,7 +156,7 @@ is_leading LineStart = false
 is_leading LineCr = false
 is_leading Ended = false
 
-begun_next : (p : Place) (b : ℕ) → is_leading p ≡ false → is_leading (next_place p b) ≡ false
+begun_next : (p : HeadState) (b : ℕ) → is_leading p ≡ false → is_leading (next_place p b) ≡ false
 begun_next Leading b e = absurd cc
 begun_next LeadingCr b e = absurd cc
 begun_next Inside b e = by_byte (b == 10)
@@ -177,7 +177,7 @@ begun_next LineCr b e = by_byte (b == 10)
     by_byte false = refl
 begun_next Ended b e = refl
 
-begun_stays : (bytes : List ℕ) (p : Place) (n l : ℕ) → is_leading p ≡ false → is_leading (scanned (mk p n l) bytes).place ≡ false
+begun_stays : (bytes : List ℕ) (p : HeadState) (n l : ℕ) → is_leading p ≡ false → is_leading (scanned (mk p n l) bytes).place ≡ false
 unfolding scanned
 begun_stays [] p n l e = e
 begun_stays (b ∷ bytes) p n l e =
@@ -212,7 +212,7 @@ line_begins (b ∷ c ∷ line) n l some = by_byte (eqb_tells b 10) (eqb_tells b 
     by_byte (inr (f, other)) (inr (g, another)) next =
         rw (f, g) (begun_stays (c ∷ line) Inside (n + 1) (l + 0) refl)
 
-closing : (p : Place) (n l : ℕ) (last : LineEnd) (more : List ℕ) → is_leading p ≡ false → Ends p n l (10 ∷ (print_end last ++ more))
+closing : (p : HeadState) (n l : ℕ) (last : LineEnd) (more : List ℕ) → is_leading p ≡ false → Ends p n l (10 ∷ (print_end last ++ more))
 unfolding scanned
 closing Leading n l last more e = absurd cc
 closing LeadingCr n l last more e = absurd cc

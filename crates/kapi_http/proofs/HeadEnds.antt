@@ -21,7 +21,7 @@ use Rattle.kapi_http.specs.declared.message.Refusal.{Refusal}
 use Rattle.kapi_http.specs.declared.message.Refusal.TheVariants as refusal
 use Rattle.kapi_http.specs.declared.rules.Framing.{Framing}
 use Rattle.kapi_http.specs.declared.rules.Framing.TheVariants.{Sized, Chunked}
-use Rattle.kapi_http.specs.declared.scan.Place.TheVariants.{Ended}
+use Rattle.kapi_http.specs.declared.scan.HeadState.TheVariants.{Ended}
 use Rattle.kapi_http.specs.declared.scan.Scan.{Scan}
 use Rattle.kapi_http.proofs.Decided.{settled_append}
 use Rattle.kapi_http.proofs.HeadScans.{head_scan, mk}

@@ -11,13 +11,13 @@ use Rattle.httparse.proofs.PieceLemmas.{Stops_token}
 use Rattle.kapi_http.specs.Scan.{begin, is_ended, lines_ended, next_place, scanned}
 use Rattle.kapi_http.proofs.Scanning.{scanned_ended, scanned_take}
 use Rattle.kapi_http.specs.Tied.{HasLines}
-use Rattle.kapi_http.specs.declared.scan.Place.{Place}
-use Rattle.kapi_http.specs.declared.scan.Place.TheVariants.{Leading, Inside, LineStart, Ended}
+use Rattle.kapi_http.specs.declared.scan.HeadState.{HeadState}
+use Rattle.kapi_http.specs.declared.scan.HeadState.TheVariants.{Leading, Inside, LineStart, Ended}
 use Rattle.kapi_http.specs.declared.scan.Scan.{Scan}
 
 -- ---- lines
 
-abbrev pub mk : Place → ℕ → ℕ → Scan
+abbrev pub mk : HeadState → ℕ → ℕ → Scan
 mk p n l = record { place = p; at = n; lines = l }
 
 -- no byte is LF
@@ -44,7 +44,7 @@ inside_run (b ∷ bytes) r n l none =
     rw none.0 (ap (λ (k : ℕ). scanned (mk Inside (n + 1) k) (bytes ++ r)) (omega arith)
     ∙ inside_run bytes r (n + 1) l none.1 ∙ ap (λ (m : ℕ). scanned (mk Inside m l) r) (omega arith))
 
-same_scan : (p : Place) (n m l k : ℕ) (r : List ℕ) → n ≡ m → l ≡ k → scanned (mk p n l) r ≡ scanned (mk p m k) r
+same_scan : (p : HeadState) (n m l k : ℕ) (r : List ℕ) → n ≡ m → l ≡ k → scanned (mk p n l) r ≡ scanned (mk p m k) r
 same_scan p n m l k r e f = λ i. scanned (mk p (e i) (f i)) r
 
 end_inside : (end : LineEnd) (r : List ℕ) (n l : ℕ)
@@ -74,7 +74,7 @@ blank_scan (lf ∷ ends) r n l =
     ∙ same_scan Leading (n + 1 + length (print_blank ends)) (n + length (print_blank (lf ∷ ends))) l l r (omega arith) refl
 
 -- a line that is not empty, from a place at the start of a line
-line_scan : (p : Place) → is_ended p ≡ false → ((b : ℕ) → is_newline b ≡ false → next_place p b ≡ Inside)
+line_scan : (p : HeadState) → is_ended p ≡ false → ((b : ℕ) → is_newline b ≡ false → next_place p b ≡ Inside)
     → ((b : ℕ) → lines_ended p b ≡ 0) → (text : List ℕ) (end : LineEnd) (r : List ℕ) (n l : ℕ)
     → Stops is_newline text → NoLf text
     → scanned (mk p n l) (text ++ (print_end end ++ r)) ≡ scanned (mk LineStart (n + length text + length (print_end end)) (l + 1)) r

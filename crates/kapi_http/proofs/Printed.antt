@@ -22,7 +22,7 @@ use Rattle.kapi_http.proofs.HeadScans.{head_scan, mk}
 use Rattle.kapi_http.proofs.Heads.{head_of_whole}
 use Rattle.kapi_http.proofs.Scanning.{scanned_all, scanned_append, scanned_ended, scanned_take}
 use Rattle.kapi_http.proofs.Settling.{Facts, facts, scan_within, settled_ended, settled_long, settled_short}
-use Rattle.kapi_http.specs.declared.scan.Place.TheVariants.{Ended}
+use Rattle.kapi_http.specs.declared.scan.HeadState.TheVariants.{Ended}
 
 -- a head that is printed by the grammar within the limits is read, whatever follows it
 pub settled_print : (h : RequestHead) (more : List ℕ) → IsRequestHead h → length (print_request h) ≤ 16384 → length h.fields ≤ 64

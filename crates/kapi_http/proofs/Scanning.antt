@@ -3,8 +3,8 @@ use Rattle.std.proofs.Common.{◌≡◌, ℕ, ◌+◌, ◌≤◌, suc, Bool, tru
 use Rattle.std.specs.Prelude.{◌==◌, drop}
 use Rattle.std.specs.List.{position_or_len}
 use Rattle.kapi_http.specs.Scan.{is_ended, lines_ended, scanned, step}
-use Rattle.kapi_http.specs.declared.scan.Place.{Place}
-use Rattle.kapi_http.specs.declared.scan.Place.TheVariants.{Leading, LeadingCr, Inside, LineStart, LineCr, Ended}
+use Rattle.kapi_http.specs.declared.scan.HeadState.{HeadState}
+use Rattle.kapi_http.specs.declared.scan.HeadState.TheVariants.{Leading, LeadingCr, Inside, LineStart, LineCr, Ended}
 use Rattle.kapi_http.specs.declared.scan.Scan.{Scan}
 
 -- nothing is read behind the end of a head
@@ -58,7 +58,7 @@ unfolding scanned
 lines_bounded s [] h = h
 lines_bounded s (b ∷ bytes) h = by_place (is_ended s.place) refl (lines_bounded (step s b) bytes (one_more s.place b))
   where
-    one_more : (p : Place) (b : ℕ) → s.lines + lines_ended p b ≤ s.at + 1
+    one_more : (p : HeadState) (b : ℕ) → s.lines + lines_ended p b ≤ s.at + 1
     one_more Leading b = omega (arith, h)
     one_more LeadingCr b = omega (arith, h)
     one_more Inside b = by_byte (b == 10) refl

@@ -5,7 +5,7 @@ ghost use Rattle.kapi_http.specs.Scan.{is_ended, lines_ended, next_place, scanne
 
 /// The place of the next byte in a head.
 #[derive(Clone, Copy, Debug, PartialEq, Eq)]
-pub enum Place {
+pub enum HeadState {
     /// At the start of a line, before the request line.
     Leading,
     /// Behind a CR at the start of a line, before the request line.
@@ -23,7 +23,7 @@ pub enum Place {
 /// How far a head was read.
 #[derive(Clone, Copy, Debug, PartialEq, Eq)]
 pub struct Scan {
-    pub place: Place,
+    pub place: HeadState,
     /// How many bytes of the head were read.
     pub at: usize,
     /// How many lines that are not empty ended there, the request line among them.
@@ -32,41 +32,41 @@ pub struct Scan {
 
 /// The scan before any byte.
 pub const BEGIN: Scan = Scan {
-    place: Place::Leading,
+    place: HeadState::Leading,
     at: 0,
     lines: 0,
 };
 
 /// The head is whole.
-pub fn has_ended(place: Place) -> bool
+pub fn has_ended(place: HeadState) -> bool
     ensures { result ≡ is_ended place }
 {
-    matches!(place, Place::Ended)
+    matches!(place, HeadState::Ended)
 }
 
 // The place behind `byte`; a line ends at LF, and a line of only CR is empty too (RFC 9112 section 2.2).
-fn place_after(place: Place, byte: u8) -> Place
+fn place_after(place: HeadState, byte: u8) -> HeadState
     ensures { result ≡ next_place place byte }
 {
     match (place, byte) {
-        (Place::Ended, _) => Place::Ended,
-        (Place::Leading, b'\n') => Place::Leading,
-        (Place::LeadingCr, b'\n') => Place::Leading,
-        (Place::Inside, b'\n') => Place::LineStart,
-        (Place::LineStart, b'\n') => Place::Ended,
-        (Place::LineCr, b'\n') => Place::Ended,
-        (Place::Leading, b'\r') => Place::LeadingCr,
-        (Place::LineStart, b'\r') => Place::LineCr,
-        _ => Place::Inside,
+        (HeadState::Ended, _) => HeadState::Ended,
+        (HeadState::Leading, b'\n') => HeadState::Leading,
+        (HeadState::LeadingCr, b'\n') => HeadState::Leading,
+        (HeadState::Inside, b'\n') => HeadState::LineStart,
+        (HeadState::LineStart, b'\n') => HeadState::Ended,
+        (HeadState::LineCr, b'\n') => HeadState::Ended,
+        (HeadState::Leading, b'\r') => HeadState::LeadingCr,
+        (HeadState::LineStart, b'\r') => HeadState::LineCr,
+        _ => HeadState::Inside,
     }
 }
 
 // How many lines that are not empty end with `byte`.
-fn lines_at(place: Place, byte: u8) -> usize
+fn lines_at(place: HeadState, byte: u8) -> usize
     ensures { result ≡ lines_ended place byte }
 {
     match (place, byte) {
-        (Place::Inside, b'\n') => 1,
+        (HeadState::Inside, b'\n') => 1,
         _ => 0,
     }
 }
@@ -86,7 +86,7 @@ fn line_rest(bytes: &[u8]) -> usize
 // changes the place.
 #[tactic(auto, using(crate::proofs::Scanning::scanned_line))]
 fn skip_line(scan: Scan, bytes: &[u8]) -> (Scan, &[u8])
-    requires inside { scan.place ≡ Place.Inside }
+    requires inside { scan.place ≡ HeadState.Inside }
     requires fits { scan.at + length bytes.now ≤ 16384 }
     ensures exact { scanned result.0 result.1.now ≡ scanned scan bytes.now }
     ensures lines { result.0.lines ≡ scan.lines }
@@ -96,7 +96,7 @@ fn skip_line(scan: Scan, bytes: &[u8]) -> (Scan, &[u8])
     let skipped = line_rest(bytes);
     let (_, rest) = bytes.split_at(skipped);
     let scan = Scan {
-        place: Place::Inside,
+        place: HeadState::Inside,
         at: scan.at + skipped,
         lines: scan.lines,
     };
@@ -121,7 +121,7 @@ fn scan_piece(scan: Scan, byte: u8, rest: &[u8]) -> (Scan, &[u8])
         lines: scan.lines + lines_at(scan.place, byte),
     };
     match next.place {
-        Place::Inside => skip_line(next, rest),
+        HeadState::Inside => skip_line(next, rest),
         _ => (next, rest),
     }
 }

@@ -1,6 +1,6 @@
 pub mod Marks
 pub mod Compiled
-pub mod Asked
+pub mod PreparedPoint
 pub mod Points
 pub mod Listed
 pub mod Prepared

@@ -4,7 +4,7 @@ ghost use Rattle.kapi_index.specs.Compiled.{compiled, compiled_allows, resources
 ghost use Rattle.kapi_index.specs.Points.{point_of};
 ghost use Rattle.kapi_rules.specs.declared.point.Point.{Point as AnyPoint};
 
-use crate::asked::{Asked, AskedResource, AskedUrl};
+use crate::prepared_point::{PreparedPoint, PreparedResource, PreparedUrl};
 use crate::urls::{Url, compile_urls, some_admits};
 use crate::words::{Words, compile_names, compile_words};
 use kapi_model::PolicyRule;
@@ -35,7 +35,7 @@ pub fn compile(alloc: Global, rule: &PolicyRule) -> Result<CompiledRule, Memory>
     })
 }
 
-fn some_resource_matches(resources: &Words, asked: &AskedResource<'_>) -> bool
+fn some_resource_matches(resources: &Words, asked: &PreparedResource<'_>) -> bool
     ensures { result ≡ resources_match resources.now asked.now.resource asked.now.subresource }
 {
     if asked.has_subresource() {
@@ -47,7 +47,7 @@ fn some_resource_matches(resources: &Words, asked: &AskedResource<'_>) -> bool
 
 // The resource is asked first, since rules differ most in it.
 #[tactic(auto, unfolding(crate::specs::Compiled::compiled_allows))]
-fn allows_on_resource(rule: &CompiledRule, asked: &AskedResource<'_>) -> bool
+fn allows_on_resource(rule: &CompiledRule, asked: &PreparedResource<'_>) -> bool
     ensures { result ≡ compiled_allows rule.now (AnyPoint.Resource asked.now) }
 {
     some_resource_matches(&rule.resources, asked)
@@ -56,18 +56,18 @@ fn allows_on_resource(rule: &CompiledRule, asked: &AskedResource<'_>) -> bool
 }
 
 #[tactic(auto, unfolding(crate::specs::Compiled::compiled_allows))]
-fn allows_on_url(rule: &CompiledRule, asked: &AskedUrl<'_>) -> bool
+fn allows_on_url(rule: &CompiledRule, asked: &PreparedUrl<'_>) -> bool
     ensures { result ≡ compiled_allows rule.now (AnyPoint.Url asked.now) }
 {
     rule.verbs.has(&asked.verb) && some_admits(rule.urls.as_slice(), asked.point.path.as_str())
 }
 
 /// Whether the rule allows what is asked.
-pub fn compiled_rule_allows(rule: &CompiledRule, asked: &Asked<'_>) -> bool
+pub fn compiled_rule_allows(rule: &CompiledRule, asked: &PreparedPoint<'_>) -> bool
     ensures { result ≡ compiled_allows rule.now (point_of asked.now) }
 {
     match asked {
-        Asked::Resource(asked) => allows_on_resource(rule, asked),
-        Asked::Url(asked) => allows_on_url(rule, asked),
+        PreparedPoint::Resource(asked) => allows_on_resource(rule, asked),
+        PreparedPoint::Url(asked) => allows_on_url(rule, asked),
     }
 }

@@ -3,7 +3,6 @@
 #![tactic(auto)]
 
 mod all;
-mod asked;
 mod asker;
 mod compiled_rule;
 mod held_once;
@@ -13,6 +12,7 @@ mod keys;
 mod marks;
 mod name_tree;
 mod names;
+mod prepared_point;
 mod roles;
 mod rules;
 mod scope;
@@ -22,6 +22,6 @@ mod urls;
 mod walk;
 mod words;
 
-pub use asked::{Asked, ask};
 pub use indexed::IndexedPolicy;
+pub use prepared_point::{PreparedPoint, ask};
 pub use rules::CompiledRules;

@@ -52,12 +52,12 @@ fn joined_place(first: &[u8], last: &[u8]) -> usize
 
 /// A word that is looked for.
 #[derive(Drop)]
-pub struct Word<'a> {
+pub struct MarkedWord<'a> {
     text: &'a str,
     place: usize,
 }
 
-impl<'a> Model for Word<'a> {
+impl<'a> Model for MarkedWord<'a> {
     ghost use Rattle.std.specs.Prelude.{◌≡◌, ◌<◌, ℕ, List};
     ghost use Rattle.kapi_index.specs.Marks.{place_of};
 
@@ -68,14 +68,14 @@ impl<'a> Model for Word<'a> {
     ghost invariant = { λ w. (w.place ≡ place_of w.text.now) × (w.place < 64) };
 }
 
-impl<'a> Word<'a> {
+impl<'a> MarkedWord<'a> {
     ghost use Rattle.std.specs.Prelude.{◌≡◌};
 
     /// The word of a text.
-    pub fn of(text: &'a str) -> Word<'a>
+    pub fn of(text: &'a str) -> MarkedWord<'a>
         ensures { result ≡ text.now }
     {
-        Word {
+        MarkedWord {
             text,
             place: place(text.as_bytes()),
         }
@@ -204,7 +204,7 @@ impl Marked {
     }
 
     /// Whether the word is one of the marked words.
-    pub fn has(&self, word: &Word<'_>) -> bool
+    pub fn has(&self, word: &MarkedWord<'_>) -> bool
         ensures { result ≡ list_any (λ x. bytes_eq x word.now) self.now }
     {
         is_marked(self.marks, word.place) && is_listed(self.words.as_slice(), word.text)

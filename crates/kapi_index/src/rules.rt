@@ -4,8 +4,8 @@ ghost use Rattle.std.specs.List.{position};
 ghost use Rattle.kapi_index.specs.Compiled.{compiled, compiled_allows};
 ghost use Rattle.kapi_index.specs.Points.{point_of};
 
-use crate::asked::Asked;
 use crate::compiled_rule::{CompiledRule, compile, compiled_rule_allows};
+use crate::prepared_point::PreparedPoint;
 use kapi_model::PolicyRule;
 use kapi_text::{Memory, Sequence, TryCopy};
 use std::alloc::Global;
@@ -40,7 +40,7 @@ fn compile_all(alloc: Global, rules: &[PolicyRule]) -> Result<Sequence<CompiledR
     Ok(Sequence::new(list))
 }
 
-fn first_of(rules: &[CompiledRule], asked: &Asked<'_>) -> Option<usize>
+fn first_of(rules: &[CompiledRule], asked: &PreparedPoint<'_>) -> Option<usize>
     ensures { result ≡ position (λ rule. compiled_allows rule (point_of asked.now)) rules.now }
 {
     rules
@@ -70,7 +70,7 @@ impl CompiledRules {
     }
 
     /// The index of the first rule that allows what is asked. Allocates nothing.
-    pub fn first_allowing(&self, asked: &Asked<'_>) -> Option<usize>
+    pub fn first_allowing(&self, asked: &PreparedPoint<'_>) -> Option<usize>
         ensures { result ≡ position (λ rule. allows rule (point_of asked.now)) self.now }
     {
         first_of(self.prepared.as_slice(), asked)

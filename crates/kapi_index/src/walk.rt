@@ -9,9 +9,9 @@ ghost use Rattle.kapi_rules.specs.Rules.{allows as rule_allows};
 ghost use Rattle.kapi_index.specs.Points.{point_of};
 ghost use Rattle.kapi_index.specs.Contents.{binding_at, grant_of};
 
-use crate::asked::{Asked, ask};
 use crate::asker::Asker;
 use crate::indexed::IndexedPolicy;
+use crate::prepared_point::{PreparedPoint, ask};
 use crate::rules::CompiledRules;
 use crate::scope::Scope;
 use kapi_model::{Identity, PolicyRule, RoleBinding, RoleKind, RoleRef};
@@ -99,7 +99,7 @@ fn is_bound(binding: &Binding<'_>, asker: &Asker<'_>) -> bool
 fn grant_in<'a>(
     binding: &Binding<'a>,
     rules: &CompiledRules,
-    asked: &Asked<'_>,
+    asked: &PreparedPoint<'_>,
 ) -> Option<Grant<'a>>
     ensures { granted_if result ≡ granted_at (binding_of binding.now) (position (λ rule. rule_allows rule (point_of asked.now)) rules.now) }
 {
@@ -118,7 +118,7 @@ fn grant_in<'a>(
 fn grant_by<'a>(
     policy: &'a IndexedPolicy,
     binding: &Binding<'a>,
-    asked: &Asked<'_>,
+    asked: &PreparedPoint<'_>,
 ) -> Option<Grant<'a>>
     ensures { granted_if result ≡ grant_of policy.now (point_of asked.now) (binding_of binding.now) }
 {
@@ -152,7 +152,7 @@ fn grant_to<'a>(
     policy: &'a IndexedPolicy,
     asker: &Asker<'_>,
     binding: &Binding<'a>,
-    asked: &Asked<'_>,
+    asked: &PreparedPoint<'_>,
 ) -> Option<Grant<'a>>
     ensures { granted_if result ≡ granted_by policy.now asker.now.identity.now (point_of asked.now) (binding_of binding.now) }
 {
@@ -169,7 +169,7 @@ fn grant_of_each<'a>(
     kind: BindingKind,
     scope: &'a Scope,
     asker: &Asker<'_>,
-    asked: &Asked<'_>,
+    asked: &PreparedPoint<'_>,
 ) -> Option<Grant<'a>>
     ensures { granted_if result ≡ first_some (granted_by policy.now asker.now.identity.now (point_of asked.now)) (map (binding_at kind scope.now.namespace) scope.now.bindings) }
 {
@@ -190,7 +190,7 @@ fn grant_of_many<'a>(
     kind: BindingKind,
     scope: &'a Scope,
     identity: &Identity,
-    asked: &Asked<'_>,
+    asked: &PreparedPoint<'_>,
 ) -> Option<Grant<'a>>
     ensures { granted_if result ≡ first_some (granted_by policy.now identity.now (point_of asked.now)) (map (binding_at kind scope.now.namespace) scope.now.bindings) }
 {
@@ -216,7 +216,7 @@ fn scope_grant<'a>(
     kind: BindingKind,
     scope: &'a Scope,
     identity: &Identity,
-    asked: &Asked<'_>,
+    asked: &PreparedPoint<'_>,
 ) -> Option<Grant<'a>>
     ensures { granted_if result ≡ first_some (granted_by policy.now identity.now (point_of asked.now)) (map (binding_at kind scope.now.namespace) scope.now.bindings) }
 {
@@ -250,7 +250,7 @@ fn push_scope(
 fn cluster_grant<'a>(
     policy: &'a IndexedPolicy,
     identity: &Identity,
-    asked: &Asked<'_>,
+    asked: &PreparedPoint<'_>,
 ) -> Option<Grant<'a>>
     ensures { granted_if result ≡ first_some (granted_by policy.now identity.now (point_of asked.now)) (map cluster_binding policy.now.cluster_role_bindings) }
 {
@@ -267,7 +267,7 @@ fn namespace_grant<'a>(
     policy: &'a IndexedPolicy,
     identity: &Identity,
     namespace: &str,
-    asked: &Asked<'_>,
+    asked: &PreparedPoint<'_>,
 ) -> Option<Grant<'a>>
     ensures { granted_if result ≡ first_some (granted_by policy.now identity.now (point_of asked.now)) (bindings_of namespace.now policy.now.role_bindings) }
 {
@@ -283,7 +283,7 @@ fn grant<'a>(
     policy: &'a IndexedPolicy,
     identity: &Identity,
     namespace: &str,
-    asked: &Asked<'_>,
+    asked: &PreparedPoint<'_>,
 ) -> Option<Grant<'a>>
     ensures { granted_if result ≡ granted policy.now identity.now namespace.now (point_of asked.now) }
 {

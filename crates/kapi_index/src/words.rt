@@ -5,7 +5,7 @@ ghost use Rattle.std.specs.Str.{bytes_eq};
 ghost use Rattle.kapi_rules.specs.Entries.{star};
 ghost use Rattle.kapi_index.specs.Compiled.{compiled_names, compiled_words};
 
-use crate::marks::{Joined, Marked, Word};
+use crate::marks::{Joined, Marked, MarkedWord};
 use kapi_text::{Memory, Sequence, Text, TryCopy};
 use std::alloc::Global;
 
@@ -48,7 +48,7 @@ impl Words {
     ghost use Rattle.kapi_index.specs.Compiled.{words_match};
 
     /// Whether the word is matched.
-    pub fn has(&self, word: &Word<'_>) -> bool
+    pub fn has(&self, word: &MarkedWord<'_>) -> bool
         ensures { result ≡ words_match self.now word.now }
     {
         match self {

@@ -3,8 +3,8 @@ use Rattle.std.specs.Prelude.{ℕ, ◌+◌, ◌*◌, ◌/◌, ◌%◌, nat_le, �
 use Rattle.std.specs.List.{flat_map}
 use Rattle.std.specs.Char.{digit_char, digit_value, is_digit}
 use Rattle.std.specs.Option.{option_map}
-use Rattle.kapi_lines.specs.declared.escape.Place.{Place}
-use Rattle.kapi_lines.specs.declared.escape.Place.TheVariants.{Plain, Escape, HighDigit, LowDigit}
+use Rattle.kapi_lines.specs.declared.escape.EscapeState.{EscapeState}
+use Rattle.kapi_lines.specs.declared.escape.EscapeState.TheVariants.{Plain, Escape, HighDigit, LowDigit}
 use Rattle.kapi_lines.specs.declared.escape.Effect.{Effect}
 use Rattle.kapi_lines.specs.declared.escape.Effect.TheVariants.{Byte, To, Bad}
 
@@ -41,20 +41,20 @@ by_digits high low =
     if is_digit high 16 && is_digit low 16 then Byte (digit_value high * 16 + digit_value low) else Bad
 
 -- what a byte of the text does
-unfoldable pub read : Place → ℕ → Effect
+unfoldable pub read : EscapeState → ℕ → Effect
 read Plain b = if b == 92 then To Escape else Byte b
 read Escape b = after_backslash b
 read HighDigit b = To (LowDigit b)
 read (LowDigit high) b = by_digits high b
 
 -- the bytes behind what a byte did
-abbrev pub behind : Effect → (Place → Option (List ℕ)) → Option (List ℕ)
+abbrev pub behind : Effect → (EscapeState → Option (List ℕ)) → Option (List ℕ)
 behind (Byte b) rest = option_map (λ bytes. b ∷ bytes) (rest Plain)
 behind (To place) rest = rest place
 behind Bad rest = None
 
 -- the bytes that a text writes, from a place on; none where a backslash begins no escape
-unfoldable pub unescaped_from : Place → List ℕ → Option (List ℕ)
+unfoldable pub unescaped_from : EscapeState → List ℕ → Option (List ℕ)
 unescaped_from Plain [] = Some []
 unescaped_from Escape [] = None
 unescaped_from HighDigit [] = None

@@ -10,7 +10,7 @@ use std::io::{self, Write};
 
 /// The place of a reader in a script's text.
 #[derive(Clone, Copy, Debug, PartialEq, Eq)]
-pub enum Place {
+pub enum EscapeState {
     Plain,
     /// Behind a backslash.
     Escape,
@@ -25,26 +25,26 @@ pub enum Place {
 pub enum Effect {
     /// The byte ends the text of this byte.
     Byte(u8),
-    To(Place),
+    To(EscapeState),
     /// No text goes on with this byte.
     Bad,
 }
 
 #[tactic(auto, unfolding(crate::specs::Escapes::read))]
-fn read(place: Place, byte: u8) -> Effect
+fn read(place: EscapeState, byte: u8) -> Effect
     ensures { result ≡ read_of place byte }
 {
     match place {
-        Place::Plain => {
+        EscapeState::Plain => {
             if byte == b'\\' {
-                Effect::To(Place::Escape)
+                Effect::To(EscapeState::Escape)
             } else {
                 Effect::Byte(byte)
             }
         }
-        Place::Escape => after_backslash(byte),
-        Place::HighDigit => Effect::To(Place::LowDigit(byte)),
-        Place::LowDigit(high) => by_digits(high, byte),
+        EscapeState::Escape => after_backslash(byte),
+        EscapeState::HighDigit => Effect::To(EscapeState::LowDigit(byte)),
+        EscapeState::LowDigit(high) => by_digits(high, byte),
     }
 }
 
@@ -57,7 +57,7 @@ fn after_backslash(letter: u8) -> Effect
         b'n' => Effect::Byte(b'\n'),
         b'r' => Effect::Byte(b'\r'),
         b't' => Effect::Byte(b'\t'),
-        b'x' => Effect::To(Place::HighDigit),
+        b'x' => Effect::To(EscapeState::HighDigit),
         _ => Effect::Bad,
     }
 }
@@ -77,15 +77,15 @@ fn by_digits(high: u8, low: u8) -> Effect
 pub fn is_escaped(text: &[u8]) -> bool
     ensures { result ≡ is_some (unescaped text.now) }
 {
-    let mut place = Place::Plain;
+    let mut place = EscapeState::Plain;
     for byte in text {
         match read(place, *byte) {
-            Effect::Byte(_) => place = Place::Plain,
+            Effect::Byte(_) => place = EscapeState::Plain,
             Effect::To(next) => place = next,
             Effect::Bad => return false,
         }
     }
-    matches!(place, Place::Plain)
+    matches!(place, EscapeState::Plain)
 }
 
 /// The bytes that a text writes; none where a backslash begins no escape.
@@ -94,19 +94,19 @@ pub fn unescape(alloc: Global, text: &[u8]) -> Result<Option<Vec<u8>>, Memory>
     ensures { IfOk result (λ o. option_map (λ v. v.items) o ≡ unescaped text.now) }
 {
     let mut bytes = Vec::new(alloc);
-    let mut place = Place::Plain;
+    let mut place = EscapeState::Plain;
     for byte in text {
         match read(place, *byte) {
             Effect::Byte(byte) => {
                 bytes.push(byte)?;
-                place = Place::Plain;
+                place = EscapeState::Plain;
             }
             Effect::To(next) => place = next,
             Effect::Bad => return Ok(None),
         }
     }
     match place {
-        Place::Plain => Ok(Some(bytes)),
+        EscapeState::Plain => Ok(Some(bytes)),
         _ => Ok(None),
     }
 }

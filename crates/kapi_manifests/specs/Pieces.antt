@@ -3,7 +3,7 @@ use Rattle.std.specs.Prelude.{ℕ, ◌+◌, ◌-◌, ◌==◌, ◌&&◌, not, Li
 use Rattle.kapi_manifests.specs.Places.{behind, is_piece}
 use Rattle.kapi_manifests.specs.declared.cut.Span.{Span}
 use Rattle.kapi_manifests.specs.declared.cut.Cursor.{Cursor}
-use Rattle.kapi_manifests.specs.declared.place.Place.TheVariants.{Between}
+use Rattle.kapi_manifests.specs.declared.reader_state.ReaderState.TheVariants.{Between}
 
 -- a reader at the beginning of a text
 abbrev pub at_start : Cursor

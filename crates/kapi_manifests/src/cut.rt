@@ -4,7 +4,7 @@ ghost use Rattle.kapi_manifests.specs.Places.{depth_of};
 ghost use Rattle.kapi_manifests.specs.Pieces as pieces;
 ghost use Rattle.kapi_manifests.specs.Pieces.{advanced, ended, last, line_ends, spans_of};
 
-use crate::place::{Place, is_piece, next};
+use crate::reader_state::{ReaderState, is_piece, next};
 use kapi_text::Memory;
 use std::alloc::Global;
 
@@ -25,7 +25,7 @@ pub struct Span {
 /// A reader of a text: its place, the number of its line and of its next byte, and where the last piece began.
 #[derive(Clone, Copy, Debug, PartialEq, Eq)]
 pub struct Cursor {
-    pub place: Place,
+    pub place: ReaderState,
     pub here: Start,
     pub begun: Start,
 }
@@ -36,7 +36,7 @@ fn at_start() -> Cursor
 {
     let first = Start { line: 1, at: 0 };
     Cursor {
-        place: Place::Between,
+        place: ReaderState::Between,
         here: first,
         begun: first,
     }

@@ -9,8 +9,8 @@ ghost use Rattle.kapi_manifests.specs.Places.{depth_of};
 
 use crate::fault::Origin;
 use crate::kinds::{is_list, item_kind, text_at};
-use crate::place::{Place, next};
 use crate::placing::named;
+use crate::reader_state::{ReaderState, next};
 use crate::sorted::Manifest;
 use kapi_text::Memory;
 use serde_json::Value;
@@ -99,7 +99,7 @@ fn array_of(alloc: Global, value: Value) -> Vec<Value>
 /// A reader of the text of a list: its place and the number of its line, and how many brackets are open.
 #[derive(Clone, Copy, Debug, PartialEq, Eq)]
 struct ListCursor {
-    place: Place,
+    place: ReaderState,
     line: usize,
     brackets: usize,
 }
@@ -108,7 +108,7 @@ struct ListCursor {
 fn item_lines(alloc: Global, line: usize, text: &[u8]) -> Result<Vec<usize>, Memory> {
     let mut lines = Vec::new(alloc);
     let mut cursor = ListCursor {
-        place: Place::Between,
+        place: ReaderState::Between,
         line,
         brackets: 0,
     };
@@ -126,9 +126,9 @@ fn begins_item(cursor: ListCursor, byte: u8) -> bool {
 }
 
 /// Whether a place is inside of one brace.
-fn is_member(place: Place) -> bool {
+fn is_member(place: ReaderState) -> bool {
     match place {
-        Place::Inside(depth) => depth == 1,
+        ReaderState::Inside(depth) => depth == 1,
         _ => false,
     }
 }

@@ -18,7 +18,7 @@ use Rattle.kapi_rules.specs.declared.point.Point.{Point}
 use Rattle.kapi_rules.specs.declared.point.Point.TheVariants as point
 use Rattle.kapi_replay.specs.Forms.{form_of}
 use Rattle.kapi_replay.specs.declared.case.Case.{Case}
-use Rattle.kapi_replay.specs.declared.case.Event.{Event}
+use Rattle.kapi_replay.specs.declared.case.ScriptLine.{ScriptLine}
 use Rattle.kapi_replay.specs.declared.case.Want.{Want}
 use Rattle.kapi_replay.specs.declared.form.Form.{Form}
 use Rattle.kapi_replay.specs.declared.form.Form.TheVariants as form
@@ -76,7 +76,7 @@ doubt_about n None = []
 doubt_about n (Some resource) = record { number = n; resource = resource } ∷ []
 
 -- the doubt about what is wanted: it is 403, of a request about a resource that is not served
-abbrev pub doubt : List ResourceRow → List (List ℕ) → List Event → Want → List Doubt
+abbrev pub doubt : List ResourceRow → List (List ℕ) → List ScriptLine → Want → List Doubt
 doubt table lines script w =
     if wants_refusal w.wanted then doubt_about w.number (unserved table (attributes_of (line_at lines (number_at script w.events)))) else []
 

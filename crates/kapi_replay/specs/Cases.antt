@@ -8,7 +8,7 @@ use Rattle.kapi_replay.specs.Requests.{feed_line, number_line, request_text}
 use Rattle.kapi_replay.specs.declared.case.Beginning.{Beginning}
 use Rattle.kapi_replay.specs.declared.case.Beginning.TheVariants as beginning
 use Rattle.kapi_replay.specs.declared.case.Case.{Case}
-use Rattle.kapi_replay.specs.declared.case.Event.{Event}
+use Rattle.kapi_replay.specs.declared.case.ScriptLine.{ScriptLine}
 use Rattle.kapi_replay.specs.declared.case.Loaded.{Loaded}
 use Rattle.kapi_replay.specs.declared.case.Manifests.{Manifests}
 use Rattle.kapi_replay.specs.declared.case.Want.{Want}
@@ -28,7 +28,7 @@ pub record PlainDraft : Type 0 where
   pub begins : Beginning
   pub kinds : List Loaded
   pub rechecks : Bool
-  pub script : List Event
+  pub script : List ScriptLine
   pub wants : List Want
   pub opened : List (List ℕ)
   pub taken : Option ℕ

@@ -13,7 +13,7 @@ use Rattle.kapi_reasons.specs.Reasons.{is_reason}
 use Rattle.kapi_replay.specs.Reports.{line_at}
 use Rattle.kapi_replay.specs.Wants.{is_met}
 use Rattle.kapi_replay.specs.declared.case.Case.{Case}
-use Rattle.kapi_replay.specs.declared.case.Event.{Event}
+use Rattle.kapi_replay.specs.declared.case.ScriptLine.{ScriptLine}
 use Rattle.kapi_replay.specs.declared.case.Loaded.{Loaded}
 use Rattle.kapi_replay.specs.declared.case.Want.{Want}
 use Rattle.kapi_replay.specs.declared.failure.Failure.{Failure}
@@ -25,20 +25,20 @@ abbrev pub line_text : List ℕ → List ℕ
 line_text line = line ++ 10 ∷ []
 
 -- a script as one text
-abbrev pub script_text : List Event → List ℕ
+abbrev pub script_text : List ScriptLine → List ℕ
 script_text script = flat_map (λ e. line_text e.text) script
 
 -- the number of an event, if there is one
-abbrev pub number_or : Option Event → ℕ
+abbrev pub number_or : Option ScriptLine → ℕ
 number_or None = 0
 number_or (Some e) = e.number
 
 -- the transcript's line of the event of this number; 0 if there is none
-abbrev pub number_at : List Event → ℕ → ℕ
+abbrev pub number_at : List ScriptLine → ℕ → ℕ
 number_at script n = number_or (nth script n)
 
 -- the failure of what is wanted, where the answer differs
-abbrev pub unmet : List Event → List (List ℕ) → Want → List Failure
+abbrev pub unmet : List ScriptLine → List (List ℕ) → Want → List Failure
 unmet script answers w =
     if is_met w.wanted (line_at answers w.events) then []
     else failure.Differs (record { number = w.number; asked = number_at script w.events; events = w.events; answer = line_at answers w.events; reason = [] }) ∷ []
@@ -53,12 +53,12 @@ abbrev pub differences : Case → List ℕ → List Failure
 differences c text = flat_map (unmet c.script (parts_of text)) c.wants
 
 -- the text of an event, if there is one
-abbrev pub text_or : Option Event → List ℕ
+abbrev pub text_or : Option ScriptLine → List ℕ
 text_or None = []
 text_or (Some e) = e.text
 
 -- the line of a script of this number; nothing if there is none
-abbrev pub event_text : List Event → ℕ → List ℕ
+abbrev pub event_text : List ScriptLine → ℕ → List ℕ
 event_text script n = text_or (nth script n)
 
 -- why a line that names an identity has no known form

@@ -29,7 +29,7 @@ pub enum Beginning {
 
 /// A line of a case's script, and the line of the transcript that it is made from.
 #[derive(Drop)]
-pub struct Event {
+pub struct ScriptLine {
     pub number: usize,
     pub text: Sequence<u8>,
 }
@@ -50,6 +50,6 @@ pub struct Case {
     pub kinds: Sequence<Loaded>,
     /// The rights of watches are rechecked at each of their events.
     pub rechecks: bool,
-    pub script: Sequence<Event>,
+    pub script: Sequence<ScriptLine>,
     pub wants: Sequence<Want>,
 }

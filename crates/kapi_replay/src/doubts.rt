@@ -7,7 +7,7 @@ ghost use Rattle.kapi_replay.specs.Asked.{doubts_of as doubts_of_cases, wants_re
 ghost use Rattle.kapi_answer.specs.Route.{is_row_of as is_row_of_point};
 
 use crate::asked::attributes_of;
-use crate::case::{Case, Event, Want};
+use crate::case::{Case, ScriptLine, Want};
 use crate::failure::Doubt;
 use crate::files::LoadedFile;
 use crate::kinds::known_table;
@@ -87,7 +87,7 @@ fn check_want(
     doubts: &mut Vec<Doubt>,
     table: &[ResourceRow],
     lines: &[Sequence<u8>],
-    script: &[Event],
+    script: &[ScriptLine],
     want: &Want,
 ) -> Result<(), Memory>
     ensures { OnOk result (doubts.new.items ≡ doubts.old.items ++ asks.doubt table.now lines.now script.now want.now) }

@@ -4,7 +4,7 @@ ghost use Rattle.kapi_lines.specs.Lines.{line_of};
 ghost use Rattle.kapi_replay.specs.Cases as cased;
 ghost use Rattle.kapi_replay.specs.Cases.{case_of, cases_from, draft_of, drafted, fresh};
 
-use crate::case::{Beginning, Case, Event, Loaded, Manifests, Want};
+use crate::case::{Beginning, Case, Loaded, Manifests, ScriptLine, Want};
 use crate::form::{Form, Source, parse_form};
 use crate::request::{Request, feed_line, request_bytes, word_line};
 use crate::wanted::Wanted;
@@ -19,7 +19,7 @@ pub struct Draft {
     begins: Beginning,
     kinds: Vec<Loaded>,
     rechecks: bool,
-    script: Vec<Event>,
+    script: Vec<ScriptLine>,
     wants: Vec<Want>,
     /// The names that the connections were opened for, in their order.
     opened: Vec<Sequence<u8>>,
@@ -74,7 +74,7 @@ impl Draft {
     fn push_event(&mut self, number: usize, text: Sequence<u8>) -> Result<(), Memory>
         ensures { OnOk result (draft_of self.new ≡ cased.event (draft_of self.old) number text) }
     {
-        self.script.push(Event { number, text })?;
+        self.script.push(ScriptLine { number, text })?;
         self.fields = false;
         Ok(())
     }

@@ -24,7 +24,7 @@ mod request;
 mod sent;
 mod wanted;
 
-pub use case::{Beginning, Case, Event, Loaded, Manifests, Want};
+pub use case::{Beginning, Case, Loaded, Manifests, ScriptLine, Want};
 pub use correction::{corrected, exactly};
 pub use draft::{Draft, cases};
 pub use failure::{Check, Difference, Doubt, Failure, Outcome};

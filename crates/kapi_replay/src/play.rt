@@ -10,7 +10,7 @@ ghost use Rattle.kapi_replay.specs.Failures as fails;
 ghost use Rattle.kapi_replay.specs.declared.failure.Failure.TheVariants as failure;
 ghost use Rattle.kapi_replay.specs.Failures.{script_text as script_text_of};
 
-use crate::case::{Case, Event, Loaded, Want};
+use crate::case::{Case, Loaded, ScriptLine, Want};
 use crate::failure::{Difference, Failure};
 use crate::forms::form_reason;
 use crate::wanted::is_met;
@@ -26,7 +26,7 @@ use std::alloc::{AllocError, Global};
 use std::sync::Wait;
 
 /// The lines of a script as one text.
-pub fn script_text(alloc: Global, script: &[Event]) -> Result<Vec<u8>, Memory>
+pub fn script_text(alloc: Global, script: &[ScriptLine]) -> Result<Vec<u8>, Memory>
     ensures { IfOk result (λ v. v.items ≡ script_text_of script.now) }
 {
     let mut text = Vec::new(alloc);
@@ -55,7 +55,7 @@ fn answer_at(answers: &[Sequence<u8>], number: usize) -> &[u8]
 }
 
 /// The transcript's line of the event of this number; 0 if there is none.
-pub fn number_at(script: &[Event], number: usize) -> usize
+pub fn number_at(script: &[ScriptLine], number: usize) -> usize
     ensures { result ≡ fails.number_at script.now number }
 {
     match nth(script, number) {
@@ -68,7 +68,7 @@ pub fn number_at(script: &[Event], number: usize) -> usize
 fn check_want(
     alloc: Global,
     failures: &mut Vec<Failure>,
-    script: &[Event],
+    script: &[ScriptLine],
     answers: &[Sequence<u8>],
     want: &Want,
 ) -> Result<(), Memory>
@@ -117,7 +117,7 @@ pub fn only(alloc: Global, failure: Failure) -> Result<Vec<Failure>, Memory>
 }
 
 /// The line of a script of this number; nothing if there is none.
-fn event_text(script: &[Event], number: usize) -> &[u8]
+fn event_text(script: &[ScriptLine], number: usize) -> &[u8]
     ensures { result.now ≡ fails.event_text script.now number }
 {
     match nth(script, number) {

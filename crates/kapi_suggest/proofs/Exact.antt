@@ -35,8 +35,8 @@ use Rattle.kapi_access.specs.Together.{together}
 use Rattle.kapi_reviews.specs.declared.question.Question.{Question}
 use Rattle.kapi_suggest.specs.Needs.{allows_by, is_implied, needed_at, place_cmp, place_used, suggested, suggested_at, used, used_at, used_everywhere, widest, with_atom, with_use}
 use Rattle.kapi_suggest.specs.Uses.{atom_used, counts, given_by, gives}
-use Rattle.kapi_suggest.specs.declared.place.Place.{Place}
-use Rattle.kapi_suggest.specs.contracts.place.PlaceOrd.TheImpl.Laws as laws
+use Rattle.kapi_suggest.specs.declared.user_scope.UserScope.{UserScope}
+use Rattle.kapi_suggest.specs.contracts.user_scope.UserScopeOrd.TheImpl.Laws as laws
 
 swapped : (a b : Bool) → (a || b) ≡ (b || a)
 swapped true true = refl
@@ -57,12 +57,12 @@ both_equal Greater b h = absurd (cc h)
 text_same : (x y : List ℕ) → slice_cmp nat_cmp x y ≡ Equal → x ≡ y
 text_same x y h = same x y (sym (is_eq-slice_cmp x y) ∙ ap is_eq h)
 
-place_same : (a b : Place) → place_cmp a b ≡ Equal → a ≡ b
+place_same : (a b : UserScope) → place_cmp a b ≡ Equal → a ≡ b
 place_same a b h =
     let parts = both_equal (slice_cmp nat_cmp a.user b.user) (slice_cmp nat_cmp a.namespace b.namespace) h in
     λ i. record { user = text_same a.user b.user parts.0 i; namespace = text_same a.namespace b.namespace parts.1 i }
 
-itself_equal : (k : Place) → is_eq (place_cmp k k) ≡ true
+itself_equal : (k : UserScope) → is_eq (place_cmp k k) ≡ true
 itself_equal k = by_order (place_cmp k k) (place_total.antisymm k k)
   where
     by_order : (o : Ordering) → o ≡ ordering_reverse o → is_eq o ≡ true
@@ -71,13 +71,13 @@ itself_equal k = by_order (place_cmp k k) (place_total.antisymm k k)
     by_order Greater h = absurd (cc h)
 
 -- a place that was found has what was found
-found : (list : List (Place × List Atom)) (k : Place) (a : Atom) → is_implied (used_at list k) a ≡ true → (e : Place × List Atom) × (Has list e × ((e.0 ≡ k) × (is_implied e.1 a ≡ true)))
+found : (list : List (UserScope × List Atom)) (k : UserScope) (a : Atom) → is_implied (used_at list k) a ≡ true → (e : UserScope × List Atom) × (Has list e × ((e.0 ≡ k) × (is_implied e.1 a ≡ true)))
 found [] k a h = absurd (cc h)
 found (e ∷ list) k a h = by_test (is_eq (place_cmp k e.0)) refl h (found list k a)
   where
     by_test : (c : Bool) → is_eq (place_cmp k e.0) ≡ c → is_implied (unwrap_or (cond c (Some e.1) (lookup (is_at (place_cmp k)) list)) []) a ≡ true
-        → (is_implied (used_at list k) a ≡ true → (f : Place × List Atom) × (Has list f × ((f.0 ≡ k) × (is_implied f.1 a ≡ true))))
-        → (f : Place × List Atom) × (Has (e ∷ list) f × ((f.0 ≡ k) × (is_implied f.1 a ≡ true)))
+        → (is_implied (used_at list k) a ≡ true → (f : UserScope × List Atom) × (Has list f × ((f.0 ≡ k) × (is_implied f.1 a ≡ true))))
+        → (f : UserScope × List Atom) × (Has (e ∷ list) f × ((f.0 ≡ k) × (is_implied f.1 a ≡ true)))
     by_test true is h more = (e, (inl refl, (sym (place_same k e.0 ((Equal-is (place_cmp k e.0)).0 is)), h)))
     by_test false is h more = let w = more h in (w.0, (inr w.1.0, w.1.1))
 
@@ -121,16 +121,16 @@ module _ (p : Point) (plain : HasPlainResource p) where
   module _ (identity : Identity) (namespace : List ℕ) where
     -- ---- places and their atoms
 
-    abbrev gives_at : Place → List Atom → Bool
+    abbrev gives_at : UserScope → List Atom → Bool
     gives_at k atoms = bytes_eq k.user identity.user && (counts k.namespace namespace && some atoms)
 
-    abbrev some_place : List (Place × List Atom) → Bool
-    some_place list = list_any (λ (e : Place × List Atom). gives_at e.0 e.1) list
+    abbrev some_place : List (UserScope × List Atom) → Bool
+    some_place list = list_any (λ (e : UserScope × List Atom). gives_at e.0 e.1) list
 
-    gives_nothing : (k : Place) → gives_at k [] ≡ false
+    gives_nothing : (k : UserScope) → gives_at k [] ≡ false
     gives_nothing k = ap (λ t. bytes_eq k.user identity.user && t) (and_false (counts k.namespace namespace)) ∙ and_false (bytes_eq k.user identity.user)
 
-    taken : (list : List (Place × List Atom)) (k : Place) → some_place list ≡ (some_place (remove_entry (is_at (place_cmp k)) list) || gives_at k (used_at list k))
+    taken : (list : List (UserScope × List Atom)) (k : UserScope) → some_place list ≡ (some_place (remove_entry (is_at (place_cmp k)) list) || gives_at k (used_at list k))
     taken [] k = sym (gives_nothing k)
     taken (e ∷ list) k = by_test (is_eq (place_cmp k e.0)) refl (taken list k)
       where
@@ -138,11 +138,11 @@ module _ (p : Point) (plain : HasPlainResource p) where
             → (gives_at e.0 e.1 || some_place list)
             ≡ (some_place (cond c list (e ∷ remove_entry (is_at (place_cmp k)) list)) || gives_at k (unwrap_or (cond c (Some e.1) (lookup (is_at (place_cmp k)) list)) []))
         by_test true is more =
-            swapped (gives_at e.0 e.1) (some_place list) ∙ ap (λ (q : Place). some_place list || gives_at q e.1) (sym (place_same k e.0 ((Equal-is (place_cmp k e.0)).0 is)))
+            swapped (gives_at e.0 e.1) (some_place list) ∙ ap (λ (q : UserScope). some_place list || gives_at q e.1) (sym (place_same k e.0 ((Equal-is (place_cmp k e.0)).0 is)))
         by_test false is more =
             ap (λ t. gives_at e.0 e.1 || t) more ∙ sym (or_assoc (gives_at e.0 e.1) (some_place (remove_entry (is_at (place_cmp k)) list)) (gives_at k (used_at list k)))
 
-    put : (list : List (Place × List Atom)) (k : Place) (v : List Atom) → lookup (is_at (place_cmp k)) list ≡ None
+    put : (list : List (UserScope × List Atom)) (k : UserScope) (v : List Atom) → lookup (is_at (place_cmp k)) list ≡ None
         → some_place (insert_entry place_cmp list k v) ≡ (some_place list || gives_at k v)
     put [] k v none = or_false (gives_at k v)
     put (e ∷ list) k v none = by_order (place_cmp k e.0) none (put list k v)
@@ -154,11 +154,11 @@ module _ (p : Point) (plain : HasPlainResource p) where
         by_order Equal none more = absurd (cc none)
         by_order Greater none more = ap (λ t. gives_at e.0 e.1 || t) (more none) ∙ sym (or_assoc (gives_at e.0 e.1) (some_place list) (gives_at k v))
 
-    gone : (list : List (Place × List Atom)) (k : Place) → IsStrictlySortedBy place_cmp (keys_of list) → lookup (is_at (place_cmp k)) (remove_entry (is_at (place_cmp k)) list) ≡ None
+    gone : (list : List (UserScope × List Atom)) (k : UserScope) → IsStrictlySortedBy place_cmp (keys_of list) → lookup (is_at (place_cmp k)) (remove_entry (is_at (place_cmp k)) list) ≡ None
     gone list k sorted =
         delete_sets place_cmp place_total list k sorted k ∙ ap (λ c. cond c None (lookup (is_at (place_cmp k)) list)) (itself_equal k)
 
-    one_use : (list : List (Place × List Atom)) (u : Question) → IsStrictlySortedBy place_cmp (keys_of list) → some_place (with_use list u) ≡ (some_place list || gives identity namespace p u)
+    one_use : (list : List (UserScope × List Atom)) (u : Question) → IsStrictlySortedBy place_cmp (keys_of list) → some_place (with_use list u) ≡ (some_place list || gives identity namespace p u)
     unfolding with_use
     one_use list u sorted = by_case (is_master u.identity)
       where
@@ -185,7 +185,7 @@ module _ (p : Point) (plain : HasPlainResource p) where
             ∙ sym (or_assoc (some_place rest) (gives_at k (used_at list k)) new)
             ∙ ap (λ t. t || new) (sym (taken list k))
 
-    use_keeps : (list : List (Place × List Atom)) (u : Question) → IsStrictlySortedBy place_cmp (keys_of list) → IsStrictlySortedBy place_cmp (keys_of (with_use list u))
+    use_keeps : (list : List (UserScope × List Atom)) (u : Question) → IsStrictlySortedBy place_cmp (keys_of list) → IsStrictlySortedBy place_cmp (keys_of (with_use list u))
     unfolding with_use
     use_keeps list u sorted = by_case (is_master u.identity)
       where
@@ -197,7 +197,7 @@ module _ (p : Point) (plain : HasPlainResource p) where
             put_keeps place_cmp place_total (remove_entry (is_at (place_cmp (place_used u))) list) (place_used u) _
             (delete_keeps place_cmp place_total (is_at (place_cmp (place_used u))) list sorted)
 
-    all_uses : (list : List (Place × List Atom)) (uses : List Question) → IsStrictlySortedBy place_cmp (keys_of list)
+    all_uses : (list : List (UserScope × List Atom)) (uses : List Question) → IsStrictlySortedBy place_cmp (keys_of list)
         → some_place (fold with_use list uses) ≡ (some_place list || list_any (gives identity namespace p) uses)
     all_uses list [] sorted = sym (or_false (some_place list))
     all_uses list (u ∷ uses) sorted =
@@ -206,7 +206,7 @@ module _ (p : Point) (plain : HasPlainResource p) where
 
     -- ---- what is needed
 
-    by_rules : (list : List (Place × List Atom)) (e : Place × List Atom) → list_any (allows_by identity namespace p) (suggested_at list e) ≡ gives_at e.0 (needed_at list e)
+    by_rules : (list : List (UserScope × List Atom)) (e : UserScope × List Atom) → list_any (allows_by identity namespace p) (suggested_at list e) ≡ gives_at e.0 (needed_at list e)
     by_rules list e = by_atoms (needed_at list e)
       where
         by_atoms : (atoms : List Atom) → list_any (allows_by identity namespace p) (if length atoms == 0 then [] else record { at = e.0; rules = together atoms } ∷ []) ≡ gives_at e.0 atoms
@@ -227,21 +227,21 @@ module _ (p : Point) (plain : HasPlainResource p) where
             by_case (inr there) = or_right _ _ (more there)
         by_test false h more = or_right _ _ (more h)
 
-    module _ (list : List (Place × List Atom)) where
-      abbrev needs : Place × List Atom → Bool
+    module _ (list : List (UserScope × List Atom)) where
+      abbrev needs : UserScope × List Atom → Bool
       needs e = gives_at e.0 (needed_at list e)
 
-      fewer : (e : Place × List Atom) → needs e ≡ true → gives_at e.0 e.1 ≡ true
+      fewer : (e : UserScope × List Atom) → needs e ≡ true → gives_at e.0 e.1 ≡ true
       fewer e h =
           let one = and_parts _ _ h in
           let two = and_parts _ _ one.1 in
           and_from _ _ one.0 (and_from _ _ two.0 (sym (kept e.1) ∙ among (λ a. not (is_implied (used_everywhere list e.0) a)) (widest e.1) two.1))
 
       -- cluster-wide all is needed
-      wide_kept : (e : Place × List Atom) → (length e.0.namespace == 0) ≡ true → needed_at list e ≡ widest e.1
+      wide_kept : (e : UserScope × List Atom) → (length e.0.namespace == 0) ≡ true → needed_at list e ≡ widest e.1
       wide_kept e wide = rw wide (all_kept (widest e.1))
 
-      enough : (e : Place × List Atom) → Has list e → gives_at e.0 e.1 ≡ true → list_any needs list ≡ true
+      enough : (e : UserScope × List Atom) → Has list e → gives_at e.0 e.1 ≡ true → list_any needs list ≡ true
       enough e has h = by_atom a.0 a.1.0 a.1.1 (is_implied (used_everywhere list e.0) a.0) refl
         where
           one : (bytes_eq e.0.user identity.user ≡ true) × ((counts e.0.namespace namespace && some e.1) ≡ true)
@@ -256,8 +256,8 @@ module _ (p : Point) (plain : HasPlainResource p) where
           everywhere : (a : Atom) → atom_allows a p ≡ true → is_implied (used_at list (record { user = e.0.user; namespace = [] })) a ≡ true → list_any needs list ≡ true
           everywhere a allowed implied =
               let w = found list (record { user = e.0.user; namespace = [] }) a implied in
-              let at : Place → Type 0 = λ k. gives_at k (needed_at list w.0) ≡ true in
-              let wide : (length w.0.0.namespace == 0) ≡ true = ap (λ (k : Place). length k.namespace == 0) w.1.1.0 in
+              let at : UserScope → Type 0 = λ k. gives_at k (needed_at list w.0) ≡ true in
+              let wide : (length w.0.0.namespace == 0) ≡ true = ap (λ (k : UserScope). length k.namespace == 0) w.1.1.0 in
               let there : some (needed_at list w.0) ≡ true =
               ap some (wide_kept w.0 wide) ∙ kept w.0.1 ∙ any_weaker (λ b. implies b a) (λ b. atom_allows b p) w.0.1 (λ b i. implies_allows b a p plain i allowed) w.1.1.1 in
               some_at needs list w.0 w.1.0 (subst at (sym w.1.1.0) (and_from _ _ one.0 there))
@@ -274,12 +274,12 @@ module _ (p : Point) (plain : HasPlainResource p) where
 
       needed_enough : list_any needs list ≡ some_place list
       needed_enough =
-          by_truth _ _ (any_weaker needs (λ (e : Place × List Atom). gives_at e.0 e.1) list fewer)
-          (λ h. let e = passing (λ (e : Place × List Atom). gives_at e.0 e.1) list h in enough e.0 e.1.0 e.1.1)
+          by_truth _ _ (any_weaker needs (λ (e : UserScope × List Atom). gives_at e.0 e.1) list fewer)
+          (λ h. let e = passing (λ (e : UserScope × List Atom). gives_at e.0 e.1) list h in enough e.0 e.1.0 e.1.1)
 
     -- ---- the law
 
-    none_sorted : IsStrictlySortedBy place_cmp (keys_of (let none : List (Place × List Atom) = [] in none))
+    none_sorted : IsStrictlySortedBy place_cmp (keys_of (let none : List (UserScope × List Atom) = [] in none))
     unfolding IsStrictlySortedBy
     none_sorted = tt
 

@@ -17,11 +17,11 @@ use Rattle.kapi_rules.specs.declared.point.Point.{Point}
 use Rattle.kapi_access.specs.Together.{together}
 use Rattle.kapi_reviews.specs.declared.question.Question.{Question}
 use Rattle.kapi_suggest.specs.Uses.{atom_used, counts}
-use Rattle.kapi_suggest.specs.declared.place.Place.{Place}
+use Rattle.kapi_suggest.specs.declared.user_scope.UserScope.{UserScope}
 use Rattle.kapi_suggest.specs.declared.suggested.Suggested.{Suggested}
 
 -- places are in the order of users, and then of namespaces: cluster-wide first
-abbrev pub place_cmp : Place → Place → Ordering
+abbrev pub place_cmp : UserScope → UserScope → Ordering
 place_cmp a b = ordering_then (slice_cmp nat_cmp a.user b.user) (slice_cmp nat_cmp a.namespace b.namespace)
 
 -- some atom implies that one
@@ -37,33 +37,33 @@ abbrev pub widest : List Atom → List Atom
 widest atoms = reverse (fold with_atom [] (reverse atoms))
 
 -- who used it, and in which namespace
-abbrev pub place_used : Question → Place
+abbrev pub place_used : Question → UserScope
 place_used u = record { user = u.identity.user; namespace = u.namespace }
 
 -- what was used at a place so far: no atom implies a later one
-abbrev pub used_at : List (Place × List Atom) → Place → List Atom
+abbrev pub used_at : List (UserScope × List Atom) → UserScope → List Atom
 used_at list place = unwrap_or (lookup (is_at (place_cmp place)) list) []
 
 -- the atoms of each place, with one use more; those of masters are left out
-unfoldable pub with_use : List (Place × List Atom) → Question → List (Place × List Atom)
+unfoldable pub with_use : List (UserScope × List Atom) → Question → List (UserScope × List Atom)
 with_use list u =
     if is_master u.identity then list
     else insert_entry place_cmp (remove_entry (is_at (place_cmp (place_used u))) list) (place_used u) (with_atom (used_at list (place_used u)) (atom_used u.point))
 
 -- the atoms that were used at each place
-abbrev pub used : List Question → List (Place × List Atom)
+abbrev pub used : List Question → List (UserScope × List Atom)
 used uses = fold with_use [] uses
 
 -- what the user of a place in a namespace used cluster-wide
-abbrev pub used_everywhere : List (Place × List Atom) → Place → List Atom
+abbrev pub used_everywhere : List (UserScope × List Atom) → UserScope → List Atom
 used_everywhere list place = if length place.namespace == 0 then [] else used_at list (record { user = place.user; namespace = [] })
 
 -- the atoms that a place needs: in a namespace only what the user has not everywhere
-abbrev pub needed_at : List (Place × List Atom) → Place × List Atom → List Atom
+abbrev pub needed_at : List (UserScope × List Atom) → UserScope × List Atom → List Atom
 needed_at list e = filter (λ a. not (is_implied (used_everywhere list e.0) a)) (widest e.1)
 
 -- the rules for a place, if it needs any
-abbrev pub suggested_at : List (Place × List Atom) → Place × List Atom → List Suggested
+abbrev pub suggested_at : List (UserScope × List Atom) → UserScope × List Atom → List Suggested
 suggested_at list e =
     if length (needed_at list e) == 0 then [] else record { at = e.0; rules = together (needed_at list e) } ∷ []
 

@@ -6,14 +6,14 @@ mod event;
 mod idle;
 pub mod laws;
 mod needs;
-mod place;
 mod printed;
 mod suggested;
 mod used;
+mod user_scope;
 
 pub use event::{Shown, read_event, read_events};
 pub use idle::{Unused, allowed_uses, unused_rules};
 pub use needs::suggest;
-pub use place::Place;
 pub use printed::{list, manifests};
 pub use suggested::Suggested;
+pub use user_scope::UserScope;

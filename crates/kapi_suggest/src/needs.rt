@@ -5,9 +5,9 @@ ghost use Rattle.std.specs.Option.{unwrap_or};
 ghost use Rattle.kapi_suggest.specs.Needs as least;
 ghost use Rattle.kapi_suggest.specs.Uses as using_of;
 
-use crate::place::Place;
 use crate::suggested::Suggested;
 use crate::used::UsedAtoms;
+use crate::user_scope::UserScope;
 use kapi_access::together;
 use kapi_reviews::Question;
 use kapi_rules::{Atom, Names, Point, UrlAtom, resource_atom};
@@ -87,10 +87,10 @@ fn widest(alloc: Global, atoms: &UsedAtoms) -> Result<Vec<Atom>, Memory>
 
 // ---- places
 
-fn place_used(alloc: Global, used: &Question) -> Result<Place, Memory>
+fn place_used(alloc: Global, used: &Question) -> Result<UserScope, Memory>
     ensures { IfOk result (λ p. p ≡ least.place_used used.now) }
 {
-    Ok(Place {
+    Ok(UserScope {
         user: used.identity.user.copy(alloc)?,
         namespace: used.namespace.copy(alloc)?,
     })
@@ -108,7 +108,7 @@ fn atoms_in(alloc: Global, found: Option<UsedAtoms>) -> UsedAtoms
 #[tactic(auto, unfolding(crate::specs::Needs::with_use))]
 fn add_use(
     alloc: Global,
-    list: &mut BTreeMap<Place, UsedAtoms>,
+    list: &mut BTreeMap<UserScope, UsedAtoms>,
     used: &Question,
 ) -> Result<(), Memory>
     ensures { OnOk result (list.new.entries ≡ least.with_use list.old.entries used.now) }
@@ -124,7 +124,10 @@ fn add_use(
     Ok(())
 }
 
-fn used_at_places(alloc: Global, uses: &[Question]) -> Result<BTreeMap<Place, UsedAtoms>, Memory>
+fn used_at_places(
+    alloc: Global,
+    uses: &[Question],
+) -> Result<BTreeMap<UserScope, UsedAtoms>, Memory>
     ensures { IfOk result (λ m. m.entries ≡ least.used uses.now) }
 {
     let mut list = BTreeMap::new(alloc);
@@ -139,8 +142,8 @@ fn used_at_places(alloc: Global, uses: &[Question]) -> Result<BTreeMap<Place, Us
 /// What the user of a place in a namespace used cluster-wide.
 fn used_everywhere<'a>(
     alloc: Global,
-    list: &'a BTreeMap<Place, UsedAtoms>,
-    place: &Place,
+    list: &'a BTreeMap<UserScope, UsedAtoms>,
+    place: &UserScope,
     nothing: &'a UsedAtoms,
 ) -> Result<&'a UsedAtoms, Memory>
     requires { nothing.now ≡ [] }
@@ -149,7 +152,7 @@ fn used_everywhere<'a>(
     if place.namespace.as_str().is_empty() {
         return Ok(nothing);
     }
-    let everywhere = Place {
+    let everywhere = UserScope {
         user: place.user.copy(alloc)?,
         namespace: Text::copy_of(alloc, "")?,
     };
@@ -174,8 +177,8 @@ fn without_implied(alloc: Global, atoms: Vec<Atom>, by: &UsedAtoms) -> Result<Ve
 /// The atoms needed at a place, given those used there.
 fn needed_at(
     alloc: Global,
-    list: &BTreeMap<Place, UsedAtoms>,
-    place: &Place,
+    list: &BTreeMap<UserScope, UsedAtoms>,
+    place: &UserScope,
     atoms: &UsedAtoms,
 ) -> Result<Vec<Atom>, Memory>
     ensures { IfOk result (λ v. v.items ≡ least.needed_at list.now.entries (place.now, atoms.now)) }
@@ -188,8 +191,8 @@ fn needed_at(
 fn push_suggested(
     alloc: Global,
     suggested: &mut Vec<Suggested>,
-    list: &BTreeMap<Place, UsedAtoms>,
-    place: &Place,
+    list: &BTreeMap<UserScope, UsedAtoms>,
+    place: &UserScope,
     atoms: &UsedAtoms,
 ) -> Result<(), Memory>
     ensures { OnOk result (suggested.new.items ≡ suggested.old.items ++ least.suggested_at list.now.entries (place.now, atoms.now)) }
@@ -206,7 +209,7 @@ fn push_suggested(
 
 fn suggested_at_places(
     alloc: Global,
-    list: &BTreeMap<Place, UsedAtoms>,
+    list: &BTreeMap<UserScope, UsedAtoms>,
 ) -> Result<Vec<Suggested>, Memory>
     ensures { IfOk result (λ v. v.items ≡ flat_map (least.suggested_at list.now.entries) list.now.entries) }
 {

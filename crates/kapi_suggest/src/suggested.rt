@@ -1,11 +1,11 @@
 //! The rules that are suggested.
-use crate::place::Place;
+use crate::user_scope::UserScope;
 use kapi_model::PolicyRule;
 use kapi_text::Sequence;
 
 /// What a user needs at a place.
 #[derive(Debug, Drop)]
 pub struct Suggested {
-    pub at: Place,
+    pub at: UserScope,
     pub rules: Sequence<PolicyRule>,
 }

@@ -2,7 +2,7 @@
 use Rattle.std.specs.Prelude.{◌≡◌, ◌≤◌, ◌<◌, false, List, ◌++◌, map, length, drop}
 use Rattle.kapi_store.specs.Stored.{stored_tree}
 use Rattle.kapi_store.specs.Plain.{Plain, PlainChange}
-use Rattle.kapi_watch.specs.declared.watch.Place.{Place}
+use Rattle.kapi_watch.specs.declared.watch.Cursor.{Cursor}
 use Rattle.kapi_watch.specs.declared.watch.Watch.{Watch}
 use Rattle.kapi_watch.specs.Shown.{Added}
 use Rattle.kapi_watch.specs.Watches.{PlainWatch, shown_all, later, due}
@@ -22,7 +22,7 @@ pub record RefinesWatch (r : Watch) (history : List PlainChange) (s : Plain) (w 
   pub runs : r.stopped ≡ false
 
 -- a running watch that was moved to a place
-abbrev pub at_place : Watch → Place → Watch
+abbrev pub at_place : Watch → Cursor → Watch
 at_place r place = record r { told = place.told; position = place.position }
 
 -- a running watch that has shown nothing yet, as the model's

@@ -17,4 +17,4 @@ pub use laws::{
 };
 pub use scope::Scope;
 pub use text::event_text;
-pub use watch::{Next, Place, Watch};
+pub use watch::{Cursor, Next, Watch};

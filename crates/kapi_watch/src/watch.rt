@@ -30,7 +30,7 @@ pub struct Watch {
 
 /// The place of a watch: how many of the first objects it has shown, and the revision up to which it has shown changes.
 #[derive(Clone, Copy, Debug)]
-pub struct Place {
+pub struct Cursor {
     told: usize,
     position: u64,
 }
@@ -39,7 +39,7 @@ pub struct Place {
 #[derive(Clone, Copy, Debug)]
 pub struct Next<'a> {
     pub event: Option<Event<'a>>,
-    pub place: Place,
+    pub place: Cursor,
 }
 
 /// The objects of a list, each shared once more.
@@ -188,7 +188,7 @@ impl Watch {
         ensures stopped { self.now.stopped ≡ true → result.event ≡ None }
     {
         if self.stopped {
-            let place = Place {
+            let place = Cursor {
                 told: self.told,
                 position: self.position,
             };
@@ -205,7 +205,7 @@ impl Watch {
             → RefinesWatch self.now history s w → RefinesWatch (at_place self.now result.place) history s (after_pump history s w) }
     {
         if let Some(object) = self.first.as_slice().get(self.told) {
-            let place = Place {
+            let place = Cursor {
                 told: self.told + 1,
                 position: self.position,
             };
@@ -215,7 +215,7 @@ impl Watch {
             };
         }
         let found = self.look(store);
-        let place = Place {
+        let place = Cursor {
             told: self.told,
             position: self.position_past(store, &found),
         };
@@ -246,7 +246,7 @@ impl Watch {
     }
 
     /// Moves the watch to the place that `next` returned.
-    pub fn shown(&mut self, place: Place)
+    pub fn shown(&mut self, place: Cursor)
         ensures { self.new ≡ at_place self.old place }
     {
         self.told = place.told;

@@ -13,17 +13,17 @@ use Rattle.kapi_store.specs.Plain.{Plain, PlainChange, RefinesPlain}
 use Rattle.kapi_store.specs.State.{State}
 use Rattle.kapi_watch.specs.Running.{at_place}
 use Rattle.kapi_watch.specs.Watches.{after_pump}
-use Rattle.kapi_watch.specs.declared.watch.Place.{Place}
+use Rattle.kapi_watch.specs.declared.watch.Cursor.{Cursor}
 use Rattle.kapi_core.specs.declared.connection.Connection.{Connection}
 use Rattle.kapi_core.specs.Limits.{kept_limit}
 
 -- a watch that is moved to a place was moved past what it shows next
-abbrev pub MovesOn : State → Watching → Place → Type 0
+abbrev pub MovesOn : State → Watching → Cursor → Type 0
 MovesOn store r place = (history : List PlainChange) (s : Plain) (w : PlainWatching) → RefinesPlain store history s
     → RefinesWatching r history s w → RefinesWatching (record r { watch = at_place r.watch place }) history s (record w { watch = after_pump history s w.watch })
 
 -- the connections after an event of a watch: the watch is at a place, or has ended, or its connection is closed
-abbrev pub passed : List (ℕ × Connection) → ℕ → Connection → Watching → After → Place → List (ℕ × Connection)
+abbrev pub passed : List (ℕ × Connection) → ℕ → Connection → Watching → After → Cursor → List (ℕ × Connection)
 passed old id c w becomes.Watches place = set_value (is_at (nat_cmp id)) old (record c { watching = Some (record w { watch = at_place w.watch place }) })
 passed old id c w becomes.WatchEnded place = set_value (is_at (nat_cmp id)) old (record c { watching = None })
 passed old id c w becomes.Closes place = remove_entry (is_at (nat_cmp id)) old

@@ -5,14 +5,14 @@ use Rattle.std.specs.Option.{option_copied_mut}
 use Rattle.std.specs.Ordering.{nat_cmp}
 use Rattle.kapi_answer.specs.declared.watch.Watching.{Watching}
 use Rattle.kapi_watch.specs.Running.{at_place}
-use Rattle.kapi_watch.specs.declared.watch.Place.{Place}
+use Rattle.kapi_watch.specs.declared.watch.Cursor.{Cursor}
 use Rattle.kapi_core.specs.declared.connection.Connection.{Connection}
 use Rattle.kapi_core.proofs.connections.move_at.Goals as goal
 
 same_in : {X : Type 0} (x y : X) → Some x ≡ Some y → x ≡ y
 same_in x y is = cc
 
-abbrev moved_to : Place → Watching → Watching
+abbrev moved_to : Cursor → Watching → Watching
 moved_to place w = record w { watch = at_place w.watch place }
 
 pub returns-in-Some-watching : goal.returns-in-Some-watching

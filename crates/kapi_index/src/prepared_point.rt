@@ -2,32 +2,32 @@
 ghost use Rattle.std.specs.Prelude.{◌≡◌};
 ghost use Rattle.kapi_index.specs.Points.{point_of};
 
-use crate::marks::{Joined, Word};
+use crate::marks::{Joined, MarkedWord};
 use kapi_rules::{Point, ResourcePoint, UrlPoint};
 use std::marker::Model;
 
 /// A request that is checked against rules. Contracts see it as its point.
 #[derive(Drop)]
-pub enum Asked<'a> {
-    Resource(AskedResource<'a>),
-    Url(AskedUrl<'a>),
+pub enum PreparedPoint<'a> {
+    Resource(PreparedResource<'a>),
+    Url(PreparedUrl<'a>),
 }
 
 /// A point of a resource, and its words. `own` is `RESOURCE/SUBRESOURCE`, and `any` is `*/SUBRESOURCE`.
 #[derive(Drop)]
-pub struct AskedResource<'a> {
+pub struct PreparedResource<'a> {
     point: &'a ResourcePoint,
-    pub(crate) verb: Word<'a>,
-    pub(crate) group: Word<'a>,
-    pub(crate) resource: Word<'a>,
+    pub(crate) verb: MarkedWord<'a>,
+    pub(crate) group: MarkedWord<'a>,
+    pub(crate) resource: MarkedWord<'a>,
     pub(crate) own: Joined<'a>,
     pub(crate) any: Joined<'a>,
-    pub(crate) name: Word<'a>,
+    pub(crate) name: MarkedWord<'a>,
 }
 
-impl<'a> Model for AskedResource<'a> {
+impl<'a> Model for PreparedResource<'a> {
     ghost use Rattle.kapi_rules.specs.declared.point.ResourcePoint.{ResourcePoint};
-    ghost use Rattle.kapi_index.specs.Asked.{IsAsked};
+    ghost use Rattle.kapi_index.specs.PreparedPoint.{IsAsked};
 
     ghost Value = { ResourcePoint };
 
@@ -38,12 +38,12 @@ impl<'a> Model for AskedResource<'a> {
 
 /// A point of a URL, and its verb.
 #[derive(Drop)]
-pub struct AskedUrl<'a> {
+pub struct PreparedUrl<'a> {
     pub(crate) point: &'a UrlPoint,
-    pub(crate) verb: Word<'a>,
+    pub(crate) verb: MarkedWord<'a>,
 }
 
-impl<'a> Model for AskedUrl<'a> {
+impl<'a> Model for PreparedUrl<'a> {
     ghost use Rattle.std.specs.Prelude.{◌≡◌};
     ghost use Rattle.kapi_rules.specs.declared.point.UrlPoint.{UrlPoint};
 
@@ -54,7 +54,7 @@ impl<'a> Model for AskedUrl<'a> {
     ghost invariant = { λ a. a.verb ≡ a.point.now.verb };
 }
 
-impl AskedResource<'_> {
+impl PreparedResource<'_> {
     ghost use Rattle.std.specs.Prelude.{◌≡◌, ◌==◌, length, not};
 
     /// Whether a subresource is asked for.
@@ -65,35 +65,35 @@ impl AskedResource<'_> {
     }
 }
 
-fn ask_resource<'a>(point: &'a ResourcePoint) -> AskedResource<'a>
+fn ask_resource<'a>(point: &'a ResourcePoint) -> PreparedResource<'a>
     ensures { result ≡ point.now }
 {
-    AskedResource {
+    PreparedResource {
         point,
-        verb: Word::of(point.verb.as_str()),
-        group: Word::of(point.group.as_str()),
-        resource: Word::of(point.resource.as_str()),
+        verb: MarkedWord::of(point.verb.as_str()),
+        group: MarkedWord::of(point.group.as_str()),
+        resource: MarkedWord::of(point.resource.as_str()),
         own: Joined::of(point.resource.as_str(), point.subresource.as_str()),
         any: Joined::of("*", point.subresource.as_str()),
-        name: Word::of(point.name.as_str()),
+        name: MarkedWord::of(point.name.as_str()),
     }
 }
 
-fn ask_url<'a>(point: &'a UrlPoint) -> AskedUrl<'a>
+fn ask_url<'a>(point: &'a UrlPoint) -> PreparedUrl<'a>
     ensures { result ≡ point.now }
 {
-    AskedUrl {
+    PreparedUrl {
         point,
-        verb: Word::of(point.verb.as_str()),
+        verb: MarkedWord::of(point.verb.as_str()),
     }
 }
 
 /// Prepares a point. Allocates nothing.
-pub fn ask<'a>(point: &'a Point) -> Asked<'a>
+pub fn ask<'a>(point: &'a Point) -> PreparedPoint<'a>
     ensures { point_of result ≡ point.now }
 {
     match point {
-        Point::Resource(point) => Asked::Resource(ask_resource(point)),
-        Point::Url(point) => Asked::Url(ask_url(point)),
+        Point::Resource(point) => PreparedPoint::Resource(ask_resource(point)),
+        Point::Url(point) => PreparedPoint::Url(ask_url(point)),
     }
 }
