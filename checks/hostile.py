@@ -2,8 +2,9 @@
 
 usage: python3 -m checks.hostile PROGRAM [ATTACK..]     all attacks if none is named
 
-Without any right: greedy flood silent stalled idle spin line readers trees. With the right to read: list selector window. To
-create roles: memory missing rules bound_again. To create cluster roles: labels. To create reviews: groups repeats.
+Without any right: greedy flood silent stalled idle spin line readers trees. With the right to read: list selected selector window. To
+create roles: memory missing rules bound_again. To create cluster roles: labels. To create reviews: groups repeats. To write
+bindings: subjects.
 Each attack starts a server of its own on free ports, and is bounded in count and time. The exit status is 1 where one is
 above its bound.
 """
@@ -38,6 +39,8 @@ STARVED_CLIENTS, STARVED_SECONDS, LONG = 50, 20, 320
 IDLE_CLIENTS, LISTED, WIDE, CHECKED, LABELLED = 320, 100_000, 56, 1_000, 5_000
 QUIET, REMOVED = 100, 1_024
 RULES = 300
+SELECTED, SUBJECTS = 5_000, 32_000
+BINDINGS_IN = f"/apis/{RBAC}/v1/namespaces/default/rolebindings"
 
 
 def take_ports():
@@ -274,6 +277,33 @@ def selector(program):
     return judge(f"{PATCHES} patches beside a watch of {REQUIREMENTS:,} requirements", figures)
 
 
+def keys(count):
+    """So many different keys of labels, of three letters or digits each."""
+    return ("".join(it) for it in itertools.islice(itertools.product("abcdefghijklmnopqrstuvwxyz0123456789", repeat=3), count))
+
+
+def selected(program):
+    """Lists of thousands of objects by selectors of thousands of requirements: the same one, of other keys, of other values of one key."""
+    made = [{"apiVersion": "v1", "kind": "ConfigMap", "metadata": {"name": f"m{number:06}", "namespace": "default", "labels": {"k": "v"}}} for number in range(SELECTED)]
+    selectors = {"equal ones": ["!z"] * REQUIREMENTS, "of other keys": (f"!{key}" for key in keys(3_000)), "of one key": (f"k!={key}" for key in keys(2_500))}
+    with Server(program, objects=made + grant("Role", "list")) as server:
+        client = connect(ports.ANN)
+        figures = [(f"ms of processor time with {name}", 1000 * cost_of(server, client, "GET", f"{MAPS}?labelSelector={','.join(asked)}", None), 60) for name, asked in selectors.items()]
+    return judge(f"lists of {SELECTED:,} objects by thousands of requirements", figures)
+
+
+def subjects(program):
+    """All subjects of a binding are replaced, by one who holds what it gives."""
+    def binding(letter):
+        users = [{"kind": "User", "name": f"{letter}{number:05}"} for number in range(SUBJECTS)]
+        return json.dumps({"metadata": {"name": "many"}, "roleRef": {"apiGroup": RBAC, "kind": "Role", "name": "granted"}, "subjects": users}, separators=(",", ":"))
+    with Server(program, objects=grant("Role", "create", "update", group=RBAC, resource="rolebindings")) as server:
+        client = connect(ports.ANN)
+        cost_of(server, client, "POST", BINDINGS_IN, binding("a"))
+        used = cost_of(server, client, "PUT", f"{BINDINGS_IN}/many", binding("b"))
+    return judge(f"{SUBJECTS:,} subjects of a binding replaced", [("seconds of processor time", used, 1)])
+
+
 def review_cost(program, bound, asked):
     """Seconds of the server's processor time for a review of an identity of so many groups, beside bindings of groups."""
     reference = {"apiGroup": RBAC, "kind": "ClusterRole", "name": "reader"}
@@ -491,7 +521,7 @@ def window(program):
     return judge(f"a deletion of {REMOVED:,} objects", [("bytes shown to a watch that it does not concern", len(quiet_shown), 0), ("events lost of another watch", 1 - events, 0)])
 
 
-ATTACKS = {it.__name__: it for it in (greedy, flood, silent, stalled, idle, spin, line, readers, trees, selector, window, memory, missing, rules, bound_again, labels, groups, repeats)}
+ATTACKS = {it.__name__: it for it in (greedy, flood, silent, stalled, idle, spin, line, readers, trees, selected, selector, window, memory, missing, rules, bound_again, labels, groups, repeats, subjects)}
 ATTACKS["list"] = long_list
 
 
