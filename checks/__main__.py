@@ -14,6 +14,7 @@ CHECKS = {
     "kinds": Module(words=()),
     "live": Module(words=()),
     "rechecks": Module(words=()),
+    "limits": Module(words=()),
     "missing": Module(words=("500",)),
     "compare-random": Module(words=("100",)),
     "what-random": Module(words=("100",)),

@@ -1,5 +1,5 @@
-//! Tests of the programs that no transcript and no clause shows: the last revision, a window of 1,024 changes, when an
-//! answer is handed on, that readers run at once, a desk and its seats in threads, and the answers to a client's questions.
+//! Tests of the programs that no transcript and no clause shows: when an answer is handed on, that readers run at once, a
+//! desk and its seats in threads, and the answers to a client's questions.
 #![tactic(auto)]
 
 #[cfg(test)]
@@ -9,10 +9,4 @@ mod audits;
 #[cfg(test)]
 mod desks;
 #[cfg(test)]
-mod last_revision;
-#[cfg(test)]
-mod machine;
-#[cfg(test)]
 mod scripts;
-#[cfg(test)]
-mod window;
