@@ -11,17 +11,11 @@ mod fixture;
 #[cfg(test)]
 mod gone;
 #[cfg(test)]
-mod live;
-#[cfg(test)]
-mod loopback;
-#[cfg(test)]
 mod memory;
 #[cfg(test)]
 mod recorded;
 #[cfg(test)]
 mod resting;
-#[cfg(test)]
-mod scene;
 #[cfg(test)]
 mod sleeping;
 #[cfg(test)]
