@@ -1,14 +1,11 @@
 //! Reviews and their answers.
-ghost use Rattle.std.specs.Prelude.{◌≡◌, ℕ, List, IfOk, codes};
-ghost use Rattle.serde_json.specs.Data.{object, no_members};
-ghost use Rattle.kapi_object.specs.Contents.{put_text, text_at};
+ghost use Rattle.std.specs.Prelude.{◌≡◌, ℕ, List, IfOk};
 ghost use Rattle.serde_json.specs.View.{view};
 ghost use Rattle.kapi_text.specs.Gives.{Gives};
 ghost use Rattle.kapi_object.specs.Object.{tree_of};
 ghost use Rattle.kapi_policy.specs.Decided.{decided};
 ghost use Rattle.kapi_policy.specs.Objects.{PolicyObjects};
 ghost use Rattle.kapi_rules.specs.declared.point.Point.{Point};
-ghost use Rattle.kapi_reviews.specs.Questions as asks;
 ghost use Rattle.kapi_reviews.specs.Reviews as answers;
 ghost use Rattle.kapi_reviews.specs.Reviews.{reviewed, told};
 
@@ -41,56 +38,9 @@ fn in_order(identity: Identity) -> Identity
     }
 }
 
-/// The answer to a review of access: what it asks, and the decision.
-#[tactic(auto, unfolding(crate::specs::Reviews::access_answer))]
-fn access_answer<P: Policy>(
-    alloc: Global,
-    policy: &P,
-    caller: &Identity,
-    kind: ReviewKind,
-    namespace: &str,
-    spec: &Value,
-) -> Result<Value, Memory>
-    ensures { IfOk result (λ v. view v ≡ answers.access_answer (P.content policy.now) kind namespace.now (asks.question kind namespace.now caller.now (view spec.now))) }
-{
-    let question = read_question(alloc, kind, namespace, caller, spec)?;
-    let asked = question_tree(alloc, kind, &question)?;
-    let asker = in_order(question.identity);
-    let decision = policy.decide(&asker, question.namespace.as_str(), &question.point);
-    let status = decision_tree(alloc, &decision)?;
-    review_tree(alloc, kind, namespace, asked, status)
-}
-
-/// The `spec` of a review of rules.
-fn namespace_tree(alloc: Global, namespace: &str) -> Result<Value, Memory>
-    ensures { IfOk result (λ v. view v ≡ object (put_text (codes "namespace") namespace.now no_members)) }
-{
-    let mut members = Map::new(alloc);
-    put_text(alloc, &mut members, "namespace", namespace)?;
-    Ok(Value::Object(members))
-}
-
-/// The answer to a review of rules: the namespace, and the rules that the caller holds there.
-#[tactic(auto, unfolding(crate::specs::Reviews::rules_answer))]
-fn rules_answer<P: Policy>(
-    alloc: Global,
-    policy: &P,
-    caller: &Identity,
-    kind: ReviewKind,
-    namespace: &str,
-    spec: &Value,
-) -> Result<Value, Memory>
-    ensures { IfOk result (λ v. view v ≡ answers.rules_answer (P.content policy.now) caller.now kind namespace.now (text_at (codes "namespace") (view spec.now))) }
-{
-    let asked = text_in(spec, "namespace");
-    let held = policy.held(caller, asked)?;
-    let status = rules_tree(alloc, held.as_slice())?;
-    let spec = namespace_tree(alloc, asked)?;
-    review_tree(alloc, kind, namespace, spec, status)
-}
-
-/// The answer to a review without faults.
-#[tactic(auto, unfolding(crate::specs::Reviews::spec_answer))]
+/// The answer to a review without faults: the question and the decision, or the namespace and the rules that the caller
+/// holds there.
+#[tactic(auto, unfolding(crate::specs::Reviews::spec_answer, crate::specs::Reviews::access_answer, crate::specs::Reviews::rules_answer))]
 fn answer<P: Policy>(
     alloc: Global,
     policy: &P,
@@ -102,10 +52,19 @@ fn answer<P: Policy>(
     ensures { IfOk result (λ v. view v ≡ answers.spec_answer (P.content policy.now) caller.now kind namespace.now (view spec.now)) }
 {
     if kind.asks_rules() {
-        rules_answer(alloc, policy, caller, kind, namespace, spec)
-    } else {
-        access_answer(alloc, policy, caller, kind, namespace, spec)
+        let asked = text_in(spec, "namespace");
+        let held = policy.held(caller, asked)?;
+        let status = rules_tree(alloc, held.as_slice())?;
+        let mut members = Map::new(alloc);
+        put_text(alloc, &mut members, "namespace", asked)?;
+        return review_tree(alloc, kind, namespace, Value::Object(members), status);
     }
+    let question = read_question(alloc, kind, namespace, caller, spec)?;
+    let asked = question_tree(alloc, kind, &question)?;
+    let asker = in_order(question.identity);
+    let decision = policy.decide(&asker, question.namespace.as_str(), &question.point);
+    let status = decision_tree(alloc, &decision)?;
+    review_tree(alloc, kind, namespace, asked, status)
 }
 
 /// The answer to a review that `caller` makes, or the whole list of its faults in order. A local review is in the

@@ -26,12 +26,8 @@ fn put_list(
 ) -> Result<(), Memory>
     ensures { OnOk result (members_view members.new.entries ≡ written.put_list key.now texts.now (members_view members.old.entries)) }
 {
-    put(
-        members,
-        alloc,
-        key,
-        Value::Array(write_items(alloc, texts)?),
-    )
+    let items = write_items(alloc, texts)?;
+    put(members, alloc, key, Value::Array(items))
 }
 
 #[tactic(auto, unfolding(crate::specs::Answers::url_rule_tree))]
@@ -95,11 +91,7 @@ pub fn rules_tree(alloc: Global, rules: &[PolicyRule]) -> Result<Value, Memory>
     let urls = url_rules(alloc, rules)?;
     put(&mut members, alloc, "nonResourceRules", Value::Array(urls))?;
     let resources = resource_rules(alloc, rules)?;
-    put(
-        &mut members,
-        alloc,
-        "resourceRules",
-        Value::Array(resources),
-    )?;
+    let resources = Value::Array(resources);
+    put(&mut members, alloc, "resourceRules", resources)?;
     Ok(Value::Object(members))
 }
