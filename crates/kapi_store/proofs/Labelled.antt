@@ -17,6 +17,7 @@ use Rattle.kapi_object.specs.Order.{in_order, is_ordered, precedes}
 use Rattle.kapi_object.specs.Tree.{in_metadata, members_or_none}
 use Rattle.serde_json.specs.Read.{read}
 use Rattle.kapi_store.specs.Labels.{labels_among, labels_of, told_by}
+use Rattle.kapi_store.specs.Private.Matching.{AreDistinct}
 
 -- keys are compared either way
 pub turned : (k l : List ℕ) (o : Ordering) → slice_cmp nat_cmp k l ≡ o → bytes_eq l k ≡ is_eq (ordering_reverse o)
@@ -51,11 +52,28 @@ values k (member l (number n) ms) h = passed k l (number n) ms refl h (values k 
 values k (member l (array ds) ms) h = passed k l (array ds) ms refl h (values k ms (others_in_order l (array ds) ms h))
 values k (member l (object ns) ms) h = passed k l (object ns) ms refl h (values k ms (others_in_order l (object ns) ms h))
 
+labels_in_order : (d : Data) → is_ordered d ≡ true → in_order (members_or_none (in_metadata (codes "labels") d)) ≡ true
+labels_in_order d h = found_hold keys_in_order 0 (in_metadata (codes "labels") d) (in_metadata_holds keys_in_order 1 (codes "labels") d h)
+
 pub values_kept : (d : Data) → is_ordered d ≡ true → value_in (labels_of d) ≡ label_in (in_metadata (codes "labels") d)
 values_kept d h =
     let o : Option Data = in_metadata (codes "labels") d in
-    let ordered : in_order (members_or_none o) ≡ true = found_hold keys_in_order 0 o (in_metadata_holds keys_in_order 1 (codes "labels") d h) in
-    λ i k. (values k (members_or_none o) ordered ∙ ap (option_and_then as_str) (in_members k o)) i
+    λ i k. (values k (members_or_none o) (labels_in_order d h) ∙ ap (option_and_then as_str) (in_members k o)) i
+
+distinct : (ms : Members) → in_order ms ≡ true → AreDistinct (labels_among ms)
+distinct no_members h = tt
+distinct (member l (string s) ms) h =
+    let others : in_order ms ≡ true = others_in_order l (string s) ms h in
+    (values l ms others ∙ ap (option_and_then as_str) (none_found l ms (key_first l (string s) ms h)), distinct ms others)
+distinct (member l null ms) h = distinct ms (others_in_order l null ms h)
+distinct (member l (boolean b) ms) h = distinct ms (others_in_order l (boolean b) ms h)
+distinct (member l (number n) ms) h = distinct ms (others_in_order l (number n) ms h)
+distinct (member l (array ds) ms) h = distinct ms (others_in_order l (array ds) ms h)
+distinct (member l (object ns) ms) h = distinct ms (others_in_order l (object ns) ms h)
+
+-- the kept labels have each key once
+pub labels_distinct : (d : Data) → is_ordered d ≡ true → AreDistinct (labels_of d)
+labels_distinct d h = distinct (members_or_none (in_metadata (codes "labels") d)) (labels_in_order d h)
 
 -- ---- a text that is read
 

@@ -22,3 +22,4 @@ pub mod VersionTexts
 pub mod Restamped
 pub mod SameText
 pub mod FirstRows
+pub mod Matching

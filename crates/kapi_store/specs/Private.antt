@@ -5,3 +5,4 @@ pub mod Existing
 pub mod Hidden
 pub mod Cut
 pub mod FirstRows
+pub mod Matching

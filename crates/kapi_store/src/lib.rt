@@ -7,6 +7,7 @@ pub mod error;
 pub mod key;
 mod labels;
 pub mod listing;
+mod matcher;
 mod namespaces;
 pub mod ready;
 mod rows;

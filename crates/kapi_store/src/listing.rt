@@ -2,12 +2,14 @@
 
 ghost use Rattle.std.specs.Prelude.{◌≡◌, IfOk, map};
 ghost use Rattle.kapi_store.specs.Private.Hidden.{visible};
+ghost use Rattle.kapi_store.specs.Private.Matching.{Meets};
 ghost use Rattle.kapi_store.specs.Stored.{stored_tree};
 ghost use Rattle.kapi_store.specs.Listing.{is_asked as is_asked_of, is_within as is_within_of, is_listed as is_listed_of, listed_objects, shown};
 ghost use Rattle.kapi_store.specs.Private.Span.{after as after_text, first_key as first_key_of, end_key as end_key_of};
 
 use crate::change::Shared;
 use crate::key::Key;
+use crate::matcher::Matcher;
 use crate::slots::{Hidden, is_hidden};
 use kapi_model::{ResourceRow, Selector};
 use kapi_text::{Memory, Text};
@@ -60,10 +62,11 @@ impl<'a> Selection<'a> {
 
     /// Whether the object is listed.
     #[tactic(auto, unfolding(crate::specs::Listing::is_listed))]
-    fn is_listed(&self, key: &Key, object: &Shared) -> bool
+    fn is_listed(&self, matcher: &Matcher, key: &Key, object: &Shared) -> bool
+        requires { Meets matcher.now self.now.selector.now }
         ensures { result ≡ is_listed_of self.now.row.now self.now.namespace.now self.now.selector.now self.now.name.now key.now (stored_tree object.now) }
     {
-        self.is_within(key) && object.get().is_selected(self.selector)
+        self.is_within(key) && matcher.matches(object.get().label_list())
     }
 
     /// The first key that may be listed.
@@ -112,9 +115,10 @@ impl<'a> Selection<'a> {
         ensures { IfOk result (λ v. map shown v.items ≡ listed_objects self.now.row.now self.now.namespace.now self.now.selector.now self.now.name.now (visible hidden.now slots.now.entries)) }
     {
         let (first, end) = (self.first_key(alloc)?, self.end_key(alloc)?);
+        let matcher = Matcher::of(alloc, self.selector)?;
         let mut listed = Vec::new(alloc);
         for (key, object) in slots.range(&first..&end) {
-            if !is_hidden(hidden, key) && self.is_listed(key, object) {
+            if !is_hidden(hidden, key) && self.is_listed(&matcher, key, object) {
                 listed.push(Listed { key, object })?;
             }
         }

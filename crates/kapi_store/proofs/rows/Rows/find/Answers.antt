@@ -1,4 +1,4 @@
-use Rattle.std.proofs.Common.{◌∙◌, sym, ap, drop, find}
+use Rattle.std.proofs.Common.{◌∙◌, ap, drop, find}
 use Rattle.std.specs.Str.{bytes_eq}
 use Rattle.std.proofs.lemmas.Bool.{and_parts}
 use Rattle.kapi_store.specs.Rows.{is_of}
