@@ -14,14 +14,13 @@ ghost use Rattle.kapi_answer.specs.Responses.{deletion_data, response_data};
 use crate::create::refused_by_store;
 use crate::delete::check_options;
 use crate::list_text::list_text;
-use crate::listed_keys::keys_of;
 use crate::query::Filter;
 use crate::response::{Deletion, Response};
 use kapi_http::StatusCode;
 use kapi_model::ResourceRow;
 use kapi_reply::{CheckError, Content};
-use kapi_store::{Listed, Store};
-use kapi_text::{Memory, Text};
+use kapi_store::{Key, Listed, Store};
+use kapi_text::{Memory, Text, TryCopy};
 use std::alloc::Global;
 
 /// The objects that a collection request selects, as a list at the current revision.
@@ -85,4 +84,15 @@ fn delete_listed(
         }),
         Err(error) => Err(refused_by_store(name, error)),
     }
+}
+
+/// The keys of listed objects, copied, in their order.
+fn keys_of(alloc: Global, listed: &[Listed<'_>]) -> Result<Vec<Key>, Memory>
+    ensures { IfOk result (λ v. v.items ≡ map (λ l. l.key.now) listed.now) }
+{
+    let mut keys = Vec::with_capacity(alloc, listed.len())?;
+    for one in listed {
+        keys.push(one.key.copy(alloc)?)?;
+    }
+    Ok(keys)
 }

@@ -2,9 +2,7 @@
 ghost use Rattle.std.specs.Prelude.{◌≡◌, None, Ok, IfOk};
 ghost use Rattle.kapi_text.specs.Gives.{Gives};
 ghost use Rattle.kapi_reply.specs.Refusals.{refused_by};
-ghost use Rattle.kapi_policy.specs.Objects.{PolicyObjects};
 ghost use Rattle.kapi_answer.specs.Routes.{resource_data};
-ghost use Rattle.kapi_answer.specs.declared.route.Action.TheVariants as action;
 ghost use Rattle.std.specs.Map.{lookup};
 ghost use Rattle.kapi_store.specs.Keys.{is_key};
 ghost use Rattle.kapi_store.specs.Plain.{Plain as APlain, plain_of};
@@ -12,25 +10,26 @@ ghost use Rattle.kapi_watch.specs.Watches.{startable};
 ghost use Rattle.kapi_answer.specs.Answer.{planned_creation, planned_for, planned_on, to_be_created, to_be_replaced};
 ghost use Rattle.kapi_answer.specs.Review as reviews;
 ghost use Rattle.kapi_answer.specs.Create as creation;
-ghost use Rattle.kapi_answer.specs.Responses.{ChangesNothing, IsReady, IsReplaced, new_data, plan_data, task_data};
+ghost use Rattle.kapi_answer.specs.Get.{found};
+ghost use Rattle.kapi_answer.specs.Watch.{since_served};
+ghost use Rattle.kapi_answer.specs.Responses.{ChangesNothing, IsReady, IsReplaced, new_data, plan_data, response_data, task_data};
 
 use crate::collection::{check_delete_all, list};
 use crate::create::{check_create, key_at, namespace_on};
 use crate::delete::check_delete;
 use crate::escalation::check_escalation;
-use crate::get::find;
 use crate::headers::check_media_type;
 use crate::query::check_query;
-use crate::response::{NewObject, Plan, Replacement};
+use crate::response::{NewObject, Plan, Replacement, Response};
 use crate::review::{review_kind, tell_review};
-use crate::route::{Action, Part, ResourceRoute};
+use crate::route::{Action, ResourceRoute};
 use crate::task::Task;
 use crate::update::{check_patch, check_update};
 use crate::watch::{begin, check_since};
-use kapi_http::HttpRequest;
+use kapi_http::{HttpRequest, StatusCode};
 use kapi_model::Identity;
 use kapi_policy::Policy;
-use kapi_reply::CheckError;
+use kapi_reply::{CheckError, Content, Refusal, Refused, Sought};
 use kapi_request_info::Attributes;
 use kapi_store::{Key, Store};
 use kapi_text::{Memory, Text};
@@ -53,7 +52,7 @@ pub fn plan_for<P: Policy>(
 {
     let query = attributes.query.as_slice();
     let filter = check_query(alloc, route.action, store.revision(), query)?;
-    check_since(store, filter.since)?;
+    check_start(store, filter.since)?;
     check_media_type(request.method, request.headers.as_slice())?;
     let task = Task {
         identity,
@@ -64,6 +63,18 @@ pub fn plan_for<P: Policy>(
         body: request.body.as_slice(),
     };
     plan_on(alloc, policy, store, route.action, task)
+}
+
+/// A watch can start from its revision; no other request has one.
+#[tactic(auto, unfolding(crate::specs::Watch::since_served, kapi_watch::specs::Watches::startable))]
+fn check_start(store: &Store, since: u64) -> Result<(), CheckError>
+    ensures { Gives refused_by (λ u. u) result (since_served (plain_of store.now) since) }
+{
+    if since == 0 {
+        Ok(())
+    } else {
+        check_since(store, since)
+    }
 }
 
 /// The plan of a resource request by its action.
@@ -80,82 +91,46 @@ fn plan_on<P: Policy>(
     ensures ready { IfOk result (IsReady (plain_of store.now)) }
     ensures told { IfOk result ChangesNothing }
 {
-    let (row, namespace, filter) = (task.row, task.namespace, task.filter);
+    let (row, namespace, filter, body) = (task.row, task.namespace, task.filter, task.body);
     match action {
         Action::Get => Ok(Plan::Tell(find(alloc, store, &place_in(alloc, task)?)?)),
         Action::List => Ok(Plan::Tell(list(alloc, store, row, namespace, filter)?)),
         Action::Watch => Ok(Plan::Watch(begin(alloc, store, row, namespace, filter)?)),
         Action::Create => plan_creation(alloc, policy, store, task),
-        Action::Update(part) => plan_update(alloc, policy, store, part, task),
-        Action::Patch(part) => plan_patch(alloc, policy, store, part, task),
-        Action::Delete => plan_delete(alloc, store, task),
-        Action::DeleteCollection => plan_delete_all(alloc, store, task),
+        Action::Update(part) => {
+            let new = check_update(alloc, store, row, part, place_in(alloc, task)?, body)?;
+            plan_replace(alloc, policy, task, new)
+        }
+        Action::Patch(part) => {
+            let new = check_patch(alloc, store, row, part, place_in(alloc, task)?, body)?;
+            plan_replace(alloc, policy, task, new)
+        }
+        Action::Delete => {
+            let key = place_in(alloc, task)?;
+            Ok(Plan::Delete(check_delete(alloc, store, key, body)?))
+        }
+        Action::DeleteCollection => {
+            let all = check_delete_all(alloc, store, row, namespace, filter, body)?;
+            Ok(Plan::Delete(all))
+        }
     }
 }
 
-/// Plans the update of an object, if the identity may write it.
-#[tactic(auto, unfolding(crate::specs::Answer::planned_on))]
-fn plan_update<P: Policy>(
-    alloc: Global,
-    policy: &P,
-    store: &Store,
-    part: Part,
-    task: Task<'_>,
-) -> Result<Plan, CheckError>
-    ensures gives { Gives refused_by plan_data result (planned_on (action.Update part) (plain_of store.now) (task_data (P.content policy.now) task.entry)) }
-    ensures ready { IfOk result (IsReady (plain_of store.now)) }
-    ensures told { IfOk result ChangesNothing }
+/// The object that a path names, as JSON text.
+#[tactic(auto, unfolding(crate::specs::Get::found))]
+fn find(alloc: Global, store: &Store, key: &Key) -> Result<Response, CheckError>
+    ensures gives { Gives refused_by response_data result (found (plain_of store.now) key.now) }
+    ensures told { IfOk result (λ o. o.write ≡ None) }
 {
-    let key = place_in(alloc, task)?;
-    let new = check_update(alloc, store, task.row, part, key, task.body)?;
-    plan_replace(alloc, policy, task, new)
-}
-
-/// Plans the patch of an object, if the identity may write it.
-#[tactic(auto, unfolding(crate::specs::Answer::planned_on))]
-fn plan_patch<P: Policy>(
-    alloc: Global,
-    policy: &P,
-    store: &Store,
-    part: Part,
-    task: Task<'_>,
-) -> Result<Plan, CheckError>
-    ensures gives { Gives refused_by plan_data result (planned_on (action.Patch part) (plain_of store.now) (task_data (P.content policy.now) task.entry)) }
-    ensures ready { IfOk result (IsReady (plain_of store.now)) }
-    ensures told { IfOk result ChangesNothing }
-{
-    let key = place_in(alloc, task)?;
-    let new = check_patch(alloc, store, task.row, part, key, task.body)?;
-    plan_replace(alloc, policy, task, new)
-}
-
-/// Plans the deletion of an object.
-#[tactic(auto, unfolding(crate::specs::Answer::planned_on))]
-fn plan_delete(alloc: Global, store: &Store, task: Task<'_>) -> Result<Plan, CheckError>
-    ensures gives { (objects : PolicyObjects) → Gives refused_by plan_data result (planned_on action.Delete (plain_of store.now) (task_data objects task.entry)) }
-    ensures ready { IfOk result (IsReady (plain_of store.now)) }
-    ensures told { IfOk result ChangesNothing }
-{
-    let key = place_in(alloc, task)?;
-    Ok(Plan::Delete(check_delete(alloc, store, key, task.body)?))
-}
-
-/// Plans the deletion of the objects of a collection.
-#[tactic(auto, unfolding(crate::specs::Answer::planned_on))]
-fn plan_delete_all(alloc: Global, store: &Store, task: Task<'_>) -> Result<Plan, CheckError>
-    ensures gives { (objects : PolicyObjects) → Gives refused_by plan_data result (planned_on action.DeleteCollection (plain_of store.now) (task_data objects task.entry)) }
-    ensures ready { IfOk result (IsReady (plain_of store.now)) }
-    ensures told { IfOk result ChangesNothing }
-{
-    let Task {
-        row,
-        namespace,
-        filter,
-        body,
-        ..
-    } = task;
-    let all = check_delete_all(alloc, store, row, namespace, filter, body)?;
-    Ok(Plan::Delete(all))
+    match store.get(key) {
+        Some(object) => Ok(Response {
+            code: StatusCode::Ok,
+            content: Content::Json,
+            body: object.render(alloc)?,
+            write: None,
+        }),
+        None => Err(CheckError::Refused(Refused::asked_for(Refusal::NotFound(Sought::Object)))),
+    }
 }
 
 /// The place that a task's path names.

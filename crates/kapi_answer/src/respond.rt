@@ -7,14 +7,14 @@ ghost use Rattle.kapi_store.specs.Plain.{plain_of};
 ghost use Rattle.kapi_store.specs.State.{Same, Fits};
 ghost use Rattle.kapi_watch.specs.Running.{IsFresh};
 ghost use Rattle.kapi_answer.specs.Answer as answers;
-ghost use Rattle.kapi_answer.specs.Answer.{answer_by, answer_passed, asked_by, checked, planned};
+ghost use Rattle.kapi_answer.specs.Answer.{answer_by, answer_passed, asked_by, checked, planned, told_well};
 ghost use Rattle.kapi_answer.specs.Impersonation.{made_as};
-ghost use Rattle.kapi_answer.specs.Responses.{ChangesNothing, IsReady, answered_data, passed_data, plan_data, watch_in, write_of};
+ghost use Rattle.kapi_answer.specs.Responses.{ChangesNothing, IsReady, answered_data, passed_data, plan_data, response_data, watch_in, write_of};
 
 use crate::authorization::authorize;
 use crate::create::create;
 use crate::delete::delete;
-use crate::health::health;
+use crate::headers::check_media_type;
 use crate::impersonation::impersonate;
 use crate::kept_watch::KeptWatch;
 use crate::plan::plan_for;
@@ -23,12 +23,12 @@ use crate::response::{Passed, Plan, Response};
 use crate::route::{Route, find_route};
 use crate::update::replace;
 use crate::watch::Watching;
-use kapi_http::{HttpFault, HttpRequest};
+use kapi_http::{HttpFault, HttpRequest, StatusCode};
 use kapi_model::Identity;
 use kapi_policy::Policy;
 use kapi_reply::{
-    Asked, BadRequestReason, CheckError, Refused, content_reply, fault_reply, refusal_reply,
-    target_reply, watch_reply,
+    Asked, BadRequestReason, CheckError, Content, Refused, content_reply, fault_reply,
+    refusal_reply, target_reply, watch_reply,
 };
 use kapi_request_info::{Attributes, InfoError, info};
 use kapi_store::Store;
@@ -266,4 +266,19 @@ fn plan<P: Policy>(
             plan_for(alloc, policy, store, identity, request, attributes, route)
         }
     }
+}
+
+/// Answers a health check (Kubernetes, 'Kubernetes API health endpoints'); authorization has passed.
+#[tactic(auto, unfolding(crate::specs::Answer::told_well))]
+fn health(alloc: Global, request: &HttpRequest) -> Result<Response, CheckError>
+    ensures gives { Gives refused_by response_data result (told_well request.now) }
+    ensures told { IfOk result (λ o. o.write ≡ None) }
+{
+    check_media_type(request.method, request.headers.as_slice())?;
+    Ok(Response {
+        code: StatusCode::Ok,
+        content: Content::Text,
+        body: Vec::from_slice(alloc, b"ok")?,
+        write: None,
+    })
 }
