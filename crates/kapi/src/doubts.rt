@@ -57,7 +57,7 @@ pub struct Doubts {
 
 /// A word of a question: what it is, and what would name it.
 #[derive(Clone, Copy)]
-struct Asked<'a> {
+struct AskedWord<'a> {
     what: &'static str,
     /// The kind of the word, as messages name it.
     called: &'static str,
@@ -119,7 +119,7 @@ impl Doubts {
             let resource = rule_word("resource", kind_in(resource), &RESOURCES);
             self.tell_word(rt, words, resource)?;
         }
-        let namespace = Asked {
+        let namespace = AskedWord {
             what: "namespace",
             called: "namespace",
             by: "object",
@@ -188,12 +188,12 @@ impl Doubts {
         &mut self,
         rt: &R,
         words: &Words,
-        asked: Asked<'_>,
+        asked: AskedWord<'_>,
     ) -> io::Result<()> {
         if is_named(rt.alloc(), words, asked)? {
             return Ok(());
         }
-        let Asked {
+        let AskedWord {
             called,
             by,
             word,
@@ -221,8 +221,12 @@ impl Doubts {
     }
 }
 
-fn rule_word<'a>(what: &'static str, word: &'a str, known: &'static [&'static str]) -> Asked<'a> {
-    Asked {
+fn rule_word<'a>(
+    what: &'static str,
+    word: &'a str,
+    known: &'static [&'static str],
+) -> AskedWord<'a> {
+    AskedWord {
         what,
         called: what,
         by: "rule",
@@ -244,7 +248,7 @@ fn kind_in(resource: &str) -> &str {
 }
 
 /// A user, or the name of a service account.
-fn user_word(user: &str) -> Asked<'_> {
+fn user_word(user: &str) -> AskedWord<'_> {
     let account = match user.strip_prefix("system:serviceaccount:") {
         Some(account) => account.split_once(':'),
         None => None,
@@ -253,7 +257,7 @@ fn user_word(user: &str) -> Asked<'_> {
         Some((_namespace, name)) => ("ServiceAccount", "service account", name),
         None => ("User", "user", user),
     };
-    Asked {
+    AskedWord {
         what,
         called,
         by: "binding",
@@ -285,7 +289,7 @@ fn text_at<'a>(object: &'a Value, key: &str) -> &'a str {
 }
 
 /// Whether the policy names the word, or the word needs no name in it: it is empty, `*` or generally known.
-fn is_named(alloc: Global, words: &Words, asked: Asked<'_>) -> Result<bool, Memory> {
+fn is_named(alloc: Global, words: &Words, asked: AskedWord<'_>) -> Result<bool, Memory> {
     if asked.word.is_empty() || asked.word == "*" || asked.known.contains(&asked.word) {
         return Ok(true);
     }
@@ -293,7 +297,7 @@ fn is_named(alloc: Global, words: &Words, asked: Asked<'_>) -> Result<bool, Memo
 }
 
 /// The word that differs least, if one differs little.
-fn likely(alloc: Global, words: &Words, asked: Asked<'_>) -> Result<Option<String>, Memory> {
+fn likely(alloc: Global, words: &Words, asked: AskedWord<'_>) -> Result<Option<String>, Memory> {
     let mut best = Candidate {
         word: String::new(alloc),
         changes: CHANGES.saturating_add(1).min(asked.word.len()),
